@@ -1,0 +1,137 @@
+use crate::duplicate::{Duplicate, NoMemory};
+use crate::ids::{AttemptId, ContainerId};
+use crate::resources::Resource;
+use crate::texts::Text;
+
+ghost use Rattle.std.specs.Prelude.{◌≡◌, IfOk};
+
+/// A container that a node reports as running, with its size there.
+#[derive(Clone, Copy, Debug, PartialEq, Eq)]
+pub struct Held {
+    pub id: ContainerId,
+    pub size: Resource,
+}
+
+/// A container that a pass grants, and the node that it is granted on.
+#[derive(Debug, Drop)]
+pub struct Grant {
+    pub id: ContainerId,
+    pub node: Text,
+    pub size: Resource,
+}
+
+/// What a master asks for: so many containers of a size, at a priority; 1 is the first that a message
+/// may name, and 0 is the master's own.
+#[derive(Clone, Copy, Debug, PartialEq, Eq)]
+pub struct Ask {
+    pub priority: u32,
+    pub count: u32,
+    pub size: Resource,
+}
+
+/// Why a container ended: its node reported it done, its master released it, its node was lost, its
+/// attempt was over, or it wasn't taken when its node registered.
+#[derive(Clone, Copy, Debug, PartialEq, Eq)]
+pub enum Cause {
+    Done,
+    Released,
+    Node,
+    Attempt,
+    Gone,
+}
+
+/// How far a container has come: granted; told to its master, or ordered to its node; reported as
+/// running; ended.
+#[derive(Clone, Copy, Debug, PartialEq, Eq)]
+pub enum ContainerState {
+    Granted,
+    Acquired,
+    Running,
+    Completed,
+}
+
+/// A container's end, as its master is told.
+#[derive(Clone, Copy, Debug, PartialEq, Eq)]
+pub struct Closing {
+    pub id: ContainerId,
+    pub cause: Cause,
+}
+
+/// A living container in the book. `told` is its number among all that were ever added, from 1: the
+/// order of grants.
+#[derive(Debug, Drop)]
+pub struct BookRow {
+    pub id: ContainerId,
+    pub node: Text,
+    pub size: Resource,
+    pub state: ContainerState,
+    pub told: u64,
+}
+
+/// A line of an attempt's asks; `order` is its place in the order of first asking.
+#[derive(Clone, Copy, Debug, PartialEq, Eq)]
+pub struct AskLine {
+    pub ask: Ask,
+    pub order: u64,
+}
+
+/// An attempt's turn in a pass, and the sequence that its next container gets.
+#[derive(Clone, Copy, Debug, PartialEq, Eq)]
+pub struct Turn {
+    pub attempt: AttemptId,
+    pub next_seq: u64,
+}
+
+impl Duplicate for Held {
+    fn copy(&self) -> Result<Held, NoMemory> {
+        Ok(*self)
+    }
+}
+
+impl Duplicate for Grant {
+    fn copy(&self) -> Result<Grant, NoMemory> {
+        let node = self.node.copy()?;
+        Ok(Grant {
+            id: self.id,
+            node,
+            size: self.size,
+        })
+    }
+}
+
+impl Duplicate for Ask {
+    fn copy(&self) -> Result<Ask, NoMemory> {
+        Ok(*self)
+    }
+}
+
+impl Duplicate for Closing {
+    fn copy(&self) -> Result<Closing, NoMemory> {
+        Ok(*self)
+    }
+}
+
+impl Duplicate for BookRow {
+    fn copy(&self) -> Result<BookRow, NoMemory> {
+        let node = self.node.copy()?;
+        Ok(BookRow {
+            id: self.id,
+            node,
+            size: self.size,
+            state: self.state,
+            told: self.told,
+        })
+    }
+}
+
+impl Duplicate for AskLine {
+    fn copy(&self) -> Result<AskLine, NoMemory> {
+        Ok(*self)
+    }
+}
+
+impl Duplicate for Turn {
+    fn copy(&self) -> Result<Turn, NoMemory> {
+        Ok(*self)
+    }
+}

@@ -1,0 +1,115 @@
+ghost use Rattle.std.specs.Prelude.{◌≡◌, IfOk};
+
+use crate::containers::{Cause, Grant, Held};
+use crate::duplicate::{Duplicate, NoMemory};
+use crate::ids::{AppId, AttemptId, ContainerId};
+use crate::items::Items;
+use crate::messages::{Lane, Message, Sender};
+use crate::operations::Op;
+use crate::replies::Reply;
+use crate::texts::Text;
+
+/// One entry of the manager's log: what one move did.
+#[derive(Debug, Drop)]
+pub enum Entry {
+    /// A life began: how many awaiting operations of the life before had landed in the store, and this
+    /// life's epoch and stamp.
+    Opened { landed: u32, epoch: u32, stamp: u64 },
+    /// An operation was issued, and awaits.
+    Issued { op: Op },
+    /// The first awaiting operation was handed to the store.
+    Handed,
+    /// The handed operation is kept.
+    Kept { op: Op },
+    /// The store refused the handed operation after so many calls; nothing more is kept in this life.
+    Blown { passed: u32 },
+    /// A message was answered.
+    Served {
+        sender: Sender,
+        message: Message,
+        reply: Reply,
+    },
+    /// An application was accepted.
+    Accepted { app: AppId },
+    /// An attempt was queued: it asks for its master's container.
+    Queued { attempt: AttemptId },
+    /// A registration was absorbed: the reported containers that were taken, and those that stood on the
+    /// node and weren't.
+    Absorbed {
+        node: Text,
+        taken: Items<Held>,
+        ended: Items<ContainerId>,
+    },
+    /// A beat was answered with grants.
+    Pass { node: Text, grants: Items<Grant> },
+    /// A master's container was ordered on its node.
+    Ordered { container: ContainerId, node: Text },
+    /// Containers ended, all for one cause.
+    Ended {
+        cause: Cause,
+        list: Items<ContainerId>,
+    },
+    /// A segment of the script was settled.
+    Settled,
+    /// A life crashed.
+    Down,
+    /// An event of a dispatcher had nothing to do.
+    Quiet { lane: Lane },
+}
+
+impl Duplicate for Entry {
+    fn copy(&self) -> Result<Entry, NoMemory> {
+        match self {
+            Entry::Opened {
+                landed,
+                epoch,
+                stamp,
+            } => Ok(Entry::Opened {
+                landed: *landed,
+                epoch: *epoch,
+                stamp: *stamp,
+            }),
+            Entry::Issued { op } => Ok(Entry::Issued { op: op.copy()? }),
+            Entry::Handed => Ok(Entry::Handed),
+            Entry::Kept { op } => Ok(Entry::Kept { op: op.copy()? }),
+            Entry::Blown { passed } => Ok(Entry::Blown { passed: *passed }),
+            Entry::Served {
+                sender,
+                message,
+                reply,
+            } => {
+                let message = message.copy()?;
+                let reply = reply.copy()?;
+                Ok(Entry::Served {
+                    sender: *sender,
+                    message,
+                    reply,
+                })
+            }
+            Entry::Accepted { app } => Ok(Entry::Accepted { app: *app }),
+            Entry::Queued { attempt } => Ok(Entry::Queued { attempt: *attempt }),
+            Entry::Absorbed { node, taken, ended } => {
+                let node = node.copy()?;
+                let taken = taken.copy()?;
+                let ended = ended.copy()?;
+                Ok(Entry::Absorbed { node, taken, ended })
+            }
+            Entry::Pass { node, grants } => {
+                let node = node.copy()?;
+                let grants = grants.copy()?;
+                Ok(Entry::Pass { node, grants })
+            }
+            Entry::Ordered { container, node } => Ok(Entry::Ordered {
+                container: *container,
+                node: node.copy()?,
+            }),
+            Entry::Ended { cause, list } => Ok(Entry::Ended {
+                cause: *cause,
+                list: list.copy()?,
+            }),
+            Entry::Settled => Ok(Entry::Settled),
+            Entry::Down => Ok(Entry::Down),
+            Entry::Quiet { lane } => Ok(Entry::Quiet { lane: *lane }),
+        }
+    }
+}

@@ -1,0 +1,85 @@
+ghost use Rattle.std.specs.Prelude.{◌≡◌, List, [], ◌∷◌, ◌++◌, length, IsTrue, ◌↔◌, IfSome, IfNone, drop, OnOk, OnErr, slice_get};
+ghost use Rattle.std.specs.Option.{option_copied};
+ghost use Rattle.rm_types.specs.Lists.{is_nil};
+
+use crate::duplicate::NoMemory;
+use std::alloc::Global;
+use std::collections::VecDeque;
+use std::marker::Model;
+
+/// A queue: items are added at its end and taken from its front, each in constant time. Contracts see
+/// the list of its items, the front first.
+#[derive(Debug, Drop)]
+pub struct Queue<T> {
+    line: VecDeque<T>,
+}
+
+impl<T> Model for Queue<T> {
+    ghost use Rattle.std.specs.Prelude.{List};
+
+    ghost Value = { List T };
+
+    ghost view = { λ a. a.line.items };
+}
+
+impl<T> Queue<T> {
+    /// The empty queue. It takes no memory.
+    pub fn new(alloc: Global) -> Queue<T>
+        ensures { result ≡ [] }
+    {
+        Queue {
+            line: VecDeque::new(alloc),
+        }
+    }
+
+    /// How many items wait.
+    pub fn len(&self) -> usize
+        ensures { result ≡ length self.now }
+    {
+        self.line.len()
+    }
+
+    /// Whether nothing waits.
+    pub fn is_empty(&self) -> bool
+        ensures nil { IsTrue result ↔ (self.now ≡ []) }
+        ensures test { result ≡ is_nil self.now }
+    {
+        self.line.is_empty()
+    }
+
+    /// The item at the front, if there is one.
+    pub fn first(&self) -> Option<&T>
+        ensures { option_copied result ≡ slice_get self.now 0 }
+    {
+        self.line.front()
+    }
+
+    /// Adds an item at the end. `NoMemory` leaves the queue as it was; the item is then dropped.
+    pub fn push(&mut self, item: T) -> Result<(), NoMemory>
+    where
+        T: Drop,
+        ensures ok { OnOk result (self.new ≡ self.old ++ item ∷ []) }
+        ensures err { OnErr result (self.new ≡ self.old) }
+    {
+        self.line.push_back(item)?;
+        Ok(())
+    }
+
+    /// Takes the item at the front, if there is one.
+    pub fn take_first(&mut self) -> Option<T>
+        ensures some { IfSome result (λ item. self.old ≡ item ∷ self.new) }
+        ensures none { IfNone result ((self.old ≡ []) × (self.new ≡ [])) }
+        ensures rest { self.new ≡ drop 1 self.old }
+    {
+        self.line.pop_front()
+    }
+
+    /// Takes the last item away, if there is one.
+    pub fn drop_last(&mut self)
+    where
+        T: Drop,
+        ensures { (front : List T) (last : T) → self.old ≡ front ++ last ∷ [] → self.new ≡ front }
+    {
+        let _ = self.line.pop_back();
+    }
+}
