@@ -1,3 +1,5 @@
+pub mod Ids
 pub mod Lists
+pub mod Records
 pub mod Resources
 pub mod Texts

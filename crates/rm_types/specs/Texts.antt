@@ -66,4 +66,4 @@ abbrev pub fault_of : TextKind → List ℕ → Option ℕ
 fault_of kind bytes =
     if nat_lt (length bytes) (least_length kind) then Some 0 else
     (if nat_le (length bytes) (greatest_length kind) then first_not_allowed kind bytes
-     else Some (unwrap_or (first_not_allowed kind (take (greatest_length kind) bytes)) (greatest_length kind)))
+    else Some (unwrap_or (first_not_allowed kind (take (greatest_length kind) bytes)) (greatest_length kind)))

@@ -1,9 +1,9 @@
+ghost use Rattle.std.specs.Prelude.{◌≡◌, IfOk};
+
 use crate::duplicate::{Duplicate, NoMemory};
 use crate::ids::{AttemptId, ContainerId};
 use crate::resources::Resource;
 use crate::texts::Text;
-
-ghost use Rattle.std.specs.Prelude.{◌≡◌, IfOk};
 
 /// A container that a node reports as running, with its size there.
 #[derive(Clone, Copy, Debug, PartialEq, Eq)]
@@ -75,6 +75,13 @@ pub struct AskLine {
     pub order: u64,
 }
 
+/// An ask of an attempt.
+#[derive(Clone, Copy, Debug, PartialEq, Eq)]
+pub struct AskOf {
+    pub attempt: AttemptId,
+    pub ask: Ask,
+}
+
 /// An attempt's turn in a pass, and the sequence that its next container gets.
 #[derive(Clone, Copy, Debug, PartialEq, Eq)]
 pub struct Turn {
@@ -126,6 +133,12 @@ impl Duplicate for BookRow {
 
 impl Duplicate for AskLine {
     fn copy(&self) -> Result<AskLine, NoMemory> {
+        Ok(*self)
+    }
+}
+
+impl Duplicate for AskOf {
+    fn copy(&self) -> Result<AskOf, NoMemory> {
         Ok(*self)
     }
 }

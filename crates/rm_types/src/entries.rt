@@ -14,15 +14,25 @@ use crate::texts::Text;
 pub enum Entry {
     /// A life began: how many awaiting operations of the life before had landed in the store, and this
     /// life's epoch and stamp.
-    Opened { landed: u32, epoch: u32, stamp: u64 },
+    Opened {
+        landed: u32,
+        epoch: u32,
+        stamp: u64,
+    },
     /// An operation was issued, and awaits.
-    Issued { op: Op },
+    Issued {
+        op: Op,
+    },
     /// The first awaiting operation was handed to the store.
     Handed,
     /// The handed operation is kept.
-    Kept { op: Op },
+    Kept {
+        op: Op,
+    },
     /// The store refused the handed operation after so many calls; nothing more is kept in this life.
-    Blown { passed: u32 },
+    Blown {
+        passed: u32,
+    },
     /// A message was answered.
     Served {
         sender: Sender,
@@ -30,9 +40,13 @@ pub enum Entry {
         reply: Reply,
     },
     /// An application was accepted.
-    Accepted { app: AppId },
+    Accepted {
+        app: AppId,
+    },
     /// An attempt was queued: it asks for its master's container.
-    Queued { attempt: AttemptId },
+    Queued {
+        attempt: AttemptId,
+    },
     /// A registration was absorbed: the reported containers that were taken, and those that stood on the
     /// node and weren't.
     Absorbed {
@@ -41,9 +55,15 @@ pub enum Entry {
         ended: Items<ContainerId>,
     },
     /// A beat was answered with grants.
-    Pass { node: Text, grants: Items<Grant> },
+    Pass {
+        node: Text,
+        grants: Items<Grant>,
+    },
     /// A master's container was ordered on its node.
-    Ordered { container: ContainerId, node: Text },
+    Ordered {
+        container: ContainerId,
+        node: Text,
+    },
     /// Containers ended, all for one cause.
     Ended {
         cause: Cause,
@@ -54,7 +74,9 @@ pub enum Entry {
     /// A life crashed.
     Down,
     /// An event of a dispatcher had nothing to do.
-    Quiet { lane: Lane },
+    Quiet {
+        lane: Lane,
+    },
 }
 
 impl Duplicate for Entry {

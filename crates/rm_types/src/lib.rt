@@ -26,14 +26,14 @@ mod settings;
 mod texts;
 
 pub use containers::{
-    Ask, AskLine, BookRow, Cause, Closing, ContainerState, Grant, Held, Turn,
+    Ask, AskLine, AskOf, BookRow, Cause, Closing, ContainerState, Grant, Held, Turn,
 };
 pub use duplicate::{Duplicate, NoMemory};
 pub use entries::Entry;
 pub use ids::{AppId, AttemptId, ContainerId};
 pub use items::{Items, push_both};
 pub use messages::{ClientAsk, ClockAsk, Lane, MasterAsk, Message, NodeAsk, Sender};
-pub use operations::{How, Op, Submission};
+pub use operations::{How, Op, Submission, Submitted};
 pub use outcomes::Outcome;
 pub use queues::Queue;
 pub use records::{AppRecord, AttemptRecord};

@@ -46,9 +46,15 @@ pub enum How {
 #[derive(Debug, Drop)]
 pub enum Op {
     /// A life began: the epoch that the next life has, and this life's stamp.
-    Epoch { next: u32, stamp: u64 },
+    Epoch {
+        next: u32,
+        stamp: u64,
+    },
     /// An application was submitted.
-    App { id: AppId, submission: Submission },
+    App {
+        id: AppId,
+        submission: Submission,
+    },
     /// An attempt has its master's container, on a node.
     Attempt {
         id: AttemptId,
@@ -56,11 +62,21 @@ pub enum Op {
         node: Text,
     },
     /// An attempt ended, with its diagnostics.
-    AttemptEnd { id: AttemptId, how: How, text: Text },
+    AttemptEnd {
+        id: AttemptId,
+        how: How,
+        text: Text,
+    },
     /// An application ended, with its diagnostics.
-    AppEnd { id: AppId, how: How, text: Text },
+    AppEnd {
+        id: AppId,
+        how: How,
+        text: Text,
+    },
     /// An ended application is forgotten.
-    Remove { id: AppId },
+    Remove {
+        id: AppId,
+    },
 }
 
 impl Duplicate for Op {
@@ -91,5 +107,22 @@ impl Duplicate for Op {
             }),
             Op::Remove { id } => Ok(Op::Remove { id: *id }),
         }
+    }
+}
+
+/// An application that was submitted in this life and isn't kept yet.
+#[derive(Debug, Drop)]
+pub struct Submitted {
+    pub id: AppId,
+    pub submission: Submission,
+}
+
+impl Duplicate for Submitted {
+    fn copy(&self) -> Result<Submitted, NoMemory> {
+        let submission = self.submission.copy()?;
+        Ok(Submitted {
+            id: self.id,
+            submission,
+        })
     }
 }

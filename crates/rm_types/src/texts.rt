@@ -110,7 +110,11 @@ fn is_name_byte(byte: u8) -> bool
 fn is_queue_byte(byte: u8) -> bool
     ensures { result ≡ is_queue_byte byte }
 {
-    byte.is_ascii_lowercase() || byte.is_ascii_digit() || byte == b'_' || byte == b'-' || byte == b'.'
+    byte.is_ascii_lowercase()
+        || byte.is_ascii_digit()
+        || byte == b'_'
+        || byte == b'-'
+        || byte == b'.'
 }
 
 /// Whether a byte may stand in a text of the kind.
