@@ -1,0 +1,13 @@
+pub use Rattle.rm_types.specs.Ids
+pub use Rattle.rm_types.specs.Lists
+pub use Rattle.rm_types.specs.Records
+pub use Rattle.rm_types.specs.Resources
+pub use Rattle.rm_types.specs.Texts
+pub mod State
+pub mod Facts
+pub mod Replies
+pub mod Changes
+pub mod Owed
+pub mod Rules
+pub mod Place
+pub mod Lawful

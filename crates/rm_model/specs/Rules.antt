@@ -1,0 +1,86 @@
+-- When an entry is allowed in the state before it. A case that is not written yet is not allowed.
+use Rattle.std.specs.Prelude.{◌≡◌, ◌≢◌, ℕ, ◌+◌, ◌<◌, ◌^◌, ◌⊎◌, List, [], Bool, true, false, ◌||◌, Option, None, Some, slice_get}
+use Rattle.rm_types.specs.declared.entries.Entry.{Entry}
+use Rattle.rm_types.specs.declared.entries.Entry.TheVariants.{Opened, Issued, Handed, Kept, Served, Settled, Quiet}
+use Rattle.rm_types.specs.declared.messages.Lane.{Lane}
+use Rattle.rm_types.specs.declared.messages.Lane.TheVariants.{Main, Sched}
+use Rattle.rm_types.specs.declared.messages.Message.{Message}
+use Rattle.rm_types.specs.declared.messages.Sender.{Sender}
+use Rattle.rm_types.specs.declared.operations.Op.{Op}
+use Rattle.rm_types.specs.declared.operations.Op.TheVariants.{Epoch}
+use Rattle.rm_types.specs.declared.replies.Reply.{Reply}
+use Rattle.rm_types.specs.declared.settings.Settings.{Settings}
+use Rattle.rm_types.specs.Records.{Records, records}
+use Rattle.rm_model.specs.State.{Manager, LifeState, Scene, scene}
+use Rattle.rm_model.specs.Facts.{awaits, is_epoch_op}
+use Rattle.rm_model.specs.Replies.{sender_of, Answers}
+use Rattle.rm_model.specs.Changes.{kept_after_landing}
+use Rattle.rm_model.specs.Owed.{Owed}
+
+-- a life may open where none stands: an operation has landed only where the last life blew, and then one; the epoch is
+-- the recorded next one, and the stamp is above the recorded one
+pub record MayOpen (s : Manager) (landed epoch stamp : ℕ) : Type 0 where
+  pub none_stands : s.life ≡ None
+  pub landing : (landed ≡ 0) ⊎ ((landed ≡ 1) × (s.blew ≡ true))
+  pub next : epoch ≡ (records (kept_after_landing s landed)).next_epoch
+  pub in_range : epoch < 2 ^ 24
+  pub rises : (records (kept_after_landing s landed)).stamp < stamp
+  pub fits : stamp < 2 ^ 63
+
+-- an Epoch may be issued before the life is open, once: its next epoch is the life's plus 1, its stamp the life's
+pub record MayIssueEpoch (m : Scene) (next stamp : ℕ) : Type 0 where
+  pub closed : m.life.is_open ≡ false
+  pub once : awaits m is_epoch_op ≡ false
+  pub follows : next ≡ m.life.epoch + 1
+  pub of_life : stamp ≡ m.life.stamp
+
+-- when an operation may be issued
+abbrev pub MayIssue : Settings → Scene → Op → Type 0
+MayIssue settings m (Epoch next stamp) = MayIssueEpoch m next stamp
+MayIssue settings m _ = ⊥
+
+-- an operation may be handed to the store where one awaits, none is handed and the life is not blown
+pub record MayHand (m : Scene) : Type 0 where
+  pub some_awaits : m.awaiting ≢ []
+  pub none_handed : m.life.handed ≡ false
+  pub not_blown : m.life.blown ≡ false
+
+-- an operation may be kept where it is the first awaiting one and is handed
+pub record MayKeep (m : Scene) (op : Op) : Type 0 where
+  pub handed : m.life.handed ≡ true
+  pub first : slice_get m.awaiting 0 ≡ Some op
+
+-- a message may be served where the life is open or blown, as its sender's, with the reply that the scene gives
+pub record MayServe (settings : Settings) (m : Scene) (sender : Sender) (message : Message) (reply : Reply) : Type 0 where
+  pub serving : (m.life.is_open || m.life.blown) ≡ true
+  pub of_sender : sender ≡ sender_of message
+  pub answers : Answers settings m message reply
+
+-- a segment may settle where nothing awaits and nothing is owed
+pub record MaySettle (settings : Settings) (m : Scene) : Type 0 where
+  pub none_awaits : m.awaiting ≡ []
+  pub owes_nothing : Owed settings m → ⊥
+
+-- the lane of one of the two dispatchers
+abbrev pub IsDispatcher : Lane → Type 0
+IsDispatcher lane = (lane ≡ Main) ⊎ (lane ≡ Sched)
+
+-- when an entry is allowed in a life
+abbrev pub AllowedIn : Settings → Scene → Entry → Type 0
+AllowedIn settings m (Issued op) = MayIssue settings m op
+AllowedIn settings m Handed = MayHand m
+AllowedIn settings m (Kept op) = MayKeep m op
+AllowedIn settings m (Served sender message reply) = MayServe settings m sender message reply
+AllowedIn settings m Settled = MaySettle settings m
+AllowedIn settings m (Quiet lane) = IsDispatcher lane
+AllowedIn settings m _ = ⊥
+
+-- every entry but Opened is allowed only in a life
+abbrev pub AllowedWhere : Settings → Manager → Option LifeState → Entry → Type 0
+AllowedWhere settings s None e = ⊥
+AllowedWhere settings s (Some life) e = AllowedIn settings (scene s life) e
+
+-- when an entry is allowed, whatever the script says
+abbrev pub Allowed : Settings → Manager → Entry → Type 0
+Allowed settings s (Opened landed epoch stamp) = MayOpen s landed epoch stamp
+Allowed settings s e = AllowedWhere settings s s.life e
