@@ -1,11 +1,11 @@
 -- How each entry changes the state.
-use Rattle.std.specs.Prelude.{ℕ, ◌+◌, List, [], ◌∷◌, ◌++◌, Bool, true, false, not, Option, None, Some, fold, filter, take, drop}
+use Rattle.std.specs.Prelude.{ℕ, List, [], ◌∷◌, ◌++◌, true, false, Option, None, Some, fold, take, drop}
 use Rattle.rm_types.specs.declared.entries.Entry.{Entry}
 use Rattle.rm_types.specs.declared.entries.Entry.TheVariants.{Opened, Issued, Handed, Kept, Settled}
 use Rattle.rm_types.specs.declared.operations.Op.{Op}
 use Rattle.rm_types.specs.declared.operations.Op.TheVariants.{Epoch}
 use Rattle.rm_types.specs.Records.{records}
-use Rattle.rm_model.specs.State.{Manager, LifeState, new_life}
+use Rattle.rm_model.specs.State.{Manager, LifeState, Scene, scene, new_life}
 
 -- what is kept once so many of the awaiting operations have landed
 abbrev pub kept_after_landing : Manager → ℕ → List Op
@@ -31,22 +31,22 @@ abbrev pub in_life : Manager → LifeState → Manager
 in_life s life = record s { life = Some life }
 
 -- the state after an entry in a life
-abbrev pub after_in : Manager → LifeState → Entry → Manager
-after_in s life (Issued op) = in_life (record s { awaiting = s.awaiting ++ op ∷ [] }) life
-after_in s life Handed = in_life s (record life { handed = true })
-after_in s life (Kept op) =
-    in_life (record s { kept = s.kept ++ op ∷ []; awaiting = drop 1 s.awaiting }) (record (life_keeps life op) { handed = false })
-after_in s life Settled = in_life s (record life { endings = record life.endings { releases = [] } })
-after_in s life _ = in_life s life
+abbrev pub after_in : Manager → Scene → Entry → Manager
+after_in s m (Issued op) = in_life (record s { awaiting = s.awaiting ++ op ∷ [] }) m.life
+after_in s m Handed = in_life s (record m.life { handed = true })
+after_in s m (Kept op) =
+    in_life (record s { kept = s.kept ++ op ∷ []; awaiting = drop 1 s.awaiting }) (record (life_keeps m.life op) { handed = false })
+after_in s m Settled = in_life s (record m.life { endings = record m.life.endings { releases = [] } })
+after_in s m _ = in_life s m.life
 
--- the state after an entry; where no life stands only Opened changes it
+-- where no life stands only Opened changes the state
 abbrev pub after_where : Manager → Option LifeState → Entry → Manager
-after_where s None e = s
-after_where s (Some life) e = after_in s life e
+after_where s None (Opened landed epoch stamp) = opened s landed epoch stamp
+after_where s None _ = s
+after_where s (Some life) e = after_in s (scene s life) e
 
 -- the state after an entry
 abbrev pub after : Manager → Entry → Manager
-after s (Opened landed epoch stamp) = opened s landed epoch stamp
 after s e = after_where s s.life e
 
 -- the state after a log

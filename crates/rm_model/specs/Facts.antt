@@ -1,5 +1,5 @@
 -- What is said of applications, attempts and containers in a scene: kept, known, issued, over.
-use Rattle.std.specs.Prelude.{ℕ, ◌+◌, min, List, [], ◌∷◌, Bool, true, false, ◌&&◌, ◌||◌, not, ◌==◌, nat_le, Option, None, Some, is_some, if◌then◌else◌, find, option_map, length, count_by}
+use Rattle.std.specs.Prelude.{ℕ, ◌+◌, min, List, [], Bool, true, false, ◌&&◌, ◌||◌, not, ◌==◌, nat_le, Option, None, Some, is_some, if◌then◌else◌, find, option_map, length}
 use Rattle.std.specs.List.{list_any}
 use Rattle.rm_types.specs.declared.ids.AppId.{AppId}
 use Rattle.rm_types.specs.declared.ids.AttemptId.{AttemptId}

@@ -1,5 +1,5 @@
 -- What a manager owes before a segment may settle.
-use Rattle.std.specs.Prelude.{◌≡◌, ◌≢◌, ◌<◌, ◌⊎◌, List, [], Bool, true, false, ◌&&◌, ◌||◌, not, Option, None, Some, is_some, count_by, Contains}
+use Rattle.std.specs.Prelude.{◌≡◌, ◌≢◌, ◌<◌, [], Bool, true, false, ◌&&◌, ◌||◌, not, Option, None, is_some, count_by, Contains}
 use Rattle.std.specs.List.{list_any}
 use Rattle.rm_types.specs.declared.ids.AppId.{AppId}
 use Rattle.rm_types.specs.declared.operations.How.{How}

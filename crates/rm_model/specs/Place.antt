@@ -1,5 +1,5 @@
 -- Where a log stands in its script: the script says which life begins, which messages are served and how a segment closes.
-use Rattle.std.specs.Prelude.{◌≡◌, ℕ, ◌+◌, max, List, [], ◌∷◌, Bool, true, false, Option, None, Some, find, is_none}
+use Rattle.std.specs.Prelude.{◌≡◌, ℕ, ◌+◌, max, List, [], ◌∷◌, Bool, true, false, Option, None, Some, find}
 use Rattle.rm_types.specs.declared.entries.Entry.{Entry}
 use Rattle.rm_types.specs.declared.entries.Entry.TheVariants.{Opened, Served, Settled}
 use Rattle.rm_types.specs.declared.messages.Message.{Message}

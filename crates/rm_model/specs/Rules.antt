@@ -1,5 +1,5 @@
 -- When an entry is allowed in the state before it. A case that is not written yet is not allowed.
-use Rattle.std.specs.Prelude.{◌≡◌, ◌≢◌, ℕ, ◌+◌, ◌<◌, ◌^◌, ◌⊎◌, List, [], Bool, true, false, ◌||◌, Option, None, Some, slice_get}
+use Rattle.std.specs.Prelude.{◌≡◌, ◌≢◌, ℕ, ◌+◌, ◌<◌, ◌^◌, ◌⊎◌, [], true, false, ◌||◌, Option, None, Some, slice_get}
 use Rattle.rm_types.specs.declared.entries.Entry.{Entry}
 use Rattle.rm_types.specs.declared.entries.Entry.TheVariants.{Opened, Issued, Handed, Kept, Served, Settled, Quiet}
 use Rattle.rm_types.specs.declared.messages.Lane.{Lane}
@@ -10,17 +10,16 @@ use Rattle.rm_types.specs.declared.operations.Op.{Op}
 use Rattle.rm_types.specs.declared.operations.Op.TheVariants.{Epoch}
 use Rattle.rm_types.specs.declared.replies.Reply.{Reply}
 use Rattle.rm_types.specs.declared.settings.Settings.{Settings}
-use Rattle.rm_types.specs.Records.{Records, records}
+use Rattle.rm_types.specs.Records.{records}
 use Rattle.rm_model.specs.State.{Manager, LifeState, Scene, scene}
 use Rattle.rm_model.specs.Facts.{awaits, is_epoch_op}
 use Rattle.rm_model.specs.Replies.{sender_of, Answers}
 use Rattle.rm_model.specs.Changes.{kept_after_landing}
 use Rattle.rm_model.specs.Owed.{Owed}
 
--- a life may open where none stands: an operation has landed only where the last life blew, and then one; the epoch is
+-- a life may open: an operation has landed only where the last life blew, and then one; the epoch is
 -- the recorded next one, and the stamp is above the recorded one
 pub record MayOpen (s : Manager) (landed epoch stamp : ℕ) : Type 0 where
-  pub none_stands : s.life ≡ None
   pub landing : (landed ≡ 0) ⊎ ((landed ≡ 1) × (s.blew ≡ true))
   pub next : epoch ≡ (records (kept_after_landing s landed)).next_epoch
   pub in_range : epoch < 2 ^ 24
@@ -75,12 +74,12 @@ AllowedIn settings m Settled = MaySettle settings m
 AllowedIn settings m (Quiet lane) = IsDispatcher lane
 AllowedIn settings m _ = ⊥
 
--- every entry but Opened is allowed only in a life
+-- Opened is allowed where no life stands, and every other entry only in a life
 abbrev pub AllowedWhere : Settings → Manager → Option LifeState → Entry → Type 0
-AllowedWhere settings s None e = ⊥
+AllowedWhere settings s None (Opened landed epoch stamp) = MayOpen s landed epoch stamp
+AllowedWhere settings s None _ = ⊥
 AllowedWhere settings s (Some life) e = AllowedIn settings (scene s life) e
 
 -- when an entry is allowed, whatever the script says
 abbrev pub Allowed : Settings → Manager → Entry → Type 0
-Allowed settings s (Opened landed epoch stamp) = MayOpen s landed epoch stamp
 Allowed settings s e = AllowedWhere settings s s.life e

@@ -1,6 +1,6 @@
 -- The state of a manager that never dies: plain lists and records. It has no queue of events, no table of transitions, no
 -- journal, no index and no running total.
-use Rattle.std.specs.Prelude.{ℕ, List, [], ◌∷◌, ◌++◌, Bool, true, false, Option, None, Some}
+use Rattle.std.specs.Prelude.{ℕ, List, [], Bool, false, Option, None}
 use Rattle.rm_types.specs.declared.containers.AskOf.{AskOf}
 use Rattle.rm_types.specs.declared.containers.Closing.{Closing}
 use Rattle.rm_types.specs.declared.containers.ContainerState.{ContainerState}

@@ -49,7 +49,8 @@ impl<T> Queue<T> {
 
     /// The item at the front, if there is one.
     pub fn first(&self) -> Option<&T>
-        ensures { option_copied result ≡ slice_get self.now 0 }
+        ensures first { option_copied result ≡ slice_get self.now 0 }
+        ensures none { IfNone result (self.now ≡ []) }
     {
         self.line.front()
     }

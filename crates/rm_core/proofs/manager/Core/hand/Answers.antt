@@ -1,0 +1,11 @@
+use Rattle.rm_core.proofs.Moving.{hand_does}
+use Rattle.rm_core.proofs.manager.Core.hand.Goals as goal
+
+pub invariant_of-self : goal.invariant_of-self
+invariant_of-self c = (hand_does c.self.inside.settings c.self.inside.log c.move_hand.new.log c.self.inside.tables c.move_hand.new.t c.self.invariant c.move_hand.result c.move_hand.ensures.ok c.move_hand.ensures.ready c.move_hand.ensures.err).keeps
+
+pub returns-clause-added : goal.returns-clause-added
+returns-clause-added c = rw (← c.self.view_is) (hand_does c.self.inside.settings c.self.inside.log c.move_hand.new.log c.self.inside.tables c.move_hand.new.t c.self.invariant c.move_hand.result c.move_hand.ensures.ok c.move_hand.ensures.ready c.move_hand.ensures.err).adds
+
+pub returns-clause-weighs : goal.returns-clause-weighs
+returns-clause-weighs c = rw (← c.self.view_is) (hand_does c.self.inside.settings c.self.inside.log c.move_hand.new.log c.self.inside.tables c.move_hand.new.t c.self.invariant c.move_hand.result c.move_hand.ensures.ok c.move_hand.ensures.ready c.move_hand.ensures.err).weighs

@@ -1,0 +1,11 @@
+use Rattle.rm_core.proofs.Moving.{kept_does}
+use Rattle.rm_core.proofs.manager.Core.kept.Goals as goal
+
+pub invariant_of-self : goal.invariant_of-self
+invariant_of-self c = (kept_does c.self.inside.settings c.self.inside.log c.move_kept.new.log c.self.inside.tables c.move_kept.new.t c.self.invariant c.move_kept.result c.move_kept.ensures.ok c.move_kept.ensures.ready c.move_kept.ensures.err).keeps
+
+pub returns-clause-added : goal.returns-clause-added
+returns-clause-added c = rw (← c.self.view_is) (kept_does c.self.inside.settings c.self.inside.log c.move_kept.new.log c.self.inside.tables c.move_kept.new.t c.self.invariant c.move_kept.result c.move_kept.ensures.ok c.move_kept.ensures.ready c.move_kept.ensures.err).adds
+
+pub returns-clause-weighs : goal.returns-clause-weighs
+returns-clause-weighs c = rw (← c.self.view_is) (kept_does c.self.inside.settings c.self.inside.log c.move_kept.new.log c.self.inside.tables c.move_kept.new.t c.self.invariant c.move_kept.result c.move_kept.ensures.ok c.move_kept.ensures.ready c.move_kept.ensures.err).weighs

@@ -1,0 +1,11 @@
+use Rattle.rm_core.proofs.Moving.{main_does}
+use Rattle.rm_core.proofs.manager.Core.main.Goals as goal
+
+pub invariant_of-self : goal.invariant_of-self
+invariant_of-self c = (main_does c.self.inside.settings c.self.inside.log c.move_main.new.log c.self.inside.tables c.move_main.new.t c.self.invariant c.move_main.result c.move_main.ensures.ok c.move_main.ensures.err).keeps
+
+pub returns-clause-added : goal.returns-clause-added
+returns-clause-added c = rw (← c.self.view_is) (main_does c.self.inside.settings c.self.inside.log c.move_main.new.log c.self.inside.tables c.move_main.new.t c.self.invariant c.move_main.result c.move_main.ensures.ok c.move_main.ensures.err).adds
+
+pub returns-clause-weighs : goal.returns-clause-weighs
+returns-clause-weighs c = rw (← c.self.view_is) (main_does c.self.inside.settings c.self.inside.log c.move_main.new.log c.self.inside.tables c.move_main.new.t c.self.invariant c.move_main.result c.move_main.ensures.ok c.move_main.ensures.err).weighs

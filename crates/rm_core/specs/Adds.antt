@@ -1,0 +1,52 @@
+-- What a move asks, and what it adds to the log.
+use Rattle.std.specs.Prelude.{◌≡◌, ℕ, ◌+◌, ◌<◌, ◌≤◌, max, List, [], ◌∷◌, ◌++◌}
+use Rattle.rm_types.specs.declared.entries.Entry.{Entry}
+use Rattle.rm_types.specs.declared.entries.Entry.TheVariants.{Opened, Issued, Handed, Kept as KeptEntry, Settled, Quiet}
+use Rattle.rm_types.specs.declared.messages.Lane.{Lane}
+use Rattle.rm_types.specs.declared.messages.Lane.TheVariants.{Main as MainLane, Sched as SchedLane, Hand as HandLane, Write, End, Begin as BeginLane}
+use Rattle.rm_types.specs.declared.operations.Op.{Op}
+use Rattle.rm_types.specs.Records.{records}
+use Rattle.rm_model.specs.Lawful.{state_after}
+use Rattle.rm_core.specs.declared.manager.Move.{Move}
+use Rattle.rm_core.specs.declared.manager.Move.TheVariants.{Main, Sched, Hand, Kept, Settle, Begin}
+
+-- the number that is handed to a life is 1 to 10^15
+abbrev pub IsStart : Move → Type 0
+IsStart (Begin handed) = (1 ≤ handed) × (handed ≤ 1000000000000000)
+IsStart _ = Unit {0}
+
+-- the lane of a move
+abbrev pub lane_of : Move → Lane
+lane_of Main = MainLane
+lane_of Sched = SchedLane
+lane_of Hand = HandLane
+lane_of Kept = Write
+lane_of Settle = End
+lane_of (Begin handed) = BeginLane
+
+-- the entries that a dispatcher of the main queue may log
+abbrev pub IsOfMain : Entry → Type 0
+IsOfMain (Issued op) = Unit {0}
+IsOfMain (Quiet lane) = lane ≡ MainLane
+IsOfMain _ = ⊥
+
+-- the entry that a move adds to a log
+abbrev pub IsOf : Move → List Entry → Entry → Type 0
+IsOf (Begin handed) log e = (epoch : ℕ) × (e ≡ Opened 0 epoch (max handed ((records (state_after [] log).kept).stamp + 1)))
+IsOf Main log e = IsOfMain e
+IsOf Sched log e = e ≡ Quiet SchedLane
+IsOf Hand log e = e ≡ Handed
+IsOf Kept log e = (op : Op) × (e ≡ KeptEntry op)
+IsOf Settle log e = e ≡ Settled
+
+-- a move adds one entry, which is of its kind
+pub record Adds (next : Move) (log longer : List Entry) : Type 0 where
+  pub entry : Entry
+  pub of_move : IsOf next log entry
+  pub added : longer ≡ log ++ entry ∷ []
+
+-- a move of the manager's own makes the weight less; a life begins with the weight of its first event
+abbrev pub Weighs : Move → ℕ → ℕ → Type 0
+Weighs (Begin handed) old new = new ≤ 13
+Weighs Settle old new = new ≤ old
+Weighs _ old new = new < old

@@ -1,0 +1,20 @@
+-- How much is left to do before all is at rest: each move of the manager's own makes it less.
+use Rattle.std.specs.Prelude.{ℕ, ◌+◌, ◌*◌, Bool, true, false, length}
+use Rattle.std.specs.List.{sum_by}
+use Rattle.rm_core.specs.declared.events.MainEvent.{MainEvent}
+use Rattle.rm_core.specs.declared.events.MainEvent.TheVariants.{EpochStart, Retire}
+use Rattle.rm_core.specs.declared.tables.Tables.{Tables}
+
+-- an event weighs more than all that it posts or issues
+abbrev pub main_weight : MainEvent → ℕ
+main_weight EpochStart = 12
+main_weight Retire = 1
+
+-- an operation weighs 1 more until it is handed
+abbrev pub one_unless : Bool → ℕ
+one_unless true = 0
+one_unless false = 1
+
+-- the weight of what is left
+abbrev pub weight : Tables → ℕ
+weight t = sum_by main_weight t.main + (10 * length t.awaiting + one_unless t.handed)

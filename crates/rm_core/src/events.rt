@@ -1,0 +1,34 @@
+ghost use Rattle.std.specs.Prelude.{◌≡◌};
+ghost use Rattle.rm_core.specs.declared.events.Refused.TheVariants.{Memory};
+
+use rm_types::NoMemory;
+
+/// What the main queue holds. The queue is first in, first out.
+#[derive(Clone, Copy, Debug, PartialEq, Eq)]
+pub enum MainEvent {
+    /// A life began: its Epoch is to be issued.
+    EpochStart,
+    /// An application ended, or a life opened: completed applications past the limit are to be removed.
+    Retire,
+}
+
+/// What the scheduler's queue holds. No message that is served posts an event there yet.
+#[derive(Clone, Copy, Debug, PartialEq, Eq)]
+pub enum SchedEvent {}
+
+/// Why a move was not made. Nothing has changed then.
+#[derive(Clone, Copy, Debug, PartialEq, Eq)]
+pub enum Refused {
+    /// The move's lane has nothing to do.
+    NotReady,
+    /// No memory was found.
+    Memory,
+}
+
+impl From<NoMemory> for Refused {
+    ghost from_gives = { λ _ e. e ≡ Memory };
+
+    fn from(_error: NoMemory) -> Refused {
+        Refused::Memory
+    }
+}

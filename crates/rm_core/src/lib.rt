@@ -1,0 +1,18 @@
+//! The manager itself: its tables, its two queues of events and its log.
+//!
+//! Each move adds one entry to the log, or is refused and changes nothing. The log is at every moment
+//! one that a manager that never dies could have made: the judge of `rm_model` allows each entry in the
+//! state that those before it leave.
+//!
+//! It stands on `rm_types` and on the definitions of `rm_model`. Which message is served and when a
+//! segment closes is for the layer above to say.
+#![tactic(auto)]
+
+mod events;
+mod manager;
+mod moves;
+mod tables;
+
+pub use events::{MainEvent, Refused, SchedEvent};
+pub use manager::{Core, Move};
+pub use tables::Tables;
