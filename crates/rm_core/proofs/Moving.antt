@@ -1,5 +1,5 @@
 -- Each move, whether it was made or refused, keeps what holds, and adds the entry that it says.
-use Rattle.std.proofs.Common.{◌≡◌, ◌≢◌, ℕ, ◌+◌, ◌<◌, ◌≤◌, ◌^◌, max, min, List, [], ◌∷◌, ◌++◌, Bool, true, false, not, ◌&&◌, None, Some, Ok, Err, Result, refl, ap, subst, arith}
+use Rattle.std.proofs.Common.{◌∙◌, ◌≡◌, ◌≢◌, ℕ, ◌+◌, ◌<◌, ◌≤◌, ◌^◌, max, min, List, [], ◌∷◌, ◌++◌, Bool, true, false, not, ◌&&◌, None, Some, Ok, Err, Result, refl, ap, subst, arith}
 use Rattle.std.specs.Prelude.{OnOk, OnErr}
 use Rattle.rm_types.specs.declared.entries.Entry.{Entry}
 use Rattle.rm_types.specs.declared.entries.Entry.TheVariants.{Opened, Handed, Kept as KeptEntry, Settled}
@@ -17,7 +17,7 @@ use Rattle.rm_core.specs.declared.events.Refused.{Refused}
 use Rattle.rm_core.specs.declared.manager.Move.{Move}
 use Rattle.rm_core.specs.declared.manager.Move.TheVariants.{Main, Hand, Kept, Settle, Begin}
 use Rattle.rm_core.specs.declared.tables.Tables.{Tables}
-use Rattle.rm_core.specs.Adds.{Adds, IsOfMain, Weighs}
+use Rattle.rm_core.specs.Adds.{Adds, IsOfMain, Stands, Weighs}
 use Rattle.rm_core.specs.Keeps.{Keeps, Stage, none, starting, saving, running, IsSaving}
 use Rattle.rm_core.specs.Ready.{is_ready}
 use Rattle.rm_core.specs.Steps.{begun, handed_out, main_entry, main_after, front_of_main, front_of_awaiting, kept_after}
@@ -32,6 +32,7 @@ pub record Makes (m : Move) (settings : Settings) (log longer : List Entry) (t n
   pub keeps : Keeps settings longer next
   pub adds : Adds m log longer
   pub weighs : Weighs m (weight t) (weight next)
+  pub stands : Stands m t.alive next.alive
 
 some_same : {X : Type 0} (x y : X) → Some x ≡ Some y → x ≡ y
 some_same x y h = cc
@@ -39,6 +40,17 @@ some_same x y h = cc
 main_kind : (t : Tables) (event : MainEvent) → IsOfMain (main_entry t event)
 main_kind t EpochStart = tt
 main_kind t Retire = refl
+
+-- a life stands while an event of the main queue waits
+main_alive : (t : Tables) (event : MainEvent) (rest : List MainEvent) → Stage t → t.main ≡ event ∷ rest → t.alive ≡ true
+main_alive t event rest (none n) m = absurd (let x = n.main in cc)
+main_alive t event rest (starting s) m = s.alive
+main_alive t event rest (saving s) m = s.alive
+main_alive t event rest (running r) m = r.alive
+
+main_stays : (t : Tables) (event : MainEvent) → (main_after t event).alive ≡ t.alive
+main_stays t EpochStart = refl
+main_stays t Retire = refl
 
 module _ (settings : Settings) (log : List Entry) (t : Tables) (k : Keeps settings log t) where
   main_event : (event : MainEvent) (rest : List MainEvent) → t.main ≡ event ∷ rest → Keeps settings (log ++ main_entry t event ∷ []) (main_after t event)
@@ -54,36 +66,39 @@ module _ (settings : Settings) (log : List Entry) (t : Tables) (k : Keeps settin
         keeps = main_event event rest m;
         adds = record { entry = main_entry t event; of_move = main_kind t event; added = refl };
         weighs = main_lighter t event rest m;
+        stands = (main_alive t event rest k.stage m, main_stays t event ∙ main_alive t event rest k.stage m);
       })
 
   -- the first awaiting operation, which is an Epoch
-  kept_makes : (ops : List Op) → t.awaiting ≡ ops → t.handed ≡ true → (e : Entry) (next : Tables) → front_of_awaiting t ops ≡ Some (e, next)
+  kept_makes : (ops : List Op) → t.awaiting ≡ ops → t.alive ≡ true → t.handed ≡ true → (e : Entry) (next : Tables) → front_of_awaiting t ops ≡ Some (e, next)
       → Makes Kept settings log (log ++ e ∷ []) t next
-  kept_makes [] m hd e next h = cc
-  kept_makes (Epoch n stamp ∷ rest) m hd e next h =
+  kept_makes [] m alive hd e next h = cc
+  kept_makes (Epoch n stamp ∷ rest) m alive hd e next h =
       subst (λ (p : Entry × Tables). Makes Kept settings log (log ++ p.0 ∷ []) t p.1) (some_same (KeptEntry (Epoch n stamp), kept_after t (Epoch n stamp)) (e, next) h)
       (record {
         keeps = epoch_kept_keeps settings log t n stamp rest k m hd;
         adds = record { entry = KeptEntry (Epoch n stamp); of_move = (Epoch n stamp, refl); added = refl };
         weighs = kept_lighter t n stamp rest m;
+        stands = (alive, alive);
       })
-  kept_makes (App id submission ∷ rest) m hd e next h = cc
-  kept_makes (Attempt id master node ∷ rest) m hd e next h = cc
-  kept_makes (AttemptEnd id how text ∷ rest) m hd e next h = cc
-  kept_makes (AppEnd id how text ∷ rest) m hd e next h = cc
-  kept_makes (Remove id ∷ rest) m hd e next h = cc
+  kept_makes (App id submission ∷ rest) m alive hd e next h = cc
+  kept_makes (Attempt id master node ∷ rest) m alive hd e next h = cc
+  kept_makes (AttemptEnd id how text ∷ rest) m alive hd e next h = cc
+  kept_makes (AppEnd id how text ∷ rest) m alive hd e next h = cc
+  kept_makes (Remove id ∷ rest) m alive hd e next h = cc
 
 -- what a move does, made or refused
 pub record Does (m : Move) (settings : Settings) (log longer : List Entry) (t next : Tables) (r : Result (Unit {0}) Refused) : Type 0 where
   pub keeps : Keeps settings longer next
   pub adds : OnOk r (Adds m log longer)
   pub weighs : OnOk r (Weighs m (weight t) (weight next))
+  pub stands : OnOk r (Stands m t.alive next.alive)
 
 made : (m : Move) (settings : Settings) (log longer : List Entry) (t next : Tables) (x : Unit {0}) → Makes m settings log longer t next → Does m settings log longer t next (Ok x)
-made m settings log longer t next x makes = record { keeps = makes.keeps; adds = makes.adds; weighs = makes.weighs }
+made m settings log longer t next x makes = record { keeps = makes.keeps; adds = makes.adds; weighs = makes.weighs; stands = makes.stands }
 
 refused : (m : Move) (settings : Settings) (log longer : List Entry) (t next : Tables) (e : Refused) → Keeps settings log t → next ≡ t → longer ≡ log → Does m settings log longer t next (Err e)
-refused m settings log longer t next e k same added = record { keeps = rw (same, added) k; adds = tt; weighs = tt }
+refused m settings log longer t next e k same added = record { keeps = rw (same, added) k; adds = tt; weighs = tt; stands = tt }
 
 nil_is : {X : Type 0} (xs : List X) → is_nil xs ≡ true → xs ≡ []
 nil_is [] h = refl
@@ -118,14 +133,14 @@ module _ (settings : Settings) (log longer : List Entry) (t next : Tables) (k : 
       let some = not_nil t.awaiting front.1 in
       let free = is_not t.handed parts.1 in
       made Hand settings log longer t next x
-      (rw (ok.0, ok.1) (record { keeps = hand_keeps settings log t k alive some free; adds = record { entry = Handed; of_move = refl; added = refl }; weighs = hand_lighter t free }))
+      (rw (ok.0, ok.1) (record { keeps = hand_keeps settings log t k alive some free; adds = record { entry = Handed; of_move = refl; added = refl }; weighs = hand_lighter t free; stands = (alive, alive) }))
   hand_does (Err e) ok ready err = refused Hand settings log longer t next e k err.0 err.1
 
   pub kept_does : (r : Result (Unit {0}) Refused)
       → OnOk r ((e : Entry) × (front_of_awaiting t t.awaiting ≡ Some (e, next)) × (longer ≡ log ++ e ∷ [])) → OnOk r (is_ready t Write ≡ true)
       → OnErr r ((next ≡ t) × (longer ≡ log)) → Does Kept settings log longer t next r
   kept_does (Ok x) ok ready err =
-      made Kept settings log longer t next x (rw ok.2 (kept_makes settings log t k t.awaiting refl (both t.alive t.handed ready).1 ok.0 next ok.1))
+      made Kept settings log longer t next x (rw ok.2 (kept_makes settings log t k t.awaiting refl (both t.alive t.handed ready).0 (both t.alive t.handed ready).1 ok.0 next ok.1))
   kept_does (Err e) ok ready err = refused Kept settings log longer t next e k err.0 err.1
 
   pub begin_does : (handed more : ℕ) → t.alive ≡ false → 1 ≤ handed → handed ≤ 1000000000000000 → more ≡ min (t.stored_stamp + 1) 18446744073709551615
@@ -147,6 +162,7 @@ module _ (settings : Settings) (log longer : List Entry) (t next : Tables) (k : 
           added = refl;
         };
         weighs = omega arith;
+        stands = refl;
       }))
   begin_does handed more a low high m (Err e) ok err = refused (Begin handed) settings log longer t next e k err.0 err.1
 
@@ -161,7 +177,7 @@ settle_does settings log longer t k (Ok x) ok ready err =
     let main = nil_is t.main front.1 in
     let awaiting = nil_is t.awaiting parts.1 in
     made Settle settings log longer t t x
-    (rw ok (record { keeps = settle_keeps settings log t k alive main awaiting; adds = record { entry = Settled; of_move = refl; added = refl }; weighs = omega arith }))
+    (rw ok (record { keeps = settle_keeps settings log t k alive main awaiting; adds = record { entry = Settled; of_move = refl; added = refl }; weighs = omega arith; stands = (alive, alive) }))
 settle_does settings log longer t k (Err e) ok ready err = refused Settle settings log longer t t e k refl err
 
 saved_ready : (t : Tables) → IsSaving t → (is_ready t Write ≡ true → front_of_awaiting t t.awaiting ≡ None) → (b : Bool) → t.handed ≡ b → b ≡ false

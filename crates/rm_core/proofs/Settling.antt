@@ -77,9 +77,9 @@ rests_between settings log t k a =
     let at : state_after [] log ≡ record { kept = k.history.kept; awaiting = t.awaiting; blew = false; life = None } = k.same ∙ rw a refl in
     record { is_open = λ h. cc; at_rest = subst (λ (s : Manager). IsAtRest settings s s.life) (sym at) tt }
 
-rests_where : (settings : Settings) (log : List Entry) (t : Tables) → Keeps settings log t → t.main ≡ [] → t.awaiting ≡ [] → (b : Bool) → t.alive ≡ b
+rests_where : (settings : Settings) (log : List Entry) (t : Tables) → Keeps settings log t → t.main ≡ [] → (t.alive ≡ true → t.awaiting ≡ []) → (b : Bool) → t.alive ≡ b
     → RestsWhere (record { settings = settings; tables = t; log = log })
-rests_where settings log t k m w true a = rests_open settings log t k a m w
+rests_where settings log t k m w true a = rests_open settings log t k a m (w a)
 rests_where settings log t k m w false a = rests_between settings log t k a
 
 -- where nothing is left to do, nothing is owed

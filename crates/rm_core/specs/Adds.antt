@@ -1,5 +1,5 @@
 -- What a move asks, and what it adds to the log.
-use Rattle.std.specs.Prelude.{◌≡◌, ℕ, ◌+◌, ◌<◌, ◌≤◌, max, List, [], ◌∷◌, ◌++◌}
+use Rattle.std.specs.Prelude.{◌≡◌, ℕ, ◌+◌, ◌<◌, ◌≤◌, max, List, [], ◌∷◌, ◌++◌, Bool, true}
 use Rattle.rm_types.specs.declared.entries.Entry.{Entry}
 use Rattle.rm_types.specs.declared.entries.Entry.TheVariants.{Opened, Issued, Handed, Kept as KeptEntry, Settled, Quiet}
 use Rattle.rm_types.specs.declared.messages.Lane.{Lane}
@@ -50,3 +50,8 @@ abbrev pub Weighs : Move → ℕ → ℕ → Type 0
 Weighs (Begin handed) old new = new ≤ 13
 Weighs Settle old new = new ≤ old
 Weighs _ old new = new < old
+
+-- a life stands after each move, and before each that doesn't begin one
+abbrev pub Stands : Move → Bool → Bool → Type 0
+Stands (Begin handed) before now = now ≡ true
+Stands _ before now = (before ≡ true) × (now ≡ true)

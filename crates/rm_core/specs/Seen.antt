@@ -28,4 +28,5 @@ pub record RestsWhere (seen : Seen) : Type 0 where
 
 -- where nothing is left to do, nothing is owed
 abbrev pub Rests : Seen → Type 0
-Rests seen = seen.tables.main ≡ [] → seen.tables.sched ≡ [] → seen.tables.awaiting ≡ [] → RestsWhere seen
+Rests seen =
+    seen.tables.main ≡ [] → seen.tables.sched ≡ [] → (seen.tables.alive ≡ true → seen.tables.awaiting ≡ []) → RestsWhere seen

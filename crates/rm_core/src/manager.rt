@@ -4,7 +4,7 @@ ghost use Rattle.rm_types.specs.declared.entries.Entry.{Entry};
 ghost use Rattle.rm_types.specs.declared.messages.Lane.{Lane};
 ghost use Rattle.rm_model.specs.State.{opening_state};
 ghost use Rattle.rm_model.specs.Lawful.{AllAllowed};
-ghost use Rattle.rm_core.specs.Adds.{Adds, IsStart, Weighs, lane_of};
+ghost use Rattle.rm_core.specs.Adds.{Adds, IsStart, Stands, Weighs, lane_of};
 ghost use Rattle.rm_core.specs.Ready.{is_ready};
 ghost use Rattle.rm_core.specs.Seen.{Rests, handed_op, is_kept_entry};
 ghost use Rattle.rm_core.specs.Steps.{no_life};
@@ -125,6 +125,7 @@ impl Core {
         ensures added { OnOk result (Adds next self.old.log self.new.log) }
         ensures ready { OnOk result (is_ready self.old.tables (lane_of next) ≡ true) }
         ensures weighs { OnOk result (Weighs next (weight self.old.tables) (weight self.new.tables)) }
+        ensures stands { OnOk result (Stands next self.old.tables.alive self.new.tables.alive) }
         ensures not_ready { IsErrOf result Refused.NotReady → is_ready self.old.tables (lane_of next) ≡ false }
         ensures settings { self.new.settings ≡ self.old.settings }
         ensures err { OnErr result (self.new ≡ self.old) }
@@ -144,6 +145,7 @@ impl Core {
         ensures added { OnOk result (Adds (Move.Begin handed) self.old.log self.new.log) }
         ensures ready { OnOk result (is_ready self.old.tables Lane.Begin ≡ true) }
         ensures weighs { OnOk result (Weighs (Move.Begin handed) (weight self.old.tables) (weight self.new.tables)) }
+        ensures stands { OnOk result (self.new.tables.alive ≡ true) }
         ensures not_ready { IsErrOf result Refused.NotReady → is_ready self.old.tables Lane.Begin ≡ false }
         ensures settings { self.new.settings ≡ self.old.settings }
         ensures err { OnErr result (self.new ≡ self.old) }
@@ -159,6 +161,7 @@ impl Core {
         ensures added { OnOk result (Adds Move.Main self.old.log self.new.log) }
         ensures ready { OnOk result (is_ready self.old.tables Lane.Main ≡ true) }
         ensures weighs { OnOk result (weight self.new.tables < weight self.old.tables) }
+        ensures stands { OnOk result ((self.old.tables.alive ≡ true) × (self.new.tables.alive ≡ true)) }
         ensures not_ready { IsErrOf result Refused.NotReady → is_ready self.old.tables Lane.Main ≡ false }
         ensures settings { self.new.settings ≡ self.old.settings }
         ensures err { OnErr result (self.new ≡ self.old) }
@@ -181,6 +184,7 @@ impl Core {
         ensures added { OnOk result (Adds Move.Hand self.old.log self.new.log) }
         ensures ready { OnOk result (is_ready self.old.tables Lane.Hand ≡ true) }
         ensures weighs { OnOk result (weight self.new.tables < weight self.old.tables) }
+        ensures stands { OnOk result ((self.old.tables.alive ≡ true) × (self.new.tables.alive ≡ true)) }
         ensures not_ready { IsErrOf result Refused.NotReady → is_ready self.old.tables Lane.Hand ≡ false }
         ensures settings { self.new.settings ≡ self.old.settings }
         ensures err { OnErr result (self.new ≡ self.old) }
@@ -192,6 +196,7 @@ impl Core {
         ensures added { OnOk result (Adds Move.Kept self.old.log self.new.log) }
         ensures ready { OnOk result (is_ready self.old.tables Lane.Write ≡ true) }
         ensures weighs { OnOk result (weight self.new.tables < weight self.old.tables) }
+        ensures stands { OnOk result ((self.old.tables.alive ≡ true) × (self.new.tables.alive ≡ true)) }
         ensures not_ready { IsErrOf result Refused.NotReady → is_ready self.old.tables Lane.Write ≡ false }
         ensures settings { self.new.settings ≡ self.old.settings }
         ensures err { OnErr result (self.new ≡ self.old) }
@@ -203,6 +208,7 @@ impl Core {
         ensures added { OnOk result (Adds Move.Settle self.old.log self.new.log) }
         ensures ready { OnOk result (is_ready self.old.tables Lane.End ≡ true) }
         ensures weighs { OnOk result (weight self.new.tables ≤ weight self.old.tables) }
+        ensures stands { OnOk result ((self.old.tables.alive ≡ true) × (self.new.tables.alive ≡ true)) }
         ensures not_ready { IsErrOf result Refused.NotReady → is_ready self.old.tables Lane.End ≡ false }
         ensures settings { self.new.settings ≡ self.old.settings }
         ensures err { OnErr result (self.new ≡ self.old) }

@@ -3,6 +3,7 @@ ghost use Rattle.std.specs.Option.{option_copied};
 ghost use Rattle.rm_types.specs.Lists.{is_nil};
 
 use crate::duplicate::NoMemory;
+use crate::items::Items;
 use std::alloc::Global;
 use std::collections::VecDeque;
 use std::marker::Model;
@@ -29,6 +30,15 @@ impl<T> Queue<T> {
     {
         Queue {
             line: VecDeque::new(alloc),
+        }
+    }
+
+    /// The items of a list, the first at the front. It takes no memory.
+    pub fn from_items(items: Items<T>) -> Queue<T>
+        ensures { result ≡ items }
+    {
+        Queue {
+            line: VecDeque::from(items.into_vec()),
         }
     }
 

@@ -9,3 +9,6 @@ returns-clause-added c = rw (← c.self.view_is) (hand_does c.self.inside.settin
 
 pub returns-clause-weighs : goal.returns-clause-weighs
 returns-clause-weighs c = rw (← c.self.view_is) (hand_does c.self.inside.settings c.self.inside.log c.move_hand.new.log c.self.inside.tables c.move_hand.new.t c.self.invariant c.move_hand.result c.move_hand.ensures.ok c.move_hand.ensures.ready c.move_hand.ensures.err).weighs
+
+pub returns-clause-stands : goal.returns-clause-stands
+returns-clause-stands c = rw (← c.self.view_is) (hand_does c.self.inside.settings c.self.inside.log c.move_hand.new.log c.self.inside.tables c.move_hand.new.t c.self.invariant c.move_hand.result c.move_hand.ensures.ok c.move_hand.ensures.ready c.move_hand.ensures.err).stands

@@ -9,3 +9,6 @@ returns-clause-added c = rw (← c.self.view_is) (kept_does c.self.inside.settin
 
 pub returns-clause-weighs : goal.returns-clause-weighs
 returns-clause-weighs c = rw (← c.self.view_is) (kept_does c.self.inside.settings c.self.inside.log c.move_kept.new.log c.self.inside.tables c.move_kept.new.t c.self.invariant c.move_kept.result c.move_kept.ensures.ok c.move_kept.ensures.ready c.move_kept.ensures.err).weighs
+
+pub returns-clause-stands : goal.returns-clause-stands
+returns-clause-stands c = rw (← c.self.view_is) (kept_does c.self.inside.settings c.self.inside.log c.move_kept.new.log c.self.inside.tables c.move_kept.new.t c.self.invariant c.move_kept.result c.move_kept.ensures.ok c.move_kept.ensures.ready c.move_kept.ensures.err).stands

@@ -9,3 +9,6 @@ returns-clause-added c = rw (← c.self.view_is) (main_does c.self.inside.settin
 
 pub returns-clause-weighs : goal.returns-clause-weighs
 returns-clause-weighs c = rw (← c.self.view_is) (main_does c.self.inside.settings c.self.inside.log c.move_main.new.log c.self.inside.tables c.move_main.new.t c.self.invariant c.move_main.result c.move_main.ensures.ok c.move_main.ensures.err).weighs
+
+pub returns-clause-stands : goal.returns-clause-stands
+returns-clause-stands c = rw (← c.self.view_is) (main_does c.self.inside.settings c.self.inside.log c.move_main.new.log c.self.inside.tables c.move_main.new.t c.self.invariant c.move_main.result c.move_main.ensures.ok c.move_main.ensures.err).stands

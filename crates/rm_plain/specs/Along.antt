@@ -1,0 +1,76 @@
+-- How a run goes along its script, and what is left of it.
+use Rattle.std.specs.Prelude.{◌≡◌, ℕ, ◌+◌, ◌<◌, ◌≤◌, List, [], ◌∷◌, ◌++◌, true, false, Option, None, Some, length}
+use Rattle.std.specs.List.{sum_by}
+use Rattle.rm_types.specs.declared.entries.Entry.{Entry}
+use Rattle.rm_types.specs.declared.messages.Message.{Message}
+use Rattle.rm_types.specs.declared.scripts.Close.{Close}
+use Rattle.rm_types.specs.declared.scripts.Close.TheVariants.{Settle}
+use Rattle.rm_types.specs.declared.scripts.Life.{Life}
+use Rattle.rm_types.specs.declared.scripts.Segment.{Segment}
+use Rattle.rm_types.specs.declared.scripts.Script.{Script}
+use Rattle.rm_types.specs.declared.settings.Settings.{Settings}
+use Rattle.rm_model.specs.State.{opening_state}
+use Rattle.rm_model.specs.Place.{Place, beginning}
+use Rattle.rm_model.specs.Lawful.{Follows, IsDone, place_after}
+use Rattle.rm_core.specs.Weights.{weight}
+use Rattle.rm_plain.specs.declared.desk.Desk.{Desk}
+
+-- the current segment, where there is one
+abbrev pub current_in : Option Close → List Message → List Segment
+current_in None feed = []
+current_in (Some close) feed = record { messages = feed; close = close } ∷ []
+
+-- where a desk stands in its script
+abbrev pub place_of : Desk → Place
+place_of d = record { lives = d.lives; segments = current_in d.close d.feed ++ d.segments }
+
+-- the place of these lives and segments
+abbrev pub at_segments : List Life → List Segment → Place
+at_segments lives segments = record { lives = lives; segments = segments }
+
+-- the log goes along the script, up to this place
+pub record GoesTo (script : Script) (log : List Entry) (place : Place) : Type 0 where
+  pub along : Follows (opening_state []) (beginning script) log
+  pub at : place_after script log ≡ place
+
+-- a life costs at most 14 moves of the manager's own and one for each segment that closes
+abbrev pub life_cost : Life → ℕ
+life_cost life = 14 + length life.segments
+
+-- at most so many moves are left
+abbrev pub place_cost : Place → ℕ
+place_cost p = sum_by life_cost p.lives + length p.segments
+
+abbrev pub left : Desk → ℕ
+left d = weight d.core.tables + place_cost (place_of d)
+
+-- each segment is of a kind that can be run: no message, and it settles
+abbrev pub AllSettle : List Segment → Type 0
+AllSettle [] = Unit {0}
+AllSettle (segment ∷ more) = (segment.messages ≡ []) × (segment.close ≡ Settle) × AllSettle more
+
+-- each life has a stamp of 1 to 10^15, and segments that can be run
+abbrev pub AllStart : List Life → Type 0
+AllStart [] = Unit {0}
+AllStart (life ∷ more) = (1 ≤ life.stamp) × (life.stamp ≤ 1000000000000000) × AllSettle life.segments × AllStart more
+
+-- what is left of the script can be run: its values are in their ranges, one life begins at most, which no crash ends,
+-- and no segment is left before it begins or where none is current
+pub record IsSound (d : Desk) : Type 0 where
+  pub lives : AllStart d.lives
+  pub segments : AllSettle (place_of d).segments
+  pub few : length d.lives ≤ 1
+  pub last : d.core.tables.alive ≡ true → d.lives ≡ []
+  pub entered : d.close ≡ None → d.segments ≡ []
+  pub between : d.core.tables.alive ≡ false → (place_of d).segments ≡ []
+
+-- one move: the log goes along whatever script it went along, and less is left
+pub record Goes (old new : Desk) : Type 0 where
+  pub sound : IsSound new
+  pub along : (script : Script) → GoesTo script old.core.log (place_of old) → GoesTo script new.core.log (place_of new)
+  pub less : left new < left old
+  pub settings : new.core.settings ≡ old.core.settings
+
+-- a run that ended well
+abbrev pub EndsWell : Settings → Script → List Entry → Type 0
+EndsWell settings script log = IsDone settings script [] log

@@ -1,0 +1,8 @@
+-- The plain policy: each time the first lane that is ready moves, in this order.
+use Rattle.std.specs.Prelude.{List, [], ◌∷◌}
+use Rattle.rm_types.specs.declared.messages.Lane.{Lane}
+use Rattle.rm_types.specs.declared.messages.Lane.TheVariants.{Client, Master, Node, Clock, Main, Sched, Hand, Write, End, Begin}
+
+-- the queues before the feeds, the feeds before the store, and the script's own moves last
+abbrev pub policy : List Lane
+policy = Main ∷ Sched ∷ Client ∷ Master ∷ Node ∷ Clock ∷ Hand ∷ Write ∷ End ∷ Begin ∷ []
