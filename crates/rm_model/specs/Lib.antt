@@ -1,3 +1,4 @@
+pub use Rattle.rm_types.specs.IdTexts
 pub use Rattle.rm_types.specs.Ids
 pub use Rattle.rm_types.specs.Lists
 pub use Rattle.rm_types.specs.Records
@@ -11,3 +12,5 @@ pub mod Owed
 pub mod Rules
 pub mod Place
 pub mod Lawful
+pub mod Wording
+pub mod Page

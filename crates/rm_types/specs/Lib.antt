@@ -1,3 +1,4 @@
+pub mod IdTexts
 pub mod Ids
 pub mod Lists
 pub mod Records
