@@ -1,6 +1,7 @@
 -- Each move goes along the script, and less is left.
 use Rattle.std.proofs.Common.{◌≡◌, ◌≢◌, ℕ, ◌+◌, ◌<◌, ◌≤◌, max, List, [], ◌∷◌, ◌++◌, Bool, true, false, not, ◌&&◌, Some, None, Option, Ok, Err, Result, length, find, is_some, if◌then◌else◌, refl, sym, ◌∙◌, ap, subst, arith}
-use Rattle.std.specs.Prelude.{OnOk, slice_get}
+use Rattle.std.specs.Prelude.{OnOk, IsOk, slice_get}
+use Rattle.rm_types.specs.declared.settings.Settings.{Settings}
 use Rattle.std.specs.List.{fold, sum_by}
 use Rattle.std.proofs.lemmas.List.{append-nil}
 use Rattle.std.proofs.lemmas.List.Sums.{fold_push, sum_by-cons}
@@ -260,3 +261,12 @@ ends_well d script h ready rests g =
       place = record { lives = ap (λ (p : Place). p.lives) g.at ∙ end.0; segments = ap (λ (p : Place). p.segments) g.at ∙ end.1 };
       rest = (rests main sched (awaits_none d n)).at_rest;
     }
+
+-- a run over an empty log that came to its end has ended well
+pub done_by : (core new : Seen) (settings : Settings) (script : Script) (r : Result (Unit {0}) Refused) → core.settings ≡ settings → core.log ≡ []
+    → new.settings ≡ core.settings → OnOk r ((s : Script) → GoesTo s core.log (beginning script) → IsDone new.settings s [] new.log) → IsOk r
+    → IsDone settings script [] new.log
+done_by core new settings script (Ok x) first empty same ends ok =
+    let goes : GoesTo script core.log (beginning script) = rw empty (record { along = tt; at = refl }) in
+    subst (λ (s : Settings). IsDone s script [] new.log) (same ∙ first) (ends script goes)
+done_by core new settings script (Err e) first empty same ends ok = cc

@@ -12,6 +12,8 @@ use Rattle.rm_types.specs.declared.settings.Settings.{Settings}
 use Rattle.rm_model.specs.State.{opening_state}
 use Rattle.rm_model.specs.Place.{Place, beginning}
 use Rattle.rm_model.specs.Lawful.{Follows, IsDone, place_after}
+use Rattle.std.specs.declared.alloc.Global.{Global}
+use Rattle.rm_core.specs.Seen.{Seen}
 use Rattle.rm_core.specs.Weights.{weight}
 use Rattle.rm_plain.specs.declared.desk.Desk.{Desk}
 
@@ -74,3 +76,12 @@ pub record Goes (old new : Desk) : Type 0 where
 -- a run that ended well
 abbrev pub EndsWell : Settings → Script → List Entry → Type 0
 EndsWell settings script log = IsDone settings script [] log
+
+-- a desk before the first life of its script
+abbrev pub first_desk : Global → Seen → Script → Desk
+first_desk alloc core script = record { alloc = alloc; core = core; lives = script.lives; close = None; feed = []; segments = [] }
+
+-- a script that can be run: one life at most, with values in their ranges
+pub record CanRun (script : Script) : Type 0 where
+  pub lives : AllStart script.lives
+  pub few : length script.lives ≤ 1

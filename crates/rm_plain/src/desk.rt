@@ -1,8 +1,9 @@
 ghost use Rattle.std.specs.Prelude.{◌≡◌, ◌≢◌, [], find, None};
+ghost use Rattle.rm_plain.specs.Along.{first_desk};
 ghost use Rattle.rm_plain.specs.Policy.{policy};
 
 use rm_core::Core;
-use rm_types::{Close, Lane, Life, Message, Queue, Script, Segment, Settings};
+use rm_types::{Close, Lane, Life, Message, Queue, Script, Segment};
 use std::alloc::Global;
 
 /// The manager and what is left of its script: the lives that have not begun, how the current segment
@@ -101,7 +102,9 @@ impl Desk {
 }
 
 /// The manager before the first life of a script.
-pub fn new_desk(alloc: Global, core: Core, script: Script) -> Desk {
+pub fn new_desk(alloc: Global, core: Core, script: Script) -> Desk
+    ensures { result ≡ first_desk alloc core script }
+{
     let Script { lives } = script;
     Desk {
         alloc,

@@ -10,6 +10,8 @@
 
 mod desk;
 mod plain;
+mod runs;
 
 pub use desk::Desk;
 pub use plain::{run, tick};
+pub use runs::{Run, run_script};

@@ -1,6 +1,10 @@
+pub mod AclTexts
+pub mod Frames
 pub mod IdTexts
 pub mod Ids
 pub mod Lists
+pub mod Passes
 pub mod Records
 pub mod Resources
+pub mod Rights
 pub mod Texts

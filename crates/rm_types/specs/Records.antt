@@ -1,7 +1,7 @@
 -- What a list of store operations amounts to: the epoch of the next life, the stamp of the last one, and a record of
 -- each application. After YARN's documentation: an application is saved when it is submitted, and its end when it ends;
 -- which operations there are, and which of them are stray, is this project's own.
-use Rattle.std.specs.Prelude.{ℕ, ◌+◌, List, [], ◌∷◌, ◌++◌, Bool, true, false, ◌&&◌, not, ◌==◌, nat_lt, Option, None, Some, is_some, is_none, if◌then◌else◌, find, fold, filter, map, length}
+use Rattle.std.specs.Prelude.{ℕ, ◌+◌, List, [], ◌∷◌, ◌++◌, Bool, false, ◌&&◌, not, ◌==◌, nat_lt, Option, None, Some, is_some, is_none, if◌then◌else◌, find, fold, filter, map, length}
 use Rattle.std.specs.List.{list_all}
 use Rattle.rm_types.specs.declared.ids.AppId.{AppId}
 use Rattle.rm_types.specs.declared.ids.AttemptId.{AttemptId}

@@ -23,6 +23,8 @@ mod replies;
 mod resources;
 mod scripts;
 mod settings;
+#[cfg(test)]
+mod tests;
 mod texts;
 
 pub use containers::{

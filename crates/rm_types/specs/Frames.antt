@@ -1,0 +1,81 @@
+-- The frames of store operations: what the store keeps of each, as bytes. This project's own.
+use Rattle.std.specs.Prelude.{◌≡◌, ℕ, ◌-◌, ◌^◌, List, ◌∷◌, ◌++◌, length, None}
+use Rattle.std.specs.Int.{to_be_bytes, w16, w32, w64}
+use Rattle.rm_types.specs.declared.ids.AppId.{AppId}
+use Rattle.rm_types.specs.declared.ids.AttemptId.{AttemptId}
+use Rattle.rm_types.specs.declared.ids.ContainerId.{ContainerId}
+use Rattle.rm_types.specs.declared.operations.How.{How}
+use Rattle.rm_types.specs.declared.operations.How.TheVariants.{Finished, Failed, Killed}
+use Rattle.rm_types.specs.declared.operations.Op.{Op}
+use Rattle.rm_types.specs.declared.operations.Op.TheVariants.{Epoch, App, Attempt, AttemptEnd, AppEnd, Remove}
+use Rattle.rm_types.specs.declared.operations.Submission.{Submission}
+use Rattle.rm_types.specs.declared.texts.TextKind.{TextKind}
+use Rattle.rm_types.specs.declared.texts.TextKind.TheVariants.{Name, Node, Queue, Note, AclText}
+use Rattle.rm_types.specs.IdTexts.{IsWithin, IsAppId, IsAttemptId, IsContainerId}
+use Rattle.rm_types.specs.Texts.{fault_of}
+
+-- a text: its length in 2 bytes, and its bytes
+abbrev pub text_frame : List ℕ → List ℕ
+text_frame text = to_be_bytes w16 (length text) ++ text
+
+-- an application's id: the stamp in 8 bytes, the number in 4
+abbrev pub app_id_frame : AppId → List ℕ
+app_id_frame id = to_be_bytes w64 id.stamp ++ to_be_bytes w32 id.number
+
+-- an attempt's id: the application's, and the number in 4 bytes
+abbrev pub attempt_id_frame : AttemptId → List ℕ
+attempt_id_frame id = app_id_frame id.app ++ to_be_bytes w32 id.number
+
+-- a master's container, of which the attempt is known: the epoch in 4 bytes, the sequence in 8
+abbrev pub master_frame : ContainerId → List ℕ
+master_frame master = to_be_bytes w32 master.epoch ++ to_be_bytes w64 master.seq
+
+-- how something ended, as one byte
+abbrev pub how_code : How → ℕ
+how_code Finished = 1
+how_code Failed = 2
+how_code Killed = 3
+
+-- what was submitted: three texts, the master's memory, its cores and the bound on attempts in 4 bytes each, and a text
+abbrev pub submission_frame : Submission → List ℕ
+submission_frame submission =
+    text_frame submission.user ++ (text_frame submission.queue ++ (text_frame submission.name
+    ++ (to_be_bytes w32 submission.master.memory_mb ++ (to_be_bytes w32 submission.master.vcores
+    ++ (to_be_bytes w32 submission.attempts ++ text_frame submission.modify)))))
+
+-- an operation: a byte for its kind, and its fields in order; a number's highest byte comes first
+abbrev pub frame : Op → List ℕ
+frame (Epoch next stamp) = 1 ∷ (to_be_bytes w32 next ++ to_be_bytes w64 stamp)
+frame (App id submission) = 2 ∷ (app_id_frame id ++ submission_frame submission)
+frame (Attempt id master node) = 3 ∷ (attempt_id_frame id ++ (master_frame master ++ text_frame node))
+frame (AttemptEnd id how text) = 4 ∷ (attempt_id_frame id ++ (how_code how ∷ text_frame text))
+frame (AppEnd id how text) = 5 ∷ (app_id_frame id ++ (how_code how ∷ text_frame text))
+frame (Remove id) = 6 ∷ app_id_frame id
+
+-- the bytes are a text of the kind
+abbrev pub IsText : TextKind → List ℕ → Type 0
+IsText kind text = fault_of kind text ≡ None
+
+-- the parts of a submission are in their ranges
+pub record IsSubmission (submission : Submission) : Type 0 where
+  pub user : IsText Name submission.user
+  pub queue : IsText Queue submission.queue
+  pub name : IsText Name submission.name
+  pub memory_mb : IsWithin 1 16777216 submission.master.memory_mb
+  pub vcores : IsWithin 1 256 submission.master.vcores
+  pub attempts : IsWithin 0 100 submission.attempts
+  pub modify : IsText AclText submission.modify
+
+-- the container is one of this attempt
+pub record IsMasterOf (id : AttemptId) (master : ContainerId) : Type 0 where
+  pub container : IsContainerId master
+  pub attempt : master.attempt ≡ id
+
+-- the parts of an operation are in their ranges, so that its frame tells it from all others
+abbrev pub CanBeFramed : Op → Type 0
+CanBeFramed (Epoch next stamp) = IsWithin 1 (2 ^ 24) next × IsWithin 1 (2 ^ 63 - 1) stamp
+CanBeFramed (App id submission) = IsAppId id × IsSubmission submission
+CanBeFramed (Attempt id master node) = IsAttemptId id × IsMasterOf id master × IsText Node node
+CanBeFramed (AttemptEnd id how text) = IsAttemptId id × IsText Note text
+CanBeFramed (AppEnd id how text) = IsAppId id × IsText Note text
+CanBeFramed (Remove id) = IsAppId id
