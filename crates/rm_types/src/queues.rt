@@ -1,11 +1,14 @@
 ghost use Rattle.std.specs.Prelude.{◌≡◌, List, [], ◌∷◌, ◌++◌, length, IsTrue, ◌↔◌, IfSome, IfNone, drop, OnOk, OnErr, slice_get};
 ghost use Rattle.std.specs.Option.{option_copied};
+ghost use Rattle.std.specs.VecDeque.Iter.{deque_iter_rest, deque_iter_steps};
+ghost use Rattle.std.specs.Iterator.Runs.{YieldsRefsInOrder};
 ghost use Rattle.rm_types.specs.Lists.{is_nil};
 
 use crate::duplicate::NoMemory;
 use crate::items::Items;
 use std::alloc::Global;
 use std::collections::VecDeque;
+use std::collections::vec_deque::Iter;
 use std::marker::Model;
 
 /// A queue: items are added at its end and taken from its front, each in constant time. Contracts see
@@ -63,6 +66,14 @@ impl<T> Queue<T> {
         ensures none { IfNone result (self.now ≡ []) }
     {
         self.line.front()
+    }
+
+    /// The items, the front first.
+    pub fn iter(&self) -> Iter<'_, T>
+        ensures rest { deque_iter_rest result ≡ self.now }
+        ensures runs { YieldsRefsInOrder (deque_iter_steps {X = T}) deque_iter_rest }
+    {
+        self.line.iter()
     }
 
     /// Adds an item at the end. `NoMemory` leaves the queue as it was; the item is then dropped.
