@@ -2,12 +2,11 @@
 use Rattle.std.specs.Prelude.{◌≡◌, ◌≢◌, ◌<◌, [], Bool, true, false, ◌&&◌, ◌||◌, not, Option, None, is_some, count_by, Contains}
 use Rattle.std.specs.List.{list_any}
 use Rattle.rm_types.specs.declared.ids.AppId.{AppId}
-use Rattle.rm_types.specs.declared.operations.How.{How}
-use Rattle.rm_types.specs.declared.operations.How.TheVariants.{Finished, Failed, Killed}
 use Rattle.rm_types.specs.declared.records.AttemptRecord.{AttemptRecord}
 use Rattle.rm_types.specs.declared.settings.Settings.{Settings}
 use Rattle.rm_types.specs.Ids.{is_attempt}
 use Rattle.rm_types.specs.Records.{last_attempt, all_ended, is_some_and}
+use Rattle.rm_model.specs.Replies.{has_failed}
 use Rattle.rm_model.specs.State.{Scene, Row, NodeState}
 use Rattle.rm_model.specs.Facts.{kept_record, kept_attempts, kept_end, is_known, is_kept, is_accepted, is_wished, has_attempt, has_container, has_master_ask, next_attempt, reaches_bound, attempt_is_kept, attempt_was_first, is_over, remove_issued}
 
@@ -22,15 +21,9 @@ pub record IsAlive (m : Scene) (attempt : AttemptRecord) : Type 0 where
   pub kept : Contains (kept_attempts m attempt.id.app) attempt
   pub unended : attempt.ending ≡ None
 
--- it ended otherwise than FAILED
-abbrev pub is_not_failed : How → Bool
-is_not_failed Finished = true
-is_not_failed Failed = false
-is_not_failed Killed = true
-
 -- the last attempt's end is one, and it isn't FAILED
 abbrev pub ended_not_failed : Option AttemptRecord → Bool
-ended_not_failed attempt = is_some_and (λ one. is_some_and (λ ending. is_not_failed ending.0) one.ending) attempt
+ended_not_failed attempt = is_some_and (λ one. is_some one.ending && not (has_failed one)) attempt
 
 -- something is owed where one of these holds
 pub data Owed (settings : Settings) (m : Scene) : Type 0 where
