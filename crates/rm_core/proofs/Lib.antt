@@ -1,5 +1,12 @@
+pub mod Counts
+pub mod Ids
+pub mod Flows
 pub mod Standing
 pub mod Opening
+pub mod Found
+pub mod Deciding
+pub mod Running
 pub mod Settling
-pub mod Moving
+pub mod Answering
 pub mod Weighing
+pub mod Moving

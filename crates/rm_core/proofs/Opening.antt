@@ -18,19 +18,30 @@ use Rattle.rm_core.specs.declared.events.MainEvent.TheVariants.{EpochStart}
 use Rattle.rm_core.specs.declared.tables.Tables.{Tables}
 use Rattle.rm_core.specs.Steps.{no_life, begun, handed_out, main_after, main_entry, kept_after}
 use Rattle.rm_core.specs.Told.{no_history, recorded_in, history_after}
-use Rattle.rm_core.specs.Keeps.{Keeps, Stage, none, starting, saving, running, NoneStands, IsStarting, IsSaving, AllRetire}
+use Rattle.rm_core.specs.Keeps.{Keeps, Stage, none, starting, saving, running, NoneStands, IsStarting, IsSaving, IsBlank}
+use Rattle.rm_core.specs.InFlight.{AllLater, AllApps}
+use Rattle.rm_core.proofs.Flows.{empty_runs}
 use Rattle.rm_core.proofs.Standing.{AllAllowed-push, keeps_more}
 
 -- before the first life
-pub new_keeps : (settings : Settings) (alloc : Global) → Keeps settings [] (no_life alloc)
-new_keeps settings alloc =
+pub new_keeps : (settings : Settings) (alloc : Global) → settings.acl_enable ≡ false → Keeps settings [] (no_life alloc)
+new_keeps settings alloc rights =
     record {
       allowed = tt;
       history = no_history;
       same = refl;
       recorded = refl;
-      stage = none (record { alive = refl; main = refl; sched = refl; awaiting = refl; next_epoch = refl; stored_stamp = refl; apps = refl });
+      stage = none (record {
+        alive = refl;
+        main = refl;
+        awaiting = refl;
+        next_epoch = refl;
+        stored_stamp = refl;
+        blank = record { apps = refl; submitted = refl; accepted = refl; asks = refl; sched = refl };
+      });
       epoch = omega arith;
+      given = omega arith;
+      rights = rights;
     }
 
 -- where no life stands the tables say so
@@ -63,8 +74,17 @@ begin_keeps settings log t stamp k a low high =
       history = history_after h e;
       same = fold_push after (opening_state []) log e ∙ ap (λ s. after s e) at ∙ rw kept refl;
       recorded = k.recorded;
-      stage = starting (record { alive = refl; is_open = refl; main = refl; sched = refl; awaiting = refl; handed = refl; apps = n.apps });
+      stage = starting (record {
+        alive = refl;
+        is_open = refl;
+        main = refl;
+        awaiting = refl;
+        handed = refl;
+        blank = record { apps = n.blank.apps; submitted = refl; accepted = refl; asks = refl; sched = refl };
+      });
       epoch = rw n.next_epoch (omega arith);
+      given = omega arith;
+      rights = k.rights;
     }
 
 -- the life's first event is there only before its Epoch is issued
@@ -72,7 +92,13 @@ epoch_starts : (t : Tables) (rest : List MainEvent) → Stage t → t.main ≡ E
 epoch_starts t rest (none n) e = absurd (let x = n.main in cc)
 epoch_starts t rest (starting s) e = s
 epoch_starts t rest (saving s) e = absurd (let x = s.main in cc)
-epoch_starts t rest (running r) e = absurd (subst AllRetire e r.main)
+epoch_starts t rest (running r) e = absurd (subst AllLater e r.runs.later)
+
+-- no application is there after a change that leaves those parts
+still_blank : (t next : Tables) → IsBlank t → next.apps ≡ t.apps → next.submitted ≡ t.submitted → next.accepted ≡ t.accepted → next.asks ≡ t.asks → next.sched ≡ t.sched
+    → IsBlank next
+still_blank t next b apps submitted accepted asks sched =
+    record { apps = apps ∙ b.apps; submitted = submitted ∙ b.submitted; accepted = accepted ∙ b.accepted; asks = asks ∙ b.asks; sched = sched ∙ b.sched }
 
 pub epoch_start_keeps : (settings : Settings) (log : List Entry) (t : Tables) (rest : List MainEvent) → Keeps settings log t → t.main ≡ EpochStart ∷ rest
     → Keeps settings (log ++ main_entry t EpochStart ∷ []) (main_after t EpochStart)
@@ -81,41 +107,58 @@ epoch_start_keeps settings log t rest k e =
     keeps_more settings log t (main_after t EpochStart) (main_entry t EpochStart) k s.alive s.alive
     (record { closed = s.is_open; once = rw s.awaiting refl; follows = refl; of_life = refl })
     refl k.recorded
-    (saving (record { alive = s.alive; is_open = s.is_open; main = rw s.main refl; sched = s.sched; awaiting = rw s.awaiting refl; apps = s.apps }))
-    k.epoch
+    (saving (record {
+      alive = s.alive;
+      is_open = s.is_open;
+      main = rw s.main refl;
+      awaiting = rw s.awaiting refl;
+      blank = still_blank t (main_after t EpochStart) s.blank refl refl refl refl refl;
+    }))
+    k.epoch k.given
 
 -- the first awaiting operation is handed
 hand_stage : (t : Tables) → Stage t → t.alive ≡ true → t.awaiting ≢ [] → Stage (handed_out t)
 hand_stage t (none n) a w = absurd (let x = n.alive in cc)
 hand_stage t (starting s) a w = absurd (w s.awaiting)
-hand_stage t (saving s) a w = saving (record { alive = s.alive; is_open = s.is_open; main = s.main; sched = s.sched; awaiting = s.awaiting; apps = s.apps })
-hand_stage t (running r) a w = absurd (w r.awaiting)
+hand_stage t (saving s) a w =
+    saving (record { alive = s.alive; is_open = s.is_open; main = s.main; awaiting = s.awaiting; blank = still_blank t (handed_out t) s.blank refl refl refl refl refl })
+hand_stage t (running r) a w = running (record { alive = r.alive; is_open = r.is_open; handed = λ h. w; runs = r.runs })
 
 pub hand_keeps : (settings : Settings) (log : List Entry) (t : Tables) → Keeps settings log t → t.alive ≡ true → t.awaiting ≢ [] → t.handed ≡ false
     → Keeps settings (log ++ Handed ∷ []) (handed_out t)
 hand_keeps settings log t k a w h =
     keeps_more settings log t (handed_out t) Handed k a a (record { some_awaits = w; none_handed = h; not_blown = refl }) refl k.recorded
-    (hand_stage t k.stage a w) k.epoch
+    (hand_stage t k.stage a w) k.epoch k.given
 
--- what awaits is the life's Epoch
-awaits_epoch : (t : Tables) (op : Op) (rest : List Op) → Stage t → t.awaiting ≡ op ∷ rest → IsSaving t
-awaits_epoch t op rest (none n) e = absurd (let x = n.awaiting in cc)
-awaits_epoch t op rest (starting s) e = absurd (let x = s.awaiting in cc)
-awaits_epoch t op rest (saving s) e = s
-awaits_epoch t op rest (running r) e = absurd (let x = r.awaiting in cc)
+-- an Epoch awaits only before the life is open
+awaits_epoch : (t : Tables) (next stamp : ℕ) (rest : List Op) → Stage t → t.awaiting ≡ Epoch next stamp ∷ rest → IsSaving t
+awaits_epoch t next stamp rest (none n) e = absurd (let x = n.awaiting in cc)
+awaits_epoch t next stamp rest (starting s) e = absurd (let x = s.awaiting in cc)
+awaits_epoch t next stamp rest (saving s) e = s
+awaits_epoch t next stamp rest (running r) e = absurd (subst AllApps e r.runs.apps_await)
+
+-- what is recorded after one more operation is kept
+pub recorded_more : (settings : Settings) (log : List Entry) (t : Tables) (k : Keeps settings log t) (op : Op)
+    → records (k.history.kept ++ op ∷ []) ≡ recorded (recorded_in k.history t) op
+recorded_more settings log t k op = fold_push recorded _ k.history.kept op ∙ ap (λ (r : Records). recorded r op) k.recorded
 
 pub epoch_kept_keeps : (settings : Settings) (log : List Entry) (t : Tables) (next stamp : ℕ) (rest : List Op) → Keeps settings log t
     → t.awaiting ≡ Epoch next stamp ∷ rest → t.handed ≡ true
     → Keeps settings (log ++ Kept (Epoch next stamp) ∷ []) (kept_after t (Epoch next stamp))
 epoch_kept_keeps settings log t next stamp rest k e hd =
-    let s = awaits_epoch t (Epoch next stamp) rest k.stage e in
-    let h = k.history in
+    let s = awaits_epoch t next stamp rest k.stage e in
     let op = Epoch next stamp in
     let nothing : rest ≡ [] = cc s.awaiting in
-    let more : records (h.kept ++ op ∷ []) ≡ recorded (recorded_in h t) op = fold_push recorded _ h.kept op ∙ ap (λ (r : Records). recorded r op) k.recorded in
-    let told : (records (h.kept ++ op ∷ [])).told ≡ (records h.kept).told + 1 = ap (λ (r : Records). r.told) more in
+    let b = s.blank in
+    let more = recorded_more settings log t k op in
+    let told : (records (k.history.kept ++ op ∷ [])).told ≡ (records k.history.kept).told + 1 = ap (λ (r : Records). r.told) more in
     keeps_more settings log t (kept_after t op) (Kept op) k s.alive s.alive
     (record { handed = hd; first = rw e refl }) refl
     (more ∙ rw told refl)
-    (running (record { alive = s.alive; is_open = refl; main = rw s.main tt; sched = s.sched; awaiting = rw (e, nothing) refl; handed = refl; apps = s.apps }))
-    k.epoch
+    (running (record {
+      alive = s.alive;
+      is_open = refl;
+      handed = λ h. cc;
+      runs = rw (b.apps, b.submitted, b.accepted, b.asks, b.sched, s.main, e, nothing) empty_runs;
+    }))
+    k.epoch k.given

@@ -1,52 +1,81 @@
--- An open life with nothing left to do owes nothing, and may settle.
-use Rattle.std.proofs.Common.{◌≡◌, List, [], ◌∷◌, ◌++◌, Bool, true, false, None, refl, sym, ◌∙◌, subst, inl, arith}
+-- An open life with nothing in flight owes nothing, and may settle.
+use Rattle.std.proofs.Common.{◌≡◌, ◌+◌, ◌≤◌, List, [], ◌∷◌, ◌++◌, Bool, true, false, not, ◌||◌, None, is_some, length, refl, sym, ◌∙◌, subst, arith}
+use Rattle.std.specs.List.{list_any}
+use Rattle.rm_types.specs.declared.containers.AskOf.{AskOf}
 use Rattle.rm_types.specs.declared.entries.Entry.{Entry}
 use Rattle.rm_types.specs.declared.entries.Entry.TheVariants.{Settled}
+use Rattle.rm_types.specs.declared.ids.AppId.{AppId}
+use Rattle.rm_types.specs.declared.operations.Op.{Op}
+use Rattle.rm_types.specs.declared.operations.Submitted.{Submitted}
+use Rattle.rm_types.specs.declared.records.AppRecord.{AppRecord}
 use Rattle.rm_types.specs.declared.settings.Settings.{Settings}
-use Rattle.rm_types.specs.Records.{Records, records}
+use Rattle.rm_types.specs.Ids.{is_app}
+use Rattle.rm_types.specs.Records.{Records, records, record_of}
 use Rattle.rm_model.specs.State.{Manager}
+use Rattle.rm_model.specs.Facts.{has_app, is_remove_op, is_submitted, kept_attempts, next_attempt}
 use Rattle.rm_model.specs.Owed.{Owed, opening, keeping, killing, accepting, deciding, asking, finishing, expiring, losing, ordering, working, leaving, retiring}
 use Rattle.rm_model.specs.Lawful.{IsAtRest, state_after}
 use Rattle.rm_core.specs.declared.events.MainEvent.{MainEvent}
-use Rattle.rm_core.specs.declared.events.MainEvent.TheVariants.{Retire}
+use Rattle.rm_core.specs.declared.events.SchedEvent.{SchedEvent}
 use Rattle.rm_core.specs.declared.tables.Tables.{Tables}
-use Rattle.rm_core.specs.Steps.{main_after, main_entry}
 use Rattle.rm_core.specs.Seen.{Rests, RestsWhere}
 use Rattle.rm_core.specs.Told.{History, scene_in, life_in, standing}
-use Rattle.rm_core.specs.Keeps.{Keeps, Stage, none, starting, saving, running, IsRunning, AllRetire}
+use Rattle.rm_core.specs.Keeps.{Keeps, Stage, none, starting, saving, running, IsRunning}
+use Rattle.rm_core.specs.InFlight.{Runs, kept_at, submitted_at, accepted_at, asks_at}
+use Rattle.rm_core.proofs.Counts.{some_passes, passes_once, is_some-find}
+use Rattle.rm_core.proofs.Found.{plain_found, no_ends, has_asked}
 use Rattle.rm_core.proofs.Standing.{keeps_more, stands}
 
--- an open life without applications owes nothing
-pub owes_nothing : (settings : Settings) (h : History) (t : Tables) → t.is_open ≡ true → t.apps ≡ [] → Owed settings (scene_in h t) → ⊥
-owes_nothing settings h t o a (opening closed) = cc
-owes_nothing settings h t o a (keeping id known kept) = let x = rw a at known in cc
-owes_nothing settings h t o a (killing id goes wish) = cc
-owes_nothing settings h t o a (accepting id goes accepted attempts) = let x = rw a at goes.known in cc
-owes_nothing settings h t o a (deciding id goes attempts ended decided) = let x = rw a at goes.known in cc
-owes_nothing settings h t o a (asking id goes ended asked) = let x = rw a at goes.known in cc
-owes_nothing settings h t o a (finishing attempt alive said) = cc
-owes_nothing settings h t o a (expiring attempt alive ran) = cc
-owes_nothing settings h t o a (losing attempt alive left) = cc
-owes_nothing settings h t o a (ordering attempt alive first ordered) = let x = rw a at alive.app.known in cc
-owes_nothing settings h t o a (working node among undone) = absurd (omega (arith, among.1))
-owes_nothing settings h t o a (leaving row among why) = absurd (omega (arith, among.1))
-owes_nothing settings h t o a (retiring many) = let x = rw a at many in omega arith
+-- a known application of an open life in which nothing is in flight is kept and accepted, and asks for its master
+pub record IsSettled (t : Tables) (id : AppId) : Type 0 where
+  pub kept : is_some (record_of t.apps id) ≡ true
+  pub accepted : has_app t.accepted id ≡ true
+  pub asks : list_any (λ one. is_app one.attempt.app id) t.asks ≡ true
 
--- a Retire has nothing to do
-retire_runs : (t : Tables) (rest : List MainEvent) → Stage t → t.main ≡ Retire ∷ rest → IsRunning t
-retire_runs t rest (none n) e = absurd (let x = n.main in cc)
-retire_runs t rest (starting s) e = absurd (let x = s.main in cc)
-retire_runs t rest (saving s) e = absurd (let x = s.main in cc)
-retire_runs t rest (running r) e = r
+known_kept : (t : Tables) (id : AppId) (b : Bool) → list_any (λ (one : Submitted). is_app one.id id) t.submitted ≡ b → submitted_at id t.submitted ≡ 0
+    → (b || is_some (record_of t.apps id)) ≡ true → is_some (record_of t.apps id) ≡ true
+known_kept t id false e zero known = known
+known_kept t id true e zero known = absurd (let n = passes_once (λ (one : Submitted). is_app one.id id) t.submitted e in omega arith)
 
-pub retire_keeps : (settings : Settings) (log : List Entry) (t : Tables) (rest : List MainEvent) → Keeps settings log t → t.main ≡ Retire ∷ rest
-    → Keeps settings (log ++ main_entry t Retire ∷ []) (main_after t Retire)
-retire_keeps settings log t rest k e =
-    let r = retire_runs t rest k.stage e in
-    let left : AllRetire rest = subst AllRetire e r.main in
-    keeps_more settings log t (main_after t Retire) (main_entry t Retire) k r.alive r.alive (inl refl) refl k.recorded
-    (running (record { alive = r.alive; is_open = r.is_open; main = rw e left; sched = r.sched; awaiting = r.awaiting; handed = r.handed; apps = r.apps }))
-    k.epoch
+settled : (t : Tables) → Runs t.apps t.submitted [] t.accepted t.asks [] [] → (id : AppId)
+    → (is_submitted t.submitted id || is_some (record_of t.apps id)) ≡ true → IsSettled t id
+settled t r id known =
+    let a = r.at id in
+    let unsubmitted : submitted_at id t.submitted ≡ 0 = omega (arith, a.waits) in
+    let kept = known_kept t id (is_submitted t.submitted id) refl unsubmitted known in
+    let there : 1 ≤ kept_at id t.apps = passes_once (λ (app : AppRecord). is_app app.id id) t.apps (sym (is_some-find (λ (app : AppRecord). is_app app.id id) t.apps) ∙ kept) in
+    let accepted : 1 ≤ accepted_at id t.accepted = omega (arith, a.on_its_way, there) in
+    let asks : 1 ≤ asks_at id t.asks = omega (arith, a.scheduled, accepted) in
+    record {
+      kept = kept;
+      accepted = some_passes (λ (x : AppId). is_app x id) t.accepted accepted;
+      asks = some_passes (λ (x : AskOf). is_app x.attempt.app id) t.asks asks;
+    }
+
+-- an open life in which nothing is in flight owes nothing
+pub owes_nothing : (settings : Settings) (h : History) (t : Tables) → t.is_open ≡ true → t.awaiting ≡ [] → Runs t.apps t.submitted [] t.accepted t.asks [] []
+    → Owed settings (scene_in h t) → ⊥
+owes_nothing settings h t o w r (opening closed) = cc
+owes_nothing settings h t o w r (keeping id known kept) = let s = settled t r id known in let k = s.kept in cc
+owes_nothing settings h t o w r (killing id goes wish) = cc
+owes_nothing settings h t o w r (accepting id goes accepted attempts) = let s = settled t r id goes.known in let k = s.accepted in cc
+owes_nothing settings h t o w r (deciding id goes attempts ended decided) = attempts (plain_found t.apps id r.plain).no_attempt
+owes_nothing settings h t o w r (asking id goes ended asked) =
+    let s = settled t r id goes.known in
+    let p = plain_found t.apps id r.plain in
+    let number : length (kept_attempts (scene_in h t) id) + 1 ≡ 1 = rw p.no_attempt refl in
+    let asks = has_asked t.asks (next_attempt (scene_in h t) id) r.masters number s.asks in
+    cc
+owes_nothing settings h t o w r (finishing attempt alive said) = cc
+owes_nothing settings h t o w r (expiring attempt alive ran) = cc
+owes_nothing settings h t o w r (losing attempt alive left) = cc
+owes_nothing settings h t o w r (ordering attempt alive first ordered) =
+    let among = rw (plain_found t.apps attempt.id.app r.plain).no_attempt at alive.kept in
+    absurd (omega (arith, among.1))
+owes_nothing settings h t o w r (working node among undone) = absurd (omega (arith, among.1))
+owes_nothing settings h t o w r (leaving row among why) = absurd (omega (arith, among.1))
+owes_nothing settings h t o w r (retiring many) =
+    omega (arith, no_ends t.apps (λ app. not (list_any (is_remove_op app.id) t.awaiting)) r.plain)
 
 -- where nothing is left to do the life is open
 pub at_rest : (t : Tables) → Stage t → t.alive ≡ true → t.main ≡ [] → t.awaiting ≡ [] → IsRunning t
@@ -55,19 +84,25 @@ at_rest t (starting s) a m w = absurd (let x = s.main in cc)
 at_rest t (saving s) a m w = absurd (let x = s.awaiting in cc)
 at_rest t (running r) a m w = r
 
-pub settle_keeps : (settings : Settings) (log : List Entry) (t : Tables) → Keeps settings log t → t.alive ≡ true → t.main ≡ [] → t.awaiting ≡ []
+at_rest_runs : (t : Tables) → IsRunning t → t.main ≡ [] → t.sched ≡ [] → t.awaiting ≡ [] → Runs t.apps t.submitted [] t.accepted t.asks [] []
+at_rest_runs t r m n w =
+    let at_main = subst (λ (x : List MainEvent). Runs t.apps t.submitted t.awaiting t.accepted t.asks x t.sched) m r.runs in
+    let at_sched = subst (λ (x : List SchedEvent). Runs t.apps t.submitted t.awaiting t.accepted t.asks [] x) n at_main in
+    subst (λ (x : List Op). Runs t.apps t.submitted x t.accepted t.asks [] []) w at_sched
+
+pub settle_keeps : (settings : Settings) (log : List Entry) (t : Tables) → Keeps settings log t → t.alive ≡ true → t.main ≡ [] → t.sched ≡ [] → t.awaiting ≡ []
     → Keeps settings (log ++ Settled ∷ []) t
-settle_keeps settings log t k a m w =
+settle_keeps settings log t k a m n w =
     let r = at_rest t k.stage a m w in
-    keeps_more settings log t t Settled k a a (record { none_awaits = w; owes_nothing = owes_nothing settings k.history t r.is_open r.apps }) refl k.recorded k.stage k.epoch
+    keeps_more settings log t t Settled k a a (record { none_awaits = w; owes_nothing = owes_nothing settings k.history t r.is_open w (at_rest_runs t r m n w) }) refl k.recorded k.stage k.epoch k.given
 
 -- an open life at rest, by the tables
-rests_open : (settings : Settings) (log : List Entry) (t : Tables) → Keeps settings log t → t.alive ≡ true → t.main ≡ [] → t.awaiting ≡ []
+rests_open : (settings : Settings) (log : List Entry) (t : Tables) → Keeps settings log t → t.alive ≡ true → t.main ≡ [] → t.sched ≡ [] → t.awaiting ≡ []
     → RestsWhere (record { settings = settings; tables = t; log = log })
-rests_open settings log t k a m w =
+rests_open settings log t k a m n w =
     let r = at_rest t k.stage a m w in
     let owes : Owed settings (record { records = records k.history.kept; awaiting = t.awaiting; life = life_in k.history t }) → ⊥ =
-    subst (λ (x : Records). Owed settings (record { records = x; awaiting = t.awaiting; life = life_in k.history t }) → ⊥) (sym k.recorded) (owes_nothing settings k.history t r.is_open r.apps) in
+    subst (λ (x : Records). Owed settings (record { records = x; awaiting = t.awaiting; life = life_in k.history t }) → ⊥) (sym k.recorded) (owes_nothing settings k.history t r.is_open w (at_rest_runs t r m n w)) in
     let rest : IsAtRest settings (standing k.history t) (standing k.history t).life = (w, owes) in
     record { is_open = λ _. r.is_open; at_rest = subst (λ (s : Manager). IsAtRest settings s s.life) (sym (stands settings log t k a)) rest }
 
@@ -77,11 +112,11 @@ rests_between settings log t k a =
     let at : state_after [] log ≡ record { kept = k.history.kept; awaiting = t.awaiting; blew = false; life = None } = k.same ∙ rw a refl in
     record { is_open = λ h. cc; at_rest = subst (λ (s : Manager). IsAtRest settings s s.life) (sym at) tt }
 
-rests_where : (settings : Settings) (log : List Entry) (t : Tables) → Keeps settings log t → t.main ≡ [] → (t.alive ≡ true → t.awaiting ≡ []) → (b : Bool) → t.alive ≡ b
+rests_where : (settings : Settings) (log : List Entry) (t : Tables) → Keeps settings log t → t.main ≡ [] → t.sched ≡ [] → (t.alive ≡ true → t.awaiting ≡ []) → (b : Bool) → t.alive ≡ b
     → RestsWhere (record { settings = settings; tables = t; log = log })
-rests_where settings log t k m w true a = rests_open settings log t k a m (w a)
-rests_where settings log t k m w false a = rests_between settings log t k a
+rests_where settings log t k m n w true a = rests_open settings log t k a m n (w a)
+rests_where settings log t k m n w false a = rests_between settings log t k a
 
 -- where nothing is left to do, nothing is owed
 pub keeps_rests : (settings : Settings) (log : List Entry) (t : Tables) → Keeps settings log t → Rests (record { settings = settings; tables = t; log = log })
-keeps_rests settings log t k = λ m s w. rests_where settings log t k m w t.alive refl
+keeps_rests settings log t k = λ m n w. rests_where settings log t k m n w t.alive refl

@@ -1,5 +1,5 @@
 -- One more entry in a life that stands.
-use Rattle.std.proofs.Common.{◌≡◌, ◌<◌, ◌^◌, List, [], ◌∷◌, ◌++◌, true, refl, sym, ◌∙◌, ap, subst}
+use Rattle.std.proofs.Common.{◌≡◌, ◌<◌, ◌≤◌, ◌^◌, List, [], ◌∷◌, ◌++◌, true, refl, sym, ◌∙◌, ap, subst}
 use Rattle.std.proofs.lemmas.List.Sums.{fold_push}
 use Rattle.rm_types.specs.declared.entries.Entry.{Entry}
 use Rattle.rm_types.specs.declared.settings.Settings.{Settings}
@@ -36,8 +36,8 @@ pub keeps_more : (settings : Settings) (log : List Entry) (t next : Tables) (e :
     → AllowedIn settings (scene_in k.history t) e
     → after_in (standing k.history t) (scene_in k.history t) e ≡ standing (history_after k.history e) next
     → records (history_after k.history e).kept ≡ recorded_in (history_after k.history e) next
-    → Stage next → next.epoch < 2 ^ 24 → Keeps settings (log ++ e ∷ []) next
-keeps_more settings log t next e k alive lives a same recorded stage epoch =
+    → Stage next → next.epoch < 2 ^ 24 → next.given ≤ next.served → Keeps settings (log ++ e ∷ []) next
+keeps_more settings log t next e k alive lives a same recorded stage epoch given =
     let h = k.history in
     let at = stands settings log t k alive in
     let allowed : Allowed settings (standing h t) e =
@@ -51,4 +51,6 @@ keeps_more settings log t next e k alive lives a same recorded stage epoch =
       recorded = recorded;
       stage = stage;
       epoch = epoch;
+      given = given;
+      rights = k.rights;
     }

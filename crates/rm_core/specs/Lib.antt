@@ -1,6 +1,7 @@
 pub use Rattle.rm_types.specs.Ids
 pub use Rattle.rm_types.specs.Lists
 pub use Rattle.rm_types.specs.Records
+pub use Rattle.rm_types.specs.Rights
 pub use Rattle.rm_model.specs.State
 pub use Rattle.rm_model.specs.Facts
 pub use Rattle.rm_model.specs.Replies
@@ -12,6 +13,8 @@ pub use Rattle.rm_model.specs.Lawful
 pub mod Steps
 pub mod Ready
 pub mod Told
+pub mod Serving
+pub mod InFlight
 pub mod Keeps
 pub mod Weights
 pub mod Adds

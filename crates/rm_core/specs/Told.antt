@@ -30,11 +30,11 @@ life_in h t =
       handed = t.handed;
       blown = false;
       now = 0;
-      given = 0;
+      given = t.given;
       granted = [];
-      apps = record { submitted = []; wishes = []; accepted = []; retired = [] };
+      apps = record { submitted = t.submitted; wishes = []; accepted = t.accepted; retired = [] };
       masters = record { registered = []; finishing = []; expired = []; ordered = []; answered = [] };
-      asks = [];
+      asks = t.asks;
       book = [];
       endings = record { outbox = []; left = []; releases = [] };
       nodes = [];

@@ -8,9 +8,14 @@
 //! segment closes is for the layer above to say.
 #![tactic(auto)]
 
+mod clients;
+mod dispatch;
 mod events;
+mod keeping;
 mod manager;
 mod moves;
+mod scheduler;
+mod searches;
 mod tables;
 
 pub use events::{MainEvent, Refused, SchedEvent};

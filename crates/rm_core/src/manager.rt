@@ -1,25 +1,30 @@
-ghost use Rattle.std.specs.Prelude.{◌≡◌, ◌<◌, ◌≤◌, [], OnOk, OnErr, IsOk, IfOk, IsErrOf, count_by, true, false};
+ghost use Rattle.std.specs.Prelude.{◌≡◌, ◌+◌, ◌<◌, ◌≤◌, [], OnOk, OnErr, IsOk, IfOk, IsErrOf, count_by, true, false};
 ghost use Rattle.std.specs.Option.{option_copied};
 ghost use Rattle.rm_types.specs.declared.entries.Entry.{Entry};
 ghost use Rattle.rm_types.specs.declared.messages.Lane.{Lane};
 ghost use Rattle.rm_model.specs.State.{opening_state};
 ghost use Rattle.rm_model.specs.Lawful.{AllAllowed};
-ghost use Rattle.rm_core.specs.Adds.{Adds, IsStart, Stands, Weighs, lane_of};
+ghost use Rattle.rm_core.specs.Adds.{Adds, CanMake, Stands, Weighs, lane_of, served_after};
 ghost use Rattle.rm_core.specs.Ready.{is_ready};
 ghost use Rattle.rm_core.specs.Seen.{Rests, handed_op, is_kept_entry};
+ghost use Rattle.rm_core.specs.Serving.{IsBuiltMessage};
 ghost use Rattle.rm_core.specs.Steps.{no_life};
 ghost use Rattle.rm_core.specs.Weights.{weight};
 
 use crate::events::Refused;
-use crate::moves::{move_begin, move_hand, move_kept, move_main, move_settle};
+use crate::moves::{
+    move_begin, move_hand, move_kept, move_main, move_sched, move_serve, move_settle,
+};
 use crate::tables::{Tables, is_ready, new_tables};
-use rm_types::{Entry, Items, Lane, NoMemory, Op, Settings};
+use rm_types::{Entry, Items, Lane, Message, NoMemory, Op, Settings};
 use std::alloc::Global;
 use std::marker::Model;
 
 /// What may happen next.
 #[derive(Debug, Drop)]
 pub enum Move {
+    /// A message is answered.
+    Serve(Message),
     /// The first event of the main queue is worked off.
     Main,
     /// The first event of the scheduler's queue is worked off.
@@ -56,7 +61,10 @@ impl Model for Core {
 
 impl Core {
     /// A manager before its first life, over an empty store.
+    ///
+    /// Rights can't be checked yet, so the settings have `acl_enable` false.
     pub fn new(alloc: Global, settings: Settings) -> Result<Core, NoMemory>
+        requires { settings.acl_enable ≡ false }
         ensures made { IsOk result }
         ensures settings { IfOk result (λ core. core.settings ≡ settings) }
         ensures tables { IfOk result (λ core. core.tables ≡ no_life alloc) }
@@ -121,17 +129,19 @@ impl Core {
     /// Makes one move: the log has one more entry, which is allowed; or the move is refused and nothing
     /// has changed. `NotReady` comes exactly where the move's lane isn't ready.
     pub fn step(&mut self, next: Move) -> Result<(), Refused>
-        requires { IsStart next }
+        requires { CanMake self.old.tables next }
         ensures added { OnOk result (Adds next self.old.log self.new.log) }
         ensures ready { OnOk result (is_ready self.old.tables (lane_of next) ≡ true) }
         ensures weighs { OnOk result (Weighs next (weight self.old.tables) (weight self.new.tables)) }
         ensures stands { OnOk result (Stands next self.old.tables.alive self.new.tables.alive) }
+        ensures served { OnOk result (self.new.tables.served ≡ served_after next self.old.tables.served) }
         ensures not_ready { IsErrOf result Refused.NotReady → is_ready self.old.tables (lane_of next) ≡ false }
         ensures settings { self.new.settings ≡ self.old.settings }
         ensures err { OnErr result (self.new ≡ self.old) }
     {
         match next {
             Move::Begin { handed } => self.begin(handed),
+            Move::Serve(message) => self.serve(message),
             Move::Main => self.main(),
             Move::Sched => self.sched(),
             Move::Hand => self.hand(),
@@ -146,6 +156,7 @@ impl Core {
         ensures ready { OnOk result (is_ready self.old.tables Lane.Begin ≡ true) }
         ensures weighs { OnOk result (Weighs (Move.Begin handed) (weight self.old.tables) (weight self.new.tables)) }
         ensures stands { OnOk result (self.new.tables.alive ≡ true) }
+        ensures served { OnOk result (self.new.tables.served ≡ 0) }
         ensures not_ready { IsErrOf result Refused.NotReady → is_ready self.old.tables Lane.Begin ≡ false }
         ensures settings { self.new.settings ≡ self.old.settings }
         ensures err { OnErr result (self.new ≡ self.old) }
@@ -162,6 +173,7 @@ impl Core {
         ensures ready { OnOk result (is_ready self.old.tables Lane.Main ≡ true) }
         ensures weighs { OnOk result (weight self.new.tables < weight self.old.tables) }
         ensures stands { OnOk result ((self.old.tables.alive ≡ true) × (self.new.tables.alive ≡ true)) }
+        ensures served { OnOk result (self.new.tables.served ≡ self.old.tables.served) }
         ensures not_ready { IsErrOf result Refused.NotReady → is_ready self.old.tables Lane.Main ≡ false }
         ensures settings { self.new.settings ≡ self.old.settings }
         ensures err { OnErr result (self.new ≡ self.old) }
@@ -170,14 +182,16 @@ impl Core {
     }
 
     fn sched(&mut self) -> Result<(), Refused>
-        ensures refused { IsErrOf result Refused.NotReady }
-        ensures not_ready { is_ready self.old.tables Lane.Sched ≡ false }
-        ensures unchanged { self.new ≡ self.old }
+        ensures added { OnOk result (Adds Move.Sched self.old.log self.new.log) }
+        ensures ready { OnOk result (is_ready self.old.tables Lane.Sched ≡ true) }
+        ensures weighs { OnOk result (weight self.new.tables < weight self.old.tables) }
+        ensures stands { OnOk result ((self.old.tables.alive ≡ true) × (self.new.tables.alive ≡ true)) }
+        ensures served { OnOk result (self.new.tables.served ≡ self.old.tables.served) }
+        ensures not_ready { IsErrOf result Refused.NotReady → is_ready self.old.tables Lane.Sched ≡ false }
+        ensures settings { self.new.settings ≡ self.old.settings }
+        ensures err { OnErr result (self.new ≡ self.old) }
     {
-        match self.tables.sched.first() {
-            Some(event) => match *event {},
-            None => Err(Refused::NotReady),
-        }
+        move_sched(&mut self.tables, &mut self.log)
     }
 
     fn hand(&mut self) -> Result<(), Refused>
@@ -185,6 +199,7 @@ impl Core {
         ensures ready { OnOk result (is_ready self.old.tables Lane.Hand ≡ true) }
         ensures weighs { OnOk result (weight self.new.tables < weight self.old.tables) }
         ensures stands { OnOk result ((self.old.tables.alive ≡ true) × (self.new.tables.alive ≡ true)) }
+        ensures served { OnOk result (self.new.tables.served ≡ self.old.tables.served) }
         ensures not_ready { IsErrOf result Refused.NotReady → is_ready self.old.tables Lane.Hand ≡ false }
         ensures settings { self.new.settings ≡ self.old.settings }
         ensures err { OnErr result (self.new ≡ self.old) }
@@ -197,6 +212,7 @@ impl Core {
         ensures ready { OnOk result (is_ready self.old.tables Lane.Write ≡ true) }
         ensures weighs { OnOk result (weight self.new.tables < weight self.old.tables) }
         ensures stands { OnOk result ((self.old.tables.alive ≡ true) × (self.new.tables.alive ≡ true)) }
+        ensures served { OnOk result (self.new.tables.served ≡ self.old.tables.served) }
         ensures not_ready { IsErrOf result Refused.NotReady → is_ready self.old.tables Lane.Write ≡ false }
         ensures settings { self.new.settings ≡ self.old.settings }
         ensures err { OnErr result (self.new ≡ self.old) }
@@ -204,11 +220,27 @@ impl Core {
         move_kept(&mut self.tables, &mut self.log)
     }
 
+    fn serve(&mut self, message: Message) -> Result<(), Refused>
+        requires built { IsBuiltMessage message }
+        requires few { self.old.tables.served < 100000 }
+        ensures added { OnOk result (Adds (Move.Serve message) self.old.log self.new.log) }
+        ensures ready { OnOk result (is_ready self.old.tables Lane.Client ≡ true) }
+        ensures weighs { OnOk result (weight self.new.tables ≤ weight self.old.tables + 20) }
+        ensures stands { OnOk result ((self.old.tables.alive ≡ true) × (self.new.tables.alive ≡ true)) }
+        ensures served { OnOk result (self.new.tables.served ≡ self.old.tables.served + 1) }
+        ensures not_ready { IsErrOf result Refused.NotReady → is_ready self.old.tables Lane.Client ≡ false }
+        ensures settings { self.new.settings ≡ self.old.settings }
+        ensures err { OnErr result (self.new ≡ self.old) }
+    {
+        move_serve(&self.settings, &mut self.tables, &mut self.log, message)
+    }
+
     fn settle(&mut self) -> Result<(), Refused>
         ensures added { OnOk result (Adds Move.Settle self.old.log self.new.log) }
         ensures ready { OnOk result (is_ready self.old.tables Lane.End ≡ true) }
         ensures weighs { OnOk result (weight self.new.tables ≤ weight self.old.tables) }
         ensures stands { OnOk result ((self.old.tables.alive ≡ true) × (self.new.tables.alive ≡ true)) }
+        ensures served { OnOk result (self.new.tables.served ≡ self.old.tables.served) }
         ensures not_ready { IsErrOf result Refused.NotReady → is_ready self.old.tables Lane.End ≡ false }
         ensures settings { self.new.settings ≡ self.old.settings }
         ensures err { OnErr result (self.new ≡ self.old) }

@@ -1,13 +1,21 @@
-ghost use Rattle.std.specs.Prelude.{◌≡◌, ◌≢◌, ◌<◌, ◌^◌, [], ◌∷◌, ◌++◌, OnOk, OnErr, IsErrOf, Err, Some, None, true, false};
+ghost use Rattle.std.specs.Prelude.{◌≡◌, ◌≢◌, ◌+◌, ◌<◌, ◌≤◌, ◌^◌, [], ◌∷◌, ◌++◌, OnOk, OnErr, IsErrOf, Err, Some, None, true, false};
 ghost use Rattle.rm_types.specs.declared.entries.Entry.{Entry};
 ghost use Rattle.rm_types.specs.declared.messages.Lane.{Lane};
 ghost use Rattle.rm_types.specs.declared.operations.Op.{Op};
 ghost use Rattle.rm_core.specs.Ready.{is_ready};
-ghost use Rattle.rm_core.specs.Steps.{begun, handed_out, front_of_main, front_of_awaiting};
+ghost use Rattle.rm_types.specs.declared.ids.AppId.{AppId};
+ghost use Rattle.rm_model.specs.Facts.{kept_attempts};
+ghost use Rattle.rm_core.specs.Serving.{IsBuiltMessage, IsServed};
+ghost use Rattle.rm_core.specs.Steps.{begun, handed_out, front_of_main, front_of_sched, front_of_awaiting};
+ghost use Rattle.rm_core.specs.Told.{scene_in, no_history};
 
+use crate::clients::serve;
+use crate::dispatch::front_main;
 use crate::events::Refused;
-use crate::tables::{Tables, begin, front_main, hand, is_ready, keep_epoch};
-use rm_types::{Duplicate, Entry, Items, Lane, Op};
+use crate::keeping::{keep_app, keep_epoch};
+use crate::scheduler::front_sched;
+use crate::tables::{Tables, begin, hand, is_ready};
+use rm_types::{Duplicate, Entry, Items, Lane, Message, NoMemory, Op, Sender, Settings};
 
 // Each move takes the room for its entry first, so that the tables and the log change together or not at
 // all. The entry that takes the room is replaced by the move's own.
@@ -68,6 +76,41 @@ pub fn move_hand(t: &mut Tables, log: &mut Items<Entry>) -> Result<(), Refused>
     Ok(())
 }
 
+/// The first event of the scheduler's queue is worked off.
+pub fn move_sched(t: &mut Tables, log: &mut Items<Entry>) -> Result<(), Refused>
+    ensures ok { OnOk result ((e : Entry) × (front_of_sched t.old t.old.sched ≡ Some (e, t.new)) × (log.new ≡ log.old ++ e ∷ [])) }
+    ensures not_ready { IsErrOf result Refused.NotReady → is_ready t.old Lane.Sched ≡ false }
+    ensures err { OnErr result ((t.new ≡ t.old) × (log.new ≡ log.old)) }
+{
+    log.push(Entry::Settled)?;
+    match front_sched(t) {
+        Ok(entry) => {
+            log.set_last(entry);
+            Ok(())
+        }
+        Err(refused) => {
+            log.drop_last();
+            Err(refused)
+        }
+    }
+}
+
+/// The operation that is with the store is kept by the tables. Only Epoch and App are issued so far.
+fn keep(t: &mut Tables, op: Op) -> Result<(), Refused>
+    ensures ok { OnOk result (front_of_awaiting t.old (op ∷ []) ≡ Some (Entry.Kept op, t.new)) }
+    ensures not_ready { IsErrOf result Refused.NotReady → front_of_awaiting t.old (op ∷ []) ≡ None }
+    ensures err { OnErr result (t.new ≡ t.old) }
+{
+    match op {
+        Op::Epoch { next, stamp } => Ok(keep_epoch(t, next, stamp)?),
+        Op::App { id, submission } => Ok(keep_app(t, id, submission)?),
+        Op::Attempt { .. } => Err(Refused::NotReady),
+        Op::AttemptEnd { .. } => Err(Refused::NotReady),
+        Op::AppEnd { .. } => Err(Refused::NotReady),
+        Op::Remove { .. } => Err(Refused::NotReady),
+    }
+}
+
 /// The operation that was handed to the store is kept.
 pub fn move_kept(t: &mut Tables, log: &mut Items<Entry>) -> Result<(), Refused>
     ensures ok { OnOk result ((e : Entry) × (front_of_awaiting t.old t.old.awaiting ≡ Some (e, t.new)) × (log.new ≡ log.old ++ e ∷ [])) }
@@ -78,19 +121,17 @@ pub fn move_kept(t: &mut Tables, log: &mut Items<Entry>) -> Result<(), Refused>
     if !is_ready(t, Lane::Write) {
         return Err(Refused::NotReady);
     }
-    let Some(Op::Epoch { next, stamp }) = t.awaiting.first() else {
+    let Some(first) = t.awaiting.first() else {
         return Err(Refused::NotReady);
     };
-    let next = *next;
-    let stamp = *stamp;
-    log.push(Entry::Kept {
-        op: Op::Epoch { next, stamp },
-    })?;
-    match keep_epoch(t, next, stamp) {
+    let op = first.copy()?;
+    let logged = first.copy()?;
+    log.push(Entry::Kept { op: logged })?;
+    match keep(t, op) {
         Ok(()) => Ok(()),
-        Err(_) => {
+        Err(refused) => {
             log.drop_last();
-            Err(Refused::Memory)
+            Err(refused)
         }
     }
 }
@@ -107,4 +148,46 @@ pub fn move_settle(t: &Tables, log: &mut Items<Entry>) -> Result<(), Refused>
     }
     log.push(Entry::Settled)?;
     Ok(())
+}
+
+/// A message is answered. Only clients are served so far, and not their kills.
+pub fn move_serve(
+    settings: &Settings,
+    t: &mut Tables,
+    log: &mut Items<Entry>,
+    message: Message,
+) -> Result<(), Refused>
+    requires rights { settings.now.acl_enable ≡ false }
+    requires built { IsBuiltMessage message }
+    requires few { t.old.served < 100000 }
+    requires given { t.old.given ≤ t.old.served }
+    requires plain { t.old.alive ≡ true → t.old.is_open ≡ true → (id : AppId) → kept_attempts (scene_in no_history t.old) id ≡ [] }
+    ensures ok { OnOk result (IsServed settings.now t.old t.new log.old log.new message) }
+    ensures ready { OnOk result (is_ready t.old Lane.Client ≡ true) }
+    ensures not_ready { IsErrOf result Refused.NotReady → is_ready t.old Lane.Client ≡ false }
+    ensures err { OnErr result ((t.new ≡ t.old) × (log.new ≡ log.old)) }
+{
+    if !is_ready(t, Lane::Client) {
+        return Err(Refused::NotReady);
+    }
+    let Message::Client(user, ask) = message else {
+        unreachable!()
+    };
+    let served = t.served + 1;
+    log.push(Entry::Settled)?;
+    match serve(settings, t, &ask) {
+        Ok(reply) => {
+            t.served = served;
+            log.set_last(Entry::Served {
+                sender: Sender::Client,
+                message: Message::Client(user, ask),
+                reply,
+            });
+            Ok(())
+        }
+        Err(NoMemory) => {
+            log.drop_last();
+            Err(Refused::Memory)
+        }
+    }
 }

@@ -1,9 +1,9 @@
-ghost use Rattle.std.specs.Prelude.{◌≡◌, ◌<◌, ◌^◌, [], IfOk, OnOk, OnErr, Some, IsErrOf};
+ghost use Rattle.std.specs.Prelude.{◌≡◌, OnOk, OnErr};
 ghost use Rattle.rm_core.specs.Ready.{is_ready};
-ghost use Rattle.rm_core.specs.Steps.{no_life, begun, handed_out, main_entry, main_after, front_of_main, kept_after};
+ghost use Rattle.rm_core.specs.Steps.{no_life, begun, handed_out};
 
-use crate::events::{MainEvent, Refused, SchedEvent};
-use rm_types::{AppRecord, Entry, Items, Lane, NoMemory, Op, Queue};
+use crate::events::{MainEvent, SchedEvent};
+use rm_types::{AppId, AppRecord, AskOf, Items, Lane, NoMemory, Op, Queue, Submitted};
 use std::alloc::Global;
 
 /// What the manager keeps between its moves: what its store amounts to, the operations that await, and
@@ -20,6 +20,11 @@ pub struct Tables {
     pub stamp: u64,
     pub is_open: bool,
     pub handed: bool,
+    pub given: u32,
+    pub served: u32,
+    pub submitted: Items<Submitted>,
+    pub accepted: Items<AppId>,
+    pub asks: Items<AskOf>,
     pub main: Queue<MainEvent>,
     pub sched: Queue<SchedEvent>,
 }
@@ -39,6 +44,11 @@ pub fn new_tables(alloc: Global) -> Tables
         stamp: 0,
         is_open: false,
         handed: false,
+        given: 0,
+        served: 0,
+        submitted: Items::new(alloc),
+        accepted: Items::new(alloc),
+        asks: Items::new(alloc),
         main: Queue::new(alloc),
         sched: Queue::new(alloc),
     }
@@ -74,6 +84,11 @@ pub fn begin(t: &mut Tables, stamp: u64) -> Result<(), NoMemory>
     t.stamp = stamp;
     t.is_open = false;
     t.handed = false;
+    t.given = 0;
+    t.served = 0;
+    t.submitted = Items::new(t.alloc);
+    t.accepted = Items::new(t.alloc);
+    t.asks = Items::new(t.alloc);
     Ok(())
 }
 
@@ -82,56 +97,4 @@ pub fn hand(t: &mut Tables)
     ensures { t.new ≡ handed_out t.old }
 {
     t.handed = true;
-}
-
-/// The life's first operation is issued.
-fn issue_epoch(t: &mut Tables) -> Result<Entry, NoMemory>
-    requires { t.old.epoch < 2 ^ 24 }
-    ensures ok { IfOk result (λ e. (e ≡ main_entry t.old MainEvent.EpochStart) × (t.new ≡ main_after t.old MainEvent.EpochStart)) }
-    ensures err { OnErr result (t.new ≡ t.old) }
-{
-    let next = t.epoch + 1;
-    let stamp = t.stamp;
-    t.awaiting.push(Op::Epoch { next, stamp })?;
-    let _ = t.main.take_first();
-    Ok(Entry::Issued {
-        op: Op::Epoch { next, stamp },
-    })
-}
-
-/// An event with nothing to do goes.
-fn pass_over(t: &mut Tables) -> Entry
-    ensures entry { result ≡ main_entry t.old MainEvent.Retire }
-    ensures after { t.new ≡ main_after t.old MainEvent.Retire }
-{
-    let _ = t.main.take_first();
-    Entry::Quiet { lane: Lane::Main }
-}
-
-/// The first event of the main queue is worked off.
-pub fn front_main(t: &mut Tables) -> Result<Entry, Refused>
-    requires { t.old.epoch < 2 ^ 24 }
-    ensures ok { IfOk result (λ e. front_of_main t.old t.old.main ≡ Some (e, t.new)) }
-    ensures not_ready { IsErrOf result Refused.NotReady → t.old.main ≡ [] }
-    ensures err { OnErr result (t.new ≡ t.old) }
-{
-    match t.main.first().copied() {
-        None => Err(Refused::NotReady),
-        Some(MainEvent::EpochStart) => Ok(issue_epoch(t)?),
-        Some(MainEvent::Retire) => Ok(pass_over(t)),
-    }
-}
-
-/// The Epoch of the life is kept: the life opens.
-pub fn keep_epoch(t: &mut Tables, next: u32, stamp: u64) -> Result<(), NoMemory>
-    ensures ok { OnOk result (t.new ≡ kept_after t.old (Op.Epoch next stamp)) }
-    ensures err { OnErr result (t.new ≡ t.old) }
-{
-    t.main.push(MainEvent::Retire)?;
-    let _ = t.awaiting.take_first();
-    t.next_epoch = next;
-    t.stored_stamp = stamp;
-    t.handed = false;
-    t.is_open = true;
-    Ok(())
 }

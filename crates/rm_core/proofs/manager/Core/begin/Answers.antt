@@ -12,3 +12,6 @@ returns-clause-weighs c = (begin_does c.self.inside.settings c.self.inside.log c
 
 pub returns-clause-stands : goal.returns-clause-stands
 returns-clause-stands c = (begin_does c.self.inside.settings c.self.inside.log c.move_begin.new.log c.self.inside.tables c.move_begin.new.t c.self.invariant c.args.handed c.saturating_add.result c.if-self.false c.requires.0 c.requires.1 c.saturating_add.ensures c.move_begin.result (rw c.max-stamp.ensures at c.move_begin.ensures.ok) c.move_begin.ensures.err).stands
+
+pub returns-clause-served : goal.returns-clause-served
+returns-clause-served c = (begin_does c.self.inside.settings c.self.inside.log c.move_begin.new.log c.self.inside.tables c.move_begin.new.t c.self.invariant c.args.handed c.saturating_add.result c.if-self.false c.requires.0 c.requires.1 c.saturating_add.ensures c.move_begin.result (rw c.max-stamp.ensures at c.move_begin.ensures.ok) c.move_begin.ensures.err).served

@@ -12,3 +12,6 @@ returns-clause-weighs c = rw (← c.self.view_is) (hand_does c.self.inside.setti
 
 pub returns-clause-stands : goal.returns-clause-stands
 returns-clause-stands c = rw (← c.self.view_is) (hand_does c.self.inside.settings c.self.inside.log c.move_hand.new.log c.self.inside.tables c.move_hand.new.t c.self.invariant c.move_hand.result c.move_hand.ensures.ok c.move_hand.ensures.ready c.move_hand.ensures.err).stands
+
+pub returns-clause-served : goal.returns-clause-served
+returns-clause-served c = rw (← c.self.view_is) (hand_does c.self.inside.settings c.self.inside.log c.move_hand.new.log c.self.inside.tables c.move_hand.new.t c.self.invariant c.move_hand.result c.move_hand.ensures.ok c.move_hand.ensures.ready c.move_hand.ensures.err).served

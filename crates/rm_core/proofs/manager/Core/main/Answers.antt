@@ -12,3 +12,6 @@ returns-clause-weighs c = rw (← c.self.view_is) (main_does c.self.inside.setti
 
 pub returns-clause-stands : goal.returns-clause-stands
 returns-clause-stands c = rw (← c.self.view_is) (main_does c.self.inside.settings c.self.inside.log c.move_main.new.log c.self.inside.tables c.move_main.new.t c.self.invariant c.move_main.result c.move_main.ensures.ok c.move_main.ensures.err).stands
+
+pub returns-clause-served : goal.returns-clause-served
+returns-clause-served c = rw (← c.self.view_is) (main_does c.self.inside.settings c.self.inside.log c.move_main.new.log c.self.inside.tables c.move_main.new.t c.self.invariant c.move_main.result c.move_main.ensures.ok c.move_main.ensures.err).served

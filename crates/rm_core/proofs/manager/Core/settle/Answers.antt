@@ -12,3 +12,6 @@ returns-clause-weighs c = rw (← c.self.view_is) (settle_does c.self.inside.set
 
 pub returns-clause-stands : goal.returns-clause-stands
 returns-clause-stands c = rw (← c.self.view_is) (settle_does c.self.inside.settings c.self.inside.log c.move_settle.new.log c.self.inside.tables c.self.invariant c.move_settle.result c.move_settle.ensures.ok c.move_settle.ensures.ready c.move_settle.ensures.err).stands
+
+pub returns-clause-served : goal.returns-clause-served
+returns-clause-served c = rw (← c.self.view_is) (settle_does c.self.inside.settings c.self.inside.log c.move_settle.new.log c.self.inside.tables c.self.invariant c.move_settle.result c.move_settle.ensures.ok c.move_settle.ensures.ready c.move_settle.ensures.err).served

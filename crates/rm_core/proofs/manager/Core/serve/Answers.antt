@@ -1,0 +1,21 @@
+use Rattle.rm_core.specs.Told.{no_history}
+use Rattle.rm_core.proofs.Moving.{serve_does, no_attempts}
+use Rattle.rm_core.proofs.manager.Core.serve.Goals as goal
+
+pub move_serve-requires-clause-plain : goal.move_serve-requires-clause-plain
+move_serve-requires-clause-plain c = λ a o id. no_attempts no_history c.self.inside.tables c.self.invariant.stage a o id
+
+pub invariant_of-self : goal.invariant_of-self
+invariant_of-self c = (serve_does c.self.inside.settings c.self.inside.log c.move_serve.new.log c.self.inside.tables c.move_serve.new.t c.self.invariant c.args.message c.move_serve.result c.move_serve.ensures.ok c.move_serve.ensures.ready c.move_serve.ensures.err).keeps
+
+pub returns-clause-added : goal.returns-clause-added
+returns-clause-added c = rw (← c.self.view_is) (serve_does c.self.inside.settings c.self.inside.log c.move_serve.new.log c.self.inside.tables c.move_serve.new.t c.self.invariant c.args.message c.move_serve.result c.move_serve.ensures.ok c.move_serve.ensures.ready c.move_serve.ensures.err).adds
+
+pub returns-clause-weighs : goal.returns-clause-weighs
+returns-clause-weighs c = rw (← c.self.view_is) (serve_does c.self.inside.settings c.self.inside.log c.move_serve.new.log c.self.inside.tables c.move_serve.new.t c.self.invariant c.args.message c.move_serve.result c.move_serve.ensures.ok c.move_serve.ensures.ready c.move_serve.ensures.err).weighs
+
+pub returns-clause-stands : goal.returns-clause-stands
+returns-clause-stands c = rw (← c.self.view_is) (serve_does c.self.inside.settings c.self.inside.log c.move_serve.new.log c.self.inside.tables c.move_serve.new.t c.self.invariant c.args.message c.move_serve.result c.move_serve.ensures.ok c.move_serve.ensures.ready c.move_serve.ensures.err).stands
+
+pub returns-clause-served : goal.returns-clause-served
+returns-clause-served c = rw (← c.self.view_is) (serve_does c.self.inside.settings c.self.inside.log c.move_serve.new.log c.self.inside.tables c.move_serve.new.t c.self.invariant c.args.message c.move_serve.result c.move_serve.ensures.ok c.move_serve.ensures.ready c.move_serve.ensures.err).served
