@@ -6,10 +6,10 @@ use Rattle.rm_types.specs.Lists.{is_nil}
 use Rattle.rm_core.specs.Ready.{is_ready}
 use Rattle.rm_plain.specs.declared.desk.Desk.{Desk}
 
--- the manager is ready there, and the script is at it: a segment closes where its feed is empty, and a life begins where
--- one is left; no message is in a feed yet
+-- the manager is ready there, and the script is at it: a message is served where one is left in the feed, a segment closes
+-- where its feed is empty, and a life begins where one is left; the messages are those of clients so far
 abbrev pub is_ready_at : Desk → Lane → Bool
-is_ready_at d Client = false
+is_ready_at d Client = is_ready d.core.tables Client && not (is_nil d.feed)
 is_ready_at d Master = false
 is_ready_at d Node = false
 is_ready_at d Clock = false

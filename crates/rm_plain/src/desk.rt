@@ -29,7 +29,8 @@ impl Desk {
     {
         let ready = self.core.is_ready(lane);
         match lane {
-            Lane::Client | Lane::Master | Lane::Node | Lane::Clock => false,
+            Lane::Client => ready && !self.feed.is_empty(),
+            Lane::Master | Lane::Node | Lane::Clock => false,
             Lane::Main | Lane::Sched | Lane::Hand | Lane::Write => ready,
             Lane::End => ready && self.feed.is_empty() && self.close.is_some(),
             Lane::Begin => ready && !self.lives.is_empty(),
@@ -69,6 +70,7 @@ impl Desk {
     pub fn enter(&mut self)
         ensures place { place_of self.new ≡ at_segments self.old.lives self.old.segments }
         ensures entered { self.new.close ≡ None → self.new.segments ≡ [] }
+        ensures fed { self.new.close ≡ None → self.new.feed ≡ [] }
         ensures core { self.new.core ≡ self.old.core }
     {
         match self.segments.take_first() {
@@ -88,6 +90,7 @@ impl Desk {
     pub fn enter_life(&mut self)
         ensures place { place_of self.new ≡ begun self.old.lives (place_of self.old) }
         ensures entered { self.old.lives ≢ [] → self.new.close ≡ None → self.new.segments ≡ [] }
+        ensures fed { self.old.lives ≢ [] → self.new.close ≡ None → self.new.feed ≡ [] }
         ensures core { self.new.core ≡ self.old.core }
     {
         match self.lives.take_first() {

@@ -22,3 +22,4 @@ returns-clause-goes c =
     (ap (λ (s : Seen). s.log) core ∙ step.added.added ∙ ap (λ (e : Entry). d.core.log ++ e ∷ []) step.added.of_move.1)
     (subst (λ (s : Seen). weight s.tables ≤ 13) (sym core) step.weighs)
     (subst (λ (s : Seen). s.tables.alive ≡ true) (sym core) step.stands) c.enter_life.ensures.place (c.enter_life.ensures.entered some)
+    (c.enter_life.ensures.fed some) (subst (λ (s : Seen). s.tables.served ≡ 0) (sym core) step.served)

@@ -3,4 +3,4 @@ use Rattle.rm_plain.proofs.plain.hand.Goals as goal
 
 pub returns-clause-goes : goal.returns-clause-goes
 returns-clause-goes c =
-    hand_goes c.args.d.now c.step.new.self c.requires c.step.ensures.settings c.step.result c.step.ensures.added c.step.ensures.weighs c.step.ensures.stands
+    hand_goes c.args.d.now c.step.new.self c.requires.sound c.step.ensures.settings c.step.result c.step.ensures.added c.step.ensures.weighs c.step.ensures.stands c.step.ensures.served

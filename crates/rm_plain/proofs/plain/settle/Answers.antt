@@ -18,4 +18,5 @@ returns-clause-goes c =
     settle_goes d c.enter.new.self c.requires.sound (ap (λ (s : Seen). s.settings) core ∙ step.settings) d.close refl (is_there d.close parts.1) (nil_is d.feed feed.1)
     (ap (λ (s : Seen). s.log) core ∙ step.added.added ∙ ap (λ (e : Entry). d.core.log ++ e ∷ []) step.added.of_move)
     (subst (λ (s : Seen). weight s.tables ≤ weight d.core.tables) (sym core) step.weighs)
-    (step.stands.0, subst (λ (s : Seen). s.tables.alive ≡ true) (sym core) step.stands.1) c.enter.ensures.place c.enter.ensures.entered
+    (step.stands.0, subst (λ (s : Seen). s.tables.alive ≡ true) (sym core) step.stands.1) c.enter.ensures.place c.enter.ensures.entered c.enter.ensures.fed
+    (subst (λ (s : Seen). s.tables.served ≡ d.core.tables.served) (sym core) step.served)

@@ -3,4 +3,4 @@ use Rattle.rm_plain.proofs.plain.work_main.Goals as goal
 
 pub returns-clause-goes : goal.returns-clause-goes
 returns-clause-goes c =
-    main_goes c.args.d.now c.step.new.self c.requires c.step.ensures.settings c.step.result c.step.ensures.added c.step.ensures.weighs c.step.ensures.stands
+    main_goes c.args.d.now c.step.new.self c.requires.sound c.step.ensures.settings c.step.result c.step.ensures.added c.step.ensures.weighs c.step.ensures.stands c.step.ensures.served
