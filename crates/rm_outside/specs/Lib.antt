@@ -1,0 +1,4 @@
+pub mod Counts
+pub mod Shelves
+pub mod Sinks
+pub mod Writes

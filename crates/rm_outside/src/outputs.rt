@@ -1,0 +1,66 @@
+ghost use Rattle.std.specs.Prelude.{◌≡◌, ◌≢◌, ◌≤◌, None};
+ghost use Rattle.std.specs.Io.{WritesAtMost};
+
+use crate::sinks::{Sink, SinkError};
+use std::marker::Model;
+
+/// The standard output as a sink. It tells no bytes: contracts see its counts alone.
+#[derive(Drop)]
+pub struct OutSink<R> {
+    rt: R,
+    faults: u64,
+    idle: u64,
+}
+
+impl<R> Model for OutSink<R> {
+    ghost use Rattle.rm_outside.specs.Sinks.{SinkCounts};
+
+    ghost Value = { SinkCounts };
+
+    ghost view = { λ s. record { faults = s.faults; idle = s.idle } };
+}
+
+impl<R> OutSink<R> {
+    /// A sink with no fault and no idle write so far. It writes nothing.
+    pub fn new(rt: R) -> OutSink<R>
+        ensures { result ≡ record { faults = 0; idle = 0 } }
+    {
+        OutSink {
+            rt,
+            faults: 0,
+            idle: 0,
+        }
+    }
+}
+
+impl<R: Print> Sink for OutSink<R> {
+    ghost use Rattle.rm_outside.specs.Sinks.{counts_after};
+
+    ghost taken = { λ _. None };
+
+    ghost faults = { λ s. s.faults };
+
+    ghost idle = { λ s. s.idle };
+
+    /// `SinkFault` comes where the system refused the write. There is no `Memory`.
+    fn write(&mut self, bytes: &[u8]) -> Result<usize, SinkError>
+        ensures count { WritesAtMost result bytes.now }
+        ensures after { self.new ≡ counts_after self.old result bytes.now }
+        ensures no_memory { result ≢ Err SinkError.Memory }
+        ensures faults_never_fall { self.old.faults ≤ self.new.faults }
+        ensures idle_never_falls { self.old.idle ≤ self.new.idle }
+    {
+        match self.rt.write_some(bytes) {
+            Ok(count) => {
+                if count == 0 && !bytes.is_empty() {
+                    self.idle = self.idle.saturating_add(1);
+                }
+                Ok(count)
+            }
+            Err(_) => {
+                self.faults = self.faults.saturating_add(1);
+                Err(SinkError::SinkFault)
+            }
+        }
+    }
+}
