@@ -1,0 +1,12 @@
+pub mod Cuts
+pub mod Digits
+pub mod Loop
+pub mod Decimals
+pub mod Words
+pub mod Feeds
+pub mod Labels
+pub mod Ids
+pub mod Asks
+pub mod OneLine
+pub mod Drafting
+pub mod Laws

@@ -1,0 +1,55 @@
+ghost use Rattle.std.specs.Prelude.{◌≡◌};
+ghost use Rattle.rm_script.specs.Fields.{digit_after, number_after, number_of, number_within, number_in};
+
+/// The number that decimal digits write: at least one, with no zero before them. `None` where the text is
+/// no such digits, or they write 2^64 or more.
+fn number_of(text: &[u8]) -> Option<u64>
+    ensures { result ≡ number_of text.now }
+{
+    match text {
+        [] => None,
+        [b'0', _, ..] => None,
+        _ => digits_value(text),
+    }
+}
+
+/// The number with one digit more. `None` where the byte is no digit, or the number leaves 64 bits.
+fn digit_after(number: u64, digit: u8) -> Option<u64>
+    ensures { result ≡ digit_after number digit }
+{
+    if digit.is_ascii_digit() {
+        number.checked_mul(10)?.checked_add(u64::from(digit - b'0'))
+    } else {
+        None
+    }
+}
+
+/// The number that the digits write, zeros before it or not; 0 where there is no digit.
+pub(crate) fn digits_value(digits: &[u8]) -> Option<u64>
+    ensures { result ≡ number_after 0 digits.now }
+{
+    let mut number: u64 = 0;
+    'digits: for digit in digits {
+        number = digit_after(number, *digit)?;
+    }
+    Some(number)
+}
+
+/// The number, where it is neither below the least nor above the greatest.
+pub(crate) fn number_within(number: u64, least: u64, greatest: u64) -> Option<u64>
+    ensures { result ≡ number_within least greatest number }
+{
+    if least <= number && number <= greatest {
+        Some(number)
+    } else {
+        None
+    }
+}
+
+/// The number that the text writes, where it is neither below the least nor above the greatest.
+pub(crate) fn number_in(text: &[u8], least: u64, greatest: u64) -> Option<u64>
+    ensures { result ≡ number_in least greatest text.now }
+{
+    let number = number_of(text)?;
+    number_within(number, least, greatest)
+}
