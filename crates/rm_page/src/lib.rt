@@ -1,0 +1,18 @@
+//! The page of a log: its bytes, exactly as the definitions of the page and of its wording say. A page
+//! is written once, from its first byte to its last, into one buffer.
+//!
+//! It stands on `rm_types` for the values, on `rm_model` for the definitions, and on `itoa` for digits.
+#![tactic(auto)]
+
+mod entries;
+mod ids;
+mod lists;
+mod messages;
+mod operations;
+mod pages;
+mod replies;
+#[cfg(test)]
+mod tests;
+mod writing;
+
+pub use pages::{page, store_page};
