@@ -1,0 +1,5 @@
+use Rattle.rm_main.proofs.Scripts.{can_run}
+use Rattle.rm_main.proofs.inputs.read_lives.Goals as goal
+
+pub returns-in-Ok-read_script-clause-can_run : goal.returns-in-Ok-read_script-clause-can_run
+returns-in-Ok-read_script-clause-can_run g c = can_run _ _ c.in-Ok-read_script.ensures.read

@@ -1,0 +1,55 @@
+ghost use Rattle.std.specs.Prelude.{◌≡◌, ◌≤◌, IfOk, IfErr, OnOk, Err, false};
+ghost use Rattle.rm_outside.specs.Counts.{Rose};
+ghost use Rattle.rm_plain.specs.Along.{CanRun};
+ghost use Rattle.rm_main.specs.Runs.{AreSettings, IsScriptOf};
+ghost use Rattle.rm_main.specs.Inputs.{StopsAtCluster, StopsAtScript};
+
+use crate::clusters::{ClusterError, read_cluster};
+use rm_outside::{Shelf, ShelfError};
+use rm_script::{ScriptError, read_script};
+use rm_types::{Outcome, Script, Settings};
+use std::alloc::Global;
+
+/// Reads the settings of a file. A refusal is the outcome that it makes.
+pub fn read_settings<F: Shelf>(
+    alloc: Global,
+    shelf: &mut F,
+    name: &str,
+) -> Result<Settings, Outcome>
+    ensures read { IfOk result (λ settings. AreSettings (F.bytes_of shelf.old name.now) settings) }
+    ensures rights { IfOk result (λ settings. settings.acl_enable ≡ false) }
+    ensures refused { IfErr result (StopsAtCluster (F.bytes_of shelf.old name.now)) }
+    ensures told { F.bytes_of shelf.new ≡ F.bytes_of shelf.old }
+    ensures fault { result ≡ Err Outcome.ReadFault → Rose (F.faults shelf.old) (F.faults shelf.new) }
+    ensures quiet { OnOk result (F.faults shelf.new ≡ F.faults shelf.old) }
+{
+    let bytes = match shelf.read(name) {
+        Ok(bytes) => bytes,
+        Err(ShelfError::Failed) => return Err(Outcome::ReadFault),
+        Err(ShelfError::Memory) => return Err(Outcome::Memory),
+    };
+    match read_cluster(alloc, bytes.as_slice()) {
+        Ok(settings) => Ok(settings),
+        Err(ClusterError::Refused { place }) => Err(Outcome::ClusterRefused { place }),
+        Err(ClusterError::Memory) => Err(Outcome::Memory),
+    }
+}
+
+/// Reads the script of a file. A refusal is the outcome that it makes.
+pub fn read_lives<F: Shelf>(alloc: Global, shelf: &mut F, name: &str) -> Result<Script, Outcome>
+    ensures read { IfOk result (λ script. IsScriptOf (F.bytes_of shelf.old name.now) script) }
+    ensures can_run { IfOk result CanRun }
+    ensures refused { IfErr result (StopsAtScript (F.bytes_of shelf.old name.now)) }
+    ensures fault { result ≡ Err Outcome.ReadFault → Rose (F.faults shelf.old) (F.faults shelf.new) }
+{
+    let bytes = match shelf.read(name) {
+        Ok(bytes) => bytes,
+        Err(ShelfError::Failed) => return Err(Outcome::ReadFault),
+        Err(ShelfError::Memory) => return Err(Outcome::Memory),
+    };
+    match read_script(alloc, bytes.as_slice()) {
+        Ok(script) => Ok(script),
+        Err(ScriptError::Refused { line }) => Err(Outcome::ScriptRefused { line }),
+        Err(ScriptError::Memory) => Err(Outcome::Memory),
+    }
+}
