@@ -1,22 +1,11 @@
 -- What the bytes that were read say of what the shelf tells.
-use Rattle.std.proofs.Common.{◌≡◌, ℕ, List, [], Option, None, Some, sym, subst, arith}
-use Rattle.std.specs.Prelude.{IfSome}
-use Rattle.rm_types.specs.declared.settings.Settings.{Settings}
-use Rattle.rm_outside.specs.Shelves.{bytes_read}
-use Rattle.rm_main.specs.Clusters.{IsCluster}
-use Rattle.rm_main.specs.Runs.{HasNoSettings}
+use Rattle.std.proofs.Common.{ℕ, List, [], Option, None, Some, sym, arith}
 use Rattle.std.proofs.lemmas.List.{append-nil}
 use Rattle.std.specs.Io.KnownBytes.{Appends}
 use Rattle.rm_types.specs.declared.outcomes.Outcome.{Outcome}
 use Rattle.rm_types.specs.declared.outcomes.Outcome.TheVariants.{Done, Usage, ReadFault, WriteFault, ClusterRefused, ScriptRefused, ScheduleRefused, DiskFault, StoreDamaged, StoreFull, EpochsSpent, Memory}
 use Rattle.rm_main.specs.Inputs.{StopsAtScript}
 use Rattle.rm_main.specs.Runs.{Writes}
-
--- bytes that hold no settings are those of a file that holds none
-pub no_settings : (told : Option (List ℕ)) (bytes : List ℕ) → IfSome told (λ all. bytes ≡ bytes_read all) → ((settings : Settings) → IsCluster bytes settings → ⊥)
-    → HasNoSettings told
-no_settings None bytes read none = tt
-no_settings (Some all) bytes read none = subst (λ (b : List ℕ). (settings : Settings) → IsCluster b settings → ⊥) read none
 
 appends_nothing : (taken : Option (List ℕ)) → Appends taken taken []
 appends_nothing None = tt

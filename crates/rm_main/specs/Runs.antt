@@ -17,21 +17,33 @@ use Rattle.rm_main.specs.Words.{FileNames, file_names}
 abbrev pub Told : Type 0
 Told = List ℕ → Option (List ℕ)
 
--- the settings are those of a file, where the shelf tells its bytes
-abbrev pub AreSettings : Option (List ℕ) → Settings → Type 0
-AreSettings bytes settings = IfSome bytes (λ all. IsCluster (bytes_read all) settings)
+-- these bytes were read of a file: where the shelf tells the file's bytes, they are what a read gives of them
+abbrev pub WereRead : Option (List ℕ) → List ℕ → Type 0
+WereRead told bytes = IfSome told (λ all. bytes ≡ bytes_read all)
 
--- the script is that of a file, where the shelf tells its bytes
-abbrev pub IsScriptOf : Option (List ℕ) → Script → Type 0
-IsScriptOf bytes script = IfSome bytes (λ all. IsScript (bytes_read all) script)
+-- the settings are those of the bytes that were read of a file
+pub record AreSettings (told : Option (List ℕ)) (settings : Settings) : Type 0 where
+  pub bytes : List ℕ
+  pub read : WereRead told bytes
+  pub cluster : IsCluster bytes settings
 
--- a file holds no settings, where the shelf tells its bytes
-abbrev pub HasNoSettings : Option (List ℕ) → Type 0
-HasNoSettings bytes = IfSome bytes (λ all. (settings : Settings) → IsCluster (bytes_read all) settings → ⊥)
+-- the script is that of the bytes that were read of a file
+pub record IsScriptOf (told : Option (List ℕ)) (script : Script) : Type 0 where
+  pub bytes : List ℕ
+  pub read : WereRead told bytes
+  pub spelled : IsScript bytes script
 
--- a file holds no script, where the shelf tells its bytes
-abbrev pub HasNoScript : Option (List ℕ) → Type 0
-HasNoScript bytes = IfSome bytes (λ all. (script : Script) → IsScript (bytes_read all) script → ⊥)
+-- the bytes that were read of a file hold no settings
+pub record HasNoSettings (told : Option (List ℕ)) : Type 0 where
+  pub bytes : List ℕ
+  pub read : WereRead told bytes
+  pub none : (settings : Settings) → IsCluster bytes settings → ⊥
+
+-- the bytes that were read of a file hold no script
+pub record HasNoScript (told : Option (List ℕ)) : Type 0 where
+  pub bytes : List ℕ
+  pub read : WereRead told bytes
+  pub none : (script : Script) → IsScript bytes script → ⊥
 
 -- a run was made: the words name two files, the log is lawful for the settings and the script that these hold, and
 -- where the outcome is Done the run came to its end

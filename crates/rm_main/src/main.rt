@@ -43,6 +43,7 @@ fn main(rt: HostRuntime) -> ExitCode {
             let mut sink = OutSink::new(rt);
             top_plain(rt.alloc(), words.as_slice(), &mut shelf, &mut sink).outcome
         }
+        Err(error) if error.kind() == io::ErrorKind::OutOfMemory => Outcome::Memory,
         Err(_) => Outcome::Usage,
     };
     explain(&rt, outcome);

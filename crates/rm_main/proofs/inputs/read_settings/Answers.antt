@@ -1,7 +1,10 @@
-use Rattle.rm_main.proofs.Refusals.{no_settings}
 use Rattle.rm_main.proofs.inputs.read_settings.Goals as goal
+
+pub returns-in-Ok-read_cluster-clause-read : goal.returns-in-Ok-read_cluster-clause-read
+returns-in-Ok-read_cluster-clause-read g c =
+    record { bytes = c.in-Ok.bytes.items; read = c.in-Ok.ensures.bytes; cluster = rw c.as_slice.ensures.value at c.in-Ok-read_cluster.ensures.read }
 
 pub returns-in-Err-Refused-clause-refused : goal.returns-in-Err-Refused-clause-refused
 returns-in-Err-Refused-clause-refused g c =
     let refused = rw (c.in-Err-Refused.field-0-is, c.as_slice.ensures.value) at c.in-Err-Refused.ensures.refused in
-    (refused.0, no_settings _ c.in-Ok.bytes.items c.in-Ok.ensures.bytes refused.1)
+    (refused.0, record { bytes = c.in-Ok.bytes.items; read = c.in-Ok.ensures.bytes; none = refused.1 })
