@@ -1,0 +1,6 @@
+pub mod Fuses
+pub mod Puts
+pub mod Records
+pub mod Renewed
+pub mod Views
+pub mod Written

@@ -1,0 +1,38 @@
+-- The laws of a fuse as a disk.
+use Rattle.std.proofs.Common.{◌≡◌, ℕ, Bool, true, false, ◌&&◌, Some, refl, sym, ◌∙◌, ap, arith}
+use Rattle.std.proofs.lemmas.Bool.{and_parts, cases_Bool}
+use Rattle.std.proofs.Common.{inl, inr}
+use Rattle.rm_disk.specs.Fuse.{Fused, KeepsFuse}
+
+pub keeps_fuse_same : {D : Type 0} (inner : D → D → Type 0) (succeeds : Bool) (fuse : Fused D) → inner fuse.inner fuse.inner → KeepsFuse inner succeeds fuse fuse
+keeps_fuse_same inner succeeds fuse same = record {
+  inside = same;
+  armed = refl;
+  falls = refl;
+  passed = omega arith;
+  within = λ passes is le. le;
+  success = λ _. refl;
+  stays_blown = λ is. is;
+  halted = λ _. refl;
+  blew = λ no yes. absurd (differ (sym no ∙ yes));
+}
+  where
+    differ : false ≡ true → ⊥
+    differ is = cc is
+
+pub keeps_fuse_on : {D : Type 0} (inner : Bool → D → D → Type 0) → ((one two : Bool) (x y z : D) → inner one x y → inner two y z → inner (one && two) x z)
+    → (one two : Bool) (x y z : Fused D) → KeepsFuse (inner one) one x y → KeepsFuse (inner two) two y z → KeepsFuse (inner (one && two)) (one && two) x z
+keeps_fuse_on inner on one two x y z xy yz = record {
+  inside = on one two x.inner y.inner z.inner xy.inside yz.inside;
+  armed = yz.armed ∙ xy.armed;
+  falls = yz.falls ∙ xy.falls;
+  passed = omega (arith, xy.passed, yz.passed);
+  within = λ passes is le. yz.within passes (xy.armed ∙ is) (xy.within passes is le);
+  success = λ both. let parts = and_parts one two both in yz.success parts.1 ∙ xy.success parts.0;
+  stays_blown = λ is. yz.stays_blown (xy.stays_blown is);
+  halted = λ is. yz.halted (xy.stays_blown is) ∙ xy.halted is;
+  blew = λ never now. elim (cases_Bool y.blown) [
+    | inl then ↦ yz.armed ∙ xy.blew never then ∙ ap (λ (n : ℕ). Some n) (sym (yz.halted then))
+    | inr not_yet ↦ yz.blew not_yet now
+  ];
+}

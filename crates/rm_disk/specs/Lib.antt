@@ -1,0 +1,7 @@
+pub mod Disk
+pub mod FileDisk
+pub mod Fuse
+pub mod FuseLaws
+pub mod Images
+pub mod MemDisk
+pub mod Memory

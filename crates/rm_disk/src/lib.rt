@@ -1,0 +1,26 @@
+//! Disks that may fail at any call and fall at any moment.
+//!
+//! The trait `Disk` says what a read gives, what a crash now may leave, and what a crash at some moment since
+//! a time may have left: between two syncs anything where bytes were written, after a sync what a read gives.
+//! Three disks are proved to keep it: `MemDisk`, whose calls fail by number and whose images are picked by
+//! number; `Fuse`, which cuts off the disk under it after so many writes and syncs; and `FileDisk`, which
+//! tells no bytes, since no proof says what a file holds.
+//!
+//! It stands on `rm_types`, and `FileDisk` on the system's files.
+#![tactic(auto)]
+
+mod calls;
+mod device;
+mod fallen;
+mod file;
+mod fuse;
+mod memory;
+#[cfg(test)]
+mod tests;
+
+pub use calls::Call;
+pub use device::{Disk, DiskError};
+pub use fallen::Fallen;
+pub use file::FileDisk;
+pub use fuse::Fuse;
+pub use memory::MemDisk;
