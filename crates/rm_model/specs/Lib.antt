@@ -14,3 +14,4 @@ pub mod Place
 pub mod Lawful
 pub mod Wording
 pub mod Page
+pub mod Device
