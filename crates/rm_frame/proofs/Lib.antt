@@ -1,0 +1,5 @@
+pub mod Numbers
+pub mod Faults
+pub mod Apart
+pub mod Appends
+pub mod Whole

@@ -1,0 +1,150 @@
+ghost use Rattle.std.specs.Prelude.{◌≡◌, ℕ, ◌∷◌, IfOk, IfErr, Some, Ok};
+ghost use Rattle.std.specs.Int.{to_be_bytes, w32, w64};
+ghost use Rattle.rm_types.specs.declared.operations.Op.{Op as AnyOp};
+ghost use Rattle.rm_types.specs.Frames.{IsSubmission, submission_frame};
+ghost use Rattle.rm_types.specs.IdTexts.{IsWithin};
+ghost use Rattle.rm_frame.specs.Fields.{submission_fields, master_fields, epoch_fields, app_id_fields, attempt_id_fields, end_fields, TextOf, layout, left_at_fault, fault_place, fields_of};
+ghost use Rattle.rm_frame.specs.Framed.{IsFramed};
+ghost use Rattle.rm_frame.specs.Reads.{Reads, Stops, StopsBy, ReadsOp};
+
+use crate::fields::{
+    End, FieldError, MAX_STAMP, app_id_at, attempt_id_at, byte_within, end_at, text_at, u32_within,
+    u64_within,
+};
+use rm_types::{ContainerId, Op, Resource, Submission, TextKind};
+use std::alloc::Global;
+
+/// Why no operation was read.
+#[derive(Clone, Copy, Debug, PartialEq, Eq)]
+pub enum FrameError {
+    /// The bytes begin with no operation's frame. The place is where the first field begins that is
+    /// short or out of range.
+    BadFrame { place: usize },
+    /// No memory was found for the operation.
+    Memory,
+}
+
+/// The operation whose frame the bytes begin with, and how many bytes the frame has. `BadFrame` comes
+/// exactly where they begin with no frame.
+pub fn decode(alloc: Global, bytes: &[u8]) -> Result<(Op, usize), FrameError>
+    ensures framed { IfOk result (λ read. IsFramed bytes.now read.0 read.1) }
+    ensures only { IfOk result (λ read. (op : AnyOp) (count : ℕ) → IsFramed bytes.now op count → (read.0 ≡ op) × (read.1 ≡ count)) }
+    ensures place { IfErr result (λ error. (place : ℕ) → error ≡ FrameError.BadFrame place → fault_place bytes.now ≡ Some place) }
+    ensures no_frame { IfErr result (λ error. (place : ℕ) → error ≡ FrameError.BadFrame place → (op : AnyOp) (count : ℕ) → IsFramed bytes.now op count → ⊥) }
+{
+    match op_at(alloc, bytes) {
+        Ok((op, rest)) => Ok((op, bytes.len() - rest.len())),
+        Err(FieldError::Bad { left }) => Err(FrameError::BadFrame {
+            place: bytes.len() - left,
+        }),
+        Err(FieldError::Memory) => Err(FrameError::Memory),
+    }
+}
+
+fn op_at(alloc: Global, bytes: &[u8]) -> Result<(Op, &[u8]), FieldError>
+    ensures read { IfOk result (λ read. ReadsOp bytes.now read.0 read.1.now) }
+    ensures bad { IfErr result (λ error. StopsBy (layout bytes.now) bytes.now error) }
+{
+    let (kind, rest) = byte_within(bytes, 1, 6)?;
+    fields_at(alloc, kind, rest)
+}
+
+/// The operation of a kind, from the bytes behind the byte for its kind.
+fn fields_at(alloc: Global, kind: u8, bytes: &[u8]) -> Result<(Op, &[u8]), FieldError>
+    requires { IsWithin 1 6 kind }
+    ensures read { IfOk result (λ read. ReadsOp (kind ∷ bytes.now) read.0 read.1.now) }
+    ensures bad { IfErr result (λ error. StopsBy (fields_of kind) bytes.now error) }
+{
+    match kind {
+        1 => epoch_at(bytes),
+        2 => app_at(alloc, bytes),
+        3 => attempt_at(alloc, bytes),
+        4 => attempt_end_at(alloc, bytes),
+        5 => app_end_at(alloc, bytes),
+        _ => remove_at(bytes),
+    }
+}
+
+fn epoch_at(bytes: &[u8]) -> Result<(Op, &[u8]), FieldError>
+    ensures read { IfOk result (λ read. ReadsOp (1 ∷ bytes.now) read.0 read.1.now) }
+    ensures bad { IfErr result (λ error. StopsBy epoch_fields bytes.now error) }
+{
+    let (next, rest) = u32_within(bytes, 1, 1 << 24)?;
+    let (stamp, rest) = u64_within(rest, 1, MAX_STAMP)?;
+    Ok((Op::Epoch { next, stamp }, rest))
+}
+
+fn app_at(alloc: Global, bytes: &[u8]) -> Result<(Op, &[u8]), FieldError>
+    ensures read { IfOk result (λ read. ReadsOp (2 ∷ bytes.now) read.0 read.1.now) }
+    ensures bad { IfErr result (λ error. StopsBy (fields_of 2) bytes.now error) }
+{
+    let (id, rest) = app_id_at(bytes)?;
+    let (submission, rest) = submission_at(alloc, rest)?;
+    Ok((Op::App { id, submission }, rest))
+}
+
+fn submission_at(alloc: Global, bytes: &[u8]) -> Result<(Submission, &[u8]), FieldError>
+    ensures within { IfOk result (λ read. IsSubmission read.0) }
+    ensures read { IfOk result (λ read. Reads submission_fields bytes.now (submission_frame read.0) read.1.now) }
+    ensures bad { IfErr result (λ error. StopsBy submission_fields bytes.now error) }
+{
+    let (user, rest) = text_at(alloc, bytes, TextKind::Name)?;
+    let (queue, rest) = text_at(alloc, rest, TextKind::Queue)?;
+    let (name, rest) = text_at(alloc, rest, TextKind::Name)?;
+    let (memory_mb, rest) = u32_within(rest, 1, 1 << 24)?;
+    let (vcores, rest) = u32_within(rest, 1, 256)?;
+    let (attempts, rest) = u32_within(rest, 0, 100)?;
+    let (modify, rest) = text_at(alloc, rest, TextKind::AclText)?;
+    let master = Resource { memory_mb, vcores };
+    let submission = Submission {
+        user,
+        queue,
+        name,
+        master,
+        attempts,
+        modify,
+    };
+    Ok((submission, rest))
+}
+
+fn attempt_at(alloc: Global, bytes: &[u8]) -> Result<(Op, &[u8]), FieldError>
+    ensures read { IfOk result (λ read. ReadsOp (3 ∷ bytes.now) read.0 read.1.now) }
+    ensures bad { IfErr result (λ error. StopsBy (fields_of 3) bytes.now error) }
+{
+    let (id, rest) = attempt_id_at(bytes)?;
+    let (epoch, rest) = u32_within(rest, 0, (1 << 24) - 1)?;
+    let (seq, rest) = u64_within(rest, 1, (1 << 40) - 1)?;
+    let (node, rest) = text_at(alloc, rest, TextKind::Node)?;
+    let master = ContainerId {
+        attempt: id,
+        epoch,
+        seq,
+    };
+    Ok((Op::Attempt { id, master, node }, rest))
+}
+
+fn attempt_end_at(alloc: Global, bytes: &[u8]) -> Result<(Op, &[u8]), FieldError>
+    ensures read { IfOk result (λ read. ReadsOp (4 ∷ bytes.now) read.0 read.1.now) }
+    ensures bad { IfErr result (λ error. StopsBy (fields_of 4) bytes.now error) }
+{
+    let (id, rest) = attempt_id_at(bytes)?;
+    let (End { how, text }, rest) = end_at(alloc, rest)?;
+    Ok((Op::AttemptEnd { id, how, text }, rest))
+}
+
+fn app_end_at(alloc: Global, bytes: &[u8]) -> Result<(Op, &[u8]), FieldError>
+    ensures read { IfOk result (λ read. ReadsOp (5 ∷ bytes.now) read.0 read.1.now) }
+    ensures bad { IfErr result (λ error. StopsBy (fields_of 5) bytes.now error) }
+{
+    let (id, rest) = app_id_at(bytes)?;
+    let (End { how, text }, rest) = end_at(alloc, rest)?;
+    Ok((Op::AppEnd { id, how, text }, rest))
+}
+
+fn remove_at(bytes: &[u8]) -> Result<(Op, &[u8]), FieldError>
+    ensures read { IfOk result (λ read. ReadsOp (6 ∷ bytes.now) read.0 read.1.now) }
+    ensures bad { IfErr result (λ error. StopsBy app_id_fields bytes.now error) }
+{
+    let (id, rest) = app_id_at(bytes)?;
+    Ok((Op::Remove { id }, rest))
+}

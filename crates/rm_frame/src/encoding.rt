@@ -1,0 +1,180 @@
+ghost use Rattle.std.specs.Prelude.{◌≡◌, ◌<◌, ◌^◌, ◌∷◌, ◌++◌, length, OnOk, OnErr, IfOk};
+ghost use Rattle.std.specs.Int.{to_be_bytes, w32, w64};
+ghost use Rattle.rm_types.specs.Frames.{frame, CanBeFramed, text_frame, app_id_frame, attempt_id_frame, submission_frame, how_code, IsSubmission, IsText};
+
+use rm_types::{AppId, AttemptId, ContainerId, How, NoMemory, Op, Submission, Text, TextKind};
+use std::alloc::Global;
+
+/// Appends the frame of an operation. `NoMemory` leaves the bytes as they were. The parts of the
+/// operation must be in their ranges, and an attempt's master must be a container of that attempt.
+pub fn encode(op: &Op, out: &mut Vec<u8>) -> Result<(), NoMemory>
+    requires { CanBeFramed op.now }
+    ensures ok { OnOk result (out.new.items ≡ out.old.items ++ frame op.now) }
+    ensures err { OnErr result (out.new.items ≡ out.old.items) }
+{
+    let bytes = frame_of(*out.allocator(), op)?;
+    out.extend_from_slice(&bytes)?;
+    Ok(())
+}
+
+/// The frame of an operation, in a vector of its own: where memory fails half way, nothing has to be
+/// taken back.
+fn frame_of(alloc: Global, op: &Op) -> Result<Vec<u8>, NoMemory>
+    requires { CanBeFramed op.now }
+    ensures { IfOk result (λ bytes. bytes.items ≡ frame op.now) }
+{
+    let mut out = Vec::new(alloc);
+    put_op(&mut out, op)?;
+    Ok(out)
+}
+
+fn put_op(out: &mut Vec<u8>, op: &Op) -> Result<(), NoMemory>
+    requires { CanBeFramed op.now }
+    ensures { OnOk result (out.new.items ≡ out.old.items ++ frame op.now) }
+{
+    match op {
+        Op::Epoch { next, stamp } => put_epoch(out, *next, *stamp),
+        Op::App { id, submission } => put_app(out, *id, submission),
+        Op::Attempt { id, master, node } => put_attempt(out, *id, *master, node),
+        Op::AttemptEnd { id, how, text } => put_attempt_end(out, *id, *how, text),
+        Op::AppEnd { id, how, text } => put_app_end(out, *id, *how, text),
+        Op::Remove { id } => put_remove(out, *id),
+    }
+}
+
+fn put_epoch(out: &mut Vec<u8>, next: u32, stamp: u64) -> Result<(), NoMemory>
+    ensures { OnOk result (out.new.items ≡ out.old.items ++ frame (Op.Epoch next stamp)) }
+{
+    out.push(1)?;
+    put_u32(out, next)?;
+    put_u64(out, stamp)?;
+    Ok(())
+}
+
+fn put_app(out: &mut Vec<u8>, id: AppId, submission: &Submission) -> Result<(), NoMemory>
+    requires { IsSubmission submission.now }
+    ensures { OnOk result (out.new.items ≡ out.old.items ++ frame (Op.App id submission.now)) }
+{
+    out.push(2)?;
+    put_app_id(out, id)?;
+    put_submission(out, submission)?;
+    Ok(())
+}
+
+fn put_attempt(
+    out: &mut Vec<u8>,
+    id: AttemptId,
+    master: ContainerId,
+    node: &Text,
+) -> Result<(), NoMemory>
+    requires { IsText TextKind.Node node.now }
+    ensures { OnOk result (out.new.items ≡ out.old.items ++ frame (Op.Attempt id master node.now)) }
+{
+    out.push(3)?;
+    put_attempt_id(out, id)?;
+    put_u32(out, master.epoch)?;
+    put_u64(out, master.seq)?;
+    put_text(out, node)?;
+    Ok(())
+}
+
+fn put_attempt_end(out: &mut Vec<u8>, id: AttemptId, how: How, text: &Text) -> Result<(), NoMemory>
+    requires { IsText TextKind.Note text.now }
+    ensures { OnOk result (out.new.items ≡ out.old.items ++ frame (Op.AttemptEnd id how text.now)) }
+{
+    out.push(4)?;
+    put_attempt_id(out, id)?;
+    put_end(out, how, text)?;
+    Ok(())
+}
+
+fn put_app_end(out: &mut Vec<u8>, id: AppId, how: How, text: &Text) -> Result<(), NoMemory>
+    requires { IsText TextKind.Note text.now }
+    ensures { OnOk result (out.new.items ≡ out.old.items ++ frame (Op.AppEnd id how text.now)) }
+{
+    out.push(5)?;
+    put_app_id(out, id)?;
+    put_end(out, how, text)?;
+    Ok(())
+}
+
+fn put_remove(out: &mut Vec<u8>, id: AppId) -> Result<(), NoMemory>
+    ensures { OnOk result (out.new.items ≡ out.old.items ++ frame (Op.Remove id)) }
+{
+    out.push(6)?;
+    put_app_id(out, id)
+}
+
+fn put_submission(out: &mut Vec<u8>, submission: &Submission) -> Result<(), NoMemory>
+    requires { IsSubmission submission.now }
+    ensures { OnOk result (out.new.items ≡ out.old.items ++ submission_frame submission.now) }
+{
+    put_text(out, &submission.user)?;
+    put_text(out, &submission.queue)?;
+    put_text(out, &submission.name)?;
+    put_u32(out, submission.master.memory_mb)?;
+    put_u32(out, submission.master.vcores)?;
+    put_u32(out, submission.attempts)?;
+    put_text(out, &submission.modify)?;
+    Ok(())
+}
+
+fn put_app_id(out: &mut Vec<u8>, id: AppId) -> Result<(), NoMemory>
+    ensures { OnOk result (out.new.items ≡ out.old.items ++ app_id_frame id) }
+{
+    put_u64(out, id.stamp)?;
+    put_u32(out, id.number)?;
+    Ok(())
+}
+
+fn put_attempt_id(out: &mut Vec<u8>, id: AttemptId) -> Result<(), NoMemory>
+    ensures { OnOk result (out.new.items ≡ out.old.items ++ attempt_id_frame id) }
+{
+    put_app_id(out, id.app)?;
+    put_u32(out, id.number)?;
+    Ok(())
+}
+
+fn put_end(out: &mut Vec<u8>, how: How, text: &Text) -> Result<(), NoMemory>
+    requires { IsText TextKind.Note text.now }
+    ensures { OnOk result (out.new.items ≡ out.old.items ++ how_code how ∷ text_frame text.now) }
+{
+    out.push(how_code(how))?;
+    put_text(out, text)?;
+    Ok(())
+}
+
+/// A text behind its length.
+fn put_text(out: &mut Vec<u8>, text: &Text) -> Result<(), NoMemory>
+    requires { length text.now < 2 ^ 16 }
+    ensures { OnOk result (out.new.items ≡ out.old.items ++ text_frame text.now) }
+{
+    let bytes = text.bytes();
+    out.extend_from_slice(&(bytes.len() as u16).to_be_bytes())?;
+    out.extend_from_slice(bytes)?;
+    Ok(())
+}
+
+fn put_u32(out: &mut Vec<u8>, number: u32) -> Result<(), NoMemory>
+    ensures { OnOk result (out.new.items ≡ out.old.items ++ to_be_bytes w32 number) }
+{
+    out.extend_from_slice(&number.to_be_bytes())?;
+    Ok(())
+}
+
+fn put_u64(out: &mut Vec<u8>, number: u64) -> Result<(), NoMemory>
+    ensures { OnOk result (out.new.items ≡ out.old.items ++ to_be_bytes w64 number) }
+{
+    out.extend_from_slice(&number.to_be_bytes())?;
+    Ok(())
+}
+
+fn how_code(how: How) -> u8
+    ensures { result ≡ how_code how }
+{
+    match how {
+        How::Finished => 1,
+        How::Failed => 2,
+        How::Killed => 3,
+    }
+}
