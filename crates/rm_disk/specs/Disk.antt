@@ -1,5 +1,5 @@
 -- What the calls of a disk do to its bytes, and what a crash may leave of them.
-use Rattle.std.specs.Prelude.{◌≡◌, ◌⊎◌, ◌↔◌, ◌+◌, ◌-◌, ◌^◌, ◌≤◌, ℕ, min, List, ◌++◌, length, take, drop, Option, Some, is_some}
+use Rattle.std.specs.Prelude.{◌≡◌, ◌⊎◌, ◌↔◌, ◌+◌, ◌≤◌, ℕ, List, ◌++◌, length, take, drop, Option, Some, is_some}
 
 -- A set of contents.
 abbrev pub Images : Type 1
@@ -52,10 +52,6 @@ IsDurable view = (image : List ℕ) → view.images image → view.told ≡ Some
 pub record Leaves (old new : DiskView) (P : List ℕ → Type 0) : Type 0 where
   pub later : old.moment ≤ new.moment
   pub each : (from : ℕ) (image : List ℕ) → from ≤ old.moment → new.left_since from image → old.left_since from image ⊎ P image
-
--- A count rose, or it stands at the end of its type.
-abbrev pub Rose : ℕ → ℕ → Type 0
-Rose old new = min (old + 1) (2 ^ 64 - 1) ≤ new
 
 -- Whatever a call does: the size stays, a disk goes on telling its bytes or not telling them, what a crash
 -- may have left is not forgotten, and the count of faults does not fall.

@@ -1,6 +1,7 @@
 ghost use Rattle.std.specs.Prelude.{◌≡◌, ◌+◌, ◌≤◌, List, ℕ, length, take, drop, Some, option_map, OnOk, IsErrOf, Bool, true, ◌&&◌, is_ok};
 ghost use Rattle.rm_disk.specs.declared.device.DiskError.TheVariants.{DiskFault, Memory};
-ghost use Rattle.rm_disk.specs.Disk.{DiskView, put, Tells, IsDurable, IsQuiet, MayWrite, Falls, IsAsBefore, Rose};
+ghost use Rattle.rm_disk.specs.Disk.{DiskView, put, Tells, IsDurable, IsQuiet, MayWrite, Falls, IsAsBefore};
+ghost use Rattle.rm_types.specs.Counts.{Rose};
 
 /// Why a call of a disk did not succeed.
 #[derive(Clone, Copy, Debug, PartialEq, Eq)]

@@ -1,5 +1,6 @@
 ghost use Rattle.std.specs.Prelude.{◌≡◌, ◌+◌, ◌≤◌, ℕ, None, length, IsSome, IsOk, OnOk, IsErrOf, is_ok, IfErr, option_map};
-ghost use Rattle.rm_disk.specs.Disk.{put, IsAsBefore, IsDurable, IsQuiet, MayWrite, Rose};
+ghost use Rattle.rm_disk.specs.Disk.{put, IsAsBefore, IsDurable, IsQuiet, MayWrite};
+ghost use Rattle.rm_types.specs.Counts.{Rose};
 
 use crate::device::{Disk, DiskError};
 use std::fs::{Files, OpenFile, OpenOptions};

@@ -1,6 +1,7 @@
 ghost use Rattle.std.specs.Prelude.{◌≡◌, ◌+◌, ◌≤◌, ◌↔◌, ℕ, true, false, List, length, take, drop, [], None, Some, Err, OnOk, OnErr, IsErrOf, IsTrue, option_map, is_ok};
 ghost use Rattle.std.specs.Bool.{OnTrue, OnFalse};
-ghost use Rattle.rm_disk.specs.Disk.{put, Tells, IsDurable, IsQuiet, MayWrite, Falls, IsAsBefore, Rose};
+ghost use Rattle.rm_disk.specs.Disk.{put, Tells, IsDurable, IsQuiet, MayWrite, Falls, IsAsBefore};
+ghost use Rattle.rm_types.specs.Counts.{Rose};
 ghost use Rattle.rm_disk.specs.Fuse.{is_spent, refusing, passing};
 
 use crate::device::{Disk, DiskError};

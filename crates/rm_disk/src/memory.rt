@@ -1,6 +1,7 @@
 ghost use Rattle.std.specs.Prelude.{◌≡◌, ◌<◌, ◌≤◌, ◌+◌, ◌*◌, ◌%◌, ◌^◌, ◌-◌, ◌↔◌, true, ℕ, List, [], ◌∷◌, ◌++◌, Some, length, drop, take, slice_index, vec_capacity, option_map, is_ok, IfOk, OnOk, IsErrOf, IsTrue, MatchBool, Contains, replicate, min, if◌then◌else◌};
 ghost use Rattle.std.specs.List.{list_all};
-ghost use Rattle.rm_disk.specs.Disk.{DiskView, put, Tells, IsDurable, IsQuiet, MayWrite, Falls, IsAsBefore, Rose};
+ghost use Rattle.rm_disk.specs.Disk.{DiskView, put, Tells, IsDurable, IsQuiet, MayWrite, Falls, IsAsBefore};
+ghost use Rattle.rm_types.specs.Counts.{Rose};
 ghost use Rattle.rm_disk.specs.Memory.{MemState, fits, is_within, is_written, renewed, fallen, IsReplayed, view_of};
 
 use crate::calls::Call;

@@ -1,5 +1,6 @@
 ghost use Rattle.std.specs.Prelude.{◌≡◌, ◌+◌, ◌-◌, ◌<◌, ◌≤◌, ◌⊎◌, ◌↔◌, ℕ, List, [], ◌∷◌, ◌++◌, Bool, true, false, None, length, take, drop, vec_len, vec_capacity, is_ok, OnOk, OnErr, IfOk, IfErr, IfSome, IsErrOf, Err};
-ghost use Rattle.rm_disk.specs.Disk.{Tells, MayWrite, IsQuiet, Rose};
+ghost use Rattle.rm_disk.specs.Disk.{Tells, MayWrite, IsQuiet};
+ghost use Rattle.rm_types.specs.Counts.{Rose};
 ghost use Rattle.rm_model.specs.Device.{sized, HasPayloads, IsDamagedAt};
 ghost use Rattle.rm_journal.specs.Fault.{IsReadError, IsAppendError, IsRefusal};
 ghost use Rattle.rm_journal.specs.Journal.{region_of, Place, Stands, IsOpened, GivesNext, LeavesEither, Adds, StaysInRegion, broken_after};

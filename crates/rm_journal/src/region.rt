@@ -1,6 +1,7 @@
 ghost use Rattle.std.specs.Prelude.{◌≡◌, ◌+◌, ◌<◌, ◌≤◌, ℕ, length, option_map, is_ok, OnOk, IfOk, IfErr, IfSome, IsErrOf, Err};
 ghost use Rattle.std.specs.Int.{w32, to_be_bytes, from_be_bytes};
-ghost use Rattle.rm_disk.specs.Disk.{put, Tells, MayWrite, IsQuiet, IsDurable, Rose};
+ghost use Rattle.rm_disk.specs.Disk.{put, Tells, MayWrite, IsQuiet, IsDurable};
+ghost use Rattle.rm_types.specs.Counts.{Rose};
 ghost use Rattle.rm_journal.specs.Fault.{IsLookError};
 ghost use Rattle.rm_journal.specs.Journal.{FindsAt, FindsDamage};
 

@@ -1,5 +1,5 @@
 ghost use Rattle.std.specs.Prelude.{◌≡◌, ◌≤◌, IfOk, IfErr, OnOk, Err, false};
-ghost use Rattle.rm_outside.specs.Counts.{Rose};
+ghost use Rattle.rm_types.specs.Counts.{Rose};
 ghost use Rattle.rm_plain.specs.Along.{CanRun};
 ghost use Rattle.rm_main.specs.Runs.{AreSettings, IsScriptOf};
 ghost use Rattle.rm_main.specs.Inputs.{StopsAtCluster, StopsAtScript};

@@ -1,7 +1,7 @@
 ghost use Rattle.std.specs.Prelude.{◌≡◌, [], map, string_bytes, false, true};
 ghost use Rattle.rm_model.specs.Lawful.{Lawful, IsDone};
 ghost use Rattle.rm_model.specs.Page.{page};
-ghost use Rattle.rm_outside.specs.Counts.{Rose};
+ghost use Rattle.rm_types.specs.Counts.{Rose};
 ghost use Rattle.rm_plain.specs.Along.{CanRun};
 ghost use Rattle.rm_main.specs.Runs.{Ends, Writes};
 ghost use Rattle.rm_main.specs.Ways.{IsOfRun};

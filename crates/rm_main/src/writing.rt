@@ -1,6 +1,6 @@
 ghost use Rattle.std.specs.Prelude.{◌≡◌, [], IsOk, false, true};
 ghost use Rattle.rm_model.specs.Page.{page};
-ghost use Rattle.rm_outside.specs.Counts.{Rose};
+ghost use Rattle.rm_types.specs.Counts.{Rose};
 ghost use Rattle.rm_main.specs.Runs.{Writes};
 ghost use Rattle.rm_main.specs.Ways.{IsOfRun, KeepsWrites};
 

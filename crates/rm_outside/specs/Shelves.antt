@@ -3,7 +3,7 @@ use Rattle.std.specs.Prelude.{ℕ, List, Option, Result, Ok, Err, take}
 use Rattle.std.specs.Option.{option_map}
 use Rattle.std.specs.List.{find}
 use Rattle.std.specs.Str.{bytes_eq}
-use Rattle.rm_outside.specs.Counts.{risen}
+use Rattle.rm_types.specs.Counts.{risen}
 use Rattle.rm_outside.specs.declared.shelves.TheConstants.{MOST_READ}
 use Rattle.rm_outside.specs.declared.shelves.NamedFile.{NamedFile}
 use Rattle.rm_outside.specs.declared.shelves.ShelfError.{ShelfError}

@@ -1,6 +1,6 @@
 -- What a sink took, and what it counts.
 use Rattle.std.specs.Prelude.{ℕ, zero, suc, List, [], ◌∷◌, ◌++◌, Result, Ok, Err, take}
-use Rattle.rm_outside.specs.Counts.{risen}
+use Rattle.rm_types.specs.Counts.{risen}
 use Rattle.rm_outside.specs.declared.sinks.SinkError.{SinkError}
 use Rattle.rm_outside.specs.declared.sinks.SinkError.TheVariants.{SinkFault, Memory}
 

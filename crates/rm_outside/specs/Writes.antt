@@ -1,7 +1,7 @@
 -- What a sink took and counted while a page was written to it.
 use Rattle.std.specs.Prelude.{◌≡◌, ℕ, ◌<◌, List, Option, length, take}
 use Rattle.std.specs.Io.KnownBytes.{Appends}
-use Rattle.rm_outside.specs.Counts.{Rose}
+use Rattle.rm_types.specs.Counts.{Rose}
 use Rattle.rm_outside.specs.declared.writes.Written.{Written}
 use Rattle.rm_outside.specs.declared.writes.Written.TheVariants.{All, Fault, Nothing, Memory}
 

@@ -1,5 +1,5 @@
 ghost use Rattle.std.specs.Prelude.{◌≡◌, ◌↔◌, Contains, IsTrue};
-ghost use Rattle.rm_outside.specs.Counts.{risen};
+ghost use Rattle.rm_types.specs.Counts.{risen};
 
 use rm_types::Items;
 

@@ -1,6 +1,6 @@
 ghost use Rattle.std.specs.Prelude.{◌≡◌, ◌≤◌, ◌⊎◌, ◌↔◌, ℕ, List, Option, Contains, length, take, IsNone, IfOk, IfSome, OnOk};
 ghost use Rattle.std.specs.Option.{option_map};
-ghost use Rattle.rm_outside.specs.Counts.{risen, Rose};
+ghost use Rattle.rm_types.specs.Counts.{risen, Rose};
 ghost use Rattle.rm_outside.specs.Shelves.{bytes_of_name, bytes_read};
 
 use crate::calls::Calls;

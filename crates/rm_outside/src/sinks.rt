@@ -1,7 +1,7 @@
 ghost use Rattle.std.specs.Prelude.{◌≡◌, ◌≤◌, ◌<◌, ◌↔◌, ◌++◌, ℕ, List, [], Option, Some, Contains, length, min, IfOk, OnOk, OnErr};
 ghost use Rattle.std.specs.Io.{WritesAtMost};
 ghost use Rattle.std.specs.Io.KnownBytes.{WriteAppends};
-ghost use Rattle.rm_outside.specs.Counts.{risen, Rose};
+ghost use Rattle.rm_types.specs.Counts.{risen, Rose};
 
 use crate::calls::Calls;
 use rm_types::{Items, NoMemory};

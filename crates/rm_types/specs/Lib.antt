@@ -1,4 +1,5 @@
 pub mod AclTexts
+pub mod Counts
 pub mod Frames
 pub mod IdTexts
 pub mod Ids
