@@ -17,7 +17,8 @@ use Rattle.rm_types.specs.declared.scripts.Segment.{Segment}
 use Rattle.rm_types.specs.declared.scripts.Script.{Script}
 use Rattle.rm_core.specs.Serving.{IsBuiltAsk as IsServedAsk, IsBuiltMessage as IsServedMessage}
 use Rattle.rm_script.specs.Scripts.{IsScript, IsLife, IsBuiltSegment, IsBuiltMessage, IsBuiltAsk, IsBuiltClose}
-use Rattle.rm_script.specs.Spelling.{close_text, message_text, segment_lines, life_lines}
+use Rattle.rm_model.specs.Wording.{message_text}
+use Rattle.rm_script.specs.Spelling.{close_text, segment_lines, life_lines}
 use Rattle.rm_plain.specs.Along.{CanRun, AllServed, AllStart, AllSettle, messages_in}
 
 ask_served : (ask : ClientAsk) → IsBuiltAsk ask → IsServedAsk ask

@@ -1,7 +1,6 @@
 -- The words of what a client asks are read as that, and no other words are.
 use Rattle.std.proofs.Common.{◌≡◌, ℕ, true, List, [], ◌∷◌, ◌++◌, Option, Some, refl, sym, ap, subst, ◌∙◌, arith}
 use Rattle.std.specs.Prelude.{codes}
-use Rattle.std.specs.Int.{IsInRange}
 use Rattle.std.specs.Fmt.{decimal}
 use Rattle.std.specs.Str.{bytes_eq}
 use Rattle.std.specs.Option.{option_map}
@@ -14,8 +13,10 @@ use Rattle.rm_types.specs.declared.messages.Message.TheVariants.{Client}
 use Rattle.rm_types.specs.declared.operations.Submission.{Submission}
 use Rattle.rm_types.specs.declared.resources.Resource.{Resource}
 use Rattle.rm_types.specs.declared.texts.TextKind.TheVariants.{Name, Queue}
-use Rattle.rm_script.specs.Spelling.{app_text, submission_words, client_words, message_words}
-use Rattle.rm_script.specs.Scripts.{IsText, IsSubmission, IsClientAsk, IsMessage, IsBuiltAsk, IsBuiltMessage}
+use Rattle.rm_types.specs.IdTexts.{app_text, IsWithin}
+use Rattle.rm_model.specs.Wording.{submission_words, client_words, message_words}
+use Rattle.rm_types.specs.Frames.{IsText}
+use Rattle.rm_script.specs.Scripts.{IsSubmission, IsClientAsk, IsMessage, IsBuiltAsk, IsBuiltMessage}
 use Rattle.rm_script.specs.Results.{◌>>=◌}
 use Rattle.rm_script.specs.Fields.{number_field, text_field, text_in, app_id}
 use Rattle.rm_script.specs.Clients.{resource_of, submission_of_fields, submission_of, lone_ask, app_ask, submit_ask, fields_ask, ask_of, client_message}
@@ -30,8 +31,8 @@ use Rattle.rm_script.proofs.Ids.{app_id_is, app_id-text, IsClear-app_text}
 record IsResourceText (memory vcores : List ℕ) (master : Resource) : Type 0 where
   pub memory_text : memory ≡ codes "memory=" ++ decimal master.memory_mb
   pub vcores_text : vcores ≡ codes "vcores=" ++ decimal master.vcores
-  pub memory_fits : IsInRange 1 16777216 master.memory_mb
-  pub vcores_fit : IsInRange 1 256 master.vcores
+  pub memory_fits : IsWithin 1 16777216 master.memory_mb
+  pub vcores_fit : IsWithin 1 256 master.vcores
 
 resource_of_is : (memory vcores : List ℕ) (master : Resource) → resource_of memory vcores ≡ Some master → IsResourceText memory vcores master
 resource_of_is memory vcores master e =
@@ -41,6 +42,19 @@ resource_of_is memory vcores master e =
     let other = number_field_is (codes "vcores=") 1 256 vcores second.0 second.1 in
     let made : Resource = record { memory_mb = first.0; vcores = second.0 } in
     subst (IsResourceText memory vcores) (same_Some made master second.2) (record { memory_text = one.0; vcores_text = other.0; memory_fits = one.1; vcores_fit = other.1 })
+
+-- the words of a submission whose list for `modify` is empty
+abbrev five_words : Submission → List (List ℕ)
+five_words submission =
+    (codes "queue=" ++ submission.queue)
+    ∷ (codes "name=" ++ submission.name)
+    ∷ (codes "memory=" ++ decimal submission.master.memory_mb)
+    ∷ (codes "vcores=" ++ decimal submission.master.vcores)
+    ∷ (codes "attempts=" ++ decimal submission.attempts)
+    ∷ []
+
+submission_words-five : (submission : Submission) → submission.modify ≡ [] → submission_words submission ≡ five_words submission
+submission_words-five submission built = rw built refl
 
 -- the words are those of the user's submission, which is read
 pub record IsSubmissionText (user : List ℕ) (fields : List (List ℕ)) (submission : Submission) : Type 0 where
@@ -116,9 +130,9 @@ submission_of_fields-parts user queue name memory vcores attempts queue_is name_
     ∙ ap (λ (o : Option Resource). o >>= after_master queue_is name_is) g
     ∙ ap (λ (o : Option ℕ). o >>= λ a. Some (made_of user queue_is name_is master a)) h
 
-submission_of-words : (user : List ℕ) (submission : Submission) → IsSubmission user submission → submission.modify ≡ [] → submission_of user (submission_words submission) ≡ Some submission
+submission_of-five : (user : List ℕ) (submission : Submission) → IsSubmission user submission → submission.modify ≡ [] → submission_of user (five_words submission) ≡ Some submission
 unfolding submission_of
-submission_of-words user submission fits built =
+submission_of-five user submission fits built =
     let memory = number_field-decimal (codes "memory=") 1 16777216 submission.master.memory_mb (omega arith) fits.memory in
     let vcores = number_field-decimal (codes "vcores=") 1 256 submission.master.vcores (omega arith) fits.vcores in
     submission_of_fields-parts user (codes "queue=" ++ submission.queue) (codes "name=" ++ submission.name) (codes "memory=" ++ decimal submission.master.memory_mb) (codes "vcores=" ++ decimal submission.master.vcores) (codes "attempts=" ++ decimal submission.attempts)
@@ -129,6 +143,9 @@ submission_of-words user submission fits built =
     (number_field-decimal (codes "attempts=") 0 100 submission.attempts (omega arith) fits.attempts)
     ∙ ap (λ (u : List ℕ). Some (record (made_of u submission.queue submission.name submission.master submission.attempts) { modify = [] })) (sym fits.by_user)
     ∙ ap (λ (m : List ℕ). Some (record submission { modify = m })) (sym built)
+
+submission_of-words : (user : List ℕ) (submission : Submission) → IsSubmission user submission → submission.modify ≡ [] → submission_of user (submission_words submission) ≡ Some submission
+submission_of-words user submission fits built = ap (submission_of user) (submission_words-five submission built) ∙ submission_of-five user submission fits built
 
 -- ---- asks
 
@@ -203,8 +220,8 @@ ask_of-words user (Kill id) fits built = absurd built
 clear_after_label : (label text : List ℕ) → lacks 32 label ≡ true → lacks 10 label ≡ true → IsClear text → IsClear (label ++ text)
 clear_after_label label text no_space no_feed clear = IsClear-append label text (IsClear-from_tests label no_space no_feed) clear
 
-clear_submission : (user : List ℕ) (submission : Submission) → IsSubmission user submission → AreClear (submission_words submission)
-clear_submission user submission fits = (
+clear_five : (user : List ℕ) (submission : Submission) → IsSubmission user submission → AreClear (five_words submission)
+clear_five user submission fits = (
   clear_after_label (codes "queue=") submission.queue refl refl (IsClear-text Queue submission.queue refl refl fits.queue),
   (
     clear_after_label (codes "name=") submission.name refl refl (IsClear-text Name submission.name refl refl fits.name),
@@ -218,13 +235,16 @@ clear_submission user submission fits = (
   ),
 )
 
+clear_submission : (user : List ℕ) (submission : Submission) → IsSubmission user submission → submission.modify ≡ [] → AreClear (submission_words submission)
+clear_submission user submission fits built = subst AreClear (sym (submission_words-five submission built)) (clear_five user submission fits)
+
 -- neither a space nor a line feed stands in a word of what is asked
-pub clear_ask : (user : List ℕ) (ask : ClientAsk) → IsClientAsk user ask → AreClear (client_words ask)
-clear_ask user New fits = (IsClear-from_tests (codes "new") refl refl, tt)
-clear_ask user (Submit id submission) fits =
-    (IsClear-from_tests (codes "submit") refl refl, (IsClear-app_text id fits.0, clear_submission user submission fits.1))
-clear_ask user (Report id) fits = (IsClear-from_tests (codes "report") refl refl, (IsClear-app_text id fits, tt))
-clear_ask user (Kill id) fits = (IsClear-from_tests (codes "kill") refl refl, (IsClear-app_text id fits, tt))
+pub clear_ask : (user : List ℕ) (ask : ClientAsk) → IsClientAsk user ask → IsBuiltAsk ask → AreClear (client_words ask)
+clear_ask user New fits built = (IsClear-from_tests (codes "new") refl refl, tt)
+clear_ask user (Submit id submission) fits built =
+    (IsClear-from_tests (codes "submit") refl refl, (IsClear-app_text id fits.0, clear_submission user submission fits.1 built))
+clear_ask user (Report id) fits built = (IsClear-from_tests (codes "report") refl refl, (IsClear-app_text id fits, tt))
+clear_ask user (Kill id) fits built = absurd built
 
 -- ---- messages
 

@@ -1,7 +1,7 @@
 -- The text of a number is read as that number, and no other text is.
 use Rattle.std.proofs.Common.{◌≡◌, ℕ, zero, suc, ◌+◌, ◌-◌, ◌*◌, ◌^◌, ◌<◌, ◌≤◌, Bool, true, false, cond, ◌&&◌, ◌||◌, ltb, leb, List, [], ◌∷◌, length, get_or, Option, Some, None, refl, sym, ap, subst, ◌∙◌, arith, rules}
 use Rattle.std.specs.Fmt.{decimal}
-use Rattle.std.specs.Int.{IsInRange}
+use Rattle.rm_types.specs.IdTexts.{IsWithin}
 use Rattle.std.proofs.lemmas.Bool.{ltb-true, lt-ltb, leb-true, le-leb, eqb-false, ne_eqb, and_parts, and_from, true≢false}
 use Rattle.std.proofs.lemmas.Option.{cond_some, same_Some}
 use Rattle.std.proofs.lemmas.Str.Parse.{IsNumeralModel, numerals_by_fold}
@@ -125,18 +125,18 @@ IsClear-decimal number fits = record { no_space = Lacks-decimal 32 number fits r
 
 -- ---- within bounds
 
-pub number_in-decimal : (least greatest number : ℕ) → greatest < 2 ^ 64 → IsInRange least greatest number → number_in least greatest (decimal number) ≡ Some number
+pub number_in-decimal : (least greatest number : ℕ) → greatest < 2 ^ 64 → IsWithin least greatest number → number_in least greatest (decimal number) ≡ Some number
 number_in-decimal least greatest number small fits =
     rw (number_of-decimal number (omega (arith, fits.1)), le-leb least number fits.0, le-leb number greatest fits.1) refl
 
-pub bounded : (least greatest : ℕ) (o : Option ℕ) (number : ℕ) → (o >>= λ n. cond (leb least n && leb n greatest) (Some n) None) ≡ Some number → (o ≡ Some number) × IsInRange least greatest number
+pub bounded : (least greatest : ℕ) (o : Option ℕ) (number : ℕ) → (o >>= λ n. cond (leb least n && leb n greatest) (Some n) None) ≡ Some number → (o ≡ Some number) × IsWithin least greatest number
 bounded least greatest None number e = absurd cc
 bounded least greatest (Some n) number e =
     let c = cond_some (leb least n && leb n greatest) n number e in
     let tests = and_parts (leb least n) (leb n greatest) c.0 in
-    (ap Some c.1, subst (IsInRange least greatest) c.1 (leb-true _ _ tests.0, leb-true _ _ tests.1))
+    (ap Some c.1, subst (IsWithin least greatest) c.1 (leb-true _ _ tests.0, leb-true _ _ tests.1))
 
-pub number_in_is : (least greatest : ℕ) (text : List ℕ) (number : ℕ) → number_in least greatest text ≡ Some number → (text ≡ decimal number) × IsInRange least greatest number
+pub number_in_is : (least greatest : ℕ) (text : List ℕ) (number : ℕ) → number_in least greatest text ≡ Some number → (text ≡ decimal number) × IsWithin least greatest number
 number_in_is least greatest text number e =
     let parts = bounded least greatest (number_of text) number e in
     ((number_of_is text number parts.0).0, parts.1)

@@ -14,7 +14,8 @@ use Rattle.rm_script.specs.declared.lines.Line.{Line}
 use Rattle.rm_script.specs.declared.lines.Line.TheVariants as lines
 use Rattle.rm_script.specs.declared.drafts.Draft.{Draft}
 use Rattle.rm_script.specs.declared.drafts.Draft.TheVariants.{Empty, Living}
-use Rattle.rm_script.specs.Spelling.{message_text, close_text, start_text, segment_lines, life_lines, script_lines}
+use Rattle.rm_model.specs.Wording.{message_text}
+use Rattle.rm_script.specs.Spelling.{close_text, start_text, segment_lines, life_lines, script_lines}
 use Rattle.rm_script.specs.Scripts.{IsMessage, IsSegment, IsLife, IsBuiltMessage, IsBuiltClose, IsBuiltSegment, IsBuilt}
 use Rattle.rm_script.specs.Results.{◌>>=◌}
 use Rattle.rm_script.specs.Reading.{line_of, with_line, with_text, with_texts, script_of_draft}

@@ -1,7 +1,6 @@
 -- The text of an application's id is read as that id, and no other text is.
 use Rattle.std.proofs.Common.{◌≡◌, ℕ, zero, suc, ◌+◌, ◌-◌, ◌^◌, ◌<◌, ◌≤◌, true, false, eqb, List, [], ◌∷◌, ◌++◌, length, take, drop, get_or, replicate, Option, Some, None, refl, sym, ap, subst, ◌∙◌, append_assoc, arith, inl, inr}
 use Rattle.std.specs.Prelude.{codes}
-use Rattle.std.specs.Int.{IsInRange}
 use Rattle.std.specs.Fmt.{decimal}
 use Rattle.std.specs.List.{position_or_len, position}
 use Rattle.std.proofs.lemmas.Bool.{lt-ltb, le-ltb, eqb-true, eqb-false, eq-eqb, ne_eqb, le-leb, cases_lt, cases_order, and_parts}
@@ -12,8 +11,7 @@ use Rattle.std.proofs.lemmas.List.Quantifiers.{position-Some}
 use Rattle.std.proofs.lemmas.Fmt.{decimal-digits_value, digits_decimal, digits_value-decimal}
 use Rattle.rm_types.specs.Texts.{is_digit}
 use Rattle.rm_types.specs.declared.ids.AppId.{AppId}
-use Rattle.rm_script.specs.Spelling.{padded, app_text}
-use Rattle.rm_script.specs.Scripts.{IsAppId}
+use Rattle.rm_types.specs.IdTexts.{padded, app_text, IsWithin, IsAppId}
 use Rattle.rm_script.specs.Results.{◌>>=◌}
 use Rattle.rm_script.specs.Fields.{number_after, number_within, number_in, after_label, app_number, id_of, id_after, app_id}
 use Rattle.rm_script.proofs.Decimals.{AreDigits, all_digits, value, own, number_after-digits, number_after_is, number_in-decimal, number_in_is, bounded, Lacks-decimal, IsClear-decimal}
@@ -53,11 +51,11 @@ number_after-decimal number fits =
     let worth : value (decimal number) ≡ number = digits_value-decimal own number fits in
     number_after-digits 0 (decimal number) (digits_decimal own number fits) (omega arith) ∙ ap Some worth
 
-number_within-in_range : (least greatest number : ℕ) → IsInRange least greatest number → number_within least greatest number ≡ Some number
+number_within-in_range : (least greatest number : ℕ) → IsWithin least greatest number → number_within least greatest number ≡ Some number
 number_within-in_range least greatest number fits = rw (le-leb least number fits.0, le-leb number greatest fits.1) refl
 
 abbrev IsAppNumber : ℕ → Type 0
-IsAppNumber number = IsInRange 1 (2 ^ 31 - 1) number
+IsAppNumber number = IsWithin 1 (2 ^ 31 - 1) number
 
 length-padded : (number : ℕ) → length (padded 4 number) ≡ (4 - length (decimal number)) + length (decimal number)
 length-padded number = simp (length-append, length-replicate)
@@ -145,7 +143,7 @@ id_of-texts : (id : AppId) → IsAppId id → id_of (decimal id.stamp) (padded 4
 id_of-texts id is = rw (number_in-decimal 1 (2 ^ 63 - 1) id.stamp (omega arith) is.stamp, app_number-padded id.number is.number) refl
 
 regrouped : (id : AppId) → app_text id ≡ codes "application_" ++ (decimal id.stamp ++ 95 ∷ padded 4 id.number)
-regrouped id = simp append_assoc
+regrouped id = refl
 
 -- the text of the id is read
 pub app_id-text : (id : AppId) → IsAppId id → app_id (app_text id) ≡ Some id
@@ -214,6 +212,6 @@ IsClear-app_text id is =
     let stamp = IsClear-decimal id.stamp (omega (arith, is.stamp.1)) in
     let number = IsClear-decimal id.number (omega (arith, is.number.1)) in
     let zeros = 4 - length (decimal id.number) in
-    IsClear-append (codes "application_" ++ decimal id.stamp ++ codes "_") (padded 4 id.number)
-    (IsClear-append (codes "application_" ++ decimal id.stamp) (codes "_") (IsClear-append (codes "application_") (decimal id.stamp) word stamp) bar)
-    (IsClear-append (replicate zeros 48) (decimal id.number) (IsClear-zeros zeros) number)
+    IsClear-append (codes "application_") (decimal id.stamp ++ (codes "_" ++ padded 4 id.number)) word
+    (IsClear-append (decimal id.stamp) (codes "_" ++ padded 4 id.number) stamp
+    (IsClear-append (codes "_") (padded 4 id.number) bar (IsClear-append (replicate zeros 48) (decimal id.number) (IsClear-zeros zeros) number)))

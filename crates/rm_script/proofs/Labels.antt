@@ -1,6 +1,6 @@
 -- Texts, and fields with a label: what is written is read again, and nothing else is.
 use Rattle.std.proofs.Common.{◌≡◌, ℕ, ◌+◌, ◌^◌, ◌<◌, ◌≤◌, Bool, true, false, not, cond, ltb, leb, List, [], ◌∷◌, ◌++◌, length, take, drop, Option, Some, None, refl, sym, ap, subst, ◌∙◌, arith}
-use Rattle.std.specs.Int.{IsInRange}
+use Rattle.rm_types.specs.IdTexts.{IsWithin}
 use Rattle.std.specs.Fmt.{decimal}
 use Rattle.std.specs.Str.{bytes_eq}
 use Rattle.std.specs.Option.{option_map}
@@ -12,7 +12,7 @@ use Rattle.std.proofs.lemmas.List.Elements.{All-from_recursion}
 use Rattle.std.proofs.lemmas.Slice.Eq.{bytes_eq-Decides}
 use Rattle.rm_types.specs.Texts.{is_allowed, fault_of, least_length, greatest_length, first_not_allowed}
 use Rattle.rm_types.specs.declared.texts.TextKind.{TextKind}
-use Rattle.rm_script.specs.Scripts.{IsText}
+use Rattle.rm_types.specs.Frames.{IsText}
 use Rattle.rm_script.specs.Results.{◌>>=◌}
 use Rattle.rm_script.specs.Fields.{after_label, number_in, number_field, unless_fault, text_in, text_field}
 use Rattle.rm_script.proofs.Decimals.{number_in-decimal, number_in_is}
@@ -61,13 +61,13 @@ after_label-label label text =
 -- ---- numbers
 
 pub number_field_is : (label : List ℕ) (least greatest : ℕ) (word : List ℕ) (number : ℕ) → number_field label least greatest word ≡ Some number
-    → (word ≡ label ++ decimal number) × IsInRange least greatest number
+    → (word ≡ label ++ decimal number) × IsWithin least greatest number
 number_field_is label least greatest word number e =
     let parts = bound (after_label label word) (number_in least greatest) number e in
     let read = number_in_is least greatest parts.0 number parts.2 in
     (after_label_is label word parts.0 parts.1 ∙ ap (λ (t : List ℕ). label ++ t) read.0, read.1)
 
-pub number_field-decimal : (label : List ℕ) (least greatest number : ℕ) → greatest < 2 ^ 64 → IsInRange least greatest number
+pub number_field-decimal : (label : List ℕ) (least greatest number : ℕ) → greatest < 2 ^ 64 → IsWithin least greatest number
     → number_field label least greatest (label ++ decimal number) ≡ Some number
 number_field-decimal label least greatest number small fits =
     ap (λ o. o >>= number_in least greatest) (after_label-label label (decimal number)) ∙ number_in-decimal least greatest number small fits

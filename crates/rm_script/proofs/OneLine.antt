@@ -1,6 +1,6 @@
 -- A line by itself: its text is read as that line, and no other text is.
 use Rattle.std.proofs.Common.{◌≡◌, ℕ, ◌<◌, ◌≤◌, cond, ltb, List, [], ◌∷◌, length, Some, None, refl, sym, ap, subst, ◌∙◌, arith}
-use Rattle.std.specs.Int.{IsInRange}
+use Rattle.rm_types.specs.IdTexts.{IsWithin}
 use Rattle.std.specs.Option.{option_map}
 use Rattle.std.specs.Str.{bytes_eq}
 use Rattle.std.specs.Prelude.{codes}
@@ -13,8 +13,10 @@ use Rattle.rm_types.specs.declared.texts.TextKind.TheVariants.{Name}
 use Rattle.rm_types.specs.declared.scripts.Close.TheVariants.{Settle, Crash}
 use Rattle.rm_script.specs.declared.lines.Line.{Line}
 use Rattle.rm_script.specs.declared.lines.Line.TheVariants as lines
-use Rattle.rm_script.specs.Spelling.{spaced, message_text, close_text, start_text}
-use Rattle.rm_script.specs.Scripts.{IsText, IsClientAsk, IsMessage, IsBuiltAsk, IsBuiltMessage, IsBuiltClose}
+use Rattle.rm_model.specs.Wording.{spaced, message_text}
+use Rattle.rm_script.specs.Spelling.{close_text, start_text}
+use Rattle.rm_types.specs.Frames.{IsText}
+use Rattle.rm_script.specs.Scripts.{IsClientAsk, IsMessage, IsBuiltAsk, IsBuiltMessage, IsBuiltClose}
 use Rattle.rm_script.specs.Fields.{number_in}
 use Rattle.rm_script.specs.Clients.{client_message}
 use Rattle.rm_script.specs.Reading.{words_of, line_of_message, line_of_words, line_of}
@@ -32,7 +34,7 @@ line_text (lines.Deliver message) = message_text message
 
 -- the line's values are in their ranges, and it is of a kind that is read
 abbrev pub IsLine : Line → Type 0
-IsLine (lines.Start stamp) = IsInRange 1 1000000000000000 stamp
+IsLine (lines.Start stamp) = IsWithin 1 1000000000000000 stamp
 IsLine (lines.Close close) = IsBuiltClose close
 IsLine (lines.Deliver message) = IsMessage message × IsBuiltMessage message
 
@@ -96,7 +98,7 @@ pub record HasWords (line : Line) : Type 0 where
   pub clear : AreClear (first ∷ others)
   pub read : line_of_words (first ∷ others) ≡ Some line
 
-start_words : (stamp : ℕ) → IsInRange 1 1000000000000000 stamp → HasWords (lines.Start stamp)
+start_words : (stamp : ℕ) → IsWithin 1 1000000000000000 stamp → HasWords (lines.Start stamp)
 start_words stamp fits = record {
   first = codes "start";
   others = decimal stamp ∷ [];
@@ -122,7 +124,7 @@ client_has_words user ask name fits built = record {
   others = user ∷ ask_word ask ∷ words_after ask;
   text = ap (λ (words : List (List ℕ)). spaced (codes "client" ∷ user ∷ words)) (client_words-parts ask);
   some = omega arith;
-  clear = (IsClear-from_tests (codes "client") refl refl, (IsClear-text Name user refl refl name, subst AreClear (client_words-parts ask) (clear_ask user ask fits)));
+  clear = (IsClear-from_tests (codes "client") refl refl, (IsClear-text Name user refl refl name, subst AreClear (client_words-parts ask) (clear_ask user ask fits built)));
   read = ap (option_map lines.Deliver) (client_message-words user ask name fits built);
 }
 

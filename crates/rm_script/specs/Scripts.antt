@@ -1,10 +1,8 @@
 -- Which bytes are which script.
-use Rattle.std.specs.Prelude.{◌≡◌, ℕ, ◌≤◌, ◌-◌, ◌^◌, List, [], ◌++◌, length, None, ◌⊎◌, All, codes}
-use Rattle.std.specs.Int.{IsInRange}
-use Rattle.rm_types.specs.Texts.{fault_of}
-use Rattle.rm_types.specs.declared.texts.TextKind.{TextKind}
+use Rattle.std.specs.Prelude.{◌≡◌, ℕ, ◌≤◌, List, [], ◌++◌, length, ◌⊎◌, All, codes}
+use Rattle.rm_types.specs.Frames.{IsText}
+use Rattle.rm_types.specs.IdTexts.{IsWithin, IsAppId}
 use Rattle.rm_types.specs.declared.texts.TextKind.TheVariants.{Name, Queue}
-use Rattle.rm_types.specs.declared.ids.AppId.{AppId}
 use Rattle.rm_types.specs.declared.messages.ClientAsk.{ClientAsk}
 use Rattle.rm_types.specs.declared.messages.ClientAsk.TheVariants.{New, Submit, Report, Kill}
 use Rattle.rm_types.specs.declared.messages.Message.{Message}
@@ -17,23 +15,14 @@ use Rattle.rm_types.specs.declared.scripts.Life.{Life}
 use Rattle.rm_types.specs.declared.scripts.Script.{Script}
 use Rattle.rm_script.specs.Spelling.{script_lines, script_text}
 
--- the bytes are a text of the kind
-abbrev pub IsText : TextKind → List ℕ → Type 0
-IsText kind bytes = fault_of kind bytes ≡ None
-
--- the stamp and the number of an application's id are in their ranges
-pub record IsAppId (id : AppId) : Type 0 where
-  pub stamp : IsInRange 1 (2 ^ 63 - 1) id.stamp
-  pub number : IsInRange 1 (2 ^ 31 - 1) id.number
-
 -- what the user submits is by that user, and each part of it is in its range
 pub record IsSubmission (user : List ℕ) (submission : Submission) : Type 0 where
   pub by_user : submission.user ≡ user
   pub queue : IsText Queue submission.queue
   pub name : IsText Name submission.name
-  pub memory : IsInRange 1 16777216 submission.master.memory_mb
-  pub vcores : IsInRange 1 256 submission.master.vcores
-  pub attempts : IsInRange 0 100 submission.attempts
+  pub memory : IsWithin 1 16777216 submission.master.memory_mb
+  pub vcores : IsWithin 1 256 submission.master.vcores
+  pub attempts : IsWithin 0 100 submission.attempts
 
 -- what the user asks has its parts in their ranges
 abbrev pub IsClientAsk : List ℕ → ClientAsk → Type 0
@@ -55,7 +44,7 @@ IsSegment segment = All IsMessage segment.messages
 
 -- the stamp of a life and its segments are in their ranges
 pub record IsLife (life : Life) : Type 0 where
-  pub stamp : IsInRange 1 1000000000000000 life.stamp
+  pub stamp : IsWithin 1 1000000000000000 life.stamp
   pub segments : All IsSegment life.segments
 
 -- what a client asks is of a kind that is read: a submission has no `modify`

@@ -5,7 +5,7 @@
 //! of a life, and the text of a script; `Scripts` says which bytes are which script; the others say what
 //! the private functions answer.
 //!
-//! It stands on the values of `rm_types`.
+//! It stands on the values of `rm_types`, and on the wording of messages in `rm_model`.
 #![tactic(auto)]
 
 mod clients;
