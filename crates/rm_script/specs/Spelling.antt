@@ -1,4 +1,4 @@
--- The one text of each script, put together as the grammar reads: words, lines, segments, lives.
+-- The one text of each script, put together as the grammar reads: lines, segments, lives. A message's is as on a page.
 use Rattle.std.specs.Prelude.{ℕ, List, [], ◌∷◌, ◌++◌, map, codes}
 use Rattle.std.specs.List.{flat_map}
 use Rattle.std.specs.Fmt.{decimal}

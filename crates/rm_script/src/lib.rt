@@ -1,9 +1,9 @@
 //! Reading a script: the lives of the manager, and the messages that it's given in each.
 //!
 //! It promises that a script is answered exactly where the bytes spell it, and that the same bytes spell
-//! one script at most. Of its `specs/`, `Spelling` has the text of a message, the lines of a segment and
-//! of a life, and the text of a script; `Scripts` says which bytes are which script; the others say what
-//! the private functions answer.
+//! one script at most. Of its `specs/`, `Spelling` has the lines of a segment and of a life, and the text
+//! of a script; `Scripts` says which bytes are which script; the others say what the private functions
+//! answer.
 //!
 //! It stands on the values of `rm_types`, and on the wording of messages in `rm_model`.
 #![tactic(auto)]
