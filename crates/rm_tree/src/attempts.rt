@@ -1,0 +1,84 @@
+ghost use Rattle.std.specs.Prelude.{◌≡◌, ◌&&◌, ◌+◌, ◌==◌, length, is_none, IfSome, IsTrue, OnOk, OnErr};
+ghost use Rattle.std.specs.Option.{option_copied, option_map};
+ghost use Rattle.rm_types.specs.Records.{all_ended, last_attempt};
+ghost use Rattle.rm_tree.specs.Changes.{is_unended_last, with_ended};
+ghost use Rattle.rm_tree.specs.Numbers.{AreAttemptsFrom};
+
+use rm_types::{AppRecord, AttemptId, AttemptRecord, Duplicate, How, NoMemory, Text};
+
+/// An application's last attempt, if it has one.
+fn last_attempt(app: &AppRecord) -> Option<&AttemptRecord>
+    ensures { option_copied result ≡ last_attempt app.now.attempts }
+{
+    app.attempts.as_slice().last()
+}
+
+/// Whether an application has no end and no attempt that goes on.
+pub fn has_stopped(app: &AppRecord) -> bool
+    ensures { result ≡ (is_none app.now.ending && all_ended app.now.attempts) }
+{
+    app.ending.is_none() && all_ended(app.attempts.as_slice())
+}
+
+/// Whether each attempt has ended.
+fn all_ended(attempts: &[AttemptRecord]) -> bool
+    ensures { result ≡ all_ended attempts.now }
+{
+    attempts.iter().all(|attempt| attempt.ending.is_some())
+}
+
+/// Whether an application may have an attempt of this number next.
+pub fn is_next_attempt(app: &AppRecord, number: u32) -> bool
+    ensures { result ≡ (is_none app.now.ending && (all_ended app.now.attempts && (number == length app.now.attempts + 1))) }
+{
+    has_stopped(app) && number != 0 && number as usize - 1 == app.attempts.len()
+}
+
+/// Whether an attempt is an application's last, and goes on.
+pub fn is_unended_last(app: &AppRecord, id: AttemptId) -> bool
+    ensures { result ≡ is_unended_last id app.now }
+{
+    match last_attempt(app) {
+        Some(last) => last.id == id && last.ending.is_none(),
+        None => false,
+    }
+}
+
+/// Says how a record's last attempt ended, if the record is there. `NoMemory` leaves it as it was.
+pub fn end_in_slot(
+    slot: &mut Option<AppRecord>,
+    id: AttemptId,
+    how: How,
+    text: &Text,
+) -> Result<(), NoMemory>
+    requires numbered { IfSome slot.old (λ app. AreAttemptsFrom app.id 0 app.attempts) }
+    requires last { IfSome slot.old (λ app. IsTrue (is_unended_last id app)) }
+    ensures ok { OnOk result (slot.new ≡ option_map (with_ended id how text.now) slot.old) }
+    ensures err { OnErr result (slot.new ≡ slot.old) }
+{
+    match slot {
+        Some(app) => end_last_attempt(app, id, how, text),
+        None => Ok(()),
+    }
+}
+
+/// Says how an application's last attempt ended. `NoMemory` leaves the record as it was.
+fn end_last_attempt(
+    app: &mut AppRecord,
+    id: AttemptId,
+    how: How,
+    text: &Text,
+) -> Result<(), NoMemory>
+    requires numbered { AreAttemptsFrom app.old.id 0 app.old.attempts }
+    requires last { IsTrue (is_unended_last id app.old) }
+    ensures ok { OnOk result (app.new ≡ with_ended id how text.now app.old) }
+    ensures err { OnErr result (app.new ≡ app.old) }
+{
+    let Some(last) = last_attempt(app) else {
+        return Ok(());
+    };
+    let mut ended = last.copy()?;
+    ended.ending = Some((how, text.copy()?));
+    app.attempts.set_last(ended);
+    Ok(())
+}

@@ -1,0 +1,152 @@
+ghost use Rattle.std.specs.Prelude.{◌≡◌, ◌<◌, length, slice_get, Some, Err, false, OnOk, OnErr, IfErr};
+ghost use Rattle.rm_tree.specs.declared.tree.TreeError.TheVariants.{Memory, Stray};
+ghost use Rattle.rm_types.specs.Records.{recorded, fits_records, no_records};
+
+use crate::apps::Apps;
+use crate::attempts::{has_stopped, is_next_attempt, is_unended_last};
+use rm_types::{AppRecord, NoMemory, Op};
+use std::alloc::Global;
+use std::marker::Model;
+
+/// Why an operation wasn't applied.
+#[derive(Clone, Copy, Debug, PartialEq, Eq)]
+pub enum TreeError {
+    /// The operation doesn't fit the records.
+    Stray,
+    /// No memory was found, or 2^64 - 1 operations were applied before.
+    Memory,
+}
+
+impl From<NoMemory> for TreeError {
+    ghost from_gives = { λ _ error. error ≡ Memory };
+
+    fn from(_refused: NoMemory) -> TreeError {
+        TreeError::Memory
+    }
+}
+
+/// What the operations applied so far amount to. Contracts see the records of their list.
+#[derive(Drop)]
+pub struct Tree {
+    alloc: Global,
+    next_epoch: u32,
+    stamp: u64,
+    applied: u64,
+    apps: Apps,
+}
+
+impl Model for Tree {
+    ghost use Rattle.rm_types.specs.Records.{Records};
+
+    ghost Value = { Records };
+
+    ghost view = { λ a. record { next_epoch = a.next_epoch; stamp = a.stamp; apps = a.apps; told = a.applied } };
+}
+
+impl Tree {
+    /// The tree of no operation. It takes no memory.
+    pub fn new(alloc: Global) -> Tree
+        ensures { result ≡ no_records }
+    {
+        Tree {
+            alloc,
+            next_epoch: 0,
+            stamp: 0,
+            applied: 0,
+            apps: Apps::new(alloc),
+        }
+    }
+
+    /// The epoch that the next life has: 0 before the first `Epoch`.
+    pub fn next_epoch(&self) -> u32
+        ensures { result ≡ self.now.next_epoch }
+    {
+        self.next_epoch
+    }
+
+    /// The stamp of the last life: 0 before the first `Epoch`.
+    pub fn stamp(&self) -> u64
+        ensures { result ≡ self.now.stamp }
+    {
+        self.stamp
+    }
+
+    /// How many operations were applied.
+    pub fn applied(&self) -> u64
+        ensures { result ≡ self.now.told }
+    {
+        self.applied
+    }
+
+    /// How many applications are kept.
+    pub fn len(&self) -> usize
+        ensures { result ≡ length self.now.apps }
+    {
+        self.apps.len()
+    }
+
+    /// The record of the application at a place in kept order, which is below the length.
+    pub fn at(&self, place: usize) -> &AppRecord
+        requires { place < length self.now.apps }
+        ensures { slice_get self.now.apps place ≡ Some result.now }
+    {
+        self.apps.get(place).unwrap()
+    }
+
+    /// Makes room for nothing and changes nothing that is seen: after it the record at a place is found
+    /// without a walk.
+    pub fn close_gaps(&mut self)
+        ensures { self.new ≡ self.old }
+    {
+        self.apps.close_gaps();
+    }
+
+    /// Applies one more operation. It is `Stray` exactly where it doesn't fit the records; any refusal leaves
+    /// the tree as it was.
+    pub fn apply(&mut self, op: &Op) -> Result<(), TreeError>
+        ensures stray { fits_records self.old op.now ≡ false → result ≡ Err Stray }
+        ensures only_stray { IfErr result (λ error. error ≡ Stray → fits_records self.old op.now ≡ false) }
+        ensures ok { OnOk result (self.new ≡ recorded self.old op.now) }
+        ensures err { OnErr result (self.new ≡ self.old) }
+    {
+        if !self.fits(op) {
+            return Err(TreeError::Stray);
+        }
+        let Some(applied) = self.applied.checked_add(1) else {
+            return Err(TreeError::Memory);
+        };
+        self.apps.record(self.alloc, op, self.applied)?;
+        if let Op::Epoch { next, stamp } = op {
+            self.next_epoch = *next;
+            self.stamp = *stamp;
+        }
+        self.applied = applied;
+        Ok(())
+    }
+
+    /// Whether an operation fits the records.
+    fn fits(&self, op: &Op) -> bool
+        ensures { result ≡ fits_records self.now op.now }
+    {
+        match op {
+            Op::Epoch { next, stamp } => self.next_epoch < *next && self.stamp < *stamp,
+            Op::App { id, .. } => self.apps.find(*id).is_none(),
+            Op::Attempt { id, .. } => match self.apps.find(id.app) {
+                Some(app) => is_next_attempt(app, id.number),
+                None => false,
+            },
+            Op::AttemptEnd { id, .. } => match self.apps.find(id.app) {
+                Some(app) => is_unended_last(app, *id),
+                None => false,
+            },
+            Op::AppEnd { id, .. } => match self.apps.find(*id) {
+                Some(app) => has_stopped(app),
+                None => false,
+            },
+            Op::Remove { id } => match self.apps.find(*id) {
+                Some(app) => app.ending.is_some(),
+                None => false,
+            },
+        }
+    }
+}
