@@ -1,0 +1,36 @@
+-- The table of transitions of an application. This project's own, after the state machine of YARN's `RMAppImpl`.
+use Rattle.rm_types.specs.declared.operations.How.{How}
+use Rattle.rm_types.specs.declared.operations.How.TheVariants.{Finished as Well, Failed as Badly, Killed as ByKill}
+use Rattle.rm_app.specs.declared.states.AppState.{AppState}
+use Rattle.rm_app.specs.declared.states.AppState.TheVariants.{New, NewSaving, Submitted, Accepted, Running, Killing, FinalSaving, Finished, Failed, Killed}
+use Rattle.rm_app.specs.declared.states.AppEvent.{AppEvent}
+use Rattle.rm_app.specs.declared.states.AppEvent.TheVariants.{Start, Kept, Accept, Register, Failed as AttemptFailed, Kill, End, EndKept}
+use Rattle.rm_app.specs.declared.states.AppAction.{AppAction}
+use Rattle.rm_app.specs.declared.states.AppAction.TheVariants.{IssueApp, PostSaved, PostAttempt, IssueEnd, PostRetire, Nothing}
+
+-- the state that an end leads to
+abbrev pub state_of : How → AppState
+state_of Well = Finished
+state_of Badly = Failed
+state_of ByKill = Killed
+
+-- a row of the table: in a state, at an event, the next state and what is then to be done; what has no row is ignored
+pub data Row : AppState → AppEvent → AppState → AppAction → Type 0 where
+  start : Row New Start NewSaving IssueApp
+  kept : Row NewSaving Kept Submitted PostSaved
+  accept : Row Submitted Accept Accepted PostAttempt
+  register : Row Accepted Register Running Nothing
+  attempt_failed : Row Running AttemptFailed Accepted Nothing
+  kill_accepted : Row Accepted Kill Killing Nothing
+  kill_running : Row Running Kill Killing Nothing
+  end_submitted : Row Submitted End FinalSaving IssueEnd
+  end_accepted : Row Accepted End FinalSaving IssueEnd
+  end_running : Row Running End FinalSaving IssueEnd
+  end_killing : Row Killing End FinalSaving IssueEnd
+  finished : Row FinalSaving (EndKept Well) Finished PostRetire
+  failed : Row FinalSaving (EndKept Badly) Failed PostRetire
+  killed : Row FinalSaving (EndKept ByKill) Killed PostRetire
+
+-- no row leads from the state
+abbrev pub IsFinal : AppState → Type 0
+IsFinal state = (event : AppEvent) (next : AppState) (action : AppAction) → ¬ Row state event next action

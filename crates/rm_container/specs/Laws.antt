@@ -1,0 +1,35 @@
+-- What holds of the table of transitions of a container.
+use Rattle.std.specs.Prelude.{◌≡◌, ◌<◌, ◌⊎◌, ℕ}
+use Rattle.rm_types.specs.declared.containers.ContainerState.{ContainerState}
+use Rattle.rm_types.specs.declared.containers.ContainerState.TheVariants.{Granted, Acquired, Running, Completed}
+use Rattle.rm_container.specs.declared.states.ContainerEvent.{ContainerEvent}
+use Rattle.rm_container.specs.declared.states.ContainerEvent.TheVariants.{Run, End}
+use Rattle.rm_container.specs.declared.states.ContainerAction.{ContainerAction}
+use Rattle.rm_container.specs.declared.states.ContainerAction.TheVariants.{Nothing}
+use Rattle.rm_container.specs.Table.{Row}
+
+-- a state and an event have at most one row
+abbrev pub RowsAreOne : Type 0
+RowsAreOne = (state : ContainerState) (event : ContainerEvent) (next other : ContainerState) (action another : ContainerAction)
+    → Row state event next action → Row state event other another → (next ≡ other) × (action ≡ another)
+
+-- how far a state is
+abbrev pub place_of : ContainerState → ℕ
+place_of Granted = 0
+place_of Acquired = 1
+place_of Running = 2
+place_of Completed = 3
+
+-- each row leads to a later state: granted, told, running and ended come in this order, and none comes twice
+abbrev pub RowsGoForward : Type 0
+RowsGoForward = (state : ContainerState) (event : ContainerEvent) (next : ContainerState) (action : ContainerAction)
+    → Row state event next action → place_of state < place_of next
+
+-- a row to where a container runs begins where it is granted or told, and comes by its node's report; a row to where it
+-- ended comes by its end, which has a row wherever the container hasn't ended
+pub record RunsAndEnds : Type 0 where
+  pub running : (state : ContainerState) (event : ContainerEvent) (action : ContainerAction)
+      → Row state event Running action → ((state ≡ Granted) ⊎ (state ≡ Acquired)) × (event ≡ Run)
+  pub completed : (state : ContainerState) (event : ContainerEvent) (action : ContainerAction)
+      → Row state event Completed action → event ≡ End
+  pub ends : (state : ContainerState) → ¬ (state ≡ Completed) → Row state End Completed Nothing
