@@ -1,0 +1,22 @@
+-- The numbers in the texts of ids: digits and ranges as `IdTexts` of `rm_types` has them, as a table.
+use Rattle.std.specs.Prelude.{ℕ, ◌-◌, ◌^◌}
+use Rattle.rm_ids.specs.declared.parts.Part.{Part}
+use Rattle.rm_ids.specs.declared.parts.Part.TheVariants.{Stamp, AppNumber, AttemptNumber, AttemptInContainer, Epoch, Sequence}
+
+-- in how many digits it is written at least
+abbrev pub least_digits : Part → ℕ
+least_digits Stamp = 1
+least_digits AppNumber = 4
+least_digits AttemptNumber = 6
+least_digits AttemptInContainer = 2
+least_digits Epoch = 2
+least_digits Sequence = 6
+
+-- the greatest; the least is 1
+abbrev pub greatest : Part → ℕ
+greatest Stamp = 2 ^ 63 - 1
+greatest AppNumber = 2 ^ 31 - 1
+greatest AttemptNumber = 2 ^ 31 - 1
+greatest AttemptInContainer = 2 ^ 31 - 1
+greatest Epoch = 2 ^ 24 - 1
+greatest Sequence = 2 ^ 40 - 1
