@@ -127,7 +127,7 @@ opened old now j size so_far is cursor sound found = record {
     inside = so_far.inside;
     first = omega (arith, cursor);
     last = omega (arith, cursor, so_far.low, so_far.high);
-    payloads = λ bytes told. let there = found bytes told in record { given = []; left = there.all; holds = there.holds; place = omega (arith, cursor) };
+    payloads = λ bytes told. let there = found bytes told in record { given = []; left = there.all; read = record { holds = there.holds; place = omega (arith, cursor) } };
     gate = λ _ bytes told all has. let there = found bytes told in there.place ∙ ap (λ (l : List (List ℕ)). j.from + length (records_of l)) (unique (region_of j.from j.end bytes) there.all all there.holds has);
     images = λ _ bytes told image now_image all has. let same : bytes ≡ image = cc (so_far.durable image now_image) in subst (λ (l : List ℕ). HasPayloads (region_of j.from j.end l) all) same has;
   };

@@ -22,8 +22,10 @@ more_left : (p : Place) (payload bytes now : List ℕ) (left : HasLeft p bytes) 
 more_left p payload bytes now left has = record {
   given = left.given;
   left = left.left ++ payload ∷ [];
-  holds = subst (λ (l : List (List ℕ)). RegionHas p now l) (append_assoc left.given left.left (payload ∷ [])) has;
-  place = left.place;
+  read = record {
+    holds = subst (λ (l : List (List ℕ)). RegionHas p now l) (append_assoc left.given left.left (payload ∷ [])) has;
+    place = left.read.place;
+  };
 }
 
 -- A journal that a fault broke still stands, since each image has what it had before, or one payload more.
@@ -35,11 +37,11 @@ broken_stands v0 v1 p payload stands goes_on either reads = record {
   payloads = λ bytes told.
       let was = told_before v0 v1 goes_on bytes told in
       let left = stands.payloads was.0 was.1 in
-      elim ((either was.0 was.1 (left.given ++ left.left) left.holds).now bytes (reads bytes told)) [
-        | inl same ↦ record { given = left.given; left = left.left; holds = same; place = left.place }
+      elim ((either was.0 was.1 (left.given ++ left.left) left.read.holds).now bytes (reads bytes told)) [
+        | inl same ↦ record { given = left.given; left = left.left; read = record { holds = same; place = left.read.place } }
         | inr more ↦
             let on = more_left p payload was.0 bytes left more in
-            record { given = on.given; left = on.left; holds = on.holds; place = on.place }
+            record { given = on.given; left = on.left; read = record { holds = on.read.holds; place = on.read.place } }
       ];
   gate = λ never. absurd (true≢false never);
   images = λ never. absurd (true≢false never);
@@ -118,14 +120,14 @@ module _ (v0 : DiskView) (p : Place) (payload body : List ℕ) (body_is : body �
           payloads = λ b2 told2.
               let was = told_first b2 told2 in
               let left = stands.payloads was.0 was.1 in
-              let on = more_left p payload was.0 b2 left ((adds was.0 was.1 (left.given ++ left.left) left.holds).1 b2 told2) in
-              record { given = on.given; left = on.left; holds = on.holds; place = on.place };
+              let on = more_left p payload was.0 b2 left ((adds was.0 was.1 (left.given ++ left.left) left.read.holds).1 b2 told2) in
+              record { given = on.given; left = on.left; read = record { holds = on.read.holds; place = on.read.place } };
           gate = λ _ b2 told2 all has.
               let was = told_first b2 told2 in
               let left = stands.payloads was.0 was.1 in
               let before = left.given ++ left.left in
-              let same : all ≡ before ++ payload ∷ [] = unique _ all (before ++ payload ∷ []) has ((adds was.0 was.1 before left.holds).1 b2 told2) in
-              omega (arith, gate_is, stands.gate sound was.0 was.1 before left.holds, length-records_push before payload, ap (λ (l : List (List ℕ)). length (records_of l)) same);
+              let same : all ≡ before ++ payload ∷ [] = unique _ all (before ++ payload ∷ []) has ((adds was.0 was.1 before left.read.holds).1 b2 told2) in
+              omega (arith, gate_is, stands.gate sound was.0 was.1 before left.read.holds, length-records_push before payload, ap (λ (l : List (List ℕ)). length (records_of l)) same);
           images = λ _ b2 told2 c now all has.
               let was = told_first b2 told2 in
               let same : c ≡ b2 = image_is was.0 was.1 c now ∙ sym (some_same (final was.0) b2 v2.told (final_is was.0 was.1) told2) in

@@ -23,11 +23,15 @@ abbrev pub RegionHas : Place → List ℕ → List (List ℕ) → Type 0
 RegionHas journal bytes payloads = HasPayloads (region_of journal.from journal.end bytes) payloads
 
 -- The region holds the payloads that were given and those that are left, and the cursor stands between them.
+pub record HasRead (journal : Place) (bytes : List ℕ) (given left : List (List ℕ)) : Type 0 where
+  pub holds : RegionHas journal bytes (given ++ left)
+  pub place : journal.cursor ≡ journal.from + length (records_of given)
+
+-- The same of some payloads.
 pub record HasLeft (journal : Place) (bytes : List ℕ) : Type 0 where
   pub given : List (List ℕ)
   pub left : List (List ℕ)
-  pub holds : RegionHas journal bytes (given ++ left)
-  pub place : journal.cursor ≡ journal.from + length (records_of given)
+  pub read : HasRead journal bytes given left
 
 -- A journal stands on a disk: its region is there and the cursor in it, the region holds payloads, and unless the
 -- journal is broken each image of the region holds the same, and the gate stands behind their records.
@@ -58,12 +62,12 @@ FindsAt gate end bytes (Some many) =
 abbrev pub FindsDamage : ℕ → ℕ → List ℕ → Type 0
 FindsDamage gate end bytes = (rest : List ℕ) × NoRecord rest × (region_of gate end bytes ≡ 1 ∷ rest)
 
--- What a journal gives of the payloads that are left from its cursor on: nothing where none is left, and then it
--- stays as it is; or the first, with its gate, and the others are left from the new cursor on.
-abbrev pub GivesNext : Place → Place → List ℕ → List ℕ → List ℕ → List (List ℕ) → Option ℕ → Type 0
-GivesNext old new before now bytes left None = (left ≡ []) × (new ≡ old) × (now ≡ before)
-GivesNext old new before now bytes left (Some gate) =
-    (gate ≡ old.cursor) × (others : List (List ℕ)) × (left ≡ now ∷ others) × HasPayloads (region_of new.cursor new.end bytes) others
+-- What a journal gives after some payloads, where others are left: nothing where none is left, and then it stays as it
+-- is; or the first that is left, with its gate, and then that one was given too.
+abbrev pub GivesNext : Place → Place → List ℕ → List ℕ → List ℕ → List (List ℕ) → List (List ℕ) → Option ℕ → Type 0
+GivesNext old new before now bytes given left None = (left ≡ []) × (new ≡ old) × (now ≡ before)
+GivesNext old new before now bytes given left (Some gate) =
+    (gate ≡ old.cursor) × (others : List (List ℕ)) × (left ≡ now ∷ others) × HasRead new bytes (given ++ now ∷ []) others
 
 -- At each moment each image has the payloads that the region had before, or these and the new one.
 abbrev pub LeavesEither : DiskView → DiskView → Place → List ℕ → Type 0

@@ -3,7 +3,7 @@ ghost use Rattle.rm_disk.specs.Disk.{Tells, MayWrite, IsQuiet};
 ghost use Rattle.rm_types.specs.Counts.{Rose};
 ghost use Rattle.rm_model.specs.Device.{sized, HasPayloads, IsDamagedAt};
 ghost use Rattle.rm_journal.specs.Fault.{IsReadError, IsAppendError, IsRefusal};
-ghost use Rattle.rm_journal.specs.Journal.{region_of, Place, Stands, IsOpened, GivesNext, LeavesEither, Adds, StaysInRegion, broken_after};
+ghost use Rattle.rm_journal.specs.Journal.{region_of, Place, Stands, HasRead, IsOpened, GivesNext, LeavesEither, Adds, StaysInRegion, broken_after};
 
 use crate::fault::JournalError;
 use crate::region::{Region, record_at, write_through};
@@ -127,7 +127,7 @@ impl Journal {
     ) -> Result<Option<u64>, JournalError>
         requires { Stands (D.view disk.old) self.old }
         ensures stands { Stands (D.view disk.new) self.new }
-        ensures next { IfOk result (λ gate. Tells (D.view disk.old) (λ bytes. (left : List (List ℕ)) → HasPayloads (region_of self.old.cursor self.old.end bytes) left → GivesNext self.old self.new out.old.items out.new.items bytes left gate)) }
+        ensures next { IfOk result (λ gate. Tells (D.view disk.old) (λ bytes. (given left : List (List ℕ)) → HasRead self.old bytes given left → GivesNext self.old self.new out.old.items out.new.items bytes given left gate)) }
         ensures others { self.new ≡ record self.old { cursor = self.new.cursor } }
         ensures on { IfOk result (λ gate. IfSome gate (λ _. (self.old.cursor < self.new.cursor) × (self.new.cursor ≤ self.new.end))) }
         ensures err { OnErr result ((self.new ≡ self.old) × (out.new.items ≡ out.old.items)) }
@@ -185,6 +185,7 @@ impl Journal {
         ensures errors { IfErr result IsAppendError }
         ensures reopen { (result ≡ Err JournalError.NeedsReopen) ↔ (self.old.is_broken ≡ true) }
         ensures full { self.old.is_broken ≡ false → (result ≡ Err (JournalError.Full (length payload.now + 6) (self.old.end - self.old.gate))) ↔ (self.old.end - self.old.gate < length payload.now + 6) }
+        ensures only_full { (needed room : ℕ) → result ≡ Err (JournalError.Full needed room) → (needed ≡ length payload.now + 6) × (room ≡ self.old.end - self.old.gate) × (room < needed) }
         ensures fault { IsErrOf result JournalError.DiskFault → Rose (D.view disk.old).faults (D.view disk.new).faults }
     {
         if self.is_broken {

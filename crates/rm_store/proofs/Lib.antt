@@ -1,0 +1,5 @@
+pub mod Faultless
+pub mod Ops
+pub mod SoFar
+pub mod Why
+pub mod Writes

@@ -1,0 +1,45 @@
+-- Why a store was refused.
+use Rattle.std.proofs.Common.{◌≡◌, ℕ, false, List, length, inl, inr, refl, sym, subst}
+use Rattle.rm_types.specs.declared.operations.Op.{Op}
+use Rattle.rm_types.specs.Frames.{frame, CanBeFramed}
+use Rattle.rm_types.specs.Records.{records, fits_records}
+use Rattle.rm_model.specs.Device.{IsDamagedAt}
+use Rattle.rm_journal.specs.declared.fault.JournalError.{JournalError}
+use Rattle.rm_journal.specs.declared.fault.JournalError.TheVariants as journal
+use Rattle.rm_store.specs.declared.fault.StoreError.{StoreError}
+use Rattle.rm_store.specs.declared.fault.StoreError.TheVariants.{DiskFault, Damaged, Stray, Full, NeedsReopen, Memory}
+use Rattle.rm_store.specs.Causes.{ReadsUpTo, IsWhy}
+use Rattle.rm_store.specs.Errors.{of_journal}
+use Rattle.rm_store.specs.Reading.{IsFrameOf}
+
+-- the journal's damage
+pub why_open : (bytes : List ℕ) (error : JournalError) → ((offset : ℕ) → error ≡ journal.Damaged offset → IsDamagedAt bytes offset) → IsWhy bytes (of_journal error)
+why_open bytes journal.DiskFault damaged = tt
+why_open bytes (journal.Damaged offset) damaged = inl (damaged offset refl)
+why_open bytes (journal.Full needed room) damaged = tt
+why_open bytes journal.NeedsReopen damaged = tt
+why_open bytes journal.Memory damaged = tt
+
+-- a payload behind operations that is no frame, or whose operation is stray
+pub why_taken : (bytes payload : List ℕ) (ops : List Op) (gate : ℕ) (error : StoreError) → ReadsUpTo bytes ops payload gate
+    → ((offset : ℕ) → error ≡ Damaged offset → (offset ≡ gate) × ((op : Op) → CanBeFramed op → payload ≡ frame op → ⊥))
+    → ((number offset : ℕ) → error ≡ Stray number offset → (offset ≡ gate) × (number ≡ length ops) × ((op : Op) × IsFrameOf payload op × (fits_records (records ops) op ≡ false)))
+    → IsWhy bytes error
+why_taken bytes payload ops gate DiskFault reads damaged stray = tt
+why_taken bytes payload ops gate (Damaged offset) reads damaged stray =
+    let d = damaged offset refl in
+    inr (record { ops = ops; payload = payload; reads = subst (ReadsUpTo bytes ops payload) (sym d.0) reads; no_frame = d.1 })
+why_taken bytes payload ops gate (Stray number offset) reads damaged stray =
+    let s = stray number offset refl in
+    let here = subst (ReadsUpTo bytes ops payload) (sym s.0) reads in
+    record {
+      ops = ops;
+      op = s.2.0;
+      reads = subst (λ p. ReadsUpTo bytes ops p offset) s.2.1.is here;
+      can = s.2.1.can;
+      stray = s.2.2;
+      number_is = s.1;
+    }
+why_taken bytes payload ops gate (Full needed room) reads damaged stray = tt
+why_taken bytes payload ops gate NeedsReopen reads damaged stray = tt
+why_taken bytes payload ops gate Memory reads damaged stray = tt

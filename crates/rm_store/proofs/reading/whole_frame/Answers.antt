@@ -1,0 +1,23 @@
+use Rattle.std.proofs.Common.{◌≡◌, ℕ, List, length, take_all, ◌∙◌, arith}
+use Rattle.rm_types.specs.declared.operations.Op.{Op}
+use Rattle.rm_types.specs.Frames.{frame, CanBeFramed}
+use Rattle.rm_frame.specs.Framed.{IsFramed}
+use Rattle.rm_store.proofs.reading.whole_frame.Goals as goal
+
+whole : (payload : List ℕ) (op : Op) → CanBeFramed op → payload ≡ frame op → IsFramed payload op (length payload)
+whole payload op can e = record { can = can; within = omega arith; is = take_all (length payload) payload (omega arith) ∙ e }
+
+pub returns-then-count-payload-clause-damaged : goal.returns-then-count-payload-clause-damaged
+returns-then-count-payload-clause-damaged c = λ offset e. (
+  let f : offset ≡ c.args.gate = cc in f,
+  λ op can is.
+      let same = c.in-Ok.ensures.only op (length c.args.payload.now) (whole c.args.payload.now op can is) in
+      absurd (omega (arith, same.1, c.if-count-payload.true)),
+)
+
+pub returns-in-Err-BadFrame-clause-damaged : goal.returns-in-Err-BadFrame-clause-damaged
+returns-in-Err-BadFrame-clause-damaged c = λ offset e. (
+  let f : offset ≡ c.args.gate = cc in f,
+  λ op can is.
+      c.in-Err-BadFrame.ensures.no_frame _ c.in-Err-BadFrame.field-0-is op (length c.args.payload.now) (whole c.args.payload.now op can is),
+)

@@ -1,0 +1,4 @@
+pub mod Causes
+pub mod Errors
+pub mod Reading
+pub mod Store

@@ -1,0 +1,64 @@
+-- A store of operations on a disk that may fall at any moment.
+use Rattle.std.specs.Prelude.{◌≡◌, ◌⊎◌, ◌+◌, ◌-◌, ℕ, Bool, false, None, Some, List, [], ◌∷◌, ◌++◌, length, map, All}
+use Rattle.rm_types.specs.declared.operations.Op.{Op}
+use Rattle.rm_types.specs.Frames.{frame, CanBeFramed}
+use Rattle.rm_types.specs.Records.{Records, records, stray}
+use Rattle.rm_model.specs.Device.{Holds, records_of}
+use Rattle.rm_disk.specs.Disk.{DiskView, EachImage, AtEachMoment}
+use Rattle.rm_disk.specs.Fuse.{Fused, fused_view}
+use Rattle.rm_journal.specs.Journal.{Place, Stands}
+
+-- A store as contracts see it: its disk under a fuse, its journal there, and whether a fault broke it.
+pub record StoreState (D : Type 0) : Type 0 where
+  pub disk : Fused D
+  pub journal : Place
+  pub is_broken : Bool
+
+-- A store with another state of its disk.
+abbrev pub with_disk : {D : Type 0} → StoreState D → Fused D → StoreState D
+with_disk store disk = record store { disk = disk }
+
+-- A disk under a fuse, as a disk.
+abbrev pub seen : {D : Type 0} → (D → DiskView) → Fused D → DiskView
+seen view fuse = fused_view (view fuse.inner) fuse.refused
+
+-- A journal stands on a whole disk: nothing but the journal changed the disk's bytes since it was opened.
+pub record IsWhole (disk : DiskView) (journal : Place) : Type 0 where
+  pub stands : Stands disk journal
+  pub from : journal.from ≡ 0
+  pub end : journal.end ≡ disk.size
+
+-- A store stands: nothing but the store changed its disk's bytes since it was opened, and its journal isn't broken where
+-- the store isn't.
+pub record IsSound {D : Type 0} (view : D → DiskView) (store : StoreState D) : Type 0 where
+  pub journal : IsWhole (seen view store.disk) store.journal
+  pub unbroken : store.is_broken ≡ false → store.journal.is_broken ≡ false
+
+-- What was read: the parts of each operation are in their ranges, none is stray, and the tree is their records.
+pub record AreRead (tree : Records) (ops : List Op) : Type 0 where
+  pub framed : All CanBeFramed ops
+  pub none_stray : stray ops ≡ None
+  pub amounts : tree ≡ records ops
+
+-- The disk tells its bytes, and they hold these operations.
+pub record Has (disk : DiskView) (ops : List Op) : Type 0 where
+  pub bytes : List ℕ
+  pub told : disk.told ≡ Some bytes
+  pub holds : Holds bytes ops
+
+-- At each moment a crash leaves these operations, or these and the new one.
+abbrev pub LeavesOps : DiskView → DiskView → List Op → Op → Type 0
+LeavesOps old new ops op = AtEachMoment old new (λ image. Holds image ops ⊎ Holds image (ops ++ op ∷ []))
+
+-- The disk has these operations and the new one, and a crash now leaves them.
+pub record AddsOp (disk : DiskView) (ops : List Op) (op : Op) : Type 0 where
+  pub now : Has disk (ops ++ op ∷ [])
+  pub images : EachImage disk (λ image. Holds image (ops ++ op ∷ []))
+
+-- How many bytes a disk must have left for one more operation: its frame's, a length's, and two gates'.
+abbrev pub needed_for : Op → ℕ
+needed_for op = length (frame op) + 6
+
+-- How many bytes a disk of so many has left behind the records of these operations.
+abbrev pub room_behind : ℕ → List Op → ℕ
+room_behind size ops = size - length (records_of (map frame ops))

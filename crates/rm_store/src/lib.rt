@@ -1,0 +1,19 @@
+//! The store: the manager's operations, kept on a disk that may fail and fall at any moment.
+//!
+//! `Store::open` gives the operations that a disk holds and what they amount to, or says which one is at
+//! fault; `append` adds one, so that a crash at any moment leaves the operations from before, or these and
+//! the new one. Its contracts speak of operations alone: what bytes they are on a disk is `Holds`, in
+//! `specs/Device.antt` of `rm_model`.
+//!
+//! It stands on `rm_journal`, `rm_frame` and `rm_tree`, and on the definitions of `rm_model`.
+#![tactic(auto)]
+
+mod fault;
+mod reading;
+mod store;
+#[cfg(test)]
+mod tests;
+mod writing;
+
+pub use fault::StoreError;
+pub use store::{OpenFail, Store};

@@ -1,0 +1,149 @@
+ghost use Rattle.std.specs.Prelude.{◌≡◌, ◌⊎◌, ◌↔◌, ◌<◌, ℕ, List, Bool, true, false, is_ok, OnOk, IfOk, IfErr, IsErrOf, MatchResult, Err};
+ghost use Rattle.rm_types.specs.declared.operations.Op.{Op as AnyOp};
+ghost use Rattle.rm_types.specs.Counts.{Rose};
+ghost use Rattle.rm_types.specs.Frames.{CanBeFramed};
+ghost use Rattle.rm_types.specs.Records.{records, fits_records};
+ghost use Rattle.rm_model.specs.Device.{Holds};
+ghost use Rattle.rm_disk.specs.Disk.{Tells, IsQuiet, GoesOn};
+ghost use Rattle.rm_disk.specs.Fuse.{KeepsFuse};
+ghost use Rattle.rm_store.specs.Causes.{IsWhy, IsFaultless};
+ghost use Rattle.rm_store.specs.Errors.{IsOpenError, IsAppendError, IsRefusal, broken_after};
+ghost use Rattle.rm_store.specs.Store.{with_disk, seen, IsWhole, IsSound, AreRead, Has, LeavesOps, AddsOp, needed_for, room_behind};
+
+use crate::fault::StoreError;
+use crate::reading::{Read, read_all};
+use crate::writing::write_op;
+use rm_disk::{Disk, Fuse};
+use rm_journal::Journal;
+use rm_tree::Tree;
+use rm_types::{Items, Op};
+use std::alloc::Global;
+use std::marker::Model;
+
+/// The operations on a disk under a fuse, from its first byte to its last.
+#[derive(Drop)]
+pub struct Store<D: Disk> {
+    disk: Fuse<D>,
+    journal: Journal,
+    frame: Vec<u8>,
+    is_broken: bool,
+}
+
+impl<D: Disk> Model for Store<D> {
+    ghost use Rattle.rm_store.specs.Store.{StoreState};
+
+    ghost Value = { StoreState D };
+
+    ghost view = { λ s. record { disk = s.disk; journal = s.journal; is_broken = s.is_broken } };
+}
+
+/// Why a store was not opened, and its disk.
+#[derive(Drop)]
+pub struct OpenFail<D: Disk> {
+    pub why: StoreError,
+    pub disk: Fuse<D>,
+}
+
+impl<D: Disk> Store<D> {
+    ghost use Rattle.std.specs.Borrow.{Lends, sem};
+    ghost use Rattle.rm_disk.specs.contracts.fuse.Fuse as fuse;
+    ghost use Rattle.rm_store.specs.contracts.store.Store.{the_row};
+
+    /// Reads the operations of a disk, and what they amount to. Of those no part is out of its range, and none
+    /// is stray, also on a disk that tells no bytes. The time is linear in what the disk holds.
+    ///
+    /// `Damaged` and `Stray` come exactly where the disk holds no operations, and name the first fault;
+    /// `DiskFault` only where the disk's count of faults rose. A refusal hands the disk back. On every outcome
+    /// a read of the disk gives what it gave.
+    pub fn open(alloc: Global, disk: Fuse<D>) -> Result<(Store<D>, Tree, Items<Op>), OpenFail<D>>
+        ensures sound { IfOk result (λ opened. IsSound D.view opened.0) }
+        ensures unbroken { IfOk result (λ opened. opened.0.is_broken ≡ false) }
+        ensures read { IfOk result (λ opened. AreRead opened.1 opened.2) }
+        ensures holds { IfOk result (λ opened. Tells (seen D.view disk) (λ bytes. Holds bytes opened.2)) }
+        ensures faultless { OnOk result (Tells (seen D.view disk) IsFaultless) }
+        ensures why { IfErr result (λ refused. Tells (seen D.view disk) (λ bytes. IsWhy bytes refused.why)) }
+        ensures quiet { MatchResult result (λ opened. IsQuiet (seen D.view disk) (seen D.view opened.0.disk)) (λ refused. IsQuiet (seen D.view disk) (seen D.view refused.disk)) }
+        ensures kept { MatchResult result (λ opened. KeepsFuse (D.keeps true) true disk opened.0.disk) (λ refused. KeepsFuse (D.keeps false) false disk refused.disk) }
+        ensures fault { IfErr result (λ refused. refused.why ≡ StoreError.DiskFault → Rose (seen D.view disk).faults (seen D.view refused.disk).faults) }
+        ensures errors { IfErr result (λ refused. IsOpenError refused.why) }
+    {
+        let mut disk = disk;
+        match read_all(alloc, &mut disk) {
+            Ok(Read { journal, tree, ops }) => {
+                let store = Store {
+                    disk,
+                    journal,
+                    frame: Vec::new(alloc),
+                    is_broken: false,
+                };
+                Ok((store, tree, ops))
+            }
+            Err(why) => Err(OpenFail { why, disk }),
+        }
+    }
+
+    /// Adds an operation, whose parts are in their ranges, behind those that are stored. Nothing but this
+    /// store changed the disk's bytes since it was opened.
+    ///
+    /// At every moment a crash leaves the operations from before, or these and the new one; after `Ok` it
+    /// leaves the new one too. `NeedsReopen` comes exactly where an earlier append answered `DiskFault` or
+    /// `Memory`; else `Full` exactly where the room behind the stored operations is less than what is needed;
+    /// both leave all as it was. `DiskFault` comes only where the disk's count of faults rose.
+    pub fn append(&mut self, op: &Op) -> Result<(), StoreError>
+        requires sound { IsSound D.view self.old }
+        requires op { CanBeFramed op.now }
+
+        ensures sound { IsSound D.view self.new }
+        ensures broken { self.new.is_broken ≡ broken_after result self.old.is_broken }
+
+        // A crash at any moment leaves the operations from before, or these and the new one.
+        ensures any_moment { self.old.is_broken ≡ false → (ops : List AnyOp) → Has (seen D.view self.old.disk) ops → fits_records (records ops) op.now ≡ true → LeavesOps (seen D.view self.old.disk) (seen D.view self.new.disk) ops op.now }
+        ensures added { OnOk result ((ops : List AnyOp) → Has (seen D.view self.old.disk) ops → fits_records (records ops) op.now ≡ true → AddsOp (seen D.view self.new.disk) ops op.now) }
+        ensures kept { KeepsFuse (D.keeps (is_ok result)) (is_ok result) self.old.disk self.new.disk }
+        ensures goes_on { GoesOn (seen D.view self.old.disk) (seen D.view self.new.disk) }
+
+        // When each error comes, and what it leaves.
+        ensures errors { IfErr result IsAppendError }
+        ensures refused { IfErr result (λ error. IsRefusal error → self.new ≡ self.old) }
+        ensures reopen { (result ≡ Err StoreError.NeedsReopen) ↔ (self.old.is_broken ≡ true) }
+        ensures full { self.old.is_broken ≡ false → (ops : List AnyOp) → Has (seen D.view self.old.disk) ops → room_behind (seen D.view self.old.disk).size ops < needed_for op.now
+            → (result ≡ Err (StoreError.Full (needed_for op.now) (room_behind (seen D.view self.old.disk).size ops))) ⊎ (result ≡ Err StoreError.Memory) }
+        ensures only_full { (needed room : ℕ) → result ≡ Err (StoreError.Full needed room) → (room < needed) × (needed ≡ needed_for op.now) × ((ops : List AnyOp) → Has (seen D.view self.old.disk) ops → room ≡ room_behind (seen D.view self.old.disk).size ops) }
+        ensures fault { IsErrOf result StoreError.DiskFault → Rose (seen D.view self.old.disk).faults (seen D.view self.new.disk).faults }
+    {
+        if self.is_broken {
+            return Err(StoreError::NeedsReopen);
+        }
+        let outcome = write_op(&mut self.disk, &mut self.journal, &mut self.frame, op);
+        self.is_broken = breaks(&outcome);
+        outcome
+    }
+
+    /// The disk, to be armed or disarmed, to be looked at, or to fall.
+    pub fn fuse(&mut self) -> &mut Fuse<D>
+        ensures* lends { sem 𝓛 (Lends (the_row D.row ⟦<D as Disk>⟧) (fuse.the_row D.row ⟦<D as Disk>⟧) self.entry result (λ disk. with_disk self.entry.now disk)) }
+        ensures value { result.now ≡ self.old.disk }
+    {
+        &mut self.disk
+    }
+
+    /// Hands the disk back, as it is.
+    pub fn close(self) -> Fuse<D>
+        ensures { result ≡ self.disk }
+    {
+        let Store {
+            disk,
+            journal: _,
+            frame: _,
+            is_broken: _,
+        } = self;
+        disk
+    }
+}
+
+/// Whether an append with this outcome leaves it open what the disk holds.
+fn breaks(outcome: &Result<(), StoreError>) -> bool
+    ensures { result ≡ broken_after outcome.now false }
+{
+    matches!(outcome, Err(StoreError::DiskFault | StoreError::Memory))
+}
