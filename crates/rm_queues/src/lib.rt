@@ -18,4 +18,4 @@ mod tests;
 mod trees;
 
 pub use acls::Acl;
-pub use trees::QueueTree;
+pub use trees::{QueueTree, starts_at_root};

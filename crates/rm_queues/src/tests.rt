@@ -1,8 +1,6 @@
 //! What no clause says: that calls succeed, and that the clauses say what is meant, by examples.
-ghost use Rattle.std.specs.Bool.{OnTrue};
-ghost use Rattle.rm_queues.specs.Rules.{KeepsRules};
 
-use crate::{Acl, QueueTree};
+use crate::{Acl, QueueTree, starts_at_root};
 use rm_types::{
     AclOp, Items, NoMemory, QueueSpec, Resource, Settings, Submission, Text, UserGroups,
 };
@@ -114,16 +112,6 @@ fn a_size() -> Resource {
     Resource {
         memory_mb: 1024,
         vcores: 1,
-    }
-}
-
-/// Whether the first queue is the root.
-fn starts_at_root(settings: &Settings) -> bool
-    ensures { OnTrue result (KeepsRules settings.now) }
-{
-    match settings.queues.as_slice() {
-        [first, ..] => first.name.bytes() == b"root".as_slice(),
-        [] => false,
     }
 }
 

@@ -1,4 +1,4 @@
-ghost use Rattle.std.specs.Prelude.{◌≡◌, IfOk, map};
+ghost use Rattle.std.specs.Prelude.{◌≡◌, ◌↔◌, IsTrue, IfOk, map};
 ghost use Rattle.std.specs.List.{list_any};
 ghost use Rattle.rm_types.specs.Rights.{path_of, is_leaf, home, denial, groups_of_user, admits_at, may_submit, may_administer, may_kill};
 ghost use Rattle.rm_queues.specs.Rules.{KeepsRules};
@@ -37,7 +37,7 @@ impl Model for QueueTree {
 }
 
 impl QueueTree {
-    /// The tree of these settings, whose first queue must be the root.
+    /// The tree of these settings, whose first queue must be the root, as `starts_at_root` says.
     pub fn new(alloc: Global, settings: &Settings) -> Result<QueueTree, NoMemory>
         requires { KeepsRules settings.now }
         ensures { IfOk result (λ tree. tree ≡ settings.now) }
@@ -150,6 +150,16 @@ impl QueueTree {
             Some(place) => self.settings.groups.at(place).groups.as_slice(),
             None => &[],
         }
+    }
+}
+
+/// Whether a tree can be made of the settings: their first queue is the root.
+pub fn starts_at_root(settings: &Settings) -> bool
+    ensures { IsTrue result ↔ KeepsRules settings.now }
+{
+    match settings.queues.as_slice() {
+        [first, ..] => first.name.bytes() == b"root".as_slice(),
+        [] => false,
     }
 }
 

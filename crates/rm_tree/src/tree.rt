@@ -93,8 +93,8 @@ impl Tree {
         self.apps.get(place).unwrap()
     }
 
-    /// Makes room for nothing and changes nothing that is seen: after it the record at a place is found
-    /// without a walk.
+    /// Closes the gaps that removals left. Nothing that is seen changes; until the next removal the record at a
+    /// place is then found without a walk.
     pub fn close_gaps(&mut self)
         ensures { self.new ≡ self.old }
     {

@@ -1,0 +1,6 @@
+pub mod Asked
+pub mod Changes
+pub mod Entries
+pub mod Nodes
+pub mod Rows
+pub mod Splits

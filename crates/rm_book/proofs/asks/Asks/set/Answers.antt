@@ -1,0 +1,13 @@
+use Rattle.rm_book.proofs.Entries.{set_leaves}
+use Rattle.rm_book.proofs.asks.Asks.set.Goals as goal
+
+pub invariant_of-self-2 : goal.invariant_of-self-2
+invariant_of-self-2 c =
+    (set_leaves c.self.inside.asked c.in-Some.order c.self.inside.entries.items c.set_entry.new.entries.items c.args.attempt c.args.ask c.in-Some.ensures.1
+    c.in_ok-set_entry.ensures.ok c.self.invariant).lawful
+
+pub returns-clause-ok : goal.returns-clause-ok
+returns-clause-ok c =
+    rw (← c.self.view_is)
+    (set_leaves c.self.inside.asked c.in-Some.order c.self.inside.entries.items c.set_entry.new.entries.items c.args.attempt c.args.ask c.in-Some.ensures.1
+    c.in_ok-set_entry.ensures.ok c.self.invariant).gives

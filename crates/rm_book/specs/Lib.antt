@@ -1,0 +1,3 @@
+pub mod AskTables
+pub mod Books
+pub mod Order

@@ -1,0 +1,85 @@
+ghost use Rattle.std.specs.Prelude.{◌≡◌, ◌≤◌, ◌<◌, ◌+◌, ◌^◌, ◌++◌, Bool, true, Some, OnOk, IfOk, IsSomeAnd, IsTrue, length};
+ghost use Rattle.rm_types.specs.declared.resources.Resource.{Resource};
+ghost use Rattle.rm_types.specs.Passes.{pass_list, in_order};
+ghost use Rattle.rm_book.specs.AskTables.{lines_of};
+ghost use Rattle.rm_book.specs.Books.{capability_of, free_on};
+ghost use Rattle.rm_fit.specs.Turns.{turn_grants, turn_left};
+ghost use Rattle.rm_fit.specs.Conditions.{AreApart, are_early, are_some_sizes, have_sizes};
+
+use crate::turns::grant_turn;
+use rm_book::{Asks, Book};
+use rm_types::{AskLine, AttemptId, Grant, Items, NoMemory, Resource, Text, Turn};
+
+/// The grants of one pass on a node, of which there are at most 256. The node must have a capability, of
+/// which at most 256 cores are left; the attempts in the order must differ, each next sequence must be at
+/// most 2^39, and each size that they ask for must have a megabyte and a core at least, as `have_sizes` tests.
+pub fn first_fit(
+    book: &Book,
+    asks: &Asks,
+    order: &Items<Turn>,
+    node: &Text,
+    epoch: u32,
+) -> Result<Items<Grant>, NoMemory>
+    requires room { IsSomeAnd (free_on book.now node.now) (λ free. free.vcores ≤ 256) }
+    requires attempts { AreApart order.now }
+    requires sequences { IsTrue (are_early order.now) }
+    requires sizes { IsTrue (have_sizes (lines_of asks.now) order.now) }
+    ensures pass { IfOk result (λ grants. (capability : Resource) → capability_of book.now node.now ≡ Some capability → grants ≡ pass_list capability node.now book.now.rows (lines_of asks.now) order.now epoch) }
+    ensures few { IfOk result (λ grants. length grants ≤ 256) }
+{
+    let mut left = book.free_of(node).unwrap();
+    let mut grants = Items::new(book.allocator());
+    'turns: for turn in order.as_slice() {
+        left = grant_attempt(&mut grants, left, node, epoch, *turn, asks)?;
+    }
+    Ok(grants)
+}
+
+/// Grants an attempt, in its turn, of each of its asks as many as fit what is left, and says what is then
+/// left.
+fn grant_attempt(
+    grants: &mut Items<Grant>,
+    left: Resource,
+    node: &Text,
+    epoch: u32,
+    turn: Turn,
+    asks: &Asks,
+) -> Result<Resource, NoMemory>
+    requires sequence { turn.next_seq + left.vcores < 2 ^ 63 }
+    requires sizes { IsTrue (are_some_sizes (lines_of asks.now turn.attempt)) }
+    ensures grants { OnOk result (grants.new ≡ grants.old ++ turn_grants (record { node = node.now; epoch = epoch; attempt = turn.attempt }) left turn.next_seq (in_order (lines_of asks.now turn.attempt))) }
+    ensures left { IfOk result (λ rest. rest ≡ turn_left left (in_order (lines_of asks.now turn.attempt))) }
+    ensures few { IfOk result (λ rest. length grants.new + rest.vcores ≤ length grants.old + left.vcores) }
+{
+    match asks.of(turn.attempt) {
+        Some(lines) => grant_turn(grants, left, node, epoch, turn, lines.as_slice()),
+        None => Ok(left),
+    }
+}
+
+/// Whether each size that the attempts in the order ask for has a megabyte and a core at least.
+pub fn have_sizes(asks: &Asks, order: &Items<Turn>) -> bool
+    ensures { result ≡ have_sizes (lines_of asks.now) order.now }
+{
+    order
+        .as_slice()
+        .iter()
+        .all(|turn| has_sizes(asks, turn.attempt))
+}
+
+/// Whether each size that an attempt asks for has.
+fn has_sizes(asks: &Asks, attempt: AttemptId) -> bool
+    ensures { result ≡ are_some_sizes (lines_of asks.now attempt) }
+{
+    match asks.of(attempt) {
+        Some(lines) => are_some_sizes(lines.as_slice()),
+        None => true,
+    }
+}
+
+/// Whether each size of these lines has.
+fn are_some_sizes(lines: &[AskLine]) -> bool
+    ensures { result ≡ are_some_sizes lines.now }
+{
+    lines.iter().all(|line| line.ask.size.memory_mb >= 1 && line.ask.size.vcores >= 1)
+}
