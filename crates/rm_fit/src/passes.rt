@@ -9,11 +9,13 @@ ghost use Rattle.rm_fit.specs.Conditions.{AreApart, are_early, are_some_sizes, h
 use crate::turns::grant_turn;
 use rm_book::{Asks, Book};
 use rm_types::{AskLine, AttemptId, Grant, Items, NoMemory, Resource, Text, Turn};
+use std::alloc::Global;
 
 /// The grants of one pass on a node, of which there are at most 256. The node must have a capability, of
 /// which at most 256 cores are left; the attempts in the order must differ, each next sequence must be at
 /// most 2^39, and each size that they ask for must have a megabyte and a core at least, as `have_sizes` tests.
 pub fn first_fit(
+    alloc: Global,
     book: &Book,
     asks: &Asks,
     order: &Items<Turn>,
@@ -28,7 +30,7 @@ pub fn first_fit(
     ensures few { IfOk result (λ grants. length grants ≤ 256) }
 {
     let mut left = book.free_of(node).unwrap();
-    let mut grants = Items::new(book.allocator());
+    let mut grants = Items::new(alloc);
     'turns: for turn in order.as_slice() {
         left = grant_attempt(&mut grants, left, node, epoch, *turn, asks)?;
     }
