@@ -1,0 +1,141 @@
+-- The settings of a file stand in their ranges.
+use Rattle.std.proofs.Common.{◌≡◌, ◌≤◌, ◌&&◌, ℕ, List, [], ◌∷◌, Bool, true, false, cond, leb, Option, Some, None, refl, ap, subst, arith, lit≤}
+use Rattle.std.proofs.lemmas.Bool.Decides.{nat_tests}
+use Rattle.std.proofs.lemmas.List.Elements.{All-nil, All-cons}
+use Rattle.std.specs.Prelude.{All, is_some, option_map, option_and_then}
+use Rattle.std.specs.Option.{option_map_or}
+use Rattle.serde_json.specs.Data.{Data, Items, no_items, item, Members, no_members, member}
+use Rattle.serde_json.specs.Find.{as_bool, as_number, as_str, as_array, as_object, as_u64}
+use Rattle.rm_types.specs.Frames.{IsText}
+use Rattle.rm_types.specs.IdTexts.{IsWithin}
+use Rattle.rm_types.specs.Texts.{fault_of}
+use Rattle.rm_types.specs.declared.settings.QueueSpec.{QueueSpec}
+use Rattle.rm_types.specs.declared.settings.Settings.{Settings}
+use Rattle.rm_types.specs.declared.settings.UserGroups.{UserGroups}
+use Rattle.rm_types.specs.declared.texts.TextKind.{TextKind}
+use Rattle.rm_types.specs.declared.texts.TextKind.TheVariants.{Name, AclText}
+use Rattle.rm_cluster.specs.Readings.{number_within, text_of, string_of, names_of, name_list_of, user_of, users_of, user_groups_of}
+use Rattle.rm_cluster.specs.Rules.{max_attempts_of, max_completed_of, max_apps_of, wait_ms_of, acl_enable_of, admin_acl_of, max_memory_of, max_vcores_of, groups_of, queues_of, default_queues, IsSettingsOf}
+use Rattle.rm_cluster.specs.Ranges.{HasNames, IsInRange}
+
+-- what holds of each value that a reading gives, and of the value for an absent key, holds of what stands at the key
+kept_at_key : {A : Type 0} (P : A → Type 0) (reading : Data → Option A) (absent : A) (found : Option Data) (a : A)
+    → ((value : Data) (b : A) → reading value ≡ Some b → P b) → P absent → option_map_or reading found (Some absent) ≡ Some a → P a
+kept_at_key P reading absent None a each default e = let same : absent ≡ a = cc in subst P same default
+kept_at_key P reading absent (Some value) a each default e = each value a e
+
+-- ---- numbers
+
+of_test : (test : Bool) (m n : ℕ) → cond test (Some m) None ≡ Some n → (test ≡ true) × (m ≡ n)
+of_test true m n e = (refl, cc)
+of_test false m n e = absurd cc
+
+within_found : (least greatest : ℕ) (found : Option ℕ) (n : ℕ)
+    → option_and_then (λ number. cond (leb least number && leb number greatest) (Some number) None) found ≡ Some n → IsWithin least greatest n
+within_found least greatest None n e = absurd cc
+within_found least greatest (Some m) n e =
+    let both = of_test (leb least m && leb m greatest) m n e in
+    let low : least ≤ m = grind (arith, nat_tests) in
+    let high : m ≤ greatest = grind (arith, nat_tests) in
+    (omega arith, omega arith)
+
+within : (least greatest : ℕ) (value : Data) (n : ℕ) → number_within least greatest value ≡ Some n → IsWithin least greatest n
+unfolding number_within
+within least greatest value n e = within_found least greatest (option_and_then as_u64 (as_number value)) n e
+
+-- ---- texts
+
+of_fault : (fault : Option ℕ) (bytes text : List ℕ) → cond (is_some fault) None (Some bytes) ≡ Some text → (fault ≡ None) × (bytes ≡ text)
+of_fault None bytes text e = (refl, cc)
+of_fault (Some place) bytes text e = absurd cc
+
+text_is : (kind : TextKind) (bytes text : List ℕ) → text_of kind bytes ≡ Some text → IsText kind text
+unfolding text_of
+text_is kind bytes text e = let both = of_fault (fault_of kind bytes) bytes text e in rw (← both.1) both.0
+
+string_is_found : (kind : TextKind) (found : Option (List ℕ)) (text : List ℕ) → option_and_then (text_of kind) found ≡ Some text → IsText kind text
+string_is_found kind None text e = absurd cc
+string_is_found kind (Some bytes) text e = text_is kind bytes text e
+
+string_is : (kind : TextKind) (value : Data) (text : List ℕ) → string_of kind value ≡ Some text → IsText kind text
+unfolding string_of
+string_is kind value text e = string_is_found kind (as_str value) text e
+
+-- ---- lists of what is read one after another
+
+of_cons : {A : Type 0} (first : Option A) (rest : Option (List A)) (all : List A)
+    → option_and_then (λ one. option_map (λ more. one ∷ more) rest) first ≡ Some all
+    → (one : A) × (more : List A) × (first ≡ Some one) × (rest ≡ Some more) × (one ∷ more ≡ all)
+of_cons None rest all e = absurd cc
+of_cons (Some one) None all e = absurd cc
+of_cons (Some one) (Some more) all e = (one, more, refl, refl, cc)
+
+names_are : (values : Items) (names : List (List ℕ)) → names_of values ≡ Some names → All (IsText Name) names
+names_are no_items names e = let same : [] ≡ names = cc in subst (All (IsText Name)) same (All-nil (IsText Name))
+names_are (item value values) names e =
+    let parts = of_cons (string_of Name value) (names_of values) names e in
+    subst (All (IsText Name)) parts.4 (All-cons (IsText Name) parts.0 parts.1 (string_is Name value parts.0 parts.2) (names_are values parts.1 parts.3))
+
+name_list_found : (found : Option Items) (names : List (List ℕ)) → option_and_then names_of found ≡ Some names → All (IsText Name) names
+name_list_found None names e = absurd cc
+name_list_found (Some values) names e = names_are values names e
+
+name_list_is : (value : Data) (names : List (List ℕ)) → name_list_of value ≡ Some names → All (IsText Name) names
+unfolding name_list_of
+name_list_is value names e = name_list_found (as_array value) names e
+
+of_user : (name : Option (List ℕ)) (list : Option (List (List ℕ))) (user : UserGroups)
+    → option_and_then (λ one. option_map (λ groups. record { user = one; groups = groups }) list) name ≡ Some user
+    → (name ≡ Some user.user) × (list ≡ Some user.groups)
+of_user None list user e = absurd cc
+of_user (Some one) None user e = absurd cc
+of_user (Some one) (Some groups) user e = let same : record { user = one; groups = groups } ≡ user = cc in (ap (λ u. Some u.user) same, ap (λ u. Some u.groups) same)
+
+user_is : (key : List ℕ) (value : Data) (user : UserGroups) → user_of key value ≡ Some user → HasNames user
+unfolding user_of
+user_is key value user e =
+    let parts = of_user (text_of Name key) (name_list_of value) user e in
+    record { user = text_is Name key user.user parts.0; groups = name_list_is value user.groups parts.1 }
+
+users_are : (members : Members) (users : List UserGroups) → users_of members ≡ Some users → All HasNames users
+users_are no_members users e = let same : [] ≡ users = cc in subst (All HasNames) same (All-nil HasNames)
+users_are (member key value members) users e =
+    let parts = of_cons (user_of key value) (users_of members) users e in
+    subst (All HasNames) parts.4 (All-cons HasNames parts.0 parts.1 (user_is key value parts.0 parts.2) (users_are members parts.1 parts.3))
+
+groups_found : (found : Option Members) (users : List UserGroups) → option_and_then users_of found ≡ Some users → All HasNames users
+groups_found None users e = absurd cc
+groups_found (Some members) users e = users_are members users e
+
+groups_are : (value : Data) (users : List UserGroups) → user_groups_of value ≡ Some users → All HasNames users
+unfolding user_groups_of
+groups_are value users e = groups_found (as_object value) users e
+
+-- ---- rights
+
+off_found : (found : Option Bool) (enabled : Bool) → option_and_then (λ on. cond on None (Some on)) found ≡ Some enabled → enabled ≡ false
+off_found None enabled e = absurd cc
+off_found (Some true) enabled e = absurd cc
+off_found (Some false) enabled e = cc
+
+-- ---- queues
+
+nothing : (queues : List QueueSpec) → None ≡ Some queues → queues ≡ default_queues
+nothing queues e = absurd cc
+
+-- ---- the settings
+
+pub in_range : (file : Data) (settings : Settings) → IsSettingsOf file settings → IsInRange settings
+unfolding max_attempts_of max_completed_of max_apps_of wait_ms_of acl_enable_of admin_acl_of max_memory_of max_vcores_of groups_of queues_of
+in_range file settings kept = record {
+  max_attempts = kept_at_key (IsWithin 1 100) _ _ _ _ (within 1 100) (lit≤ tt, lit≤ tt) kept.max_attempts;
+  max_completed = kept_at_key (IsWithin 0 10000) _ _ _ _ (within 0 10000) (lit≤ tt, lit≤ tt) kept.max_completed;
+  max_apps = kept_at_key (IsWithin 1 100000) _ _ _ _ (within 1 100000) (lit≤ tt, lit≤ tt) kept.max_apps;
+  wait_ms = kept_at_key (IsWithin 0 1000000000) _ _ _ _ (within 0 1000000000) (lit≤ tt, lit≤ tt) kept.wait_ms;
+  acl_enable = kept_at_key (λ enabled. enabled ≡ false) _ _ _ _ (λ value enabled e. off_found (as_bool value) enabled e) refl kept.acl_enable;
+  admin_acl = kept_at_key (IsText AclText) _ _ _ _ (string_is AclText) refl kept.admin_acl;
+  max_memory = kept_at_key (IsWithin 1 16777216) _ _ _ _ (within 1 16777216) (lit≤ tt, lit≤ tt) kept.max_memory;
+  max_vcores = kept_at_key (IsWithin 1 256) _ _ _ _ (within 1 256) (lit≤ tt, lit≤ tt) kept.max_vcores;
+  groups = kept_at_key (All HasNames) _ _ _ _ groups_are (All-nil HasNames) kept.groups;
+  queues = kept_at_key (λ queues. queues ≡ default_queues) _ _ _ _ (λ value. nothing) refl kept.queues;
+}

@@ -1,0 +1,4 @@
+pub mod Readings
+pub mod Rules
+pub mod Ranges
+pub mod Clusters

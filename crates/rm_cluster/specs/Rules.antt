@@ -1,0 +1,108 @@
+-- The rules of the cluster file, one for each place. They are this project's own, but that an application has two attempts
+-- and that a manager waits ten seconds after a restart, where nothing else is set, is after YARN's documentation.
+use Rattle.std.specs.Prelude.{◌≡◌, ℕ, List, [], ◌∷◌, Bool, false, not, Option, Some, None, is_some, option_map, option_and_then, find, if◌then◌else◌, codes}
+use Rattle.std.specs.List.{list_any}
+use Rattle.std.specs.Str.{bytes_eq}
+use Rattle.serde_json.specs.Data.{Data}
+use Rattle.serde_json.specs.Find.{as_bool}
+use Rattle.rm_types.specs.declared.settings.QueueSpec.{QueueSpec}
+use Rattle.rm_types.specs.declared.settings.Settings.{Settings}
+use Rattle.rm_types.specs.declared.settings.UserGroups.{UserGroups}
+use Rattle.rm_types.specs.declared.texts.TextKind.TheVariants.{AclText}
+use Rattle.rm_cluster.specs.Readings.{at_key, number_within, string_of, user_groups_of, has_only}
+
+-- the keys that may stand in the file
+abbrev pub known_keys : List (List ℕ)
+known_keys =
+    codes "max_attempts" ∷ codes "max_completed" ∷ codes "max_apps" ∷ codes "wait_ms" ∷ codes "acl_enable" ∷ codes "admin_acl"
+    ∷ codes "max_memory_mb" ∷ codes "max_vcores" ∷ codes "groups" ∷ codes "queues" ∷ []
+
+-- the key is one of them
+unfoldable pub is_known : List ℕ → Bool
+is_known key = list_any (bytes_eq key) known_keys
+
+-- the file is an object, and has known keys alone
+unfoldable pub has_known_keys : Data → Bool
+has_known_keys = has_only is_known
+
+-- the global bound on attempts: 1 to 100, and 2 where the key is absent
+unfoldable pub max_attempts_of : Data → Option ℕ
+max_attempts_of = at_key (codes "max_attempts") (number_within 1 100) 2
+
+-- how many completed applications are remembered: 0 to 10000, and 1000 where the key is absent
+unfoldable pub max_completed_of : Data → Option ℕ
+max_completed_of = at_key (codes "max_completed") (number_within 0 10000) 1000
+
+-- how many applications may run: 1 to 100000, and 10000 where the key is absent
+unfoldable pub max_apps_of : Data → Option ℕ
+max_apps_of = at_key (codes "max_apps") (number_within 1 100000) 10000
+
+-- how long a recovered manager waits, in milliseconds: 0 to 1000000000, and 10000 where the key is absent
+unfoldable pub wait_ms_of : Data → Option ℕ
+wait_ms_of = at_key (codes "wait_ms") (number_within 0 1000000000) 10000
+
+-- whether rights are checked, which so far may only be false: false where the key is absent
+unfoldable pub acl_enable_of : Data → Option Bool
+acl_enable_of = at_key (codes "acl_enable") (λ value. option_and_then (λ enabled. if enabled then None else Some enabled) (as_bool value)) false
+
+-- who administers all: an access control list, and `*` where the key is absent
+unfoldable pub admin_acl_of : Data → Option (List ℕ)
+admin_acl_of = at_key (codes "admin_acl") (string_of AclText) (codes "*")
+
+-- the memory of the greatest container, in MB: 1 to 16777216, and 8192 where the key is absent
+unfoldable pub max_memory_of : Data → Option ℕ
+max_memory_of = at_key (codes "max_memory_mb") (number_within 1 16777216) 8192
+
+-- the cores of the greatest container: 1 to 256, and 8 where the key is absent
+unfoldable pub max_vcores_of : Data → Option ℕ
+max_vcores_of = at_key (codes "max_vcores") (number_within 1 256) 8
+
+-- the groups of users: none where the key is absent
+unfoldable pub groups_of : Data → Option (List UserGroups)
+groups_of = at_key (codes "groups") user_groups_of []
+
+-- a queue without lists
+abbrev pub bare_queue : List ℕ → QueueSpec
+bare_queue name = record { name = name; submit = None; admin = None }
+
+-- the queues of a file without the key
+abbrev pub default_queues : List QueueSpec
+default_queues = bare_queue (codes "root") ∷ bare_queue (codes "root.default") ∷ []
+
+-- the queues, which so far may not be set: `root` and `root.default` where the key is absent
+unfoldable pub queues_of : Data → Option (List QueueSpec)
+queues_of = at_key (codes "queues") (λ value. None) default_queues
+
+-- each place from 2 on in the order of the table, and whether the file keeps its rule
+abbrev pub rules : Data → List (ℕ × Bool)
+rules file =
+    (2, has_known_keys file) ∷
+    (3, is_some (max_attempts_of file)) ∷
+    (4, is_some (max_completed_of file)) ∷
+    (5, is_some (max_apps_of file)) ∷
+    (6, is_some (wait_ms_of file)) ∷
+    (7, is_some (acl_enable_of file)) ∷
+    (8, is_some (admin_acl_of file)) ∷
+    (9, is_some (max_memory_of file)) ∷
+    (10, is_some (max_vcores_of file)) ∷
+    (11, is_some (groups_of file)) ∷
+    (12, is_some (queues_of file)) ∷
+    []
+
+-- the place of the first rule that the file breaks, if there is one
+unfoldable pub first_broken : Data → Option ℕ
+first_broken file = option_map (λ rule. rule.0) (find (λ rule. not rule.1) (rules file))
+
+-- the file breaks no rule, and these are the settings that its keys give
+pub record IsSettingsOf (file : Data) (settings : Settings) : Type 0 where
+  pub unbroken : first_broken file ≡ None
+  pub max_attempts : max_attempts_of file ≡ Some settings.max_attempts
+  pub max_completed : max_completed_of file ≡ Some settings.max_completed
+  pub max_apps : max_apps_of file ≡ Some settings.max_apps
+  pub wait_ms : wait_ms_of file ≡ Some settings.wait_ms
+  pub acl_enable : acl_enable_of file ≡ Some settings.acl_enable
+  pub admin_acl : admin_acl_of file ≡ Some settings.admin_acl
+  pub max_memory : max_memory_of file ≡ Some settings.greatest.memory_mb
+  pub max_vcores : max_vcores_of file ≡ Some settings.greatest.vcores
+  pub groups : groups_of file ≡ Some settings.groups
+  pub queues : queues_of file ≡ Some settings.queues

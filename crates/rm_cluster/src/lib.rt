@@ -1,0 +1,20 @@
+//! The cluster file: the settings of a manager, as a JSON object.
+//!
+//! It promises that `read_cluster` gives the settings of the bytes exactly where they break no rule of the
+//! file, and that a refusal names the first rule that is broken. `specs/Rules.antt` has the rules, one for
+//! each place, and `specs/Ranges.antt` the ranges in which the settings then stand. Want of memory may come on
+//! any bytes.
+//!
+//! It stands on `serde_json`, whose contracts say which value bytes are read as, and on `rm_types`.
+#![tactic(auto)]
+
+mod clusters;
+mod groups;
+mod laws;
+mod readings;
+mod rules;
+#[cfg(test)]
+mod tests;
+
+pub use clusters::{ClusterError, read_cluster};
+pub use laws::one_answer;
