@@ -100,34 +100,6 @@ fn shown(alloc: Global, app: &AppRecord) -> Result<String, Fail> {
 }
 
 #[test]
-fn a_job_is_kept_from_its_submission_to_its_removal(rt: HostRuntime) -> Result<(), Fail> {
-    let alloc = rt.alloc();
-    let mut tree = two_jobs(alloc)?;
-    assert_eq!(rt; tree.next_epoch(), 1);
-    assert_eq!(rt; tree.stamp(), 7);
-    assert_eq!(rt; tree.applied(), 4);
-    assert_eq!(rt; tree.len(), 2);
-    assert_eq!(rt; shown(alloc, tree.at(0))?.as_str(), "1 attempts=1 live");
-    tree.apply(&attempt_ended(alloc, JOB, 1)?)?;
-    tree.apply(&started(alloc, JOB, 2)?)?;
-    tree.apply(&attempt_ended(alloc, JOB, 2)?)?;
-    tree.apply(&app_ended(alloc, JOB)?)?;
-    assert_eq!(rt;
-        shown(alloc, tree.at(0))?.as_str(),
-        "1 attempts=2 ended ended over"
-    );
-    assert_eq!(rt; tree.at(0).end_order, 7);
-    tree.apply(&Op::Remove { id: JOB })?;
-    assert_eq!(rt; tree.len(), 1);
-    assert_eq!(rt; shown(alloc, tree.at(0))?.as_str(), "2 attempts=0");
-    tree.close_gaps();
-    tree.apply(&submitted(alloc, JOB)?)?;
-    assert_eq!(rt; shown(alloc, tree.at(1))?.as_str(), "1 attempts=0");
-    assert_eq!(rt; tree.applied(), 10);
-    Ok(())
-}
-
-#[test]
 fn an_operation_that_does_not_fit_is_stray(rt: HostRuntime) -> Result<(), Fail> {
     let alloc = rt.alloc();
     let nobody = AppId {
