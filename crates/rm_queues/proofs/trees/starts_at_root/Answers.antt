@@ -14,9 +14,10 @@ returns-in-len1-up c =
     let decides = bytes_eq-Decides c.bytes.result.now c.as_slice-in-len1-up.result.now in
     let at = slice_get-get_or c.as_slice.result.now 0 c.first-item.result (omega arith) in
     let first : option_map (λ (queue : QueueSpec). queue.name) (slice_get c.args.settings.now.queues 0) ≡ Some c.first-item.result.name =
-          ap (λ queues. option_map (λ (queue : QueueSpec). queue.name) (slice_get queues 0)) (sym c.as_slice.ensures)
-          ∙ ap (option_map (λ (queue : QueueSpec). queue.name)) (at ∙ ap Some (sym c.first-item.is)) in
+    ap (λ queues. option_map (λ (queue : QueueSpec). queue.name) (slice_get queues 0)) (sym c.as_slice.ensures)
+    ∙ ap (option_map (λ (queue : QueueSpec). queue.name)) (at ∙ ap Some (sym c.first-item.is)) in
     let named : (c.bytes.result.now ≡ c.as_slice-in-len1-up.result.now) → c.first-item.result.name ≡ root_name =
-          (λ e. sym c.bytes.ensures ∙ e ∙ c.as_slice-in-len1-up.ensures) in
-    (λ e. record { first_is_root = first ∙ ap Some (named (decides.0 (sym c.eq.ensures ∙ e))) },
-    λ keeps. c.eq.ensures ∙ decides.1 (c.bytes.ensures ∙ some_same (sym first ∙ keeps.first_is_root) ∙ sym c.as_slice-in-len1-up.ensures))
+    (λ e. sym c.bytes.ensures ∙ e ∙ c.as_slice-in-len1-up.ensures) in (
+      λ e. record { first_is_root = first ∙ ap Some (named (decides.0 (sym c.eq.ensures ∙ e))) },
+      λ keeps. c.eq.ensures ∙ decides.1 (c.bytes.ensures ∙ some_same (sym first ∙ keeps.first_is_root) ∙ sym c.as_slice-in-len1-up.ensures),
+    )
