@@ -1,7 +1,7 @@
 -- How each entry changes the state.
 use Rattle.std.specs.Prelude.{ℕ, List, [], ◌∷◌, ◌++◌, true, false, Option, None, Some, fold, take, drop, filter, not}
 use Rattle.rm_types.specs.declared.entries.Entry.{Entry}
-use Rattle.rm_types.specs.declared.entries.Entry.TheVariants.{Opened, Issued, Handed, Kept, Served, Accepted, Queued, Settled}
+use Rattle.rm_types.specs.declared.entries.Entry.TheVariants.{Opened, Issued, Handed, Kept, Served, Accepted, Queued, Settled, Down}
 use Rattle.rm_types.specs.declared.operations.Op.{Op}
 use Rattle.rm_types.specs.declared.operations.Op.TheVariants.{Epoch, App}
 use Rattle.rm_types.specs.declared.operations.Submission.{Submission}
@@ -44,6 +44,10 @@ master_ask attempt (Some submission) = record { attempt = attempt; ask = record 
 abbrev pub in_life : Manager → LifeState → Manager
 in_life s life = record s { life = Some life }
 
+-- a life goes down: what is kept and what awaits is left, and whether the life blew
+abbrev pub gone_down : Manager → LifeState → Manager
+gone_down s life = record { kept = s.kept; awaiting = s.awaiting; blew = life.blown; life = None }
+
 -- the state after an entry in a life
 abbrev pub after_in : Manager → Scene → Entry → Manager
 after_in s m (Issued op) = in_life (record s { awaiting = s.awaiting ++ op ∷ [] }) m.life
@@ -54,6 +58,7 @@ after_in s m (Served sender message reply) = in_life s (life_after m message rep
 after_in s m (Accepted app) = in_life s (record m.life { apps = record m.life.apps { accepted = m.life.apps.accepted ++ app ∷ [] } })
 after_in s m (Queued attempt) = in_life s (record m.life { asks = m.life.asks ++ master_ask attempt (submission_of m attempt.app) })
 after_in s m Settled = in_life s (record m.life { endings = record m.life.endings { releases = [] } })
+after_in s m Down = gone_down s m.life
 after_in s m _ = in_life s m.life
 
 -- where no life stands only Opened changes the state

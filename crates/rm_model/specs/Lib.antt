@@ -15,3 +15,5 @@ pub mod Lawful
 pub mod Wording
 pub mod Page
 pub mod Device
+pub mod Downs
+pub mod Survives

@@ -1,13 +1,13 @@
 -- Where a log stands in its script: the script says which life begins, which messages are served and how a segment closes.
 use Rattle.std.specs.Prelude.{◌≡◌, ℕ, ◌+◌, max, List, [], ◌∷◌, Bool, true, false, Option, None, Some, find}
 use Rattle.rm_types.specs.declared.entries.Entry.{Entry}
-use Rattle.rm_types.specs.declared.entries.Entry.TheVariants.{Opened, Served, Settled}
+use Rattle.rm_types.specs.declared.entries.Entry.TheVariants.{Opened, Served, Settled, Down}
 use Rattle.rm_types.specs.declared.messages.Message.{Message}
 use Rattle.rm_types.specs.declared.messages.Message.TheVariants.{Client as FromClient, Master as FromMaster, Node as FromNode, Clock as FromClock}
 use Rattle.rm_types.specs.declared.messages.Sender.{Sender}
 use Rattle.rm_types.specs.declared.messages.Sender.TheVariants.{Client, Master, Node, Clock}
 use Rattle.rm_types.specs.declared.scripts.Close.{Close}
-use Rattle.rm_types.specs.declared.scripts.Close.TheVariants.{Settle}
+use Rattle.rm_types.specs.declared.scripts.Close.TheVariants.{Settle, Crash}
 use Rattle.rm_types.specs.declared.scripts.Life.{Life}
 use Rattle.rm_types.specs.declared.scripts.Segment.{Segment}
 use Rattle.rm_types.specs.declared.scripts.Script.{Script}
@@ -79,11 +79,19 @@ pub record Settles (p : Place) : Type 0 where
   pub none_left : messages_left p.segments ≡ []
   pub closes : close_left p.segments ≡ Some Settle
 
+-- a life goes down where its segment closes with a crash and its feeds are empty
+pub record Crashes (p : Place) : Type 0 where
+  pub none_left : messages_left p.segments ≡ []
+  pub calls : ℕ
+  pub image : ℕ
+  pub closes : close_left p.segments ≡ Some (Crash calls image)
+
 -- the script's next thing is this entry; of entries that it doesn't name it says nothing
 abbrev pub IsNext : Manager → Place → Entry → Type 0
 IsNext s p (Opened landed epoch stamp) = Begins s p landed stamp
 IsNext s p (Served sender message reply) = first_from sender (messages_left p.segments) ≡ Some message
 IsNext s p Settled = Settles p
+IsNext s p Down = Crashes p
 IsNext s p _ = Unit {0}
 
 -- the place where a life has begun
@@ -101,4 +109,5 @@ abbrev pub moved : Place → Entry → Place
 moved p (Opened landed epoch stamp) = begun p.lives p
 moved p (Served sender message reply) = record p { segments = segments_without sender p.segments }
 moved p Settled = record p { segments = rest_of p.segments }
+moved p Down = record p { segments = rest_of p.segments }
 moved p _ = p

@@ -2,7 +2,7 @@
 use Rattle.std.specs.Prelude.{◌≡◌, ◌≢◌, ℕ, ◌+◌, ◌<◌, ◌^◌, ◌⊎◌, [], true, false, ◌||◌, Option, None, Some, slice_get, List, find, not}
 use Rattle.std.specs.List.{list_any}
 use Rattle.rm_types.specs.declared.entries.Entry.{Entry}
-use Rattle.rm_types.specs.declared.entries.Entry.TheVariants.{Opened, Issued, Handed, Kept, Served, Accepted, Queued, Settled, Quiet}
+use Rattle.rm_types.specs.declared.entries.Entry.TheVariants.{Opened, Issued, Handed, Kept, Served, Accepted, Queued, Settled, Down, Quiet}
 use Rattle.rm_types.specs.declared.messages.Lane.{Lane}
 use Rattle.rm_types.specs.declared.messages.Lane.TheVariants.{Main, Sched}
 use Rattle.rm_types.specs.declared.messages.Message.{Message}
@@ -103,6 +103,10 @@ pub record MaySettle (settings : Settings) (m : Scene) : Type 0 where
   pub none_awaits : m.awaiting ≡ []
   pub owes_nothing : Owed settings m → ⊥
 
+-- a life may go down where no operation is handed
+pub record MayGoDown (m : Scene) : Type 0 where
+  pub none_handed : m.life.handed ≡ false
+
 -- the lane of one of the two dispatchers
 abbrev pub IsDispatcher : Lane → Type 0
 IsDispatcher lane = (lane ≡ Main) ⊎ (lane ≡ Sched)
@@ -116,6 +120,7 @@ AllowedIn settings m (Served sender message reply) = MayServe settings m sender 
 AllowedIn settings m (Accepted app) = MayAccept m app
 AllowedIn settings m (Queued attempt) = MayQueue settings m attempt
 AllowedIn settings m Settled = MaySettle settings m
+AllowedIn settings m Down = MayGoDown m
 AllowedIn settings m (Quiet lane) = IsDispatcher lane
 AllowedIn settings m _ = ⊥
 
