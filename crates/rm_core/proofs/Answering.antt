@@ -9,25 +9,28 @@ use Rattle.rm_types.specs.declared.messages.ClientAsk.TheVariants.{New, Submit, 
 use Rattle.rm_types.specs.declared.messages.Message.{Message}
 use Rattle.rm_types.specs.declared.messages.Message.TheVariants.{Client as FromClient, Master as FromMaster, Node as FromNode, Clock as FromClock}
 use Rattle.rm_types.specs.declared.messages.Sender.TheVariants.{Client}
+use Rattle.rm_types.specs.declared.operations.Op.{Op}
+use Rattle.rm_types.specs.declared.operations.Op.TheVariants.{App}
 use Rattle.rm_types.specs.declared.operations.Submission.{Submission}
 use Rattle.rm_types.specs.declared.operations.Submitted.{Submitted}
 use Rattle.rm_types.specs.declared.records.AppRecord.{AppRecord}
 use Rattle.rm_types.specs.declared.replies.Reply.{Reply}
 use Rattle.rm_types.specs.declared.replies.Reply.TheVariants as replies
 use Rattle.rm_types.specs.declared.settings.Settings.{Settings}
+use Rattle.rm_types.specs.Frames.{CanBeFramed}
 use Rattle.rm_types.specs.Ids.{is_app}
 use Rattle.rm_types.specs.Records.{record_of}
 use Rattle.rm_model.specs.Changes.{after_in}
 use Rattle.rm_model.specs.Facts.{is_known}
 use Rattle.rm_model.specs.Replies.{AnswersClient, next_app}
 use Rattle.rm_core.specs.declared.tables.Tables.{Tables}
-use Rattle.rm_core.specs.Told.{scene_in, standing, no_history}
-use Rattle.rm_core.specs.Serving.{IsServed, after_client, joined, taken}
-use Rattle.rm_core.specs.Keeps.{Keeps, Stage, none, starting, saving, running, IsRunning}
+use Rattle.rm_core.specs.Told.{History, scene_in, standing, no_history}
+use Rattle.rm_core.specs.Serving.{IsBuiltAsk, IsBuiltMessage, IsServed, after_client, joined, taken}
+use Rattle.rm_core.specs.Keeps.{Keeps, IsSound, Stage, none, starting, saving, running, IsRunning}
 use Rattle.rm_core.specs.InFlight.{kept_at, submitted_at}
 use Rattle.rm_core.proofs.Counts.{fails_never, is_some-find}
 use Rattle.rm_core.proofs.Flows.{join_runs}
-use Rattle.rm_core.proofs.Standing.{keeps_more}
+use Rattle.rm_core.proofs.Standing.{keeps_more, known}
 
 -- a life that is open runs
 pub open_runs : (t : Tables) → Stage t → t.alive ≡ true → t.is_open ≡ true → IsRunning t
@@ -44,66 +47,103 @@ neither : (a b : Bool) → (a || b) ≡ false → (a ≡ false) × (b ≡ false)
 neither true b h = cc
 neither false b h = (refl, h)
 
-module _ (settings : Settings) (log : List Entry) (t : Tables) (k : Keeps settings log t) (r : IsRunning t) (user : List ℕ) where
+module _ (settings : Settings) (t : Tables) (s : IsSound settings t) (r : IsRunning t) where
   -- the answer leaves the applications as they were
-  quiet : (ask : ClientAsk) (reply : Reply) (given : ℕ) → given ≤ t.served + 1 → AnswersClient settings (scene_in k.history t) ask reply
-      → after_in (standing k.history t) (scene_in k.history t) (Served Client (FromClient user ask) reply) ≡ standing k.history (record t { given = given; served = t.served + 1 })
-      → Keeps settings (log ++ Served Client (FromClient user ask) reply ∷ []) (record t { given = given; served = t.served + 1 })
-  quiet ask reply given few answers changed =
-      keeps_more settings log t (record t { given = given; served = t.served + 1 }) (Served Client (FromClient user ask) reply) k r.alive r.alive
-      (record { serving = rw r.is_open refl; of_sender = refl; answers = rw r.is_open answers }) changed k.recorded
-      (running (record { alive = r.alive; is_open = r.is_open; handed = r.handed; runs = r.runs }))
-      k.epoch few
+  quiet_sound : (given : ℕ) → given ≤ t.served + 1 → IsSound settings (record t { given = given; served = t.served + 1 })
+  quiet_sound given few =
+      record {
+        stage = running (record { alive = r.alive; is_open = r.is_open; handed = r.handed; runs = r.runs });
+        epoch = s.epoch;
+        given = few;
+        rights = s.rights;
+      }
+
+  same_given : t.given ≤ t.served + 1
+  same_given = let g = s.given in omega arith
 
   -- a submission joins
-  joins_keeps : (id : AppId) (s : Submission) → AnswersClient settings (scene_in k.history t) (Submit id s) replies.Submitted
-      → is_known (scene_in no_history t) id ≡ false
-      → Keeps settings (log ++ Served Client (FromClient user (Submit id s)) replies.Submitted ∷ []) (more_served t (joined t id s))
-  joins_keeps id s answers new =
-      let parts = neither (list_any (λ (one : Submitted). is_app one.id id) t.submitted) (is_some (record_of t.apps id)) new in
+  joins_sound : (id : AppId) (one : Submission) → CanBeFramed (App id one) → is_known (scene_in no_history t) id ≡ false → IsSound settings (more_served t (joined t id one))
+  joins_sound id one can new =
+      let parts = neither (list_any (λ (other : Submitted). is_app other.id id) t.submitted) (is_some (record_of t.apps id)) new in
       let kept : kept_at id t.apps ≡ 0 = fails_never (λ (app : AppRecord). is_app app.id id) t.apps (sym (is_some-find (λ (app : AppRecord). is_app app.id id) t.apps) ∙ parts.1) in
-      let submitted : submitted_at id t.submitted ≡ 0 = fails_never (λ (one : Submitted). is_app one.id id) t.submitted parts.0 in
-      keeps_more settings log t (more_served t (joined t id s)) (Served Client (FromClient user (Submit id s)) replies.Submitted) k r.alive r.alive
-      (record { serving = rw r.is_open refl; of_sender = refl; answers = rw r.is_open answers }) (rw new refl) k.recorded
-      (running (record {
-        alive = r.alive;
-        is_open = r.is_open;
-        handed = r.handed;
-        runs = join_runs t.apps t.submitted t.awaiting t.accepted t.asks t.main t.sched id s kept submitted r.runs;
-      }))
-      k.epoch (let g = k.given in omega arith)
+      let submitted : submitted_at id t.submitted ≡ 0 = fails_never (λ (other : Submitted). is_app other.id id) t.submitted parts.0 in
+      record {
+        stage = running (record {
+          alive = r.alive;
+          is_open = r.is_open;
+          handed = r.handed;
+          runs = join_runs t.apps t.submitted t.awaiting t.accepted t.asks t.main t.sched id one can kept submitted r.runs;
+        });
+        epoch = s.epoch;
+        given = same_given;
+        rights = s.rights;
+      }
 
-  taken_keeps : (id : AppId) (s : Submission) (b : Bool) → is_known (scene_in no_history t) id ≡ b
-      → AnswersClient settings (scene_in k.history t) (Submit id s) replies.Submitted
-      → Keeps settings (log ++ Served Client (FromClient user (Submit id s)) replies.Submitted ∷ []) (more_served t (taken t id s))
-  taken_keeps id s true e answers = rw e (quiet (Submit id s) replies.Submitted t.given (let g = k.given in omega arith) answers (rw e refl))
-  taken_keeps id s false e answers = rw e (joins_keeps id s answers e)
+  taken_sound : (id : AppId) (one : Submission) → CanBeFramed (App id one) → (b : Bool) → is_known (scene_in no_history t) id ≡ b → IsSound settings (more_served t (taken t id one))
+  taken_sound id one can true e = rw e (quiet_sound t.given same_given)
+  taken_sound id one can false e = rw e (joins_sound id one can e)
 
-  submit_keeps : (id : AppId) (s : Submission) (reply : Reply) → AnswersClient settings (scene_in k.history t) (Submit id s) reply
-      → Keeps settings (log ++ Served Client (FromClient user (Submit id s)) reply ∷ []) (more_served t (after_client t (Submit id s) reply))
-  submit_keeps id s replies.Submitted answers = taken_keeps id s (is_known (scene_in no_history t) id) refl answers
-  submit_keeps id s reply answers = quiet (Submit id s) reply t.given (let g = k.given in omega arith) answers refl
+  submit_sound : (id : AppId) (one : Submission) (reply : Reply) → CanBeFramed (App id one) → IsSound settings (more_served t (after_client t (Submit id one) reply))
+  submit_sound id one replies.Submitted can = taken_sound id one can (is_known (scene_in no_history t) id) refl
+  submit_sound id one reply can = quiet_sound t.given same_given
 
-  pub client_keeps : (ask : ClientAsk) (reply : Reply) → AnswersClient settings (scene_in k.history t) ask reply
-      → Keeps settings (log ++ Served Client (FromClient user ask) reply ∷ []) (more_served t (after_client t ask reply))
-  client_keeps New reply answers =
-      rw answers (quiet New (replies.New (next_app (scene_in k.history t))) (t.given + 1) (let g = k.given in omega arith) refl refl)
-  client_keeps (Submit id s) reply answers = submit_keeps id s reply answers
-  client_keeps (Report id) reply answers = quiet (Report id) reply t.given (let g = k.given in omega arith) answers refl
-  client_keeps (Kill id) reply answers = absurd answers
+  client_sound : (ask : ClientAsk) (reply : Reply) → IsBuiltAsk ask → AnswersClient settings (scene_in no_history t) ask reply → IsSound settings (more_served t (after_client t ask reply))
+  client_sound New reply built answers = rw answers (quiet_sound (t.given + 1) (let g = s.given in omega arith))
+  client_sound (Submit id one) reply built answers = submit_sound id one reply built
+  client_sound (Report id) reply built answers = quiet_sound t.given same_given
+  client_sound (Kill id) reply built answers = absurd built
+
+  module _ (opening : List Op) (log : List Entry) (k : Keeps settings opening log t) (user : List ℕ) where
+    quiet : (ask : ClientAsk) (reply : Reply) (given : ℕ) → AnswersClient settings (scene_in k.history t) ask reply
+        → after_in (standing k.history t) (scene_in k.history t) (Served Client (FromClient user ask) reply) ≡ standing k.history (record t { given = given; served = t.served + 1 })
+        → Keeps settings opening (log ++ Served Client (FromClient user ask) reply ∷ []) (record t { given = given; served = t.served + 1 })
+    quiet ask reply given answers changed =
+        keeps_more settings opening log t (record t { given = given; served = t.served + 1 }) (Served Client (FromClient user ask) reply) k r.alive r.alive
+        (record { serving = rw r.is_open refl; of_sender = refl; answers = rw r.is_open answers }) changed (known settings opening log t k r.alive)
+
+    joins_keeps : (id : AppId) (one : Submission) → AnswersClient settings (scene_in k.history t) (Submit id one) replies.Submitted
+        → is_known (scene_in no_history t) id ≡ false
+        → Keeps settings opening (log ++ Served Client (FromClient user (Submit id one)) replies.Submitted ∷ []) (more_served t (joined t id one))
+    joins_keeps id one answers new =
+        keeps_more settings opening log t (more_served t (joined t id one)) (Served Client (FromClient user (Submit id one)) replies.Submitted) k r.alive r.alive
+        (record { serving = rw r.is_open refl; of_sender = refl; answers = rw r.is_open answers }) (rw new refl) (known settings opening log t k r.alive)
+
+    taken_keeps : (id : AppId) (one : Submission) (b : Bool) → is_known (scene_in no_history t) id ≡ b
+        → AnswersClient settings (scene_in k.history t) (Submit id one) replies.Submitted
+        → Keeps settings opening (log ++ Served Client (FromClient user (Submit id one)) replies.Submitted ∷ []) (more_served t (taken t id one))
+    taken_keeps id one true e answers = rw e (quiet (Submit id one) replies.Submitted t.given answers (rw e refl))
+    taken_keeps id one false e answers = rw e (joins_keeps id one answers e)
+
+    submit_keeps : (id : AppId) (one : Submission) (reply : Reply) → AnswersClient settings (scene_in k.history t) (Submit id one) reply
+        → Keeps settings opening (log ++ Served Client (FromClient user (Submit id one)) reply ∷ []) (more_served t (after_client t (Submit id one) reply))
+    submit_keeps id one replies.Submitted answers = taken_keeps id one (is_known (scene_in no_history t) id) refl answers
+    submit_keeps id one reply answers = quiet (Submit id one) reply t.given answers refl
+
+    client_keeps : (ask : ClientAsk) (reply : Reply) → AnswersClient settings (scene_in k.history t) ask reply
+        → Keeps settings opening (log ++ Served Client (FromClient user ask) reply ∷ []) (more_served t (after_client t ask reply))
+    client_keeps New reply answers = rw answers (quiet New (replies.New (next_app (scene_in k.history t))) (t.given + 1) refl refl)
+    client_keeps (Submit id one) reply answers = submit_keeps id one reply answers
+    client_keeps (Report id) reply answers = quiet (Report id) reply t.given answers refl
+    client_keeps (Kill id) reply answers = absurd answers
 
 -- what is answered by the tables is what the judge answers
-by_history : (settings : Settings) (log : List Entry) (t : Tables) (k : Keeps settings log t) (ask : ClientAsk) (reply : Reply)
-    → AnswersClient settings (scene_in no_history t) ask reply → AnswersClient settings (scene_in k.history t) ask reply
-by_history settings log t k New reply answers = answers
-by_history settings log t k (Submit id s) reply answers = answers
-by_history settings log t k (Report id) reply answers = answers
-by_history settings log t k (Kill id) reply answers = answers
+by_history : (settings : Settings) (t : Tables) (h : History) (ask : ClientAsk) (reply : Reply)
+    → AnswersClient settings (scene_in no_history t) ask reply → AnswersClient settings (scene_in h t) ask reply
+by_history settings t h New reply answers = answers
+by_history settings t h (Submit id s) reply answers = answers
+by_history settings t h (Report id) reply answers = answers
+by_history settings t h (Kill id) reply answers = answers
 
-pub served_keeps : (settings : Settings) (log longer : List Entry) (t next : Tables) (k : Keeps settings log t) (message : Message) → t.alive ≡ true → t.is_open ≡ true
-    → IsServed settings t next log longer message → Keeps settings longer next
-served_keeps settings log longer t next k (FromClient user ask) a o (reply, answers, changed, added) =
-    rw (changed, added) (client_keeps settings log t k (open_runs t k.stage a o) user ask reply (by_history settings log t k ask reply answers))
-served_keeps settings log longer t next k (FromMaster attempt ask) a o s = absurd s
-served_keeps settings log longer t next k (FromNode node ask) a o s = absurd s
-served_keeps settings log longer t next k (FromClock ask) a o s = absurd s
+module _ (settings : Settings) (t : Tables) (s : IsSound settings t) (a : t.alive ≡ true) (o : t.is_open ≡ true) (log longer : List Entry) (next : Tables) where
+  pub served_sound : (message : Message) → IsBuiltMessage message → IsServed settings t next log longer message → IsSound settings next
+  served_sound (FromClient user ask) built (reply, answers, changed, added) = rw changed (client_sound settings t s (open_runs t s.stage a o) ask reply built answers)
+  served_sound (FromMaster attempt ask) built is = absurd is
+  served_sound (FromNode node ask) built is = absurd is
+  served_sound (FromClock ask) built is = absurd is
+
+  pub served_keeps : (opening : List Op) → Keeps settings opening log t → (message : Message) → IsServed settings t next log longer message → Keeps settings opening longer next
+  served_keeps opening k (FromClient user ask) (reply, answers, changed, added) =
+      rw (changed, added) (client_keeps settings t s (open_runs t s.stage a o) opening log k user ask reply (by_history settings t k.history ask reply answers))
+  served_keeps opening k (FromMaster attempt ask) is = absurd is
+  served_keeps opening k (FromNode node ask) is = absurd is
+  served_keeps opening k (FromClock ask) is = absurd is

@@ -33,10 +33,10 @@ or_true false = refl
 pub kept_there : (apps : List AppRecord) (id : AppId) → 1 ≤ kept_at id apps → is_some (find (λ (app : AppRecord). is_app app.id id) apps) ≡ true
 kept_there apps id n = is_some-find (λ (app : AppRecord). is_app app.id id) apps ∙ some_passes (λ (app : AppRecord). is_app app.id id) apps n
 
-kept_nowhere : (apps : List AppRecord) (id : AppId) → kept_at id apps ≡ 0 → is_some (find (λ (app : AppRecord). is_app app.id id) apps) ≡ false
+pub kept_nowhere : (apps : List AppRecord) (id : AppId) → kept_at id apps ≡ 0 → is_some (find (λ (app : AppRecord). is_app app.id id) apps) ≡ false
 kept_nowhere apps id n = is_some-find (λ (app : AppRecord). is_app app.id id) apps ∙ none_passes (λ (app : AppRecord). is_app app.id id) apps n
 
-itself : (id : AppId) → ◌≡◌ {A = ℕ} (cond (is_app id id) 1 0) 1
+pub itself : (id : AppId) → ◌≡◌ {A = ℕ} (cond (is_app id id) 1 0) 1
 itself id = rw (is_app-refl id) refl
 
 pub accept_allowed : (h : History) (t : Tables) (id : AppId) (rest : List MainEvent) → IsRunning t

@@ -1,5 +1,5 @@
 -- Each event keeps what holds of an open life: at each application, and of the two queues.
-use Rattle.std.proofs.Common.{◌≡◌, ℕ, ◌+◌, ◌≤◌, List, [], ◌∷◌, ◌++◌, Bool, true, false, not, filter, cond, refl, ◌∙◌, ap, arith}
+use Rattle.std.proofs.Common.{◌≡◌, ℕ, ◌+◌, ◌≤◌, List, [], ◌∷◌, ◌++◌, Bool, true, false, not, filter, cond, count_by, refl, sym, ◌∙◌, ap, arith}
 use Rattle.std.specs.List.{flat_map}
 use Rattle.std.proofs.lemmas.List.{append_assoc, append-nil, map-append}
 use Rattle.std.proofs.lemmas.Grind.{flat_map-append}
@@ -12,6 +12,7 @@ use Rattle.rm_types.specs.declared.operations.Op.TheVariants.{Epoch, App, Attemp
 use Rattle.rm_types.specs.declared.operations.Submission.{Submission}
 use Rattle.rm_types.specs.declared.operations.Submitted.{Submitted}
 use Rattle.rm_types.specs.declared.records.AppRecord.{AppRecord}
+use Rattle.rm_types.specs.Frames.{CanBeFramed}
 use Rattle.rm_types.specs.Ids.{is_app}
 use Rattle.rm_types.specs.Records.{new_record}
 use Rattle.rm_model.specs.Facts.{is_app_op}
@@ -19,8 +20,8 @@ use Rattle.rm_core.specs.declared.events.MainEvent.{MainEvent}
 use Rattle.rm_core.specs.declared.events.MainEvent.TheVariants.{EpochStart, AppStart, AppSaved, AppAccepted, Retire}
 use Rattle.rm_core.specs.declared.events.SchedEvent.{SchedEvent}
 use Rattle.rm_core.specs.declared.events.SchedEvent.TheVariants.{AppAdded, AttemptAdded}
-use Rattle.rm_core.specs.InFlight.{AtApp, Runs, AllLater, AllApps, AllPlain, AllFirst, AllMasters, is_start, is_saved, is_accept, is_added, is_queueing, kept_at, submitted_at, asks_at, submitted_ids, saving, starting}
-use Rattle.rm_core.specs.Steps.{first_attempt}
+use Rattle.rm_core.specs.InFlight.{AtApp, Runs, AllLater, AllApps, AllSavable, AllPlain, AllFirst, AllMasters, is_start, is_saved, is_accept, is_added, is_queueing, kept_at, submitted_at, asks_at, submitted_ids, saving, starting}
+use Rattle.rm_core.specs.Steps.{first_attempt, opening_events}
 use Rattle.rm_core.proofs.Counts.{count_front, count_end}
 use Rattle.rm_core.proofs.Ids.{is_app-refl, is_app_same, same_test}
 
@@ -207,14 +208,28 @@ AllFirst-push [] e h l = l
 AllFirst-push (AppAdded id ∷ sched) e h l = AllFirst-push sched e h l
 AllFirst-push (AttemptAdded attempt ∷ sched) e h l = (h.0, AllFirst-push sched e h.1 l)
 
-AllApps-push : (ops : List Op) (id : AppId) (s : Submission) → AllApps ops → AllApps (ops ++ App id s ∷ [])
-AllApps-push [] id s h = tt
-AllApps-push (App one two ∷ ops) id s h = AllApps-push ops id s h
-AllApps-push (Epoch next stamp ∷ ops) id s h = absurd h
-AllApps-push (Attempt one master node ∷ ops) id s h = absurd h
-AllApps-push (AttemptEnd one how text ∷ ops) id s h = absurd h
-AllApps-push (AppEnd one how text ∷ ops) id s h = absurd h
-AllApps-push (Remove one ∷ ops) id s h = absurd h
+AllApps-push : (ops : List Op) (id : AppId) (s : Submission) → AllApps ops → CanBeFramed (App id s) → AllApps (ops ++ App id s ∷ [])
+AllApps-push [] id s h can = (can, tt)
+AllApps-push (App one two ∷ ops) id s h can = (h.0, AllApps-push ops id s h.1 can)
+AllApps-push (Epoch next stamp ∷ ops) id s h can = absurd h
+AllApps-push (Attempt one master node ∷ ops) id s h can = absurd h
+AllApps-push (AttemptEnd one how text ∷ ops) id s h can = absurd h
+AllApps-push (AppEnd one how text ∷ ops) id s h can = absurd h
+AllApps-push (Remove one ∷ ops) id s h can = absurd h
+
+AllSavable-push : (submitted : List Submitted) (one : Submitted) → AllSavable submitted → CanBeFramed (App one.id one.submission) → AllSavable (submitted ++ one ∷ [])
+AllSavable-push [] one h can = (can, tt)
+AllSavable-push (other ∷ submitted) one h can = (h.0, AllSavable-push submitted one h.1 can)
+
+savable_one : (one : Submitted) (more : List Submitted) (id : AppId) (b : Bool) → is_app one.id id ≡ b → CanBeFramed (App one.id one.submission)
+    → AllSavable (filter (is_other id) more) → AllSavable (filter (is_other id) (one ∷ more))
+savable_one one more id true e can h = rw e h
+savable_one one more id false e can h = rw e (can, h)
+
+-- what is left without an application can be saved still
+AllSavable-filter : (submitted : List Submitted) (id : AppId) → AllSavable submitted → AllSavable (filter (is_other id) submitted)
+AllSavable-filter [] id h = tt
+AllSavable-filter (one ∷ more) id h = savable_one one more id (is_app one.id id) refl h.0 (AllSavable-filter more id h.1)
 
 AllPlain-push : (apps : List AppRecord) (id : AppId) (s : Submission) → AllPlain apps → AllPlain (apps ++ new_record id s ∷ [])
 AllPlain-push [] id s h = (refl, refl, tt)
@@ -233,19 +248,21 @@ module _ (apps : List AppRecord) (submitted : List Submitted) (awaiting : List O
         order = r.order;
         later = r.later;
         apps_await = r.apps_await;
+        savable = r.savable;
         plain = r.plain;
         first = r.first;
         masters = r.masters;
       }
 
-  pub start_runs : (id : AppId) (s : Submission) → Runs apps submitted awaiting accepted asks (AppStart id ∷ main) sched
+  pub start_runs : (id : AppId) (s : Submission) → CanBeFramed (App id s) → Runs apps submitted awaiting accepted asks (AppStart id ∷ main) sched
       → Runs apps submitted (awaiting ++ App id s ∷ []) accepted asks main sched
-  start_runs id s r =
+  start_runs id s can r =
       record {
         at = λ q. start_at apps submitted awaiting accepted asks main sched q id s (r.at q);
         order = simp (flat_map-append, append_assoc) r.order;
         later = r.later;
-        apps_await = AllApps-push awaiting id s r.apps_await;
+        apps_await = AllApps-push awaiting id s r.apps_await can;
+        savable = r.savable;
         plain = r.plain;
         first = r.first;
         masters = r.masters;
@@ -259,6 +276,7 @@ module _ (apps : List AppRecord) (submitted : List Submitted) (awaiting : List O
         order = r.order;
         later = r.later;
         apps_await = r.apps_await;
+        savable = r.savable;
         plain = r.plain;
         first = AllFirst-push sched (AppAdded id) r.first tt;
         masters = r.masters;
@@ -272,6 +290,7 @@ module _ (apps : List AppRecord) (submitted : List Submitted) (awaiting : List O
         order = r.order;
         later = r.later;
         apps_await = r.apps_await;
+        savable = r.savable;
         plain = r.plain;
         first = AllFirst-push sched (AttemptAdded (first_attempt id)) r.first (refl, tt);
         masters = r.masters;
@@ -285,6 +304,7 @@ module _ (apps : List AppRecord) (submitted : List Submitted) (awaiting : List O
         order = simp (flat_map-append, append-nil) r.order;
         later = AllLater-push main (AppAccepted id) r.later tt;
         apps_await = r.apps_await;
+        savable = r.savable;
         plain = r.plain;
         first = r.first;
         masters = r.masters;
@@ -299,20 +319,22 @@ module _ (apps : List AppRecord) (submitted : List Submitted) (awaiting : List O
         order = r.order;
         later = r.later;
         apps_await = r.apps_await;
+        savable = r.savable;
         plain = r.plain;
         first = r.first.1;
         masters = AllMasters-push asks one r.masters (ap (λ (a : AttemptId). a.number) e ∙ r.first.0) p;
       }
 
-  pub join_runs : (id : AppId) (s : Submission) → kept_at id apps ≡ 0 → submitted_at id submitted ≡ 0
+  pub join_runs : (id : AppId) (s : Submission) → CanBeFramed (App id s) → kept_at id apps ≡ 0 → submitted_at id submitted ≡ 0
       → Runs apps submitted awaiting accepted asks main sched
       → Runs apps (submitted ++ record { id = id; submission = s } ∷ []) awaiting accepted asks (main ++ AppStart id ∷ []) sched
-  join_runs id s kept new r =
+  join_runs id s can kept new r =
       record {
         at = λ q. join_more apps submitted awaiting accepted asks main sched q id s (is_app id q) refl kept new (r.at q);
         order = simp (map-append, flat_map-append, append_assoc) (ap (λ xs. xs ++ id ∷ []) r.order ∙ simp append_assoc refl);
         later = AllLater-push main (AppStart id) r.later tt;
         apps_await = r.apps_await;
+        savable = AllSavable-push submitted (record { id = id; submission = s }) r.savable can;
         plain = r.plain;
         first = r.first;
         masters = r.masters;
@@ -328,21 +350,52 @@ module _ (apps : List AppRecord) (submitted : List Submitted) (awaiting : List O
         at = λ q. keep_more apps submitted awaiting accepted asks main sched q id s (is_app id q) refl (r.at q);
         order = left ∙ simp (flat_map-append, append-nil) refl;
         later = AllLater-push main (AppSaved id) r.later tt;
-        apps_await = r.apps_await;
+        apps_await = r.apps_await.1;
+        savable = AllSavable-filter submitted id r.savable;
         plain = AllPlain-push apps id s r.plain;
         first = r.first;
         masters = r.masters;
       }
 
+-- the events with which a life opens: each recorded application is saved once, and there is no other event of one
+saves_at : (apps : List AppRecord) (q : AppId) → count_by (is_saved q) (opening_events apps) ≡ kept_at q apps
+saves_at [] q = refl
+saves_at (app ∷ apps) q =
+    let f = count_front (is_saved q) (AppSaved app.id) (opening_events apps) in
+    let g = count_front (λ (one : AppRecord). is_app one.id q) app apps in
+    omega (arith, f, g, saves_at apps q)
+
+starts_none : (apps : List AppRecord) (q : AppId) → count_by (is_start q) (opening_events apps) ≡ 0
+starts_none [] q = refl
+starts_none (app ∷ apps) q = let f = count_front (is_start q) (AppSaved app.id) (opening_events apps) in omega (arith, f, starts_none apps q)
+
+accepts_none : (apps : List AppRecord) (q : AppId) → count_by (is_accept q) (opening_events apps) ≡ 0
+accepts_none [] q = refl
+accepts_none (app ∷ apps) q = let f = count_front (is_accept q) (AppSaved app.id) (opening_events apps) in omega (arith, f, accepts_none apps q)
+
+starting_none : (apps : List AppRecord) → flat_map starting (opening_events apps) ≡ []
+starting_none [] = refl
+starting_none (app ∷ apps) = starting_none apps
+
+opening_later : (apps : List AppRecord) → AllLater (opening_events apps)
+opening_later [] = tt
+opening_later (app ∷ apps) = opening_later apps
+
 -- an open life as it begins
-pub empty_runs : Runs [] [] [] [] [] (Retire ∷ []) []
-empty_runs =
+pub opening_runs : (apps : List AppRecord) → AllPlain apps → ((q : AppId) → kept_at q apps ≤ 1) → Runs apps [] [] [] [] (opening_events apps) []
+opening_runs apps plain once =
     record {
-      at = λ q. record { once = omega arith; waits = refl; on_its_way = refl; scheduled = refl };
-      order = refl;
-      later = tt;
+      at = λ q.
+          let saves = saves_at apps q in
+          let starts = starts_none apps q in
+          let accepts = accepts_none apps q in
+          let one = once q in
+          record { once = omega (arith, one); waits = omega (arith, starts); on_its_way = omega (arith, saves, accepts); scheduled = refl };
+      order = sym (starting_none apps);
+      later = opening_later apps;
       apps_await = tt;
-      plain = tt;
+      savable = tt;
+      plain = plain;
       first = tt;
       masters = tt;
     }

@@ -36,7 +36,7 @@ no_ends (app ∷ more) test h = sum_by-cons (λ app. cond (is_some app.ending &&
 -- no other operation than an App awaits
 pub no_app_end : (ops : List Op) (id : AppId) → AllApps ops → list_any (is_app_end_op id) ops ≡ false
 no_app_end [] id h = refl
-no_app_end (App one submission ∷ ops) id h = no_app_end ops id h
+no_app_end (App one submission ∷ ops) id h = no_app_end ops id h.1
 no_app_end (Epoch next stamp ∷ ops) id h = absurd h
 no_app_end (Attempt one master node ∷ ops) id h = absurd h
 no_app_end (AttemptEnd one how text ∷ ops) id h = absurd h
@@ -45,7 +45,7 @@ no_app_end (Remove one ∷ ops) id h = absurd h
 
 pub no_attempt_op : (ops : List Op) (id : AttemptId) → AllApps ops → list_any (is_attempt_op id) ops ≡ false
 no_attempt_op [] id h = refl
-no_attempt_op (App one submission ∷ ops) id h = no_attempt_op ops id h
+no_attempt_op (App one submission ∷ ops) id h = no_attempt_op ops id h.1
 no_attempt_op (Epoch next stamp ∷ ops) id h = absurd h
 no_attempt_op (Attempt one master node ∷ ops) id h = absurd h
 no_attempt_op (AttemptEnd one how text ∷ ops) id h = absurd h
@@ -55,7 +55,7 @@ no_attempt_op (Remove one ∷ ops) id h = absurd h
 -- an App awaits of each application that is among those of the awaiting operations
 pub saving_awaits : (ops : List Op) (id : AppId) → AllApps ops → has_app (flat_map saving ops) id ≡ list_any (is_app_op id) ops
 saving_awaits [] id h = refl
-saving_awaits (App one submission ∷ ops) id h = ap (λ b. is_app one id || b) (saving_awaits ops id h)
+saving_awaits (App one submission ∷ ops) id h = ap (λ b. is_app one id || b) (saving_awaits ops id h.1)
 saving_awaits (Epoch next stamp ∷ ops) id h = absurd h
 saving_awaits (Attempt one master node ∷ ops) id h = absurd h
 saving_awaits (AttemptEnd one how text ∷ ops) id h = absurd h

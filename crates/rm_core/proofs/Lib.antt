@@ -1,7 +1,9 @@
+pub mod Listed
 pub mod Counts
 pub mod Ids
 pub mod Flows
 pub mod Standing
+pub mod Recorded
 pub mod Opening
 pub mod Found
 pub mod Deciding

@@ -20,11 +20,11 @@ use Rattle.rm_core.specs.declared.events.SchedEvent.{SchedEvent}
 use Rattle.rm_core.specs.declared.tables.Tables.{Tables}
 use Rattle.rm_core.specs.Seen.{Rests, RestsWhere}
 use Rattle.rm_core.specs.Told.{History, scene_in, life_in, standing}
-use Rattle.rm_core.specs.Keeps.{Keeps, Stage, none, starting, saving, running, IsRunning}
+use Rattle.rm_core.specs.Keeps.{Keeps, IsSound, Stage, none, starting, saving, running, IsRunning}
 use Rattle.rm_core.specs.InFlight.{Runs, kept_at, submitted_at, accepted_at, asks_at}
 use Rattle.rm_core.proofs.Counts.{some_passes, passes_once, is_some-find}
 use Rattle.rm_core.proofs.Found.{plain_found, no_ends, has_asked}
-use Rattle.rm_core.proofs.Standing.{keeps_more, stands}
+use Rattle.rm_core.proofs.Standing.{keeps_more, stands, known}
 
 -- a known application of an open life in which nothing is in flight is kept and accepted, and asks for its master
 pub record IsSettled (t : Tables) (id : AppId) : Type 0 where
@@ -90,33 +90,35 @@ at_rest_runs t r m n w =
     let at_sched = subst (λ (x : List SchedEvent). Runs t.apps t.submitted t.awaiting t.accepted t.asks [] x) n at_main in
     subst (λ (x : List Op). Runs t.apps t.submitted x t.accepted t.asks [] []) w at_sched
 
-pub settle_keeps : (settings : Settings) (log : List Entry) (t : Tables) → Keeps settings log t → t.alive ≡ true → t.main ≡ [] → t.sched ≡ [] → t.awaiting ≡ []
-    → Keeps settings (log ++ Settled ∷ []) t
-settle_keeps settings log t k a m n w =
-    let r = at_rest t k.stage a m w in
-    keeps_more settings log t t Settled k a a (record { none_awaits = w; owes_nothing = owes_nothing settings k.history t r.is_open w (at_rest_runs t r m n w) }) refl k.recorded k.stage k.epoch k.given
+module _ (settings : Settings) (t : Tables) (s : IsSound settings t) where
+  pub settle_keeps : (ops : List Op) (log : List Entry) → Keeps settings ops log t → t.alive ≡ true → t.main ≡ [] → t.sched ≡ [] → t.awaiting ≡ []
+      → Keeps settings ops (log ++ Settled ∷ []) t
+  settle_keeps ops log k a m n w =
+      let r = at_rest t s.stage a m w in
+      keeps_more settings ops log t t Settled k a a (record { none_awaits = w; owes_nothing = owes_nothing settings k.history t r.is_open w (at_rest_runs t r m n w) })
+      refl (known settings ops log t k a)
 
--- an open life at rest, by the tables
-rests_open : (settings : Settings) (log : List Entry) (t : Tables) → Keeps settings log t → t.alive ≡ true → t.main ≡ [] → t.sched ≡ [] → t.awaiting ≡ []
-    → RestsWhere (record { settings = settings; tables = t; log = log })
-rests_open settings log t k a m n w =
-    let r = at_rest t k.stage a m w in
-    let owes : Owed settings (record { records = records k.history.kept; awaiting = t.awaiting; life = life_in k.history t }) → ⊥ =
-    subst (λ (x : Records). Owed settings (record { records = x; awaiting = t.awaiting; life = life_in k.history t }) → ⊥) (sym k.recorded) (owes_nothing settings k.history t r.is_open w (at_rest_runs t r m n w)) in
-    let rest : IsAtRest settings (standing k.history t) (standing k.history t).life = (w, owes) in
-    record { is_open = λ _. r.is_open; at_rest = subst (λ (s : Manager). IsAtRest settings s s.life) (sym (stands settings log t k a)) rest }
+  -- an open life at rest, by the tables
+  open_rests : (ops : List Op) (log : List Entry) → Keeps settings ops log t → t.alive ≡ true → t.main ≡ [] → t.sched ≡ [] → t.awaiting ≡ []
+      → IsAtRest settings (state_after ops log) (state_after ops log).life
+  open_rests ops log k a m n w =
+      let r = at_rest t s.stage a m w in
+      let owes : Owed settings (record { records = records k.history.kept; awaiting = t.awaiting; life = life_in k.history t }) → ⊥ =
+      subst (λ (x : Records). Owed settings (record { records = x; awaiting = t.awaiting; life = life_in k.history t }) → ⊥) (sym (known settings ops log t k a)) (owes_nothing settings k.history t r.is_open w (at_rest_runs t r m n w)) in
+      let rest : IsAtRest settings (standing k.history t) (standing k.history t).life = (w, owes) in
+      subst (λ (x : Manager). IsAtRest settings x x.life) (sym (stands settings ops log t k a)) rest
 
--- and between lives
-rests_between : (settings : Settings) (log : List Entry) (t : Tables) → Keeps settings log t → t.alive ≡ false → RestsWhere (record { settings = settings; tables = t; log = log })
-rests_between settings log t k a =
-    let at : state_after [] log ≡ record { kept = k.history.kept; awaiting = t.awaiting; blew = false; life = None } = k.same ∙ rw a refl in
-    record { is_open = λ h. cc; at_rest = subst (λ (s : Manager). IsAtRest settings s s.life) (sym at) tt }
+  -- and between lives
+  between_rests : (ops : List Op) (log : List Entry) → Keeps settings ops log t → t.alive ≡ false → IsAtRest settings (state_after ops log) (state_after ops log).life
+  between_rests ops log k a =
+      let at : state_after ops log ≡ record { kept = k.history.kept; awaiting = t.awaiting; blew = false; life = None } = k.same ∙ rw a refl in
+      subst (λ (x : Manager). IsAtRest settings x x.life) (sym at) tt
 
-rests_where : (settings : Settings) (log : List Entry) (t : Tables) → Keeps settings log t → t.main ≡ [] → t.sched ≡ [] → (t.alive ≡ true → t.awaiting ≡ []) → (b : Bool) → t.alive ≡ b
-    → RestsWhere (record { settings = settings; tables = t; log = log })
-rests_where settings log t k m n w true a = rests_open settings log t k a m n (w a)
-rests_where settings log t k m n w false a = rests_between settings log t k a
+  rests_where : (log : List Entry) → t.main ≡ [] → t.sched ≡ [] → (t.alive ≡ true → t.awaiting ≡ []) → (b : Bool) → t.alive ≡ b
+      → RestsWhere (record { settings = settings; tables = t; log = log })
+  rests_where log m n w true a = record { is_open = λ _. (at_rest t s.stage a m (w a)).is_open; at_rest = λ ops k. open_rests ops log k a m n (w a) }
+  rests_where log m n w false a = record { is_open = λ h. cc; at_rest = λ ops k. between_rests ops log k a }
 
--- where nothing is left to do, nothing is owed
-pub keeps_rests : (settings : Settings) (log : List Entry) (t : Tables) → Keeps settings log t → Rests (record { settings = settings; tables = t; log = log })
-keeps_rests settings log t k = λ m n w. rests_where settings log t k m n w t.alive refl
+  -- where nothing is left to do, nothing is owed
+  pub sound_rests : (log : List Entry) → Rests (record { settings = settings; tables = t; log = log })
+  sound_rests log = λ m n w. rests_where log m n w t.alive refl

@@ -1,5 +1,5 @@
 -- Each move of the manager's own makes less of what is left to do, and a message adds little.
-use Rattle.std.proofs.Common.{◌≡◌, ℕ, ◌+◌, ◌<◌, ◌≤◌, List, [], ◌∷◌, ◌++◌, Bool, true, false, Some, None, Option, drop, length, refl, arith}
+use Rattle.std.proofs.Common.{◌≡◌, ℕ, ◌+◌, ◌*◌, ◌<◌, ◌≤◌, List, [], ◌∷◌, ◌++◌, Bool, true, false, Some, None, Option, drop, length, refl, arith}
 use Rattle.std.specs.List.{sum_by}
 use Rattle.std.proofs.lemmas.List.Sums.{sum_by-cons, sum_by-append}
 use Rattle.std.proofs.lemmas.List.{length-append}
@@ -9,6 +9,8 @@ use Rattle.rm_types.specs.declared.messages.ClientAsk.TheVariants.{New, Submit, 
 use Rattle.rm_types.specs.declared.operations.Op.{Op}
 use Rattle.rm_types.specs.declared.operations.Op.TheVariants.{Epoch, App}
 use Rattle.rm_types.specs.declared.operations.Submission.{Submission}
+use Rattle.rm_types.specs.declared.records.AppRecord.{AppRecord}
+use Rattle.rm_types.specs.Records.{Records}
 use Rattle.rm_types.specs.declared.replies.Reply.{Reply}
 use Rattle.rm_types.specs.declared.replies.Reply.TheVariants as replies
 use Rattle.rm_model.specs.Facts.{is_known, waiting_submission}
@@ -18,9 +20,9 @@ use Rattle.rm_core.specs.declared.events.SchedEvent.{SchedEvent}
 use Rattle.rm_core.specs.declared.events.SchedEvent.TheVariants.{AppAdded, AttemptAdded}
 use Rattle.rm_core.specs.declared.tables.Tables.{Tables}
 use Rattle.rm_core.specs.Serving.{after_client, taken}
-use Rattle.rm_core.specs.Steps.{app_op, first_attempt, main_after, sched_after, kept_after, handed_out, epoch_op}
+use Rattle.rm_core.specs.Steps.{app_op, first_attempt, main_after, sched_after, kept_after, handed_out, epoch_op, begun, gone_down, opening_events}
 use Rattle.rm_core.specs.Told.{scene_in, no_history}
-use Rattle.rm_core.specs.Weights.{weight, main_weight, sched_weight}
+use Rattle.rm_core.specs.Weights.{weight, main_weight, sched_weight, opening_weight}
 
 -- one more event at the end of the queue
 main_push : (xs : List MainEvent) (e : MainEvent) → sum_by main_weight (xs ++ e ∷ []) ≡ sum_by main_weight xs + main_weight e
@@ -67,15 +69,35 @@ sched_lighter t (AttemptAdded attempt) rest h = let f = sched_front t.sched (Att
 one_kept : (xs : List Op) (op : Op) (rest : List Op) → xs ≡ op ∷ rest → (length xs ≡ length rest + 1) × (length (drop 1 xs) ≡ length rest)
 one_kept xs op rest h = (rw h (omega arith), rw h refl)
 
-pub epoch_lighter : (t : Tables) (next stamp : ℕ) (rest : List Op) → t.awaiting ≡ Epoch next stamp ∷ rest → weight (kept_after t (Epoch next stamp)) < weight t
-epoch_lighter t next stamp rest h =
-    let f = one_kept t.awaiting (Epoch next stamp) rest h in
-    omega (arith, f.0, f.1, main_push t.main Retire)
+-- the events with which a life opens
+opening_weighs : (apps : List AppRecord) → sum_by main_weight (opening_events apps) ≡ 7 * length apps + 1
+opening_weighs [] = refl
+opening_weighs (app ∷ apps) =
+    let f = sum_by-cons main_weight (AppSaved app.id) (opening_events apps) in
+    omega (arith, f, opening_weighs apps)
 
-pub app_lighter : (t : Tables) (id : AppId) (s : Submission) (rest : List Op) → t.awaiting ≡ App id s ∷ rest → weight (kept_after t (App id s)) < weight t
-app_lighter t id s rest h =
+pub epoch_lighter : (t : Tables) (next stamp : ℕ) (rest : List Op) → t.awaiting ≡ Epoch next stamp ∷ rest → t.alive ≡ true → t.is_open ≡ false
+    → weight (kept_after t (Epoch next stamp)) < weight t
+epoch_lighter t next stamp rest h a o =
+    let f = one_kept t.awaiting (Epoch next stamp) rest h in
+    let before : opening_weight t ≡ 7 * length t.apps = rw (a, o) refl in
+    let now : opening_weight (kept_after t (Epoch next stamp)) ≡ 0 = rw a refl in
+    omega (arith, f.0, f.1, opening_weighs t.apps, before, now)
+
+pub app_lighter : (t : Tables) (id : AppId) (s : Submission) (rest : List Op) → t.awaiting ≡ App id s ∷ rest → t.alive ≡ true → t.is_open ≡ true
+    → weight (kept_after t (App id s)) < weight t
+app_lighter t id s rest h a o =
     let f = one_kept t.awaiting (App id s) rest h in
-    omega (arith, f.0, f.1, main_push t.main (AppSaved id))
+    let now : opening_weight (kept_after t (App id s)) ≡ 0 = rw (a, o) refl in
+    omega (arith, f.0, f.1, main_push t.main (AppSaved id), now)
+
+-- a life begins with its first event and what is recorded
+pub begin_weighs : (tree : Records) (stamp : ℕ) (t : Tables) → weight (begun tree stamp t) ≤ 13 + 7 * length tree.apps
+begin_weighs tree stamp t = omega (arith, sum_by-cons main_weight EpochStart [])
+
+-- nothing is left to do of a life that goes down
+pub down_weighs : (t : Tables) → t.handed ≡ false → weight (gone_down t) ≤ weight t
+down_weighs t h = rw h (omega arith)
 
 pub hand_lighter : (t : Tables) → t.handed ≡ false → weight (handed_out t) < weight t
 hand_lighter t h = rw h (omega arith)

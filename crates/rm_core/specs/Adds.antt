@@ -1,24 +1,41 @@
 -- What a move asks, and what it adds to the log.
-use Rattle.std.specs.Prelude.{◌≡◌, ℕ, ◌+◌, ◌<◌, ◌≤◌, max, List, [], ◌∷◌, ◌++◌, Bool, true}
+use Rattle.std.specs.Prelude.{◌≡◌, ℕ, ◌+◌, ◌-◌, ◌*◌, ◌^◌, ◌<◌, ◌≤◌, max, length, List, [], ◌∷◌, ◌++◌, Bool, true, false, None, Some}
 use Rattle.rm_types.specs.declared.entries.Entry.{Entry}
-use Rattle.rm_types.specs.declared.entries.Entry.TheVariants.{Opened, Issued, Handed, Kept as KeptEntry, Served, Accepted, Queued, Settled, Quiet}
+use Rattle.rm_types.specs.declared.entries.Entry.TheVariants.{Opened, Issued, Handed, Kept as KeptEntry, Served, Accepted, Queued, Settled, Down as DownEntry, Quiet}
 use Rattle.rm_types.specs.declared.messages.Lane.{Lane}
 use Rattle.rm_types.specs.declared.messages.Lane.TheVariants.{Main as MainLane, Sched as SchedLane, Hand as HandLane, Write, End, Begin as BeginLane}
 use Rattle.rm_types.specs.declared.operations.Op.{Op}
-use Rattle.rm_types.specs.Records.{records}
-use Rattle.rm_model.specs.Lawful.{state_after}
 use Rattle.rm_types.specs.declared.replies.Reply.{Reply}
+use Rattle.rm_types.specs.Records.{Records, records, stray}
+use Rattle.rm_model.specs.Lawful.{state_after}
 use Rattle.rm_model.specs.Page.{feed_lane}
 use Rattle.rm_model.specs.Replies.{sender_of}
+use Rattle.rm_core.specs.InFlight.{AllPlain}
+use Rattle.rm_core.specs.Ready.{is_ready, may_go_down}
+use Rattle.rm_core.specs.Seen.{Seen, handed_op}
 use Rattle.rm_core.specs.Serving.{IsBuiltMessage}
 use Rattle.rm_core.specs.declared.tables.Tables.{Tables}
 use Rattle.rm_core.specs.declared.manager.Move.{Move}
-use Rattle.rm_core.specs.declared.manager.Move.TheVariants.{Serve, Main, Sched, Hand, Kept, Settle, Begin}
+use Rattle.rm_core.specs.declared.manager.Move.TheVariants.{Serve, Main, Sched, Hand, Kept, Settle, Down, Begin}
+
+-- the tree is what some operations of a store amount to
+pub record IsOfStore (tree : Records) : Type 0 where
+  pub ops : List Op
+  pub none_stray : stray ops ≡ None
+  pub amounts : tree ≡ records ops
+
+-- a life may begin over what is recorded: there is an epoch and a stamp left, and so far no application has an attempt or
+-- an end
+pub record CanBeginOver (tree : Records) : Type 0 where
+  pub of_store : IsOfStore tree
+  pub epoch : tree.next_epoch < 2 ^ 24
+  pub stamp : tree.stamp < 2 ^ 63 - 1
+  pub plain : AllPlain tree.apps
 
 -- a move may be asked for: the number that is handed to a life is 1 to 10^15; a message is of a kind that is served, and
 -- not more than 100,000 are served in a life
 abbrev pub CanMake : Tables → Move → Type 0
-CanMake t (Begin handed) = (1 ≤ handed) × (handed ≤ 1000000000000000)
+CanMake t (Begin tree handed) = CanBeginOver tree × (1 ≤ handed) × (handed ≤ 1000000000000000)
 CanMake t (Serve message) = IsBuiltMessage message × (t.served < 100000)
 CanMake t _ = Unit {0}
 
@@ -30,7 +47,13 @@ lane_of Sched = SchedLane
 lane_of Hand = HandLane
 lane_of Kept = Write
 lane_of Settle = End
-lane_of (Begin handed) = BeginLane
+lane_of Down = End
+lane_of (Begin tree handed) = BeginLane
+
+-- a move may be made: its lane is ready; a life may go down before all is worked off
+abbrev pub may_make : Tables → Move → Bool
+may_make t Down = may_go_down t
+may_make t next = is_ready t (lane_of next)
 
 -- the entries that the main queue's dispatcher may log
 abbrev pub IsOfMain : Entry → Type 0
@@ -46,36 +69,51 @@ IsOfSched (Quiet lane) = lane ≡ SchedLane
 IsOfSched _ = ⊥
 
 -- the entry that a move adds to a log
-abbrev pub IsOf : Move → List Entry → Entry → Type 0
-IsOf (Begin handed) log e = (epoch : ℕ) × (e ≡ Opened 0 epoch (max handed ((records (state_after [] log).kept).stamp + 1)))
-IsOf Main log e = IsOfMain e
-IsOf (Serve message) log e = (reply : Reply) × (e ≡ Served (sender_of message) message reply)
-IsOf Sched log e = IsOfSched e
-IsOf Hand log e = e ≡ Handed
-IsOf Kept log e = (op : Op) × (e ≡ KeptEntry op)
-IsOf Settle log e = e ≡ Settled
+abbrev pub IsOf : Move → Tables → Entry → Type 0
+IsOf (Begin tree handed) t e = e ≡ Opened 0 tree.next_epoch (max handed (tree.stamp + 1))
+IsOf Main t e = IsOfMain e
+IsOf (Serve message) t e = (reply : Reply) × (e ≡ Served (sender_of message) message reply)
+IsOf Sched t e = IsOfSched e
+IsOf Hand t e = e ≡ Handed
+IsOf Kept t e = (op : Op) × (handed_op t ≡ Some op) × (e ≡ KeptEntry op)
+IsOf Settle t e = e ≡ Settled
+IsOf Down t e = e ≡ DownEntry
 
 -- a move adds one entry, which is of its kind
-pub record Adds (next : Move) (log longer : List Entry) : Type 0 where
+pub record Adds (next : Move) (t : Tables) (log longer : List Entry) : Type 0 where
   pub entry : Entry
-  pub of_move : IsOf next log entry
+  pub of_move : IsOf next t entry
   pub added : longer ≡ log ++ entry ∷ []
 
+-- the tree is what the operations that are kept after a log amount to
+pub record AmountsTo (tree : Records) (opening : List Op) (seen : Seen) : Type 0 where
+  pub next_epoch : tree.next_epoch ≡ (records (state_after opening seen.log).kept).next_epoch
+  pub stamp : tree.stamp ≡ (records (state_after opening seen.log).kept).stamp
+  pub apps : tree.apps ≡ (records (state_after opening seen.log).kept).apps
+
+-- a life begins over what is kept; of other moves this says nothing
+abbrev pub GoesOnFrom : Move → List Op → Seen → Type 0
+GoesOnFrom (Begin tree handed) opening seen = AmountsTo tree opening seen
+GoesOnFrom _ opening seen = Unit {0}
+
 -- a move of the manager's own makes the weight less; a message adds 20 at most; a life begins with the weight of its first
--- event
+-- event and of what is recorded
 abbrev pub Weighs : Move → ℕ → ℕ → Type 0
-Weighs (Begin handed) old new = new ≤ 13
+Weighs (Begin tree handed) old new = new ≤ 13 + 7 * length tree.apps
 Weighs Settle old new = new ≤ old
+Weighs Down old new = new ≤ old
 Weighs (Serve message) old new = new ≤ old + 20
 Weighs _ old new = new < old
 
--- a life stands after each move, and before each that doesn't begin one
+-- a life stands after each move but the one that it goes down by, and before each that doesn't begin one
 abbrev pub Stands : Move → Bool → Bool → Type 0
-Stands (Begin handed) before now = now ≡ true
+Stands (Begin tree handed) before now = (before ≡ false) × (now ≡ true)
+Stands Down before now = (before ≡ true) × (now ≡ false)
 Stands _ before now = (before ≡ true) × (now ≡ true)
 
 -- how many messages were served in the life after a move
 abbrev pub served_after : Move → ℕ → ℕ
-served_after (Begin handed) served = 0
+served_after (Begin tree handed) served = 0
+served_after Down served = 0
 served_after (Serve message) served = served + 1
 served_after _ served = served

@@ -8,6 +8,7 @@ use Rattle.rm_types.specs.declared.operations.Op.{Op}
 use Rattle.rm_types.specs.declared.operations.Op.TheVariants.{App}
 use Rattle.rm_types.specs.declared.operations.Submitted.{Submitted}
 use Rattle.rm_types.specs.declared.records.AppRecord.{AppRecord}
+use Rattle.rm_types.specs.Frames.{CanBeFramed}
 use Rattle.rm_types.specs.Ids.{is_app}
 use Rattle.rm_model.specs.Facts.{is_app_op}
 use Rattle.rm_core.specs.declared.events.MainEvent.{MainEvent}
@@ -94,11 +95,16 @@ AllLater (AppSaved id ∷ more) = AllLater more
 AllLater (AppAccepted id ∷ more) = AllLater more
 AllLater (Retire ∷ more) = AllLater more
 
--- the operations that await are of applications
+-- the operations that await are of applications, with their parts in their ranges
 abbrev pub AllApps : List Op → Type 0
 AllApps [] = Unit {0}
-AllApps (App id submission ∷ more) = AllApps more
+AllApps (App id submission ∷ more) = CanBeFramed (App id submission) × AllApps more
 AllApps (_ ∷ more) = ⊥
+
+-- so are the operations that submissions will be
+abbrev pub AllSavable : List Submitted → Type 0
+AllSavable [] = Unit {0}
+AllSavable (one ∷ more) = CanBeFramed (App one.id one.submission) × AllSavable more
 
 -- no application has an attempt or an end
 abbrev pub AllPlain : List AppRecord → Type 0
@@ -124,6 +130,7 @@ pub record Runs (apps : List AppRecord) (submitted : List Submitted) (awaiting :
   pub order : submitted_ids submitted ≡ flat_map saving awaiting ++ flat_map starting main
   pub later : AllLater main
   pub apps_await : AllApps awaiting
+  pub savable : AllSavable submitted
   pub plain : AllPlain apps
   pub first : AllFirst sched
   pub masters : AllMasters asks

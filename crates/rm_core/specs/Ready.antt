@@ -19,3 +19,7 @@ is_ready t Hand = t.alive && not (is_nil t.awaiting) && not t.handed
 is_ready t Write = t.alive && t.handed
 is_ready t End = t.alive && is_nil t.main && is_nil t.sched && is_nil t.awaiting
 is_ready t Begin = not t.alive
+
+-- a life may go down where no operation is with the store
+abbrev pub may_go_down : Tables → Bool
+may_go_down t = t.alive && not t.handed

@@ -3,6 +3,7 @@ use Rattle.std.specs.Prelude.{◌≡◌, ℕ, ◌+◌, List, [], ◌∷◌, ◌+
 use Rattle.rm_types.specs.declared.ids.AppId.{AppId}
 use Rattle.rm_types.specs.declared.messages.ClientAsk.{ClientAsk}
 use Rattle.rm_types.specs.declared.messages.ClientAsk.TheVariants.{New, Submit, Report, Kill}
+use Rattle.rm_types.specs.declared.operations.Op.TheVariants.{App}
 use Rattle.rm_types.specs.declared.operations.Submission.{Submission}
 use Rattle.rm_types.specs.declared.replies.Report.{Report as ReportOf}
 use Rattle.rm_types.specs.declared.replies.StateWord.{StateWord}
@@ -14,16 +15,17 @@ use Rattle.rm_types.specs.declared.messages.Sender.TheVariants.{Client}
 use Rattle.rm_types.specs.declared.replies.Reply.{Reply}
 use Rattle.rm_types.specs.declared.replies.Reply.TheVariants.{New as Gives, Submitted as Taken}
 use Rattle.rm_types.specs.declared.settings.Settings.{Settings}
+use Rattle.rm_types.specs.Frames.{CanBeFramed}
 use Rattle.rm_model.specs.Facts.{is_known}
 use Rattle.rm_model.specs.Replies.{AnswersClient}
 use Rattle.rm_core.specs.declared.events.MainEvent.TheVariants.{AppStart}
 use Rattle.rm_core.specs.declared.tables.Tables.{Tables}
 use Rattle.rm_core.specs.Told.{scene_in, no_history}
 
--- the asks that are served so far: no kill
+-- the asks that are served so far: no kill; the parts of a submission are in their ranges
 abbrev pub IsBuiltAsk : ClientAsk → Type 0
 IsBuiltAsk New = Unit {0}
-IsBuiltAsk (Submit id submission) = Unit {0}
+IsBuiltAsk (Submit id submission) = CanBeFramed (App id submission)
 IsBuiltAsk (Report id) = Unit {0}
 IsBuiltAsk (Kill id) = ⊥
 

@@ -1,5 +1,5 @@
 -- The manager's own way of working: what each event of its queues does to its tables, and what it logs.
-use Rattle.std.specs.Prelude.{ℕ, ◌+◌, List, [], ◌∷◌, ◌++◌, true, false, Option, None, Some, drop, filter, not}
+use Rattle.std.specs.Prelude.{ℕ, ◌+◌, List, [], ◌∷◌, ◌++◌, true, false, Option, None, Some, drop, filter, map, not}
 use Rattle.std.specs.declared.alloc.Global.{Global}
 use Rattle.rm_types.specs.declared.entries.Entry.{Entry}
 use Rattle.rm_types.specs.declared.entries.Entry.TheVariants.{Issued, Kept, Accepted, Queued, Quiet}
@@ -11,7 +11,8 @@ use Rattle.rm_types.specs.declared.containers.AskOf.{AskOf}
 use Rattle.rm_types.specs.declared.ids.AppId.{AppId}
 use Rattle.rm_types.specs.declared.ids.AttemptId.{AttemptId}
 use Rattle.rm_types.specs.Ids.{is_app}
-use Rattle.rm_types.specs.Records.{new_record, record_of}
+use Rattle.rm_types.specs.declared.records.AppRecord.{AppRecord}
+use Rattle.rm_types.specs.Records.{Records, new_record, record_of}
 use Rattle.rm_model.specs.Changes.{master_ask}
 use Rattle.rm_model.specs.Facts.{submission_in, waiting_submission}
 use Rattle.rm_core.specs.declared.events.SchedEvent.{SchedEvent}
@@ -20,7 +21,7 @@ use Rattle.rm_core.specs.declared.events.MainEvent.{MainEvent}
 use Rattle.rm_core.specs.declared.events.MainEvent.TheVariants.{EpochStart, AppStart, AppSaved, AppAccepted, Retire}
 use Rattle.rm_core.specs.declared.tables.Tables.{Tables}
 
--- before the first life, over an empty store
+-- before the first life: nothing is known of the store
 abbrev pub no_life : Global → Tables
 no_life alloc =
     record {
@@ -43,17 +44,17 @@ no_life alloc =
       sched = [];
     }
 
--- a life begins: its epoch is the stored next one, and its first event is posted
-abbrev pub begun : ℕ → Tables → Tables
-begun stamp t =
+-- a life begins over what is recorded: its epoch is the recorded next one, and its first event is posted
+abbrev pub begun : Records → ℕ → Tables → Tables
+begun tree stamp t =
     record {
       alloc = t.alloc;
-      next_epoch = t.next_epoch;
-      stored_stamp = t.stored_stamp;
-      apps = t.apps;
+      next_epoch = tree.next_epoch;
+      stored_stamp = tree.stamp;
+      apps = tree.apps;
       awaiting = [];
       alive = true;
-      epoch = t.next_epoch;
+      epoch = tree.next_epoch;
       stamp = stamp;
       is_open = false;
       handed = false;
@@ -63,6 +64,29 @@ begun stamp t =
       accepted = [];
       asks = [];
       main = EpochStart ∷ [];
+      sched = [];
+    }
+
+-- a life goes down: what is recorded and what awaits is left of it
+abbrev pub gone_down : Tables → Tables
+gone_down t =
+    record {
+      alloc = t.alloc;
+      next_epoch = t.next_epoch;
+      stored_stamp = t.stored_stamp;
+      apps = t.apps;
+      awaiting = t.awaiting;
+      alive = false;
+      epoch = t.epoch;
+      stamp = t.stamp;
+      is_open = false;
+      handed = false;
+      given = 0;
+      served = 0;
+      submitted = [];
+      accepted = [];
+      asks = [];
+      main = [];
       sched = [];
     }
 
@@ -129,10 +153,16 @@ abbrev pub front_of_sched : Tables → List SchedEvent → Option (Entry × Tabl
 front_of_sched t [] = None
 front_of_sched t (event ∷ more) = Some (sched_entry t event, sched_after t event)
 
--- the tables after an operation is kept; of operations that are never issued it says nothing
+-- the events with which a life opens: each application that is recorded goes on as just saved, in kept order; then
+-- completed ones may retire
+abbrev pub opening_events : List AppRecord → List MainEvent
+opening_events apps = map (λ app. AppSaved app.id) apps ++ Retire ∷ []
+
+-- the tables after an operation is kept; of operations that are never issued it says nothing. Until its Epoch is kept a
+-- life has no other event than its first.
 abbrev pub kept_after : Tables → Op → Tables
 kept_after t (Epoch next stamp) =
-    record t { next_epoch = next; stored_stamp = stamp; awaiting = drop 1 t.awaiting; handed = false; is_open = true; main = t.main ++ Retire ∷ [] }
+    record t { next_epoch = next; stored_stamp = stamp; awaiting = drop 1 t.awaiting; handed = false; is_open = true; main = opening_events t.apps }
 kept_after t (App id submission) =
     record t {
       apps = t.apps ++ new_record id submission ∷ [];

@@ -1,5 +1,5 @@
 -- How much is left to do before all is at rest: each move of the manager's own makes it less.
-use Rattle.std.specs.Prelude.{ℕ, ◌+◌, ◌*◌, Bool, true, false, length}
+use Rattle.std.specs.Prelude.{ℕ, ◌+◌, ◌*◌, Bool, true, false, ◌&&◌, not, if◌then◌else◌, length}
 use Rattle.std.specs.List.{sum_by}
 use Rattle.rm_core.specs.declared.events.MainEvent.{MainEvent}
 use Rattle.rm_core.specs.declared.events.MainEvent.TheVariants.{EpochStart, AppStart, AppSaved, AppAccepted, Retire}
@@ -24,6 +24,11 @@ abbrev pub one_unless : Bool → ℕ
 one_unless true = 0
 one_unless false = 1
 
+-- until a life is open, it is still to go through what is recorded
+abbrev pub opening_weight : Tables → ℕ
+opening_weight t = if t.alive && not t.is_open then 7 * length t.apps else 0
+
 -- the weight of what is left
 abbrev pub weight : Tables → ℕ
-weight t = sum_by main_weight t.main + (sum_by sched_weight t.sched + (10 * length t.awaiting + one_unless t.handed))
+weight t =
+    sum_by main_weight t.main + (sum_by sched_weight t.sched + (10 * length t.awaiting + (one_unless t.handed + opening_weight t)))

@@ -4,7 +4,7 @@
 //! one that a manager that never dies could have made: the judge of `rm_model` allows each entry in the
 //! state that those before it leave.
 //!
-//! It stands on `rm_types` and on the definitions of `rm_model`. Which message is served and when a
+//! It stands on `rm_types`, on `rm_tree` for what a store holds, and on the definitions of `rm_model`. Which message is served and when a
 //! segment closes is for the layer above to say.
 #![tactic(auto)]
 
@@ -12,6 +12,7 @@ mod clients;
 mod dispatch;
 mod events;
 mod keeping;
+mod likeness;
 mod manager;
 mod moves;
 mod scheduler;

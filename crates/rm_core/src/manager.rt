@@ -1,27 +1,31 @@
-ghost use Rattle.std.specs.Prelude.{◌≡◌, ◌+◌, ◌<◌, ◌≤◌, [], OnOk, OnErr, IsOk, IfOk, IsErrOf, count_by, true, false};
+ghost use Rattle.std.specs.Prelude.{◌≡◌, ◌↔◌, ◌+◌, ◌*◌, ◌<◌, ◌≤◌, List, [], OnOk, OnErr, IsOk, IfOk, IfSome, IsErrOf, IsTrue, count_by, length, true, false};
 ghost use Rattle.std.specs.Option.{option_copied};
 ghost use Rattle.rm_types.specs.declared.entries.Entry.{Entry};
 ghost use Rattle.rm_types.specs.declared.messages.Lane.{Lane};
+ghost use Rattle.rm_types.specs.declared.operations.Op.{Op as AnyOp};
+ghost use Rattle.rm_types.specs.Frames.{CanBeFramed};
 ghost use Rattle.rm_model.specs.State.{opening_state};
 ghost use Rattle.rm_model.specs.Lawful.{AllAllowed};
-ghost use Rattle.rm_core.specs.Adds.{Adds, CanMake, Stands, Weighs, lane_of, served_after};
-ghost use Rattle.rm_core.specs.Ready.{is_ready};
-ghost use Rattle.rm_core.specs.Seen.{Rests, handed_op, is_kept_entry};
+ghost use Rattle.rm_core.specs.Adds.{Adds, AmountsTo, CanBeginOver, CanMake, GoesOnFrom, Stands, Weighs, may_make, served_after};
+ghost use Rattle.rm_core.specs.Ready.{is_ready, may_go_down};
+ghost use Rattle.rm_core.specs.Seen.{IsKnown, IsToBeKept, Rests, StandsFor, handed_op, is_kept_entry};
 ghost use Rattle.rm_core.specs.Serving.{IsBuiltMessage};
 ghost use Rattle.rm_core.specs.Steps.{no_life};
 ghost use Rattle.rm_core.specs.Weights.{weight};
 
 use crate::events::Refused;
+use crate::likeness::is_known;
 use crate::moves::{
-    move_begin, move_hand, move_kept, move_main, move_sched, move_serve, move_settle,
+    move_begin, move_down, move_hand, move_kept, move_main, move_sched, move_serve, move_settle,
 };
-use crate::tables::{Tables, is_ready, new_tables};
+use crate::tables::{Tables, is_ready, may_go_down, new_tables};
+use rm_tree::Tree;
 use rm_types::{Entry, Items, Lane, Message, NoMemory, Op, Settings};
 use std::alloc::Global;
 use std::marker::Model;
 
 /// What may happen next.
-#[derive(Debug, Drop)]
+#[derive(Drop)]
 pub enum Move {
     /// A message is answered.
     Serve(Message),
@@ -35,8 +39,11 @@ pub enum Move {
     Kept,
     /// The segment of the script settles.
     Settle,
-    /// A life begins; `handed` (1 to 10^15) is the stamp that its script gives it.
-    Begin { handed: u64 },
+    /// The life goes down. What awaits may land on the device or be lost.
+    Down,
+    /// A life begins over what the store holds, of which `tree` is what it amounts to; `handed` (1 to 10^15)
+    /// is the stamp that its script gives it.
+    Begin { tree: Tree, handed: u64 },
 }
 
 /// The manager and its log. The log is stored here, once.
@@ -52,15 +59,15 @@ impl Model for Core {
 
     ghost Value = { Seen };
 
-    ghost use Rattle.rm_core.specs.Keeps.{Keeps};
+    ghost use Rattle.rm_core.specs.Keeps.{IsSound};
 
     ghost view = { λ a. record { settings = a.settings; tables = a.tables; log = a.log } };
 
-    ghost invariant = { λ a. Keeps a.settings a.log a.tables };
+    ghost invariant = { λ a. IsSound a.settings a.tables };
 }
 
 impl Core {
-    /// A manager before its first life, over an empty store.
+    /// A manager before its first life. Whatever the store holds, an empty log is lawful.
     ///
     /// Rights can't be checked yet, so the settings have `acl_enable` false.
     pub fn new(alloc: Global, settings: Settings) -> Result<Core, NoMemory>
@@ -69,6 +76,7 @@ impl Core {
         ensures settings { IfOk result (λ core. core.settings ≡ settings) }
         ensures tables { IfOk result (λ core. core.tables ≡ no_life alloc) }
         ensures log { IfOk result (λ core. core.log ≡ []) }
+        ensures stands { IfOk result (λ core. (opening : List AnyOp) → StandsFor opening core) }
     {
         Ok(Core {
             settings,
@@ -77,10 +85,11 @@ impl Core {
         })
     }
 
-    /// The log so far. Each entry of it is allowed in the state that those before it leave.
+    /// The log so far. Over a store that held the opening list, each entry of it is allowed in the state
+    /// that those before it leave.
     pub fn log(&self) -> &Items<Entry>
         ensures log { result.now ≡ self.now.log }
-        ensures allowed { AllAllowed self.now.settings (opening_state []) self.now.log }
+        ensures allowed { (opening : List AnyOp) → StandsFor opening self.now → AllAllowed self.now.settings (opening_state opening) self.now.log }
     {
         &self.log
     }
@@ -88,15 +97,18 @@ impl Core {
     /// The log, handed out. It takes no memory.
     pub fn into_log(self) -> Items<Entry>
         ensures log { result ≡ self.log }
-        ensures allowed { AllAllowed self.settings (opening_state []) self.log }
+        ensures allowed { (opening : List AnyOp) → StandsFor opening self → AllAllowed self.settings (opening_state opening) self.log }
     {
         let _ = &self.log;
         self.log
     }
 
-    /// The operation that was handed to the store and isn't kept yet: `None` exactly where none is.
+    /// The operation that was handed to the store and isn't kept yet: `None` exactly where none is. It can
+    /// be framed, and fits what is kept.
     pub fn handed(&self) -> Option<&Op>
-        ensures { option_copied result ≡ handed_op self.now.tables }
+        ensures op { option_copied result ≡ handed_op self.now.tables }
+        ensures framed { IfSome result (λ op. CanBeFramed op.now) }
+        ensures next { IfSome result (λ op. (opening : List AnyOp) → StandsFor opening self.now → IsToBeKept opening self.now op.now) }
     {
         if is_ready(&self.tables, Lane::Write) {
             self.tables.awaiting.first()
@@ -119,6 +131,21 @@ impl Core {
         is_ready(&self.tables, lane)
     }
 
+    /// Whether the life may go down: one stands, and no operation is with the store.
+    pub fn may_go_down(&self) -> bool
+        ensures { result ≡ may_go_down self.now.tables }
+    {
+        may_go_down(&self.tables)
+    }
+
+    /// Whether a tree is what the store holds by all that the manager was told, from the first life on.
+    pub fn is_known(&self, tree: &Tree) -> bool
+        ensures known { IsTrue result ↔ IsKnown self.now.tables tree.now }
+        ensures amounts { (opening : List AnyOp) → StandsFor opening self.now → (self.now.log ≡ [] → ⊥) → IsTrue result ↔ AmountsTo tree.now opening self.now }
+    {
+        is_known(&self.tables, tree)
+    }
+
     /// Where nothing is left to do, nothing is owed.
     pub fn rest(&self)
         ensures { Rests self.now }
@@ -126,36 +153,42 @@ impl Core {
         let _ = &self.log;
     }
 
-    /// Makes one move: the log has one more entry, which is allowed; or the move is refused and nothing
-    /// has changed. `NotReady` comes exactly where the move's lane isn't ready.
+    /// Makes one move: the log has one more entry, or the move is refused and nothing has changed.
+    /// `NotReady` comes exactly where the move's lane isn't ready. Where the log was lawful over a store that
+    /// held an opening list, and a life begins over what is kept by then, it is lawful after the move too.
     pub fn step(&mut self, next: Move) -> Result<(), Refused>
         requires { CanMake self.old.tables next }
-        ensures added { OnOk result (Adds next self.old.log self.new.log) }
-        ensures ready { OnOk result (is_ready self.old.tables (lane_of next) ≡ true) }
+        ensures added { OnOk result (Adds next self.old.tables self.old.log self.new.log) }
+        ensures lawful { OnOk result ((opening : List AnyOp) → StandsFor opening self.old → GoesOnFrom next opening self.old → StandsFor opening self.new) }
+        ensures ready { OnOk result (may_make self.old.tables next ≡ true) }
         ensures weighs { OnOk result (Weighs next (weight self.old.tables) (weight self.new.tables)) }
         ensures stands { OnOk result (Stands next self.old.tables.alive self.new.tables.alive) }
         ensures served { OnOk result (self.new.tables.served ≡ served_after next self.old.tables.served) }
-        ensures not_ready { IsErrOf result Refused.NotReady → is_ready self.old.tables (lane_of next) ≡ false }
+        ensures not_ready { IsErrOf result Refused.NotReady → may_make self.old.tables next ≡ false }
         ensures settings { self.new.settings ≡ self.old.settings }
         ensures err { OnErr result (self.new ≡ self.old) }
     {
         match next {
-            Move::Begin { handed } => self.begin(handed),
+            Move::Begin { tree, handed } => self.begin(tree, handed),
             Move::Serve(message) => self.serve(message),
             Move::Main => self.main(),
             Move::Sched => self.sched(),
             Move::Hand => self.hand(),
             Move::Kept => self.kept(),
             Move::Settle => self.settle(),
+            Move::Down => self.down(),
         }
     }
 
-    fn begin(&mut self, handed: u64) -> Result<(), Refused>
-        requires { (1 ≤ handed) × (handed ≤ 1000000000000000) }
-        ensures added { OnOk result (Adds (Move.Begin handed) self.old.log self.new.log) }
+    fn begin(&mut self, tree: Tree, handed: u64) -> Result<(), Refused>
+        requires over { CanBeginOver tree }
+        requires low { 1 ≤ handed }
+        requires high { handed ≤ 1000000000000000 }
+        ensures added { OnOk result (Adds (Move.Begin tree handed) self.old.tables self.old.log self.new.log) }
+        ensures lawful { OnOk result ((opening : List AnyOp) → StandsFor opening self.old → AmountsTo tree opening self.old → StandsFor opening self.new) }
         ensures ready { OnOk result (is_ready self.old.tables Lane.Begin ≡ true) }
-        ensures weighs { OnOk result (Weighs (Move.Begin handed) (weight self.old.tables) (weight self.new.tables)) }
-        ensures stands { OnOk result (self.new.tables.alive ≡ true) }
+        ensures weighs { OnOk result (weight self.new.tables ≤ 13 + 7 * length tree.apps) }
+        ensures stands { OnOk result ((self.old.tables.alive ≡ false) × (self.new.tables.alive ≡ true)) }
         ensures served { OnOk result (self.new.tables.served ≡ 0) }
         ensures not_ready { IsErrOf result Refused.NotReady → is_ready self.old.tables Lane.Begin ≡ false }
         ensures settings { self.new.settings ≡ self.old.settings }
@@ -164,12 +197,13 @@ impl Core {
         if self.tables.alive {
             return Err(Refused::NotReady);
         }
-        let stamp = handed.max(self.tables.stored_stamp.saturating_add(1));
-        move_begin(&mut self.tables, &mut self.log, stamp)
+        let stamp = handed.max(tree.stamp() + 1);
+        move_begin(&mut self.tables, &mut self.log, &tree, stamp)
     }
 
     fn main(&mut self) -> Result<(), Refused>
-        ensures added { OnOk result (Adds Move.Main self.old.log self.new.log) }
+        ensures added { OnOk result (Adds Move.Main self.old.tables self.old.log self.new.log) }
+        ensures lawful { OnOk result ((opening : List AnyOp) → StandsFor opening self.old → StandsFor opening self.new) }
         ensures ready { OnOk result (is_ready self.old.tables Lane.Main ≡ true) }
         ensures weighs { OnOk result (weight self.new.tables < weight self.old.tables) }
         ensures stands { OnOk result ((self.old.tables.alive ≡ true) × (self.new.tables.alive ≡ true)) }
@@ -182,7 +216,8 @@ impl Core {
     }
 
     fn sched(&mut self) -> Result<(), Refused>
-        ensures added { OnOk result (Adds Move.Sched self.old.log self.new.log) }
+        ensures added { OnOk result (Adds Move.Sched self.old.tables self.old.log self.new.log) }
+        ensures lawful { OnOk result ((opening : List AnyOp) → StandsFor opening self.old → StandsFor opening self.new) }
         ensures ready { OnOk result (is_ready self.old.tables Lane.Sched ≡ true) }
         ensures weighs { OnOk result (weight self.new.tables < weight self.old.tables) }
         ensures stands { OnOk result ((self.old.tables.alive ≡ true) × (self.new.tables.alive ≡ true)) }
@@ -195,7 +230,8 @@ impl Core {
     }
 
     fn hand(&mut self) -> Result<(), Refused>
-        ensures added { OnOk result (Adds Move.Hand self.old.log self.new.log) }
+        ensures added { OnOk result (Adds Move.Hand self.old.tables self.old.log self.new.log) }
+        ensures lawful { OnOk result ((opening : List AnyOp) → StandsFor opening self.old → StandsFor opening self.new) }
         ensures ready { OnOk result (is_ready self.old.tables Lane.Hand ≡ true) }
         ensures weighs { OnOk result (weight self.new.tables < weight self.old.tables) }
         ensures stands { OnOk result ((self.old.tables.alive ≡ true) × (self.new.tables.alive ≡ true)) }
@@ -208,7 +244,8 @@ impl Core {
     }
 
     fn kept(&mut self) -> Result<(), Refused>
-        ensures added { OnOk result (Adds Move.Kept self.old.log self.new.log) }
+        ensures added { OnOk result (Adds Move.Kept self.old.tables self.old.log self.new.log) }
+        ensures lawful { OnOk result ((opening : List AnyOp) → StandsFor opening self.old → StandsFor opening self.new) }
         ensures ready { OnOk result (is_ready self.old.tables Lane.Write ≡ true) }
         ensures weighs { OnOk result (weight self.new.tables < weight self.old.tables) }
         ensures stands { OnOk result ((self.old.tables.alive ≡ true) × (self.new.tables.alive ≡ true)) }
@@ -223,7 +260,8 @@ impl Core {
     fn serve(&mut self, message: Message) -> Result<(), Refused>
         requires built { IsBuiltMessage message }
         requires few { self.old.tables.served < 100000 }
-        ensures added { OnOk result (Adds (Move.Serve message) self.old.log self.new.log) }
+        ensures added { OnOk result (Adds (Move.Serve message) self.old.tables self.old.log self.new.log) }
+        ensures lawful { OnOk result ((opening : List AnyOp) → StandsFor opening self.old → StandsFor opening self.new) }
         ensures ready { OnOk result (is_ready self.old.tables Lane.Client ≡ true) }
         ensures weighs { OnOk result (weight self.new.tables ≤ weight self.old.tables + 20) }
         ensures stands { OnOk result ((self.old.tables.alive ≡ true) × (self.new.tables.alive ≡ true)) }
@@ -236,7 +274,8 @@ impl Core {
     }
 
     fn settle(&mut self) -> Result<(), Refused>
-        ensures added { OnOk result (Adds Move.Settle self.old.log self.new.log) }
+        ensures added { OnOk result (Adds Move.Settle self.old.tables self.old.log self.new.log) }
+        ensures lawful { OnOk result ((opening : List AnyOp) → StandsFor opening self.old → StandsFor opening self.new) }
         ensures ready { OnOk result (is_ready self.old.tables Lane.End ≡ true) }
         ensures weighs { OnOk result (weight self.new.tables ≤ weight self.old.tables) }
         ensures stands { OnOk result ((self.old.tables.alive ≡ true) × (self.new.tables.alive ≡ true)) }
@@ -246,6 +285,20 @@ impl Core {
         ensures err { OnErr result (self.new ≡ self.old) }
     {
         move_settle(&self.tables, &mut self.log)
+    }
+
+    fn down(&mut self) -> Result<(), Refused>
+        ensures added { OnOk result (Adds Move.Down self.old.tables self.old.log self.new.log) }
+        ensures lawful { OnOk result ((opening : List AnyOp) → StandsFor opening self.old → StandsFor opening self.new) }
+        ensures ready { OnOk result (may_go_down self.old.tables ≡ true) }
+        ensures weighs { OnOk result (weight self.new.tables ≤ weight self.old.tables) }
+        ensures stands { OnOk result ((self.old.tables.alive ≡ true) × (self.new.tables.alive ≡ false)) }
+        ensures served { OnOk result (self.new.tables.served ≡ 0) }
+        ensures not_ready { IsErrOf result Refused.NotReady → may_go_down self.old.tables ≡ false }
+        ensures settings { self.new.settings ≡ self.old.settings }
+        ensures err { OnErr result (self.new ≡ self.old) }
+    {
+        move_down(&mut self.tables, &mut self.log)
     }
 }
 

@@ -2,11 +2,11 @@ ghost use Rattle.std.specs.Prelude.{◌≡◌, ◌≢◌, ◌+◌, ◌<◌, ◌�
 ghost use Rattle.rm_types.specs.declared.entries.Entry.{Entry};
 ghost use Rattle.rm_types.specs.declared.messages.Lane.{Lane};
 ghost use Rattle.rm_types.specs.declared.operations.Op.{Op};
-ghost use Rattle.rm_core.specs.Ready.{is_ready};
+ghost use Rattle.rm_core.specs.Ready.{is_ready, may_go_down};
 ghost use Rattle.rm_types.specs.declared.ids.AppId.{AppId};
 ghost use Rattle.rm_model.specs.Facts.{kept_attempts};
 ghost use Rattle.rm_core.specs.Serving.{IsBuiltMessage, IsServed};
-ghost use Rattle.rm_core.specs.Steps.{begun, handed_out, front_of_main, front_of_sched, front_of_awaiting};
+ghost use Rattle.rm_core.specs.Steps.{begun, gone_down, handed_out, front_of_main, front_of_sched, front_of_awaiting};
 ghost use Rattle.rm_core.specs.Told.{scene_in, no_history};
 
 use crate::clients::serve;
@@ -14,25 +14,31 @@ use crate::dispatch::front_main;
 use crate::events::Refused;
 use crate::keeping::{keep_app, keep_epoch};
 use crate::scheduler::front_sched;
-use crate::tables::{Tables, begin, hand, is_ready};
+use crate::tables::{Tables, begin, go_down, hand, is_ready, may_go_down};
+use rm_tree::Tree;
 use rm_types::{Duplicate, Entry, Items, Lane, Message, NoMemory, Op, Sender, Settings};
 
 // Each move takes the room for its entry first, so that the tables and the log change together or not at
 // all. The entry that takes the room is replaced by the move's own.
 
-/// A life begins.
-pub fn move_begin(t: &mut Tables, log: &mut Items<Entry>, stamp: u64) -> Result<(), Refused>
-    ensures ok { OnOk result ((t.new ≡ begun stamp t.old) × (log.new ≡ log.old ++ Entry.Opened 0 t.old.next_epoch stamp ∷ [])) }
+/// A life begins over what is recorded.
+pub fn move_begin(
+    t: &mut Tables,
+    log: &mut Items<Entry>,
+    tree: &Tree,
+    stamp: u64,
+) -> Result<(), Refused>
+    ensures ok { OnOk result ((t.new ≡ begun tree.now stamp t.old) × (log.new ≡ log.old ++ Entry.Opened 0 tree.now.next_epoch stamp ∷ [])) }
     ensures ready { result ≢ Err Refused.NotReady }
     ensures err { OnErr result ((t.new ≡ t.old) × (log.new ≡ log.old)) }
 {
-    let epoch = t.next_epoch;
+    let epoch = tree.next_epoch();
     log.push(Entry::Opened {
         landed: 0,
         epoch,
         stamp,
     })?;
-    match begin(t, stamp) {
+    match begin(t, tree, stamp) {
         Ok(()) => Ok(()),
         Err(_) => {
             log.drop_last();
@@ -147,6 +153,21 @@ pub fn move_settle(t: &Tables, log: &mut Items<Entry>) -> Result<(), Refused>
         return Err(Refused::NotReady);
     }
     log.push(Entry::Settled)?;
+    Ok(())
+}
+
+/// The life goes down.
+pub fn move_down(t: &mut Tables, log: &mut Items<Entry>) -> Result<(), Refused>
+    ensures ok { OnOk result ((t.new ≡ gone_down t.old) × (log.new ≡ log.old ++ Entry.Down ∷ [])) }
+    ensures ready { OnOk result (may_go_down t.old ≡ true) }
+    ensures not_ready { IsErrOf result Refused.NotReady → may_go_down t.old ≡ false }
+    ensures err { OnErr result ((t.new ≡ t.old) × (log.new ≡ log.old)) }
+{
+    if !may_go_down(t) {
+        return Err(Refused::NotReady);
+    }
+    log.push(Entry::Down)?;
+    go_down(t);
     Ok(())
 }
 

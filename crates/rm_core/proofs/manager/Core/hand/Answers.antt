@@ -1,8 +1,9 @@
-use Rattle.rm_core.proofs.Moving.{hand_does}
+use Rattle.rm_core.specs.declared.manager.Move.TheVariants.{Hand}
+use Rattle.rm_core.proofs.Moving.{hand_does, lawful_move}
 use Rattle.rm_core.proofs.manager.Core.hand.Goals as goal
 
 pub invariant_of-self : goal.invariant_of-self
-invariant_of-self c = (hand_does c.self.inside.settings c.self.inside.log c.move_hand.new.log c.self.inside.tables c.move_hand.new.t c.self.invariant c.move_hand.result c.move_hand.ensures.ok c.move_hand.ensures.ready c.move_hand.ensures.err).keeps
+invariant_of-self c = (hand_does c.self.inside.settings c.self.inside.log c.move_hand.new.log c.self.inside.tables c.move_hand.new.t c.self.invariant c.move_hand.result c.move_hand.ensures.ok c.move_hand.ensures.ready c.move_hand.ensures.err).sound
 
 pub returns-clause-added : goal.returns-clause-added
 returns-clause-added c = rw (← c.self.view_is) (hand_does c.self.inside.settings c.self.inside.log c.move_hand.new.log c.self.inside.tables c.move_hand.new.t c.self.invariant c.move_hand.result c.move_hand.ensures.ok c.move_hand.ensures.ready c.move_hand.ensures.err).adds
@@ -15,3 +16,6 @@ returns-clause-stands c = rw (← c.self.view_is) (hand_does c.self.inside.setti
 
 pub returns-clause-served : goal.returns-clause-served
 returns-clause-served c = rw (← c.self.view_is) (hand_does c.self.inside.settings c.self.inside.log c.move_hand.new.log c.self.inside.tables c.move_hand.new.t c.self.invariant c.move_hand.result c.move_hand.ensures.ok c.move_hand.ensures.ready c.move_hand.ensures.err).served
+
+pub returns-clause-lawful : goal.returns-clause-lawful
+returns-clause-lawful c = rw (← c.self.view_is) (lawful_move Hand c.self.inside.settings c.self.inside.log c.move_hand.new.log c.self.inside.tables c.move_hand.new.t c.move_hand.result (λ ops. tt) (hand_does c.self.inside.settings c.self.inside.log c.move_hand.new.log c.self.inside.tables c.move_hand.new.t c.self.invariant c.move_hand.result c.move_hand.ensures.ok c.move_hand.ensures.ready c.move_hand.ensures.err))

@@ -1,8 +1,9 @@
-use Rattle.rm_core.proofs.Moving.{main_does}
+use Rattle.rm_core.specs.declared.manager.Move.TheVariants.{Main}
+use Rattle.rm_core.proofs.Moving.{main_does, lawful_move}
 use Rattle.rm_core.proofs.manager.Core.main.Goals as goal
 
 pub invariant_of-self : goal.invariant_of-self
-invariant_of-self c = (main_does c.self.inside.settings c.self.inside.log c.move_main.new.log c.self.inside.tables c.move_main.new.t c.self.invariant c.move_main.result c.move_main.ensures.ok c.move_main.ensures.err).keeps
+invariant_of-self c = (main_does c.self.inside.settings c.self.inside.log c.move_main.new.log c.self.inside.tables c.move_main.new.t c.self.invariant c.move_main.result c.move_main.ensures.ok c.move_main.ensures.err).sound
 
 pub returns-clause-added : goal.returns-clause-added
 returns-clause-added c = rw (← c.self.view_is) (main_does c.self.inside.settings c.self.inside.log c.move_main.new.log c.self.inside.tables c.move_main.new.t c.self.invariant c.move_main.result c.move_main.ensures.ok c.move_main.ensures.err).adds
@@ -15,3 +16,6 @@ returns-clause-stands c = rw (← c.self.view_is) (main_does c.self.inside.setti
 
 pub returns-clause-served : goal.returns-clause-served
 returns-clause-served c = rw (← c.self.view_is) (main_does c.self.inside.settings c.self.inside.log c.move_main.new.log c.self.inside.tables c.move_main.new.t c.self.invariant c.move_main.result c.move_main.ensures.ok c.move_main.ensures.err).served
+
+pub returns-clause-lawful : goal.returns-clause-lawful
+returns-clause-lawful c = rw (← c.self.view_is) (lawful_move Main c.self.inside.settings c.self.inside.log c.move_main.new.log c.self.inside.tables c.move_main.new.t c.move_main.result (λ ops. tt) (main_does c.self.inside.settings c.self.inside.log c.move_main.new.log c.self.inside.tables c.move_main.new.t c.self.invariant c.move_main.result c.move_main.ensures.ok c.move_main.ensures.err))

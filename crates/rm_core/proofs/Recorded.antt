@@ -1,0 +1,98 @@
+-- What a store's operations amount to has each application once.
+use Rattle.std.proofs.Common.{◌≡◌, ℕ, ◌≤◌, List, [], ◌∷◌, ◌++◌, Bool, true, false, not, cond, fold, map, filter, find, is_none, is_some, None, Some, Option, if◌then◌else◌, refl, sym, ◌∙◌, ap, arith}
+use Rattle.rm_types.specs.declared.ids.AppId.{AppId}
+use Rattle.rm_types.specs.declared.operations.Op.{Op}
+use Rattle.rm_types.specs.declared.operations.Op.TheVariants.{Epoch, App, Attempt, AttemptEnd, AppEnd, Remove}
+use Rattle.rm_types.specs.declared.operations.Submission.{Submission}
+use Rattle.rm_types.specs.declared.records.AppRecord.{AppRecord}
+use Rattle.rm_types.specs.Ids.{is_app}
+use Rattle.rm_types.specs.Records.{Records, records, recorded, no_records, new_record, record_of, fits_records, stray_from, with_record, with_end}
+use Rattle.rm_core.specs.Adds.{CanBeginOver}
+use Rattle.rm_core.specs.InFlight.{kept_at}
+use Rattle.rm_core.specs.Keeps.{CanGoOn}
+use Rattle.rm_core.proofs.Counts.{count_front, count_end, fails_never, is_some-find}
+use Rattle.rm_core.proofs.Ids.{is_app_same}
+
+-- each application is there once at most
+abbrev pub EachOnce : List AppRecord → Type 0
+EachOnce apps = (q : AppId) → kept_at q apps ≤ 1
+
+-- a change of records keeps their ids
+abbrev KeepsIds : (AppRecord → AppRecord) → Type 0
+KeepsIds f = (app : AppRecord) → (f app).id ≡ app.id
+
+kept_at-map : (f : AppRecord → AppRecord) → KeepsIds f → (q : AppId) (apps : List AppRecord) → kept_at q (map f apps) ≡ kept_at q apps
+kept_at-map f keeps q [] = refl
+kept_at-map f keeps q (app ∷ apps) =
+    let a = count_front (λ (one : AppRecord). is_app one.id q) (f app) (map f apps) in
+    let b = count_front (λ (one : AppRecord). is_app one.id q) app apps in
+    let same : ◌≡◌ {A = ℕ} (cond (is_app (f app).id q) 1 0) (cond (is_app app.id q) 1 0) = ap (λ (id : AppId). let n : ℕ = cond (is_app id q) 1 0 in n) (keeps app) in
+    omega (arith, a, b, same, kept_at-map f keeps q apps)
+
+by_test : (change : AppRecord → AppRecord) → KeepsIds change → (app : AppRecord) (b : Bool) → (cond b (change app) app).id ≡ app.id
+by_test change keeps app true = keeps app
+by_test change keeps app false = refl
+
+changed_once : (change : AppRecord → AppRecord) → KeepsIds change → (id : AppId) (apps : List AppRecord) → EachOnce apps → EachOnce (with_record change id apps)
+changed_once change keeps id apps once q =
+    let same = kept_at-map (λ app. if is_app app.id id then change app else app) (λ app. by_test change keeps app (is_app app.id id)) q apps in
+    omega (arith, same, once q)
+
+less_one : (app : AppRecord) (apps : List AppRecord) (test : AppRecord → Bool) (q : AppId) (b : Bool) → test app ≡ b
+    → kept_at q (filter test apps) ≤ kept_at q apps → kept_at q (filter test (app ∷ apps)) ≤ kept_at q (app ∷ apps)
+less_one app apps test q true e h =
+    let a = count_front (λ (one : AppRecord). is_app one.id q) app (filter test apps) in
+    let b = count_front (λ (one : AppRecord). is_app one.id q) app apps in
+    rw e (omega (arith, a, b, h))
+less_one app apps test q false e h =
+    let b = count_front (λ (one : AppRecord). is_app one.id q) app apps in
+    rw e (omega (arith, b, h))
+
+filter_less : (test : AppRecord → Bool) (q : AppId) (apps : List AppRecord) → kept_at q (filter test apps) ≤ kept_at q apps
+filter_less test q [] = omega arith
+filter_less test q (app ∷ apps) = less_one app apps test q (test app) refl (filter_less test q apps)
+
+none_there : (apps : List AppRecord) (id : AppId) (o : Option AppRecord) → find (λ (app : AppRecord). is_app app.id id) apps ≡ o → is_none o ≡ true → kept_at id apps ≡ 0
+none_there apps id None e h =
+    fails_never (λ (app : AppRecord). is_app app.id id) apps (sym (is_some-find (λ (app : AppRecord). is_app app.id id) apps) ∙ ap (λ (o : Option AppRecord). is_some o) e)
+none_there apps id (Some app) e h = cc
+
+added_at : (apps : List AppRecord) (id : AppId) (s : Submission) (q : AppId) (b : Bool) → is_app id q ≡ b → kept_at id apps ≡ 0 → EachOnce apps
+    → kept_at q (apps ++ new_record id s ∷ []) ≤ 1
+added_at apps id s q true e none once =
+    let at : kept_at q apps ≡ 0 = rw (← is_app_same id q e) none in
+    let c = count_end (λ (one : AppRecord). is_app one.id q) apps (new_record id s) in
+    let z : ◌≡◌ {A = ℕ} (cond (is_app id q) 1 0) 1 = rw e refl in
+    omega (arith, at, c, z)
+added_at apps id s q false e none once =
+    let c = count_end (λ (one : AppRecord). is_app one.id q) apps (new_record id s) in
+    let z : ◌≡◌ {A = ℕ} (cond (is_app id q) 1 0) 0 = rw e refl in
+    omega (arith, once q, c, z)
+
+-- an operation that fits leaves each once
+once_more : (r : Records) (op : Op) → EachOnce r.apps → fits_records r op ≡ true → EachOnce (recorded r op).apps
+once_more r (Epoch next stamp) once fits = once
+once_more r (App id s) once fits = λ q. added_at r.apps id s q (is_app id q) refl (none_there r.apps id (record_of r.apps id) refl fits) once
+once_more r (Attempt id master node) once fits =
+    changed_once (λ app. record app { attempts = app.attempts ++ record { id = id; master = master; node = node; ending = None } ∷ [] }) (λ app. refl) id.app r.apps once
+once_more r (AttemptEnd id how text) once fits = changed_once (λ app. record app { attempts = map (with_end id how text) app.attempts }) (λ app. refl) id.app r.apps once
+once_more r (AppEnd id how text) once fits = changed_once (λ app. record app { ending = Some (how, text); end_order = r.told }) (λ app. refl) id r.apps once
+once_more r (Remove id) once fits = λ q. let less = filter_less (λ app. not (is_app app.id id)) q r.apps in omega (arith, less, once q)
+
+once_step : (op : Op) (ops : List Op) (r : Records) (b : Bool) → fits_records r op ≡ b → EachOnce r.apps → stray_from r (op ∷ ops) ≡ None
+    → (EachOnce (recorded r op).apps → stray_from (recorded r op) ops ≡ None → EachOnce (fold recorded (recorded r op) ops).apps)
+    → EachOnce (fold recorded r (op ∷ ops)).apps
+once_step op ops r true e once none more = more (once_more r op once e) (rw e at none)
+once_step op ops r false e once none more = absurd (let x = rw e at none in cc)
+
+once_from : (ops : List Op) (r : Records) → EachOnce r.apps → stray_from r ops ≡ None → EachOnce (fold recorded r ops).apps
+once_from [] r once none = once
+once_from (op ∷ ops) r once none = once_step op ops r (fits_records r op) refl once none (once_from ops (recorded r op))
+
+-- a life can go on over what it begins over
+pub can_go_on : (tree : Records) → CanBeginOver tree → CanGoOn tree.apps
+can_go_on tree over =
+    let store = over.of_store in
+    let none : EachOnce no_records.apps = λ q. omega arith in
+    let once : EachOnce (records store.ops).apps = once_from store.ops no_records none store.none_stray in
+    record { plain = over.plain; once = rw store.amounts once }

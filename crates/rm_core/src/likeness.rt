@@ -1,0 +1,82 @@
+ghost use Rattle.std.specs.Prelude.{◌≡◌, ◌↔◌, IsTrue};
+ghost use Rattle.rm_core.specs.Seen.{IsKnown};
+
+use crate::tables::Tables;
+use rm_tree::Tree;
+use rm_types::{AppRecord, AttemptRecord, How, Submission, Text};
+
+fn is_same_submission(one: &Submission, other: &Submission) -> bool
+    ensures { IsTrue result ↔ (one.now ≡ other.now) }
+{
+    one.user.is_same(&other.user)
+        && one.queue.is_same(&other.queue)
+        && one.name.is_same(&other.name)
+        && one.master == other.master
+        && one.attempts == other.attempts
+        && one.modify.is_same(&other.modify)
+}
+
+fn is_same_ending(one: &Option<(How, Text)>, other: &Option<(How, Text)>) -> bool
+    ensures { IsTrue result ↔ (one.now ≡ other.now) }
+{
+    match (one, other) {
+        (Some((how, text)), Some((also, words))) => how == also && text.is_same(words),
+        (None, None) => true,
+        _ => false,
+    }
+}
+
+fn is_same_attempt(one: &AttemptRecord, other: &AttemptRecord) -> bool
+    ensures { IsTrue result ↔ (one.now ≡ other.now) }
+{
+    one.id == other.id
+        && one.master == other.master
+        && one.node.is_same(&other.node)
+        && is_same_ending(&one.ending, &other.ending)
+}
+
+fn are_same_attempts(some: &[AttemptRecord], others: &[AttemptRecord]) -> bool
+    ensures { IsTrue result ↔ (some.now ≡ others.now) }
+{
+    if some.len() != others.len() {
+        return false;
+    }
+    'attempts: for place in 0..some.len() {
+        if !is_same_attempt(&some[place], &others[place]) {
+            return false;
+        }
+    }
+    true
+}
+
+fn is_same_app(one: &AppRecord, other: &AppRecord) -> bool
+    ensures { IsTrue result ↔ (one.now ≡ other.now) }
+{
+    one.id == other.id
+        && is_same_submission(&one.submission, &other.submission)
+        && are_same_attempts(one.attempts.as_slice(), other.attempts.as_slice())
+        && is_same_ending(&one.ending, &other.ending)
+        && one.end_order == other.end_order
+}
+
+fn are_same_apps(apps: &[AppRecord], tree: &Tree) -> bool
+    ensures { IsTrue result ↔ (apps.now ≡ tree.now.apps) }
+{
+    if apps.len() != tree.len() {
+        return false;
+    }
+    'records: for place in 0..apps.len() {
+        if !is_same_app(&apps[place], tree.at(place)) {
+            return false;
+        }
+    }
+    true
+}
+
+/// Whether the tables know of a store just what a tree says.
+pub fn is_known(t: &Tables, tree: &Tree) -> bool
+    ensures { IsTrue result ↔ IsKnown t.now tree.now }
+{
+    let numbers = t.next_epoch == tree.next_epoch() && t.stored_stamp == tree.stamp();
+    numbers && are_same_apps(t.apps.as_slice(), tree)
+}
