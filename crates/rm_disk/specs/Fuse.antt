@@ -71,7 +71,8 @@ pub record IsFuse (falls : List Fallen) (armed : Option Armed) (passed : ℕ) (b
 
 -- What every call but a fall keeps of a fuse, whether it succeeds or not. The number that it is armed with and its
 -- falls stay. More may pass, but never beyond that number. A call that succeeds leaves it blown or not, as it was;
--- once blown it stays blown and lets nothing more pass; and where it blows, just as many passed as it was armed with.
+-- once blown it stays blown and lets nothing more pass; where it blows, just as many passed as it was armed with; and
+-- one that isn't blown afterwards refused nothing.
 pub record KeepsFuse {D : Type 0} (inner : D → D → Type 0) (succeeds : Bool) (old new : Fused D) : Type 0 where
   pub inside : inner old.inner new.inner
   pub armed : new.armed ≡ old.armed
@@ -82,3 +83,4 @@ pub record KeepsFuse {D : Type 0} (inner : D → D → Type 0) (succeeds : Bool)
   pub stays_blown : old.blown ≡ true → new.blown ≡ true
   pub halted : old.blown ≡ true → new.passed ≡ old.passed
   pub blew : old.blown ≡ false → new.blown ≡ true → new.armed ≡ Some new.passed
+  pub unrefused : new.blown ≡ false → new.refused ≡ old.refused

@@ -4,6 +4,9 @@ use Rattle.std.proofs.lemmas.Bool.{and_parts, cases_Bool}
 use Rattle.std.proofs.Common.{inl, inr}
 use Rattle.rm_disk.specs.Fuse.{Fused, KeepsFuse}
 
+differ : false ≡ true → ⊥
+differ is = cc is
+
 pub keeps_fuse_same : {D : Type 0} (inner : D → D → Type 0) (succeeds : Bool) (fuse : Fused D) → inner fuse.inner fuse.inner → KeepsFuse inner succeeds fuse fuse
 keeps_fuse_same inner succeeds fuse same = record {
   inside = same;
@@ -15,10 +18,8 @@ keeps_fuse_same inner succeeds fuse same = record {
   stays_blown = λ is. is;
   halted = λ _. refl;
   blew = λ no yes. absurd (differ (sym no ∙ yes));
+  unrefused = λ _. refl;
 }
-  where
-    differ : false ≡ true → ⊥
-    differ is = cc is
 
 pub keeps_fuse_on : {D : Type 0} (inner : Bool → D → D → Type 0) → ((one two : Bool) (x y z : D) → inner one x y → inner two y z → inner (one && two) x z)
     → (one two : Bool) (x y z : Fused D) → KeepsFuse (inner one) one x y → KeepsFuse (inner two) two y z → KeepsFuse (inner (one && two)) (one && two) x z
@@ -34,5 +35,9 @@ keeps_fuse_on inner on one two x y z xy yz = record {
   blew = λ never now. elim (cases_Bool y.blown) [
     | inl then ↦ yz.armed ∙ xy.blew never then ∙ ap (λ (n : ℕ). Some n) (sym (yz.halted then))
     | inr not_yet ↦ yz.blew not_yet now
+  ];
+  unrefused = λ never. elim (cases_Bool y.blown) [
+    | inl then ↦ absurd (differ (sym never ∙ yz.stays_blown then))
+    | inr not_yet ↦ yz.unrefused never ∙ xy.unrefused not_yet
   ];
 }
