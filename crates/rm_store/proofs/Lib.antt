@@ -1,3 +1,4 @@
+pub mod Each
 pub mod Faultless
 pub mod Ops
 pub mod SoFar

@@ -9,6 +9,7 @@
 #![tactic(auto)]
 
 mod fault;
+mod laws;
 mod reading;
 mod store;
 #[cfg(test)]
@@ -16,4 +17,5 @@ mod tests;
 mod writing;
 
 pub use fault::StoreError;
+pub use laws::{law_held_is_faultless, law_one_list, law_one_record_each};
 pub use store::{OpenFail, Store};

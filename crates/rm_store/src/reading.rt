@@ -12,7 +12,7 @@ ghost use Rattle.rm_store.specs.Store.{IsWhole, AreRead};
 
 use crate::fault::StoreError;
 use rm_disk::Disk;
-use rm_frame::{FrameError, decode, frames_are_apart};
+use rm_frame::{FrameError, decode};
 use rm_journal::{Journal, Region};
 use rm_tree::{Tree, TreeError};
 use rm_types::{Items, Op};
@@ -48,7 +48,6 @@ pub fn read_all<D: Disk>(alloc: Global, disk: &mut D) -> Result<Read, StoreError
         take_in(alloc, &payload, gate, &mut tree, &mut ops)?;
     }
     tree.close_gaps();
-    frames_are_apart();
     Ok(Read { journal, tree, ops })
 }
 

@@ -4,7 +4,7 @@ ghost use Rattle.rm_types.specs.Counts.{Rose};
 ghost use Rattle.rm_types.specs.Frames.{CanBeFramed};
 ghost use Rattle.rm_types.specs.Records.{records, fits_records};
 ghost use Rattle.rm_model.specs.Device.{Holds};
-ghost use Rattle.rm_disk.specs.Disk.{Tells, IsQuiet, GoesOn};
+ghost use Rattle.rm_disk.specs.Disk.{Tells, EachImage, IsQuiet, GoesOn};
 ghost use Rattle.rm_disk.specs.Fuse.{KeepsFuse};
 ghost use Rattle.rm_store.specs.Causes.{IsWhy, IsFaultless};
 ghost use Rattle.rm_store.specs.Errors.{IsOpenError, IsAppendError, IsRefusal, broken_after};
@@ -54,12 +54,13 @@ impl<D: Disk> Store<D> {
     ///
     /// `Damaged` and `Stray` come exactly where the disk holds no operations, and name the first fault;
     /// `DiskFault` only where the disk's count of faults rose. A refusal hands the disk back. On every outcome
-    /// a read of the disk gives what it gave.
+    /// a read of the disk gives what it gave; after `Ok` a crash leaves these operations too.
     pub fn open(alloc: Global, disk: Fuse<D>) -> Result<(Store<D>, Tree, Items<Op>), OpenFail<D>>
         ensures sound { IfOk result (λ opened. IsSound D.view opened.0) }
         ensures unbroken { IfOk result (λ opened. opened.0.is_broken ≡ false) }
         ensures read { IfOk result (λ opened. AreRead opened.1 opened.2) }
         ensures holds { IfOk result (λ opened. Tells (seen D.view disk) (λ bytes. Holds bytes opened.2)) }
+        ensures images { IfOk result (λ opened. Tells (seen D.view disk) (λ _. EachImage (seen D.view opened.0.disk) (λ image. Holds image opened.2))) }
         ensures faultless { OnOk result (Tells (seen D.view disk) IsFaultless) }
         ensures why { IfErr result (λ refused. Tells (seen D.view disk) (λ bytes. IsWhy bytes refused.why)) }
         ensures quiet { MatchResult result (λ opened. IsQuiet (seen D.view disk) (seen D.view opened.0.disk)) (λ refused. IsQuiet (seen D.view disk) (seen D.view refused.disk)) }

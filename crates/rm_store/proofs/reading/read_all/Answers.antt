@@ -8,7 +8,7 @@ use Rattle.rm_store.specs.declared.fault.StoreError
 use Rattle.rm_store.specs.Causes.{IsWhy}
 use Rattle.rm_journal.specs.Journal.{HasRead}
 use Rattle.rm_store.proofs.SoFar.{begun, read_more, region_all, all_read, reads_up_to}
-use Rattle.rm_store.proofs.Faultless.{faultless}
+use Rattle.rm_store.proofs.Faultless.{holds_faultless}
 use Rattle.rm_store.proofs.Why.{why_open, why_taken}
 use Rattle.rm_store.proofs.reading.read_all.Goals as goal
 
@@ -63,11 +63,7 @@ returns-clause-holds g c = λ bytes told.
 pub returns-clause-faultless : goal.returns-clause-faultless
 returns-clause-faultless g c = λ bytes told.
     let told_now = c.next.ensures.quiet.told ∙ (c.payloads.invariant.read.quiet.told ∙ told) in
-    let holds = returns-clause-holds g c bytes told_now in
-    let long = g.met.D.Disk.image_size c.args.disk.now bytes (g.met.D.Disk.as_it_reads c.args.disk.now bytes told) in
-    let region = region_all bytes (0 + c.size-size.result) (omega (arith, long, c.size-size.ensures)) in
-    let undamaged = rw region at (c.in_ok-journal.ensures.undamaged bytes told) in
-    faultless c.frames_are_apart.ensures bytes c.payloads.ops holds undamaged
+    holds_faultless bytes c.payloads.ops (returns-clause-holds g c bytes told_now)
 
 pub returns-in_err-journal-clause-why : goal.returns-in_err-journal-clause-why
 returns-in_err-journal-clause-why g c =
