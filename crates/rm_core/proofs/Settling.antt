@@ -114,10 +114,14 @@ module _ (settings : Settings) (t : Tables) (s : IsSound settings t) where
       let at : state_after ops log ≡ record { kept = k.history.kept; awaiting = t.awaiting; blew = false; life = None } = k.same ∙ rw a refl in
       subst (λ (x : Manager). IsAtRest settings x x.life) (sym at) tt
 
+  none_handed : IsRunning t → t.awaiting ≡ [] → (b : Bool) → t.handed ≡ b → b ≡ false
+  none_handed r w true e = absurd (r.handed e w)
+  none_handed r w false e = refl
+
   rests_where : (log : List Entry) → t.main ≡ [] → t.sched ≡ [] → (t.alive ≡ true → t.awaiting ≡ []) → (b : Bool) → t.alive ≡ b
       → RestsWhere (record { settings = settings; tables = t; log = log })
-  rests_where log m n w true a = record { is_open = λ _. (at_rest t s.stage a m (w a)).is_open; at_rest = λ ops k. open_rests ops log k a m n (w a) }
-  rests_where log m n w false a = record { is_open = λ h. cc; at_rest = λ ops k. between_rests ops log k a }
+  rests_where log m n w true a = record { is_open = λ _. (at_rest t s.stage a m (w a)).is_open; none_handed = λ _. none_handed (at_rest t s.stage a m (w a)) (w a) t.handed refl; at_rest = λ ops k. open_rests ops log k a m n (w a) }
+  rests_where log m n w false a = record { is_open = λ h. cc; none_handed = λ h. cc; at_rest = λ ops k. between_rests ops log k a }
 
   -- where nothing is left to do, nothing is owed
   pub sound_rests : (log : List Entry) → Rests (record { settings = settings; tables = t; log = log })

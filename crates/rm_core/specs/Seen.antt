@@ -28,9 +28,11 @@ abbrev pub is_kept_entry : Entry → Bool
 is_kept_entry (Kept op) = true
 is_kept_entry _ = false
 
--- with empty queues and nothing that awaits, the life is open, and nothing awaits or is owed in the state after the log
+-- with empty queues and nothing that awaits, the life is open, nothing is with the store, and nothing awaits or is owed in
+-- the state after the log
 pub record RestsWhere (seen : Seen) : Type 0 where
   pub is_open : seen.tables.alive ≡ true → seen.tables.is_open ≡ true
+  pub none_handed : seen.tables.alive ≡ true → seen.tables.handed ≡ false
   pub at_rest : (opening : List Op) → StandsFor opening seen → IsAtRest seen.settings (state_after opening seen.log) (state_after opening seen.log).life
 
 -- where nothing is left to do, nothing is owed
