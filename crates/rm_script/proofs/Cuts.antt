@@ -4,7 +4,7 @@ use Rattle.std.specs.List.{position_or_len, position, onto_first}
 use Rattle.std.proofs.lemmas.Bool.{ltb-true, ltb-false}
 use Rattle.std.proofs.lemmas.Option.{cond_some}
 use Rattle.std.proofs.lemmas.List.{take_rest, drop_all}
-use Rattle.rm_script.specs.Reading.{lines_of}
+use Rattle.rm_script.specs.Lines.{lines_of}
 use Rattle.rm_script.proofs.Labels.{not_found}
 
 abbrev is_feed : ℕ → Bool

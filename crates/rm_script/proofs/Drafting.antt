@@ -1,244 +1,264 @@
--- Lines put together to a script, and the lines of a script.
-use Rattle.std.proofs.Common.{◌≡◌, ℕ, ◌≤◌, List, [], ◌∷◌, ◌++◌, length, map, All, Option, Some, None, refl, sym, ap, subst, ◌∙◌, append_assoc, arith}
+-- Lines put together to a draft of a script, which is what was written so far.
+use Rattle.std.proofs.Common.{◌≡◌, ℕ, ◌<◌, ◌≤◌, Bool, true, false, not, ◌||◌, cond, List, [], ◌∷◌, ◌++◌, length, map, Option, Some, None, refl, sym, ap, subst, ◌∙◌, append_assoc, arith}
+use Rattle.std.specs.Prelude.{codes, All}
 use Rattle.std.specs.List.{flat_map, AllByRecursion}
 use Rattle.std.proofs.lemmas.Option.{same_Some}
 use Rattle.std.proofs.lemmas.List.{append-nil, map-append}
 use Rattle.std.proofs.lemmas.List.Concat.{flat_map-append}
-use Rattle.std.proofs.lemmas.List.Elements.{All-nil, All-cons, All-head, All-tail, All-push}
+use Rattle.std.proofs.lemmas.List.Elements.{All-nil, All-push, filter-append}
+use Rattle.rm_types.specs.IdTexts.{IsWithin}
+use Rattle.rm_types.specs.Lists.{is_nil}
 use Rattle.rm_types.specs.declared.messages.Message.{Message}
-use Rattle.rm_types.specs.declared.scripts.Close.{Close}
-use Rattle.rm_types.specs.declared.scripts.Segment.{Segment}
 use Rattle.rm_types.specs.declared.scripts.Life.{Life}
-use Rattle.rm_types.specs.declared.scripts.Script.{Script}
+use Rattle.rm_types.specs.declared.scripts.Segment.{Segment}
 use Rattle.rm_script.specs.declared.lines.Line.{Line}
-use Rattle.rm_script.specs.declared.lines.Line.TheVariants as lines
+use Rattle.rm_script.specs.declared.lines.Line.TheVariants.{Skipped, Start, Settle, Crash, Deliver, Lose}
+use Rattle.rm_script.specs.declared.drafts.Living.{Living}
 use Rattle.rm_script.specs.declared.drafts.Draft.{Draft}
-use Rattle.rm_script.specs.declared.drafts.Draft.TheVariants.{Empty, Living}
-use Rattle.rm_model.specs.Wording.{message_text}
-use Rattle.rm_script.specs.Spelling.{close_text, start_text, segment_lines, life_lines, script_lines}
-use Rattle.rm_script.specs.Scripts.{IsMessage, IsSegment, IsLife, IsBuiltMessage, IsBuiltClose, IsBuiltSegment, IsBuilt}
+use Rattle.rm_script.specs.declared.drafts.Draft.TheVariants as drafts
+use Rattle.rm_script.specs.Lines.{is_skipped, kept_lines, IsLineText}
+use Rattle.rm_script.specs.Written.{Sent, Delivered, Lost, Crashing, WrittenLife, delivered, settled_segment, life_of}
+use Rattle.rm_script.specs.Spelling.{sent_text, start_text, settled_lines, life_lines, script_lines}
+use Rattle.rm_script.specs.Scripts.{IsRead, IsSent, IsCrash, IsLife, Crashes}
 use Rattle.rm_script.specs.Results.{◌>>=◌}
-use Rattle.rm_script.specs.Reading.{line_of, with_line, with_text, with_texts, script_of_draft}
-use Rattle.rm_script.proofs.Labels.{bound}
-use Rattle.rm_script.proofs.OneLine.{line_text, IsLine, line_of_is, line_of-text}
+use Rattle.rm_script.specs.Reading.{line_of, settled, crashed, crash_life, with_start, with_settle, with_crash, with_message, with_loss, with_line, with_text, with_texts}
+use Rattle.rm_script.proofs.Labels.{bound, not_chosen}
+use Rattle.rm_script.proofs.OneLine.{IsCrashLine, IsLine, IsTextOf, line_text, Says, is_kept, line_of_is}
 
--- ---- from lines to a script
+-- a script as it is written, as far as its lines go: the lives that crashed, and the life that goes on
+pub data Written : Type 0 where
+  Between : (lives : List WrittenLife) → Written
+  Going : (lives : List WrittenLife) (stamp : ℕ) (done : List (List Sent)) (sent : List Sent) → Written
 
--- the lines of a draft
-abbrev pub draft_lines : Draft → List (List ℕ)
-draft_lines Empty = []
-draft_lines (Living life waiting) = life_lines life ++ map message_text waiting
+-- the draft of it
 
--- the values of a life and of the messages after it are in their ranges, and of kinds that are read
-pub record IsLiving (life : Life) (waiting : List Message) : Type 0 where
-  pub life_fits : IsLife life
-  pub segments_built : All IsBuiltSegment life.segments
-  pub waiting_fits : All IsMessage waiting
-  pub waiting_built : All IsBuiltMessage waiting
+abbrev pub living_of : ℕ → List (List Sent) → List Sent → Living
+living_of stamp done sent = record { stamp = stamp; segments = map settled_segment done; messages = flat_map delivered sent; is_sending = not (is_nil sent) }
 
-abbrev pub IsDraft : Draft → Type 0
-IsDraft Empty = Unit {0}
-IsDraft (Living life waiting) = IsLiving life waiting
+abbrev pub draft_of : Written → Draft
+draft_of (Between lives) = drafts.Between (map life_of lives)
+draft_of (Going lives stamp done sent) = drafts.Living (map life_of lives) (living_of stamp done sent)
 
--- the draft fits, and has one line more than these
-pub record HasMore (before : List (List ℕ)) (more : List (List ℕ)) (draft : Draft) : Type 0 where
-  pub fits : IsDraft draft
-  pub lines : draft_lines draft ≡ before ++ more
+-- its lines that say something
+abbrev pub written_lines : Written → List (List ℕ)
+written_lines (Between lives) = script_lines lives
+written_lines (Going lives stamp done sent) = script_lines lives ++ ((start_text stamp ∷ flat_map settled_lines done) ++ map sent_text sent)
 
-closed_lines : (start : List ℕ) (segments : List Segment) (waiting : List Message) (close : Close)
-    → (start ∷ flat_map segment_lines (segments ++ record { messages = waiting; close = close } ∷ [])) ++ []
-    ≡ ((start ∷ flat_map segment_lines segments) ++ map message_text waiting) ++ close_text close ∷ []
-closed_lines start segments waiting close = simp (flat_map-append, append_assoc, append-nil)
+-- lives that may stand before others
+pub record AreCrashed (lives : List WrittenLife) : Type 0 where
+  pub each : All IsLife lives
+  pub crash : All Crashes lives
 
-closed_fits : (life : Life) (waiting : List Message) (close : Close) → IsLiving life waiting → IsBuiltClose close
-    → IsLiving (record life { segments = life.segments ++ record { messages = waiting; close = close } ∷ [] }) []
-closed_fits life waiting close fits built =
-    let segment : Segment = record { messages = waiting; close = close } in
-    record {
-      life_fits = record { stamp = fits.life_fits.stamp; segments = All-push IsSegment life.segments segment fits.life_fits.segments fits.waiting_fits };
-      segments_built = All-push IsBuiltSegment life.segments segment fits.segments_built (fits.waiting_built, built);
-      waiting_fits = All-nil IsMessage;
-      waiting_built = All-nil IsBuiltMessage;
-    }
+pub record IsGoing (lives : List WrittenLife) (stamp : ℕ) (done : List (List Sent)) (sent : List Sent) : Type 0 where
+  pub lives_fit : AreCrashed lives
+  pub stamp_fits : IsWithin 1 1000000000000000 stamp
+  pub done_fit : All (All IsSent) done
+  pub sent_fit : All IsSent sent
 
-delivered_fits : (life : Life) (waiting : List Message) (message : Message) → IsLiving life waiting → IsMessage message × IsBuiltMessage message
-    → IsLiving life (waiting ++ message ∷ [])
-delivered_fits life waiting message fits more = record {
-  life_fits = fits.life_fits;
-  segments_built = fits.segments_built;
-  waiting_fits = All-push IsMessage waiting message fits.waiting_fits more.0;
-  waiting_built = All-push IsBuiltMessage waiting message fits.waiting_built more.1;
+-- what is written so far may stand in a script
+abbrev pub Fits : Written → Type 0
+Fits (Between lives) = AreCrashed lives
+Fits (Going lives stamp done sent) = IsGoing lives stamp done sent
+
+-- ---- one line on
+
+-- the draft is that of something written, which has these lines more
+pub record Grown (before : Written) (more : List (List ℕ)) (next : Draft) : Type 0 where
+  pub after : Written
+  pub is : next ≡ draft_of after
+  pub fits : Fits after
+  pub lines : written_lines after ≡ written_lines before ++ more
+
+pub some_sent : (sent : List Sent) (one : Sent) → true ≡ not (is_nil (sent ++ one ∷ []))
+some_sent [] one = refl
+some_sent (first ∷ sent) one = refl
+
+pub delivered_is : (lives : List WrittenLife) (stamp : ℕ) (done : List (List Sent)) (sent : List Sent) (message : Message)
+    → drafts.Living (map life_of lives) (record (living_of stamp done sent) { messages = flat_map delivered sent ++ message ∷ []; is_sending = true })
+    ≡ draft_of (Going lives stamp done (sent ++ Delivered message ∷ []))
+delivered_is lives stamp done sent message =
+    let messages : flat_map delivered sent ++ message ∷ [] ≡ flat_map delivered (sent ++ Delivered message ∷ []) = sym (flat_map-append delivered sent (Delivered message ∷ [])) in
+    ap (λ (ms : List Message). drafts.Living (map life_of lives) (record (living_of stamp done sent) { messages = ms; is_sending = true })) messages
+    ∙ ap (λ (b : Bool). drafts.Living (map life_of lives) (record (living_of stamp done (sent ++ Delivered message ∷ [])) { is_sending = b })) (some_sent sent (Delivered message))
+
+pub lost_is : (lives : List WrittenLife) (stamp : ℕ) (done : List (List Sent)) (sent : List Sent) (message : Message)
+    → drafts.Living (map life_of lives) (record (living_of stamp done sent) { is_sending = true }) ≡ draft_of (Going lives stamp done (sent ++ Lost message ∷ []))
+lost_is lives stamp done sent message =
+    let messages : flat_map delivered sent ≡ flat_map delivered (sent ++ Lost message ∷ []) =
+    sym (flat_map-append delivered sent (Lost message ∷ []) ∙ append-nil (flat_map delivered sent)) in
+    ap (λ (ms : List Message). drafts.Living (map life_of lives) (record (living_of stamp done sent) { messages = ms; is_sending = true })) messages
+    ∙ ap (λ (b : Bool). drafts.Living (map life_of lives) (record (living_of stamp done (sent ++ Lost message ∷ [])) { is_sending = b })) (some_sent sent (Lost message))
+
+pub settled_is : (lives : List WrittenLife) (stamp : ℕ) (done : List (List Sent)) (sent : List Sent)
+    → drafts.Living (map life_of lives) (settled (living_of stamp done sent)) ≡ draft_of (Going lives stamp (done ++ sent ∷ []) [])
+settled_is lives stamp done sent =
+    ap (λ (ss : List Segment). drafts.Living (map life_of lives) (record { stamp = stamp; segments = ss; messages = []; is_sending = false })) (sym (map-append settled_segment done (sent ∷ [])))
+
+abbrev pub crashed_life : ℕ → List (List Sent) → ℕ → ℕ → WrittenLife
+crashed_life stamp done calls image = record { stamp = stamp; settled = done; crash = Some (record { calls = calls; image = image }) }
+
+pub crashed_is : (lives : List WrittenLife) (life : WrittenLife) → drafts.Between (map life_of lives ++ life_of life ∷ []) ≡ draft_of (Between (lives ++ life ∷ []))
+crashed_is lives life = ap (λ (ls : List Life). drafts.Between ls) (sym (map-append life_of lives (life ∷ [])))
+
+grow_start : (before : Written) (stamp : ℕ) (next : Draft) → with_start (draft_of before) stamp ≡ Some next → Fits before → IsWithin 1 1000000000000000 stamp
+    → Grown before (start_text stamp ∷ []) next
+grow_start (Between lives) stamp next e fits fine = record {
+  after = Going lives stamp [] [];
+  is = sym (same_Some (draft_of (Going lives stamp [] [])) next e);
+  fits = record { lives_fit = fits; stamp_fits = fine; done_fit = All-nil (All IsSent); sent_fit = All-nil IsSent };
+  lines = refl;
+}
+grow_start (Going lives start done sent) stamp next e fits fine = absurd cc
+
+pub settled_text : (lives start : List (List ℕ)) (done : List (List Sent)) (sent : List Sent)
+    → lives ++ ((start ++ flat_map settled_lines (done ++ sent ∷ [])) ++ []) ≡ (lives ++ ((start ++ flat_map settled_lines done) ++ map sent_text sent)) ++ codes "settle" ∷ []
+settled_text lives start done sent = simp (flat_map-append, append_assoc, append-nil)
+
+grow_settle : (before : Written) (next : Draft) → with_settle (draft_of before) ≡ Some next → Fits before → Grown before (codes "settle" ∷ []) next
+grow_settle (Between lives) next e fits = absurd cc
+grow_settle (Going lives stamp done sent) next e fits = record {
+  after = Going lives stamp (done ++ sent ∷ []) [];
+  is = sym (same_Some (drafts.Living (map life_of lives) (settled (living_of stamp done sent))) next e) ∙ settled_is lives stamp done sent;
+  fits = record { lives_fit = fits.lives_fit; stamp_fits = fits.stamp_fits; done_fit = All-push (All IsSent) done sent fits.done_fit fits.sent_fit; sent_fit = All-nil IsSent };
+  lines = settled_text (script_lines lives) (start_text stamp ∷ []) done sent;
 }
 
-with_line_is : (draft : Draft) (line : Line) (next : Draft) → with_line draft line ≡ Some next → IsDraft draft → IsLine line → HasMore (draft_lines draft) (line_text line ∷ []) next
-with_line_is Empty (lines.Start stamp) next e fits line_fits =
-    let life : Life = record { stamp = stamp; segments = [] } in
-    let life_fits : IsLife life = record { stamp = line_fits; segments = All-nil IsSegment } in
-    let living : IsLiving life [] = record { life_fits = life_fits; segments_built = All-nil IsBuiltSegment; waiting_fits = All-nil IsMessage; waiting_built = All-nil IsBuiltMessage } in
-    subst (HasMore [] (start_text stamp ∷ [])) (same_Some (Living life []) next e) (record { fits = living; lines = refl })
-with_line_is Empty (lines.Close close) next e fits line_fits = absurd cc
-with_line_is Empty (lines.Deliver message) next e fits line_fits = absurd cc
-with_line_is (Living life waiting) (lines.Start stamp) next e fits line_fits = absurd cc
-with_line_is (Living life waiting) (lines.Close close) next e fits line_fits =
-    subst (HasMore (life_lines life ++ map message_text waiting) (close_text close ∷ []))
-    (same_Some (Living (record life { segments = life.segments ++ record { messages = waiting; close = close } ∷ [] }) []) next e)
-    (record { fits = closed_fits life waiting close fits line_fits; lines = closed_lines (start_text life.stamp) life.segments waiting close })
-with_line_is (Living life waiting) (lines.Deliver message) next e fits line_fits =
-    subst (HasMore (life_lines life ++ map message_text waiting) (message_text message ∷ []))
-    (same_Some (Living life (waiting ++ message ∷ [])) next e)
-    (record { fits = delivered_fits life waiting message fits line_fits; lines = simp (map-append, append_assoc) })
+neither : (b c : Bool) → (b || c) ≡ false → (b ≡ false) × (c ≡ false)
+neither true c e = absurd cc
+neither false c e = (refl, e)
 
--- a line is not too long
-abbrev pub IsShort : List ℕ → Type 0
-IsShort line = length line ≤ 65536
+pub nothing_sent : (sent : List Sent) → not (is_nil sent) ≡ false → sent ≡ []
+nothing_sent [] e = refl
+nothing_sent (one ∷ sent) e = absurd cc
 
--- the draft that lines make has these lines more, each of which is short
-pub record HasTexts (before : List (List ℕ)) (more : List (List ℕ)) (draft : Draft) : Type 0 where
-  pub fits : IsDraft draft
-  pub lines : draft_lines draft ≡ before ++ more
-  pub short : AllByRecursion IsShort more
+some_settled : (done : List (List Sent)) → is_nil (map settled_segment done) ≡ false → 0 < length done
+some_settled [] e = absurd cc
+some_settled (sent ∷ done) e = omega arith
 
-pub with_texts_are : (draft : Draft) (texts : List (List ℕ)) (last : Draft) → with_texts draft texts ≡ Some last → IsDraft draft → HasTexts (draft_lines draft) texts last
-with_texts_are draft [] last e fits =
-    subst (HasTexts (draft_lines draft) []) (same_Some draft last e) (record { fits = fits; lines = sym (append-nil (draft_lines draft)); short = tt })
-with_texts_are draft (text ∷ texts) last e fits =
-    let first = bound (with_text draft text) (λ next. with_texts next texts) last e in
-    let line = bound (line_of text) (with_line draft) first.0 first.1 in
-    let is = line_of_is text line.0 line.1 in
-    let one = with_line_is draft line.0 first.0 line.2 fits is.fits in
-    let rest = with_texts_are first.0 texts last first.2 one.fits in
+crashed_fit : (lives : List WrittenLife) (stamp : ℕ) (done : List (List Sent)) (calls image : ℕ) → AreCrashed lives → IsWithin 1 1000000000000000 stamp → All (All IsSent) done → 0 < length done
+    → IsCrashLine calls image → AreCrashed (lives ++ crashed_life stamp done calls image ∷ [])
+crashed_fit lives stamp done calls image fit stamp_fits done_fit some fine =
+    let life : WrittenLife = crashed_life stamp done calls image in
+    let crash : IsCrash life (record { calls = calls; image = image }) = record { calls = fine.calls_fit; image = fine.image_fits; after_settle = some } in
+    let is : IsLife life = record { stamp = stamp_fits; settled = done_fit; crash = crash } in
+    record { each = All-push IsLife lives life fit.each is; crash = All-push Crashes lives life fit.crash refl }
+
+pub lines_of-push : (lives : List WrittenLife) (life : WrittenLife) → script_lines (lives ++ life ∷ []) ≡ script_lines lives ++ life_lines life
+lines_of-push lives life = flat_map-append life_lines lives (life ∷ []) ∙ ap (λ (ls : List (List ℕ)). script_lines lives ++ ls) (append-nil (life_lines life))
+
+crashed_lines : (lives front crash : List (List ℕ)) (sent : List Sent) → sent ≡ [] → lives ++ (front ++ crash) ≡ (lives ++ (front ++ map sent_text sent)) ++ crash
+crashed_lines lives front crash sent none = rw none (simp (append_assoc, append-nil))
+
+grow_crash : (before : Written) (calls image : ℕ) (next : Draft) → with_crash (draft_of before) calls image ≡ Some next → Fits before → IsCrashLine calls image
+    → Grown before (line_text (Crash calls image) ∷ []) next
+grow_crash (Between lives) calls image next e fits fine = absurd cc
+grow_crash (Going lives stamp done sent) calls image next e fits fine =
+    let living : Living = living_of stamp done sent in
+    let life : WrittenLife = crashed_life stamp done calls image in
+    let ended = bound (crash_life living calls image) (λ (l : Life). Some (drafts.Between (map life_of lives ++ l ∷ []))) next e in
+    let parts = not_chosen (living.is_sending || is_nil living.segments) (Some (crashed living calls image)) ended.0 ended.1 in
+    let tests = neither living.is_sending (is_nil living.segments) parts.0 in
+    let life-is : life_of life ≡ ended.0 = same_Some (crashed living calls image) ended.0 parts.1 in
+    let next-is : drafts.Between (map life_of lives ++ ended.0 ∷ []) ≡ next = same_Some (drafts.Between (map life_of lives ++ ended.0 ∷ [])) next ended.2 in
     record {
-      fits = rest.fits;
-      lines = rest.lines ∙ ap (λ (ls : List (List ℕ)). ls ++ texts) (one.lines ∙ ap (λ (t : List ℕ). draft_lines draft ++ t ∷ []) (sym is.same)) ∙ append_assoc (draft_lines draft) (text ∷ []) texts;
-      short = (is.short, rest.short);
+      after = Between (lives ++ life ∷ []);
+      is = sym next-is ∙ ap (λ (l : Life). drafts.Between (map life_of lives ++ l ∷ [])) (sym life-is) ∙ crashed_is lives life;
+      fits = crashed_fit lives stamp done calls image fits.lives_fit fits.stamp_fits fits.done_fit (some_settled done tests.1) fine;
+      lines = lines_of-push lives life
+          ∙ crashed_lines (script_lines lives) (start_text stamp ∷ flat_map settled_lines done) (line_text (Crash calls image) ∷ []) sent (nothing_sent sent tests.0);
     }
 
--- the script that a draft is has its lines
-pub record IsScriptOfDraft (draft : Draft) (script : Script) : Type 0 where
-  pub values : All IsLife script.lives
-  pub built : IsBuilt script
-  pub lines : script_lines script ≡ draft_lines draft
+sent_lines : (lives front : List (List ℕ)) (sent : List Sent) (one : Sent) → lives ++ (front ++ map sent_text (sent ++ one ∷ [])) ≡ (lives ++ (front ++ map sent_text sent)) ++ sent_text one ∷ []
+sent_lines lives front sent one = simp (map-append, append_assoc)
 
-pub script_of_draft_is : (draft : Draft) (script : Script) → script_of_draft draft ≡ Some script → IsDraft draft → IsScriptOfDraft draft script
-script_of_draft_is Empty script e fits =
-    let none : Script = record { lives = [] } in
-    subst (IsScriptOfDraft Empty) (same_Some none script e) (record { values = All-nil IsLife; built = record { lives = omega arith; segments = All-nil _ }; lines = refl })
-script_of_draft_is (Living life []) script e fits =
-    let one : Script = record { lives = life ∷ [] } in
-    subst (IsScriptOfDraft (Living life [])) (same_Some one script e) (record {
-      values = All-cons IsLife life [] fits.life_fits (All-nil IsLife);
-      built = record { lives = omega arith; segments = All-cons (λ (l : Life). All IsBuiltSegment l.segments) life [] fits.segments_built (All-nil (λ (l : Life). All IsBuiltSegment l.segments)) };
-      lines = refl;
-    })
-script_of_draft_is (Living life (message ∷ waiting)) script e fits = absurd cc
+sent_fits : (lives : List WrittenLife) (stamp : ℕ) (done : List (List Sent)) (sent : List Sent) (one : Sent) → IsGoing lives stamp done sent → IsSent one → IsGoing lives stamp done (sent ++ one ∷ [])
+sent_fits lives stamp done sent one fits fine = record {
+  lives_fit = fits.lives_fit;
+  stamp_fits = fits.stamp_fits;
+  done_fit = fits.done_fit;
+  sent_fit = All-push IsSent sent one fits.sent_fit fine;
+}
 
--- ---- from a script to its lines
+grow_message : (before : Written) (message : Message) (next : Draft) → with_message (draft_of before) message ≡ Some next → Fits before → IsRead message
+    → Grown before (sent_text (Delivered message) ∷ []) next
+grow_message (Between lives) message next e fits fine = absurd cc
+grow_message (Going lives stamp done sent) message next e fits fine = record {
+  after = Going lives stamp done (sent ++ Delivered message ∷ []);
+  is = sym (same_Some (drafts.Living (map life_of lives) (record (living_of stamp done sent) { messages = flat_map delivered sent ++ message ∷ []; is_sending = true })) next e)
+      ∙ delivered_is lives stamp done sent message;
+  fits = sent_fits lives stamp done sent (Delivered message) fits fine;
+  lines = sent_lines (script_lines lives) (start_text stamp ∷ flat_map settled_lines done) sent (Delivered message);
+}
 
--- the lines of a segment, a life and a script as values
-abbrev segment_marks : Segment → List Line
-segment_marks segment = map lines.Deliver segment.messages ++ lines.Close segment.close ∷ []
+grow_loss : (before : Written) (message : Message) (next : Draft) → with_loss (draft_of before) ≡ Some next → Fits before → IsRead message → Grown before (sent_text (Lost message) ∷ []) next
+grow_loss (Between lives) message next e fits fine = absurd cc
+grow_loss (Going lives stamp done sent) message next e fits fine = record {
+  after = Going lives stamp done (sent ++ Lost message ∷ []);
+  is = sym (same_Some (drafts.Living (map life_of lives) (record (living_of stamp done sent) { is_sending = true })) next e) ∙ lost_is lives stamp done sent message;
+  fits = sent_fits lives stamp done sent (Lost message) fits fine;
+  lines = sent_lines (script_lines lives) (start_text stamp ∷ flat_map settled_lines done) sent (Lost message);
+}
 
-abbrev life_marks : Life → List Line
-life_marks life = lines.Start life.stamp ∷ flat_map segment_marks life.segments
+-- the lines that the line adds
+abbrev pub shown : Line → List (List ℕ)
+shown Skipped = []
+shown (Start stamp) = line_text (Start stamp) ∷ []
+shown Settle = line_text Settle ∷ []
+shown (Crash calls image) = line_text (Crash calls image) ∷ []
+shown (Deliver message) = line_text (Deliver message) ∷ []
+shown (Lose message) = line_text (Lose message) ∷ []
 
-abbrev pub script_marks : Script → List Line
-script_marks script = flat_map life_marks script.lives
+grow : (before : Written) (line : Line) (next : Draft) → with_line (draft_of before) line ≡ Some next → Fits before → IsLine line → Grown before (shown line) next
+grow before Skipped next e fits fine = record { after = before; is = sym (same_Some (draft_of before) next e); fits = fits; lines = sym (append-nil (written_lines before)) }
+grow before (Start stamp) next e fits fine = grow_start before stamp next e fits fine
+grow before Settle next e fits fine = grow_settle before next e fits
+grow before (Crash calls image) next e fits fine = grow_crash before calls image next e fits fine
+grow before (Deliver message) next e fits fine = grow_message before message next e fits fine
+grow before (Lose message) next e fits fine = grow_loss before message next e fits fine
 
-texts-messages : (messages : List Message) → map line_text (map lines.Deliver messages) ≡ map message_text messages
-texts-messages [] = refl
-texts-messages (message ∷ messages) = ap (λ ls. message_text message ∷ ls) (texts-messages messages)
+kept_one : (line : Line) (text : List ℕ) → Says line → IsLine line → text ≡ line_text line → kept_lines (text ∷ []) ≡ line_text line ∷ []
+kept_one line text says fine same =
+    ap (λ (t : List ℕ). kept_lines (t ∷ [])) same ∙ ap (λ (b : Bool). cond b (line_text line ∷ []) []) (is_kept line says fine)
 
-texts-segment : (segment : Segment) → map line_text (segment_marks segment) ≡ segment_lines segment
-texts-segment segment =
-    map-append line_text (map lines.Deliver segment.messages) (lines.Close segment.close ∷ []) ∙ ap (λ ls. ls ++ close_text segment.close ∷ []) (texts-messages segment.messages)
+-- a text that is kept, or isn't
+kept_text : (line : Line) (text : List ℕ) → IsTextOf line text → IsLine line → kept_lines (text ∷ []) ≡ shown line
+kept_text Skipped text is fine = ap (λ (b : Bool). cond (not b) (text ∷ []) []) is
+kept_text (Start stamp) text is fine = kept_one (Start stamp) text tt fine is
+kept_text Settle text is fine = kept_one Settle text tt fine is
+kept_text (Crash calls image) text is fine = kept_one (Crash calls image) text tt fine is
+kept_text (Deliver message) text is fine = kept_one (Deliver message) text tt fine is
+kept_text (Lose message) text is fine = kept_one (Lose message) text tt fine is
 
-texts-segments : (segments : List Segment) → map line_text (flat_map segment_marks segments) ≡ flat_map segment_lines segments
-texts-segments [] = refl
-texts-segments (segment ∷ segments) =
-    map-append line_text (segment_marks segment) (flat_map segment_marks segments) ∙ ap (λ ls. ls ++ map line_text (flat_map segment_marks segments)) (texts-segment segment)
-    ∙ ap (λ ls. segment_lines segment ++ ls) (texts-segments segments)
+-- ---- lines one after the other
 
-texts-life : (life : Life) → map line_text (life_marks life) ≡ life_lines life
-texts-life life = ap (λ ls. start_text life.stamp ∷ ls) (texts-segments life.segments)
+-- the draft is that of something written, which has those of these lines more that say something
+pub record Grew (before : Written) (texts : List (List ℕ)) (last : Draft) : Type 0 where
+  pub after : Written
+  pub is : last ≡ draft_of after
+  pub fits : Fits after
+  pub lines : written_lines after ≡ written_lines before ++ kept_lines texts
+  pub fine : AllByRecursion IsLineText texts
 
--- their texts are the script's lines
-pub texts-lives : (lives : List Life) → map line_text (flat_map life_marks lives) ≡ flat_map life_lines lives
-texts-lives [] = refl
-texts-lives (life ∷ lives) =
-    map-append line_text (life_marks life) (flat_map life_marks lives) ∙ ap (λ ls. ls ++ map line_text (flat_map life_marks lives)) (texts-life life)
-    ∙ ap (λ ls. life_lines life ++ ls) (texts-lives lives)
+joined : (before shown_now later kept after last : List (List ℕ)) → after ≡ before ++ shown_now → last ≡ after ++ later → kept ≡ shown_now ++ later → last ≡ before ++ kept
+joined before shown_now later kept after last e f g =
+    f ∙ ap (λ (ls : List (List ℕ)). ls ++ later) e ∙ append_assoc before shown_now later ∙ ap (λ (ls : List (List ℕ)). before ++ ls) (sym g)
 
-append_both : {A : Type 0} (P : A → Type 0) (xs ys : List A) → AllByRecursion P xs → AllByRecursion P ys → AllByRecursion P (xs ++ ys)
-append_both P [] ys h k = k
-append_both P (x ∷ xs) ys h k = (h.0, append_both P xs ys h.1 k)
-
-fits-messages : (messages : List Message) → All IsMessage messages → All IsBuiltMessage messages → AllByRecursion IsLine (map lines.Deliver messages)
-fits-messages [] fits built = tt
-fits-messages (message ∷ messages) fits built =
-    ((All-head IsMessage message messages fits, All-head IsBuiltMessage message messages built), fits-messages messages (All-tail IsMessage message messages fits) (All-tail IsBuiltMessage message messages built))
-
-fits-segments : (segments : List Segment) → All IsSegment segments → All IsBuiltSegment segments → AllByRecursion IsLine (flat_map segment_marks segments)
-fits-segments [] fits built = tt
-fits-segments (segment ∷ segments) fits built =
-    let first = All-head IsBuiltSegment segment segments built in
-    append_both IsLine (segment_marks segment) (flat_map segment_marks segments)
-    (append_both IsLine (map lines.Deliver segment.messages) (lines.Close segment.close ∷ []) (fits-messages segment.messages (All-head IsSegment segment segments fits) first.0) (first.1, tt))
-    (fits-segments segments (All-tail IsSegment segment segments fits) (All-tail IsBuiltSegment segment segments built))
-
-abbrev IsBuiltLife : Life → Type 0
-IsBuiltLife life = All IsBuiltSegment life.segments
-
--- each of them fits
-pub fits-lives : (lives : List Life) → All IsLife lives → All (λ (life : Life). All IsBuiltSegment life.segments) lives → AllByRecursion IsLine (flat_map life_marks lives)
-fits-lives [] fits built = tt
-fits-lives (life ∷ lives) fits built =
-    let first = All-head IsLife life lives fits in
-    append_both IsLine (life_marks life) (flat_map life_marks lives)
-    (first.stamp, fits-segments life.segments first.segments (All-head IsBuiltLife life lives built))
-    (fits-lives lives (All-tail IsLife life lives fits) (All-tail IsBuiltLife life lives built))
-
--- lines as values, one after the other
-abbrev pub with_lines : Draft → List Line → Option Draft
-with_lines draft [] = Some draft
-with_lines draft (line ∷ more) = with_line draft line >>= λ next. with_lines next more
-
-goes_on_alike : (o : Option Draft) (f g : Draft → Option Draft) → ((draft : Draft) → f draft ≡ g draft) → (o >>= f) ≡ (o >>= g)
-goes_on_alike None f g h = refl
-goes_on_alike (Some draft) f g h = h draft
-
--- their texts make the draft that they make
-pub with_texts-line_texts : (draft : Draft) (more : List Line) → AllByRecursion IsLine more → AllByRecursion IsShort (map line_text more) → with_texts draft (map line_text more) ≡ with_lines draft more
-with_texts-line_texts draft [] fits short = refl
-with_texts-line_texts draft (line ∷ more) fits short =
-    ap (λ (o : Option Line). (o >>= with_line draft) >>= λ next. with_texts next (map line_text more)) (line_of-text line fits.0 short.0)
-    ∙ goes_on_alike (with_line draft line) (λ next. with_texts next (map line_text more)) (λ next. with_lines next more) (λ next. with_texts-line_texts next more fits.1 short.1)
-
-with_lines-messages : (life : Life) (waiting messages : List Message) (more : List Line)
-    → with_lines (Living life waiting) (map lines.Deliver messages ++ more) ≡ with_lines (Living life (waiting ++ messages)) more
-with_lines-messages life waiting [] more = ap (λ w. with_lines (Living life w) more) (sym (append-nil waiting))
-with_lines-messages life waiting (message ∷ messages) more =
-    with_lines-messages life (waiting ++ message ∷ []) messages more ∙ ap (λ w. with_lines (Living life w) more) (append_assoc waiting (message ∷ []) messages)
-
-with_lines-segment : (life : Life) (segment : Segment) (more : List Line)
-    → with_lines (Living life []) (segment_marks segment ++ more) ≡ with_lines (Living (record life { segments = life.segments ++ segment ∷ [] }) []) more
-with_lines-segment life segment more =
-    ap (with_lines (Living life [])) (append_assoc (map lines.Deliver segment.messages) (lines.Close segment.close ∷ []) more)
-    ∙ with_lines-messages life [] segment.messages (lines.Close segment.close ∷ more)
-
-with_lines-segments : (stamp : ℕ) (done segments : List Segment)
-    → with_lines (Living (record { stamp = stamp; segments = done }) []) (flat_map segment_marks segments) ≡ Some (Living (record { stamp = stamp; segments = done ++ segments }) [])
-with_lines-segments stamp done [] = ap (λ (s : List Segment). Some (Living (record { stamp = stamp; segments = s }) [])) (sym (append-nil done))
-with_lines-segments stamp done (segment ∷ segments) =
-    with_lines-segment (record { stamp = stamp; segments = done }) segment (flat_map segment_marks segments)
-    ∙ with_lines-segments stamp (done ++ segment ∷ []) segments
-    ∙ ap (λ (s : List Segment). Some (Living (record { stamp = stamp; segments = s }) [])) (append_assoc done (segment ∷ []) segments)
-
-with_lines-life : (life : Life) → with_lines Empty (life_marks life) ≡ Some (Living life [])
-with_lines-life life = with_lines-segments life.stamp [] life.segments
-
--- the lines of one life at most make the script of it
-pub with_lines-lives : (lives : List Life) → length lives ≤ 1 → (with_lines Empty (flat_map life_marks lives) >>= script_of_draft) ≡ Some (record { lives = lives })
-with_lines-lives [] few = refl
-with_lines-lives (life ∷ []) few =
-    ap (λ (marks : List Line). with_lines Empty marks >>= script_of_draft) (append-nil (life_marks life)) ∙ ap (λ o. o >>= script_of_draft) (with_lines-life life)
-with_lines-lives (life ∷ next ∷ lives) few = absurd (omega arith)
+pub with_texts_are : (before : Written) (texts : List (List ℕ)) (last : Draft) → with_texts (draft_of before) texts ≡ Some last → Fits before → Grew before texts last
+with_texts_are before [] last e fits =
+    record { after = before; is = sym (same_Some (draft_of before) last e); fits = fits; lines = sym (append-nil (written_lines before)); fine = tt }
+with_texts_are before (text ∷ texts) last e fits =
+    let first = bound (with_text (draft_of before) text) (λ next. with_texts next texts) last e in
+    let line = bound (line_of text) (with_line (draft_of before)) first.0 first.1 in
+    let is = line_of_is text line.0 line.1 in
+    let one = grow before line.0 first.0 line.2 fits is.fits in
+    let more : with_texts (draft_of one.after) texts ≡ Some last = ap (λ (d : Draft). with_texts d texts) (sym one.is) ∙ first.2 in
+    let rest = with_texts_are one.after texts last more one.fits in
+    let kept : kept_lines (text ∷ texts) ≡ shown line.0 ++ kept_lines texts =
+    filter-append (λ l. not (is_skipped l)) (text ∷ []) texts ∙ ap (λ (ls : List (List ℕ)). ls ++ kept_lines texts) (kept_text line.0 text is.same is.fits) in
+    record {
+      after = rest.after;
+      is = rest.is;
+      fits = rest.fits;
+      lines = joined (written_lines before) (shown line.0) (kept_lines texts) (kept_lines (text ∷ texts)) (written_lines one.after) (written_lines rest.after) one.lines rest.lines kept;
+      fine = (is.fine, rest.fine);
+    }

@@ -1,95 +1,135 @@
--- Lines put together with line feeds, and cut apart again.
-use Rattle.std.proofs.Common.{◌≡◌, ℕ, ◌<◌, true, false, cond, eqb, List, [], ◌∷◌, ◌++◌, length, All, refl, sym, ap, subst, ◌∙◌, append_assoc, arith, ◌⊎◌, inl, inr}
+-- Bytes cut at their line feeds, and put together again.
+use Rattle.std.proofs.Common.{◌≡◌, ℕ, ◌<◌, Bool, true, false, cond, eqb, List, [], ◌∷◌, ◌++◌, length, All, refl, sym, ap, subst, ◌∙◌, append_assoc, arith, ◌⊎◌, inl, inr}
 use Rattle.std.specs.List.{flat_map, onto_first, AllByRecursion}
 use Rattle.std.proofs.lemmas.Bool.{eqb-true}
-use Rattle.std.proofs.lemmas.List.Elements.{All-head, All-tail, All-contains, Contains-push, All-from_recursion}
-use Rattle.rm_script.specs.Spelling.{ended}
-use Rattle.rm_script.specs.Reading.{lines_of}
-use Rattle.rm_script.proofs.Words.{IsOther, Lacks}
+use Rattle.std.proofs.lemmas.List.{append-nil}
+use Rattle.std.proofs.lemmas.List.Elements.{All-nil, All-cons, All-head, All-tail, recursion_from_All}
+use Rattle.rm_script.specs.Lines.{lines_of, ended, HasNoFeed, LackLastFeed, AreLinesOf}
 
--- the text of lines
-abbrev pub text_of : List (List ℕ) → List ℕ
-text_of lines = flat_map ended lines
+abbrev IsNoFeed : ℕ → Type 0
+IsNoFeed byte = eqb byte 10 ≡ false
 
--- the bytes are the text of the lines, the last line feed of which may lack
-abbrev pub IsTextOf : List ℕ → List (List ℕ) → Type 0
-IsTextOf bytes lines = (bytes ≡ text_of lines) ⊎ (bytes ++ 10 ∷ [] ≡ text_of lines)
+-- ---- cut
 
-after_byte : (byte : ℕ) (bytes : List ℕ) (lines : List (List ℕ)) → IsTextOf bytes lines → IsTextOf (byte ∷ bytes) (onto_first byte lines)
-after_byte byte bytes [] (inl e) = inr (ap (λ rest. byte ∷ (rest ++ 10 ∷ [])) e)
-after_byte byte [] [] (inr e) = absurd cc
-after_byte byte (next ∷ bytes) [] (inr e) = absurd cc
-after_byte byte bytes (line ∷ lines) (inl e) = inl (ap (λ rest. byte ∷ rest) e)
-after_byte byte bytes (line ∷ lines) (inr e) = inr (ap (λ rest. byte ∷ rest) e)
+-- a line feed before lines
 
-after_feed : (bytes : List ℕ) (lines : List (List ℕ)) → IsTextOf bytes lines → IsTextOf (10 ∷ bytes) ([] ∷ lines)
-after_feed bytes lines (inl e) = inl (ap (λ rest. 10 ∷ rest) e)
-after_feed bytes lines (inr e) = inr (ap (λ rest. 10 ∷ rest) e)
+feed_text : (bytes : List ℕ) (lines : List (List ℕ)) → (bytes ≡ flat_map ended lines) ⊎ LackLastFeed bytes lines → (10 ∷ bytes ≡ flat_map ended ([] ∷ lines)) ⊎ LackLastFeed (10 ∷ bytes) ([] ∷ lines)
+feed_text bytes lines (inl e) = inl (ap (λ (rest : List ℕ). 10 ∷ rest) e)
+feed_text bytes lines (inr lack) = inr (record {
+  front = [] ∷ lack.front;
+  last = lack.last;
+  apart = ap (λ (ls : List (List ℕ)). [] ∷ ls) lack.apart;
+  some = lack.some;
+  text = ap (λ (rest : List ℕ). 10 ∷ rest) lack.text;
+})
 
--- bytes are the text of their lines
-pub is_text_of_lines : (bytes : List ℕ) → IsTextOf bytes (lines_of bytes)
-is_text_of_lines [] = inl refl
-is_text_of_lines (byte ∷ bytes) =
-    elim (eqb byte 10) as (λ t. eqb byte 10 ≡ t → IsTextOf (byte ∷ bytes) (cond t ([] ∷ lines_of bytes) (onto_first byte (lines_of bytes)))) [
-      | true ↦ λ f. subst (λ b. IsTextOf (b ∷ bytes) ([] ∷ lines_of bytes)) (sym (eqb-true byte 10 f)) (after_feed bytes (lines_of bytes) (is_text_of_lines bytes))
-      | false ↦ λ f. after_byte byte bytes (lines_of bytes) (is_text_of_lines bytes)
+feed_before : (bytes : List ℕ) (lines : List (List ℕ)) → AreLinesOf bytes lines → AreLinesOf (10 ∷ bytes) ([] ∷ lines)
+feed_before bytes lines are = record { no_feeds = All-cons HasNoFeed [] lines (All-nil IsNoFeed) are.no_feeds; text = feed_text bytes lines are.text }
+
+-- another byte before lines
+
+not_apart : (front : List (List ℕ)) (last : List ℕ) → [] ≡ front ++ last ∷ [] → ⊥
+not_apart [] last e = cc
+not_apart (line ∷ front) last e = cc
+
+lone_byte : (byte : ℕ) (bytes : List ℕ) → (bytes ≡ []) ⊎ LackLastFeed bytes [] → LackLastFeed (byte ∷ bytes) ((byte ∷ []) ∷ [])
+lone_byte byte bytes (inl e) = record { front = []; last = byte ∷ []; apart = refl; some = omega arith; text = ap (λ (rest : List ℕ). byte ∷ rest) e }
+lone_byte byte bytes (inr lack) = absurd (not_apart lack.front lack.last lack.apart)
+
+longer_front : (byte : ℕ) (bytes line : List ℕ) (lines : List (List ℕ)) (first : List ℕ) (front : List (List ℕ)) (last : List ℕ) → 0 < length last → line ≡ first → lines ≡ front ++ last ∷ []
+    → bytes ≡ flat_map ended (first ∷ front) ++ last → LackLastFeed (byte ∷ bytes) ((byte ∷ line) ∷ lines)
+longer_front byte bytes line lines first front last some same more text = record {
+  front = (byte ∷ first) ∷ front;
+  last = last;
+  apart = ap (λ (l : List ℕ). (byte ∷ l) ∷ lines) same ∙ ap (λ (ls : List (List ℕ)). (byte ∷ first) ∷ ls) more;
+  some = some;
+  text = ap (λ (rest : List ℕ). byte ∷ rest) text;
+}
+
+longer : (byte : ℕ) (bytes line : List ℕ) (lines front : List (List ℕ)) (last : List ℕ) → 0 < length last → line ∷ lines ≡ front ++ last ∷ [] → bytes ≡ flat_map ended front ++ last
+    → LackLastFeed (byte ∷ bytes) ((byte ∷ line) ∷ lines)
+longer byte bytes line lines [] last some apart text =
+    let same : line ≡ last = cc in
+    let none : lines ≡ [] = cc in
+    record {
+      front = [];
+      last = byte ∷ line;
+      apart = ap (λ (ls : List (List ℕ)). (byte ∷ line) ∷ ls) none;
+      some = omega arith;
+      text = ap (λ (rest : List ℕ). byte ∷ rest) (text ∙ sym same);
+    }
+longer byte bytes line lines (first ∷ front) last some apart text =
+    let same : line ≡ first = cc in
+    let more : lines ≡ front ++ last ∷ [] = cc in
+    longer_front byte bytes line lines first front last some same more text
+
+byte_text : (byte : ℕ) (bytes line : List ℕ) (lines : List (List ℕ)) → (bytes ≡ flat_map ended (line ∷ lines)) ⊎ LackLastFeed bytes (line ∷ lines)
+    → (byte ∷ bytes ≡ flat_map ended ((byte ∷ line) ∷ lines)) ⊎ LackLastFeed (byte ∷ bytes) ((byte ∷ line) ∷ lines)
+byte_text byte bytes line lines (inl e) = inl (ap (λ (rest : List ℕ). byte ∷ rest) e)
+byte_text byte bytes line lines (inr lack) = inr (longer byte bytes line lines lack.front lack.last lack.some lack.apart lack.text)
+
+byte_before : (byte : ℕ) (bytes : List ℕ) (lines : List (List ℕ)) → eqb byte 10 ≡ false → AreLinesOf bytes lines → AreLinesOf (byte ∷ bytes) (onto_first byte lines)
+byte_before byte bytes [] other are = record {
+  no_feeds = All-cons HasNoFeed (byte ∷ []) [] (All-cons IsNoFeed byte [] other (All-nil IsNoFeed)) (All-nil HasNoFeed);
+  text = inr (lone_byte byte bytes are.text);
+}
+byte_before byte bytes (line ∷ lines) other are = record {
+  no_feeds = All-cons HasNoFeed (byte ∷ line) lines (All-cons IsNoFeed byte line other (All-head HasNoFeed line lines are.no_feeds)) (All-tail HasNoFeed line lines are.no_feeds);
+  text = byte_text byte bytes line lines are.text;
+}
+
+-- the lines of bytes are what they are cut into
+pub are_lines : (bytes : List ℕ) → AreLinesOf bytes (lines_of bytes)
+are_lines [] = record { no_feeds = All-nil HasNoFeed; text = inl refl }
+are_lines (byte ∷ bytes) =
+    elim (eqb byte 10) as (λ t. eqb byte 10 ≡ t → AreLinesOf (byte ∷ bytes) (cond t ([] ∷ lines_of bytes) (onto_first byte (lines_of bytes)))) [
+      | true ↦ λ e. subst (λ (b : ℕ). AreLinesOf (b ∷ bytes) ([] ∷ lines_of bytes)) (sym (eqb-true byte 10 e)) (feed_before bytes (lines_of bytes) (are_lines bytes))
+      | false ↦ λ e. byte_before byte bytes (lines_of bytes) e (are_lines bytes)
     ] refl
 
+-- ---- put together
+
 -- a line with no line feed in it, with what follows
-lines_of-line : (line rest : List ℕ) → Lacks 10 line → lines_of (line ++ 10 ∷ rest) ≡ line ∷ lines_of rest
-lines_of-line [] rest lack = refl
-lines_of-line (byte ∷ line) rest lack =
-    rw (All-head (IsOther 10) byte line lack) (ap (onto_first byte) (lines_of-line line rest (All-tail (IsOther 10) byte line lack)))
+lines_of-line : (line rest : List ℕ) → AllByRecursion IsNoFeed line → lines_of (line ++ 10 ∷ rest) ≡ line ∷ lines_of rest
+lines_of-line [] rest none = refl
+lines_of-line (byte ∷ line) rest none = rw none.0 (ap (onto_first byte) (lines_of-line line rest none.1))
 
--- lines in which no line feed stands come back
-pub lines_of-text : (lines : List (List ℕ)) → AllByRecursion (Lacks 10) lines → lines_of (text_of lines) ≡ lines
-lines_of-text [] lack = refl
-lines_of-text (line ∷ lines) lack =
-    ap lines_of (append_assoc line (10 ∷ []) (text_of lines)) ∙ lines_of-line line (text_of lines) lack.0 ∙ ap (λ ls. line ∷ ls) (lines_of-text lines lack.1)
+no_feed : (line : List ℕ) → HasNoFeed line → AllByRecursion IsNoFeed line
+no_feed line none = recursion_from_All IsNoFeed line none
 
--- one line feed more ends the last line, or adds an empty line
-abbrev EndsOrAdds : List (List ℕ) → List (List ℕ) → Type 0
-EndsOrAdds lines more = (more ≡ lines) ⊎ (more ≡ lines ++ [] ∷ [])
+lines_of-ended : (lines : List (List ℕ)) (rest : List ℕ) → AllByRecursion HasNoFeed lines → lines_of (flat_map ended lines ++ rest) ≡ lines ++ lines_of rest
+lines_of-ended [] rest none = refl
+lines_of-ended (line ∷ lines) rest none =
+    ap lines_of (append_assoc (ended line) (flat_map ended lines) rest ∙ append_assoc line (10 ∷ []) (flat_map ended lines ++ rest))
+    ∙ lines_of-line line (flat_map ended lines ++ rest) (no_feed line none.0)
+    ∙ ap (λ (ls : List (List ℕ)). line ∷ ls) (lines_of-ended lines rest none.1)
 
-onto_either : (byte : ℕ) (lines more : List (List ℕ)) → EndsOrAdds lines more → EndsOrAdds (onto_first byte lines) (onto_first byte more)
-onto_either byte lines more (inl e) = inl (ap (onto_first byte) e)
-onto_either byte [] more (inr e) = inl (ap (onto_first byte) e)
-onto_either byte (line ∷ lines) more (inr e) = inr (ap (onto_first byte) e)
+lines_of-last : (byte : ℕ) (last : List ℕ) → AllByRecursion IsNoFeed (byte ∷ last) → lines_of (byte ∷ last) ≡ (byte ∷ last) ∷ []
+lines_of-last byte [] none = rw none.0 refl
+lines_of-last byte (next ∷ last) none = rw none.0 (ap (onto_first byte) (lines_of-last next last none.1))
 
-cons_either : (lines more : List (List ℕ)) → EndsOrAdds lines more → EndsOrAdds ([] ∷ lines) ([] ∷ more)
-cons_either lines more (inl e) = inl (ap (λ ls. [] ∷ ls) e)
-cons_either lines more (inr e) = inr (ap (λ ls. [] ∷ ls) e)
+lines_of-some : (last : List ℕ) → 0 < length last → HasNoFeed last → lines_of last ≡ last ∷ []
+lines_of-some [] some none = absurd (omega arith)
+lines_of-some (byte ∷ last) some none = lines_of-last byte last (no_feed (byte ∷ last) none)
 
-feed_more : (bytes : List ℕ) → EndsOrAdds (lines_of bytes) (lines_of (bytes ++ 10 ∷ []))
-feed_more [] = inr refl
-feed_more (byte ∷ bytes) =
-    elim (eqb byte 10) as (λ t. EndsOrAdds (cond t ([] ∷ lines_of bytes) (onto_first byte (lines_of bytes))) (cond t ([] ∷ lines_of (bytes ++ 10 ∷ [])) (onto_first byte (lines_of (bytes ++ 10 ∷ []))))) [
-      | true ↦ cons_either (lines_of bytes) (lines_of (bytes ++ 10 ∷ [])) (feed_more bytes)
-      | false ↦ onto_either byte (lines_of bytes) (lines_of (bytes ++ 10 ∷ [])) (feed_more bytes)
-    ]
+first_of_both : (P : List ℕ → Type 0) (front back : List (List ℕ)) → AllByRecursion P (front ++ back) → AllByRecursion P front × AllByRecursion P back
+first_of_both P [] back fit = (tt, fit)
+first_of_both P (line ∷ front) back fit =
+    let rest = first_of_both P front back fit.1 in
+    ((fit.0, rest.0), rest.1)
 
-unended : (bytes : List ℕ) (lines : List (List ℕ)) → All (λ line. 0 < length line) lines → lines_of (bytes ++ 10 ∷ []) ≡ lines → EndsOrAdds (lines_of bytes) (lines_of (bytes ++ 10 ∷ [])) → lines_of bytes ≡ lines
-unended bytes lines some e (inl same) = sym same ∙ e
-unended bytes lines some e (inr added) =
-    let is_more : lines ≡ lines_of bytes ++ [] ∷ [] = sym e ∙ added in
-    let empty : 0 < length {A = ℕ} [] = All-contains (λ line. 0 < length line) (lines_of bytes ++ [] ∷ []) [] (subst (All (λ line. 0 < length line)) is_more some) (Contains-push (lines_of bytes) []) in
-    absurd (omega arith)
+lacking : (bytes : List ℕ) (lines : List (List ℕ)) → All HasNoFeed lines → LackLastFeed bytes lines → lines ≡ lines_of bytes
+lacking bytes lines none lack =
+    let fit : AllByRecursion HasNoFeed (lack.front ++ lack.last ∷ []) = subst (AllByRecursion HasNoFeed) lack.apart (recursion_from_All HasNoFeed lines none) in
+    let parts = first_of_both HasNoFeed lack.front (lack.last ∷ []) fit in
+    lack.apart ∙ ap (λ (ls : List (List ℕ)). lack.front ++ ls) (sym (lines_of-some lack.last lack.some parts.1.0)) ∙ sym (lines_of-ended lack.front lack.last parts.0)
+    ∙ ap lines_of (sym lack.text)
 
--- a line that may stand in a text: it is not empty, and no line feed stands in it
-pub record IsLineText (line : List ℕ) : Type 0 where
-  pub some : 0 < length line
-  pub lacks : Lacks 10 line
+whole : (bytes : List ℕ) (lines : List (List ℕ)) → All HasNoFeed lines → (bytes ≡ flat_map ended lines) ⊎ LackLastFeed bytes lines → lines ≡ lines_of bytes
+whole bytes lines none (inl e) =
+    sym (ap lines_of (sym (append-nil (flat_map ended lines))) ∙ lines_of-ended lines [] (recursion_from_All HasNoFeed lines none) ∙ append-nil lines) ∙ ap lines_of (sym e)
+whole bytes lines none (inr lack) = lacking bytes lines none lack
 
-somes : (lines : List (List ℕ)) → AllByRecursion IsLineText lines → AllByRecursion (λ line. 0 < length line) lines
-somes [] fits = tt
-somes (line ∷ lines) fits = (fits.0.some, somes lines fits.1)
-
-lack_all : (lines : List (List ℕ)) → AllByRecursion IsLineText lines → AllByRecursion (Lacks 10) lines
-lack_all [] fits = tt
-lack_all (line ∷ lines) fits = (fits.0.lacks, lack_all lines fits.1)
-
--- the lines of a text are those that it was put together from
-pub lines_come_back : (bytes : List ℕ) (lines : List (List ℕ)) → AllByRecursion IsLineText lines → IsTextOf bytes lines → lines_of bytes ≡ lines
-lines_come_back bytes lines fits (inl e) = ap lines_of e ∙ lines_of-text lines (lack_all lines fits)
-lines_come_back bytes lines fits (inr e) =
-    unended bytes lines (All-from_recursion (λ line. 0 < length line) lines (somes lines fits)) (ap lines_of e ∙ lines_of-text lines (lack_all lines fits)) (feed_more bytes)
+-- and nothing else is
+pub only_lines : (bytes : List ℕ) (lines : List (List ℕ)) → AreLinesOf bytes lines → lines ≡ lines_of bytes
+only_lines bytes lines are = whole bytes lines are.no_feeds are.text

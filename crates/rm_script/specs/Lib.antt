@@ -1,5 +1,9 @@
+pub mod Lines
+pub mod Written
 pub mod Spelling
 pub mod Scripts
+pub mod Refusals
+pub mod Values
 pub mod Results
 pub mod Fields
 pub mod Clients

@@ -1,5 +1,5 @@
 -- Which bytes are which script.
-use Rattle.std.specs.Prelude.{◌≡◌, ℕ, ◌≤◌, List, [], ◌++◌, length, ◌⊎◌, All, codes}
+use Rattle.std.specs.Prelude.{◌≡◌, ℕ, ◌<◌, List, [], ◌∷◌, length, IfSome, IsSome, All}
 use Rattle.rm_types.specs.Frames.{IsText}
 use Rattle.rm_types.specs.IdTexts.{IsWithin, IsAppId}
 use Rattle.rm_types.specs.declared.texts.TextKind.TheVariants.{Name, Queue}
@@ -8,12 +8,10 @@ use Rattle.rm_types.specs.declared.messages.ClientAsk.TheVariants.{New, Submit, 
 use Rattle.rm_types.specs.declared.messages.Message.{Message}
 use Rattle.rm_types.specs.declared.messages.Message.TheVariants as messages
 use Rattle.rm_types.specs.declared.operations.Submission.{Submission}
-use Rattle.rm_types.specs.declared.scripts.Close.{Close}
-use Rattle.rm_types.specs.declared.scripts.Close.TheVariants.{Settle, Crash}
-use Rattle.rm_types.specs.declared.scripts.Segment.{Segment}
-use Rattle.rm_types.specs.declared.scripts.Life.{Life}
 use Rattle.rm_types.specs.declared.scripts.Script.{Script}
-use Rattle.rm_script.specs.Spelling.{script_lines, script_text}
+use Rattle.rm_script.specs.Lines.{lines_of, kept_lines, KeepLimits}
+use Rattle.rm_script.specs.Written.{Sent, message_of, Crashing, WrittenLife, script_of_lives}
+use Rattle.rm_script.specs.Spelling.{sent_text, script_lines}
 
 -- what the user submits is by that user, and each part of it is in its range
 pub record IsSubmission (user : List ℕ) (submission : Submission) : Type 0 where
@@ -38,15 +36,6 @@ IsMessage (messages.Master attempt ask) = Unit {0}
 IsMessage (messages.Node node ask) = Unit {0}
 IsMessage (messages.Clock ask) = Unit {0}
 
--- the messages of a segment are in their ranges
-abbrev pub IsSegment : Segment → Type 0
-IsSegment segment = All IsMessage segment.messages
-
--- the stamp of a life and its segments are in their ranges
-pub record IsLife (life : Life) : Type 0 where
-  pub stamp : IsWithin 1 1000000000000000 life.stamp
-  pub segments : All IsSegment life.segments
-
 -- what a client asks is of a kind that is read: a submission has no `modify`
 abbrev pub IsBuiltAsk : ClientAsk → Type 0
 IsBuiltAsk New = Unit {0}
@@ -61,34 +50,56 @@ IsBuiltMessage (messages.Master attempt ask) = ⊥
 IsBuiltMessage (messages.Node node ask) = ⊥
 IsBuiltMessage (messages.Clock ask) = ⊥
 
--- the segment closes in a way that is read: it settles
-abbrev pub IsBuiltClose : Close → Type 0
-IsBuiltClose Settle = Unit {0}
-IsBuiltClose (Crash calls image) = ⊥
+-- a message that may stand in a script: its parts are in their ranges, and it is of a kind that is read
+pub record IsRead (message : Message) : Type 0 where
+  pub values : IsMessage message
+  pub built : IsBuiltMessage message
 
--- the segment's messages and its close are of kinds that are read
-abbrev pub IsBuiltSegment : Segment → Type 0
-IsBuiltSegment segment = All IsBuiltMessage segment.messages × IsBuiltClose segment.close
+-- what is sent is such a message
+abbrev pub IsSent : Sent → Type 0
+IsSent sent = IsRead (message_of sent)
 
--- the script is of the kinds that are read: it has one life at most, of segments that are read
-pub record IsBuilt (script : Script) : Type 0 where
-  pub lives : length script.lives ≤ 1
-  pub segments : All (λ life. All IsBuiltSegment life.segments) script.lives
+-- the line says that this is sent
+pub record IsLineOf (line : List ℕ) (sent : Sent) : Type 0 where
+  pub fits : IsSent sent
+  pub text : line ≡ sent_text sent
 
--- the bytes and the script's lines are no more and no longer than a script may have
-pub record IsWithinLimits (bytes : List ℕ) (script : Script) : Type 0 where
-  pub size : length bytes ≤ 16777216
-  pub lines : length (script_lines script) ≤ 100000
-  pub each_line : All (λ line. length line ≤ 65536) (script_lines script)
+-- the crash of a life is in its ranges, and stands directly after a `settle`
+pub record IsCrash (life : WrittenLife) (crash : Crashing) : Type 0 where
+  pub calls : IsWithin 0 1000000 crash.calls
+  pub image : IsWithin 0 4294967295 crash.image
+  pub after_settle : 0 < length life.settled
 
--- the bytes are the script's text, or lack only its last line feed
-abbrev pub Spells : List ℕ → Script → Type 0
-Spells bytes script = (bytes ≡ script_text script) ⊎ (bytes ++ codes "\n" ≡ script_text script)
+-- a life that may stand in a script
+pub record IsLife (life : WrittenLife) : Type 0 where
+  pub stamp : IsWithin 1 1000000000000000 life.stamp
+  pub settled : All (All IsSent) life.settled
+  pub crash : IfSome life.crash (IsCrash life)
 
--- the bytes are this script: its values are in their ranges, it is of the kinds that are read, the limits are kept,
--- and the bytes spell it
+-- the life ends with a crash
+abbrev pub Crashes : WrittenLife → Type 0
+Crashes life = IsSome life.crash
+
+-- each but the last has it
+abbrev pub EachButLast : {X : Type 0} → (X → Type 0) → List X → Type 0
+EachButLast P [] = Unit {0}
+EachButLast P (last ∷ []) = Unit {0}
+EachButLast P (first ∷ next ∷ more) = P first × EachButLast P (next ∷ more)
+
+-- the lives that a script may have: each may stand there, and each but the last crashes
+pub record AreLives (lives : List WrittenLife) : Type 0 where
+  pub each : All IsLife lives
+  pub crash : EachButLast Crashes lives
+
+-- the lines spell the script: those that say something are the lines of lives that a script may have, and the script
+-- is what these lives tell the manager
+pub record Spell (lines : List (List ℕ)) (script : Script) : Type 0 where
+  pub lives : List WrittenLife
+  pub fit : AreLives lives
+  pub text : kept_lines lines ≡ script_lines lives
+  pub same : script ≡ script_of_lives lives
+
+-- the bytes are the script: their lines keep the limits and spell it
 pub record IsScript (bytes : List ℕ) (script : Script) : Type 0 where
-  pub values : All IsLife script.lives
-  pub built : IsBuilt script
-  pub limits : IsWithinLimits bytes script
-  pub spelled : Spells bytes script
+  pub limits : KeepLimits (length (lines_of bytes)) bytes
+  pub spelled : Spell (lines_of bytes) script

@@ -1,39 +1,36 @@
--- The one text of each script, put together as the grammar reads: lines, segments, lives. A message's is as on a page.
-use Rattle.std.specs.Prelude.{ℕ, List, [], ◌∷◌, ◌++◌, map, codes}
+-- The lines of a script, put together as the grammar reads. A message has one text, which a page prints too.
+use Rattle.std.specs.Prelude.{ℕ, List, [], ◌∷◌, ◌++◌, map, Option, Some, None, codes}
 use Rattle.std.specs.List.{flat_map}
 use Rattle.std.specs.Fmt.{decimal}
-use Rattle.rm_model.specs.Wording.{spaced, message_text}
-use Rattle.rm_types.specs.declared.scripts.Close.{Close}
-use Rattle.rm_types.specs.declared.scripts.Close.TheVariants.{Settle, Crash}
-use Rattle.rm_types.specs.declared.scripts.Segment.{Segment}
-use Rattle.rm_types.specs.declared.scripts.Life.{Life}
-use Rattle.rm_types.specs.declared.scripts.Script.{Script}
+use Rattle.rm_model.specs.Wording.{spaced, message_words, message_text}
+use Rattle.rm_script.specs.Written.{Sent, Delivered, Lost, Crashing, WrittenLife}
 
--- the line that closes a segment
-abbrev pub close_text : Close → List ℕ
-close_text Settle = codes "settle"
-close_text (Crash calls image) = spaced (codes "crash" ∷ decimal calls ∷ decimal image ∷ [])
+-- the line of a message that is sent: the message's text, after `lose` where it is lost
+abbrev pub sent_text : Sent → List ℕ
+sent_text (Delivered message) = message_text message
+sent_text (Lost message) = spaced (codes "lose" ∷ message_words message)
 
 -- the line that starts a life
 abbrev pub start_text : ℕ → List ℕ
 start_text stamp = spaced (codes "start" ∷ decimal stamp ∷ [])
 
--- the lines of a segment: its messages, and then its close
-abbrev pub segment_lines : Segment → List (List ℕ)
-segment_lines segment = map message_text segment.messages ++ close_text segment.close ∷ []
+-- the line that crashes a life
+abbrev pub crash_text : Crashing → List ℕ
+crash_text crash = spaced (codes "crash" ∷ decimal crash.calls ∷ decimal crash.image ∷ [])
 
--- the lines of a life: its start, and then those of its segments
-abbrev pub life_lines : Life → List (List ℕ)
-life_lines life = start_text life.stamp ∷ flat_map segment_lines life.segments
+-- the lines of a segment that settles: what is sent, and then `settle`
+abbrev pub settled_lines : List Sent → List (List ℕ)
+settled_lines sent = map sent_text sent ++ codes "settle" ∷ []
+
+-- the line of the crash, where there is one
+abbrev pub crash_lines : Option Crashing → List (List ℕ)
+crash_lines None = []
+crash_lines (Some crash) = crash_text crash ∷ []
+
+-- the lines of a life: its start, those of its segments, and that of the crash
+abbrev pub life_lines : WrittenLife → List (List ℕ)
+life_lines life = (start_text life.stamp ∷ flat_map settled_lines life.settled) ++ crash_lines life.crash
 
 -- the lines of a script: those of its lives
-abbrev pub script_lines : Script → List (List ℕ)
-script_lines script = flat_map life_lines script.lives
-
--- a line with the line feed that ends it
-abbrev pub ended : List ℕ → List ℕ
-ended line = line ++ codes "\n"
-
--- the text of a script: its lines, each ended
-abbrev pub script_text : Script → List ℕ
-script_text script = flat_map ended (script_lines script)
+abbrev pub script_lines : List WrittenLife → List (List ℕ)
+script_lines lives = flat_map life_lines lives

@@ -2,7 +2,7 @@ ghost use Rattle.std.specs.Prelude.{◌≡◌, map};
 ghost use Rattle.rm_script.specs.Results.{Gives};
 ghost use Rattle.rm_script.specs.Clients.{resource_of, submission_of_fields, submission_of, lone_ask, app_ask, submit_ask, fields_ask, ask_for_app, ask_of, client_message};
 
-use crate::errors::{REFUSED, ScriptError};
+use crate::errors::LineError;
 use crate::fields::{app_id, number_field, text_field, text_in};
 use rm_types::{ClientAsk, Message, Resource, Submission, Text, TextKind};
 use std::alloc::Global;
@@ -35,13 +35,15 @@ fn submission_of_fields(
     memory: &[u8],
     vcores: &[u8],
     attempts: &[u8],
-) -> Result<Submission, ScriptError>
+) -> Result<Submission, LineError>
     ensures { Gives result (submission_of_fields user.now queue.now name.now memory.now vcores.now attempts.now) }
 {
     let queue = text_field(alloc, queue, "queue=", TextKind::Queue)?;
     let name = text_field(alloc, name, "name=", TextKind::Name)?;
-    let master = resource_of(memory, vcores).ok_or(REFUSED)?;
-    let attempts = number_field(attempts, "attempts=", 0, GREATEST_ATTEMPTS).ok_or(REFUSED)?;
+    let master = resource_of(memory, vcores).ok_or(LineError::Refused)?;
+    let attempts = number_field(attempts, "attempts=", 0, GREATEST_ATTEMPTS).ok_or(
+        LineError::Refused,
+    )?;
     let user = Text::from_bytes(alloc, user)?;
     Ok(Submission {
         user,
@@ -55,14 +57,14 @@ fn submission_of_fields(
 
 /// What the user submits.
 #[tactic(auto, unfolding(crate::specs::Clients::submission_of))]
-fn submission_of(alloc: Global, user: &[u8], fields: &[&[u8]]) -> Result<Submission, ScriptError>
+fn submission_of(alloc: Global, user: &[u8], fields: &[&[u8]]) -> Result<Submission, LineError>
     ensures { Gives result (submission_of user.now (map (λ field. field.now) fields.now)) }
 {
     match fields {
         [queue, name, memory, vcores, attempts] => {
             submission_of_fields(alloc, user, queue, name, memory, vcores, attempts)
         }
-        _ => Err(REFUSED),
+        _ => Err(LineError::Refused),
     }
 }
 
@@ -94,10 +96,10 @@ fn submit_ask(
     user: &[u8],
     app: &[u8],
     fields: &[&[u8]],
-) -> Result<ClientAsk, ScriptError>
+) -> Result<ClientAsk, LineError>
     ensures { Gives result (submit_ask user.now app.now (map (λ field. field.now) fields.now)) }
 {
-    let id = app_id(app).ok_or(REFUSED)?;
+    let id = app_id(app).ok_or(LineError::Refused)?;
     let submission = submission_of(alloc, user, fields)?;
     Ok(ClientAsk::Submit(id, submission))
 }
@@ -109,13 +111,13 @@ fn fields_ask(
     word: &[u8],
     app: &[u8],
     fields: &[&[u8]],
-) -> Result<ClientAsk, ScriptError>
+) -> Result<ClientAsk, LineError>
     ensures { Gives result (fields_ask user.now word.now app.now (map (λ field. field.now) fields.now)) }
 {
     if word == "submit".as_bytes() {
         submit_ask(alloc, user, app, fields)
     } else {
-        Err(REFUSED)
+        Err(LineError::Refused)
     }
 }
 
@@ -126,21 +128,21 @@ fn ask_for_app(
     word: &[u8],
     app: &[u8],
     fields: &[&[u8]],
-) -> Result<ClientAsk, ScriptError>
+) -> Result<ClientAsk, LineError>
     ensures { Gives result (ask_for_app user.now word.now app.now (map (λ field. field.now) fields.now)) }
 {
     match fields {
-        [] => app_ask(word, app).ok_or(REFUSED),
+        [] => app_ask(word, app).ok_or(LineError::Refused),
         [_, ..] => fields_ask(alloc, user, word, app, fields),
     }
 }
 
 /// What the user asks, by the word that says it and the words after that.
-fn ask_of(alloc: Global, user: &[u8], word: &[u8], more: &[&[u8]]) -> Result<ClientAsk, ScriptError>
+fn ask_of(alloc: Global, user: &[u8], word: &[u8], more: &[&[u8]]) -> Result<ClientAsk, LineError>
     ensures { Gives result (ask_of user.now word.now (map (λ one. one.now) more.now)) }
 {
     match more {
-        [] => lone_ask(word).ok_or(REFUSED),
+        [] => lone_ask(word).ok_or(LineError::Refused),
         [app, fields @ ..] => ask_for_app(alloc, user, word, app, fields),
     }
 }
@@ -152,7 +154,7 @@ pub(crate) fn client_message(
     user: &[u8],
     word: &[u8],
     more: &[&[u8]],
-) -> Result<Message, ScriptError>
+) -> Result<Message, LineError>
     ensures { Gives result (client_message user.now word.now (map (λ one. one.now) more.now)) }
 {
     let name = text_in(alloc, user, TextKind::Name)?;

@@ -1,5 +1,6 @@
 ghost use Rattle.std.specs.Prelude.{◌≡◌};
-ghost use Rattle.rm_script.specs.declared.errors.ScriptError.TheVariants.{Memory};
+ghost use Rattle.rm_script.specs.declared.errors.LineError.TheVariants.{Memory};
+ghost use Rattle.rm_script.specs.Results.{at_line};
 
 use rm_types::NoMemory;
 use std::alloc::{AllocError, AllocFailed};
@@ -7,35 +8,54 @@ use std::alloc::{AllocError, AllocFailed};
 /// Why a script wasn't read.
 #[derive(Clone, Copy, Debug, PartialEq, Eq)]
 pub enum ScriptError {
-    /// The bytes are no script. The line is always 0: which line is at fault isn't told.
+    /// The bytes are no script. The line is the first that is refused; lines are counted from 1, and the
+    /// line after the last is at fault where the last segment isn't closed.
     Refused { line: u32 },
     /// No memory was found for the script.
     Memory,
 }
 
-/// That the bytes, or a part of them, are no script or no part of one.
-pub(crate) const REFUSED: ScriptError = ScriptError::Refused { line: 0 };
+/// Why a line wasn't read, or a part of one.
+#[derive(Clone, Copy, Debug, PartialEq, Eq)]
+pub enum LineError {
+    /// It is no such line, or may not stand there.
+    Refused,
+    /// No memory was found.
+    Memory,
+}
 
-impl From<NoMemory> for ScriptError {
-    ghost from_gives = { λ _ error. error ≡ Memory };
-
-    fn from(_error: NoMemory) -> ScriptError {
-        ScriptError::Memory
+impl LineError {
+    /// The same of the script whose line this is.
+    pub(crate) fn at(self, line: u32) -> ScriptError
+        ensures { result ≡ at_line self line }
+    {
+        match self {
+            LineError::Refused => ScriptError::Refused { line },
+            LineError::Memory => ScriptError::Memory,
+        }
     }
 }
 
-impl From<AllocError> for ScriptError {
+impl From<NoMemory> for LineError {
     ghost from_gives = { λ _ error. error ≡ Memory };
 
-    fn from(_error: AllocError) -> ScriptError {
-        ScriptError::Memory
+    fn from(_error: NoMemory) -> LineError {
+        LineError::Memory
     }
 }
 
-impl<T: Drop> From<AllocFailed<T>> for ScriptError {
+impl From<AllocError> for LineError {
     ghost from_gives = { λ _ error. error ≡ Memory };
 
-    fn from(_failed: AllocFailed<T>) -> ScriptError {
-        ScriptError::Memory
+    fn from(_error: AllocError) -> LineError {
+        LineError::Memory
+    }
+}
+
+impl<T: Drop> From<AllocFailed<T>> for LineError {
+    ghost from_gives = { λ _ error. error ≡ Memory };
+
+    fn from(_failed: AllocFailed<T>) -> LineError {
+        LineError::Memory
     }
 }

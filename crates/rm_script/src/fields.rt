@@ -3,7 +3,7 @@ ghost use Rattle.std.specs.Option.{option_copied};
 ghost use Rattle.rm_script.specs.Results.{Gives};
 ghost use Rattle.rm_script.specs.Fields.{after_label, number_field, text_in, text_field, app_number, id_of, id_after, app_id};
 
-use crate::errors::{REFUSED, ScriptError};
+use crate::errors::LineError;
 use crate::numbers::{digits_value, number_in, number_within};
 use rm_types::{AppId, Text, TextError, TextKind};
 use std::alloc::Global;
@@ -31,13 +31,13 @@ pub(crate) fn number_field(word: &[u8], label: &str, least: u32, greatest: u32) 
 }
 
 /// The text that the bytes are, of this kind.
-pub(crate) fn text_in(alloc: Global, bytes: &[u8], kind: TextKind) -> Result<Text, ScriptError>
+pub(crate) fn text_in(alloc: Global, bytes: &[u8], kind: TextKind) -> Result<Text, LineError>
     ensures { Gives result (text_in kind bytes.now) }
 {
     match Text::read(alloc, bytes, kind) {
         Ok(text) => Ok(text),
-        Err(TextError::NotText { .. }) => Err(REFUSED),
-        Err(TextError::Memory) => Err(ScriptError::Memory),
+        Err(TextError::NotText { .. }) => Err(LineError::Refused),
+        Err(TextError::Memory) => Err(LineError::Memory),
     }
 }
 
@@ -47,12 +47,12 @@ pub(crate) fn text_field(
     word: &[u8],
     label: &str,
     kind: TextKind,
-) -> Result<Text, ScriptError>
+) -> Result<Text, LineError>
     ensures { Gives result (text_field label.now kind word.now) }
 {
     match after_label(word, label) {
         Some(text) => text_in(alloc, text, kind),
-        None => Err(REFUSED),
+        None => Err(LineError::Refused),
     }
 }
 

@@ -1,9 +1,10 @@
 //! Reading a script: the lives of the manager, and the messages that it's given in each.
 //!
-//! It promises that a script is answered exactly where the bytes spell it, and that the same bytes spell
-//! one script at most. Of its `specs/`, `Spelling` has the lines of a segment and of a life, and the text
-//! of a script; `Scripts` says which bytes are which script; the others say what the private functions
-//! answer.
+//! It promises that a script is answered exactly where the bytes are one, and else the first line that is
+//! refused; that the same bytes are one script at most; and that a message has one line. Of its `specs/`,
+//! `Lines` has the lines of bytes and the limits; `Written` and `Spelling` a script as it is written, and
+//! its lines; `Scripts` says which bytes are which script, `Refusals` which line is refused first, and
+//! `Values` what holds of each script that is read; the others say what the private functions answer.
 //!
 //! It stands on the values of `rm_types`, and on the wording of messages in `rm_model`.
 #![tactic(auto)]
@@ -12,12 +13,11 @@ mod clients;
 mod drafts;
 mod errors;
 mod fields;
+mod laws;
 mod lines;
 mod numbers;
 mod reading;
 
 pub use errors::ScriptError;
-pub use reading::{law_one_script, read_script};
-
-#[cfg(test)]
-mod tests;
+pub use laws::{law_lines, law_one_line, law_one_script, law_values};
+pub use reading::read_script;

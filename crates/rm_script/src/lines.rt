@@ -1,11 +1,14 @@
-ghost use Rattle.std.specs.Prelude.{◌≡◌, ◌<◌, ◌∷◌, ◌==◌, length, map, position, IfOk, IfErr};
+ghost use Rattle.std.specs.Prelude.{◌≡◌, ◌+◌, ◌<◌, ◌∷◌, ◌==◌, ◌⊎◌, length, map, position, IfOk, IfErr};
+ghost use Rattle.std.specs.List.{list_all};
+ghost use Rattle.rm_types.specs.Texts.{is_printable};
+ghost use Rattle.rm_script.specs.Lines.{lines_of, is_skipped};
 ghost use Rattle.rm_script.specs.Results.{Gives};
-ghost use Rattle.rm_script.specs.Reading.{lines_of, words_of, line_of_word, line_of_pair, line_of_message, line_of_words, line_of};
+ghost use Rattle.rm_script.specs.Reading.{words_of, start_line, settle_line, crash_of, crash_line, message_from, message_of_words, line_of_words, line_of};
 
 use crate::clients::client_message;
-use crate::errors::{REFUSED, ScriptError};
+use crate::errors::LineError;
 use crate::numbers::number_in;
-use rm_types::{Close, Message};
+use rm_types::Message;
 use std::alloc::Global;
 
 /// How many bytes a line may have, without its line feed.
@@ -14,15 +17,27 @@ const MOST_LINE_BYTES: usize = 65536;
 /// The greatest stamp that a life starts with.
 const GREATEST_STAMP: u64 = 1_000_000_000_000_000;
 
+/// How many device calls a crash lets pass at most.
+const GREATEST_CALLS: u64 = 1_000_000;
+
+/// The greatest number of an image that the device falls to.
+const GREATEST_IMAGE: u64 = 4_294_967_295;
+
 /// A line of a script by itself.
 #[derive(Debug, Drop)]
 pub enum Line {
+    /// The line says nothing.
+    Skipped,
     /// A life starts, with its stamp.
     Start(u64),
-    /// The segment closes.
-    Close(Close),
+    /// The segment settles.
+    Settle,
+    /// The life crashes after so many device calls, and the device falls to this image.
+    Crash { calls: u32, image: u32 },
     /// A message is delivered.
     Deliver(Message),
+    /// A message is lost on its way.
+    Lose(Message),
 }
 
 /// Where the first line feed stands.
@@ -37,6 +52,8 @@ pub(crate) fn cut_line(bytes: &[u8]) -> (&[u8], &[u8])
     requires { 0 < length bytes.now }
     ensures lines { lines_of bytes.now ≡ result.0.now ∷ lines_of result.1.now }
     ensures shorter { length result.1.now < length bytes.now }
+    ensures cut { (length bytes.now ≡ length result.0.now + (1 + length result.1.now))
+        ⊎ ((length bytes.now ≡ length result.0.now) × (length result.1.now ≡ 0)) }
 {
     match feed_place(bytes) {
         Some(place) => (&bytes[..place], &bytes[place + 1..]),
@@ -45,71 +62,129 @@ pub(crate) fn cut_line(bytes: &[u8]) -> (&[u8], &[u8])
 }
 
 /// The words of a line, between which one space stands each.
-fn words_of(alloc: Global, line: &[u8]) -> Result<Vec<&[u8]>, ScriptError>
+fn words_of(alloc: Global, line: &[u8]) -> Result<Vec<&[u8]>, LineError>
     ensures words { IfOk result (λ words. map (λ word. word.now) words.items ≡ words_of line.now) }
-    ensures memory { IfErr result (λ error. error ≡ ScriptError.Memory) }
+    ensures memory { IfErr result (λ error. error ≡ LineError.Memory) }
 {
     let words = line.split(|byte| *byte == b' ').collect(alloc)?;
     Ok(words)
 }
 
-/// A line of one word.
-fn line_of_word(word: &[u8]) -> Option<Line>
-    ensures { result ≡ line_of_word word.now }
+/// A line that starts a life, by the words after `start`.
+fn start_line(words: &[&[u8]]) -> Option<Line>
+    ensures { result ≡ start_line (map (λ word. word.now) words.now) }
 {
-    if word == "settle".as_bytes() {
-        Some(Line::Close(Close::Settle))
-    } else {
-        None
+    match words {
+        [stamp] => number_in(stamp, 1, GREATEST_STAMP).map(Line::Start),
+        _ => None,
     }
 }
 
-/// A line of two words.
-fn line_of_pair(command: &[u8], value: &[u8]) -> Option<Line>
-    ensures { result ≡ line_of_pair command.now value.now }
+/// A line that settles a segment, by the words after `settle`: there are none.
+fn settle_line(words: &[&[u8]]) -> Option<Line>
+    ensures { result ≡ settle_line (map (λ word. word.now) words.now) }
 {
-    if command == "start".as_bytes() {
-        number_in(value, 1, GREATEST_STAMP).map(Line::Start)
-    } else {
-        None
+    match words {
+        [] => Some(Line::Settle),
+        _ => None,
     }
 }
 
-/// A line of more words: the message of a sender.
-fn line_of_message(
+/// A line that crashes a life, by its two numbers.
+fn crash_of(calls: &[u8], image: &[u8]) -> Option<Line>
+    ensures { result ≡ crash_of calls.now image.now }
+{
+    let calls = number_in(calls, 0, GREATEST_CALLS)?;
+    let image = number_in(image, 0, GREATEST_IMAGE)?;
+    Some(Line::Crash {
+        calls: u32::try_from(calls).ok()?,
+        image: u32::try_from(image).ok()?,
+    })
+}
+
+/// A line that crashes a life, by the words after `crash`.
+fn crash_line(words: &[&[u8]]) -> Option<Line>
+    ensures { result ≡ crash_line (map (λ word. word.now) words.now) }
+{
+    match words {
+        [calls, image] => crash_of(calls, image),
+        _ => None,
+    }
+}
+
+/// The message of a sender: its name, the word that says what it asks, and the words after that.
+fn message_from(
     alloc: Global,
     sender: &[u8],
     name: &[u8],
     word: &[u8],
     more: &[&[u8]],
-) -> Result<Line, ScriptError>
-    ensures { Gives result (line_of_message sender.now name.now word.now (map (λ one. one.now) more.now)) }
+) -> Result<Message, LineError>
+    ensures { Gives result (message_from sender.now name.now word.now (map (λ one. one.now) more.now)) }
 {
     if sender == "client".as_bytes() {
-        client_message(alloc, name, word, more).map(Line::Deliver)
+        client_message(alloc, name, word, more)
     } else {
-        Err(REFUSED)
+        Err(LineError::Refused)
+    }
+}
+
+/// A message by its words.
+fn message_of_words(alloc: Global, words: &[&[u8]]) -> Result<Message, LineError>
+    ensures { Gives result (message_of_words (map (λ word. word.now) words.now)) }
+{
+    match words {
+        [sender, name, word, more @ ..] => message_from(alloc, sender, name, word, more),
+        _ => Err(LineError::Refused),
     }
 }
 
 /// A line by its words.
-fn line_of_words(alloc: Global, words: &[&[u8]]) -> Result<Line, ScriptError>
+fn line_of_words(alloc: Global, words: &[&[u8]]) -> Result<Line, LineError>
     ensures { Gives result (line_of_words (map (λ word. word.now) words.now)) }
 {
-    match words {
-        [] => Err(REFUSED),
-        [word] => line_of_word(word).ok_or(REFUSED),
-        [command, value] => line_of_pair(command, value).ok_or(REFUSED),
-        [sender, name, word, more @ ..] => line_of_message(alloc, sender, name, word, more),
+    let [word, more @ ..] = words else {
+        return Err(LineError::Refused);
+    };
+    if *word == "start".as_bytes() {
+        start_line(more).ok_or(LineError::Refused)
+    } else if *word == "settle".as_bytes() {
+        settle_line(more).ok_or(LineError::Refused)
+    } else if *word == "crash".as_bytes() {
+        crash_line(more).ok_or(LineError::Refused)
+    } else if *word == "lose".as_bytes() {
+        message_of_words(alloc, more).map(Line::Lose)
+    } else {
+        message_of_words(alloc, words).map(Line::Deliver)
     }
 }
 
+/// Whether a line says nothing: it is empty, or begins with `#`.
+fn is_skipped(text: &[u8]) -> bool
+    ensures { result ≡ is_skipped text.now }
+{
+    match text {
+        [] => true,
+        [first, ..] => *first == b'#',
+    }
+}
+
+/// Whether each byte is printable.
+fn all_printable(text: &[u8]) -> bool
+    ensures { result ≡ list_all is_printable text.now }
+{
+    text.iter().all(|byte| *byte >= 0x20 && *byte <= 0x7e)
+}
+
 /// A line by itself.
-pub(crate) fn line_of(alloc: Global, text: &[u8]) -> Result<Line, ScriptError>
+pub(crate) fn line_of(alloc: Global, text: &[u8]) -> Result<Line, LineError>
     ensures { Gives result (line_of text.now) }
 {
-    if text.len() > MOST_LINE_BYTES {
-        return Err(REFUSED);
+    if text.len() > MOST_LINE_BYTES || !all_printable(text) {
+        return Err(LineError::Refused);
+    }
+    if is_skipped(text) {
+        return Ok(Line::Skipped);
     }
     let words = words_of(alloc, text)?;
     line_of_words(alloc, words.as_slice())

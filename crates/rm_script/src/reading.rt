@@ -1,13 +1,13 @@
-ghost use Rattle.std.specs.Prelude.{◌≡◌, ◌⊎◌, ℕ, List, IfOk, IfErr, IsErrOf};
+ghost use Rattle.std.specs.Prelude.{◌≡◌, ◌⊎◌, ℕ, Ok, Err, IfOk};
 ghost use Rattle.rm_types.specs.declared.scripts.Script.{Script};
 ghost use Rattle.rm_script.specs.Scripts.{IsScript};
-ghost use Rattle.rm_script.specs.Results.{Gives};
-ghost use Rattle.rm_script.specs.Reading.{lines_of, script_of_lines, script_of};
+ghost use Rattle.rm_script.specs.Refusals.{IsFirstRefused};
+ghost use Rattle.rm_script.specs.Reading.{Tells};
 
 use crate::drafts::Draft;
-use crate::errors::{REFUSED, ScriptError};
+use crate::errors::ScriptError;
 use crate::lines::cut_line;
-use rm_types::Script;
+use rm_types::{Items, Script};
 use std::alloc::Global;
 
 /// How many bytes a script may have.
@@ -16,48 +16,41 @@ const MOST_BYTES: usize = 16_777_216;
 /// How many lines a script may have.
 const MOST_LINES: u32 = 100_000;
 
-/// Reads a script: the one that the bytes spell. `Refused` comes exactly where they spell none, and its
-/// line is 0. `Memory` may come of any bytes. Time and memory are linear in their number.
+/// Reads a script: the one that the bytes are. `Refused` names the first line that is refused, where they
+/// are none. `Memory` may come of any bytes. Time and memory are linear in their number.
 pub fn read_script(alloc: Global, bytes: &[u8]) -> Result<Script, ScriptError>
     ensures read { IfOk result (λ script. IsScript bytes.now script) }
-    ensures refused { IsErrOf result (ScriptError.Refused 0) → (script : Script) → IsScript bytes.now script → ⊥ }
+    ensures refused { (line : ℕ) → result ≡ Err (ScriptError.Refused line) → IsFirstRefused bytes.now line }
 
-    // No other line is named.
-    ensures errors { IfErr result (λ error. (error ≡ ScriptError.Refused 0) ⊎ (error ≡ ScriptError.Memory)) }
+    // Nothing but want of memory keeps a script, or the line to be refused, from being told.
+    ensures script_told { (script : Script) → IsScript bytes.now script → (result ≡ Ok script) ⊎ (result ≡ Err ScriptError.Memory) }
+    ensures line_told { (line : ℕ) → IsFirstRefused bytes.now line → (result ≡ Err (ScriptError.Refused line)) ⊎ (result ≡ Err ScriptError.Memory) }
 {
     script_of(alloc, bytes)
 }
 
-/// The script that the bytes are, where they are not too many.
+/// The script that the lines of the bytes read as, or the first line at which reading fails.
 fn script_of(alloc: Global, bytes: &[u8]) -> Result<Script, ScriptError>
-    ensures { Gives result (script_of bytes.now) }
+    ensures { Tells bytes.now result }
 {
-    if bytes.len() > MOST_BYTES {
-        return Err(REFUSED);
-    }
-    script_of_lines(alloc, bytes)
-}
-
-/// The script that the lines of the bytes are. At most `MOST_LINES` lines are read.
-fn script_of_lines(alloc: Global, bytes: &[u8]) -> Result<Script, ScriptError>
-    ensures { Gives result (script_of_lines (lines_of bytes.now)) }
-{
-    let mut draft = Draft::Empty;
+    let mut draft = Draft::Between(Items::new(alloc));
     let mut rest = bytes;
     let mut count: u32 = 0;
     'lines: while !rest.is_empty() {
-        if count == MOST_LINES {
-            return Err(REFUSED);
-        }
         let (text, after) = cut_line(rest);
-        draft = draft.with_text(alloc, text)?;
+        let line = count + 1;
+        if line > MOST_LINES || bytes.len() - after.len() > MOST_BYTES {
+            return Err(ScriptError::Refused { line });
+        }
+        draft = match draft.with_text(alloc, text) {
+            Ok(next) => next,
+            Err(error) => return Err(error.at(line)),
+        };
         rest = after;
-        count += 1;
+        count = line;
     }
-    draft.into_script(alloc)
+    match draft.into_script() {
+        Ok(script) => Ok(script),
+        Err(error) => Err(error.at(count + 1)),
+    }
 }
-
-/// The same bytes spell one script at most.
-pub fn law_one_script()
-    ensures { (bytes : List ℕ) (one other : Script) → IsScript bytes one → IsScript bytes other → one ≡ other }
-{}

@@ -1,0 +1,242 @@
+-- The first lines of bytes stand exactly where they read as a draft, and the bytes are a script where all do and the
+-- draft is it.
+use Rattle.std.proofs.Common.{◌≡◌, ℕ, suc, ◌+◌, ◌<◌, ◌≤◌, Bool, true, false, not, cond, ltb, List, [], ◌∷◌, ◌++◌, length, map, take, drop, Option, Some, None, refl, sym, ap, subst, ◌∙◌, append_assoc, arith, inl, inr}
+use Rattle.std.specs.Prelude.{codes, All, min, ◌⊎◌}
+use Rattle.std.specs.List.{flat_map, AllByRecursion}
+use Rattle.std.proofs.lemmas.Bool.{ltb-true, ltb-false}
+use Rattle.std.proofs.lemmas.Option.{same_Some}
+use Rattle.std.proofs.lemmas.List.{append-nil, map-append, take-take, take-map, take_all, take-append-drop, length-append}
+use Rattle.std.proofs.lemmas.List.Concat.{flat_map-append}
+use Rattle.std.proofs.lemmas.List.Elements.{All-nil, All-push, All-take, All-filter, filter-append, All-from_recursion, recursion_from_All}
+use Rattle.std.proofs.Math.Seq.{take-append_seam}
+use Rattle.rm_types.specs.Lists.{is_nil}
+use Rattle.rm_types.specs.IdTexts.{IsWithin}
+use Rattle.rm_types.specs.declared.scripts.Life.{Life}
+use Rattle.rm_types.specs.declared.scripts.Segment.{Segment}
+use Rattle.rm_types.specs.declared.scripts.Script.{Script}
+use Rattle.rm_script.specs.declared.lines.Line.{Line}
+use Rattle.rm_script.specs.declared.drafts.Draft.{Draft}
+use Rattle.rm_script.specs.Lines.{lines_of, ended, size_of_first, is_skipped, kept_lines, IsLineText, KeepLimits}
+use Rattle.rm_script.specs.Written.{Sent, WrittenLife, settled_segment, life_of, script_of_lives}
+use Rattle.rm_script.specs.Spelling.{sent_text, start_text, settled_lines, life_lines, script_lines}
+use Rattle.rm_script.specs.Scripts.{IsSent, IsLife, Crashes, EachButLast, AreLives, Spell, IsScript}
+use Rattle.rm_script.specs.Refusals.{CanBegin, Stand, StopAfter, StopAtEnd, IsFirstRefused}
+use Rattle.rm_script.specs.Results.{◌>>=◌}
+use Rattle.rm_script.specs.Reading.{told_life, with_line, with_text, with_texts, no_lines, script_of_draft, Reads, ReadsAll, FailsAfter, FailsAtEnd}
+use Rattle.rm_script.proofs.Labels.{bound, not_chosen}
+use Rattle.rm_script.proofs.OneLine.{line_text}
+use Rattle.rm_script.proofs.Drafting.{Written, Between, Going, living_of, draft_of, written_lines, AreCrashed, IsGoing, Fits, nothing_sent, settled_text, lines_of-push, with_texts_are}
+use Rattle.rm_script.proofs.Running.{IsMark, script_marks, texts-lives, marks-lives, with_lines, with_texts-marks, with_texts-kept, script_runs}
+
+-- ---- lives at the end of others
+
+last_apart : (lives : List WrittenLife) (last : WrittenLife) → AllByRecursion Crashes lives → EachButLast Crashes (lives ++ last ∷ [])
+last_apart [] last crash = tt
+last_apart (life ∷ []) last crash = (crash.0, tt)
+last_apart (life ∷ next ∷ lives) last crash = (crash.0, last_apart (next ∷ lives) last crash.1)
+
+each_apart : (lives : List WrittenLife) → AllByRecursion Crashes lives → EachButLast Crashes lives
+each_apart [] crash = tt
+each_apart (life ∷ []) crash = tt
+each_apart (life ∷ next ∷ lives) crash = (crash.0, each_apart (next ∷ lives) crash.1)
+
+crashed_are_lives : (lives : List WrittenLife) → AreCrashed lives → AreLives lives
+crashed_are_lives lives fit = record { each = fit.each; crash = each_apart lives (recursion_from_All Crashes lives fit.crash) }
+
+-- a life that hasn't crashed
+abbrev open_life : ℕ → List (List Sent) → WrittenLife
+open_life stamp done = record { stamp = stamp; settled = done; crash = None }
+
+with_open_life : (lives : List WrittenLife) (stamp : ℕ) (done : List (List Sent)) → AreCrashed lives → IsWithin 1 1000000000000000 stamp → All (All IsSent) done
+    → AreLives (lives ++ open_life stamp done ∷ [])
+with_open_life lives stamp done fit stamp_fits done_fit =
+    let life : WrittenLife = open_life stamp done in
+    let is : IsLife life = record { stamp = stamp_fits; settled = done_fit; crash = tt } in
+    record { each = All-push IsLife lives life fit.each is; crash = last_apart lives life (recursion_from_All Crashes lives fit.crash) }
+
+-- ---- a draft can be finished
+
+finish : (written : Written) (lines : List (List ℕ)) → Fits written → written_lines written ≡ kept_lines lines → CanBegin lines
+finish (Between lives) lines fits same = record {
+  more = [];
+  script = script_of_lives lives;
+  spelled = record { lives = lives; fit = crashed_are_lives lives fits; text = ap kept_lines (append-nil lines) ∙ sym same; same = refl };
+}
+finish (Going lives stamp done sent) lines fits same =
+    let life : WrittenLife = open_life stamp (done ++ sent ∷ []) in
+    let settle : List (List ℕ) = codes "settle" ∷ [] in
+    let kept : kept_lines (lines ++ settle) ≡ kept_lines lines ++ settle = filter-append (λ line. not (is_skipped line)) lines settle in
+    let added : kept_lines lines ++ settle ≡ written_lines (Going lives stamp done sent) ++ settle = ap (λ (ls : List (List ℕ)). ls ++ settle) (sym same) in
+    let whole : script_lines (lives ++ life ∷ []) ≡ written_lines (Going lives stamp done sent) ++ settle =
+    lines_of-push lives life ∙ settled_text (script_lines lives) (start_text stamp ∷ []) done sent in
+    record {
+      more = settle;
+      script = script_of_lives (lives ++ life ∷ []);
+      spelled = record {
+        lives = lives ++ life ∷ [];
+        fit = with_open_life lives stamp (done ++ sent ∷ []) fits.lives_fit fits.stamp_fits (All-push (All IsSent) done sent fits.done_fit fits.sent_fit);
+        text = kept ∙ added ∙ sym whole;
+        same = refl;
+      };
+    }
+
+no_lives : AreCrashed []
+no_lives = record { each = All-nil IsLife; crash = All-nil Crashes }
+
+-- lines that read as a draft stand
+pub reads_stand : (count : ℕ) (bytes : List ℕ) (draft : Draft) → Reads count bytes draft → Stand count bytes
+reads_stand count bytes draft reads =
+    let lines : List (List ℕ) = take count (lines_of bytes) in
+    let grew = with_texts_are (Between []) lines draft reads.lines no_lives in
+    record {
+      limits = record { few = reads.few; size = reads.size; each = All-from_recursion IsLineText lines grew.fine };
+      begin = finish grew.after lines grew.fits grew.lines;
+    }
+
+-- ---- a draft that is a script
+
+done_spells : (written : Written) (lines : List (List ℕ)) (script : Script) → Fits written → written_lines written ≡ kept_lines lines → script_of_draft (draft_of written) ≡ Some script → Spell lines script
+done_spells (Between lives) lines script fits same e = record {
+  lives = lives;
+  fit = crashed_are_lives lives fits;
+  text = sym same;
+  same = sym (same_Some (script_of_lives lives) script e);
+}
+done_spells (Going lives stamp done sent) lines script fits same e =
+    let life : WrittenLife = open_life stamp done in
+    let made : Script = record { lives = map life_of lives ++ told_life (living_of stamp done sent) ∷ [] } in
+    let parts = not_chosen (not (is_nil sent)) (Some made) script e in
+    let segments : map settled_segment done ≡ map settled_segment done ++ [] = sym (append-nil (map settled_segment done)) in
+    let one : made ≡ record { lives = map life_of lives ++ life_of life ∷ [] } =
+    ap (λ (ss : List Segment). record { lives = map life_of lives ++ record { stamp = stamp; segments = ss } ∷ [] }) segments in
+    let all : record { lives = map life_of lives ++ life_of life ∷ [] } ≡ script_of_lives (lives ++ life ∷ []) =
+    ap (λ (ls : List Life). record { lives = ls }) (sym (map-append life_of lives (life ∷ []))) in
+    let open_lines : written_lines (Going lives stamp done sent) ≡ script_lines lives ++ life_lines life =
+    ap (λ (s : List Sent). written_lines (Going lives stamp done s)) (nothing_sent sent parts.0) in
+    record {
+      lives = lives ++ life ∷ [];
+      fit = with_open_life lives stamp done fits.lives_fit fits.stamp_fits fits.done_fit;
+      text = sym same ∙ open_lines ∙ sym (lines_of-push lives life);
+      same = sym (same_Some made script parts.1) ∙ one ∙ all;
+    }
+
+pub all_lines : (bytes : List ℕ) → take (length (lines_of bytes)) (lines_of bytes) ≡ lines_of bytes
+all_lines bytes = take_all (length (lines_of bytes)) (lines_of bytes) (omega arith)
+
+-- bytes all lines of which read as a draft that is a script are the script
+pub read_is_script : (bytes : List ℕ) (script : Script) → ReadsAll bytes script → IsScript bytes script
+read_is_script bytes script all =
+    let whole : with_texts no_lines (lines_of bytes) ≡ Some all.draft = ap (with_texts no_lines) (sym (all_lines bytes)) ∙ all.before.lines in
+    let grew = with_texts_are (Between []) (lines_of bytes) all.draft whole no_lives in
+    let made : script_of_draft (draft_of grew.after) ≡ Some script = ap script_of_draft (sym grew.is) ∙ all.script_is in
+    record {
+      limits = (reads_stand (length (lines_of bytes)) bytes all.draft all.before).limits;
+      spelled = done_spells grew.after (lines_of bytes) script grew.fits grew.lines made;
+    }
+
+-- ---- what stands is read
+
+associated : (o : Option Draft) (f g : Draft → Option Draft) (h : Draft → Option Draft) → ((draft : Draft) → f draft ≡ (g draft >>= h)) → (o >>= f) ≡ ((o >>= g) >>= h)
+associated None f g h e = refl
+associated (Some draft) f g h e = e draft
+
+with_lines-append : (draft : Draft) (xs ys : List Line) → with_lines draft (xs ++ ys) ≡ (with_lines draft xs >>= λ next. with_lines next ys)
+with_lines-append draft [] ys = refl
+with_lines-append draft (line ∷ xs) ys = associated (with_line draft line) (λ next. with_lines next (xs ++ ys)) (λ next. with_lines next xs) (λ next. with_lines next ys) (λ next. with_lines-append next xs ys)
+
+take_fits : {A : Type 0} (P : A → Type 0) (count : ℕ) (xs : List A) → AllByRecursion P xs → AllByRecursion P (take count xs)
+take_fits P count xs fit = recursion_from_All P (take count xs) (All-take P count xs (All-from_recursion P xs fit))
+
+fine_kept : (lines : List (List ℕ)) → All IsLineText lines → All IsLineText (kept_lines lines)
+fine_kept lines fine = All-filter (λ line. not (is_skipped line)) IsLineText lines fine
+
+-- lines whose kept ones are the texts of lines read as these
+reads_marks : (lines : List (List ℕ)) (marks : List Line) → All IsLineText lines → AllByRecursion IsMark marks → kept_lines lines ≡ map line_text marks → with_texts no_lines lines ≡ with_lines no_lines marks
+reads_marks lines marks fine fits same =
+    let kept_fine : AllByRecursion IsLineText (map line_text marks) = subst (AllByRecursion IsLineText) same (recursion_from_All IsLineText (kept_lines lines) (fine_kept lines fine)) in
+    with_texts-kept no_lines lines (recursion_from_All IsLineText lines fine) ∙ ap (with_texts no_lines) same ∙ with_texts-marks no_lines marks fits kept_fine
+
+-- the first lines of a script are the texts of its first lines as values
+front_marks : (lives : List WrittenLife) (front back : List (List ℕ)) → front ++ back ≡ script_lines lives → front ≡ map line_text (take (length front) (script_marks lives))
+front_marks lives front back same =
+    sym (take-append_seam front back) ∙ ap (take (length front)) (same ∙ sym (texts-lives lives)) ∙ take-map line_text (length front) (script_marks lives)
+
+-- lines that can begin a script, and may stand in one, read as a draft
+pub begin_reads : (lines : List (List ℕ)) → All IsLineText lines → CanBegin lines → (draft : Draft) × (with_texts no_lines lines ≡ Some draft)
+begin_reads lines fine begin =
+    let lives : List WrittenLife = begin.spelled.lives in
+    let fit : AreLives lives = begin.spelled.fit in
+    let marks : List Line = script_marks lives in
+    let front : List (List ℕ) = kept_lines lines in
+    let apart : front ++ kept_lines begin.more ≡ script_lines lives = sym (filter-append (λ line. not (is_skipped line)) lines begin.more) ∙ begin.spelled.text in
+    let same : front ≡ map line_text (take (length front) marks) = front_marks lives front (kept_lines begin.more) apart in
+    let all_fit : AllByRecursion IsMark marks = marks-lives lives (recursion_from_All IsLife lives fit.each) in
+    let read : with_texts no_lines lines ≡ with_lines no_lines (take (length front) marks) =
+    reads_marks lines (take (length front) marks) fine (take_fits IsMark (length front) marks all_fit) same in
+    let run = bound (with_lines no_lines marks) script_of_draft (script_of_lives lives) (script_runs lives fit) in
+    let split : (with_lines no_lines (take (length front) marks) >>= λ next. with_lines next (drop (length front) marks)) ≡ Some run.0 =
+    sym (with_lines-append no_lines (take (length front) marks) (drop (length front) marks)) ∙ ap (with_lines no_lines) (take-append-drop (length front) marks) ∙ run.1 in
+    let first = bound (with_lines no_lines (take (length front) marks)) (λ next. with_lines next (drop (length front) marks)) run.0 split in
+    (first.0, read ∙ first.1)
+
+pub stand_reads : (count : ℕ) (bytes : List ℕ) → Stand count bytes → (draft : Draft) × Reads count bytes draft
+stand_reads count bytes stand =
+    let read = begin_reads (take count (lines_of bytes)) stand.limits.each stand.begin in
+    (read.0, record { few = stand.limits.few; size = stand.limits.size; lines = read.1 })
+
+-- all lines of a script read as a draft that is it
+pub script_is_read : (bytes : List ℕ) (script : Script) → IsScript bytes script → ReadsAll bytes script
+script_is_read bytes script is =
+    let lives : List WrittenLife = is.spelled.lives in
+    let fit : AreLives lives = is.spelled.fit in
+    let lines : List (List ℕ) = lines_of bytes in
+    let fine : All IsLineText lines = subst (All IsLineText) (all_lines bytes) is.limits.each in
+    let same : kept_lines lines ≡ map line_text (script_marks lives) = is.spelled.text ∙ sym (texts-lives lives) in
+    let read : with_texts no_lines lines ≡ with_lines no_lines (script_marks lives) =
+    reads_marks lines (script_marks lives) fine (marks-lives lives (recursion_from_All IsLife lives fit.each)) same in
+    let run = bound (with_lines no_lines (script_marks lives)) script_of_draft (script_of_lives lives) (script_runs lives fit) in
+    record {
+      draft = run.0;
+      before = record { few = is.limits.few; size = is.limits.size; lines = ap (with_texts no_lines) (all_lines bytes) ∙ read ∙ run.1 };
+      script_is = run.2 ∙ ap Some (sym is.spelled.same);
+    }
+
+-- the same lines read as one draft
+pub one_draft : (count : ℕ) (bytes : List ℕ) (one other : Draft) → Reads count bytes one → Reads count bytes other → one ≡ other
+one_draft count bytes one other reads again = same_Some one other (sym reads.lines ∙ again.lines)
+
+-- ---- fewer lines stand too
+
+length-first : (fewer count : ℕ) (lines : List (List ℕ)) → fewer ≤ count → length (flat_map ended (take fewer lines)) ≤ length (flat_map ended (take count lines))
+length-first fewer count lines h =
+    let front : List (List ℕ) = take fewer (take count lines) in
+    let back : List (List ℕ) = drop fewer (take count lines) in
+    let apart : flat_map ended (take count lines) ≡ flat_map ended front ++ flat_map ended back =
+    ap (flat_map ended) (sym (take-append-drop fewer (take count lines))) ∙ flat_map-append ended front back in
+    let first : flat_map ended front ≡ flat_map ended (take fewer lines) = ap (flat_map ended) (take-take fewer count lines h) in
+    omega (arith, ap length apart, length-append (flat_map ended front) (flat_map ended back), ap length first)
+
+pub stand_fewer : (fewer count : ℕ) (bytes : List ℕ) → fewer ≤ count → Stand count bytes → Stand fewer bytes
+stand_fewer fewer count bytes h stand =
+    let lines : List (List ℕ) = lines_of bytes in
+    let first : take fewer (take count lines) ≡ take fewer lines = take-take fewer count lines h in
+    let back : List (List ℕ) = drop fewer (take count lines) in
+    let apart : take fewer lines ++ (back ++ stand.begin.more) ≡ take count lines ++ stand.begin.more =
+    sym (append_assoc (take fewer lines) back stand.begin.more)
+    ∙ ap (λ (ls : List (List ℕ)). (ls ++ back) ++ stand.begin.more) (sym first)
+    ∙ ap (λ (ls : List (List ℕ)). ls ++ stand.begin.more) (take-append-drop fewer (take count lines)) in
+    let spell : Spell (take fewer lines ++ (back ++ stand.begin.more)) stand.begin.script = subst (λ (ls : List (List ℕ)). Spell ls stand.begin.script) (sym apart) stand.begin.spelled in
+    record {
+      limits = record {
+        few = omega (arith, stand.limits.few);
+        size = omega (arith, stand.limits.size, length-first fewer count lines h);
+        each = subst (All IsLineText) first (All-take IsLineText fewer (take count lines) stand.limits.each);
+      };
+      begin = record { more = back ++ stand.begin.more; script = stand.begin.script; spelled = spell };
+    }
+
+-- all lines of a script stand
+pub script_stands : (bytes : List ℕ) (script : Script) → IsScript bytes script → Stand (length (lines_of bytes)) bytes
+script_stands bytes script is =
+    let all = script_is_read bytes script is in
+    reads_stand (length (lines_of bytes)) bytes all.draft all.before
