@@ -1,16 +1,15 @@
 -- What is answered is the script that the bytes are, or the first line that is refused, and nothing else could be.
-use Rattle.std.proofs.Common.{◌≡◌, ℕ, ◌+◌, ◌<◌, ◌≤◌, true, false, ltb, List, length, Option, Some, None, Result, Ok, Err, refl, sym, ap, subst, ◌∙◌, arith, inl, inr}
+use Rattle.std.proofs.Common.{◌≡◌, ℕ, ◌+◌, ◌<◌, true, false, ltb, List, length, Some, None, Result, Ok, Err, refl, sym, ap, subst, ◌∙◌, arith, inl, inr}
 use Rattle.std.specs.Prelude.{◌⊎◌, IfOk}
 use Rattle.std.proofs.lemmas.Bool.{ltb-true, ltb-false}
 use Rattle.std.proofs.lemmas.Option.{same_Some}
 use Rattle.rm_types.specs.declared.scripts.Script.{Script}
 use Rattle.rm_script.specs.declared.errors.ScriptError.{ScriptError}
 use Rattle.rm_script.specs.declared.errors.ScriptError.TheVariants.{Refused, Memory}
-use Rattle.rm_script.specs.declared.drafts.Draft.{Draft}
 use Rattle.rm_script.specs.Lines.{lines_of}
 use Rattle.rm_script.specs.Scripts.{Spell, IsScript}
 use Rattle.rm_script.specs.Refusals.{Stand, StopAfter, StopAtEnd, IsFirstRefused}
-use Rattle.rm_script.specs.Reading.{script_of_draft, Reads, ReadsAll, FailsAfter, FailsAtEnd, Tells}
+use Rattle.rm_script.specs.Reading.{script_of_draft, FailsAfter, FailsAtEnd, Tells}
 use Rattle.rm_script.proofs.Standing.{reads_stand, read_is_script, stand_reads, script_is_read, one_draft, stand_fewer, script_stands}
 
 -- ---- what the code tells

@@ -1,5 +1,5 @@
 -- Lines put together to a draft of a script, which is what was written so far.
-use Rattle.std.proofs.Common.{◌≡◌, ℕ, ◌<◌, ◌≤◌, Bool, true, false, not, ◌||◌, cond, List, [], ◌∷◌, ◌++◌, length, map, Option, Some, None, refl, sym, ap, subst, ◌∙◌, append_assoc, arith}
+use Rattle.std.proofs.Common.{◌≡◌, ℕ, ◌<◌, Bool, true, false, not, ◌||◌, cond, List, [], ◌∷◌, ◌++◌, length, map, Some, refl, sym, ap, ◌∙◌, append_assoc, arith}
 use Rattle.std.specs.Prelude.{codes, All}
 use Rattle.std.specs.List.{flat_map, AllByRecursion}
 use Rattle.std.proofs.lemmas.Option.{same_Some}
@@ -17,10 +17,9 @@ use Rattle.rm_script.specs.declared.drafts.Living.{Living}
 use Rattle.rm_script.specs.declared.drafts.Draft.{Draft}
 use Rattle.rm_script.specs.declared.drafts.Draft.TheVariants as drafts
 use Rattle.rm_script.specs.Lines.{is_skipped, kept_lines, IsLineText}
-use Rattle.rm_script.specs.Written.{Sent, Delivered, Lost, Crashing, WrittenLife, delivered, settled_segment, life_of}
+use Rattle.rm_script.specs.Written.{Sent, Delivered, Lost, WrittenLife, delivered, settled_segment, life_of}
 use Rattle.rm_script.specs.Spelling.{sent_text, start_text, settled_lines, life_lines, script_lines}
 use Rattle.rm_script.specs.Scripts.{IsRead, IsSent, IsCrash, IsLife, Crashes}
-use Rattle.rm_script.specs.Results.{◌>>=◌}
 use Rattle.rm_script.specs.Reading.{line_of, settled, crashed, crash_life, with_start, with_settle, with_crash, with_message, with_loss, with_line, with_text, with_texts}
 use Rattle.rm_script.proofs.Labels.{bound, not_chosen}
 use Rattle.rm_script.proofs.OneLine.{IsCrashLine, IsLine, IsTextOf, line_text, Says, is_kept, line_of_is}

@@ -1,5 +1,5 @@
 -- Taking the lines of a script one after the other.
-use Rattle.std.proofs.Common.{◌≡◌, ℕ, zero, suc, ◌+◌, ◌<◌, ◌≤◌, List, [], ◌∷◌, ◌++◌, length, take, drop, Option, Some, None, Result, Ok, Err, refl, sym, ap, subst, ◌∙◌, arith, add-one, inl, inr}
+use Rattle.std.proofs.Common.{◌≡◌, ℕ, zero, suc, ◌+◌, ◌<◌, ◌≤◌, List, [], ◌∷◌, ◌++◌, length, take, drop, Option, Some, None, Ok, Err, refl, sym, ap, subst, ◌∙◌, arith, inl, inr}
 use Rattle.std.specs.Prelude.{◌⊎◌, min}
 use Rattle.std.specs.List.{flat_map}
 use Rattle.std.proofs.lemmas.List.{append-nil, length-append, length-drop}
@@ -10,8 +10,8 @@ use Rattle.rm_script.specs.declared.errors.LineError.TheVariants as faults
 use Rattle.rm_script.specs.declared.errors.ScriptError.TheVariants as scripts
 use Rattle.rm_script.specs.declared.drafts.Draft.{Draft}
 use Rattle.rm_script.specs.Lines.{lines_of, ended, size_of_first}
-use Rattle.rm_script.specs.Results.{◌>>=◌, Fails, Gives, at_line}
-use Rattle.rm_script.specs.Reading.{with_text, with_texts, no_lines, script_of_draft, Reads, ReadsAll, FailsAfter, FailsAtEnd, Tells}
+use Rattle.rm_script.specs.Results.{◌>>=◌, Fails, at_line}
+use Rattle.rm_script.specs.Reading.{with_text, with_texts, no_lines, script_of_draft, Reads, Tells}
 
 -- so many lines were read as the draft, and the rest is left
 pub record IsAt (count : ℕ) (bytes rest : List ℕ) (draft : Draft) : Type 0 where

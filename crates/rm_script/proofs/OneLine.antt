@@ -1,13 +1,13 @@
 -- A line by itself: its text is read as that line, and no other text is.
-use Rattle.std.proofs.Common.{◌≡◌, ℕ, ◌<◌, ◌≤◌, Bool, true, false, not, ◌&&◌, cond, ltb, leb, List, [], ◌∷◌, length, Option, Some, None, refl, sym, ap, subst, ◌∙◌, arith}
+use Rattle.std.proofs.Common.{◌≡◌, ℕ, Bool, true, false, not, cond, ltb, leb, List, [], ◌∷◌, length, Option, Some, None, refl, sym, ap, subst, ◌∙◌, arith}
 use Rattle.rm_types.specs.IdTexts.{IsWithin}
 use Rattle.std.specs.List.{list_all, AllByRecursion}
 use Rattle.std.specs.Option.{option_map}
 use Rattle.std.specs.Str.{bytes_eq}
-use Rattle.std.specs.Prelude.{codes, All}
+use Rattle.std.specs.Prelude.{codes}
 use Rattle.std.specs.Fmt.{decimal}
 use Rattle.std.proofs.lemmas.Bool.{ltb-false, le-ltb, le-leb, leb-true, and_parts, and_from}
-use Rattle.std.proofs.lemmas.Option.{cond_some, same_Some}
+use Rattle.std.proofs.lemmas.Option.{same_Some}
 use Rattle.std.proofs.lemmas.List.Elements.{All-from_recursion, recursion_from_All}
 use Rattle.rm_types.specs.declared.messages.ClientAsk.{ClientAsk}
 use Rattle.rm_types.specs.declared.messages.Message.{Message}
@@ -16,16 +16,16 @@ use Rattle.rm_types.specs.declared.texts.TextKind.TheVariants.{Name}
 use Rattle.rm_types.specs.Texts.{is_printable}
 use Rattle.rm_script.specs.declared.lines.Line.{Line}
 use Rattle.rm_script.specs.declared.lines.Line.TheVariants.{Skipped, Start, Settle, Crash, Deliver, Lose}
-use Rattle.rm_model.specs.Wording.{spaced, message_words, message_text}
+use Rattle.rm_model.specs.Wording.{spaced, message_words}
 use Rattle.rm_script.specs.Lines.{is_skipped, IsLineText}
-use Rattle.rm_script.specs.Written.{Sent, Delivered, Lost}
+use Rattle.rm_script.specs.Written.{Delivered, Lost}
 use Rattle.rm_script.specs.Spelling.{sent_text, start_text, crash_text}
 use Rattle.rm_types.specs.Frames.{IsText}
 use Rattle.rm_script.specs.Scripts.{IsClientAsk, IsMessage, IsBuiltAsk, IsBuiltMessage, IsRead}
 use Rattle.rm_script.specs.Results.{◌>>=◌}
 use Rattle.rm_script.specs.Fields.{number_in}
 use Rattle.rm_script.specs.Clients.{client_message}
-use Rattle.rm_script.specs.Reading.{words_of, start_line, settle_line, crash_of, crash_line, message_from, message_of_words, line_of_words, line_of}
+use Rattle.rm_script.specs.Reading.{words_of, start_line, settle_line, crash_line, message_of_words, line_of_words, line_of}
 use Rattle.rm_script.proofs.Decimals.{number_in-decimal, number_in_is, IsClear-decimal}
 use Rattle.rm_script.proofs.Words.{AreClear, IsClear-from_tests, no_spaces, words_of-spaced, spaced-words_of}
 use Rattle.rm_script.proofs.Labels.{bound, chosen, mapped, is_text, IsClear-text}

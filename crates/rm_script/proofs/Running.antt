@@ -1,27 +1,23 @@
 -- The lines of lives, put together to the script that these lives are.
-use Rattle.std.proofs.Common.{◌≡◌, ℕ, ◌<◌, ◌≤◌, Bool, true, false, not, ◌||◌, cond, List, [], ◌∷◌, ◌++◌, length, map, Option, Some, None, refl, sym, ap, subst, ◌∙◌, append_assoc, arith}
+use Rattle.std.proofs.Common.{◌≡◌, ℕ, ◌<◌, true, false, not, cond, List, [], ◌∷◌, ◌++◌, length, map, Option, Some, None, refl, sym, ap, ◌∙◌, append_assoc, arith}
 use Rattle.std.specs.Prelude.{codes, All, IfSome, IsSome}
 use Rattle.std.specs.List.{flat_map, AllByRecursion}
 use Rattle.std.proofs.lemmas.Option.{same_Some}
 use Rattle.std.proofs.lemmas.List.{append-nil, map-append}
-use Rattle.std.proofs.lemmas.List.Concat.{flat_map-append}
 use Rattle.std.proofs.lemmas.List.Elements.{recursion_from_All}
-use Rattle.rm_types.specs.Lists.{is_nil}
-use Rattle.rm_types.specs.declared.messages.Message.{Message}
 use Rattle.rm_types.specs.declared.scripts.Life.{Life}
 use Rattle.rm_types.specs.declared.scripts.Segment.{Segment}
 use Rattle.rm_script.specs.declared.lines.Line.{Line}
-use Rattle.rm_script.specs.declared.lines.Line.TheVariants.{Skipped, Start, Settle, Crash, Deliver, Lose}
+use Rattle.rm_script.specs.declared.lines.Line.TheVariants.{Start, Settle, Crash, Deliver, Lose}
 use Rattle.rm_script.specs.declared.drafts.Draft.{Draft}
-use Rattle.rm_script.specs.declared.drafts.Draft.TheVariants as drafts
 use Rattle.rm_script.specs.Lines.{is_skipped, kept_lines, IsLineText}
 use Rattle.rm_script.specs.Written.{Sent, Delivered, Lost, Crashing, WrittenLife, settled_segment, crash_segments, life_of, script_of_lives}
 use Rattle.rm_script.specs.Spelling.{sent_text, start_text, settled_lines, crash_lines, life_lines, script_lines}
-use Rattle.rm_script.specs.Scripts.{IsRead, IsSent, IsCrash, IsLife, Crashes, IsLineOf, EachButLast, AreLives}
+use Rattle.rm_script.specs.Scripts.{IsSent, IsCrash, IsLife, Crashes, IsLineOf, EachButLast, AreLives}
 use Rattle.rm_script.specs.Results.{◌>>=◌}
-use Rattle.rm_script.specs.Reading.{words_of, line_of_words, line_of, crashed, with_line, with_text, with_texts, script_of_draft}
-use Rattle.rm_script.proofs.OneLine.{IsCrashLine, IsLine, line_text, Says, line_of-skipped, line_of-text, words_read}
-use Rattle.rm_script.proofs.Drafting.{Written, Between, Going, living_of, draft_of, crashed_life, delivered_is, lost_is, settled_is, crashed_is}
+use Rattle.rm_script.specs.Reading.{words_of, line_of_words, with_line, with_text, with_texts, script_of_draft}
+use Rattle.rm_script.proofs.OneLine.{IsLine, line_text, Says, line_of-skipped, line_of-text, words_read}
+use Rattle.rm_script.proofs.Drafting.{Between, Going, draft_of, crashed_life, delivered_is, lost_is, settled_is, crashed_is}
 
 -- ---- the lines of lives as values
 

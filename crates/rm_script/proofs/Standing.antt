@@ -1,9 +1,8 @@
 -- The first lines of bytes stand exactly where they read as a draft, and the bytes are a script where all do and the
 -- draft is it.
-use Rattle.std.proofs.Common.{◌≡◌, ℕ, suc, ◌+◌, ◌<◌, ◌≤◌, Bool, true, false, not, cond, ltb, List, [], ◌∷◌, ◌++◌, length, map, take, drop, Option, Some, None, refl, sym, ap, subst, ◌∙◌, append_assoc, arith, inl, inr}
-use Rattle.std.specs.Prelude.{codes, All, min, ◌⊎◌}
+use Rattle.std.proofs.Common.{◌≡◌, ℕ, ◌≤◌, not, List, [], ◌∷◌, ◌++◌, length, map, take, drop, Option, Some, None, refl, sym, ap, subst, ◌∙◌, append_assoc, arith}
+use Rattle.std.specs.Prelude.{codes, All}
 use Rattle.std.specs.List.{flat_map, AllByRecursion}
-use Rattle.std.proofs.lemmas.Bool.{ltb-true, ltb-false}
 use Rattle.std.proofs.lemmas.Option.{same_Some}
 use Rattle.std.proofs.lemmas.List.{append-nil, map-append, take-take, take-map, take_all, take-append-drop, length-append}
 use Rattle.std.proofs.lemmas.List.Concat.{flat_map-append}
@@ -16,16 +15,16 @@ use Rattle.rm_types.specs.declared.scripts.Segment.{Segment}
 use Rattle.rm_types.specs.declared.scripts.Script.{Script}
 use Rattle.rm_script.specs.declared.lines.Line.{Line}
 use Rattle.rm_script.specs.declared.drafts.Draft.{Draft}
-use Rattle.rm_script.specs.Lines.{lines_of, ended, size_of_first, is_skipped, kept_lines, IsLineText, KeepLimits}
+use Rattle.rm_script.specs.Lines.{lines_of, ended, is_skipped, kept_lines, IsLineText}
 use Rattle.rm_script.specs.Written.{Sent, WrittenLife, settled_segment, life_of, script_of_lives}
-use Rattle.rm_script.specs.Spelling.{sent_text, start_text, settled_lines, life_lines, script_lines}
+use Rattle.rm_script.specs.Spelling.{start_text, life_lines, script_lines}
 use Rattle.rm_script.specs.Scripts.{IsSent, IsLife, Crashes, EachButLast, AreLives, Spell, IsScript}
-use Rattle.rm_script.specs.Refusals.{CanBegin, Stand, StopAfter, StopAtEnd, IsFirstRefused}
+use Rattle.rm_script.specs.Refusals.{CanBegin, Stand}
 use Rattle.rm_script.specs.Results.{◌>>=◌}
-use Rattle.rm_script.specs.Reading.{told_life, with_line, with_text, with_texts, no_lines, script_of_draft, Reads, ReadsAll, FailsAfter, FailsAtEnd}
+use Rattle.rm_script.specs.Reading.{told_life, with_line, with_texts, no_lines, script_of_draft, Reads, ReadsAll}
 use Rattle.rm_script.proofs.Labels.{bound, not_chosen}
 use Rattle.rm_script.proofs.OneLine.{line_text}
-use Rattle.rm_script.proofs.Drafting.{Written, Between, Going, living_of, draft_of, written_lines, AreCrashed, IsGoing, Fits, nothing_sent, settled_text, lines_of-push, with_texts_are}
+use Rattle.rm_script.proofs.Drafting.{Written, Between, Going, living_of, draft_of, written_lines, AreCrashed, Fits, nothing_sent, settled_text, lines_of-push, with_texts_are}
 use Rattle.rm_script.proofs.Running.{IsMark, script_marks, texts-lives, marks-lives, with_lines, with_texts-marks, with_texts-kept, script_runs}
 
 -- ---- lives at the end of others

@@ -164,8 +164,10 @@ impl Draft {
     {
         match self {
             Draft::Between(lives) => Ok(Script { lives }),
-            Draft::Living(_, living) if living.is_sending => Err(LineError::Refused),
             Draft::Living(mut lives, living) => {
+                if living.is_sending {
+                    return Err(LineError::Refused);
+                }
                 lives.push(Life {
                     stamp: living.stamp,
                     segments: living.segments,

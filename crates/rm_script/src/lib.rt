@@ -21,3 +21,6 @@ mod reading;
 pub use errors::ScriptError;
 pub use laws::{law_lines, law_one_line, law_one_script, law_values};
 pub use reading::read_script;
+
+#[cfg(test)]
+mod tests;
