@@ -1,3 +1,4 @@
+use rm_script::ScriptError;
 use rm_store::StoreError;
 use rm_tree::TreeError;
 use rm_types::{NoMemory, TextError};
@@ -46,6 +47,12 @@ impl From<TreeError> for Stop {
 
 impl From<StoreError> for Stop {
     fn from(_error: StoreError) -> Stop {
+        Stop
+    }
+}
+
+impl From<ScriptError> for Stop {
+    fn from(_error: ScriptError) -> Stop {
         Stop
     }
 }

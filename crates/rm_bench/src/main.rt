@@ -7,6 +7,7 @@
 mod costs;
 mod operations;
 mod rights;
+mod script;
 mod store;
 mod tree;
 
@@ -25,9 +26,10 @@ fn run(rt: HostRuntime) -> Result<(), Stop> {
         Some(name) if name.as_str() == "tree" => tree::measure(rt),
         Some(name) if name.as_str() == "rights" => rights::measure(rt),
         Some(name) if name.as_str() == "store" => store::measure(rt),
+        Some(name) if name.as_str() == "script" => script::measure(rt),
         Some(_) => Err(Stop),
         None => {
-            println!(rt; "tree\nrights\nstore")?;
+            println!(rt; "tree\nrights\nstore\nscript")?;
             Ok(())
         }
     }
