@@ -1,5 +1,5 @@
 -- The first line of bytes, and the lines after it.
-use Rattle.std.proofs.Common.{◌≡◌, ℕ, suc, ◌+◌, ◌-◌, ◌<◌, ◌≤◌, Bool, true, false, cond, eqb, ltb, List, [], ◌∷◌, length, take, drop, Some, None, refl, sym, ap, ◌∙◌, arith}
+use Rattle.std.proofs.Common.{◌≡◌, ℕ, suc, ◌+◌, ◌-◌, ◌<◌, ◌≤◌, Bool, true, false, eqb, ltb, List, [], ◌∷◌, length, take, drop, Some, None, refl, sym, ap, ◌∙◌, arith}
 use Rattle.std.specs.List.{position_or_len, position, onto_first}
 use Rattle.std.proofs.lemmas.Bool.{ltb-true, ltb-false}
 use Rattle.std.proofs.lemmas.Option.{cond_some}
@@ -29,11 +29,6 @@ cuts_later byte bytes place e cuts =
     let one_on : suc place + 1 ≡ suc (place + 1) = omega arith in
     let after : drop (suc place + 1) (byte ∷ bytes) ≡ drop (place + 1) bytes = ap (λ n. drop n (byte ∷ bytes)) one_on in
     rw (e, after, cuts) refl
-
-more : (b : Bool) (byte : ℕ) (lines : List (List ℕ)) → 0 < length (cond b ([] ∷ lines) (onto_first byte lines))
-more true byte lines = omega arith
-more false byte [] = omega arith
-more false byte (line ∷ lines) = omega arith
 
 -- the first line ends at the first line feed
 cuts_at_feed : (bytes : List ℕ) (place : ℕ) → feed bytes ≡ place → place < length bytes → CutsAt place bytes
@@ -75,8 +70,3 @@ only_line (byte ∷ bytes) some e =
     let nothing : take (length (byte ∷ bytes) - length (byte ∷ bytes)) (drop (length (byte ∷ bytes)) (byte ∷ bytes)) ≡ [] =
     take_rest (byte ∷ bytes) (length (byte ∷ bytes)) ∙ drop_all (length (byte ∷ bytes)) (byte ∷ bytes) (omega arith) in
     one_line byte bytes none ∙ ap (λ rest. (byte ∷ bytes) ∷ lines_of rest) (sym nothing)
-
--- bytes have a line where they are not empty
-pub some_line : (bytes : List ℕ) → 0 < length bytes → 0 < length (lines_of bytes)
-some_line [] h = absurd (omega arith)
-some_line (byte ∷ bytes) h = more (is_feed byte) byte (lines_of bytes)

@@ -11,6 +11,7 @@ use Rattle.rm_script.specs.declared.errors.ScriptError.TheVariants as scripts
 use Rattle.rm_script.specs.declared.drafts.Draft.{Draft}
 use Rattle.rm_script.specs.Lines.{lines_of, ended, size_of_first}
 use Rattle.rm_script.specs.Results.{◌>>=◌, Fails, at_line}
+use Rattle.rm_script.proofs.Running.{associated}
 use Rattle.rm_script.specs.Reading.{with_text, with_texts, no_lines, script_of_draft, Reads, Tells}
 
 -- so many lines were read as the draft, and the rest is left
@@ -73,10 +74,6 @@ is_next count bytes rest draft text after is some lines cut =
       left = sym (ap (λ (n : ℕ). drop n all) one_on ∙ step.1);
       size = ap (λ (n : ℕ). min (length bytes) n + length after) done ∙ grown;
     }
-
-associated : (o : Option Draft) (f g h : Draft → Option Draft) → ((draft : Draft) → f draft ≡ (g draft >>= h)) → (o >>= f) ≡ ((o >>= g) >>= h)
-associated None f g h e = refl
-associated (Some draft) f g h e = e draft
 
 ended_here : (o : Option Draft) → (o >>= λ next. Some next) ≡ o
 ended_here None = refl

@@ -114,6 +114,10 @@ pub goes_on_alike : (o : Option Draft) (f g : Draft → Option Draft) → ((draf
 goes_on_alike None f g h = refl
 goes_on_alike (Some draft) f g h = h draft
 
+pub associated : (o : Option Draft) (f g h : Draft → Option Draft) → ((draft : Draft) → f draft ≡ (g draft >>= h)) → (o >>= f) ≡ ((o >>= g) >>= h)
+associated None f g h e = refl
+associated (Some draft) f g h e = e draft
+
 -- texts of lines make the draft that the lines make
 pub with_texts-marks : (draft : Draft) (marks : List Line) → AllByRecursion IsMark marks → AllByRecursion IsLineText (map line_text marks) → with_texts draft (map line_text marks) ≡ with_lines draft marks
 with_texts-marks draft [] fits fine = refl

@@ -1,6 +1,6 @@
 -- The first lines of bytes stand exactly where they read as a draft, and the bytes are a script where all do and the
 -- draft is it.
-use Rattle.std.proofs.Common.{◌≡◌, ℕ, ◌≤◌, not, List, [], ◌∷◌, ◌++◌, length, map, take, drop, Option, Some, None, refl, sym, ap, subst, ◌∙◌, append_assoc, arith}
+use Rattle.std.proofs.Common.{◌≡◌, ℕ, ◌≤◌, not, List, [], ◌∷◌, ◌++◌, length, map, take, drop, Some, None, refl, sym, ap, subst, ◌∙◌, append_assoc, arith}
 use Rattle.std.specs.Prelude.{codes, All}
 use Rattle.std.specs.List.{flat_map, AllByRecursion}
 use Rattle.std.proofs.lemmas.Option.{same_Some}
@@ -25,7 +25,7 @@ use Rattle.rm_script.specs.Reading.{told_life, with_line, with_texts, no_lines, 
 use Rattle.rm_script.proofs.Labels.{bound, not_chosen}
 use Rattle.rm_script.proofs.OneLine.{line_text}
 use Rattle.rm_script.proofs.Drafting.{Written, Between, Going, living_of, draft_of, written_lines, AreCrashed, Fits, nothing_sent, settled_text, lines_of-push, with_texts_are}
-use Rattle.rm_script.proofs.Running.{IsMark, script_marks, texts-lives, marks-lives, with_lines, with_texts-marks, with_texts-kept, script_runs}
+use Rattle.rm_script.proofs.Running.{IsMark, script_marks, texts-lives, marks-lives, with_lines, with_texts-marks, with_texts-kept, script_runs, associated}
 
 -- ---- lives at the end of others
 
@@ -134,10 +134,6 @@ read_is_script bytes script all =
     }
 
 -- ---- what stands is read
-
-associated : (o : Option Draft) (f g : Draft → Option Draft) (h : Draft → Option Draft) → ((draft : Draft) → f draft ≡ (g draft >>= h)) → (o >>= f) ≡ ((o >>= g) >>= h)
-associated None f g h e = refl
-associated (Some draft) f g h e = e draft
 
 with_lines-append : (draft : Draft) (xs ys : List Line) → with_lines draft (xs ++ ys) ≡ (with_lines draft xs >>= λ next. with_lines next ys)
 with_lines-append draft [] ys = refl

@@ -2,7 +2,7 @@
 use Rattle.std.proofs.Common.{◌≡◌, ℕ, Bool, true, false, not, ◌&&◌, eqb, List, [], ◌∷◌, ◌++◌, All, refl, sym, ap, ◌∙◌}
 use Rattle.std.specs.List.{AllByRecursion}
 use Rattle.std.proofs.lemmas.Bool.{and_parts, not-true}
-use Rattle.std.proofs.lemmas.List.Elements.{All-from_recursion, All-append, All-cons, All-nil}
+use Rattle.std.proofs.lemmas.List.Elements.{All-from_recursion, All-append}
 use Rattle.std.proofs.lemmas.List.Splits.{slice_split_none, slice_split_at, join_with_byte-slice_split}
 use Rattle.rm_model.specs.Wording.{spaced}
 use Rattle.rm_script.specs.Reading.{words_of}
@@ -43,13 +43,6 @@ words_of-spaced word (next ∷ words) lack =
 pub spaced-words_of : (line : List ℕ) (words : List (List ℕ)) → words_of line ≡ words → line ≡ spaced words
 spaced-words_of line words e = sym (join_with_byte-slice_split 32 line) ∙ ap spaced e
 
--- words that lack a byte other than the space lack it together
-pub Lacks-spaced : (byte : ℕ) (words : List (List ℕ)) → eqb 32 byte ≡ false → EachLacks byte words → Lacks byte (spaced words)
-Lacks-spaced byte [] other lack = All-nil (IsOther byte)
-Lacks-spaced byte (word ∷ []) other lack = lack.0
-Lacks-spaced byte (word ∷ next ∷ words) other lack =
-    All-append (IsOther byte) word (32 ∷ spaced (next ∷ words)) lack.0 (All-cons (IsOther byte) 32 (spaced (next ∷ words)) other (Lacks-spaced byte (next ∷ words) other lack.1))
-
 -- neither a space nor a line feed stands in the word
 pub record IsClear (word : List ℕ) : Type 0 where
   pub no_space : Lacks 32 word
@@ -70,7 +63,3 @@ AreClear words = AllByRecursion IsClear words
 pub no_spaces : (words : List (List ℕ)) → AreClear words → EachLacks 32 words
 no_spaces [] clear = tt
 no_spaces (word ∷ words) clear = (clear.0.no_space, no_spaces words clear.1)
-
-pub no_feeds : (words : List (List ℕ)) → AreClear words → EachLacks 10 words
-no_feeds [] clear = tt
-no_feeds (word ∷ words) clear = (clear.0.no_feed, no_feeds words clear.1)
