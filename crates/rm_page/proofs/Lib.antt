@@ -1,1 +1,4 @@
 pub mod Joining
+pub mod Bytes
+pub mod ReadIds
+pub mod ReadOperations

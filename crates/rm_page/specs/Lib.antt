@@ -1,1 +1,4 @@
 pub mod Continued
+pub mod Ranges
+pub mod Shown
+pub mod Apart

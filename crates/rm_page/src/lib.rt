@@ -6,6 +6,7 @@
 
 mod entries;
 mod ids;
+mod laws;
 mod lists;
 mod messages;
 mod operations;
@@ -15,4 +16,5 @@ mod replies;
 mod tests;
 mod writing;
 
+pub use laws::{lines_tell_entries, texts_are_apart};
 pub use pages::{page, store_page};

@@ -1,0 +1,174 @@
+-- Store operations, read back from their texts.
+use Rattle.std.proofs.Common.{◌≡◌, ℕ, ◌^◌, ◌<◌, Bool, true, false, cond, List, [], ◌∷◌, ◌++◌, refl, sym, ap, ◌∙◌, arith, codes}
+use Rattle.std.specs.Fmt.{decimal}
+use Rattle.std.specs.Str.{bytes_eq}
+use Rattle.std.specs.List.{join_with_byte}
+use Rattle.std.proofs.lemmas.List.{append-nil}
+use Rattle.rm_types.specs.declared.ids.AppId.{AppId}
+use Rattle.rm_types.specs.declared.ids.AttemptId.{AttemptId}
+use Rattle.rm_types.specs.declared.ids.ContainerId.{ContainerId}
+use Rattle.rm_types.specs.declared.operations.How.{How}
+use Rattle.rm_types.specs.declared.operations.How.TheVariants.{Finished, Failed, Killed}
+use Rattle.rm_types.specs.declared.operations.Op.{Op}
+use Rattle.rm_types.specs.declared.operations.Op.TheVariants.{Epoch, App, Attempt, AttemptEnd, AppEnd, Remove}
+use Rattle.rm_types.specs.declared.operations.Submission.{Submission}
+use Rattle.rm_types.specs.declared.texts.TextKind.TheVariants.{Name, Node, Queue}
+use Rattle.rm_types.specs.Frames.{IsText, IsSubmission, CanBeFramed}
+use Rattle.rm_types.specs.IdTexts.{app_text, attempt_text, container_text, IsAppId, IsAttemptId}
+use Rattle.rm_model.specs.Wording.{spaced, text_word, submission_words, how_text, op_words, op_text}
+use Rattle.rm_ids.specs.Digits.{value_of}
+use Rattle.rm_page.proofs.Bytes.{lacks, number_lacks, number_back, text_lacks, cut, cut_joined, cut_joined_last, join_cut, EachLacks, behind}
+use Rattle.rm_page.proofs.ReadIds.{read_app, read_attempt, read_container, app_lacks, attempt_lacks, container_lacks, app_back, attempt_back, container_back}
+
+-- ---- a text at the end of a line, in which spaces may stand
+
+-- the pieces of a word that stands only where its text isn't empty
+abbrev pub last_pieces : List ℕ → List ℕ → List (List ℕ)
+last_pieces label [] = []
+last_pieces label (byte ∷ bytes) = cut 32 (label ++ byte ∷ bytes)
+
+pub cut_with_last : (word : List ℕ) (words : List (List ℕ)) (label text : List ℕ) → EachLacks 32 (word ∷ words)
+    → cut 32 (spaced ((word ∷ words) ++ text_word label text)) ≡ (word ∷ words) ++ last_pieces label text
+cut_with_last word words label [] lack =
+    ap (λ (ws : List (List ℕ)). cut 32 (spaced ws)) (append-nil (word ∷ words)) ∙ cut_joined 32 word words lack ∙ sym (append-nil (word ∷ words))
+cut_with_last word words label (byte ∷ bytes) lack = cut_joined_last 32 (word ∷ words) (label ++ byte ∷ bytes) lack
+
+-- what stands behind a label at the end of a line
+abbrev pub read_last : List ℕ → List (List ℕ) → List ℕ
+read_last label pieces = behind label (spaced pieces)
+
+behind-label : (label text : List ℕ) → behind label (label ++ text) ≡ text
+behind-label [] text = refl
+behind-label (byte ∷ label) text = behind-label label text
+
+pub last_back : (label text : List ℕ) → read_last label (cut 32 (label ++ text)) ≡ text
+last_back label text = ap (behind label) (join_cut 32 (label ++ text)) ∙ behind-label label text
+
+pub last_word_back : (byte : ℕ) (label text : List ℕ) → read_last (byte ∷ label) (last_pieces (byte ∷ label) text) ≡ text
+last_word_back byte label [] = refl
+last_word_back byte label (one ∷ bytes) = last_back (byte ∷ label) (one ∷ bytes)
+
+-- ---- submissions
+
+no_submission : Submission
+no_submission = record { user = []; queue = []; name = []; master = record { memory_mb = 0; vcores = 0 }; attempts = 0; modify = [] }
+
+-- what a user submits, by the pieces behind the application's id
+pub read_submission : List ℕ → List (List ℕ) → Submission
+read_submission user (queue ∷ name ∷ memory ∷ vcores ∷ attempts ∷ modify) = record {
+  user = user;
+  queue = behind (codes "queue=") queue;
+  name = behind (codes "name=") name;
+  master = record { memory_mb = value_of (behind (codes "memory=") memory); vcores = value_of (behind (codes "vcores=") vcores) };
+  attempts = value_of (behind (codes "attempts=") attempts);
+  modify = read_last (codes "modify=") modify;
+}
+read_submission user pieces = no_submission
+
+abbrev pub submission_pieces : Submission → List (List ℕ)
+submission_pieces submission =
+    (codes "queue=" ++ submission.queue)
+    ∷ (codes "name=" ++ submission.name)
+    ∷ (codes "memory=" ++ decimal submission.master.memory_mb)
+    ∷ (codes "vcores=" ++ decimal submission.master.vcores)
+    ∷ (codes "attempts=" ++ decimal submission.attempts)
+    ∷ last_pieces (codes "modify=") submission.modify
+
+abbrev pub submission_front : Submission → List (List ℕ)
+submission_front submission =
+    (codes "queue=" ++ submission.queue)
+    ∷ (codes "name=" ++ submission.name)
+    ∷ (codes "memory=" ++ decimal submission.master.memory_mb)
+    ∷ (codes "vcores=" ++ decimal submission.master.vcores)
+    ∷ (codes "attempts=" ++ decimal submission.attempts)
+    ∷ []
+
+pub submission_lacks : (submission : Submission) → IsSubmission submission → EachLacks 32 (submission_front submission)
+submission_lacks submission is =
+    (text_lacks Queue 32 submission.queue refl is.queue,
+    (text_lacks Name 32 submission.name refl is.name,
+    (number_lacks 32 submission.master.memory_mb refl (omega (arith, is.memory_mb.1)),
+    (number_lacks 32 submission.master.vcores refl (omega (arith, is.vcores.1)),
+    (number_lacks 32 submission.attempts refl (omega (arith, is.attempts.1)), tt)))))
+
+pub submission_back : (submission : Submission) → IsSubmission submission → read_submission submission.user (submission_pieces submission) ≡ submission
+unfolding read_submission
+submission_back submission is =
+    rw (number_back submission.master.memory_mb (omega (arith, is.memory_mb.1)), number_back submission.master.vcores (omega (arith, is.vcores.1)), number_back submission.attempts (omega (arith, is.attempts.1)))
+    (ap (λ (modify : List ℕ). record submission { modify = modify }) (last_word_back 109 (codes "odify=") submission.modify))
+
+-- ---- operations
+
+data OpWord : Type 0 where
+  EpochWord : OpWord
+  AppWord : OpWord
+  AttemptWord : OpWord
+  AttemptEndWord : OpWord
+  AppEndWord : OpWord
+  RemoveWord : OpWord
+
+op_word : List ℕ → OpWord
+op_word word =
+    cond (bytes_eq word (codes "epoch")) EpochWord
+    (cond (bytes_eq word (codes "app")) AppWord
+    (cond (bytes_eq word (codes "attempt")) AttemptWord
+    (cond (bytes_eq word (codes "attempt-end")) AttemptEndWord
+    (cond (bytes_eq word (codes "app-end")) AppEndWord RemoveWord))))
+
+read_how : List ℕ → How
+read_how word = cond (bytes_eq word (codes "FINISHED")) Finished (cond (bytes_eq word (codes "FAILED")) Failed Killed)
+
+op_by : OpWord → List (List ℕ) → Op
+op_by EpochWord (next ∷ stamp ∷ []) = Epoch (value_of (behind (codes "next=") next)) (value_of (behind (codes "stamp=") stamp))
+op_by AppWord (id ∷ user ∷ pieces) = App (read_app id) (read_submission (behind (codes "user=") user) pieces)
+op_by AttemptWord (id ∷ master ∷ node ∷ []) = Attempt (read_attempt id) (read_container (behind (codes "master=") master)) (behind (codes "node=") node)
+op_by AttemptEndWord (id ∷ how ∷ text) = AttemptEnd (read_attempt id) (read_how how) (read_last (codes "text=") text)
+op_by AppEndWord (id ∷ how ∷ text) = AppEnd (read_app id) (read_how how) (read_last (codes "text=") text)
+op_by RemoveWord (id ∷ []) = Remove (read_app id)
+op_by word pieces = Epoch 0 0
+
+-- an operation by the pieces of its text
+pub read_op : List (List ℕ) → Op
+read_op (word ∷ pieces) = op_by (op_word word) pieces
+read_op [] = Epoch 0 0
+
+how_lacks : (how : How) → lacks 32 (how_text how) ≡ true
+how_lacks Finished = refl
+how_lacks Failed = refl
+how_lacks Killed = refl
+
+how_back : (how : How) → read_how (how_text how) ≡ how
+unfolding read_how
+how_back Finished = refl
+how_back Failed = refl
+how_back Killed = refl
+
+pub op_back : (op : Op) → CanBeFramed op → read_op (cut 32 (op_text op)) ≡ op
+unfolding read_op op_by op_word
+op_back (Epoch next stamp) is =
+    let small_next : next < 2 ^ 64 = omega (arith, is.0.1) in
+    let small_stamp : stamp < 2 ^ 64 = omega (arith, is.1.1) in
+    ap read_op (cut_joined 32 (codes "epoch") ((codes "next=" ++ decimal next) ∷ (codes "stamp=" ++ decimal stamp) ∷ [])
+    (refl, (number_lacks 32 next refl small_next, (number_lacks 32 stamp refl small_stamp, tt))))
+    ∙ rw (number_back next small_next, number_back stamp small_stamp) refl
+op_back (App id submission) is =
+    ap read_op (cut_with_last (codes "app") (app_text id ∷ (codes "user=" ++ submission.user) ∷ submission_front submission) (codes "modify=") submission.modify
+    (refl, (app_lacks 32 id refl is.0, (text_lacks Name 32 submission.user refl is.1.user, submission_lacks submission is.1))))
+    ∙ rw (app_back id is.0, submission_back submission is.1) refl
+op_back (Attempt id master node) is =
+    ap read_op (cut_joined 32 (codes "attempt") (attempt_text id ∷ (codes "master=" ++ container_text master) ∷ (codes "node=" ++ node) ∷ [])
+    (refl, (attempt_lacks 32 id refl is.0, (container_lacks 32 master refl is.1.container, (text_lacks Node 32 node refl is.2, tt)))))
+    ∙ rw (attempt_back id is.0, container_back master is.1.container) refl
+op_back (AttemptEnd id how text) is =
+    ap read_op (cut_joined_last 32 (codes "attempt-end" ∷ attempt_text id ∷ how_text how ∷ []) (codes "text=" ++ text)
+    (refl, (attempt_lacks 32 id refl is.0, (how_lacks how, tt))))
+    ∙ rw (attempt_back id is.0, how_back how, last_back (codes "text=") text) refl
+op_back (AppEnd id how text) is =
+    ap read_op (cut_joined_last 32 (codes "app-end" ∷ app_text id ∷ how_text how ∷ []) (codes "text=" ++ text)
+    (refl, (app_lacks 32 id refl is.0, (how_lacks how, tt))))
+    ∙ rw (app_back id is.0, how_back how, last_back (codes "text=") text) refl
+op_back (Remove id) is =
+    ap read_op (cut_joined 32 (codes "remove") (app_text id ∷ []) (refl, (app_lacks 32 id refl is, tt))) ∙ rw (app_back id is) refl
+
+pub ops_apart : (a b : Op) → CanBeFramed a → CanBeFramed b → op_text a ≡ op_text b → a ≡ b
+ops_apart a b is_a is_b e = sym (op_back a is_a) ∙ ap (λ (text : List ℕ). read_op (cut 32 text)) e ∙ op_back b is_b

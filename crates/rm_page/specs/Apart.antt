@@ -1,0 +1,31 @@
+-- What the texts of a page determine.
+use Rattle.std.specs.Prelude.{◌≡◌, ◌↔◌, List, All, true, false, map}
+use Rattle.rm_types.specs.declared.entries.Entry.{Entry}
+use Rattle.rm_types.specs.declared.messages.Message.{Message}
+use Rattle.rm_types.specs.declared.operations.Op.{Op}
+use Rattle.rm_types.specs.declared.replies.Reply.{Reply}
+use Rattle.rm_types.specs.Frames.{CanBeFramed}
+use Rattle.rm_model.specs.Wording.{message_text, op_text, reply_text}
+use Rattle.rm_model.specs.Page.{line_of, page, lane_of_entry}
+use Rattle.rm_page.specs.Ranges.{IsMessage, IsReply, IsEntry}
+use Rattle.rm_page.specs.Shown.{shown_reply, shown, is_silent, shown_log}
+
+-- no two operations have one text
+abbrev pub OpTextsAreApart : Type 0
+OpTextsAreApart = (a b : Op) → CanBeFramed a → CanBeFramed b → op_text a ≡ op_text b → a ≡ b
+
+-- no two messages have one text
+abbrev pub MessageTextsAreApart : Type 0
+MessageTextsAreApart = (a b : Message) → IsMessage a → IsMessage b → message_text a ≡ message_text b → a ≡ b
+
+-- two replies have one text exactly where they show the same
+abbrev pub ReplyTextsShow : Type 0
+ReplyTextsShow = (a b : Reply) → IsReply a → IsReply b → (reply_text a ≡ reply_text b) ↔ (shown_reply a ≡ shown_reply b)
+
+-- two entries that have lines have one line exactly where they show the same
+abbrev pub LinesShow : Type 0
+LinesShow = (a b : Entry) → IsEntry a → IsEntry b → is_silent a ≡ false → is_silent b ≡ false → (line_of a ≡ line_of b) ↔ (shown a ≡ shown b)
+
+-- two logs have one page exactly where their entries with lines show the same in the same order
+abbrev pub PagesShow : Type 0
+PagesShow = (a b : List Entry) → All IsEntry a → All IsEntry b → (page a false ≡ page b false) ↔ (shown_log a ≡ shown_log b)

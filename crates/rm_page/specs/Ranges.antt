@@ -1,0 +1,144 @@
+-- The values of which the laws of the page's wording speak: ids and texts are in their ranges, and each number fits the
+-- bits that it has.
+use Rattle.std.specs.Prelude.{◌≡◌, ℕ, ◌^◌, ◌<◌, List, All}
+use Rattle.rm_types.specs.declared.containers.Ask.{Ask}
+use Rattle.rm_types.specs.declared.containers.Closing.{Closing}
+use Rattle.rm_types.specs.declared.containers.Grant.{Grant}
+use Rattle.rm_types.specs.declared.containers.Held.{Held}
+use Rattle.rm_types.specs.declared.entries.Entry.{Entry}
+use Rattle.rm_types.specs.declared.entries.Entry.TheVariants as entries
+use Rattle.rm_types.specs.declared.messages.ClientAsk.{ClientAsk}
+use Rattle.rm_types.specs.declared.messages.ClientAsk.TheVariants as clients
+use Rattle.rm_types.specs.declared.messages.ClockAsk.{ClockAsk}
+use Rattle.rm_types.specs.declared.messages.ClockAsk.TheVariants as clocks
+use Rattle.rm_types.specs.declared.messages.MasterAsk.{MasterAsk}
+use Rattle.rm_types.specs.declared.messages.MasterAsk.TheVariants as masters
+use Rattle.rm_types.specs.declared.messages.Message.{Message}
+use Rattle.rm_types.specs.declared.messages.Message.TheVariants as messages
+use Rattle.rm_types.specs.declared.messages.NodeAsk.{NodeAsk}
+use Rattle.rm_types.specs.declared.messages.NodeAsk.TheVariants as nodes
+use Rattle.rm_types.specs.declared.replies.Denial.{Denial}
+use Rattle.rm_types.specs.declared.replies.Reply.{Reply}
+use Rattle.rm_types.specs.declared.replies.Reply.TheVariants as replies
+use Rattle.rm_types.specs.declared.replies.Report.{Report}
+use Rattle.rm_types.specs.declared.texts.TextKind.TheVariants.{Name, Node, Queue, Note}
+use Rattle.rm_types.specs.Frames.{IsText, IsSubmission, CanBeFramed}
+use Rattle.rm_types.specs.IdTexts.{IsAppId, IsAttemptId, IsContainerId}
+use Rattle.rm_types.specs.Resources.{IsInRange}
+
+-- a number of 32 bits
+abbrev pub IsWord32 : ℕ → Type 0
+IsWord32 number = number < 2 ^ 32
+
+-- a number of 64 bits
+abbrev pub IsWord64 : ℕ → Type 0
+IsWord64 number = number < 2 ^ 64
+
+-- a container that a node reports, with its size
+pub record IsHeld (held : Held) : Type 0 where
+  pub id : IsContainerId held.id
+  pub size : IsInRange held.size
+
+-- what a master asks for
+pub record IsAsk (ask : Ask) : Type 0 where
+  pub priority : IsWord32 ask.priority
+  pub count : IsWord32 ask.count
+  pub size : IsInRange ask.size
+
+-- a granted container and its node
+pub record IsGrant (grant : Grant) : Type 0 where
+  pub id : IsContainerId grant.id
+  pub node : IsText Node grant.node
+
+-- a container that ended
+abbrev pub IsClosing : Closing → Type 0
+IsClosing closing = IsContainerId closing.id
+
+-- what a client asks; who submits is who sends it
+abbrev pub IsClientAsk : List ℕ → ClientAsk → Type 0
+IsClientAsk user clients.New = Unit {0}
+IsClientAsk user (clients.Submit id submission) = IsAppId id × IsSubmission submission × (submission.user ≡ user)
+IsClientAsk user (clients.Report id) = IsAppId id
+IsClientAsk user (clients.Kill id) = IsAppId id
+
+-- what a master asks
+abbrev pub IsMasterAsk : MasterAsk → Type 0
+IsMasterAsk masters.Register = Unit {0}
+IsMasterAsk (masters.Finish text) = IsText Note text
+IsMasterAsk (masters.Allocate id asks release) = IsWord32 id × All IsAsk asks × All IsContainerId release
+
+-- what a node says
+abbrev pub IsNodeAsk : NodeAsk → Type 0
+IsNodeAsk (nodes.Register turn capability running) = IsWord32 turn × IsInRange capability × All IsHeld running
+IsNodeAsk (nodes.Beat id running done) = IsWord32 id × All IsHeld running × All IsContainerId done
+
+-- what the clock says
+abbrev pub IsClockAsk : ClockAsk → Type 0
+IsClockAsk (clocks.Tick time) = IsWord64 time
+IsClockAsk (clocks.ExpireNode node) = IsText Node node
+IsClockAsk (clocks.ExpireMaster attempt) = IsAttemptId attempt
+
+-- a message
+abbrev pub IsMessage : Message → Type 0
+IsMessage (messages.Client user ask) = IsText Name user × IsClientAsk user ask
+IsMessage (messages.Master attempt ask) = IsAttemptId attempt × IsMasterAsk ask
+IsMessage (messages.Node node ask) = IsText Node node × IsNodeAsk ask
+IsMessage (messages.Clock ask) = IsClockAsk ask
+
+-- a right that wasn't there; the names of the lists are written as queues are
+pub record IsDenial (denial : Denial) : Type 0 where
+  pub queue : IsText Queue denial.queue
+  pub lists : All (IsText Queue) denial.lists
+
+-- what a client is told of an application
+pub record IsReport (report : Report) : Type 0 where
+  pub user : IsText Name report.user
+  pub queue : IsText Queue report.queue
+  pub name : IsText Name report.name
+  pub attempts : IsWord32 report.attempts
+  pub live : IsWord32 report.live
+  pub text : IsText Note report.text
+
+-- a reply
+abbrev pub IsReply : Reply → Type 0
+IsReply (replies.New id) = IsAppId id
+IsReply (replies.Denied denial) = IsDenial denial
+IsReply (replies.Report report) = IsReport report
+IsReply (replies.Allocated id grants ended) = IsWord32 id × All IsGrant grants × All IsClosing ended
+IsReply (replies.NodeRegistered turn epoch) = IsWord32 turn × IsWord32 epoch
+IsReply (replies.Beat id launch clean) = IsWord32 id × All IsContainerId launch × All IsContainerId clean
+IsReply reply = Unit {0}
+
+-- the message asks for a report
+abbrev pub AsksForReport : Message → Type 0
+AsksForReport (messages.Client user (clients.Report id)) = Unit {0}
+AsksForReport message = ⊥
+
+-- a report answers only who asked for one; any other reply may answer any message
+abbrev pub MayAnswer : Message → Reply → Type 0
+MayAnswer message (replies.Report report) = AsksForReport message
+MayAnswer message reply = Unit {0}
+
+-- a message that was answered
+pub record IsServed (message : Message) (reply : Reply) : Type 0 where
+  pub message_is : IsMessage message
+  pub reply_is : IsReply reply
+  pub answers : MayAnswer message reply
+
+-- an entry
+abbrev pub IsEntry : Entry → Type 0
+IsEntry (entries.Opened landed epoch stamp) = IsWord32 landed × IsWord32 epoch × IsWord64 stamp
+IsEntry (entries.Issued op) = CanBeFramed op
+IsEntry entries.Handed = Unit {0}
+IsEntry (entries.Kept op) = CanBeFramed op
+IsEntry (entries.Blown passed) = IsWord32 passed
+IsEntry (entries.Served sender message reply) = IsServed message reply
+IsEntry (entries.Accepted app) = IsAppId app
+IsEntry (entries.Queued attempt) = IsAttemptId attempt
+IsEntry (entries.Absorbed node taken ended) = IsText Node node × All IsHeld taken × All IsContainerId ended
+IsEntry (entries.Pass node grants) = IsText Node node × All IsGrant grants
+IsEntry (entries.Ordered container node) = IsContainerId container × IsText Node node
+IsEntry (entries.Ended cause list) = All IsContainerId list
+IsEntry entries.Settled = Unit {0}
+IsEntry entries.Down = Unit {0}
+IsEntry (entries.Quiet lane) = Unit {0}

@@ -1,0 +1,16 @@
+ghost use Rattle.rm_page.specs.Apart.{OpTextsAreApart, MessageTextsAreApart, ReplyTextsShow, LinesShow, PagesShow};
+
+/// Two operations, or two messages, in their ranges have one text only where they are equal; and two
+/// replies exactly where they are equal but for the sizes of grants, which no text shows.
+pub fn texts_are_apart()
+    ensures operations { OpTextsAreApart }
+    ensures messages { MessageTextsAreApart }
+    ensures replies { ReplyTextsShow }
+{}
+
+/// Two entries have one line exactly where they show the same, and two logs have one page exactly where
+/// their entries that have lines show the same, in the same order.
+pub fn lines_tell_entries()
+    ensures lines { LinesShow }
+    ensures pages { PagesShow }
+{}
