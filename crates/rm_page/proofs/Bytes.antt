@@ -8,6 +8,7 @@ use Rattle.std.proofs.lemmas.List.{append_assoc}
 use Rattle.std.proofs.lemmas.List.Elements.{All-from_recursion}
 use Rattle.std.proofs.lemmas.List.Splits.{slice_split_none, slice_split_at, join_with_byte-slice_split}
 use Rattle.rm_types.specs.declared.texts.TextKind.{TextKind}
+use Rattle.rm_types.specs.declared.texts.TextKind.TheVariants.{Name, Node, Queue}
 use Rattle.rm_types.specs.Frames.{IsText}
 use Rattle.rm_types.specs.IdTexts.{padded}
 use Rattle.rm_types.specs.Texts.{is_allowed, is_digit, fault_of, least_length, greatest_length, first_not_allowed}
@@ -24,7 +25,7 @@ abbrev pub lacks : ℕ → List ℕ → Bool
 lacks byte [] = true
 lacks byte (one ∷ bytes) = not (eqb one byte) && lacks byte bytes
 
-and_both : (b c : Bool) → b ≡ true → c ≡ true → (b && c) ≡ true
+pub and_both : (b c : Bool) → b ≡ true → c ≡ true → (b && c) ≡ true
 and_both b c h k = rw (h, k) refl
 
 pub made_of-append : (test : ℕ → Bool) (a b : List ℕ) → made_of test a ≡ true → made_of test b ≡ true → made_of test (a ++ b) ≡ true
@@ -170,3 +171,68 @@ abbrev pub behind : List ℕ → List ℕ → List ℕ
 behind [] word = word
 behind (one ∷ label) [] = []
 behind (one ∷ label) (byte ∷ word) = behind label word
+
+pub behind_is : (label text : List ℕ) → behind label (label ++ text) ≡ text
+behind_is [] text = refl
+behind_is (byte ∷ label) text = behind_is label text
+
+-- ---- words
+
+-- a byte of a word: no line feed, no space, no `>`
+abbrev pub is_word_byte : ℕ → Bool
+is_word_byte byte = not (eqb byte 10) && (not (eqb byte 32) && not (eqb byte 62))
+
+word_from : (bytes : List ℕ) → lacks 10 bytes ≡ true → lacks 32 bytes ≡ true → lacks 62 bytes ≡ true → made_of is_word_byte bytes ≡ true
+word_from [] feed space arrow = refl
+word_from (byte ∷ bytes) feed space arrow =
+    let feeds = and_parts (not (eqb byte 10)) (lacks 10 bytes) feed in
+    let spaces = and_parts (not (eqb byte 32)) (lacks 32 bytes) space in
+    let arrows = and_parts (not (eqb byte 62)) (lacks 62 bytes) arrow in
+    and_both (is_word_byte byte) (made_of is_word_byte bytes)
+    (and_both (not (eqb byte 10)) (not (eqb byte 32) && not (eqb byte 62)) feeds.0 (and_both (not (eqb byte 32)) (not (eqb byte 62)) spaces.0 arrows.0))
+    (word_from bytes feeds.1 spaces.1 arrows.1)
+
+-- bytes of a kind to which neither of the three belongs are a word
+pub word_by : (test : ℕ → Bool) (bytes : List ℕ) → test 10 ≡ false → test 32 ≡ false → test 62 ≡ false → made_of test bytes ≡ true → made_of is_word_byte bytes ≡ true
+word_by test bytes feed space arrow made =
+    word_from bytes (lacks_failing test 10 bytes feed made) (lacks_failing test 32 bytes space made) (lacks_failing test 62 bytes arrow made)
+
+pub id_word : (bytes : List ℕ) → made_of is_id_byte bytes ≡ true → made_of is_word_byte bytes ≡ true
+id_word bytes made = word_by is_id_byte bytes refl refl refl made
+
+pub number_word : (number : ℕ) → number < 2 ^ 64 → made_of is_word_byte (decimal number) ≡ true
+number_word number fits = id_word (decimal number) (decimal_made number fits)
+
+pub name_word : (text : List ℕ) → IsText Name text → made_of is_word_byte text ≡ true
+name_word text fits = word_by (is_allowed Name) text refl refl refl (text_made Name text fits)
+
+pub node_word : (text : List ℕ) → IsText Node text → made_of is_word_byte text ≡ true
+node_word text fits = word_by (is_allowed Node) text refl refl refl (text_made Node text fits)
+
+pub queue_word : (text : List ℕ) → IsText Queue text → made_of is_word_byte text ≡ true
+queue_word text fits = word_by (is_allowed Queue) text refl refl refl (text_made Queue text fits)
+
+-- each of them is a word
+abbrev pub AreWords : List (List ℕ) → Type 0
+AreWords [] = Unit {0}
+AreWords (word ∷ words) = (made_of is_word_byte word ≡ true) × AreWords words
+
+pub AreWords-append : (a b : List (List ℕ)) → AreWords a → AreWords b → AreWords (a ++ b)
+AreWords-append [] b first second = second
+AreWords-append (word ∷ a) b first second = (first.0, AreWords-append a b first.1 second)
+
+pub words_lack : (byte : ℕ) (words : List (List ℕ)) → is_word_byte byte ≡ false → AreWords words → EachLacks byte words
+words_lack byte [] fails are = tt
+words_lack byte (word ∷ words) fails are = (lacks_failing is_word_byte byte word fails are.0, words_lack byte words fails are.1)
+
+pub EachLacks-append : (byte : ℕ) (a b : List (List ℕ)) → EachLacks byte a → EachLacks byte b → EachLacks byte (a ++ b)
+EachLacks-append byte [] b first second = second
+EachLacks-append byte (word ∷ a) b first second = (first.0, EachLacks-append byte a b first.1 second)
+
+-- what stands in none of the pieces and doesn't join them stands not in the whole
+pub joined_lacks : (byte joint : ℕ) (pieces : List (List ℕ)) → eqb joint byte ≡ false → EachLacks byte pieces → lacks byte (join_with_byte joint pieces) ≡ true
+joined_lacks byte joint [] other lack = refl
+joined_lacks byte joint (piece ∷ []) other lack = lack.0
+joined_lacks byte joint (piece ∷ next ∷ more) other lack =
+    lacks-append byte piece (joint ∷ join_with_byte joint (next ∷ more)) lack.0
+    (and_both (not (eqb joint byte)) (lacks byte (join_with_byte joint (next ∷ more))) (ap not other) (joined_lacks byte joint (next ∷ more) other lack.1))

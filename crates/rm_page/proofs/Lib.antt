@@ -2,3 +2,5 @@ pub mod Joining
 pub mod Bytes
 pub mod ReadIds
 pub mod ReadOperations
+pub mod ReadLists
+pub mod ReadMessages

@@ -8,7 +8,7 @@ use Rattle.rm_types.specs.declared.ids.ContainerId.{ContainerId}
 use Rattle.rm_types.specs.IdTexts.{padded, app_text, attempt_text, container_text, container_end, IsAppId, IsAttemptId, IsContainerId}
 use Rattle.rm_ids.specs.Digits.{value_of}
 use Rattle.rm_ids.proofs.Digits.{value_of-padded}
-use Rattle.rm_page.proofs.Bytes.{made_of, made_of-append, lacks, lacks_failing, is_id_byte, decimal_made, padded_made, decimal_lacks_bar, padded_lacks_bar, number_back, cut, cut_at, cut_last, behind}
+use Rattle.rm_page.proofs.Bytes.{made_of, made_of-append, lacks, lacks_failing, is_id_byte, decimal_made, padded_made, is_word_byte, id_word, decimal_lacks_bar, padded_lacks_bar, number_back, cut, cut_at, cut_last, behind}
 
 -- ---- of which bytes they are
 
@@ -50,14 +50,17 @@ container_made id is =
     either_made (eqb id.epoch 0) (codes "container_" ++ container_end id) (codes "container_e" ++ (padded 2 id.epoch ++ (codes "_" ++ container_end id))) (end_made id is)
     (made_of-append is_id_byte (padded 2 id.epoch) (codes "_" ++ container_end id) (padded_made 2 id.epoch (omega (arith, is.epoch.1))) (end_made id is))
 
-pub app_lacks : (byte : ℕ) (id : AppId) → is_id_byte byte ≡ false → IsAppId id → lacks byte (app_text id) ≡ true
-app_lacks byte id fails is = lacks_failing is_id_byte byte (app_text id) fails (app_made id is)
-
-pub attempt_lacks : (byte : ℕ) (id : AttemptId) → is_id_byte byte ≡ false → IsAttemptId id → lacks byte (attempt_text id) ≡ true
-attempt_lacks byte id fails is = lacks_failing is_id_byte byte (attempt_text id) fails (attempt_made id is)
-
 pub container_lacks : (byte : ℕ) (id : ContainerId) → is_id_byte byte ≡ false → IsContainerId id → lacks byte (container_text id) ≡ true
 container_lacks byte id fails is = lacks_failing is_id_byte byte (container_text id) fails (container_made id is)
+
+pub app_word : (id : AppId) → IsAppId id → made_of is_word_byte (app_text id) ≡ true
+app_word id is = id_word (app_text id) (app_made id is)
+
+pub attempt_word : (id : AttemptId) → IsAttemptId id → made_of is_word_byte (attempt_text id) ≡ true
+attempt_word id is = id_word (attempt_text id) (attempt_made id is)
+
+pub container_word : (id : ContainerId) → IsContainerId id → made_of is_word_byte (container_text id) ≡ true
+container_word id is = id_word (container_text id) (container_made id is)
 
 -- ---- how they are read
 

@@ -12,13 +12,21 @@ use Rattle.rm_types.specs.declared.operations.How.TheVariants.{Finished, Failed,
 use Rattle.rm_types.specs.declared.operations.Op.{Op}
 use Rattle.rm_types.specs.declared.operations.Op.TheVariants.{Epoch, App, Attempt, AttemptEnd, AppEnd, Remove}
 use Rattle.rm_types.specs.declared.operations.Submission.{Submission}
-use Rattle.rm_types.specs.declared.texts.TextKind.TheVariants.{Name, Node, Queue}
+use Rattle.rm_types.specs.declared.texts.TextKind.TheVariants.{Note, AclText}
 use Rattle.rm_types.specs.Frames.{IsText, IsSubmission, CanBeFramed}
 use Rattle.rm_types.specs.IdTexts.{app_text, attempt_text, container_text, IsAppId, IsAttemptId}
 use Rattle.rm_model.specs.Wording.{spaced, text_word, submission_words, how_text, op_words, op_text}
 use Rattle.rm_ids.specs.Digits.{value_of}
-use Rattle.rm_page.proofs.Bytes.{lacks, number_lacks, number_back, text_lacks, cut, cut_joined, cut_joined_last, join_cut, EachLacks, behind}
-use Rattle.rm_page.proofs.ReadIds.{read_app, read_attempt, read_container, app_lacks, attempt_lacks, container_lacks, app_back, attempt_back, container_back}
+use Rattle.rm_page.proofs.Bytes.{made_of, lacks, lacks-append, is_word_byte, number_word, name_word, node_word, queue_word, AreWords, words_lack, number_back, text_lacks, cut, cut_joined, cut_joined_last, join_cut, EachLacks, EachLacks-append, behind, behind_is}
+use Rattle.rm_page.proofs.ReadIds.{read_app, read_attempt, read_container, app_word, attempt_word, container_word, app_back, attempt_back, container_back}
+
+-- ---- words between spaces
+
+pub cut_words : (word : List ℕ) (words : List (List ℕ)) → AreWords (word ∷ words) → cut 32 (spaced (word ∷ words)) ≡ word ∷ words
+cut_words word words are = cut_joined 32 word words (words_lack 32 (word ∷ words) refl are)
+
+pub cut_words_last : (words : List (List ℕ)) (last : List ℕ) → AreWords words → cut 32 (spaced (words ++ last ∷ [])) ≡ words ++ cut 32 last
+cut_words_last words last are = cut_joined_last 32 words last (words_lack 32 words refl are)
 
 -- ---- a text at the end of a line, in which spaces may stand
 
@@ -27,22 +35,23 @@ abbrev pub last_pieces : List ℕ → List ℕ → List (List ℕ)
 last_pieces label [] = []
 last_pieces label (byte ∷ bytes) = cut 32 (label ++ byte ∷ bytes)
 
-pub cut_with_last : (word : List ℕ) (words : List (List ℕ)) (label text : List ℕ) → EachLacks 32 (word ∷ words)
+pub cut_with_last : (word : List ℕ) (words : List (List ℕ)) (label text : List ℕ) → AreWords (word ∷ words)
     → cut 32 (spaced ((word ∷ words) ++ text_word label text)) ≡ (word ∷ words) ++ last_pieces label text
-cut_with_last word words label [] lack =
-    ap (λ (ws : List (List ℕ)). cut 32 (spaced ws)) (append-nil (word ∷ words)) ∙ cut_joined 32 word words lack ∙ sym (append-nil (word ∷ words))
-cut_with_last word words label (byte ∷ bytes) lack = cut_joined_last 32 (word ∷ words) (label ++ byte ∷ bytes) lack
+cut_with_last word words label [] are =
+    ap (λ (ws : List (List ℕ)). cut 32 (spaced ws)) (append-nil (word ∷ words)) ∙ cut_words word words are ∙ sym (append-nil (word ∷ words))
+cut_with_last word words label (byte ∷ bytes) are = cut_words_last (word ∷ words) (label ++ byte ∷ bytes) are
+
+-- and it has no line feed where its text has none
+pub last_lacks : (byte : ℕ) (label text : List ℕ) → lacks byte label ≡ true → lacks byte text ≡ true → EachLacks byte (text_word label text)
+last_lacks byte label [] one other = tt
+last_lacks byte label (first ∷ bytes) one other = (lacks-append byte label (first ∷ bytes) one other, tt)
 
 -- what stands behind a label at the end of a line
 abbrev pub read_last : List ℕ → List (List ℕ) → List ℕ
 read_last label pieces = behind label (spaced pieces)
 
-behind-label : (label text : List ℕ) → behind label (label ++ text) ≡ text
-behind-label [] text = refl
-behind-label (byte ∷ label) text = behind-label label text
-
 pub last_back : (label text : List ℕ) → read_last label (cut 32 (label ++ text)) ≡ text
-last_back label text = ap (behind label) (join_cut 32 (label ++ text)) ∙ behind-label label text
+last_back label text = ap (behind label) (join_cut 32 (label ++ text)) ∙ behind_is label text
 
 pub last_word_back : (byte : ℕ) (label text : List ℕ) → read_last (byte ∷ label) (last_pieces (byte ∷ label) text) ≡ text
 last_word_back byte label [] = refl
@@ -83,13 +92,13 @@ submission_front submission =
     ∷ (codes "attempts=" ++ decimal submission.attempts)
     ∷ []
 
-pub submission_lacks : (submission : Submission) → IsSubmission submission → EachLacks 32 (submission_front submission)
-submission_lacks submission is =
-    (text_lacks Queue 32 submission.queue refl is.queue,
-    (text_lacks Name 32 submission.name refl is.name,
-    (number_lacks 32 submission.master.memory_mb refl (omega (arith, is.memory_mb.1)),
-    (number_lacks 32 submission.master.vcores refl (omega (arith, is.vcores.1)),
-    (number_lacks 32 submission.attempts refl (omega (arith, is.attempts.1)), tt)))))
+pub submission_are : (submission : Submission) → IsSubmission submission → AreWords (submission_front submission)
+submission_are submission is =
+    (queue_word submission.queue is.queue,
+    (name_word submission.name is.name,
+    (number_word submission.master.memory_mb (omega (arith, is.memory_mb.1)),
+    (number_word submission.master.vcores (omega (arith, is.vcores.1)),
+    (number_word submission.attempts (omega (arith, is.attempts.1)), tt)))))
 
 pub submission_back : (submission : Submission) → IsSubmission submission → read_submission submission.user (submission_pieces submission) ≡ submission
 unfolding read_submission
@@ -132,10 +141,10 @@ pub read_op : List (List ℕ) → Op
 read_op (word ∷ pieces) = op_by (op_word word) pieces
 read_op [] = Epoch 0 0
 
-how_lacks : (how : How) → lacks 32 (how_text how) ≡ true
-how_lacks Finished = refl
-how_lacks Failed = refl
-how_lacks Killed = refl
+how_word : (how : How) → made_of is_word_byte (how_text how) ≡ true
+how_word Finished = refl
+how_word Failed = refl
+how_word Killed = refl
 
 how_back : (how : How) → read_how (how_text how) ≡ how
 unfolding read_how
@@ -143,32 +152,58 @@ how_back Finished = refl
 how_back Failed = refl
 how_back Killed = refl
 
+-- the words of an operation but a text in which spaces may stand
+op_front : Op → List (List ℕ)
+op_front (Epoch next stamp) = op_words (Epoch next stamp)
+op_front (App id submission) = codes "app" ∷ app_text id ∷ (codes "user=" ++ submission.user) ∷ submission_front submission
+op_front (Attempt id master node) = op_words (Attempt id master node)
+op_front (AttemptEnd id how text) = codes "attempt-end" ∷ attempt_text id ∷ how_text how ∷ []
+op_front (AppEnd id how text) = codes "app-end" ∷ app_text id ∷ how_text how ∷ []
+op_front (Remove id) = op_words (Remove id)
+
+op_are : (op : Op) → CanBeFramed op → AreWords (op_front op)
+unfolding op_front
+op_are (Epoch next stamp) is = (refl, (number_word next (omega (arith, is.0.1)), (number_word stamp (omega (arith, is.1.1)), tt)))
+op_are (App id submission) is = (refl, (app_word id is.0, (name_word submission.user is.1.user, submission_are submission is.1)))
+op_are (Attempt id master node) is = (refl, (attempt_word id is.0, (container_word master is.1.container, (node_word node is.2, tt))))
+op_are (AttemptEnd id how text) is = (refl, (attempt_word id is.0, (how_word how, tt)))
+op_are (AppEnd id how text) is = (refl, (app_word id is.0, (how_word how, tt)))
+op_are (Remove id) is = (refl, (app_word id is, tt))
+
 pub op_back : (op : Op) → CanBeFramed op → read_op (cut 32 (op_text op)) ≡ op
-unfolding read_op op_by op_word
+unfolding read_op op_by op_word op_front
 op_back (Epoch next stamp) is =
-    let small_next : next < 2 ^ 64 = omega (arith, is.0.1) in
-    let small_stamp : stamp < 2 ^ 64 = omega (arith, is.1.1) in
-    ap read_op (cut_joined 32 (codes "epoch") ((codes "next=" ++ decimal next) ∷ (codes "stamp=" ++ decimal stamp) ∷ [])
-    (refl, (number_lacks 32 next refl small_next, (number_lacks 32 stamp refl small_stamp, tt))))
-    ∙ rw (number_back next small_next, number_back stamp small_stamp) refl
+    ap read_op (cut_words (codes "epoch") ((codes "next=" ++ decimal next) ∷ (codes "stamp=" ++ decimal stamp) ∷ []) (op_are (Epoch next stamp) is))
+    ∙ rw (number_back next (omega (arith, is.0.1)), number_back stamp (omega (arith, is.1.1))) refl
 op_back (App id submission) is =
-    ap read_op (cut_with_last (codes "app") (app_text id ∷ (codes "user=" ++ submission.user) ∷ submission_front submission) (codes "modify=") submission.modify
-    (refl, (app_lacks 32 id refl is.0, (text_lacks Name 32 submission.user refl is.1.user, submission_lacks submission is.1))))
+    ap read_op (cut_with_last (codes "app") (app_text id ∷ (codes "user=" ++ submission.user) ∷ submission_front submission) (codes "modify=") submission.modify (op_are (App id submission) is))
     ∙ rw (app_back id is.0, submission_back submission is.1) refl
 op_back (Attempt id master node) is =
-    ap read_op (cut_joined 32 (codes "attempt") (attempt_text id ∷ (codes "master=" ++ container_text master) ∷ (codes "node=" ++ node) ∷ [])
-    (refl, (attempt_lacks 32 id refl is.0, (container_lacks 32 master refl is.1.container, (text_lacks Node 32 node refl is.2, tt)))))
+    ap read_op (cut_words (codes "attempt") (attempt_text id ∷ (codes "master=" ++ container_text master) ∷ (codes "node=" ++ node) ∷ []) (op_are (Attempt id master node) is))
     ∙ rw (attempt_back id is.0, container_back master is.1.container) refl
 op_back (AttemptEnd id how text) is =
-    ap read_op (cut_joined_last 32 (codes "attempt-end" ∷ attempt_text id ∷ how_text how ∷ []) (codes "text=" ++ text)
-    (refl, (attempt_lacks 32 id refl is.0, (how_lacks how, tt))))
+    ap read_op (cut_words_last (codes "attempt-end" ∷ attempt_text id ∷ how_text how ∷ []) (codes "text=" ++ text) (op_are (AttemptEnd id how text) is))
     ∙ rw (attempt_back id is.0, how_back how, last_back (codes "text=") text) refl
 op_back (AppEnd id how text) is =
-    ap read_op (cut_joined_last 32 (codes "app-end" ∷ app_text id ∷ how_text how ∷ []) (codes "text=" ++ text)
-    (refl, (app_lacks 32 id refl is.0, (how_lacks how, tt))))
+    ap read_op (cut_words_last (codes "app-end" ∷ app_text id ∷ how_text how ∷ []) (codes "text=" ++ text) (op_are (AppEnd id how text) is))
     ∙ rw (app_back id is.0, how_back how, last_back (codes "text=") text) refl
-op_back (Remove id) is =
-    ap read_op (cut_joined 32 (codes "remove") (app_text id ∷ []) (refl, (app_lacks 32 id refl is, tt))) ∙ rw (app_back id is) refl
+op_back (Remove id) is = ap read_op (cut_words (codes "remove") (app_text id ∷ []) (op_are (Remove id) is)) ∙ rw (app_back id is) refl
+
+-- no line feed stands in an operation's words
+pub op_lacks_feed : (op : Op) → CanBeFramed op → EachLacks 10 (op_words op)
+unfolding op_front
+op_lacks_feed (Epoch next stamp) is = words_lack 10 (op_words (Epoch next stamp)) refl (op_are (Epoch next stamp) is)
+op_lacks_feed (App id submission) is =
+    EachLacks-append 10 (op_front (App id submission)) (text_word (codes "modify=") submission.modify) (words_lack 10 (op_front (App id submission)) refl (op_are (App id submission) is))
+    (last_lacks 10 (codes "modify=") submission.modify refl (text_lacks AclText 10 submission.modify refl is.1.modify))
+op_lacks_feed (Attempt id master node) is = words_lack 10 (op_words (Attempt id master node)) refl (op_are (Attempt id master node) is)
+op_lacks_feed (AttemptEnd id how text) is =
+    EachLacks-append 10 (op_front (AttemptEnd id how text)) ((codes "text=" ++ text) ∷ []) (words_lack 10 (op_front (AttemptEnd id how text)) refl (op_are (AttemptEnd id how text) is))
+    (text_lacks Note 10 text refl is.1, tt)
+op_lacks_feed (AppEnd id how text) is =
+    EachLacks-append 10 (op_front (AppEnd id how text)) ((codes "text=" ++ text) ∷ []) (words_lack 10 (op_front (AppEnd id how text)) refl (op_are (AppEnd id how text) is))
+    (text_lacks Note 10 text refl is.1, tt)
+op_lacks_feed (Remove id) is = words_lack 10 (op_words (Remove id)) refl (op_are (Remove id) is)
 
 pub ops_apart : (a b : Op) → CanBeFramed a → CanBeFramed b → op_text a ≡ op_text b → a ≡ b
 ops_apart a b is_a is_b e = sym (op_back a is_a) ∙ ap (λ (text : List ℕ). read_op (cut 32 text)) e ∙ op_back b is_b
