@@ -4,3 +4,4 @@ pub mod ReadIds
 pub mod ReadOperations
 pub mod ReadLists
 pub mod ReadMessages
+pub mod ReadReplies
