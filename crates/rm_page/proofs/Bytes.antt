@@ -1,12 +1,12 @@
 -- Bytes that stand in no text of a kind, and texts that are cut at such a byte.
 use Rattle.std.proofs.Common.{◌≡◌, ℕ, zero, suc, ◌+◌, ◌-◌, ◌^◌, ◌<◌, ◌≤◌, Bool, true, false, not, cond, ◌&&◌, ◌||◌, eqb, ltb, leb, List, [], ◌∷◌, ◌++◌, length, replicate, Option, Some, None, refl, sym, ap, subst, ◌∙◌, arith}
 use Rattle.std.specs.Fmt.{decimal}
-use Rattle.std.specs.List.{AllByRecursion, join_with_byte, slice_split, position_or_len}
+use Rattle.std.specs.List.{AllByRecursion, join_with_byte, slice_split, onto_first, position_or_len}
 use Rattle.std.proofs.lemmas.Bool.{and_parts, not-true, ne_eqb, eq-eqb, eqb-true, ltb-false, le-leb, true≢false}
 use Rattle.std.proofs.lemmas.Fmt.{digits_decimal, digits_value-decimal, length-decimal-le}
 use Rattle.std.proofs.lemmas.List.{append_assoc}
 use Rattle.std.proofs.lemmas.List.Elements.{All-from_recursion}
-use Rattle.std.proofs.lemmas.List.Splits.{slice_split_none, slice_split_at, join_with_byte-slice_split}
+use Rattle.std.proofs.lemmas.List.Splits.{slice_split_none, slice_split_at, length-slice_split, join_with_byte-slice_split}
 use Rattle.rm_types.specs.declared.texts.TextKind.{TextKind}
 use Rattle.rm_types.specs.declared.texts.TextKind.TheVariants.{Name, Node, Queue}
 use Rattle.rm_types.specs.Frames.{IsText}
@@ -143,6 +143,21 @@ cut_at byte piece rest h =
 -- the last piece is what is left
 pub cut_last : (byte : ℕ) (piece : List ℕ) → lacks byte piece ≡ true → cut byte piece ≡ piece ∷ []
 cut_last byte piece h = slice_split_none (λ one. eqb one byte) piece (All-from_recursion (λ one. eqb one byte ≡ false) piece (by_recursion byte piece h))
+
+onto_first-append : (byte : ℕ) (pieces more : List (List ℕ)) → 0 < length pieces → onto_first byte (pieces ++ more) ≡ onto_first byte pieces ++ more
+onto_first-append byte [] more some = absurd (omega arith)
+onto_first-append byte (piece ∷ pieces) more some = refl
+
+-- a text in two halves with the byte between them comes in the pieces of the two
+pub cut-append : (byte : ℕ) (front back : List ℕ) → cut byte (front ++ byte ∷ back) ≡ cut byte front ++ cut byte back
+cut-append byte [] back = cut_at byte [] back refl
+cut-append byte (one ∷ front) back =
+    elim (eqb one byte) as (λ b. cond b ([] ∷ cut byte (front ++ byte ∷ back)) (onto_first one (cut byte (front ++ byte ∷ back))) ≡ cond b ([] ∷ cut byte front) (onto_first one (cut byte front)) ++ cut byte back) [
+      | true ↦ ap (λ (ps : List (List ℕ)). [] ∷ ps) (cut-append byte front back)
+      | false ↦
+          ap (onto_first one) (cut-append byte front back)
+          ∙ onto_first-append one (cut byte front) (cut byte back) (omega (arith, length-slice_split (λ b. eqb b byte) front))
+    ]
 
 -- the pieces put together are the text
 pub join_cut : (byte : ℕ) (text : List ℕ) → join_with_byte byte (cut byte text) ≡ text

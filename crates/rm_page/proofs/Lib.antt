@@ -5,3 +5,4 @@ pub mod ReadOperations
 pub mod ReadLists
 pub mod ReadMessages
 pub mod ReadReplies
+pub mod ReadEntries

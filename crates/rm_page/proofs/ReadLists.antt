@@ -85,16 +85,16 @@ listed_word text read keep items all = listed_word_by text read keep items (recu
 
 -- ---- lists in brackets
 
-without_last : List ℕ → List ℕ
+pub without_last : {X : Type 0} → List X → List X
 without_last [] = []
-without_last (byte ∷ []) = []
-without_last (byte ∷ next ∷ bytes) = byte ∷ without_last (next ∷ bytes)
+without_last (item ∷ []) = []
+without_last (item ∷ next ∷ items) = item ∷ without_last (next ∷ items)
 
-without_last-push : (bytes : List ℕ) (last : ℕ) → without_last (bytes ++ last ∷ []) ≡ bytes
+pub without_last-push : {X : Type 0} (items : List X) (last : X) → without_last (items ++ last ∷ []) ≡ items
 unfolding without_last
 without_last-push [] last = refl
-without_last-push (byte ∷ []) last = refl
-without_last-push (byte ∷ next ∷ bytes) last = ap (λ (bs : List ℕ). byte ∷ bs) (without_last-push (next ∷ bytes) last)
+without_last-push (item ∷ []) last = refl
+without_last-push {X} (item ∷ next ∷ items) last = ap (λ (others : List X). item ∷ others) (without_last-push (next ∷ items) last)
 
 -- the items of a list in brackets, behind a label that ends with the first bracket
 pub read_bracketed : {Y : Type 0} → (List ℕ → Y) → List ℕ → List ℕ → List Y

@@ -116,7 +116,7 @@ pub ids_back : (ids : List ContainerId) → All IsContainerId ids → All (Comes
 ids_back ids all = All-weaker IsContainerId (ComesBack container_text read_container (λ x. x)) containers_come_back ids all
 
 -- the words of a message but a text in which spaces may stand
-pub message_front : Message → List (List ℕ)
+unfoldable pub message_front : Message → List (List ℕ)
 message_front (Client user (Submit id submission)) = codes "client" ∷ user ∷ codes "submit" ∷ app_text id ∷ submission_front submission
 message_front (Master attempt (Finish text)) = codes "master" ∷ attempt_text attempt ∷ codes "finish" ∷ []
 message_front message = message_words message
@@ -148,7 +148,7 @@ message_are (Clock (ExpireNode node)) is = (refl, (refl, (refl, (node_word node 
 message_are (Clock (ExpireMaster attempt)) is = (refl, (refl, (refl, (attempt_word attempt is, tt))))
 
 -- the pieces of a message's text
-pub message_pieces : Message → List (List ℕ)
+unfoldable pub message_pieces : Message → List (List ℕ)
 message_pieces (Client user (Submit id submission)) = codes "client" ∷ user ∷ codes "submit" ∷ app_text id ∷ submission_pieces submission
 message_pieces (Master attempt (Finish text)) = codes "master" ∷ attempt_text attempt ∷ codes "finish" ∷ cut 32 text
 message_pieces message = message_words message
@@ -198,30 +198,30 @@ message_lacks_feed (Clock ask) is = words_lack 10 (message_words (Clock ask)) re
 
 -- ---- and come back
 
-pieces_back : (message : Message) → IsMessage message → read_message (message_pieces message) ≡ message
+pub message_pieces_back : (message : Message) → IsMessage message → read_message (message_pieces message) ≡ message
 unfolding read_message message_by keyword client_by master_by node_by clock_by expire_by message_pieces
-pieces_back (Client user New) is = refl
-pieces_back (Client user (Submit id submission)) is =
+message_pieces_back (Client user New) is = refl
+message_pieces_back (Client user (Submit id submission)) is =
     rw (app_back id is.1.0) (ap (λ (s : Submission). Client user (Submit id s)) (ap (λ (name : List ℕ). read_submission name (submission_pieces submission)) (sym is.1.2) ∙ submission_back submission is.1.1))
-pieces_back (Client user (Report id)) is = rw (app_back id is.1) refl
-pieces_back (Client user (Kill id)) is = rw (app_back id is.1) refl
-pieces_back (Master attempt Register) is = rw (attempt_back attempt is.0) refl
-pieces_back (Master attempt (Finish text)) is = rw (attempt_back attempt is.0, join_cut 32 text) refl
-pieces_back (Master attempt (Allocate id asks release)) is =
+message_pieces_back (Client user (Report id)) is = rw (app_back id is.1) refl
+message_pieces_back (Client user (Kill id)) is = rw (app_back id is.1) refl
+message_pieces_back (Master attempt Register) is = rw (attempt_back attempt is.0) refl
+message_pieces_back (Master attempt (Finish text)) is = rw (attempt_back attempt is.0, join_cut 32 text) refl
+message_pieces_back (Master attempt (Allocate id asks release)) is =
     rw (attempt_back attempt is.0, number_back id (omega (arith, is.1.0)), ask_word (map ask_text asks) (map container_text release), release_word (map ask_text asks) (map container_text release),
       whole_list_back ask_text read_ask asks (asks_back asks is.1.1), whole_list_back container_text read_container release (ids_back release is.1.2)) refl
-pieces_back (Node node (Join turn capability running)) is =
+message_pieces_back (Node node (Join turn capability running)) is =
     rw (number_back turn (omega (arith, is.1.0)), number_back capability.memory_mb (omega (arith, is.1.1.0)), number_back capability.vcores (omega (arith, is.1.1.1)), lone_running_word (map held_text running),
       whole_list_back held_text read_held running (helds_back running is.1.2)) refl
-pieces_back (Node node (Beat id running done)) is =
+message_pieces_back (Node node (Beat id running done)) is =
     rw (number_back id (omega (arith, is.1.0)), running_word (map held_text running) (map container_text done), done_word (map held_text running) (map container_text done),
       whole_list_back held_text read_held running (helds_back running is.1.1), whole_list_back container_text read_container done (ids_back done is.1.2)) refl
-pieces_back (Clock (Tick time)) is = rw (number_back time is) refl
-pieces_back (Clock (ExpireNode node)) is = refl
-pieces_back (Clock (ExpireMaster attempt)) is = rw (attempt_back attempt is) refl
+message_pieces_back (Clock (Tick time)) is = rw (number_back time is) refl
+message_pieces_back (Clock (ExpireNode node)) is = refl
+message_pieces_back (Clock (ExpireMaster attempt)) is = rw (attempt_back attempt is) refl
 
 pub message_back : (message : Message) → IsMessage message → read_message (cut 32 (message_text message)) ≡ message
-message_back message is = ap read_message (cut_message message is) ∙ pieces_back message is
+message_back message is = ap read_message (cut_message message is) ∙ message_pieces_back message is
 
 pub messages_apart : (a b : Message) → IsMessage a → IsMessage b → message_text a ≡ message_text b → a ≡ b
 messages_apart a b is_a is_b e = sym (message_back a is_a) ∙ ap (λ (text : List ℕ). read_message (cut 32 text)) e ∙ message_back b is_b

@@ -165,7 +165,7 @@ report_front report =
     ∷ []
 
 -- the words of a reply but a text in which spaces may stand
-pub reply_front : Reply → List (List ℕ)
+unfoldable pub reply_front : Reply → List (List ℕ)
 reply_front (replies.Report report) = report_front report
 reply_front reply = reply_words reply
 
@@ -204,7 +204,7 @@ reply_are replies.Finished is = (refl, tt)
 reply_are replies.Ok is = (refl, tt)
 
 -- the pieces of a reply's text
-pub reply_pieces : Reply → List (List ℕ)
+unfoldable pub reply_pieces : Reply → List (List ℕ)
 reply_pieces (replies.Report report) = report_front report ++ cut 32 (codes "text=" ++ report.text)
 reply_pieces reply = reply_words reply
 
@@ -250,41 +250,41 @@ reply_lacks_feed reply is = words_lack 10 (reply_words reply) refl (reply_are re
 
 -- ---- and come back
 
-pieces_back : (reply : Reply) → IsReply reply → read_reply (reply_pieces reply) ≡ shown_reply reply
+pub reply_pieces_back : (reply : Reply) → IsReply reply → read_reply (reply_pieces reply) ≡ shown_reply reply
 unfolding read_reply reply_by keyword read_plain reply_pieces
-pieces_back (replies.New id) is = rw (app_back id is) refl
-pieces_back (replies.Denied denial) is = rw (acl_op_back denial.op, names_back denial.lists is.lists) refl
-pieces_back (replies.Report report) is =
+reply_pieces_back (replies.New id) is = rw (app_back id is) refl
+reply_pieces_back (replies.Denied denial) is = rw (acl_op_back denial.op, names_back denial.lists is.lists) refl
+reply_pieces_back (replies.Report report) is =
     rw (state_back report.state, number_back report.attempts (omega (arith, is.attempts)), number_back report.live (omega (arith, is.live)), last_back (codes "text=") report.text) refl
-pieces_back (replies.Allocated id grants ended) is =
+reply_pieces_back (replies.Allocated id grants ended) is =
     rw (number_back id (omega (arith, is.0)), bracketed_back grant_text read_grant told_grant (codes "grants=[") grants (grants_back grants is.1),
       bracketed_back closing_text read_closing (λ x. x) (codes "ended=[") ended (closings_back ended is.2), map-id ended) refl
-pieces_back (replies.NodeRegistered turn epoch) is = rw (number_back turn (omega (arith, is.0)), number_back epoch (omega (arith, is.1))) refl
-pieces_back (replies.Beat id launch clean) is =
+reply_pieces_back (replies.NodeRegistered turn epoch) is = rw (number_back turn (omega (arith, is.0)), number_back epoch (omega (arith, is.1))) refl
+reply_pieces_back (replies.Beat id launch clean) is =
     rw (number_back id (omega (arith, is.0)), bracketed_back container_text read_container (λ x. x) (codes "launch=[") launch (ids_back launch is.1),
       bracketed_back container_text read_container (λ x. x) (codes "clean=[") clean (ids_back clean is.2), map-id launch, map-id clean) refl
-pieces_back replies.NotOpen is = refl
-pieces_back replies.Submitted is = refl
-pieces_back replies.BadId is = refl
-pieces_back replies.Retired is = refl
-pieces_back replies.NoQueue is = refl
-pieces_back replies.TooLarge is = refl
-pieces_back replies.Full is = refl
-pieces_back replies.Unknown is = refl
-pieces_back replies.Killing is = refl
-pieces_back replies.AppEnded is = refl
-pieces_back replies.MasterRegistered is = refl
-pieces_back replies.Already is = refl
-pieces_back replies.Gone is = refl
-pieces_back replies.Resync is = refl
-pieces_back replies.WrongId is = refl
-pieces_back replies.NotRegistered is = refl
-pieces_back replies.Finishing is = refl
-pieces_back replies.Finished is = refl
-pieces_back replies.Ok is = refl
+reply_pieces_back replies.NotOpen is = refl
+reply_pieces_back replies.Submitted is = refl
+reply_pieces_back replies.BadId is = refl
+reply_pieces_back replies.Retired is = refl
+reply_pieces_back replies.NoQueue is = refl
+reply_pieces_back replies.TooLarge is = refl
+reply_pieces_back replies.Full is = refl
+reply_pieces_back replies.Unknown is = refl
+reply_pieces_back replies.Killing is = refl
+reply_pieces_back replies.AppEnded is = refl
+reply_pieces_back replies.MasterRegistered is = refl
+reply_pieces_back replies.Already is = refl
+reply_pieces_back replies.Gone is = refl
+reply_pieces_back replies.Resync is = refl
+reply_pieces_back replies.WrongId is = refl
+reply_pieces_back replies.NotRegistered is = refl
+reply_pieces_back replies.Finishing is = refl
+reply_pieces_back replies.Finished is = refl
+reply_pieces_back replies.Ok is = refl
 
 pub reply_back : (reply : Reply) → IsReply reply → read_reply (cut 32 (reply_text reply)) ≡ shown_reply reply
-reply_back reply is = ap read_reply (cut_reply reply is) ∙ pieces_back reply is
+reply_back reply is = ap read_reply (cut_reply reply is) ∙ reply_pieces_back reply is
 
 -- items have the same texts where what is left out isn't shown
 pub same_texts : {X Y : Type 0} (text : X → List ℕ) (shown : Y → X) (whole : Y → List ℕ) (items : List Y) → ((item : Y) → text (shown item) ≡ whole item)
