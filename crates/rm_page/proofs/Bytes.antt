@@ -1,17 +1,16 @@
 -- Bytes that stand in no text of a kind, and texts that are cut at such a byte.
-use Rattle.std.proofs.Common.{◌≡◌, ℕ, zero, suc, ◌+◌, ◌-◌, ◌^◌, ◌<◌, ◌≤◌, Bool, true, false, not, cond, ◌&&◌, ◌||◌, eqb, ltb, leb, List, [], ◌∷◌, ◌++◌, length, replicate, Option, Some, None, refl, sym, ap, subst, ◌∙◌, arith}
+use Rattle.std.proofs.Common.{◌≡◌, ℕ, ◌+◌, ◌^◌, ◌<◌, ◌≤◌, Bool, true, false, not, cond, ◌&&◌, ◌||◌, eqb, ltb, leb, List, [], ◌∷◌, ◌++◌, length, Option, Some, None, refl, sym, ap, subst, ◌∙◌, arith}
 use Rattle.std.specs.Fmt.{decimal}
 use Rattle.std.specs.List.{AllByRecursion, join_with_byte, slice_split, onto_first, position_or_len}
-use Rattle.std.proofs.lemmas.Bool.{and_parts, not-true, ne_eqb, eq-eqb, eqb-true, ltb-false, le-leb, true≢false}
-use Rattle.std.proofs.lemmas.Fmt.{digits_decimal, digits_value-decimal, length-decimal-le}
-use Rattle.std.proofs.lemmas.List.{append_assoc}
+use Rattle.std.proofs.lemmas.Bool.{and_parts, not-true, ne_eqb, eq-eqb, ltb-false, le-leb, true≢false}
+use Rattle.std.proofs.lemmas.Fmt.{digits_decimal, digits_value-decimal}
 use Rattle.std.proofs.lemmas.List.Elements.{All-from_recursion}
 use Rattle.std.proofs.lemmas.List.Splits.{slice_split_none, slice_split_at, length-slice_split, join_with_byte-slice_split}
 use Rattle.rm_types.specs.declared.texts.TextKind.{TextKind}
 use Rattle.rm_types.specs.declared.texts.TextKind.TheVariants.{Name, Node, Queue}
 use Rattle.rm_types.specs.Frames.{IsText}
 use Rattle.rm_types.specs.IdTexts.{padded}
-use Rattle.rm_types.specs.Texts.{is_allowed, is_digit, fault_of, least_length, greatest_length, first_not_allowed}
+use Rattle.rm_types.specs.Texts.{is_allowed, is_digit, least_length, greatest_length, first_not_allowed}
 use Rattle.rm_ids.specs.Digits.{IsDigit, AreDigits, value_of}
 use Rattle.rm_ids.proofs.Digits.{own, padded_is_digits}
 

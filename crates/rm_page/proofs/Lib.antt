@@ -6,3 +6,4 @@ pub mod ReadLists
 pub mod ReadMessages
 pub mod ReadReplies
 pub mod ReadEntries
+pub mod ReadPages

@@ -1,5 +1,5 @@
 -- Entries, read back from their lines.
-use Rattle.std.proofs.Common.{◌≡◌, ℕ, ◌^◌, ◌<◌, Bool, true, false, cond, ◌||◌, List, [], ◌∷◌, ◌++◌, length, map, All, refl, sym, ap, subst, ◌∙◌, arith, codes}
+use Rattle.std.proofs.Common.{◌≡◌, ℕ, Bool, true, false, cond, ◌||◌, List, [], ◌∷◌, ◌++◌, map, All, refl, sym, ap, ◌∙◌, arith, codes}
 use Rattle.std.specs.Prelude.{◌↔◌}
 use Rattle.std.specs.Fmt.{decimal}
 use Rattle.std.specs.Str.{bytes_eq}
@@ -27,7 +27,7 @@ use Rattle.rm_types.specs.IdTexts.{app_text, attempt_text, container_text}
 use Rattle.rm_types.specs.Lists.{is_nil}
 use Rattle.rm_model.specs.Page.{line, line_of}
 use Rattle.rm_model.specs.Replies.{sender_of}
-use Rattle.rm_model.specs.Wording.{spaced, bracketed, cause_text, message_words, message_text, op_words, op_text, reply_words, reply_text}
+use Rattle.rm_model.specs.Wording.{spaced, bracketed, cause_text, message_words, message_text, op_words, reply_words}
 use Rattle.rm_ids.specs.Digits.{value_of}
 use Rattle.rm_page.specs.Ranges.{IsEntry, IsServed, IsMessage, IsHeld, IsGrant, AsksForReport}
 use Rattle.rm_page.specs.Shown.{listed_held, listed_grant, shown_reply, shown, is_silent}
@@ -389,11 +389,21 @@ has_line (entries.Accepted app) is heard = words_line (entries.Accepted app) (co
 has_line (entries.Queued attempt) is heard = words_line (entries.Queued attempt) (codes "queued") (attempt_text attempt ∷ []) refl (refl, (attempt_word attempt is, tt)) (rw (attempt_back attempt is) refl)
 has_line (entries.Absorbed node taken ended) is heard =
     let texts : List (List ℕ) = map (λ one. container_text one.id) taken in
-    words_line (entries.Absorbed node taken ended) (codes "absorbed") (node ∷ (codes "taken=" ++ bracketed texts) ∷ (codes "ended=" ++ bracketed (map container_text ended)) ∷ []) refl
-    (refl, (node_word node is.0, (bracketed_word (λ one. container_text one.id) read_listed_held listed_held taken (taken_back taken is.1),
-    (bracketed_word container_text read_container (λ x. x) ended (ids_back ended is.2), tt))))
-    (rw (bracketed_back (λ one. container_text one.id) read_listed_held listed_held (codes "taken=[") taken (taken_back taken is.1),
-      bracketed_back container_text read_container (λ x. x) (codes "ended=[") ended (ids_back ended is.2), map-id ended) refl)
+    words_line (entries.Absorbed node taken ended) (codes "absorbed") (node ∷ (codes "taken=" ++ bracketed texts) ∷ (codes "ended=" ++ bracketed (map container_text ended)) ∷ []) refl (
+      refl,
+      (
+        node_word node is.0,
+        (
+          bracketed_word (λ one. container_text one.id) read_listed_held listed_held taken (taken_back taken is.1),
+          (bracketed_word container_text read_container (λ x. x) ended (ids_back ended is.2), tt),
+        ),
+      ),
+    )
+    (rw (
+      bracketed_back (λ one. container_text one.id) read_listed_held listed_held (codes "taken=[") taken (taken_back taken is.1),
+      bracketed_back container_text read_container (λ x. x) (codes "ended=[") ended (ids_back ended is.2),
+      map-id ended,
+    ) refl)
 has_line (entries.Pass node grants) is heard =
     let texts : List (List ℕ) = map (λ one. container_text one.id) grants in
     words_line (entries.Pass node grants) (codes "pass") (node ∷ (codes "grants=" ++ bracketed texts) ∷ []) refl
@@ -419,10 +429,9 @@ line_of-shown entry = refl
 pub lines_show : (a b : Entry) → IsEntry a → IsEntry b → is_silent a ≡ false → is_silent b ≡ false → (line_of a ≡ line_of b) ↔ (shown a ≡ shown b)
 lines_show a b is_a is_b heard_a heard_b =
     let line_a = has_line a is_a heard_a in
-    let line_b = has_line b is_b heard_b in
-    (
+    let line_b = has_line b is_b heard_b in (
       λ e.
           let bodies : line_a.body ≡ line_b.body = sym (without_last-push line_a.body 10) ∙ ap without_last (sym line_a.same ∙ e ∙ line_b.same) ∙ without_last-push line_b.body 10 in
           sym line_a.back ∙ ap read_line bodies ∙ line_b.back,
-      λ e. sym (line_of-shown a) ∙ ap line_of e ∙ line_of-shown b
+      λ e. sym (line_of-shown a) ∙ ap line_of e ∙ line_of-shown b,
     )

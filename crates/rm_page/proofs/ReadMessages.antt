@@ -1,11 +1,10 @@
 -- Messages, read back from their texts.
-use Rattle.std.proofs.Common.{◌≡◌, ℕ, ◌^◌, ◌<◌, Bool, true, false, cond, List, [], ◌∷◌, ◌++◌, length, map, All, refl, sym, ap, ◌∙◌, arith, codes}
+use Rattle.std.proofs.Common.{◌≡◌, ℕ, cond, List, [], ◌∷◌, ◌++◌, map, All, refl, sym, ap, ◌∙◌, arith, codes}
 use Rattle.std.specs.Fmt.{decimal}
 use Rattle.std.specs.Str.{bytes_eq}
 use Rattle.std.proofs.lemmas.List.Elements.{All-weaker}
 use Rattle.rm_types.specs.declared.containers.Ask.{Ask}
 use Rattle.rm_types.specs.declared.containers.Held.{Held}
-use Rattle.rm_types.specs.declared.ids.AttemptId.{AttemptId}
 use Rattle.rm_types.specs.declared.ids.ContainerId.{ContainerId}
 use Rattle.rm_types.specs.declared.messages.ClientAsk.{ClientAsk}
 use Rattle.rm_types.specs.declared.messages.ClientAsk.TheVariants.{New, Submit, Report, Kill}
@@ -21,12 +20,12 @@ use Rattle.rm_types.specs.declared.operations.Submission.{Submission}
 use Rattle.rm_types.specs.declared.resources.Resource.{Resource}
 use Rattle.rm_types.specs.declared.texts.TextKind.TheVariants.{Note, AclText}
 use Rattle.rm_types.specs.IdTexts.{app_text, attempt_text, container_text, IsContainerId}
-use Rattle.rm_model.specs.Wording.{spaced, listed, list_word, text_word, held_text, ask_text, message_words, message_text}
+use Rattle.rm_model.specs.Wording.{spaced, list_word, text_word, held_text, ask_text, message_words, message_text}
 use Rattle.rm_ids.specs.Digits.{value_of}
 use Rattle.rm_page.specs.Ranges.{IsMessage, IsHeld, IsAsk}
-use Rattle.rm_page.proofs.Bytes.{made_of, is_word_byte, number_word, name_word, node_word, AreWords, AreWords-append, words_lack, number_back, text_lacks, cut, join_cut, EachLacks, EachLacks-append, behind}
+use Rattle.rm_page.proofs.Bytes.{number_word, name_word, node_word, AreWords, AreWords-append, words_lack, number_back, text_lacks, cut, join_cut, EachLacks, EachLacks-append, behind}
 use Rattle.rm_page.proofs.ReadIds.{read_app, read_attempt, read_container, app_word, attempt_word, app_back, attempt_back}
-use Rattle.rm_page.proofs.ReadOperations.{cut_words, cut_words_last, cut_with_last, last_pieces, last_lacks, read_submission, submission_front, submission_pieces, submission_are, submission_back}
+use Rattle.rm_page.proofs.ReadOperations.{cut_words, cut_words_last, cut_with_last, last_lacks, read_submission, submission_front, submission_pieces, submission_are, submission_back}
 use Rattle.rm_page.proofs.ReadLists.{ComesBack, read_list, whole_list_back, list_word_is, word_at, ask_word, release_word, running_word, done_word, lone_running_word, read_ask, ask_comes_back, read_held, held_comes_back, containers_come_back}
 
 -- ---- how they are read
@@ -129,20 +128,55 @@ message_are (Client user (Report id)) is = (refl, (name_word user is.0, (refl, (
 message_are (Client user (Kill id)) is = (refl, (name_word user is.0, (refl, (app_word id is.1, tt))))
 message_are (Master attempt Register) is = (refl, (attempt_word attempt is.0, (refl, tt)))
 message_are (Master attempt (Finish text)) is = (refl, (attempt_word attempt is.0, (refl, tt)))
-message_are (Master attempt (Allocate id asks release)) is =
-    (refl, (attempt_word attempt is.0, (refl, (number_word id (omega (arith, is.1.0)),
-    AreWords-append (list_word (codes "ask=") (map ask_text asks)) (list_word (codes "release=") (map container_text release))
-    (list_word_is ask_text read_ask (λ x. x) (codes "ask=") asks refl (asks_back asks is.1.1))
-    (list_word_is container_text read_container (λ x. x) (codes "release=") release refl (ids_back release is.1.2))))))
-message_are (Node node (Join turn capability running)) is =
-    (refl, (node_word node is.0, (refl, (number_word turn (omega (arith, is.1.0)),
-    (number_word capability.memory_mb (omega (arith, is.1.1.0)), (number_word capability.vcores (omega (arith, is.1.1.1)),
-    list_word_is held_text read_held (λ x. x) (codes "running=") running refl (helds_back running is.1.2)))))))
-message_are (Node node (Beat id running done)) is =
-    (refl, (node_word node is.0, (refl, (number_word id (omega (arith, is.1.0)),
-    AreWords-append (list_word (codes "running=") (map held_text running)) (list_word (codes "done=") (map container_text done))
-    (list_word_is held_text read_held (λ x. x) (codes "running=") running refl (helds_back running is.1.1))
-    (list_word_is container_text read_container (λ x. x) (codes "done=") done refl (ids_back done is.1.2))))))
+message_are (Master attempt (Allocate id asks release)) is = (
+  refl,
+  (
+    attempt_word attempt is.0,
+    (
+      refl,
+      (
+        number_word id (omega (arith, is.1.0)),
+        AreWords-append (list_word (codes "ask=") (map ask_text asks)) (list_word (codes "release=") (map container_text release))
+            (list_word_is ask_text read_ask (λ x. x) (codes "ask=") asks refl (asks_back asks is.1.1))
+            (list_word_is container_text read_container (λ x. x) (codes "release=") release refl (ids_back release is.1.2)),
+      ),
+    ),
+  ),
+)
+message_are (Node node (Join turn capability running)) is = (
+  refl,
+  (
+    node_word node is.0,
+    (
+      refl,
+      (
+        number_word turn (omega (arith, is.1.0)),
+        (
+          number_word capability.memory_mb (omega (arith, is.1.1.0)),
+          (
+            number_word capability.vcores (omega (arith, is.1.1.1)),
+            list_word_is held_text read_held (λ x. x) (codes "running=") running refl (helds_back running is.1.2),
+          ),
+        ),
+      ),
+    ),
+  ),
+)
+message_are (Node node (Beat id running done)) is = (
+  refl,
+  (
+    node_word node is.0,
+    (
+      refl,
+      (
+        number_word id (omega (arith, is.1.0)),
+        AreWords-append (list_word (codes "running=") (map held_text running)) (list_word (codes "done=") (map container_text done))
+            (list_word_is held_text read_held (λ x. x) (codes "running=") running refl (helds_back running is.1.1))
+            (list_word_is container_text read_container (λ x. x) (codes "done=") done refl (ids_back done is.1.2)),
+      ),
+    ),
+  ),
+)
 message_are (Clock (Tick time)) is = (refl, (refl, (number_word time is, tt)))
 message_are (Clock (ExpireNode node)) is = (refl, (refl, (refl, (node_word node is, tt))))
 message_are (Clock (ExpireMaster attempt)) is = (refl, (refl, (refl, (attempt_word attempt is, tt))))
@@ -208,14 +242,30 @@ message_pieces_back (Client user (Kill id)) is = rw (app_back id is.1) refl
 message_pieces_back (Master attempt Register) is = rw (attempt_back attempt is.0) refl
 message_pieces_back (Master attempt (Finish text)) is = rw (attempt_back attempt is.0, join_cut 32 text) refl
 message_pieces_back (Master attempt (Allocate id asks release)) is =
-    rw (attempt_back attempt is.0, number_back id (omega (arith, is.1.0)), ask_word (map ask_text asks) (map container_text release), release_word (map ask_text asks) (map container_text release),
-      whole_list_back ask_text read_ask asks (asks_back asks is.1.1), whole_list_back container_text read_container release (ids_back release is.1.2)) refl
+    rw (
+      attempt_back attempt is.0,
+      number_back id (omega (arith, is.1.0)),
+      ask_word (map ask_text asks) (map container_text release),
+      release_word (map ask_text asks) (map container_text release),
+      whole_list_back ask_text read_ask asks (asks_back asks is.1.1),
+      whole_list_back container_text read_container release (ids_back release is.1.2),
+    ) refl
 message_pieces_back (Node node (Join turn capability running)) is =
-    rw (number_back turn (omega (arith, is.1.0)), number_back capability.memory_mb (omega (arith, is.1.1.0)), number_back capability.vcores (omega (arith, is.1.1.1)), lone_running_word (map held_text running),
-      whole_list_back held_text read_held running (helds_back running is.1.2)) refl
+    rw (
+      number_back turn (omega (arith, is.1.0)),
+      number_back capability.memory_mb (omega (arith, is.1.1.0)),
+      number_back capability.vcores (omega (arith, is.1.1.1)),
+      lone_running_word (map held_text running),
+      whole_list_back held_text read_held running (helds_back running is.1.2),
+    ) refl
 message_pieces_back (Node node (Beat id running done)) is =
-    rw (number_back id (omega (arith, is.1.0)), running_word (map held_text running) (map container_text done), done_word (map held_text running) (map container_text done),
-      whole_list_back held_text read_held running (helds_back running is.1.1), whole_list_back container_text read_container done (ids_back done is.1.2)) refl
+    rw (
+      number_back id (omega (arith, is.1.0)),
+      running_word (map held_text running) (map container_text done),
+      done_word (map held_text running) (map container_text done),
+      whole_list_back held_text read_held running (helds_back running is.1.1),
+      whole_list_back container_text read_container done (ids_back done is.1.2),
+    ) refl
 message_pieces_back (Clock (Tick time)) is = rw (number_back time is) refl
 message_pieces_back (Clock (ExpireNode node)) is = refl
 message_pieces_back (Clock (ExpireMaster attempt)) is = rw (attempt_back attempt is) refl

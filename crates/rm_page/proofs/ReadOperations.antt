@@ -1,21 +1,17 @@
 -- Store operations, read back from their texts.
-use Rattle.std.proofs.Common.{◌≡◌, ℕ, ◌^◌, ◌<◌, Bool, true, false, cond, List, [], ◌∷◌, ◌++◌, refl, sym, ap, ◌∙◌, arith, codes}
+use Rattle.std.proofs.Common.{◌≡◌, ℕ, true, cond, List, [], ◌∷◌, ◌++◌, refl, sym, ap, ◌∙◌, arith, codes}
 use Rattle.std.specs.Fmt.{decimal}
 use Rattle.std.specs.Str.{bytes_eq}
-use Rattle.std.specs.List.{join_with_byte}
 use Rattle.std.proofs.lemmas.List.{append-nil}
-use Rattle.rm_types.specs.declared.ids.AppId.{AppId}
-use Rattle.rm_types.specs.declared.ids.AttemptId.{AttemptId}
-use Rattle.rm_types.specs.declared.ids.ContainerId.{ContainerId}
 use Rattle.rm_types.specs.declared.operations.How.{How}
 use Rattle.rm_types.specs.declared.operations.How.TheVariants.{Finished, Failed, Killed}
 use Rattle.rm_types.specs.declared.operations.Op.{Op}
 use Rattle.rm_types.specs.declared.operations.Op.TheVariants.{Epoch, App, Attempt, AttemptEnd, AppEnd, Remove}
 use Rattle.rm_types.specs.declared.operations.Submission.{Submission}
 use Rattle.rm_types.specs.declared.texts.TextKind.TheVariants.{Note, AclText}
-use Rattle.rm_types.specs.Frames.{IsText, IsSubmission, CanBeFramed}
-use Rattle.rm_types.specs.IdTexts.{app_text, attempt_text, container_text, IsAppId, IsAttemptId}
-use Rattle.rm_model.specs.Wording.{spaced, text_word, submission_words, how_text, op_words, op_text}
+use Rattle.rm_types.specs.Frames.{IsSubmission, CanBeFramed}
+use Rattle.rm_types.specs.IdTexts.{app_text, attempt_text, container_text}
+use Rattle.rm_model.specs.Wording.{spaced, text_word, how_text, op_words, op_text}
 use Rattle.rm_ids.specs.Digits.{value_of}
 use Rattle.rm_page.proofs.Bytes.{made_of, lacks, lacks-append, is_word_byte, number_word, name_word, node_word, queue_word, AreWords, words_lack, number_back, text_lacks, cut, cut_joined, cut_joined_last, join_cut, EachLacks, EachLacks-append, behind, behind_is}
 use Rattle.rm_page.proofs.ReadIds.{read_app, read_attempt, read_container, app_word, attempt_word, container_word, app_back, attempt_back, container_back}
@@ -93,12 +89,19 @@ submission_front submission =
     ∷ []
 
 pub submission_are : (submission : Submission) → IsSubmission submission → AreWords (submission_front submission)
-submission_are submission is =
-    (queue_word submission.queue is.queue,
-    (name_word submission.name is.name,
-    (number_word submission.master.memory_mb (omega (arith, is.memory_mb.1)),
-    (number_word submission.master.vcores (omega (arith, is.vcores.1)),
-    (number_word submission.attempts (omega (arith, is.attempts.1)), tt)))))
+submission_are submission is = (
+  queue_word submission.queue is.queue,
+  (
+    name_word submission.name is.name,
+    (
+      number_word submission.master.memory_mb (omega (arith, is.memory_mb.1)),
+      (
+        number_word submission.master.vcores (omega (arith, is.vcores.1)),
+        (number_word submission.attempts (omega (arith, is.attempts.1)), tt),
+      ),
+    ),
+  ),
+)
 
 pub submission_back : (submission : Submission) → IsSubmission submission → read_submission submission.user (submission_pieces submission) ≡ submission
 unfolding read_submission

@@ -1,5 +1,5 @@
 -- Replies, read back from their texts.
-use Rattle.std.proofs.Common.{◌≡◌, ℕ, ◌^◌, ◌<◌, Bool, true, false, cond, List, [], ◌∷◌, ◌++◌, length, map, All, refl, sym, ap, subst, ◌∙◌, arith, codes}
+use Rattle.std.proofs.Common.{◌≡◌, ℕ, true, cond, List, [], ◌∷◌, ◌++◌, map, All, refl, sym, ap, ◌∙◌, arith, codes}
 use Rattle.std.specs.Prelude.{◌↔◌}
 use Rattle.std.specs.Fmt.{decimal}
 use Rattle.std.specs.Str.{bytes_eq}
@@ -7,11 +7,8 @@ use Rattle.std.proofs.lemmas.List.{map-id}
 use Rattle.std.proofs.lemmas.List.Elements.{All-weaker}
 use Rattle.rm_types.specs.declared.containers.Closing.{Closing}
 use Rattle.rm_types.specs.declared.containers.Grant.{Grant}
-use Rattle.rm_types.specs.declared.ids.AppId.{AppId}
-use Rattle.rm_types.specs.declared.ids.ContainerId.{ContainerId}
 use Rattle.rm_types.specs.declared.replies.AclOp.{AclOp}
 use Rattle.rm_types.specs.declared.replies.AclOp.TheVariants.{Submit as ToSubmit, Kill as ToKill}
-use Rattle.rm_types.specs.declared.replies.Denial.{Denial}
 use Rattle.rm_types.specs.declared.replies.Report.{Report as ReportOf}
 use Rattle.rm_types.specs.declared.replies.Reply.{Reply}
 use Rattle.rm_types.specs.declared.replies.Reply.TheVariants as replies
@@ -22,7 +19,7 @@ use Rattle.rm_types.specs.Frames.{IsText}
 use Rattle.rm_types.specs.IdTexts.{app_text, container_text}
 use Rattle.rm_model.specs.Wording.{spaced, listed, bracketed, acl_op_text, state_text, grant_text, closing_text, reply_words, reply_text}
 use Rattle.rm_ids.specs.Digits.{value_of}
-use Rattle.rm_page.specs.Ranges.{IsReply, IsReport, IsDenial, IsGrant, IsClosing}
+use Rattle.rm_page.specs.Ranges.{IsReply, IsGrant, IsClosing}
 use Rattle.rm_page.specs.Shown.{told_grant, shown_reply}
 use Rattle.rm_page.proofs.Bytes.{made_of, is_word_byte, number_word, name_word, queue_word, AreWords, words_lack, number_back, text_lacks, cut, EachLacks, EachLacks-append, behind}
 use Rattle.rm_page.proofs.ReadIds.{read_app, read_container, app_word, app_back}
@@ -173,16 +170,37 @@ pub reply_are : (reply : Reply) → IsReply reply → AreWords (reply_front repl
 unfolding reply_front
 reply_are (replies.New id) is = (refl, (app_word id is, tt))
 reply_are (replies.Denied denial) is = (refl, (acl_op_word denial.op, (queue_word denial.queue is.queue, (refl, (names_word denial.lists is.lists, tt)))))
-reply_are (replies.Report report) is =
-    (refl, (state_word report.state, (name_word report.user is.user, (queue_word report.queue is.queue, (name_word report.name is.name,
-    (number_word report.attempts (omega (arith, is.attempts)), (number_word report.live (omega (arith, is.live)), tt)))))))
-reply_are (replies.Allocated id grants ended) is =
-    (refl, (number_word id (omega (arith, is.0)),
-    (bracketed_word grant_text read_grant told_grant grants (grants_back grants is.1), (bracketed_word closing_text read_closing (λ x. x) ended (closings_back ended is.2), tt))))
+reply_are (replies.Report report) is = (
+  refl,
+  (
+    state_word report.state,
+    (
+      name_word report.user is.user,
+      (
+        queue_word report.queue is.queue,
+        (
+          name_word report.name is.name,
+          (number_word report.attempts (omega (arith, is.attempts)), (number_word report.live (omega (arith, is.live)), tt)),
+        ),
+      ),
+    ),
+  ),
+)
+reply_are (replies.Allocated id grants ended) is = (
+  refl,
+  (
+    number_word id (omega (arith, is.0)),
+    (bracketed_word grant_text read_grant told_grant grants (grants_back grants is.1), (bracketed_word closing_text read_closing (λ x. x) ended (closings_back ended is.2), tt)),
+  ),
+)
 reply_are (replies.NodeRegistered turn epoch) is = (refl, (number_word turn (omega (arith, is.0)), (number_word epoch (omega (arith, is.1)), tt)))
-reply_are (replies.Beat id launch clean) is =
-    (refl, (number_word id (omega (arith, is.0)),
-    (bracketed_word container_text read_container (λ x. x) launch (ids_back launch is.1), (bracketed_word container_text read_container (λ x. x) clean (ids_back clean is.2), tt))))
+reply_are (replies.Beat id launch clean) is = (
+  refl,
+  (
+    number_word id (omega (arith, is.0)),
+    (bracketed_word container_text read_container (λ x. x) launch (ids_back launch is.1), (bracketed_word container_text read_container (λ x. x) clean (ids_back clean is.2), tt)),
+  ),
+)
 reply_are replies.NotOpen is = (refl, tt)
 reply_are replies.Submitted is = (refl, tt)
 reply_are replies.BadId is = (refl, tt)
@@ -257,12 +275,21 @@ reply_pieces_back (replies.Denied denial) is = rw (acl_op_back denial.op, names_
 reply_pieces_back (replies.Report report) is =
     rw (state_back report.state, number_back report.attempts (omega (arith, is.attempts)), number_back report.live (omega (arith, is.live)), last_back (codes "text=") report.text) refl
 reply_pieces_back (replies.Allocated id grants ended) is =
-    rw (number_back id (omega (arith, is.0)), bracketed_back grant_text read_grant told_grant (codes "grants=[") grants (grants_back grants is.1),
-      bracketed_back closing_text read_closing (λ x. x) (codes "ended=[") ended (closings_back ended is.2), map-id ended) refl
+    rw (
+      number_back id (omega (arith, is.0)),
+      bracketed_back grant_text read_grant told_grant (codes "grants=[") grants (grants_back grants is.1),
+      bracketed_back closing_text read_closing (λ x. x) (codes "ended=[") ended (closings_back ended is.2),
+      map-id ended,
+    ) refl
 reply_pieces_back (replies.NodeRegistered turn epoch) is = rw (number_back turn (omega (arith, is.0)), number_back epoch (omega (arith, is.1))) refl
 reply_pieces_back (replies.Beat id launch clean) is =
-    rw (number_back id (omega (arith, is.0)), bracketed_back container_text read_container (λ x. x) (codes "launch=[") launch (ids_back launch is.1),
-      bracketed_back container_text read_container (λ x. x) (codes "clean=[") clean (ids_back clean is.2), map-id launch, map-id clean) refl
+    rw (
+      number_back id (omega (arith, is.0)),
+      bracketed_back container_text read_container (λ x. x) (codes "launch=[") launch (ids_back launch is.1),
+      bracketed_back container_text read_container (λ x. x) (codes "clean=[") clean (ids_back clean is.2),
+      map-id launch,
+      map-id clean,
+    ) refl
 reply_pieces_back replies.NotOpen is = refl
 reply_pieces_back replies.Submitted is = refl
 reply_pieces_back replies.BadId is = refl
@@ -300,5 +327,5 @@ reply_words-shown reply = refl
 pub replies_show : (a b : Reply) → IsReply a → IsReply b → (reply_text a ≡ reply_text b) ↔ (shown_reply a ≡ shown_reply b)
 replies_show a b is_a is_b = (
   λ e. sym (reply_back a is_a) ∙ ap (λ (text : List ℕ). read_reply (cut 32 text)) e ∙ reply_back b is_b,
-  λ e. ap spaced (sym (reply_words-shown a) ∙ ap reply_words e ∙ reply_words-shown b)
+  λ e. ap spaced (sym (reply_words-shown a) ∙ ap reply_words e ∙ reply_words-shown b),
 )

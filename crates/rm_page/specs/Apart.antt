@@ -29,3 +29,7 @@ LinesShow = (a b : Entry) → IsEntry a → IsEntry b → is_silent a ≡ false 
 -- two logs have one page exactly where their entries with lines show the same in the same order
 abbrev pub PagesShow : Type 0
 PagesShow = (a b : List Entry) → All IsEntry a → All IsEntry b → (page a false ≡ page b false) ↔ (shown_log a ≡ shown_log b)
+
+-- with the moves, the page also tells the lane of each entry, silent ones too
+abbrev pub MovesShow : Type 0
+MovesShow = (a b : List Entry) → All IsEntry a → All IsEntry b → (page a true ≡ page b true) ↔ ((shown_log a ≡ shown_log b) × (map lane_of_entry a ≡ map lane_of_entry b))

@@ -1,9 +1,9 @@
 -- What a page shows of a value: the value without what its text leaves out.
-use Rattle.std.specs.Prelude.{List, [], ◌∷◌, Bool, true, false, not, map, filter}
+use Rattle.std.specs.Prelude.{List, [], Bool, true, false, not, map, filter}
 use Rattle.rm_types.specs.declared.containers.Grant.{Grant}
 use Rattle.rm_types.specs.declared.containers.Held.{Held}
 use Rattle.rm_types.specs.declared.entries.Entry.{Entry}
-use Rattle.rm_types.specs.declared.entries.Entry.TheVariants.{Opened, Issued, Handed, Kept, Blown, Served, Accepted, Queued, Absorbed, Pass, Ordered, Ended, Settled, Down, Quiet}
+use Rattle.rm_types.specs.declared.entries.Entry.TheVariants.{Handed, Served, Absorbed, Pass, Quiet}
 use Rattle.rm_types.specs.declared.replies.Reply.{Reply}
 use Rattle.rm_types.specs.declared.replies.Reply.TheVariants.{Allocated}
 use Rattle.rm_types.specs.declared.resources.Resource.{Resource}
