@@ -6,6 +6,7 @@
 
 mod costs;
 mod operations;
+mod page;
 mod rights;
 mod script;
 mod store;
@@ -27,9 +28,10 @@ fn run(rt: HostRuntime) -> Result<(), Stop> {
         Some(name) if name.as_str() == "rights" => rights::measure(rt),
         Some(name) if name.as_str() == "store" => store::measure(rt),
         Some(name) if name.as_str() == "script" => script::measure(rt),
+        Some(name) if name.as_str() == "page" => page::measure(rt),
         Some(_) => Err(Stop),
         None => {
-            println!(rt; "tree\nrights\nstore\nscript")?;
+            println!(rt; "tree\nrights\nstore\nscript\npage")?;
             Ok(())
         }
     }
