@@ -1,7 +1,11 @@
 //! The page of a log: its bytes, exactly as the definitions of the page and of its wording say. A page
 //! is written once, from its first byte to its last, into one buffer.
 //!
-//! It stands on `rm_types` for the values, on `rm_model` for the definitions, and on `itoa` for digits.
+//! It also promises what a page tells: no two operations and no two messages have one text, and a line
+//! determines all of its entry but what `Shown` names.
+//!
+//! It stands on `rm_types` for the values, on `rm_model` for the definitions, and on `itoa` for digits; its
+//! proofs use those of `rm_ids`.
 #![tactic(auto)]
 
 mod entries;
