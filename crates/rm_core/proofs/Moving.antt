@@ -376,6 +376,23 @@ handed_is t op h true true a b = (a, rw (a, b) at h)
 handed_is t op h true false a b = absurd (let x = rw (a, b) at h in cc)
 handed_is t op h false b a c = absurd (let x = rw a at h in cc)
 
+-- an operation that is with the store awaits
+stage_handed : (t : Tables) → Stage t → t.alive ≡ true → t.handed ≡ true → slice_get t.awaiting 0 ≢ None
+stage_handed t (none n) a h = absurd (let x = n.alive in cc)
+stage_handed t (starting s) a h = absurd (let x = s.handed in cc)
+stage_handed t (saving s) a h = rw s.awaiting (λ e. cc)
+stage_handed t (running r) a h = some_first t.awaiting (r.handed h)
+  where
+    some_first : (ops : List Op) → ops ≢ [] → slice_get ops 0 ≢ None
+    some_first [] some = absurd (some refl)
+    some_first (op ∷ ops) some = λ e. cc
+
+-- where nothing is handed the store has nothing to write
+pub none_handed : (settings : Settings) (t : Tables) → IsSound settings t → (a h : Bool) → t.alive ≡ a → t.handed ≡ h → handed_op t ≡ None → is_ready t Write ≡ false
+none_handed settings t s true true a h n = absurd (stage_handed t s.stage a h (rw (a, h) at n))
+none_handed settings t s true false a h n = rw (a, h) refl
+none_handed settings t s false h a e n = rw a refl
+
 stage_framed : (t : Tables) → t.epoch < 2 ^ 24 → Stage t → (op : Op) → handed_op t ≡ Some op → CanBeFramed op
 stage_framed t low (none n) op h = absurd (let x = rw n.alive at h in cc)
 stage_framed t low (starting s) op h = absurd (let x = rw (s.alive, s.handed) at h in cc)

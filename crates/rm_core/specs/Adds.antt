@@ -117,3 +117,8 @@ served_after (Begin tree handed) served = 0
 served_after Down served = 0
 served_after (Serve message) served = served + 1
 served_after _ served = served
+
+-- a segment settles with the tables as they were; of other moves this says nothing
+abbrev pub TablesStay : Move → Tables → Tables → Type 0
+TablesStay Settle old new = new ≡ old
+TablesStay _ old new = Unit {0}

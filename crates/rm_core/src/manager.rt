@@ -1,4 +1,4 @@
-ghost use Rattle.std.specs.Prelude.{◌≡◌, ◌↔◌, ◌+◌, ◌*◌, ◌<◌, ◌≤◌, List, [], OnOk, OnErr, IsOk, IfOk, IfSome, IsErrOf, IsTrue, count_by, length, true, false};
+ghost use Rattle.std.specs.Prelude.{◌≡◌, ◌↔◌, ◌+◌, ◌*◌, ◌<◌, ◌≤◌, List, [], OnOk, OnErr, IsOk, IfOk, IfNone, IfSome, IsErrOf, IsTrue, count_by, length, true, false};
 ghost use Rattle.std.specs.Option.{option_copied};
 ghost use Rattle.rm_types.specs.declared.entries.Entry.{Entry};
 ghost use Rattle.rm_types.specs.declared.messages.Lane.{Lane};
@@ -6,7 +6,7 @@ ghost use Rattle.rm_types.specs.declared.operations.Op.{Op as AnyOp};
 ghost use Rattle.rm_types.specs.Frames.{CanBeFramed};
 ghost use Rattle.rm_model.specs.State.{opening_state};
 ghost use Rattle.rm_model.specs.Lawful.{AllAllowed};
-ghost use Rattle.rm_core.specs.Adds.{Adds, AmountsTo, CanBeginOver, CanMake, GoesOnFrom, Stands, Weighs, may_make, served_after};
+ghost use Rattle.rm_core.specs.Adds.{Adds, AmountsTo, CanBeginOver, CanMake, GoesOnFrom, Stands, TablesStay, Weighs, may_make, served_after};
 ghost use Rattle.rm_core.specs.Ready.{is_ready, may_go_down};
 ghost use Rattle.rm_core.specs.Seen.{IsKnown, IsToBeKept, Rests, StandsFor, handed_op, is_kept_entry};
 ghost use Rattle.rm_core.specs.Serving.{IsBuiltMessage};
@@ -107,6 +107,7 @@ impl Core {
     /// be framed, and fits what is kept.
     pub fn handed(&self) -> Option<&Op>
         ensures op { option_copied result ≡ handed_op self.now.tables }
+        ensures none { IfNone result (is_ready self.now.tables Lane.Write ≡ false) }
         ensures framed { IfSome result (λ op. CanBeFramed op.now) }
         ensures next { IfSome result (λ op. (opening : List AnyOp) → StandsFor opening self.now → IsToBeKept opening self.now op.now) }
     {
@@ -164,6 +165,7 @@ impl Core {
         ensures weighs { OnOk result (Weighs next (weight self.old.tables) (weight self.new.tables)) }
         ensures stands { OnOk result (Stands next self.old.tables.alive self.new.tables.alive) }
         ensures served { OnOk result (self.new.tables.served ≡ served_after next self.old.tables.served) }
+        ensures tables { OnOk result (TablesStay next self.old.tables self.new.tables) }
         ensures not_ready { IsErrOf result Refused.NotReady → may_make self.old.tables next ≡ false }
         ensures settings { self.new.settings ≡ self.old.settings }
         ensures err { OnErr result (self.new ≡ self.old) }
@@ -280,6 +282,7 @@ impl Core {
         ensures weighs { OnOk result (weight self.new.tables ≤ weight self.old.tables) }
         ensures stands { OnOk result ((self.old.tables.alive ≡ true) × (self.new.tables.alive ≡ true)) }
         ensures served { OnOk result (self.new.tables.served ≡ self.old.tables.served) }
+        ensures tables { self.new.tables ≡ self.old.tables }
         ensures not_ready { IsErrOf result Refused.NotReady → is_ready self.old.tables Lane.End ≡ false }
         ensures settings { self.new.settings ≡ self.old.settings }
         ensures err { OnErr result (self.new ≡ self.old) }

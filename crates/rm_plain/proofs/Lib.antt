@@ -1,1 +1,7 @@
-pub mod Goings
+pub mod Longer
+pub mod Moving
+pub mod Stored
+pub mod Ending
+pub mod Starting
+pub mod Onward
+pub mod Finishing

@@ -16,6 +16,15 @@ pub use Rattle.rm_core.specs.Keeps
 pub use Rattle.rm_core.specs.Weights
 pub use Rattle.rm_core.specs.Adds
 pub use Rattle.rm_core.specs.Seen
+pub mod Halted
 pub mod Policy
 pub mod Along
 pub mod Lanes
+pub mod Falls
+pub mod Keeping
+pub mod Goes
+pub mod Lives
+pub mod Stops
+pub mod Starts
+pub mod Later
+pub mod Whole

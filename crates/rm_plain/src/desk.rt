@@ -21,7 +21,7 @@ pub struct Desk {
 impl Desk {
     ghost use Rattle.rm_model.specs.Place.{begun};
     ghost use Rattle.rm_plain.specs.Along.{place_of, at_segments};
-    ghost use Rattle.rm_plain.specs.Lanes.{is_ready_at};
+    ghost use Rattle.rm_plain.specs.Lanes.{is_ready_at, may_close};
 
     /// Whether a lane may move: the manager has something to do there, and the script is at it.
     pub fn is_ready(&self, lane: Lane) -> bool
@@ -32,8 +32,20 @@ impl Desk {
             Lane::Client => ready && !self.feed.is_empty(),
             Lane::Master | Lane::Node | Lane::Clock => false,
             Lane::Main | Lane::Sched | Lane::Hand | Lane::Write => ready,
-            Lane::End => ready && self.feed.is_empty() && self.close.is_some(),
+            Lane::End => self.may_close(),
             Lane::Begin => ready && !self.lives.is_empty(),
+        }
+    }
+
+    /// Whether the current segment may close: its feed is empty, and nothing is left to do where it settles,
+    /// or no operation is with the store where it crashes.
+    fn may_close(&self) -> bool
+        ensures { result ≡ may_close self.now self.now.close }
+    {
+        match self.close {
+            Some(Close::Settle) => self.core.is_ready(Lane::End) && self.feed.is_empty(),
+            Some(Close::Crash { .. }) => self.core.may_go_down() && self.feed.is_empty(),
+            None => false,
         }
     }
 

@@ -1,49 +1,199 @@
-ghost use Rattle.std.specs.Prelude.{◌≡◌, ◌≢◌, [], Err, IsOk, false};
-ghost use Rattle.rm_core.specs.declared.events.Refused.{Refused};
+ghost use Rattle.std.specs.Prelude.{◌≡◌, ◌≢◌, ◌⊎◌, ◌++◌, ◌<◌, ℕ, [], length, IsOk, IfErr, OnOk, None, false};
+ghost use Rattle.rm_disk.specs.Disk.{Tells, EachImage, AtEachMoment};
+ghost use Rattle.rm_model.specs.Device.{Holds};
+ghost use Rattle.rm_model.specs.Downs.{AllGoDownAtRest};
 ghost use Rattle.rm_model.specs.Lawful.{Lawful, IsDone};
-ghost use Rattle.rm_plain.specs.Along.{CanRun};
+ghost use Rattle.rm_model.specs.State.{opening_state};
+ghost use Rattle.rm_model.specs.Survives.{HoldsAfter, HoldsWithin};
+ghost use Rattle.rm_store.specs.Store.{seen};
+ghost use Rattle.rm_plain.specs.Along.{CanRun, IsSound};
+ghost use Rattle.rm_plain.specs.Goes.{IsOver};
+ghost use Rattle.rm_plain.specs.Falls.{falls_of};
+ghost use Rattle.rm_plain.specs.Later.{FirstTo, LaterTo};
+ghost use Rattle.rm_plain.specs.Starts.{DiskStays};
+ghost use Rattle.rm_plain.specs.Stops.{IsStoppedBy};
+ghost use Rattle.rm_plain.specs.Whole.{AllLived, SurvivesAll, SurvivesNow};
 
-use crate::desk::new_desk;
-use crate::plain::run;
-use rm_core::{Core, Refused};
-use rm_types::{Entry, Items, NoMemory, Script, Settings};
+use crate::desk::{Desk, new_desk};
+use crate::halts::Stop;
+use crate::starts::{Lived, Unfounded, Unopened, live, open_again, open_first};
+use rm_core::Core;
+use rm_disk::{Disk, Fuse};
+use rm_types::{Entry, Items, Op, Script, Settings};
 use std::alloc::Global;
 
-/// A run of a script: the log that it made, and whether it came to its end. Want of memory alone stops it.
-#[derive(Debug, Drop)]
-pub struct Run {
+/// A run of a script: what the disk held when it was first opened, the log, the disk as it was left, and
+/// whether the run came to its end.
+#[derive(Drop)]
+pub struct Run<D: Disk> {
+    pub opening: Items<Op>,
     pub log: Items<Entry>,
-    pub ended: Result<(), NoMemory>,
+    pub disk: Fuse<D>,
+    pub ended: Result<(), Stop>,
 }
 
-/// A refusal that isn't for an unready lane is for want of memory.
-fn only_memory(ran: Result<(), Refused>) -> Result<(), NoMemory>
-    requires { ran ≢ Err Refused.NotReady }
-    ensures { IsOk result → IsOk ran }
+/// How the first life went, and what its disk held before.
+#[derive(Drop)]
+struct First<D: Disk> {
+    opening: Items<Op>,
+    disk: Fuse<D>,
+    ended: Result<(), Stop>,
+}
+
+/// The first life of a script, over whatever its disk holds.
+fn first_life<D: Disk>(alloc: Global, d: &mut Desk, disk: Fuse<D>) -> First<D>
+    requires sound { IsSound d.old }
+    requires dead { d.old.core.tables.alive ≡ false }
+    requires lives { d.old.lives ≢ [] }
+    requires empty { d.old.core.log ≡ [] }
+    requires unarmed { disk.armed ≡ None }
+    ensures first { FirstTo D.view result.opening d.old d.new disk result.disk result.ended }
 {
-    match ran {
-        Ok(()) => Ok(()),
-        Err(Refused::Memory) => Err(NoMemory),
-        Err(Refused::NotReady) => unreachable!(),
+    match open_first(alloc, disk) {
+        Ok((store, tree, opening)) => {
+            let Lived { disk, ended } = live(d, store, tree);
+            First {
+                opening,
+                disk,
+                ended,
+            }
+        }
+        Err(Unfounded { opening, why, disk }) => First {
+            opening,
+            disk,
+            ended: Err(why),
+        },
     }
 }
 
-/// Runs a script over an empty store. The log is lawful, and where the run ended well the script is at its
-/// end, nothing awaits and nothing is owed. Where memory ran out the log is that of the moves made so far.
-pub fn run_script(alloc: Global, settings: Settings, script: Script) -> Run
+/// A later life of a script, over what was kept.
+fn next_life<D: Disk>(alloc: Global, d: &mut Desk, disk: Fuse<D>) -> Lived<D>
+    requires sound { IsSound d.old }
+    requires dead { d.old.core.tables.alive ≡ false }
+    requires lives { d.old.lives ≢ [] }
+    requires some { d.old.core.log ≢ [] }
+    requires unarmed { disk.armed ≡ None }
+    ensures later { LaterTo D.view d.old d.new disk result.disk result.ended }
+    ensures fewer { OnOk result.ended (length d.new.lives < length d.old.lives) }
+{
+    match open_again(alloc, &d.core, disk) {
+        Ok((store, tree)) => live(d, store, tree),
+        Err(Unopened { why, disk }) => Lived {
+            disk,
+            ended: Err(why),
+        },
+    }
+}
+
+/// The lives that are left of a script, after one that ended.
+fn later_lives<D: Disk>(alloc: Global, d: &mut Desk, disk: Fuse<D>) -> Lived<D>
+    requires sound { IsSound d.old }
+    requires ends { (d.old.core.tables.alive ≡ false) ⊎ IsOver d.old }
+    requires some { d.old.core.log ≢ [] }
+    requires unarmed { disk.armed ≡ None }
+    ensures later { LaterTo D.view d.old d.new disk result.disk result.ended }
+    ensures over { OnOk result.ended (d.new.lives ≡ []) }
+{
+    let mut disk = disk;
+    'lives: while !d.lives.is_empty() {
+        let lived = next_life(alloc, d, disk);
+        disk = lived.disk;
+        if let Err(stop) = lived.ended {
+            return Lived {
+                disk,
+                ended: Err(stop),
+            };
+        }
+    }
+    Lived {
+        disk,
+        ended: Ok(()),
+    }
+}
+
+/// All lives of a script, over whatever its disk holds. A script without lives leaves its disk as it is.
+fn all_lives<D: Disk>(alloc: Global, d: &mut Desk, disk: Fuse<D>) -> First<D>
+    requires sound { IsSound d.old }
+    requires dead { d.old.core.tables.alive ≡ false }
+    requires empty { d.old.core.log ≡ [] }
+    requires unarmed { disk.armed ≡ None }
+    ensures all { AllLived D.view result.opening d.old d.new disk result.disk result.ended }
+{
+    if d.lives.is_empty() {
+        return First {
+            opening: Items::new(alloc),
+            disk,
+            ended: Ok(()),
+        };
+    }
+    let First {
+        opening,
+        disk,
+        ended,
+    } = first_life(alloc, d, disk);
+    match ended {
+        Ok(()) => {
+            let Lived { disk, ended } = later_lives(alloc, d, disk);
+            First {
+                opening,
+                disk,
+                ended,
+            }
+        }
+        Err(stop) => First {
+            opening,
+            disk,
+            ended: Err(stop),
+        },
+    }
+}
+
+/// Runs a script on one thread, over the store on the handed disk, with its fuse.
+///
+/// The log is lawful whatever the disk does, and so it is where the run stops before its script's end:
+/// - `DiskFault`: the disk counted a fault that the fuse did not make;
+/// - `Damaged`: the disk held no store, with the offset at which it is damaged, or, with the largest offset,
+///   one that no life can begin over yet, since an application in it has an attempt or an end;
+/// - `Full`: the operation that awaits the store needs so many bytes, and so many are left;
+/// - `EpochsSpent`: no epoch, or no stamp, is left for one more life;
+/// - `Memory`: no memory was found.
+///
+/// The disk is given back in every case. Where the run came to its end, whatever a crash could have left of
+/// the disk at any moment is what it could have left before the run, or it holds what was kept by some
+/// moment of the run, or this and the operation that awaited the store then.
+pub fn run_script<D: Disk>(
+    alloc: Global,
+    settings: Settings,
+    script: Script,
+    disk: Fuse<D>,
+) -> Run<D>
     requires script { CanRun script }
     requires rights { settings.acl_enable ≡ false }
-    ensures lawful { Lawful settings script [] result.log }
-    ensures done { IsOk result.ended → IsDone settings script [] result.log }
+    requires unarmed { disk.armed ≡ None }
+    ensures lawful { Lawful settings script result.opening result.log }
+    ensures done { IsOk result.ended → IsDone settings script result.opening result.log }
+    ensures downs { AllGoDownAtRest settings (opening_state result.opening) result.log }
+    ensures falls { result.disk.falls ≡ disk.falls ++ falls_of script result.opening result.log }
+    ensures stays { DiskStays D.view disk result.disk }
+    ensures opening { result.log ≢ [] → Tells (seen D.view disk) (λ bytes. Holds bytes result.opening) }
+    ensures images { OnOk result.ended (SurvivesAll result.opening result.log (seen D.view disk) (seen D.view result.disk)) }
+    ensures images_now { OnOk result.ended (SurvivesNow result.opening result.log (seen D.view disk) (seen D.view result.disk)) }
+    ensures stopped { IfErr result.ended (IsStoppedBy (seen D.view disk) (seen D.view result.disk) result.opening result.log) }
 {
     let Ok(core) = Core::new(alloc, settings) else {
         unreachable!()
     };
-    let mut desk = new_desk(alloc, core, script);
-    let ran = run(&mut desk);
-    let log = desk.core.into_log();
+    let mut d = new_desk(alloc, core, script);
+    let First {
+        opening,
+        disk,
+        ended,
+    } = all_lives(alloc, &mut d, disk);
+    let log = d.core.into_log();
     Run {
+        opening,
         log,
-        ended: only_memory(ran),
+        disk,
+        ended,
     }
 }

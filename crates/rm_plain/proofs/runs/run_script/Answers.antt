@@ -1,8 +1,35 @@
-use Rattle.rm_plain.proofs.Goings.{done_by}
+use Rattle.rm_plain.proofs.Finishing.{downs_on, falls_on, is_done, lawful_on, ok_of, stands_on}
 use Rattle.rm_plain.proofs.runs.run_script.Goals as goal
 
-pub returns-clause-done : goal.returns-clause-done
-returns-clause-done c = λ ok.
+pub returns-clause-lawful : goal.returns-clause-lawful
+returns-clause-lawful g c =
     rw c.into_log-log.ensures.log
-    (done_by c.in-Ok.core c.run-ran.new.d.core c.args.settings c.args.script c.run-ran.result c.in-Ok.ensures.settings c.in-Ok.ensures.log
-    (rw c.new_desk-desk.ensures at c.run-ran.ensures.settings) (rw c.new_desk-desk.ensures at c.run-ran.ensures.ends) (c.only_memory.ensures ok))
+    (lawful_on g.D.Disk.view c.all_lives-opening.result.opening c.args.settings c.args.alloc c.in-Ok.core c.args.script c.all_lives-opening.new.d c.args.disk c.all_lives-opening.result.disk c.all_lives-opening.result.ended
+    (rw c.new_desk-d.ensures at c.all_lives-opening.ensures.all) c.in-Ok.ensures.settings c.in-Ok.ensures.log (c.in-Ok.ensures.stands c.all_lives-opening.result.opening)
+    (c.into_log-log.ensures.allowed c.all_lives-opening.result.opening
+    (stands_on g.D.Disk.view c.all_lives-opening.result.opening c.args.settings c.args.alloc c.in-Ok.core c.args.script c.all_lives-opening.new.d c.args.disk c.all_lives-opening.result.disk c.all_lives-opening.result.ended
+    (rw c.new_desk-d.ensures at c.all_lives-opening.ensures.all) c.in-Ok.ensures.settings c.in-Ok.ensures.log (c.in-Ok.ensures.stands c.all_lives-opening.result.opening))))
+
+pub returns-clause-done : goal.returns-clause-done
+returns-clause-done g c = λ ok.
+    rw c.into_log-log.ensures.log
+    (is_done g.D.Disk.view c.all_lives-opening.result.opening c.args.settings c.args.alloc c.in-Ok.core c.args.script c.all_lives-opening.new.d c.args.disk c.all_lives-opening.result.disk c.all_lives-opening.result.ended
+    (rw c.new_desk-d.ensures at c.all_lives-opening.ensures.all) c.in-Ok.ensures.settings c.in-Ok.ensures.log (c.in-Ok.ensures.stands c.all_lives-opening.result.opening)
+    (ok_of c.all_lives-opening.result.ended c.all_lives-opening.ensures.all.ends ok))
+
+pub returns-clause-downs : goal.returns-clause-downs
+returns-clause-downs g c =
+    rw c.into_log-log.ensures.log
+    (downs_on g.D.Disk.view c.all_lives-opening.result.opening c.args.settings c.args.alloc c.in-Ok.core c.args.script c.all_lives-opening.new.d c.args.disk c.all_lives-opening.result.disk c.all_lives-opening.result.ended
+    (rw c.new_desk-d.ensures at c.all_lives-opening.ensures.all) c.in-Ok.ensures.settings c.in-Ok.ensures.log (c.in-Ok.ensures.stands c.all_lives-opening.result.opening))
+
+pub returns-clause-falls : goal.returns-clause-falls
+returns-clause-falls g c =
+    rw c.into_log-log.ensures.log
+    (falls_on g.D.Disk.view c.all_lives-opening.result.opening c.args.settings c.args.alloc c.in-Ok.core c.args.script c.all_lives-opening.new.d c.args.disk c.all_lives-opening.result.disk c.all_lives-opening.result.ended
+    (rw c.new_desk-d.ensures at c.all_lives-opening.ensures.all) c.in-Ok.ensures.settings c.in-Ok.ensures.log (c.in-Ok.ensures.stands c.all_lives-opening.result.opening))
+
+pub returns-clause-images_now : goal.returns-clause-images_now
+returns-clause-images_now g c =
+    rw c.into_log-log.ensures.log
+    ((rw c.new_desk-d.ensures at c.all_lives-opening.ensures.all).images_now (c.in-Ok.ensures.stands c.all_lives-opening.result.opening))

@@ -1,0 +1,202 @@
+-- A run with one more entry.
+use Rattle.std.proofs.Common.{◌≡◌, ◌≢◌, List, [], ◌∷◌, ◌++◌, Bool, true, false, None, Some, Option, refl, sym, ◌∙◌, ap, subst}
+use Rattle.std.specs.List.{fold}
+use Rattle.std.proofs.lemmas.List.{append-nil, append_assoc}
+use Rattle.std.proofs.lemmas.List.Sums.{fold_push}
+use Rattle.rm_types.specs.declared.entries.Entry.{Entry}
+use Rattle.rm_types.specs.declared.entries.Entry.TheVariants.{Opened, Issued, Handed, Kept as KeptEntry, Blown, Served, Accepted, Queued, Absorbed, Pass, Ordered, Ended, Settled, Down, Quiet}
+use Rattle.rm_types.specs.declared.operations.Op.{Op}
+use Rattle.rm_types.specs.declared.scripts.Close.{Close}
+use Rattle.rm_types.specs.declared.scripts.Script.{Script}
+use Rattle.rm_types.specs.declared.settings.Settings.{Settings}
+use Rattle.rm_disk.specs.declared.fallen.Fallen.{Fallen}
+use Rattle.rm_model.specs.State.{Manager, LifeState, opening_state}
+use Rattle.rm_model.specs.Changes.{after, after_all, after_where}
+use Rattle.rm_model.specs.Downs.{AllGoDownAtRest, GoesDownAtRest}
+use Rattle.rm_model.specs.Lawful.{Follows, place_after, state_after}
+use Rattle.rm_model.specs.Place.{Place, IsNext, beginning, close_left, moved}
+use Rattle.rm_core.specs.Adds.{IsOfMain, IsOfSched}
+use Rattle.rm_core.specs.Seen.{StandsFor}
+use Rattle.rm_plain.specs.declared.desk.Desk.{Desk}
+use Rattle.rm_plain.specs.Along.{GoesTo, place_of}
+use Rattle.rm_plain.specs.Falls.{falls_at, falls_from}
+use Rattle.rm_plain.specs.Goes.{IsRun}
+
+-- an entry that is next may be added
+Follows-push : (s : Manager) (p : Place) (log : List Entry) (e : Entry) → Follows s p log → IsNext (after_all s log) (fold moved p log) e → Follows s p (log ++ e ∷ [])
+Follows-push s p [] e h n = (n, tt)
+Follows-push s p (x ∷ log) e h n = (h.0, Follows-push (after s x) (moved p x) log e h.1 n)
+
+downs-push : (settings : Settings) (s : Manager) (log : List Entry) (e : Entry) → AllGoDownAtRest settings s log → GoesDownAtRest settings (after_all s log) (after_all s log).life e
+    → AllGoDownAtRest settings s (log ++ e ∷ [])
+downs-push settings s [] e h a = (a, tt)
+downs-push settings s (x ∷ log) e h a = (h.0, downs-push settings (after s x) log e h.1 a)
+
+falls-push : (s : Manager) (p : Place) (log : List Entry) (e : Entry)
+    → falls_from s p (log ++ e ∷ []) ≡ falls_from s p log ++ falls_at e (after_all s log).life (close_left (fold moved p log).segments)
+falls-push s p [] e = append-nil (falls_at e s.life (close_left p.segments))
+falls-push s p (x ∷ log) e =
+    ap (λ (l : List Fallen). falls_at x s.life (close_left p.segments) ++ l) (falls-push (after s x) (moved p x) log e)
+    ∙ sym (append_assoc (falls_at x s.life (close_left p.segments)) (falls_from (after s x) (moved p x) log) (falls_at e (after_all (after s x) log).life (close_left (fold moved (moved p x) log).segments)))
+
+goes_push : (opening : List Op) (script : Script) (log : List Entry) (place : Place) (e : Entry) → IsNext (state_after opening log) place e → GoesTo opening script log place
+    → GoesTo opening script (log ++ e ∷ []) (moved place e)
+goes_push opening script log place e n g =
+    record {
+      along = Follows-push (opening_state opening) (beginning script) log e g.along (rw g.at n);
+      at = fold_push moved (beginning script) log e ∙ ap (λ (p : Place). moved p e) g.at;
+    }
+
+-- the run with one more entry, at which so much falls
+pub one_more : (opening : List Op) (script : Script) (fallen more : List Fallen) (d next : Desk) (e : Entry) → IsRun opening script fallen d
+    → next.core.settings ≡ d.core.settings → StandsFor opening next.core → next.core.log ≡ d.core.log ++ e ∷ [] → place_of next ≡ moved (place_of d) e
+    → IsNext (state_after opening d.core.log) (place_of d) e
+    → GoesDownAtRest d.core.settings (state_after opening d.core.log) (state_after opening d.core.log).life e
+    → falls_at e (state_after opening d.core.log).life (close_left (place_of d).segments) ≡ more
+    → IsRun opening script (fallen ++ more) next
+one_more opening script fallen more d next e run settings stands added place is_next down falls =
+    let log = d.core.log in
+    let at : place_after script log ≡ place_of d = run.along.at in
+    let fell : falls_from (opening_state opening) (beginning script) (log ++ e ∷ []) ≡ fallen ++ more =
+    falls-push (opening_state opening) (beginning script) log e
+    ∙ ap (λ (l : List Fallen). l ++ falls_at e (state_after opening log).life (close_left (place_after script log).segments)) run.falls
+    ∙ ap (λ (p : Place). fallen ++ falls_at e (state_after opening log).life (close_left p.segments)) at
+    ∙ ap (λ (l : List Fallen). fallen ++ l) falls in
+    record {
+      stands = stands;
+      along = subst (λ (l : List Entry). GoesTo opening script l (place_of next)) (sym added)
+          (subst (λ (p : Place). GoesTo opening script (log ++ e ∷ []) p) (sym place) (goes_push opening script log (place_of d) e is_next run.along));
+      downs = rw (settings, added) (downs-push d.core.settings (opening_state opening) log e run.downs down);
+      falls = subst (λ (l : List Entry). falls_from (opening_state opening) (beginning script) l ≡ fallen ++ more) (sym added) fell;
+    }
+
+-- entries by which nothing is kept, no life begins and none goes down
+abbrev pub is_plain : Entry → Bool
+is_plain (Opened landed epoch stamp) = false
+is_plain (KeptEntry op) = false
+is_plain Down = false
+is_plain _ = true
+
+-- nothing falls at an entry by which no life goes down
+pub falls_none : (e : Entry) (life : Option LifeState) (close : Option Close) → e ≢ Down → falls_at e life close ≡ []
+falls_none (Issued op) life close h = refl
+falls_none Handed life close h = refl
+falls_none (Blown passed) life close h = refl
+falls_none (Served sender message reply) life close h = refl
+falls_none (Accepted app) life close h = refl
+falls_none (Queued attempt) life close h = refl
+falls_none (Absorbed node taken ended) life close h = refl
+falls_none (Pass node grants) life close h = refl
+falls_none (Ordered container node) life close h = refl
+falls_none (Ended cause list) life close h = refl
+falls_none Settled life close h = refl
+falls_none (Quiet lane) life close h = refl
+falls_none (Opened landed epoch stamp) life close h = refl
+falls_none (KeptEntry op) life close h = refl
+falls_none Down life close h = absurd (h refl)
+
+-- and no life has to be at rest there
+pub no_down : (e : Entry) (settings : Settings) (s : Manager) (life : Option LifeState) → e ≢ Down → GoesDownAtRest settings s life e
+no_down e settings s None h = tt
+no_down (Issued op) settings s (Some life) h = tt
+no_down Handed settings s (Some life) h = tt
+no_down (Blown passed) settings s (Some life) h = tt
+no_down (Served sender message reply) settings s (Some life) h = tt
+no_down (Accepted app) settings s (Some life) h = tt
+no_down (Queued attempt) settings s (Some life) h = tt
+no_down (Absorbed node taken ended) settings s (Some life) h = tt
+no_down (Pass node grants) settings s (Some life) h = tt
+no_down (Ordered container node) settings s (Some life) h = tt
+no_down (Ended cause list) settings s (Some life) h = tt
+no_down Settled settings s (Some life) h = tt
+no_down (Quiet lane) settings s (Some life) h = tt
+no_down (Opened landed epoch stamp) settings s (Some life) h = tt
+no_down (KeptEntry op) settings s (Some life) h = tt
+no_down Down settings s (Some life) h = absurd (h refl)
+
+kept_none : (e : Entry) (s : Manager) → is_plain e ≡ true → (after_where s None e).kept ≡ s.kept
+kept_none (Issued op) s h = refl
+kept_none Handed s h = refl
+kept_none (Blown passed) s h = refl
+kept_none (Served sender message reply) s h = refl
+kept_none (Accepted app) s h = refl
+kept_none (Queued attempt) s h = refl
+kept_none (Absorbed node taken ended) s h = refl
+kept_none (Pass node grants) s h = refl
+kept_none (Ordered container node) s h = refl
+kept_none (Ended cause list) s h = refl
+kept_none Settled s h = refl
+kept_none (Quiet lane) s h = refl
+kept_none (Opened landed epoch stamp) s h = cc
+kept_none (KeptEntry op) s h = cc
+kept_none Down s h = cc
+
+kept_some : (e : Entry) (s : Manager) (life : LifeState) → is_plain e ≡ true → (after_where s (Some life) e).kept ≡ s.kept
+kept_some (Issued op) s life h = refl
+kept_some Handed s life h = refl
+kept_some (Blown passed) s life h = refl
+kept_some (Served sender message reply) s life h = refl
+kept_some (Accepted app) s life h = refl
+kept_some (Queued attempt) s life h = refl
+kept_some (Absorbed node taken ended) s life h = refl
+kept_some (Pass node grants) s life h = refl
+kept_some (Ordered container node) s life h = refl
+kept_some (Ended cause list) s life h = refl
+kept_some Settled s life h = refl
+kept_some (Quiet lane) s life h = refl
+kept_some (Opened landed epoch stamp) s life h = cc
+kept_some (KeptEntry op) s life h = cc
+kept_some Down s life h = cc
+
+kept_where : (e : Entry) (s : Manager) (life : Option LifeState) → is_plain e ≡ true → (after_where s life e).kept ≡ s.kept
+kept_where e s None h = kept_none e s h
+kept_where e s (Some life) h = kept_some e s life h
+
+-- what is kept stays
+pub kept_stays : (opening : List Op) (log : List Entry) (e : Entry) → is_plain e ≡ true → (state_after opening (log ++ e ∷ [])).kept ≡ (state_after opening log).kept
+kept_stays opening log e h =
+    ap (λ (s : Manager). s.kept) (fold_push after (opening_state opening) log e) ∙ kept_where e (state_after opening log) (state_after opening log).life h
+
+-- the script says nothing of the entry
+pub record IsSilent (e : Entry) : Type 0 where
+  pub next : (s : Manager) (p : Place) → IsNext s p e
+  pub stays : (p : Place) → moved p e ≡ p
+  pub plain : is_plain e ≡ true
+  pub no_end : e ≢ Down
+
+pub main_silent : (e : Entry) → IsOfMain e → IsSilent e
+main_silent (Issued op) h = record { next = λ s p. tt; stays = λ p. refl; plain = refl; no_end = λ is. cc }
+main_silent (Quiet lane) h = record { next = λ s p. tt; stays = λ p. refl; plain = refl; no_end = λ is. cc }
+main_silent (Accepted app) h = record { next = λ s p. tt; stays = λ p. refl; plain = refl; no_end = λ is. cc }
+main_silent (Opened landed epoch stamp) h = absurd h
+main_silent Handed h = absurd h
+main_silent (KeptEntry op) h = absurd h
+main_silent (Blown passed) h = absurd h
+main_silent (Served sender message reply) h = absurd h
+main_silent (Queued attempt) h = absurd h
+main_silent (Absorbed node taken ended) h = absurd h
+main_silent (Pass node grants) h = absurd h
+main_silent (Ordered container node) h = absurd h
+main_silent (Ended cause list) h = absurd h
+main_silent Settled h = absurd h
+main_silent Down h = absurd h
+
+pub sched_silent : (e : Entry) → IsOfSched e → IsSilent e
+sched_silent (Queued attempt) h = record { next = λ s p. tt; stays = λ p. refl; plain = refl; no_end = λ is. cc }
+sched_silent (Quiet lane) h = record { next = λ s p. tt; stays = λ p. refl; plain = refl; no_end = λ is. cc }
+sched_silent (Opened landed epoch stamp) h = absurd h
+sched_silent (Issued op) h = absurd h
+sched_silent Handed h = absurd h
+sched_silent (KeptEntry op) h = absurd h
+sched_silent (Blown passed) h = absurd h
+sched_silent (Served sender message reply) h = absurd h
+sched_silent (Accepted app) h = absurd h
+sched_silent (Absorbed node taken ended) h = absurd h
+sched_silent (Pass node grants) h = absurd h
+sched_silent (Ordered container node) h = absurd h
+sched_silent (Ended cause list) h = absurd h
+sched_silent Settled h = absurd h
+sched_silent Down h = absurd h
+
+pub hand_silent : IsSilent Handed
+hand_silent = record { next = λ s p. tt; stays = λ p. refl; plain = refl; no_end = λ is. cc }

@@ -1,0 +1,199 @@
+-- A life starts over what its disk holds, and leaves what it kept there.
+use Rattle.std.proofs.Common.{◌≡◌, ℕ, suc, zero, ◌+◌, List, [], ◌∷◌, ◌++◌, Bool, true, false, Some, None, Option, Ok, Err, Result, take, refl, sym, ◌∙◌, ap, subst, inl, inr, arith}
+use Rattle.std.specs.Prelude.{OnOk, OnErr, IfOk, IfErr, slice_get}
+use Rattle.std.proofs.lemmas.List.{append-nil}
+use Rattle.rm_types.specs.declared.operations.Op.{Op}
+use Rattle.rm_types.specs.declared.entries.Entry.{Entry}
+use Rattle.rm_types.specs.declared.records.AppRecord.{AppRecord}
+use Rattle.rm_types.specs.Records.{Records}
+use Rattle.rm_disk.specs.declared.fallen.Fallen.{Fallen}
+use Rattle.rm_disk.specs.Disk.{DiskView, EachImage, Falls, IsQuiet, Tells}
+use Rattle.rm_disk.specs.Fuse.{Fused, KeepsFuse, fallen_fuse, falls_after}
+use Rattle.rm_disk.proofs.Views.{leaves_of, leaves_same, told_after}
+use Rattle.rm_model.specs.Device.{Holds}
+use Rattle.rm_model.specs.Lawful.{state_after}
+use Rattle.rm_model.specs.Survives.{HoldsWithin}
+use Rattle.rm_store.specs.Store.{StoreState, AreRead, IsSound as IsStoreSound, seen}
+use Rattle.rm_core.specs.Adds.{AmountsTo}
+use Rattle.rm_core.specs.InFlight.{AllPlain}
+use Rattle.rm_core.proofs.Listed.{take_got}
+use Rattle.rm_plain.specs.declared.desk.Desk.{Desk}
+use Rattle.rm_plain.specs.declared.halts.Halt.{Halt}
+use Rattle.rm_plain.specs.declared.halts.Halt.TheVariants as halts
+use Rattle.rm_plain.specs.declared.halts.Stop.{Stop}
+use Rattle.rm_plain.specs.declared.lives.LifeEnd.{LifeEnd}
+use Rattle.rm_plain.specs.declared.lives.LifeEnd.TheVariants.{Rest, Down}
+use Rattle.rm_plain.specs.Falls.{fall}
+use Rattle.rm_plain.specs.Goes.{Goes, GoesOver}
+use Rattle.rm_plain.specs.Halted.{stop_of}
+use Rattle.rm_plain.specs.Keeping.{FuseStays, IsBegun, IsHaltedBy, IsKeptOn, KeepsOn, Serves, StoresOn}
+use Rattle.rm_plain.specs.Lives.{EndsBy, ComesToRest, WentDown}
+use Rattle.rm_plain.specs.Starts.{Begins, DiskStays, Halts, IsOpened, KeepsOver, Leaves, Lives, LivesTo}
+use Rattle.rm_plain.proofs.Ending.{fuse_trans, goes_trans}
+use Rattle.rm_plain.proofs.Stored.{keeps_trans}
+
+-- one more record without an attempt and an end
+pub AllPlain-push : (apps : List AppRecord) (app : AppRecord) → AllPlain apps → (app.attempts ≡ []) × (app.ending ≡ None) → AllPlain (apps ++ app ∷ [])
+AllPlain-push [] app h p = (p.0, p.1, tt)
+AllPlain-push (one ∷ apps) app h p = (h.0, h.1, AllPlain-push apps app h.2 p)
+
+pub plain_more : (apps : List AppRecord) (i : ℕ) (app : AppRecord) → slice_get apps i ≡ Some app → AllPlain (take i apps) → (app.attempts ≡ []) × (app.ending ≡ None) → AllPlain (take (i + 1) apps)
+plain_more apps i app e h p = rw (take_got apps i app e) (AllPlain-push (take i apps) app h p)
+
+pub plain_at : (apps : List AppRecord) (i : ℕ) (app : AppRecord) → slice_get apps i ≡ Some app → AllPlain apps → (app.attempts ≡ []) × (app.ending ≡ None)
+plain_at [] i app e h = cc
+plain_at (one ∷ apps) zero app e h =
+    let same : one ≡ app = cc in
+    subst (λ (x : AppRecord). (x.attempts ≡ []) × (x.ending ≡ None)) same (h.0, h.1)
+plain_at (one ∷ apps) (suc i) app e h = plain_at apps i app e h.2
+
+pub ok_map : {X E A B : Type 0} (r : Result X E) → (A → B) → OnOk r A → OnOk r B
+ok_map (Ok x) f a = f a
+ok_map (Err e) f a = tt
+
+module _ {D : Type 0} (view : D → DiskView) where
+  -- a store that was opened on a disarmed fuse
+  pub opened : (inner : D → D → Type 0) (old disarmed : Fused D) (store : StoreState D) (tree : Records) (ops : List Op) → disarmed ≡ record old { armed = None; blown = false }
+      → IsStoreSound view store → store.is_broken ≡ false → AreRead tree ops
+      → Tells (seen view disarmed) (λ bytes. Holds bytes ops) → Tells (seen view disarmed) (λ bytes. EachImage (seen view store.disk) (λ image. Holds image ops))
+      → IsQuiet (seen view disarmed) (seen view store.disk) → KeepsFuse inner true disarmed store.disk → IsOpened view old store tree ops
+  opened inner old disarmed store tree ops is sound unbroken read =
+      let F : Fused D → Type 0 = λ x.
+      Tells (seen view x) (λ bytes. Holds bytes ops) → Tells (seen view x) (λ bytes. EachImage (seen view store.disk) (λ image. Holds image ops))
+      → IsQuiet (seen view x) (seen view store.disk) → KeepsFuse inner true x store.disk → IsOpened view old store tree ops in
+      subst F (sym is) (λ holds images quiet kept.
+      let unblown : store.disk.blown ≡ false = kept.success refl in
+      record {
+        sound = sound;
+        unbroken = unbroken;
+        unarmed = kept.armed;
+        unblown = unblown;
+        falls = kept.falls;
+        disk = record { refused = kept.unrefused unblown; size = quiet.goes_on.size; faults = quiet.goes_on.faults };
+        read = read;
+        told = quiet.told;
+        holds = holds;
+        images = images;
+        time = quiet.time;
+      })
+
+  -- a life began, and its store serves it
+  pub begins : (d mid : Desk) (store now : StoreState D) (tree : Records) → IsBegun tree d mid → mid.core.tables.alive ≡ true → now.disk.inner ≡ store.disk.inner → now.disk.refused ≡ store.disk.refused
+      → Serves view mid now → Begins view (λ opening. AmountsTo tree opening d.core) d mid store now
+  begins d mid store now tree begun alive inner refused serves =
+      record {
+        stands = alive;
+        some = begun.some;
+        serves = serves;
+        kept = λ opening amounts k has.
+            let kept = begun.kept opening k amounts in
+            rw (inner, refused)
+            (record {
+              kept = record { bytes = has.bytes; told = has.told; holds = rw kept has.holds; images = λ image is. rw kept (has.images image is) };
+              time = leaves_same (seen view store.disk) (HoldsWithin opening mid.core.log);
+              more = begun.more;
+              grows = begun.grows;
+            });
+      }
+
+  -- what is kept is on a disk that fell
+  pub falls_keep : (opening : List Op) (log : List Entry) (before after : DiskView) → Falls before after → IsKeptOn opening log before → KeepsOn opening log log before after
+  falls_keep opening log before after falls has =
+      let now = told_after before after falls.goes_on has.bytes has.told in
+      let kept : Holds now.0 (state_after opening log).kept = has.images now.0 (falls.told now.0 now.1) in
+      record {
+        kept = record {
+          bytes = now.0;
+          told = now.1;
+          holds = kept;
+          images = λ image is.
+              let same : Some now.0 ≡ Some image = sym now.1 ∙ falls.durable image is in
+              let one : now.0 ≡ image = cc in
+              subst (λ (bytes : List ℕ). Holds bytes (state_after opening log).kept) one kept;
+        };
+        time = leaves_of before after before.images (HoldsWithin opening log)
+            (λ image is. record { before = log; later = []; whole = sym (append-nil log); holds = inl (has.images image is) }) falls.time;
+        more = [];
+        grows = sym (append-nil log);
+      }
+
+  module _ (over : List Op → Type 0) (d mid new : Desk) (store one two : StoreState D) (goes : GoesOver over [] d mid) (begun : Begins view over d mid store one)
+      (first : FuseStays view store.disk one.disk) (second : FuseStays view one.disk two.disk) where
+    stays : FuseStays view store.disk two.disk
+    stays = fuse_trans view store.disk one.disk two.disk first second
+
+    disk_stays : DiskStays view store.disk two.disk
+    disk_stays = record { refused = stays.refused; size = stays.size; faults = stays.faults }
+
+    kept_to : ((opening : List Op) → StoresOn opening mid new (seen view one.disk) (seen view two.disk)) → KeepsOver over d new (seen view store.disk) (seen view two.disk)
+    kept_to stores = λ opening is k has.
+        let first_part = begun.kept opening is k has in
+        keeps_trans opening d.core.log mid.core.log new.core.log (seen view store.disk) (seen view one.disk) (seen view two.disk) first_part
+        (stores opening (goes.lawful opening is k) first_part.kept)
+
+    rested : (disk : Fused D) → disk ≡ two.disk → ComesToRest view mid new one two → Lives view over d new store.disk disk
+    rested disk same rest =
+        subst (λ (f : Fused D). Lives view over d new store.disk f) (sym same)
+        (record {
+          fallen = [];
+          goes = goes_trans over [] [] d mid new goes rest.goes;
+          falls = stays.falls ∙ sym (append-nil store.disk.falls);
+          unarmed = rest.unarmed;
+          disk_stays = disk_stays;
+          ends = inr rest.over;
+          some = rest.goes.some begun.some;
+          kept = kept_to rest.stores.kept;
+        })
+
+    went_down : (disk : Fused D) (image : ℕ) → Falls (seen view two.disk) (seen view disk) → disk ≡ fallen_fuse two.disk disk.inner image → WentDown view mid new one two image
+        → Lives view over d new store.disk disk
+    went_down disk image falls is down =
+        let fell : disk.falls ≡ store.disk.falls ++ fall down.calls image ∷ [] =
+        ap (λ (f : Fused D). f.falls) is
+        ∙ ap (λ (a : Option ℕ). falls_after two.disk.falls a image two.disk.blown) down.armed
+        ∙ ap (λ (b : Bool). two.disk.falls ++ record { calls = down.calls; image = image; blown = b } ∷ []) down.unblown
+        ∙ ap (λ (l : List Fallen). l ++ fall down.calls image ∷ []) stays.falls in
+        record {
+          fallen = fall down.calls image ∷ [];
+          goes = goes_trans over [] (fall down.calls image ∷ []) d mid new goes down.goes;
+          falls = fell;
+          unarmed = ap (λ (f : Fused D). f.armed) is;
+          disk_stays = record {
+            refused = ap (λ (f : Fused D). f.refused) is ∙ stays.refused;
+            size = falls.goes_on.size ∙ stays.size;
+            faults = (let one_more = falls.goes_on.faults in let before = stays.faults in omega arith);
+          };
+          ends = inl down.down;
+          some = down.goes.some begun.some;
+          kept = λ opening over_it k has.
+              let so_far = kept_to down.stores.kept opening over_it k has in
+              keeps_trans opening d.core.log new.core.log new.core.log (seen view store.disk) (seen view two.disk) (seen view disk) so_far
+              (falls_keep opening new.core.log (seen view two.disk) (seen view disk) falls so_far.kept);
+        }
+
+    halted : (disk : Fused D) (halt : Halt) → disk ≡ two.disk → Goes [] mid new → IsHaltedBy new (seen view one.disk) (seen view two.disk) halt → Halts view over d new store.disk disk (stop_of halt)
+    halted disk halt same more why =
+        subst (λ (f : Fused D). Halts view over d new store.disk f (stop_of halt)) (sym same)
+        (record {
+          goes = goes_trans over [] [] d mid new goes more;
+          falls = stays.falls;
+          disk_stays = disk_stays;
+          halt = halt;
+          stops = refl;
+          why = halted_by halt why;
+        })
+      where
+        halted_by : (halt : Halt) → IsHaltedBy new (seen view one.disk) (seen view two.disk) halt → IsHaltedBy new (seen view store.disk) (seen view two.disk) halt
+        halted_by halts.DiskFault why = let before = first.faults in omega (arith, why)
+        halted_by (halts.Full needed room) why = why
+        halted_by halts.Memory why = tt
+
+    -- how a life that began went
+    pub lived : (disk : Fused D) (ended : Result LifeEnd Halt) (result : Result (Unit {0}) Stop) → OnErr ended (Goes [] mid new) → IfOk ended (EndsBy view mid new one two)
+        → IfErr ended (IsHaltedBy new (seen view one.disk) (seen view two.disk)) → Leaves view two.disk disk ended result → LivesTo view over d new store.disk disk result
+    lived disk (Ok Rest) result goes_on ends why leaves =
+        subst (λ (r : Result (Unit {0}) Stop). LivesTo view over d new store.disk disk r) (sym leaves.1) (rested disk leaves.0 ends)
+    lived disk (Ok (Down image)) result goes_on ends why leaves =
+        subst (λ (r : Result (Unit {0}) Stop). LivesTo view over d new store.disk disk r) (sym leaves.1) (went_down disk image leaves.0.0 leaves.0.1 ends)
+    lived disk (Err halt) result goes_on ends why leaves =
+        subst (λ (r : Result (Unit {0}) Stop). LivesTo view over d new store.disk disk r) (sym leaves.1) (halted disk halt leaves.0 goes_on why)

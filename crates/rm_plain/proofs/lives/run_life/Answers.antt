@@ -1,0 +1,33 @@
+use Rattle.std.proofs.Common.{[]}
+use Rattle.rm_store.specs.Store.{seen}
+use Rattle.rm_plain.proofs.Ending.{goes_trans, stores_trans, fuse_trans, rest_on, down_on, on_err_of}
+use Rattle.rm_plain.proofs.lives.run_life.Goals as goal
+
+pub returns-in_err-tick-clause-goes : goal.returns-in_err-tick-clause-goes
+returns-in_err-tick-clause-goes g c =
+    let goes = goes_trans (λ ops. Unit {0}) [] [] c.args.d.now c.moves.d c.tick.new.d c.moves.invariant.goes c.in_err-tick.ensures.goes in
+    on_err_of c.from_residual.result goes
+
+pub moves-preserved : goal.moves-preserved
+moves-preserved g c =
+    let m = c.moves.invariant in
+    let on = rw c.in-On.is at c.in_ok-tick.ensures.moves in
+    record {
+      sound = on.goes.sound;
+      stands = on.stands;
+      serves = on.serves;
+      goes = goes_trans (λ ops. Unit {0}) [] [] c.args.d.now c.moves.d c.tick.new.d m.goes on.goes;
+      stores = λ ops. stores_trans ops c.args.d.now c.moves.d c.tick.new.d (seen g.D.Disk.view c.args.store.now.disk) (seen g.D.Disk.view c.moves.store.disk) (seen g.D.Disk.view c.tick.new.store.disk)
+          m.goes (m.stores ops) (on.stores.kept ops);
+      fuse = fuse_trans g.D.Disk.view c.args.store.now.disk c.moves.store.disk c.tick.new.store.disk m.fuse c.in_ok-tick.ensures.fuse;
+    }
+
+pub returns-in-Rest-clause-ends : goal.returns-in-Rest-clause-ends
+returns-in-Rest-clause-ends g c =
+    let moved = rw c.in-Rest.is at c.in_ok-tick.ensures.moves in
+    rest_on g.D.Disk.view c.args.d.now c.moves.d c.tick.new.d c.args.store.now c.moves.store c.tick.new.store c.moves.invariant.goes c.moves.invariant.stores moved
+
+pub returns-in-Down-clause-ends : goal.returns-in-Down-clause-ends
+returns-in-Down-clause-ends g c =
+    let moved = rw c.in-Down.is at c.in_ok-tick.ensures.moves in
+    down_on g.D.Disk.view c.args.d.now c.moves.d c.tick.new.d c.args.store.now c.moves.store c.tick.new.store c.moves.invariant.goes c.moves.invariant.stores c.in-Down.image moved

@@ -1,0 +1,54 @@
+ghost use Rattle.std.specs.Prelude.{◌≡◌};
+
+use rm_types::NoMemory;
+
+/// Why a life stopped before its end.
+#[derive(Clone, Copy, Debug, PartialEq, Eq)]
+pub enum Halt {
+    /// The disk failed, and counted the fault.
+    DiskFault,
+    /// The next operation needs so many bytes behind those that are stored, and the disk has only this room.
+    Full { needed: u64, room: u64 },
+    /// No memory was found.
+    Memory,
+}
+
+impl From<NoMemory> for Halt {
+    ghost use Rattle.rm_plain.specs.declared.halts.Halt.TheVariants.{Memory};
+
+    ghost from_gives = { λ _ halt. halt ≡ Memory };
+
+    fn from(_refused: NoMemory) -> Halt {
+        Halt::Memory
+    }
+}
+
+/// Why a run stopped before its script's end.
+#[derive(Clone, Copy, Debug, PartialEq, Eq)]
+pub enum Stop {
+    /// The disk failed, and counted the fault.
+    DiskFault,
+    /// The disk holds no store that a life can begin over: its fault is at this offset; 0 where it holds
+    /// another store than was kept on it, and 2^64 - 1 where an application has an attempt or an end.
+    Damaged { offset: u64 },
+    /// The next operation needs so many bytes behind those that are stored, and the disk has only this room.
+    Full { needed: u64, room: u64 },
+    /// No epoch or no stamp is left for one more life.
+    EpochsSpent,
+    /// No memory was found.
+    Memory,
+}
+
+impl From<Halt> for Stop {
+    ghost use Rattle.rm_plain.specs.Halted.{stop_of};
+
+    ghost from_gives = { λ halt stop. stop ≡ stop_of halt };
+
+    fn from(halt: Halt) -> Stop {
+        match halt {
+            Halt::DiskFault => Stop::DiskFault,
+            Halt::Full { needed, room } => Stop::Full { needed, room },
+            Halt::Memory => Stop::Memory,
+        }
+    }
+}

@@ -1,0 +1,262 @@
+ghost use Rattle.std.specs.Prelude.{◌≡◌, ◌≢◌, ◌<◌, ◌-◌, ◌^◌, ◌↔◌, List, [], length, IfOk, IfErr, OnOk, OnErr, IsTrue, None, false};
+ghost use Rattle.rm_disk.specs.Fuse.{Fused};
+ghost use Rattle.rm_store.specs.Errors.{IsOpenError};
+ghost use Rattle.rm_store.specs.Store.{IsSound as IsStoreSound, seen};
+ghost use Rattle.rm_core.specs.Adds.{AmountsTo, CanBeginOver};
+ghost use Rattle.rm_core.specs.InFlight.{AllPlain};
+ghost use Rattle.rm_types.specs.declared.operations.Op.{Op as AnyOp};
+ghost use Rattle.rm_core.specs.Seen.{StandsFor};
+ghost use Rattle.rm_plain.specs.Along.{IsSound};
+ghost use Rattle.rm_plain.specs.Later.{IsAgain, IsFirst, IsFirstStop, IsLaterStop};
+ghost use Rattle.rm_plain.specs.declared.halts.Halt.{Halt};
+ghost use Rattle.rm_plain.specs.Goes.{GoesOver};
+ghost use Rattle.rm_plain.specs.Halted.{stop_at_open};
+ghost use Rattle.rm_plain.specs.Keeping.{FuseStays};
+ghost use Rattle.rm_plain.specs.Starts.{Begins, DiskStays, FallsBy, IsOpened, IsRefusedBy, IsUnopenedBy, Leaves, LivesTo};
+
+use crate::desk::Desk;
+use crate::halts::{Halt, Stop};
+use crate::lives::{LifeEnd, run_life};
+use crate::moves::begin;
+use crate::refusals::memory_only;
+use crate::storing::arm;
+use rm_core::Core;
+use rm_disk::{Disk, Fuse};
+use rm_store::{OpenFail, Store, StoreError};
+use rm_tree::Tree;
+use rm_types::{AppRecord, Items, Op};
+use std::alloc::Global;
+
+/// The offset by which a store is refused over which no life can begin yet.
+const CANNOT_GO_ON: u64 = u64::MAX;
+
+/// Why no store was opened, and its disk.
+#[derive(Drop)]
+pub(crate) struct Unopened<D: Disk> {
+    pub why: Stop,
+    pub disk: Fuse<D>,
+}
+
+/// How lives went: their disk, and whether they came to their ends.
+#[derive(Drop)]
+pub(crate) struct Lived<D: Disk> {
+    pub disk: Fuse<D>,
+    pub ended: Result<(), Stop>,
+}
+
+/// What stops a run whose store isn't opened.
+fn stop_at_open(error: StoreError) -> Stop
+    requires { IsOpenError error }
+    ensures { result ≡ stop_at_open error }
+{
+    match error {
+        StoreError::DiskFault => Stop::DiskFault,
+        StoreError::Damaged { offset } | StoreError::Stray { offset, .. } => Stop::Damaged {
+            offset,
+        },
+        StoreError::Memory => Stop::Memory,
+        StoreError::Full { .. } | StoreError::NeedsReopen => unreachable!(),
+    }
+}
+
+/// Opens the store on a disk, for a life. The fuse is disarmed first.
+pub(crate) fn open<D: Disk>(
+    alloc: Global,
+    disk: Fuse<D>,
+) -> Result<(Store<D>, Tree, Items<Op>), Unopened<D>>
+    requires { disk.armed ≡ None }
+    ensures opened { IfOk result (λ opened. IsOpened D.view disk opened.0 opened.1 opened.2) }
+    ensures why { IfErr result (λ unopened. IsUnopenedBy (seen D.view disk) (seen D.view unopened.disk) unopened.why) }
+    ensures stays { IfErr result (λ unopened. DiskStays D.view disk unopened.disk) }
+    ensures falls { IfErr result (λ unopened. unopened.disk.falls ≡ disk.falls) }
+{
+    let mut disk = disk;
+    disk.disarm();
+    match Store::open(alloc, disk) {
+        Ok(opened) => Ok(opened),
+        Err(OpenFail { why, disk }) => Err(Unopened {
+            why: stop_at_open(why),
+            disk,
+        }),
+    }
+}
+
+/// Whether a record has neither an attempt nor an end.
+fn is_plain(app: &AppRecord) -> bool
+    ensures { IsTrue result ↔ ((app.now.attempts ≡ []) × (app.now.ending ≡ None)) }
+{
+    app.attempts.is_empty() && app.ending.is_none()
+}
+
+fn are_plain(tree: &Tree) -> bool
+    ensures { IsTrue result ↔ AllPlain tree.now.apps }
+{
+    'records: for place in 0..tree.len() {
+        if !is_plain(tree.at(place)) {
+            return false;
+        }
+    }
+    true
+}
+
+/// Whether a life can begin over a tree: so far no application may have an attempt or an end, and an epoch
+/// and a stamp must be left.
+pub(crate) fn can_begin(tree: &Tree) -> Result<(), Stop>
+    ensures epoch { OnOk result (tree.now.next_epoch < 2 ^ 24) }
+    ensures stamp { OnOk result (tree.now.stamp < 2 ^ 63 - 1) }
+    ensures plain { OnOk result (AllPlain tree.now.apps) }
+    ensures refused { IfErr result (IsRefusedBy tree.now) }
+{
+    if !are_plain(tree) {
+        return Err(Stop::Damaged {
+            offset: CANNOT_GO_ON,
+        });
+    }
+    if tree.next_epoch() >= 1 << 24 || tree.stamp() >= (1 << 63) - 1 {
+        return Err(Stop::EpochsSpent);
+    }
+    Ok(())
+}
+
+/// A life begins over what the store holds, and the fuse is armed where its first segment is to crash.
+fn begin_life<D: Disk>(d: &mut Desk, store: &mut Store<D>, tree: Tree) -> Result<(), Halt>
+    requires sound { IsSound d.old }
+    requires dead { d.old.core.tables.alive ≡ false }
+    requires lives { d.old.lives ≢ [] }
+    requires over { CanBeginOver tree }
+    requires store { IsStoreSound D.view store.old }
+    requires unbroken { store.old.is_broken ≡ false }
+    requires unarmed { store.old.disk.armed ≡ None }
+    requires unblown { store.old.disk.blown ≡ false }
+    ensures goes { GoesOver (λ opening. AmountsTo tree opening d.old.core) [] d.old d.new }
+    ensures begun { OnOk result (Begins D.view (λ opening. AmountsTo tree opening d.old.core) d.old d.new store.old store.new) }
+    ensures fuse { FuseStays D.view store.old.disk store.new.disk }
+    ensures fewer { OnOk result (length d.new.lives < length d.old.lives) }
+    ensures halts { IfErr result (λ halt. halt ≡ Halt.Memory) }
+{
+    memory_only(begin(d, tree))?;
+    arm(d, store)
+}
+
+/// Lets the device of a life fall that went down.
+fn fall<D: Disk>(disk: Fuse<D>, end: LifeEnd) -> Fuse<D>
+    ensures { FallsBy D.view disk result end }
+{
+    let mut disk = disk;
+    if let LifeEnd::Down { image } = end {
+        disk.fall(image);
+    }
+    disk
+}
+
+/// What a life left, once its store is closed.
+fn leave<D: Disk>(store: Store<D>, ended: Result<LifeEnd, Halt>) -> Lived<D>
+    ensures { Leaves D.view store.disk result.disk ended result.ended }
+{
+    let disk = store.close();
+    match ended {
+        Ok(end) => Lived {
+            disk: fall(disk, end),
+            ended: Ok(()),
+        },
+        Err(halt) => Lived {
+            disk,
+            ended: Err(Stop::from(halt)),
+        },
+    }
+}
+
+/// A life begins over what the store holds, and lives to its end; where it went down, its device has fallen.
+pub(crate) fn live<D: Disk>(d: &mut Desk, store: Store<D>, tree: Tree) -> Lived<D>
+    requires sound { IsSound d.old }
+    requires dead { d.old.core.tables.alive ≡ false }
+    requires lives { d.old.lives ≢ [] }
+    requires over { CanBeginOver tree }
+    requires store { IsStoreSound D.view store }
+    requires unbroken { store.is_broken ≡ false }
+    requires unarmed { store.disk.armed ≡ None }
+    requires unblown { store.disk.blown ≡ false }
+    ensures lived { LivesTo D.view (λ opening. AmountsTo tree opening d.old.core) d.old d.new store.disk result.disk result.ended }
+    ensures fewer { OnOk result.ended (length d.new.lives < length d.old.lives) }
+{
+    let mut store = store;
+    match begin_life(d, &mut store, tree) {
+        Ok(()) => {
+            let ended = run_life(d, &mut store);
+            leave(store, ended)
+        }
+        Err(halt) => leave(store, Err(halt)),
+    }
+}
+
+/// Why the first life had no store, and what its disk held, if it held a store.
+#[derive(Drop)]
+pub(crate) struct Unfounded<D: Disk> {
+    pub opening: Items<Op>,
+    pub why: Stop,
+    pub disk: Fuse<D>,
+}
+
+/// Opens the store of the first life: whatever its disk holds that a life can begin over.
+pub(crate) fn open_first<D: Disk>(
+    alloc: Global,
+    disk: Fuse<D>,
+) -> Result<(Store<D>, Tree, Items<Op>), Unfounded<D>>
+    requires { disk.armed ≡ None }
+    ensures first { IfOk result (λ first. IsFirst D.view disk first.0 first.1 first.2) }
+    ensures why { IfErr result (λ none. IsFirstStop none.opening [] (seen D.view disk) (seen D.view none.disk) none.why) }
+    ensures stays { IfErr result (λ none. DiskStays D.view disk none.disk) }
+    ensures falls { IfErr result (λ none. none.disk.falls ≡ disk.falls) }
+{
+    let (store, tree, opening) = match open(alloc, disk) {
+        Ok(opened) => opened,
+        Err(Unopened { why, disk }) => {
+            return Err(Unfounded {
+                opening: Items::new(alloc),
+                why,
+                disk,
+            });
+        }
+    };
+    match can_begin(&tree) {
+        Ok(()) => Ok((store, tree, opening)),
+        Err(why) => Err(Unfounded {
+            opening,
+            why,
+            disk: store.close(),
+        }),
+    }
+}
+
+/// Opens the store of a later life: one that holds just what was kept, and that a life can begin over. A disk
+/// that tells its bytes never holds anything else.
+pub(crate) fn open_again<D: Disk>(
+    alloc: Global,
+    core: &Core,
+    disk: Fuse<D>,
+) -> Result<(Store<D>, Tree), Unopened<D>>
+    requires unarmed { disk.armed ≡ None }
+    requires some { core.now.log ≢ [] }
+    ensures again { IfOk result (λ again. IsAgain D.view core.now disk again.0 again.1) }
+    ensures why { IfErr result (λ none. (opening : List AnyOp) → StandsFor opening core.now → IsLaterStop opening core.now.log core.now.log (seen D.view disk) (seen D.view none.disk) none.why) }
+    ensures stays { IfErr result (λ none. DiskStays D.view disk none.disk) }
+    ensures falls { IfErr result (λ none. none.disk.falls ≡ disk.falls) }
+{
+    let (store, tree) = match open(alloc, disk) {
+        Ok((store, tree, _)) => (store, tree),
+        Err(unopened) => return Err(unopened),
+    };
+    if !core.is_known(&tree) {
+        return Err(Unopened {
+            why: Stop::Damaged { offset: 0 },
+            disk: store.close(),
+        });
+    }
+    match can_begin(&tree) {
+        Ok(()) => Ok((store, tree)),
+        Err(why) => Err(Unopened {
+            why,
+            disk: store.close(),
+        }),
+    }
+}

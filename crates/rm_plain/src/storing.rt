@@ -1,0 +1,68 @@
+ghost use Rattle.std.specs.Prelude.{◌≡◌, ◌<◌, List, [], OnOk, OnErr, IfErr, None, true, false};
+ghost use Rattle.rm_types.specs.declared.messages.Lane.{Lane};
+ghost use Rattle.rm_types.specs.declared.operations.Op.{Op as AnyOp};
+ghost use Rattle.rm_store.specs.Store.{IsSound as IsStoreSound, seen};
+ghost use Rattle.rm_plain.specs.Along.{IsSound, left};
+ghost use Rattle.rm_plain.specs.Goes.{Goes};
+ghost use Rattle.rm_plain.specs.Halted.{halt_of};
+ghost use Rattle.rm_plain.specs.Keeping.{FuseStays, IsHaltedBy, Serves, StoresOn};
+ghost use Rattle.rm_plain.specs.Lanes.{is_ready_at};
+
+use crate::desk::Desk;
+use crate::halts::Halt;
+use crate::refusals::memory_only;
+use rm_core::Move;
+use rm_disk::Disk;
+use rm_store::{Store, StoreError};
+use rm_types::Close;
+
+/// The halt that an append makes which a whole store refused.
+fn halt_of(error: StoreError) -> Halt
+    ensures { result ≡ halt_of error }
+{
+    match error {
+        StoreError::DiskFault => Halt::DiskFault,
+        StoreError::Full { needed, room } => Halt::Full { needed, room },
+        _ => Halt::Memory,
+    }
+}
+
+/// The store keeps the operation that is with it, and then the manager learns so.
+pub(crate) fn keep<D: Disk>(d: &mut Desk, store: &mut Store<D>) -> Result<(), Halt>
+    requires sound { IsSound d.old }
+    requires ready { is_ready_at d.old Lane.Write ≡ true }
+    requires serves { Serves D.view d.old store.old }
+    ensures goes { Goes [] d.old d.new }
+    ensures less { OnOk result (left d.new < left d.old) }
+    ensures stands { OnOk result (d.new.core.tables.alive ≡ true) }
+    ensures serves { OnOk result (Serves D.view d.new store.new) }
+    ensures stores { OnOk result ((opening : List AnyOp) → StoresOn opening d.old d.new (seen D.view store.old.disk) (seen D.view store.new.disk)) }
+    ensures fuse { FuseStays D.view store.old.disk store.new.disk }
+    ensures halts { IfErr result (IsHaltedBy d.new (seen D.view store.old.disk) (seen D.view store.new.disk)) }
+{
+    let Some(op) = d.core.handed() else {
+        unreachable!()
+    };
+    if let Err(error) = store.append(op) {
+        return Err(halt_of(error));
+    }
+    memory_only(d.core.step(Move::Kept))?;
+    Ok(())
+}
+
+/// Arms the fuse where the segment that became the current one is to crash.
+pub(crate) fn arm<D: Disk>(d: &Desk, store: &mut Store<D>) -> Result<(), Halt>
+    requires sound { IsStoreSound D.view store.old }
+    requires unbroken { store.old.is_broken ≡ false }
+    requires unarmed { store.old.disk.armed ≡ None }
+    requires unblown { store.old.disk.blown ≡ false }
+    ensures serves { OnOk result (Serves D.view d.now store.new) }
+    ensures inner { store.new.disk.inner ≡ store.old.disk.inner }
+    ensures fuse { FuseStays D.view store.old.disk store.new.disk }
+    ensures halts { IfErr result (λ halt. halt ≡ Halt.Memory) }
+{
+    if let Some(Close::Crash { calls, .. }) = d.close {
+        store.fuse().arm(calls)?;
+    }
+    Ok(())
+}
