@@ -22,3 +22,4 @@ pub use desk::Desk;
 pub use halts::{Halt, Stop};
 pub use lives::{LifeEnd, run_life};
 pub use runs::{Run, run_script};
+pub use starts::stop_at_open;

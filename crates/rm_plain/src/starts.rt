@@ -44,8 +44,8 @@ pub(crate) struct Lived<D: Disk> {
     pub ended: Result<(), Stop>,
 }
 
-/// What stops a run whose store isn't opened.
-fn stop_at_open(error: StoreError) -> Stop
+/// What stops a run whose store isn't opened. Opening never finds a disk full, nor a store broken.
+pub fn stop_at_open(error: StoreError) -> Stop
     requires { IsOpenError error }
     ensures { result ≡ stop_at_open error }
 {
