@@ -1,11 +1,8 @@
 -- A script that was read can be run.
-use Rattle.std.proofs.Common.{◌≡◌, ℕ, ◌+◌, ◌≤◌, List, [], ◌∷◌, refl, ap, ◌∙◌, arith, length, map}
+use Rattle.std.proofs.Common.{◌≡◌, ◌⊎◌, inl, inr, ℕ, ◌<◌, List, [], ◌∷◌, ◌++◌, length, refl, sym, subst, arith}
 use Rattle.std.specs.Prelude.{All}
-use Rattle.std.specs.List.{AllByRecursion, flat_map}
-use Rattle.std.proofs.lemmas.List.{length-append, length-map}
-use Rattle.std.proofs.lemmas.List.Concat.{flat_map-cons}
+use Rattle.std.specs.List.{AllByRecursion}
 use Rattle.std.proofs.lemmas.List.Elements.{recursion_from_All}
-use Rattle.std.proofs.lemmas.List.Sums.{sum_by-cons}
 use Rattle.rm_types.specs.declared.messages.ClientAsk.{ClientAsk}
 use Rattle.rm_types.specs.declared.messages.ClientAsk.TheVariants.{New, Submit, Report, Kill}
 use Rattle.rm_types.specs.declared.messages.Message.{Message}
@@ -15,70 +12,119 @@ use Rattle.rm_types.specs.declared.scripts.Close.TheVariants.{Settle, Crash}
 use Rattle.rm_types.specs.declared.scripts.Life.{Life}
 use Rattle.rm_types.specs.declared.scripts.Segment.{Segment}
 use Rattle.rm_types.specs.declared.scripts.Script.{Script}
+use Rattle.rm_types.specs.declared.operations.Submission.{Submission}
+use Rattle.rm_types.specs.declared.texts.TextKind.TheVariants.{Name, AclText}
+use Rattle.rm_types.specs.Frames.{IsText, IsSubmission as IsFramedSubmission}
 use Rattle.rm_core.specs.Serving.{IsBuiltAsk as IsServedAsk, IsBuiltMessage as IsServedMessage}
-use Rattle.rm_script.specs.Scripts.{IsScript, IsLife, IsBuiltSegment, IsBuiltMessage, IsBuiltAsk, IsBuiltClose}
-use Rattle.rm_model.specs.Wording.{message_text}
-use Rattle.rm_script.specs.Spelling.{close_text, segment_lines, life_lines}
-use Rattle.rm_plain.specs.Along.{CanRun, AllServed, AllStart, AllSettle, messages_in}
+use Rattle.rm_script.specs.Scripts.{IsScript, IsRead, IsBuiltAsk, IsClientAsk, IsSubmission, EachButLast}
+use Rattle.rm_script.specs.Values.{Settles, EndInCrash, IsToldLife, IsToldScript}
+use Rattle.rm_script.proofs.Values.{told_values}
+use Rattle.rm_plain.specs.Along.{CanRun, AllServed, Closes, CanFollow, SettlesFirst, EndsInCrash, CanLive, AllLive}
 
-ask_served : (ask : ClientAsk) → IsBuiltAsk ask → IsServedAsk ask
-ask_served New h = tt
-ask_served (Submit id submission) h = tt
-ask_served (Report id) h = tt
-ask_served (Kill id) h = absurd h
+-- what is submitted without a `modify` can be kept
+framed : (user : List ℕ) (submission : Submission) → IsText Name user → IsSubmission user submission → submission.modify ≡ [] → IsFramedSubmission submission
+framed user submission name h empty =
+    record {
+      user = subst (IsText Name) (sym h.by_user) name;
+      queue = h.queue;
+      name = h.name;
+      memory_mb = h.memory;
+      vcores = h.vcores;
+      attempts = h.attempts;
+      modify = subst (IsText AclText) (sym empty) refl;
+    }
 
-message_served : (message : Message) → IsBuiltMessage message → IsServedMessage message
-message_served (Client user ask) h = ask_served ask h
-message_served (Master attempt ask) h = absurd h
-message_served (Node node ask) h = absurd h
-message_served (Clock ask) h = absurd h
+ask_served : (user : List ℕ) (ask : ClientAsk) → IsText Name user → IsClientAsk user ask → IsBuiltAsk ask → IsServedAsk ask
+ask_served user New name values built = tt
+ask_served user (Submit id submission) name values built = (values.0, framed user submission name values.1 built)
+ask_served user (Report id) name values built = tt
+ask_served user (Kill id) name values built = absurd built
 
-all_served : (messages : List Message) → AllByRecursion IsBuiltMessage messages → AllServed messages
+message_served : (message : Message) → IsRead message → IsServedMessage message
+message_served (Client user ask) h = ask_served user ask h.values.0 h.values.1 h.built
+message_served (Master attempt ask) h = absurd h.built
+message_served (Node node ask) h = absurd h.built
+message_served (Clock ask) h = absurd h.built
+
+all_served : (messages : List Message) → AllByRecursion IsRead messages → AllServed messages
 all_served [] h = tt
 all_served (message ∷ more) h = (message_served message h.0, all_served more h.1)
 
-settles : (close : Close) → IsBuiltClose close → close ≡ Settle
-settles Settle h = refl
-settles (Crash calls image) h = absurd h
+abbrev AreRead : Segment → Type 0
+AreRead segment = All IsRead segment.messages
 
-all_settle : (segments : List Segment) → AllByRecursion IsBuiltSegment segments → AllSettle segments
-all_settle [] h = tt
-all_settle (segment ∷ more) h =
-    (all_served segment.messages (recursion_from_All IsBuiltMessage segment.messages h.0.0), settles segment.close h.0.1, all_settle more h.1)
+closes : (messages : List Message) (more : List Segment) (close : Close) → close ≡ Settle → Closes messages more close
+closes messages more Settle h = tt
+closes messages more (Crash calls image) h = absurd (cc)
 
--- a segment has more lines than messages
-lines_in : (segment : Segment) → length (segment_lines segment) ≡ length segment.messages + 1
-lines_in segment =
-    length-append (map message_text segment.messages) (close_text segment.close ∷ []) ∙ ap (λ (n : ℕ). n + 1) (length-map segment.messages message_text)
+-- segments that settle, with such a one before those that can follow
+settling_follows : (segment : Segment) (more : List Segment) → AreRead segment → Settles segment → CanFollow more → CanFollow (segment ∷ more)
+settling_follows segment more read settles follows =
+    (all_served segment.messages (recursion_from_All IsRead segment.messages read), closes segment.messages more segment.close settles, follows)
 
-messages_below : (segments : List Segment) → messages_in segments ≤ length (flat_map segment_lines segments)
-messages_below [] = omega arith
-messages_below (segment ∷ more) =
-    let lines : length (flat_map segment_lines (segment ∷ more)) ≡ length (segment_lines segment) + length (flat_map segment_lines more) =
-    ap length (flat_map-cons segment_lines segment more) ∙ length-append (segment_lines segment) (flat_map segment_lines more) in
-    let count : messages_in (segment ∷ more) ≡ length segment.messages + messages_in more = sum_by-cons (λ (x : Segment). length x.messages) segment more in
-    omega (arith, lines, count, lines_in segment, messages_below more)
+settled_follow : (segments : List Segment) → AllByRecursion AreRead segments → AllByRecursion Settles segments → CanFollow segments
+settled_follow [] read settle = tt
+settled_follow (segment ∷ more) read settle = settling_follows segment more read.0 settle.0 (settled_follow more read.1 settle.1)
 
--- where the lines of some lives are few, the messages of each life are
-all_start : (lives : List Life) → AllByRecursion IsLife lives → AllByRecursion (λ life. All IsBuiltSegment life.segments) lives
-    → length (flat_map life_lines lives) ≤ 100000 → AllStart lives
-all_start [] values built few = tt
-all_start (life ∷ more) values built few =
-    let stamp = values.0.stamp in
-    let lines : length (flat_map life_lines (life ∷ more)) ≡ length (life_lines life) + length (flat_map life_lines more) =
-    ap length (flat_map-cons life_lines life more) ∙ length-append (life_lines life) (flat_map life_lines more) in
-    let own : length (life_lines life) ≡ 1 + length (flat_map segment_lines life.segments) = omega arith in (
-      omega arith,
-      omega arith,
-      all_settle life.segments (recursion_from_All IsBuiltSegment life.segments built.0),
-      omega (arith, few, lines, own, messages_below life.segments),
-      all_start more values.1 built.1 (omega (arith, few, lines)),
-    )
+abbrev crash_of : ℕ → ℕ → Segment
+crash_of calls image = record { messages = []; close = Crash calls image }
+
+crashed_follow : (before : List Segment) (calls image : ℕ) → AllByRecursion AreRead (before ++ crash_of calls image ∷ []) → AllByRecursion Settles before → CanFollow (before ++ crash_of calls image ∷ [])
+crashed_follow [] calls image read settle = (tt, (refl, refl), tt)
+crashed_follow (segment ∷ before) calls image read settle =
+    settling_follows segment (before ++ crash_of calls image ∷ []) read.0 settle.0 (crashed_follow before calls image read.1 settle.1)
+
+settled_first : (segments : List Segment) → AllByRecursion Settles segments → SettlesFirst segments
+settled_first [] settle = tt
+settled_first (segment ∷ more) settle = settle.0
+
+crashed_first : (before : List Segment) (calls image : ℕ) → 0 < length before → AllByRecursion Settles before → SettlesFirst (before ++ crash_of calls image ∷ [])
+crashed_first [] calls image some settle = absurd (omega arith)
+crashed_first (segment ∷ before) calls image some settle = settle.0
+
+last_crashes : (before : List Segment) (calls image : ℕ) → EndsInCrash (before ++ crash_of calls image ∷ [])
+last_crashes [] calls image = tt
+last_crashes (segment ∷ []) calls image = tt
+last_crashes (segment ∷ next ∷ before) calls image = last_crashes (next ∷ before) calls image
+
+ends : (segments : List Segment) → EndInCrash segments → EndsInCrash segments
+ends segments h = subst EndsInCrash (sym h.apart) (last_crashes h.before h.calls h.image)
+
+follow : (segments : List Segment) → AllByRecursion AreRead segments → All Settles segments ⊎ EndInCrash segments → CanFollow segments
+follow segments read h =
+    elim h [
+      | inl settle ↦ settled_follow segments read (recursion_from_All Settles segments settle)
+      | inr crash ↦
+          subst CanFollow (sym crash.apart)
+          (crashed_follow crash.before crash.calls crash.image (subst (AllByRecursion AreRead) crash.apart read) (recursion_from_All Settles crash.before crash.settle))
+    ]
+
+first : (segments : List Segment) → All Settles segments ⊎ EndInCrash segments → SettlesFirst segments
+first segments h =
+    elim h [
+      | inl settle ↦ settled_first segments (recursion_from_All Settles segments settle)
+      | inr crash ↦ subst SettlesFirst (sym crash.apart) (crashed_first crash.before crash.calls crash.image crash.some (recursion_from_All Settles crash.before crash.settle))
+    ]
+
+can_live : (life : Life) → IsToldLife life → CanLive life
+can_live life h =
+    record {
+      low = omega (arith, h.stamp);
+      high = omega (arith, h.stamp);
+      segments = follow life.segments (recursion_from_All AreRead life.segments h.messages) h.closes;
+      first = first life.segments h.closes;
+      few = h.few;
+    }
+
+abbrev CrashesSo : Life → Type 0
+CrashesSo life = EndInCrash life.segments
+
+all_live : (lives : List Life) → AllByRecursion IsToldLife lives → EachButLast CrashesSo lives → AllLive lives
+all_live [] each crash = tt
+all_live (life ∷ []) each crash = (can_live life each.0, λ more. absurd (more refl), tt)
+all_live (life ∷ next ∷ lives) each crash = (can_live life each.0, λ more. ends life.segments crash.0, all_live (next ∷ lives) each.1 crash.1)
 
 pub can_run : (bytes : List ℕ) (script : Script) → IsScript bytes script → CanRun script
 can_run bytes script h =
-    record {
-      lives = all_start script.lives (recursion_from_All IsLife script.lives h.values)
-          (recursion_from_All (λ (life : Life). All IsBuiltSegment life.segments) script.lives h.built.segments) h.limits.lines;
-      few = h.built.lives;
-    }
+    let told : IsToldScript script = told_values bytes script h in
+    record { lives = all_live script.lives (recursion_from_All IsToldLife script.lives told.each) told.crash }

@@ -1,5 +1,4 @@
 pub mod Words
-pub mod Clusters
 pub mod Runs
 pub mod Inputs
 pub mod Statuses

@@ -1,16 +1,43 @@
--- The outcomes that a run and the writing of its page may have.
-use Rattle.std.specs.Prelude.{ℕ, List, Option}
+-- The outcomes that a call and the writing of its page may have.
+use Rattle.std.specs.Prelude.{Result, Ok, Err}
 use Rattle.rm_types.specs.declared.outcomes.Outcome.{Outcome}
-use Rattle.rm_types.specs.declared.outcomes.Outcome.TheVariants.{Done, WriteFault, Memory}
-use Rattle.rm_main.specs.Runs.{Writes}
+use Rattle.rm_types.specs.declared.outcomes.Outcome.TheVariants.{Done, WriteFault, DiskFault, StoreDamaged, StoreFull, EpochsSpent, Memory}
+use Rattle.rm_plain.specs.declared.halts.Stop.{Stop}
+use Rattle.rm_plain.specs.declared.halts.Stop.TheVariants as stops
 
--- the outcome of a run: the page was written, or the sink or the memory failed
+-- the outcome of writing a page: it was written, or the sink or the memory failed
+abbrev pub IsOfWriting : Outcome → Type 0
+IsOfWriting Done = Unit {0}
+IsOfWriting (WriteFault took_nothing) = Unit {0}
+IsOfWriting Memory = Unit {0}
+IsOfWriting _ = ⊥
+
+-- the outcome of a listing: it was written, or the device, the store, the sink or the memory failed
+abbrev pub IsOfListing : Outcome → Type 0
+IsOfListing DiskFault = Unit {0}
+IsOfListing (StoreDamaged offset) = Unit {0}
+IsOfListing outcome = IsOfWriting outcome
+
+-- what stopped a run, as its outcome
+abbrev pub outcome_of_stop : Stop → Outcome
+outcome_of_stop stops.DiskFault = DiskFault
+outcome_of_stop (stops.Damaged offset) = StoreDamaged offset
+outcome_of_stop (stops.Full needed room) = StoreFull needed room
+outcome_of_stop stops.EpochsSpent = EpochsSpent
+outcome_of_stop stops.Memory = Memory
+
+-- what stopped a run is its outcome where its page was written
+abbrev pub outcome_stopped : Stop → Outcome → Outcome
+outcome_stopped stop Done = outcome_of_stop stop
+outcome_stopped stop written = written
+
+-- the outcome of a run whose page was written so: that of the writing, unless the page was written and the run had stopped
+abbrev pub outcome_of : Result (Unit {0}) Stop → Outcome → Outcome
+outcome_of (Ok _) written = written
+outcome_of (Err stop) written = outcome_stopped stop written
+
+-- the outcome of a run that was made
 abbrev pub IsOfRun : Outcome → Type 0
-IsOfRun Done = Unit {0}
-IsOfRun (WriteFault took_nothing) = Unit {0}
-IsOfRun Memory = Unit {0}
-IsOfRun _ = ⊥
-
--- what was written under the one outcome was written under the other
-abbrev pub KeepsWrites : Outcome → Outcome → Type 0
-KeepsWrites written outcome = (old new : Option (List ℕ)) (bytes : List ℕ) → Writes written old new bytes → Writes outcome old new bytes
+IsOfRun EpochsSpent = Unit {0}
+IsOfRun (StoreFull needed room) = Unit {0}
+IsOfRun outcome = IsOfListing outcome

@@ -1,19 +1,26 @@
 -- The words of the program. This project's own.
 use Rattle.std.specs.Prelude.{ℕ, List, [], ◌∷◌, Bool, false, ◌&&◌, not, ◌==◌, Option, None, Some, if◌then◌else◌, codes}
 use Rattle.std.specs.Str.{bytes_eq}
+use Rattle.rm_main.specs.declared.words.Mode.{Mode}
+use Rattle.rm_main.specs.declared.words.Mode.TheVariants as modes
 
--- the names of the two files of a run
-pub record FileNames : Type 0 where
-  pub cluster : List ℕ
-  pub script : List ℕ
+-- what the words ask for: a run of a script under a cluster file, by the names of the two files, or what the store keeps
+pub data Asked : Type 0 where
+  Run : (cluster script : List ℕ) → Asked
+  Listing : Asked
+
+-- a mode as it is asked for, with names as lists of bytes
+abbrev pub asked : Mode → Asked
+asked (modes.Plain cluster script) = Run cluster.now script.now
+asked modes.Store = Listing
 
 -- a word that begins with `-`
 abbrev pub is_flag : List ℕ → Bool
 is_flag [] = false
 is_flag (byte ∷ bytes) = byte == 45
 
--- the files that the words name: they are `plain` and two words that don't begin with `-`, or name none
-abbrev pub file_names : List (List ℕ) → Option FileNames
-file_names (mode ∷ cluster ∷ script ∷ []) =
-    if bytes_eq mode (codes "plain") && not (is_flag cluster) && not (is_flag script) then Some (record { cluster = cluster; script = script }) else None
-file_names _ = None
+-- what the words ask for: `plain` and two words that don't begin with `-` a run, `store` alone a listing, and others nothing
+abbrev pub mode_of : List (List ℕ) → Option Asked
+mode_of (mode ∷ cluster ∷ script ∷ []) = if bytes_eq mode (codes "plain") && not (is_flag cluster) && not (is_flag script) then Some (Run cluster script) else None
+mode_of (mode ∷ []) = if bytes_eq mode (codes "store") then Some Listing else None
+mode_of _ = None

@@ -2,20 +2,16 @@ ghost use Rattle.std.specs.Prelude.{◌≡◌, ◌≤◌, IfOk, IfErr, OnOk, Err
 ghost use Rattle.rm_types.specs.Counts.{Rose};
 ghost use Rattle.rm_plain.specs.Along.{CanRun};
 ghost use Rattle.rm_main.specs.Runs.{AreSettings, IsScriptOf};
-ghost use Rattle.rm_main.specs.Inputs.{StopsAtCluster, StopsAtScript};
+ghost use Rattle.rm_main.specs.Inputs.{StopsAtCluster, StopsAtScript, StopsEarly};
 
-use crate::clusters::{ClusterError, read_cluster};
+use rm_cluster::{ClusterError, read_cluster};
 use rm_outside::{Shelf, ShelfError};
 use rm_script::{ScriptError, read_script};
 use rm_types::{Outcome, Script, Settings};
 use std::alloc::Global;
 
 /// Reads the settings of a file. A refusal is the outcome that it makes.
-pub fn read_settings<F: Shelf>(
-    alloc: Global,
-    shelf: &mut F,
-    name: &str,
-) -> Result<Settings, Outcome>
+fn read_settings<F: Shelf>(alloc: Global, shelf: &mut F, name: &str) -> Result<Settings, Outcome>
     ensures read { IfOk result (λ settings. AreSettings (F.bytes_of shelf.old name.now) settings) }
     ensures rights { IfOk result (λ settings. settings.acl_enable ≡ false) }
     ensures refused { IfErr result (StopsAtCluster (F.bytes_of shelf.old name.now)) }
@@ -36,7 +32,7 @@ pub fn read_settings<F: Shelf>(
 }
 
 /// Reads the script of a file. A refusal is the outcome that it makes.
-pub fn read_lives<F: Shelf>(alloc: Global, shelf: &mut F, name: &str) -> Result<Script, Outcome>
+fn read_lives<F: Shelf>(alloc: Global, shelf: &mut F, name: &str) -> Result<Script, Outcome>
     ensures read { IfOk result (λ script. IsScriptOf (F.bytes_of shelf.old name.now) script) }
     ensures can_run { IfOk result CanRun }
     ensures refused { IfErr result (StopsAtScript (F.bytes_of shelf.old name.now)) }
@@ -52,4 +48,24 @@ pub fn read_lives<F: Shelf>(alloc: Global, shelf: &mut F, name: &str) -> Result<
         Err(ScriptError::Refused { line }) => Err(Outcome::ScriptRefused { line }),
         Err(ScriptError::Memory) => Err(Outcome::Memory),
     }
+}
+
+/// Reads the settings and the script of two files, the settings first. A refusal is the outcome that it
+/// makes.
+pub fn read_inputs<F: Shelf>(
+    alloc: Global,
+    shelf: &mut F,
+    cluster: &str,
+    script: &str,
+) -> Result<(Settings, Script), Outcome>
+    ensures settings { IfOk result (λ inputs. AreSettings (F.bytes_of shelf.old cluster.now) inputs.0) }
+    ensures rights { IfOk result (λ inputs. inputs.0.acl_enable ≡ false) }
+    ensures script { IfOk result (λ inputs. IsScriptOf (F.bytes_of shelf.old script.now) inputs.1) }
+    ensures can_run { IfOk result (λ inputs. CanRun inputs.1) }
+    ensures refused { IfErr result (StopsEarly (F.bytes_of shelf.old) cluster.now script.now) }
+    ensures fault { result ≡ Err Outcome.ReadFault → Rose (F.faults shelf.old) (F.faults shelf.new) }
+{
+    let settings = read_settings(alloc, shelf, cluster)?;
+    let script = read_lives(alloc, shelf, script)?;
+    Ok((settings, script))
 }

@@ -28,7 +28,7 @@ pub fn status_of(outcome: Outcome) -> u8
 pub fn explain<R: Eprint>(rt: &R, outcome: Outcome) {
     let _ = match outcome {
         Outcome::Done => return,
-        Outcome::Usage => eprintln!(rt; "rm: usage: rm plain CLUSTER SCRIPT"),
+        Outcome::Usage => eprintln!(rt; "rm: usage: rm plain CLUSTER SCRIPT | rm store"),
         Outcome::ReadFault => eprintln!(rt; "rm: a file could not be read"),
         Outcome::WriteFault {
             took_nothing: false,

@@ -1,11 +1,13 @@
-ghost use Rattle.std.specs.Prelude.{◌≡◌, map, string_bytes, Some, None, IfSome, IfNone};
-ghost use Rattle.rm_main.specs.Words.{FileNames, file_names, is_flag};
+ghost use Rattle.std.specs.Prelude.{◌≡◌, [], ◌∷◌, map, string_bytes, Some, None, IfSome, IfNone};
+ghost use Rattle.rm_main.specs.Words.{asked, mode_of, is_flag};
 
-/// The files that a run reads.
+/// What the program is to do.
 #[derive(Clone, Copy, Debug)]
-pub struct Files<'a> {
-    pub cluster: &'a str,
-    pub script: &'a str,
+pub enum Mode<'a> {
+    /// Runs a script under a cluster file; these are the files' names.
+    Plain { cluster: &'a str, script: &'a str },
+    /// Lists what the store keeps.
+    Store,
 }
 
 /// Whether a word begins with `-`.
@@ -18,18 +20,25 @@ fn is_flag(word: &str) -> bool
     }
 }
 
-/// The files that the program's words name: the words are `plain` and two that don't begin with `-`.
-pub fn named_files(words: &[String]) -> Option<Files<'_>>
-    ensures named { IfSome result (λ files. file_names (map string_bytes words.now) ≡ Some (record { cluster = files.cluster.now; script = files.script.now })) }
-    ensures none { IfNone result (file_names (map string_bytes words.now) ≡ None) }
+/// The mode that the program's words ask for: they are `plain` and two that don't begin with `-`, or
+/// `store` alone.
+pub fn mode_of(words: &[String]) -> Option<Mode<'_>>
+    ensures some { IfSome result (λ mode. mode_of (map string_bytes words.now) ≡ Some (asked mode)) }
+    ensures none { IfNone result (mode_of (map string_bytes words.now) ≡ None) }
 {
-    let [mode, cluster, script] = words else {
-        return None;
-    };
-    let cluster = cluster.as_str();
-    let script = script.as_str();
-    if mode.as_str() == "plain" && !is_flag(cluster) && !is_flag(script) {
-        Some(Files { cluster, script })
+    match words {
+        [mode, cluster, script] => plain_mode(mode.as_str(), cluster.as_str(), script.as_str()),
+        [mode] if mode.as_str() == "store" => Some(Mode::Store),
+        _ => None,
+    }
+}
+
+fn plain_mode<'a>(mode: &str, cluster: &'a str, script: &'a str) -> Option<Mode<'a>>
+    ensures some { IfSome result (λ asks. mode_of (mode.now ∷ cluster.now ∷ script.now ∷ []) ≡ Some (asked asks)) }
+    ensures none { IfNone result (mode_of (mode.now ∷ cluster.now ∷ script.now ∷ []) ≡ None) }
+{
+    if mode == "plain" && !is_flag(cluster) && !is_flag(script) {
+        Some(Mode::Plain { cluster, script })
     } else {
         None
     }

@@ -1,26 +1,24 @@
-ghost use Rattle.std.specs.Prelude.{◌≡◌, [], IsOk, false, true};
-ghost use Rattle.rm_model.specs.Page.{page};
+ghost use Rattle.std.specs.Prelude.{◌≡◌, [], false, true};
+ghost use Rattle.rm_model.specs.Page.{page, store_page};
 ghost use Rattle.rm_types.specs.Counts.{Rose};
 ghost use Rattle.rm_main.specs.Runs.{Writes};
-ghost use Rattle.rm_main.specs.Ways.{IsOfRun, KeepsWrites};
+ghost use Rattle.rm_main.specs.Ways.{IsOfWriting, outcome_of, outcome_of_stop};
 
 use rm_outside::{Sink, Written, write_all};
-use rm_page::page;
-use rm_types::{Entry, Items, NoMemory, Outcome};
+use rm_page::{page, store_page};
+use rm_plain::Stop;
+use rm_types::{Entry, Items, Op, Outcome};
 use std::alloc::Global;
 
-/// Writes the page of a log.
-pub fn write_page<K: Sink>(alloc: Global, sink: &mut K, log: &Items<Entry>) -> Outcome
-    ensures of_run { IsOfRun result }
-    ensures writes { Writes result (K.taken sink.old) (K.taken sink.new) (page log.now false) }
+/// Writes a page.
+fn write<K: Sink>(sink: &mut K, page: &[u8]) -> Outcome
+    ensures of_writing { IsOfWriting result }
+    ensures writes { Writes result (K.taken sink.old) (K.taken sink.new) page.now }
     ensures write_fault { result ≡ Outcome.WriteFault false → Rose (K.faults sink.old) (K.faults sink.new) }
     ensures took_nothing { result ≡ Outcome.WriteFault true → Rose (K.idle sink.old) (K.idle sink.new) }
-    ensures untouched { log.now ≡ [] → sink.new ≡ sink.old }
+    ensures untouched { page.now ≡ [] → sink.new ≡ sink.old }
 {
-    let Ok(bytes) = page(alloc, log, false) else {
-        return Outcome::Memory;
-    };
-    match write_all(sink, bytes.as_slice()) {
+    match write_all(sink, page) {
         Written::All => Outcome::Done,
         Written::Fault => Outcome::WriteFault {
             took_nothing: false,
@@ -30,17 +28,54 @@ pub fn write_page<K: Sink>(alloc: Global, sink: &mut K, log: &Items<Entry>) -> O
     }
 }
 
-/// The outcome of a run whose page was written so: where memory ran out in the run it isn't Done.
-pub fn outcome_of(ended: Result<(), NoMemory>, written: Outcome) -> Outcome
-    requires { IsOfRun written }
-    ensures of_run { IsOfRun result }
-    ensures writes { KeepsWrites written result }
-    ensures write_fault { result ≡ Outcome.WriteFault false → written ≡ Outcome.WriteFault false }
-    ensures took_nothing { result ≡ Outcome.WriteFault true → written ≡ Outcome.WriteFault true }
-    ensures done { result ≡ Outcome.Done → IsOk ended }
+/// Writes the page of a log.
+pub fn write_page<K: Sink>(alloc: Global, sink: &mut K, log: &Items<Entry>) -> Outcome
+    ensures of_writing { IsOfWriting result }
+    ensures writes { Writes result (K.taken sink.old) (K.taken sink.new) (page log.now false) }
+    ensures write_fault { result ≡ Outcome.WriteFault false → Rose (K.faults sink.old) (K.faults sink.new) }
+    ensures took_nothing { result ≡ Outcome.WriteFault true → Rose (K.idle sink.old) (K.idle sink.new) }
+    ensures untouched { page log.now false ≡ [] → sink.new ≡ sink.old }
+{
+    let Ok(bytes) = page(alloc, log, false) else {
+        return Outcome::Memory;
+    };
+    write(sink, bytes.as_slice())
+}
+
+/// Writes the page of a store.
+pub fn write_store<K: Sink>(alloc: Global, sink: &mut K, ops: &Items<Op>) -> Outcome
+    ensures of_writing { IsOfWriting result }
+    ensures writes { Writes result (K.taken sink.old) (K.taken sink.new) (store_page ops.now) }
+    ensures write_fault { result ≡ Outcome.WriteFault false → Rose (K.faults sink.old) (K.faults sink.new) }
+    ensures took_nothing { result ≡ Outcome.WriteFault true → Rose (K.idle sink.old) (K.idle sink.new) }
+    ensures untouched { store_page ops.now ≡ [] → sink.new ≡ sink.old }
+{
+    let Ok(bytes) = store_page(alloc, ops) else {
+        return Outcome::Memory;
+    };
+    write(sink, bytes.as_slice())
+}
+
+/// What stopped a run, as its outcome.
+fn outcome_of_stop(stop: Stop) -> Outcome
+    ensures { result ≡ outcome_of_stop stop }
+{
+    match stop {
+        Stop::DiskFault => Outcome::DiskFault,
+        Stop::Damaged { offset } => Outcome::StoreDamaged { offset },
+        Stop::Full { needed, room } => Outcome::StoreFull { needed, room },
+        Stop::EpochsSpent => Outcome::EpochsSpent,
+        Stop::Memory => Outcome::Memory,
+    }
+}
+
+/// The outcome of a run whose page was written so. A run that stopped has its stop's outcome, unless the
+/// writing failed.
+pub fn outcome_of(ended: Result<(), Stop>, written: Outcome) -> Outcome
+    ensures { result ≡ outcome_of ended written }
 {
     match (ended, written) {
-        (Err(_), Outcome::Done) => Outcome::Memory,
+        (Err(stop), Outcome::Done) => outcome_of_stop(stop),
         (_, written) => written,
     }
 }

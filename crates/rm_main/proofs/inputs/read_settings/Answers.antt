@@ -7,4 +7,4 @@ returns-in-Ok-read_cluster-clause-read g c =
 pub returns-in-Err-Refused-clause-refused : goal.returns-in-Err-Refused-clause-refused
 returns-in-Err-Refused-clause-refused g c =
     let refused = rw (c.in-Err-Refused.field-0-is, c.as_slice.ensures.value) at c.in-Err-Refused.ensures.refused in
-    (refused.0, record { bytes = c.in-Ok.bytes.items; read = c.in-Ok.ensures.bytes; none = refused.1 })
+    record { bytes = c.in-Ok.bytes.items; read = c.in-Ok.ensures.bytes; none = refused }

@@ -1,0 +1,63 @@
+ghost use Rattle.std.specs.Prelude.{◌≡◌, [], IsOk, IfErr, None};
+ghost use Rattle.rm_disk.specs.Disk.{IsQuiet, Tells};
+ghost use Rattle.rm_model.specs.Device.{Holds};
+ghost use Rattle.rm_plain.specs.Halted.{stop_at_open};
+ghost use Rattle.rm_plain.specs.Starts.{DiskStays, IsUnopenedBy};
+ghost use Rattle.rm_store.specs.Errors.{IsOpenError};
+ghost use Rattle.rm_store.specs.Store.{seen};
+
+use rm_disk::{Disk, Fuse};
+use rm_plain::Stop;
+use rm_store::{OpenFail, Store, StoreError};
+use rm_types::{Items, Op};
+use std::alloc::Global;
+
+/// What a store keeps, its disk, and why it couldn't be opened, if it couldn't.
+#[derive(Drop)]
+pub struct Listing<D: Disk> {
+    pub ops: Items<Op>,
+    pub disk: Fuse<D>,
+    pub ended: Result<(), Stop>,
+}
+
+/// What stops a call whose store isn't opened.
+fn stop_at_open(error: StoreError) -> Stop
+    requires { IsOpenError error }
+    ensures { result ≡ stop_at_open error }
+{
+    match error {
+        StoreError::DiskFault => Stop::DiskFault,
+        StoreError::Damaged { offset } | StoreError::Stray { offset, .. } => Stop::Damaged {
+            offset,
+        },
+        StoreError::Memory => Stop::Memory,
+        StoreError::Full { .. } | StoreError::NeedsReopen => unreachable!(),
+    }
+}
+
+/// Opens the store that a disk holds, and closes it again: what it keeps, in the order in which it was kept.
+/// The disk is left as it was.
+pub fn list_store<D: Disk>(alloc: Global, disk: Fuse<D>) -> Listing<D>
+    requires { disk.armed ≡ None }
+    ensures holds { IsOk result.ended → Tells (seen D.view disk) (λ bytes. Holds bytes result.ops) }
+    ensures stopped { IfErr result.ended (IsUnopenedBy (seen D.view disk) (seen D.view result.disk)) }
+    ensures empty { IfErr result.ended (λ _. result.ops ≡ []) }
+    ensures quiet { IsQuiet (seen D.view disk) (seen D.view result.disk) }
+    ensures stays { DiskStays D.view disk result.disk }
+    ensures falls { result.disk.falls ≡ disk.falls }
+{
+    let mut disk = disk;
+    disk.disarm();
+    match Store::open(alloc, disk) {
+        Ok((store, _tree, ops)) => Listing {
+            ops,
+            disk: store.close(),
+            ended: Ok(()),
+        },
+        Err(OpenFail { why, disk }) => Listing {
+            ops: Items::new(alloc),
+            disk,
+            ended: Err(stop_at_open(why)),
+        },
+    }
+}
