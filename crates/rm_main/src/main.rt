@@ -15,6 +15,8 @@
 mod inputs;
 mod listing;
 mod statuses;
+#[cfg(test)]
+mod tests;
 mod top;
 mod words;
 mod writing;
