@@ -1,14 +1,12 @@
 ghost use Rattle.std.specs.Prelude.{◌≡◌, [], IsOk, IfErr, None};
 ghost use Rattle.rm_disk.specs.Disk.{IsQuiet, Tells};
 ghost use Rattle.rm_model.specs.Device.{Holds};
-ghost use Rattle.rm_plain.specs.Halted.{stop_at_open};
 ghost use Rattle.rm_plain.specs.Starts.{DiskStays, IsUnopenedBy};
-ghost use Rattle.rm_store.specs.Errors.{IsOpenError};
 ghost use Rattle.rm_store.specs.Store.{seen};
 
 use rm_disk::{Disk, Fuse};
-use rm_plain::Stop;
-use rm_store::{OpenFail, Store, StoreError};
+use rm_plain::{Stop, stop_at_open};
+use rm_store::{OpenFail, Store};
 use rm_types::{Items, Op};
 use std::alloc::Global;
 
@@ -18,21 +16,6 @@ pub struct Listing<D: Disk> {
     pub ops: Items<Op>,
     pub disk: Fuse<D>,
     pub ended: Result<(), Stop>,
-}
-
-/// What stops a call whose store isn't opened.
-fn stop_at_open(error: StoreError) -> Stop
-    requires { IsOpenError error }
-    ensures { result ≡ stop_at_open error }
-{
-    match error {
-        StoreError::DiskFault => Stop::DiskFault,
-        StoreError::Damaged { offset } | StoreError::Stray { offset, .. } => Stop::Damaged {
-            offset,
-        },
-        StoreError::Memory => Stop::Memory,
-        StoreError::Full { .. } | StoreError::NeedsReopen => unreachable!(),
-    }
 }
 
 /// Opens the store that a disk holds, and closes it again: what it keeps, in the order in which it was kept.
