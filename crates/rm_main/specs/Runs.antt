@@ -131,12 +131,12 @@ Ends told asked made EpochsSpent = Ran told asked made EpochsSpent
 Ends told asked made Memory = Ran told asked made Memory ⊎ (WasToList asked made ⊎ WasToRun asked made)
 
 -- why the device or the store stopped a call, between the handed disk and the one given back: the disk counted a fault;
--- what it tells is no store that a life can begin over; the store was full; or epochs or stamps were used up
+-- what it tells is no store that a life can begin over; the store was full; or its epochs or stamps were used up
 abbrev pub IsCausedBy : DiskView → DiskView → List Op → List Entry → Outcome → Type 0
 IsCausedBy old new opening log DiskFault = Rose old.faults new.faults
 IsCausedBy old new opening log (StoreDamaged offset) = IsDamaged old opening log offset
 IsCausedBy old new opening log (StoreFull needed room) = IsFull opening log new needed room
-IsCausedBy old new opening log EpochsSpent = IsSpent opening log
+IsCausedBy old new opening log EpochsSpent = IsSpent old opening log
 IsCausedBy old new opening log _ = Unit {0}
 
 -- the outcome of a call that stopped before it used the device

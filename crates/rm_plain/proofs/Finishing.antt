@@ -36,7 +36,7 @@ use Rattle.rm_plain.proofs.Stored.{within_longer}
 first_stop : (opening : List Op) (log : List Entry) (old new : DiskView) (stop : Stop) → IsFirstStop opening log old new stop → IsStoppedBy old new opening log stop
 first_stop opening log old new DiskFault h = h
 first_stop opening log old new (Damaged offset) h = λ bytes told.
-    ⊎_elim (λ none. inl (h.0, none)) (λ no. inr (no.0, subst (λ (l : List Entry). CannotGoOn opening l) (sym h.0) no.1)) (h.1 bytes told)
+    ⊎_elim (λ none. inl (h.0, none)) (λ no. inr (no.0, no.1, subst (λ (l : List Entry). CannotGoOn opening l) (sym h.0) no.2)) (h.1 bytes told)
 first_stop opening log old new (Full needed room) h = h
 first_stop opening log old new EpochsSpent h = h
 first_stop opening log old new Memory h = tt
@@ -78,9 +78,9 @@ module _ {D : Type 0} (view : D → DiskView) (opening : List Op) where
     later_stop : StandsFor opening a.core → (stop : Stop) → IsLaterStop opening b.core.log c.core.log (seen view second) (seen view third) stop
         → IsStoppedBy (seen view first) (seen view third) opening c.core.log stop
     later_stop k DiskFault why = let before = ab.stays.faults in omega (arith, why)
-    later_stop k (Damaged offset) why = λ bytes told. inr (why (ab.kept bytes told k).kept)
+    later_stop k (Damaged offset) why = λ bytes told. let no = why (ab.kept bytes told k).kept in inr (no.0, (ab.kept bytes told k).opened, no.1)
     later_stop k (Full needed room) why = why
-    later_stop k EpochsSpent why = why
+    later_stop k EpochsSpent why = (λ bytes told. (ab.kept bytes told k).opened, why)
     later_stop k Memory why = tt
 
     pub all_lived : (r : Result (Unit {0}) Stop) → LaterTo view b c second third r → OnOk r (c.lives ≡ []) → AllLived view opening a c first third r

@@ -18,7 +18,7 @@ use Rattle.rm_plain.specs.declared.halts.Stop.TheVariants.{DiskFault, Damaged, F
 use Rattle.rm_plain.specs.Goes.{GoesOver, IsOver}
 use Rattle.rm_plain.specs.Keeping.{IsFull, IsKeptOn, KeepsOn}
 use Rattle.rm_plain.specs.Starts.{DiskStays, Lives}
-use Rattle.rm_plain.specs.Stops.{CannotGoOn, IsNoStore, IsSpent}
+use Rattle.rm_plain.specs.Stops.{CannotGoOn, IsNoStore, IsSpent, NoneLeft}
 
 -- a store that is ready for a life: whole, with its fuse unarmed, over a tree that a life can begin over
 pub record IsReady {D : Type 0} (view : D → DiskView) (disk : Fused D) (store : StoreState D) (tree : Records) : Type 0 where
@@ -48,15 +48,15 @@ abbrev pub IsLaterStop : List Op → List Entry → List Entry → DiskView → 
 IsLaterStop opening log longer old new DiskFault = Rose old.faults new.faults
 IsLaterStop opening log longer old new (Damaged offset) = IsKeptOn opening log old → (offset ≡ 2 ^ 64 - 1) × CannotGoOn opening longer
 IsLaterStop opening log longer old new (Full needed room) = IsFull opening longer new needed room
-IsLaterStop opening log longer old new EpochsSpent = IsSpent opening longer
+IsLaterStop opening log longer old new EpochsSpent = NoneLeft opening longer
 IsLaterStop opening log longer old new Memory = Unit {0}
 
 -- why the first life stopped it, over a disk that held the opening list or no store
 abbrev pub IsFirstStop : List Op → List Entry → DiskView → DiskView → Stop → Type 0
 IsFirstStop opening log old new DiskFault = Rose old.faults new.faults
-IsFirstStop opening log old new (Damaged offset) = (log ≡ []) × Tells old (λ bytes. IsNoStore offset bytes ⊎ ((offset ≡ 2 ^ 64 - 1) × CannotGoOn opening []))
+IsFirstStop opening log old new (Damaged offset) = (log ≡ []) × Tells old (λ bytes. IsNoStore offset bytes ⊎ ((offset ≡ 2 ^ 64 - 1) × Holds bytes opening × CannotGoOn opening []))
 IsFirstStop opening log old new (Full needed room) = IsFull opening log new needed room
-IsFirstStop opening log old new EpochsSpent = IsSpent opening log
+IsFirstStop opening log old new EpochsSpent = IsSpent old opening log
 IsFirstStop opening log old new Memory = Unit {0}
 
 -- some lives were lived, and one stopped the run
