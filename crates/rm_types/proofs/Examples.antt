@@ -1,59 +1,17 @@
 -- Worked examples: what the definitions give for values whose outcome is known from outside.
 use Rattle.std.specs.Prelude.{◌≡◌, ℕ, true, false, List, [], ◌∷◌, codes, Some, None, refl}
-use Rattle.std.specs.Fmt.{digits}
-use Rattle.rm_types.specs.declared.containers.AskLine.{AskLine}
-use Rattle.rm_types.specs.declared.containers.BookRow.{BookRow}
-use Rattle.rm_types.specs.declared.containers.ContainerState.TheVariants.{Running}
+use Rattle.rm_types.specs.declared.containers.Ask.{Ask}
 use Rattle.rm_types.specs.declared.containers.Grant.{Grant}
 use Rattle.rm_types.specs.declared.ids.AppId.{AppId}
 use Rattle.rm_types.specs.declared.ids.AttemptId.{AttemptId}
 use Rattle.rm_types.specs.declared.ids.ContainerId.{ContainerId}
-use Rattle.rm_types.specs.declared.operations.How.TheVariants.{Killed}
-use Rattle.rm_types.specs.declared.operations.Op.TheVariants.{Epoch, AttemptEnd}
 use Rattle.rm_types.specs.declared.operations.Submission.{Submission}
 use Rattle.rm_types.specs.declared.replies.AclOp.TheVariants.{Submit, Kill}
 use Rattle.rm_types.specs.declared.resources.Resource.{Resource}
 use Rattle.rm_types.specs.declared.settings.Settings.{Settings}
 use Rattle.rm_types.specs.AclTexts.{admits}
-use Rattle.rm_types.specs.Frames.{frame}
-use Rattle.rm_types.specs.IdTexts.{app_text, attempt_text, container_text}
-use Rattle.rm_types.specs.Passes.{pass_list}
+use Rattle.rm_types.specs.Passes.{PassNode, by_priority, pass_list}
 use Rattle.rm_types.specs.Rights.{parents_of, home, is_leaf, may_submit, may_administer, may_kill, denial}
-
--- the texts of ids
-
-abbrev first_app : AppId
-first_app = record { stamp = 1410901177871; number = 1 }
-
-abbrev first_attempt : AttemptId
-first_attempt = record { app = first_app; number = 1 }
-
-abbrev container : ℕ → ℕ → ContainerId
-container epoch seq = record { attempt = first_attempt; epoch = epoch; seq = seq }
-
-pub app_text_example : app_text first_app ≡ codes "application_1410901177871_0001"
-unfolding digits
-app_text_example = refl
-
-pub app_text_example-long : app_text (record { stamp = 1; number = 12345 }) ≡ codes "application_1_12345"
-unfolding digits
-app_text_example-long = refl
-
-pub attempt_text_example : attempt_text first_attempt ≡ codes "appattempt_1410901177871_0001_000001"
-unfolding digits
-attempt_text_example = refl
-
-pub container_text_example : container_text (container 0 5) ≡ codes "container_1410901177871_0001_01_000005"
-unfolding digits
-container_text_example = refl
-
-pub container_text_example-epoch : container_text (container 17 5) ≡ codes "container_e17_1410901177871_0001_01_000005"
-unfolding digits
-container_text_example-epoch = refl
-
-pub container_text_example-short_epoch : container_text (container 3 1234567) ≡ codes "container_e03_1410901177871_0001_01_1234567"
-unfolding digits
-container_text_example-short_epoch = refl
 
 -- access control lists
 
@@ -157,36 +115,39 @@ pub denial_example-kill : denial Kill settings.queues (codes "root.dev.gone")
     ≡ record { op = Kill; queue = codes "root.dev"; lists = codes "root.dev" ∷ codes "root" ∷ codes "admin" ∷ codes "modify" ∷ [] }
 denial_example-kill = refl
 
--- frames
+-- a pass on a node of 4096 MB and 4 cores on which a container of 1024 MB and 1 core stands: of priority 1, 2 of 3
+-- containers fit, after which one of 2048 MB doesn't and a later one of 512 MB does
 
-pub frame_example-epoch : frame (Epoch 258 7) ≡ 1 ∷ 0 ∷ 0 ∷ 1 ∷ 2 ∷ 0 ∷ 0 ∷ 0 ∷ 0 ∷ 0 ∷ 0 ∷ 0 ∷ 7 ∷ []
-frame_example-epoch = refl
+abbrev first_app : AppId
+first_app = record { stamp = 1410901177871; number = 1 }
 
-pub frame_example-attempt_end : frame (AttemptEnd (record { app = record { stamp = 7; number = 1 }; number = 2 }) Killed (codes "hi"))
-    ≡ 4 ∷ 0 ∷ 0 ∷ 0 ∷ 0 ∷ 0 ∷ 0 ∷ 0 ∷ 7 ∷ 0 ∷ 0 ∷ 0 ∷ 1 ∷ 0 ∷ 0 ∷ 0 ∷ 2 ∷ 3 ∷ 0 ∷ 2 ∷ 104 ∷ 105 ∷ []
-frame_example-attempt_end = refl
+abbrev first_attempt : AttemptId
+first_attempt = record { app = first_app; number = 1 }
 
--- a pass on a node of 4096 MB and 4 cores with a row of 1024 MB and 1 core: of priority 1, 2 of 3 containers fit, after
--- which one of 2048 MB doesn't and a later one of 512 MB does
+abbrev container : ℕ → ℕ → ContainerId
+container epoch seq = record { attempt = first_attempt; epoch = epoch; seq = seq }
 
 abbrev size : ℕ → ℕ → Resource
 size memory_mb vcores = record { memory_mb = memory_mb; vcores = vcores }
 
-abbrev line : ℕ → ℕ → Resource → ℕ → AskLine
-line priority count size order = record { ask = record { priority = priority; count = count; size = size }; order = order }
+abbrev ask : ℕ → ℕ → Resource → Ask
+ask priority count size = record { priority = priority; count = count; size = size }
 
-abbrev asks_of : AttemptId → List AskLine
-asks_of attempt = line 3 1 (size 512 1) 1 ∷ line 1 3 (size 1200 1) 3 ∷ line 2 1 (size 2048 1) 2 ∷ []
-
-abbrev rows : List BookRow
-rows =
-    record { id = container 0 1; node = codes "n1"; size = size 1024 1; state = Running; told = 1 }
-    ∷ record { id = container 0 2; node = codes "n2"; size = size 1024 1; state = Running; told = 2 }
-    ∷ []
+abbrev asks_of : AttemptId → List Ask
+asks_of attempt = ask 3 1 (size 512 1) ∷ ask 2 1 (size 2048 1) ∷ ask 1 3 (size 1200 1) ∷ []
 
 abbrev grant : ℕ → Resource → Grant
 grant seq size = record { id = container 17 seq; node = codes "n1"; size = size }
 
-pub pass_list_example : pass_list (size 4096 4) (codes "n1") rows asks_of (record { attempt = first_attempt; next_seq = 5 } ∷ []) 17
+abbrev node : PassNode
+node = record { node = codes "n1"; capability = size 4096 4; sizes = size 1024 1 ∷ []; epoch = 17 }
+
+pub pass_list_example : pass_list node asks_of (record { attempt = first_attempt; next_seq = 5 } ∷ [])
     ≡ grant 5 (size 1200 1) ∷ grant 6 (size 1200 1) ∷ grant 7 (size 512 1) ∷ []
 pass_list_example = refl
+
+-- of asks with one priority the one that was first asked comes first
+
+pub by_priority_example : by_priority (ask 2 1 (size 512 1) ∷ ask 1 1 (size 512 1) ∷ ask 1 2 (size 256 1) ∷ [])
+    ≡ ask 1 1 (size 512 1) ∷ ask 1 2 (size 256 1) ∷ ask 2 1 (size 512 1) ∷ []
+by_priority_example = refl

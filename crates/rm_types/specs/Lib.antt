@@ -1,10 +1,11 @@
 pub mod AclTexts
 pub mod Counts
-pub mod Frames
-pub mod IdTexts
 pub mod Ids
+pub mod Lanes
 pub mod Lists
+pub mod Order
 pub mod Passes
+pub mod Ranges
 pub mod Records
 pub mod Resources
 pub mod Rights

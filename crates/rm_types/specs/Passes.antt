@@ -1,11 +1,9 @@
 -- The grants of one allocation pass on a node. That applications go in turn, and that the least priority number goes
 -- first, is after YARN's documentation of its FIFO scheduler and of `Priority`; that an ask that doesn't fit stops no later
 -- one is this project's own.
-use Rattle.std.specs.Prelude.{ℕ, zero, suc, ◌+◌, ◌*◌, ◌==◌, nat_lt, Bool, ◌&&◌, ◌||◌, List, [], ◌∷◌, ◌++◌, map, filter, fold, sum_by, count_by, if◌then◌else◌}
+use Rattle.std.specs.Prelude.{ℕ, zero, suc, ◌+◌, ◌*◌, nat_lt, List, [], ◌∷◌, ◌++◌, map, fold, sum_by, count_by, if◌then◌else◌}
 use Rattle.std.specs.List.{range_with_len}
-use Rattle.std.specs.Str.{bytes_eq}
-use Rattle.rm_types.specs.declared.containers.AskLine.{AskLine}
-use Rattle.rm_types.specs.declared.containers.BookRow.{BookRow}
+use Rattle.rm_types.specs.declared.containers.Ask.{Ask}
 use Rattle.rm_types.specs.declared.containers.Grant.{Grant}
 use Rattle.rm_types.specs.declared.containers.Turn.{Turn}
 use Rattle.rm_types.specs.declared.ids.AttemptId.{AttemptId}
@@ -13,11 +11,11 @@ use Rattle.rm_types.specs.declared.resources.Resource.{Resource}
 use Rattle.rm_types.specs.Ids.{is_attempt}
 use Rattle.rm_types.specs.Resources.{fits, difference_of}
 
--- what a pass goes over: a node with its capability, the rows of the book, and the epoch of the life
+-- what a pass goes over: a node, what it offers, the sizes of what stands on it, and the epoch of the life
 pub record PassNode : Type 0 where
-  pub capability : Resource
   pub node : List ℕ
-  pub rows : List BookRow
+  pub capability : Resource
+  pub sizes : List Resource
   pub epoch : ℕ
 
 -- the sum of sizes
@@ -28,13 +26,9 @@ total_of sizes = record { memory_mb = sum_by (λ size. size.memory_mb) sizes; vc
 abbrev pub times : ℕ → Resource → Resource
 times count size = record { memory_mb = count * size.memory_mb; vcores = count * size.vcores }
 
--- the sizes of the rows on a node
-abbrev pub sizes_on : List ℕ → List BookRow → List Resource
-sizes_on node rows = map (λ row. row.size) (filter (λ row. bytes_eq row.node node) rows)
-
--- what is left of the node: its capability less the rows on it and the grants so far
+-- what is left of the node: what it offers less what stands on it and the grants so far
 abbrev pub left_of : PassNode → List Grant → Resource
-left_of pass grants = difference_of pass.capability (total_of (sizes_on pass.node pass.rows ++ map (λ grant. grant.size) grants))
+left_of pass grants = difference_of pass.capability (total_of (pass.sizes ++ map (λ grant. grant.size) grants))
 
 -- the greatest number, up to a bound, of containers of a size that fit what is left
 abbrev pub fitting : ℕ → Resource → Resource → ℕ
@@ -49,30 +43,25 @@ seq_after turn grants = turn.next_seq + count_by (λ grant. is_attempt grant.id.
 abbrev pub grant_of : PassNode → Turn → Resource → ℕ → Grant
 grant_of pass turn size seq = record { id = record { attempt = turn.attempt; epoch = pass.epoch; seq = seq }; node = pass.node; size = size }
 
--- the grants so far and those for one line: as many as are asked for and fit
-abbrev pub with_line : PassNode → Turn → List Grant → AskLine → List Grant
-with_line pass turn grants line =
-    grants ++ map (grant_of pass turn line.ask.size) (range_with_len (seq_after turn grants) (fitting line.ask.count line.ask.size (left_of pass grants)))
+-- the grants so far and those for one ask: as many as are asked for and fit
+abbrev pub with_granted : PassNode → Turn → List Grant → Ask → List Grant
+with_granted pass turn grants ask =
+    grants ++ map (grant_of pass turn ask.size) (range_with_len (seq_after turn grants) (fitting ask.count ask.size (left_of pass grants)))
 
--- a line comes before another: its priority is less, or the same and it was asked first
-abbrev pub is_before : AskLine → AskLine → Bool
-is_before line other = nat_lt line.ask.priority other.ask.priority || ((line.ask.priority == other.ask.priority) && nat_lt line.order other.order)
+-- an ask among others by priority: behind those with a lesser number, before all others, which were asked later
+abbrev pub put_by_priority : Ask → List Ask → List Ask
+put_by_priority ask [] = ask ∷ []
+put_by_priority ask (other ∷ asks) = if nat_lt other.priority ask.priority then other ∷ put_by_priority ask asks else ask ∷ other ∷ asks
 
--- lines in order with one more at its place
-abbrev pub placed : AskLine → List AskLine → List AskLine
-placed line [] = line ∷ []
-placed line (other ∷ lines) = if is_before other line then other ∷ placed line lines else line ∷ other ∷ lines
+-- asks by priority, the least number first, and of one priority as they were first asked
+abbrev pub by_priority : List Ask → List Ask
+by_priority [] = []
+by_priority (ask ∷ asks) = put_by_priority ask (by_priority asks)
 
--- lines by priority, least first, and then by the order of asking
-abbrev pub in_order : List AskLine → List AskLine
-in_order [] = []
-in_order (line ∷ lines) = placed line (in_order lines)
+-- the grants so far and those of one turn: of each ask of its attempt, by priority
+abbrev pub with_turn : PassNode → (AttemptId → List Ask) → List Grant → Turn → List Grant
+with_turn pass asks_of grants turn = fold (with_granted pass turn) grants (by_priority (asks_of turn.attempt))
 
--- the grants so far and those of one turn: of each line of its attempt, in order
-abbrev pub with_turn : PassNode → (AttemptId → List AskLine) → List Grant → Turn → List Grant
-with_turn pass asks_of grants turn = fold (with_line pass turn) grants (in_order (asks_of turn.attempt))
-
--- the grants of a pass: of each turn, in order
-abbrev pub pass_list : Resource → List ℕ → List BookRow → (AttemptId → List AskLine) → List Turn → ℕ → List Grant
-pass_list capability node rows asks_of order epoch =
-    fold (with_turn (record { capability = capability; node = node; rows = rows; epoch = epoch }) asks_of) [] order
+-- the grants of a pass: of each turn, in order, where `asks_of` gives what each attempt asks for, in the order of first asking
+abbrev pub pass_list : PassNode → (AttemptId → List Ask) → List Turn → List Grant
+pass_list pass asks_of turns = fold (with_turn pass asks_of) [] turns

@@ -14,16 +14,16 @@ use Rattle.rm_types.specs.declared.records.AttemptRecord.{AttemptRecord}
 use Rattle.rm_types.specs.Ids.{is_app, is_attempt}
 
 -- the epoch of the next life, the stamp of the last one, the applications in the order of their App operations, and how
--- many operations were told
+-- many operations were applied
 pub record Records : Type 0 where
   pub next_epoch : ℕ
   pub stamp : ℕ
   pub apps : List AppRecord
-  pub told : ℕ
+  pub applied : ℕ
 
 -- the records of an empty store
 abbrev pub no_records : Records
-no_records = record { next_epoch = 0; stamp = 0; apps = []; told = 0 }
+no_records = record { next_epoch = 0; stamp = 0; apps = []; applied = 0 }
 
 -- the record of an application, if there is one
 abbrev pub record_of : List AppRecord → AppId → Option AppRecord
@@ -41,15 +41,15 @@ new_record id submission = record { id = id; submission = submission; attempts =
 abbrev pub with_end : AttemptId → How → List ℕ → AttemptRecord → AttemptRecord
 with_end id how text attempt = if is_attempt attempt.id id then record attempt { ending = Some (how, text) } else attempt
 
--- the applications after one more operation, which `told` others stand before
+-- the applications after one more operation, which `applied` others stand before
 abbrev pub apps_recorded : List AppRecord → ℕ → Op → List AppRecord
-apps_recorded apps told (Epoch next stamp) = apps
-apps_recorded apps told (App id submission) = apps ++ new_record id submission ∷ []
-apps_recorded apps told (Attempt id master node) =
+apps_recorded apps applied (Epoch next stamp) = apps
+apps_recorded apps applied (App id submission) = apps ++ new_record id submission ∷ []
+apps_recorded apps applied (Attempt id master node) =
     with_record (λ app. record app { attempts = app.attempts ++ record { id = id; master = master; node = node; ending = None } ∷ [] }) id.app apps
-apps_recorded apps told (AttemptEnd id how text) = with_record (λ app. record app { attempts = map (with_end id how text) app.attempts }) id.app apps
-apps_recorded apps told (AppEnd id how text) = with_record (λ app. record app { ending = Some (how, text); end_order = told }) id apps
-apps_recorded apps told (Remove id) = filter (λ app. not (is_app app.id id)) apps
+apps_recorded apps applied (AttemptEnd id how text) = with_record (λ app. record app { attempts = map (with_end id how text) app.attempts }) id.app apps
+apps_recorded apps applied (AppEnd id how text) = with_record (λ app. record app { ending = Some (how, text); end_order = applied }) id apps
+apps_recorded apps applied (Remove id) = filter (λ app. not (is_app app.id id)) apps
 
 -- the next epoch after one more operation
 abbrev pub epoch_recorded : ℕ → Op → ℕ
@@ -75,8 +75,8 @@ recorded r op =
     record {
       next_epoch = epoch_recorded r.next_epoch op;
       stamp = stamp_recorded r.stamp op;
-      apps = apps_recorded r.apps r.told op;
-      told = r.told + 1;
+      apps = apps_recorded r.apps r.applied op;
+      applied = r.applied + 1;
     }
 
 -- what a store that holds these operations amounts to
@@ -115,7 +115,7 @@ fits_records r (Remove id) = is_some_and (λ app. is_some app.ending) (record_of
 -- the number of the first of these operations that doesn't fit the records of those before it
 abbrev pub stray_from : Records → List Op → Option ℕ
 stray_from r [] = None
-stray_from r (op ∷ ops) = if fits_records r op then stray_from (recorded r op) ops else Some r.told
+stray_from r (op ∷ ops) = if fits_records r op then stray_from (recorded r op) ops else Some r.applied
 
 -- the number, from 0, of the first operation that is stray, if one is
 abbrev pub stray : List Op → Option ℕ

@@ -1,5 +1,6 @@
 ghost use Rattle.std.specs.Prelude.{◌≡◌, IfOk};
 
+use crate::boxed::Boxed;
 use crate::containers::{Cause, Grant, Held};
 use crate::duplicate::{Duplicate, NoMemory};
 use crate::ids::{AppId, AttemptId, ContainerId};
@@ -9,7 +10,8 @@ use crate::operations::Op;
 use crate::replies::Reply;
 use crate::texts::Text;
 
-/// One entry of the manager's log: what one move did.
+/// One entry of the manager's log: what one move did. What may be large stands behind a pointer, so that an
+/// entry takes 32 bytes and a log of mostly silent ones stays small.
 #[derive(Debug, Drop)]
 pub enum Entry {
     /// A life began: how many awaiting operations of the life before had landed in the store, and this
@@ -21,13 +23,13 @@ pub enum Entry {
     },
     /// An operation was issued, and awaits.
     Issued {
-        op: Op,
+        op: Boxed<Op>,
     },
     /// The first awaiting operation was handed to the store.
     Handed,
     /// The handed operation is kept.
     Kept {
-        op: Op,
+        op: Boxed<Op>,
     },
     /// The store refused the handed operation after so many calls; nothing more is kept in this life.
     Blown {
@@ -36,8 +38,8 @@ pub enum Entry {
     /// A message was answered.
     Served {
         sender: Sender,
-        message: Message,
-        reply: Reply,
+        message: Boxed<Message>,
+        reply: Boxed<Reply>,
     },
     /// An application was accepted.
     Accepted {
@@ -50,19 +52,19 @@ pub enum Entry {
     /// A registration was absorbed: the reported containers that were taken, and those that stood on the
     /// node and weren't.
     Absorbed {
-        node: Text,
-        taken: Items<Held>,
-        ended: Items<ContainerId>,
+        node: Boxed<Text>,
+        taken: Boxed<Items<Held>>,
+        ended: Boxed<Items<ContainerId>>,
     },
     /// A beat was answered with grants.
     Pass {
-        node: Text,
-        grants: Items<Grant>,
+        node: Boxed<Text>,
+        grants: Boxed<Items<Grant>>,
     },
     /// A master's container was ordered on its node.
     Ordered {
-        container: ContainerId,
-        node: Text,
+        container: Boxed<ContainerId>,
+        node: Boxed<Text>,
     },
     /// Containers ended, all for one cause.
     Ended {
@@ -121,10 +123,11 @@ impl Duplicate for Entry {
                 let grants = grants.copy()?;
                 Ok(Entry::Pass { node, grants })
             }
-            Entry::Ordered { container, node } => Ok(Entry::Ordered {
-                container: *container,
-                node: node.copy()?,
-            }),
+            Entry::Ordered { container, node } => {
+                let container = container.copy()?;
+                let node = node.copy()?;
+                Ok(Entry::Ordered { container, node })
+            }
             Entry::Ended { cause, list } => Ok(Entry::Ended {
                 cause: *cause,
                 list: list.copy()?,

@@ -3,12 +3,13 @@
 //!
 //! It promises that a copy equals its source, that a text is read exactly by its kind, and that sums
 //! and differences of resources go by part. Its `specs/` hold the definitions that more than one crate
-//! cites: the texts of ids, the fit of resources, ACL texts and rights, what a list of store operations
-//! amounts to, the frames of operations, and the grants of one allocation pass.
+//! cites: the ranges and the order of ids, the fit of resources, ACL texts and rights, what a list of
+//! store operations amounts to, and the grants of one allocation pass.
 //!
 //! It stands on the standard library alone.
 #![tactic(auto)]
 
+mod boxed;
 mod containers;
 mod duplicate;
 mod entries;
@@ -27,6 +28,7 @@ mod settings;
 mod tests;
 mod texts;
 
+pub use boxed::Boxed;
 pub use containers::{
     Ask, AskLine, AskOf, BookRow, Cause, Closing, ContainerState, Grant, Held, Turn,
 };

@@ -278,33 +278,48 @@ fn replies(alloc: Global) -> Result<Items<Reply>, NoMemory> {
     Ok(replies)
 }
 
-fn entries(alloc: Global) -> Result<Items<Entry>, NoMemory> {
+fn boxed_ops(alloc: Global) -> Result<Items<Entry>, NoMemory> {
     let mut entries = Items::new(alloc);
     for op in ops(alloc)?.into_vec() {
-        entries.push(Entry::Issued { op: op.copy()? })?;
-        entries.push(Entry::Kept { op })?;
+        let issued = Boxed::new(alloc, op.copy()?)?;
+        entries.push(Entry::Issued { op: issued })?;
+        let kept = Boxed::new(alloc, op)?;
+        entries.push(Entry::Kept { op: kept })?;
     }
+    Ok(entries)
+}
+
+fn a_pass(alloc: Global) -> Result<Entry, NoMemory> {
+    Ok(Entry::Pass {
+        node: Boxed::new(alloc, text(alloc, b"n2")?)?,
+        grants: Boxed::new(alloc, grants(alloc)?)?,
+    })
+}
+
+fn an_absorption(alloc: Global) -> Result<Entry, NoMemory> {
+    Ok(Entry::Absorbed {
+        node: Boxed::new(alloc, text(alloc, b"n1")?)?,
+        taken: Boxed::new(alloc, only(alloc, a_held())?)?,
+        ended: Boxed::new(alloc, only(alloc, a_container(0, 13))?)?,
+    })
+}
+
+fn entries(alloc: Global) -> Result<Items<Entry>, NoMemory> {
+    let mut entries = boxed_ops(alloc)?;
     for message in messages(alloc)?.into_vec() {
-        let sender = Sender::Clock;
-        let reply = Reply::Unknown;
+        let mut reply = Boxed::new(alloc, Reply::NotOpen)?;
+        reply.set(Reply::Unknown);
         entries.push(Entry::Served {
-            sender,
-            message,
+            sender: Sender::Clock,
+            message: Boxed::new(alloc, message)?,
             reply,
         })?;
     }
-    entries.push(Entry::Absorbed {
-        node: text(alloc, b"n1")?,
-        taken: only(alloc, a_held())?,
-        ended: only(alloc, a_container(0, 13))?,
-    })?;
-    entries.push(Entry::Pass {
-        node: text(alloc, b"n2")?,
-        grants: grants(alloc)?,
-    })?;
+    entries.push(an_absorption(alloc)?)?;
+    entries.push(a_pass(alloc)?)?;
     entries.push(Entry::Ordered {
-        container: a_container(0, 14),
-        node: text(alloc, b"n3")?,
+        container: Boxed::new(alloc, a_container(0, 14))?,
+        node: Boxed::new(alloc, text(alloc, b"n3")?)?,
     })?;
     entries.push(Entry::Ended {
         cause: Cause::Gone,

@@ -1,6 +1,5 @@
--- The texts of ids and the ranges of their parts. After YARN's documentation of `ApplicationId`,
--- `ApplicationAttemptId` and `ContainerId`; the upper ends of the ranges are this project's own.
-use Rattle.std.specs.Prelude.{ℕ, ◌-◌, ◌^◌, ◌≤◌, ◌==◌, List, ◌++◌, length, replicate, codes, decimal, if◌then◌else◌}
+-- The texts of ids. After YARN's documentation of `ApplicationId`, `ApplicationAttemptId` and `ContainerId`.
+use Rattle.std.specs.Prelude.{ℕ, ◌-◌, ◌==◌, List, ◌++◌, length, replicate, codes, decimal, if◌then◌else◌}
 use Rattle.rm_types.specs.declared.ids.AppId.{AppId}
 use Rattle.rm_types.specs.declared.ids.AttemptId.{AttemptId}
 use Rattle.rm_types.specs.declared.ids.ContainerId.{ContainerId}
@@ -29,23 +28,3 @@ abbrev pub container_text : ContainerId → List ℕ
 container_text id =
     if id.epoch == 0 then codes "container_" ++ container_end id
     else codes "container_e" ++ (padded 2 id.epoch ++ (codes "_" ++ container_end id))
-
--- a number from the least to the greatest, both included
-abbrev pub IsWithin : ℕ → ℕ → ℕ → Type 0
-IsWithin least greatest number = (least ≤ number) × (number ≤ greatest)
-
--- the parts of an application's id are in their ranges
-pub record IsAppId (id : AppId) : Type 0 where
-  pub stamp : IsWithin 1 (2 ^ 63 - 1) id.stamp
-  pub number : IsWithin 1 (2 ^ 31 - 1) id.number
-
--- and those of an attempt's
-pub record IsAttemptId (id : AttemptId) : Type 0 where
-  pub app : IsAppId id.app
-  pub number : IsWithin 1 (2 ^ 31 - 1) id.number
-
--- and those of a container's
-pub record IsContainerId (id : ContainerId) : Type 0 where
-  pub attempt : IsAttemptId id.attempt
-  pub epoch : IsWithin 0 (2 ^ 24 - 1) id.epoch
-  pub seq : IsWithin 1 (2 ^ 40 - 1) id.seq

@@ -1,5 +1,5 @@
 -- The frames of store operations: what the store keeps of each, as bytes. This project's own.
-use Rattle.std.specs.Prelude.{◌≡◌, ℕ, ◌-◌, ◌^◌, List, ◌∷◌, ◌++◌, length, None}
+use Rattle.std.specs.Prelude.{ℕ, List, ◌∷◌, ◌++◌, length}
 use Rattle.std.specs.Int.{to_be_bytes, w16, w32, w64}
 use Rattle.rm_types.specs.declared.ids.AppId.{AppId}
 use Rattle.rm_types.specs.declared.ids.AttemptId.{AttemptId}
@@ -9,10 +9,6 @@ use Rattle.rm_types.specs.declared.operations.How.TheVariants.{Finished, Failed,
 use Rattle.rm_types.specs.declared.operations.Op.{Op}
 use Rattle.rm_types.specs.declared.operations.Op.TheVariants.{Epoch, App, Attempt, AttemptEnd, AppEnd, Remove}
 use Rattle.rm_types.specs.declared.operations.Submission.{Submission}
-use Rattle.rm_types.specs.declared.texts.TextKind.{TextKind}
-use Rattle.rm_types.specs.declared.texts.TextKind.TheVariants.{Name, Node, Queue, Note, AclText}
-use Rattle.rm_types.specs.IdTexts.{IsWithin, IsAppId, IsAttemptId, IsContainerId}
-use Rattle.rm_types.specs.Texts.{fault_of}
 
 -- a text: its length in 2 bytes, and its bytes
 abbrev pub text_frame : List ℕ → List ℕ
@@ -51,31 +47,3 @@ frame (Attempt id master node) = 3 ∷ (attempt_id_frame id ++ (master_frame mas
 frame (AttemptEnd id how text) = 4 ∷ (attempt_id_frame id ++ (how_code how ∷ text_frame text))
 frame (AppEnd id how text) = 5 ∷ (app_id_frame id ++ (how_code how ∷ text_frame text))
 frame (Remove id) = 6 ∷ app_id_frame id
-
--- the bytes are a text of the kind
-abbrev pub IsText : TextKind → List ℕ → Type 0
-IsText kind text = fault_of kind text ≡ None
-
--- the parts of a submission are in their ranges
-pub record IsSubmission (submission : Submission) : Type 0 where
-  pub user : IsText Name submission.user
-  pub queue : IsText Queue submission.queue
-  pub name : IsText Name submission.name
-  pub memory_mb : IsWithin 1 16777216 submission.master.memory_mb
-  pub vcores : IsWithin 1 256 submission.master.vcores
-  pub attempts : IsWithin 0 100 submission.attempts
-  pub modify : IsText AclText submission.modify
-
--- the container is one of this attempt
-pub record IsMasterOf (id : AttemptId) (master : ContainerId) : Type 0 where
-  pub container : IsContainerId master
-  pub attempt : master.attempt ≡ id
-
--- the parts of an operation are in their ranges, so that its frame tells it from all others
-abbrev pub CanBeFramed : Op → Type 0
-CanBeFramed (Epoch next stamp) = IsWithin 1 (2 ^ 24) next × IsWithin 1 (2 ^ 63 - 1) stamp
-CanBeFramed (App id submission) = IsAppId id × IsSubmission submission
-CanBeFramed (Attempt id master node) = IsAttemptId id × IsMasterOf id master × IsText Node node
-CanBeFramed (AttemptEnd id how text) = IsAttemptId id × IsText Note text
-CanBeFramed (AppEnd id how text) = IsAppId id × IsText Note text
-CanBeFramed (Remove id) = IsAppId id

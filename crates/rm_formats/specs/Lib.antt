@@ -1,0 +1,5 @@
+pub mod IdTexts
+pub mod Wording
+pub mod Page
+pub mod Frames
+pub mod Device
