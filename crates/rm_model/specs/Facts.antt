@@ -1,5 +1,5 @@
--- What is said of applications, attempts and containers in a scene: kept, known, issued, over.
-use Rattle.std.specs.Prelude.{ℕ, ◌+◌, min, List, [], Bool, true, false, ◌&&◌, ◌||◌, not, ◌==◌, nat_le, Option, None, Some, is_some, if◌then◌else◌, find, option_map, length}
+-- What is said of operations and applications in a scene: kept, known, issued, ended. These words are this project's own.
+use Rattle.std.specs.Prelude.{ℕ, ◌+◌, min, List, [], Bool, true, false, ◌&&◌, ◌||◌, not, ◌==◌, nat_le, Option, None, Some, is_some, if◌then◌else◌, find, option_map, option_and_then, length, count_by}
 use Rattle.std.specs.List.{list_any}
 use Rattle.rm_types.specs.declared.ids.AppId.{AppId}
 use Rattle.rm_types.specs.declared.ids.AttemptId.{AttemptId}
@@ -13,16 +13,14 @@ use Rattle.rm_types.specs.declared.records.AppRecord.{AppRecord}
 use Rattle.rm_types.specs.declared.records.AttemptRecord.{AttemptRecord}
 use Rattle.rm_types.specs.declared.settings.Settings.{Settings}
 use Rattle.rm_types.specs.Ids.{is_app, is_attempt, is_container}
-use Rattle.rm_types.specs.Records.{record_of, is_some_and}
+use Rattle.rm_types.specs.Records.{record_of, last_attempt, is_some_and}
 use Rattle.rm_model.specs.State.{Scene}
 
--- the id is one of these
+-- the application is one of these
 abbrev pub has_app : List AppId → AppId → Bool
 has_app ids id = list_any (λ one. is_app one id) ids
 
-abbrev pub has_attempt : List AttemptId → AttemptId → Bool
-has_attempt ids id = list_any (λ one. is_attempt one id) ids
-
+-- the container is one of these
 abbrev pub has_container : List ContainerId → ContainerId → Bool
 has_container ids id = list_any (λ one. is_container one id) ids
 
@@ -52,6 +50,15 @@ is_attempt_op id (Attempt one master node) = is_attempt one id
 is_attempt_op id (AttemptEnd one how text) = false
 is_attempt_op id (AppEnd one how text) = false
 is_attempt_op id (Remove one) = false
+
+-- the operation is the AttemptEnd of this attempt
+abbrev pub is_attempt_end_op : AttemptId → Op → Bool
+is_attempt_end_op id (Epoch next stamp) = false
+is_attempt_end_op id (App one submission) = false
+is_attempt_end_op id (Attempt one master node) = false
+is_attempt_end_op id (AttemptEnd one how text) = is_attempt one id
+is_attempt_end_op id (AppEnd one how text) = false
+is_attempt_end_op id (Remove one) = false
 
 -- the operation is the AppEnd of this application
 abbrev pub is_app_end_op : AppId → Op → Bool
@@ -101,11 +108,15 @@ kept_attempts m id = attempts_in (kept_record m id)
 abbrev pub kept_end : Scene → AppId → Option (How × List ℕ)
 kept_end m id = end_in (kept_record m id)
 
+-- the kept end of its last kept attempt, if that has one
+abbrev pub last_end : Scene → AppId → Option (How × List ℕ)
+last_end m id = option_and_then (λ last. last.ending) (last_attempt (kept_attempts m id))
+
 -- what was submitted for an application in this life and is not kept
 abbrev pub waiting_submission : List Submitted → AppId → Option Submission
 waiting_submission submitted id = option_map (λ one. one.submission) (find (λ one. is_app one.id id) submitted)
 
--- the submission of a record, else what waits
+-- the submission of a record, else the one that waits to be kept
 abbrev pub submission_in : Option AppRecord → Option Submission → Option Submission
 submission_in None waiting = waiting
 submission_in (Some app) waiting = Some app.submission
@@ -122,10 +133,11 @@ is_submitted submitted id = list_any (λ one. is_app one.id id) submitted
 abbrev pub is_known : Scene → AppId → Bool
 is_known m id = is_submitted m.life.apps.submitted id || is_kept m id
 
--- an operation is issued while it awaits, or while it is kept and its application was not removed after it
+-- an App is issued while it awaits, or while it is kept and its application was not removed after it
 abbrev pub app_issued : Scene → AppId → Bool
 app_issued m id = awaits m (is_app_op id) || is_kept m id
 
+-- and so is an AppEnd
 abbrev pub app_end_issued : Scene → AppId → Bool
 app_end_issued m id = awaits m (is_app_end_op id) || is_some (kept_end m id)
 
@@ -133,6 +145,15 @@ app_end_issued m id = awaits m (is_app_end_op id) || is_some (kept_end m id)
 abbrev pub remove_issued : Scene → AppId → Bool
 remove_issued m id = awaits m (is_remove_op id)
 
+-- an application is completed: its end is kept, and its Remove isn't issued
+abbrev pub is_completed : Scene → AppRecord → Bool
+is_completed m app = is_some app.ending && not (remove_issued m app.id)
+
+-- how many applications are completed
+abbrev pub completed : Scene → ℕ
+completed m = count_by (is_completed m) m.records.apps
+
+-- it was accepted in this life (`ACCEPTED`, in YARN's `RMAppState`)
 abbrev pub is_accepted : Scene → AppId → Bool
 is_accepted m id = has_app m.life.apps.accepted id
 
@@ -140,20 +161,8 @@ is_accepted m id = has_app m.life.apps.accepted id
 abbrev pub is_wished : Scene → AppId → Bool
 is_wished m id = has_app m.life.apps.wishes id
 
--- the attempt has a record
-abbrev pub attempt_is_kept : Scene → AttemptId → Bool
-attempt_is_kept m id = list_any (λ one. is_attempt one.id id) (kept_attempts m id.app)
-
--- the attempt was kept when the life began
-abbrev pub attempt_was_first : Scene → AttemptId → Bool
-attempt_was_first m id = list_any (λ one. is_attempt one.id id) (attempts_in (record_of m.life.first.apps id.app))
-
--- an attempt is over where its application has no record, or the application's or the attempt's end is kept
-abbrev pub is_over : Scene → AttemptId → Bool
-is_over m id =
-    not (is_kept m id.app) || (is_some (kept_end m id.app) || list_any (λ one. is_attempt one.id id && is_some one.ending) (kept_attempts m id.app))
-
--- how many attempts an application may have: the cluster's bound, or the submission's where that is less and isn't 0
+-- how many attempts an application may have: the cluster's bound, or the submission's where that is less and isn't 0. From
+-- YARN's documentation of `yarn.resourcemanager.am.max-attempts`, which overrides a larger number that an application asks for
 abbrev pub bound : Settings → Submission → ℕ
 bound settings submission = if submission.attempts == 0 then settings.max_attempts else min settings.max_attempts submission.attempts
 
@@ -164,7 +173,3 @@ reaches_bound settings app = is_some_and (λ one. nat_le (bound settings one.sub
 -- the attempt that comes after the kept ones
 abbrev pub next_attempt : Scene → AppId → AttemptId
 next_attempt m id = record { app = id; number = length (kept_attempts m id) + 1 }
-
--- the attempt asks for its master: a line of priority 0
-abbrev pub has_master_ask : Scene → AttemptId → Bool
-has_master_ask m id = list_any (λ one. is_attempt one.attempt id && (one.ask.priority == 0)) m.life.asks

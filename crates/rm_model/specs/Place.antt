@@ -1,7 +1,8 @@
--- Where a log stands in its script: the script says which life begins, which messages are served and how a segment closes.
+-- Where a log stands in its script: the script says which life begins, which messages are served and how a segment closes. This
+-- project's own.
 use Rattle.std.specs.Prelude.{◌≡◌, ℕ, ◌+◌, max, List, [], ◌∷◌, Bool, true, false, Option, None, Some, find}
 use Rattle.rm_types.specs.declared.entries.Entry.{Entry}
-use Rattle.rm_types.specs.declared.entries.Entry.TheVariants.{Opened, Served, Settled, Down}
+use Rattle.rm_types.specs.declared.entries.Entry.TheVariants.{Opened, Blown, Served, Settled, Down}
 use Rattle.rm_types.specs.declared.messages.Message.{Message}
 use Rattle.rm_types.specs.declared.messages.Message.TheVariants.{Client as FromClient, Master as FromMaster, Node as FromNode, Clock as FromClock}
 use Rattle.rm_types.specs.declared.messages.Sender.{Sender}
@@ -15,6 +16,7 @@ use Rattle.rm_types.specs.Records.{records}
 use Rattle.rm_model.specs.State.{Manager}
 use Rattle.rm_model.specs.Changes.{kept_after_landing}
 
+-- what is left of a script
 pub record Place : Type 0 where
   -- the lives that have not begun
   pub lives : List Life
@@ -74,6 +76,11 @@ pub record Begins (s : Manager) (p : Place) (landed stamp : ℕ) : Type 0 where
   pub at_end : p.segments ≡ []
   pub stamped : stamp ≡ stamp_of life (records (kept_after_landing s landed)).stamp
 
+-- a life blows after as many calls as its segment's crash says
+pub record Blows (p : Place) (passed : ℕ) : Type 0 where
+  pub image : ℕ
+  pub closes : close_left p.segments ≡ Some (Crash passed image)
+
 -- a segment settles where it closes so and its feeds are empty
 pub record Settles (p : Place) : Type 0 where
   pub none_left : messages_left p.segments ≡ []
@@ -89,6 +96,7 @@ pub record Crashes (p : Place) : Type 0 where
 -- the script's next thing is this entry; of entries that it doesn't name it says nothing
 abbrev pub IsNext : Manager → Place → Entry → Type 0
 IsNext s p (Opened landed epoch stamp) = Begins s p landed stamp
+IsNext s p (Blown passed) = Blows p passed
 IsNext s p (Served sender message reply) = first_from sender (messages_left p.segments) ≡ Some message
 IsNext s p Settled = Settles p
 IsNext s p Down = Crashes p

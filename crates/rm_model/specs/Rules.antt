@@ -1,30 +1,40 @@
--- When an entry is allowed in the state before it. A case that is not written yet is not allowed.
-use Rattle.std.specs.Prelude.{◌≡◌, ◌≢◌, ℕ, ◌+◌, ◌<◌, ◌^◌, ◌⊎◌, [], true, false, ◌||◌, Option, None, Some, slice_get, List, find, not}
+-- When an entry is allowed in the state before it: a rule for each kind of entry. Where a rule doesn't name its source, it is
+-- this project's own.
+use Rattle.std.specs.Prelude.{◌≡◌, ◌≢◌, ℕ, ◌<◌, ◌^◌, ◌⊎◌, List, [], true, false, ◌||◌, Option, None, Some, is_some, slice_get, IsSomeAnd}
 use Rattle.std.specs.List.{list_any}
+use Rattle.rm_types.specs.declared.containers.Grant.{Grant}
+use Rattle.rm_types.specs.declared.containers.Held.{Held}
 use Rattle.rm_types.specs.declared.entries.Entry.{Entry}
-use Rattle.rm_types.specs.declared.entries.Entry.TheVariants.{Opened, Issued, Handed, Kept, Served, Accepted, Queued, Settled, Down, Quiet}
+use Rattle.rm_types.specs.declared.entries.Entry.TheVariants.{Opened, Issued, Handed, Kept, Blown, Served, Accepted, Queued, Absorbed, Pass, Ordered, Ended, Settled, Down, Quiet}
+use Rattle.rm_types.specs.declared.ids.AppId.{AppId}
+use Rattle.rm_types.specs.declared.ids.AttemptId.{AttemptId}
+use Rattle.rm_types.specs.declared.ids.ContainerId.{ContainerId}
 use Rattle.rm_types.specs.declared.messages.Lane.{Lane}
 use Rattle.rm_types.specs.declared.messages.Lane.TheVariants.{Main, Sched}
 use Rattle.rm_types.specs.declared.messages.Message.{Message}
 use Rattle.rm_types.specs.declared.messages.Sender.{Sender}
 use Rattle.rm_types.specs.declared.operations.Op.{Op}
-use Rattle.rm_types.specs.declared.operations.Op.TheVariants.{Epoch, App}
-use Rattle.rm_types.specs.declared.operations.Submission.{Submission}
-use Rattle.rm_types.specs.declared.operations.Submitted.{Submitted}
-use Rattle.rm_types.specs.declared.ids.AppId.{AppId}
-use Rattle.rm_types.specs.declared.ids.AttemptId.{AttemptId}
 use Rattle.rm_types.specs.declared.replies.Reply.{Reply}
 use Rattle.rm_types.specs.declared.settings.Settings.{Settings}
 use Rattle.rm_types.specs.Ids.{is_attempt}
+use Rattle.rm_types.specs.Lanes.{sender_of}
+use Rattle.rm_types.specs.Order.{Ascend}
 use Rattle.rm_types.specs.Records.{records, is_some_and, all_ended, last_attempt}
-use Rattle.rm_model.specs.State.{Manager, LifeState, Scene, scene}
-use Rattle.rm_model.specs.Facts.{app_end_issued, app_issued, awaits, has_master_ask, is_accepted, is_attempt_op, is_epoch_op, is_kept, is_known, kept_attempts, kept_record, next_attempt, reaches_bound}
-use Rattle.rm_model.specs.Replies.{sender_of, Answers, has_failed}
+use Rattle.rm_model.specs.State.{Manager, LifeState, NodeState, Registered, Scene, scene}
+use Rattle.rm_model.specs.Facts.{app_end_issued, awaits, has_container, is_accepted, is_attempt_op, is_kept, is_known, is_wished, kept_attempts, kept_record, next_attempt, reaches_bound}
+use Rattle.rm_model.specs.Attempts.{attempt_end_issued, has_failed, has_master_ask, is_own_master, kept_here}
+use Rattle.rm_model.specs.Containers.{lives_on}
+use Rattle.rm_model.specs.Nodes.{beat_at, node_of}
+use Rattle.rm_model.specs.Replies.{reply_to}
+use Rattle.rm_model.specs.Absorbing.{not_taken, taken_of}
+use Rattle.rm_model.specs.Passing.{pass_of}
+use Rattle.rm_model.specs.Ending.{done_on, MayEnd}
+use Rattle.rm_model.specs.Issuing.{MayIssue}
 use Rattle.rm_model.specs.Changes.{kept_after_landing}
 use Rattle.rm_model.specs.Owed.{Owed}
 
--- a life may open: an operation has landed only where the last life blew, and then one; the epoch is
--- the recorded next one, and the stamp is above the recorded one
+-- a life may open: an operation has landed only where the last life blew, and then one; the epoch is the recorded next one
+-- (YARN-556), and the stamp is above the recorded one
 pub record MayOpen (s : Manager) (landed epoch stamp : ℕ) : Type 0 where
   pub landing : (landed ≡ 0) ⊎ ((landed ≡ 1) × (s.blew ≡ true))
   pub next : epoch ≡ (records (kept_after_landing s landed)).next_epoch
@@ -32,29 +42,29 @@ pub record MayOpen (s : Manager) (landed epoch stamp : ℕ) : Type 0 where
   pub rises : (records (kept_after_landing s landed)).stamp < stamp
   pub fits : stamp < 2 ^ 63
 
--- an Epoch may be issued before the life is open, once: its next epoch is the life's plus 1, its stamp the life's
-pub record MayIssueEpoch (m : Scene) (next stamp : ℕ) : Type 0 where
-  pub closed : m.life.is_open ≡ false
-  pub once : awaits m is_epoch_op ≡ false
-  pub follows : next ≡ m.life.epoch + 1
-  pub of_life : stamp ≡ m.life.stamp
+-- the first awaiting operation may be handed to the store where there is one, none is with the store, and the life is not blown
+pub record MayHand (m : Scene) : Type 0 where
+  pub some_awaits : m.awaiting ≢ []
+  pub none_handed : m.life.handed ≡ false
+  pub not_blown : m.life.blown ≡ false
 
--- the first submitted application that isn't issued, if there is one
-abbrev pub first_unissued : Scene → List Submitted → Option Submitted
-first_unissued m submitted = find (λ one. not (app_issued m one.id)) submitted
+-- an operation may be kept where it is the first awaiting one and is with the store
+pub record MayKeep (m : Scene) (op : Op) : Type 0 where
+  pub handed : m.life.handed ≡ true
+  pub first : slice_get m.awaiting 0 ≡ Some op
 
--- an App may be issued in an open life, of the first submitted application that isn't issued, with its submission
-pub record MayIssueApp (m : Scene) (id : AppId) (submission : Submission) : Type 0 where
-  pub opened : m.life.is_open ≡ true
-  pub first : first_unissued m m.life.apps.submitted ≡ Some (record { id = id; submission = submission })
+-- a life may be blown where an operation is with the store, which refused it
+pub record MayBlow (m : Scene) : Type 0 where
+  pub handed : m.life.handed ≡ true
 
--- when an operation may be issued
-abbrev pub MayIssue : Settings → Scene → Op → Type 0
-MayIssue settings m (Epoch next stamp) = MayIssueEpoch m next stamp
-MayIssue settings m (App id submission) = MayIssueApp m id submission
-MayIssue settings m _ = ⊥
+-- a message may be served where the life is open or blown, as its sender's, with the reply that the scene gives
+pub record MayServe (settings : Settings) (m : Scene) (sender : Sender) (message : Message) (reply : Reply) : Type 0 where
+  pub serving : (m.life.is_open || m.life.blown) ≡ true
+  pub of_sender : sender ≡ sender_of message
+  pub answers : reply ≡ reply_to settings m message
 
--- an application may be accepted once in a life: its App is kept, it has no kept attempt, and its AppEnd isn't issued
+-- an application may be accepted once in a life: its App is kept, it has no kept attempt, and its AppEnd isn't issued. After the
+-- states of YARN's `RMApp`: it is accepted once it was saved
 pub record MayAccept (m : Scene) (id : AppId) : Type 0 where
   pub opened : m.life.is_open ≡ true
   pub kept : is_kept m id ≡ true
@@ -62,7 +72,8 @@ pub record MayAccept (m : Scene) (id : AppId) : Type 0 where
   pub no_end : app_end_issued m id ≡ false
   pub once : is_accepted m id ≡ false
 
--- a first attempt follows acceptance, and a later one an attempt that ended FAILED while the bound isn't reached
+-- a first attempt follows acceptance, and a later one an attempt that ended FAILED while the bound isn't reached (YARN's
+-- `am.max-attempts`)
 abbrev pub MayFollow : Settings → Scene → AttemptId → Type 0
 MayFollow settings m attempt =
     ((attempt.number ≡ 1) × (is_accepted m attempt.app ≡ true))
@@ -81,29 +92,38 @@ pub record MayQueue (settings : Settings) (m : Scene) (attempt : AttemptId) : Ty
   pub not_granted : list_any (λ row. is_attempt row.id.attempt attempt) m.life.book ≡ false
   pub follows : MayFollow settings m attempt
 
--- an operation may be handed to the store where one awaits, none is handed and the life is not blown
-pub record MayHand (m : Scene) : Type 0 where
-  pub some_awaits : m.awaiting ≢ []
-  pub none_handed : m.life.handed ≡ false
-  pub not_blown : m.life.blown ≡ false
+-- a container may be ordered on a node where it lives there and is the master of an attempt that was kept in this life; once,
+-- while the attempt's end isn't issued and no client wished to kill it. A master that an earlier life ordered is not launched a
+-- second time (YARN-556)
+pub record MayOrder (m : Scene) (container : ContainerId) (node : List ℕ) : Type 0 where
+  pub opened : m.life.is_open ≡ true
+  pub master : is_own_master m container ≡ true
+  pub here : kept_here m container.attempt ≡ true
+  pub living : lives_on m.life.book node container ≡ true
+  pub once : has_container m.life.masters.ordered container ≡ false
+  pub no_end : attempt_end_issued m container.attempt ≡ false
+  pub no_wish : is_wished m container.attempt.app ≡ false
 
--- an operation may be kept where it is the first awaiting one and is handed
-pub record MayKeep (m : Scene) (op : Op) : Type 0 where
-  pub handed : m.life.handed ≡ true
-  pub first : slice_get m.awaiting 0 ≡ Some op
+-- a node may be absorbed where its last registration is the first thing that is not worked off: what is taken is what its report
+-- gives, and what stood on it and isn't taken ends, in ascending order
+pub record MayAbsorb (m : Scene) (node : NodeState) (taken : List Held) (ended : List ContainerId) : Type 0 where
+  pub registration : slice_get node.undone 0 ≡ Some (Registered node.last.turn)
+  pub takes : taken ≡ taken_of m node
+  pub ends : Ascend (not_taken m node taken) ended
 
--- a message may be served where the life is open or blown, as its sender's, with the reply that the scene gives
-pub record MayServe (settings : Settings) (m : Scene) (sender : Sender) (message : Message) (reply : Reply) : Type 0 where
-  pub serving : (m.life.is_open || m.life.blown) ≡ true
-  pub of_sender : sender ≡ sender_of message
-  pub answers : Answers settings m message reply
+-- a beat may be answered by a pass where it is the first thing that is not worked off, and nothing that it reports as done is
+-- in the book on the node; what is granted is what the pass gives
+pub record MayPass (settings : Settings) (m : Scene) (node : NodeState) (grants : List Grant) : Type 0 where
+  pub beat : is_some (beat_at node.undone) ≡ true
+  pub none_done : done_on m node ≡ []
+  pub grants_are : grants ≡ pass_of settings m node
 
 -- a segment may settle where nothing awaits and nothing is owed
 pub record MaySettle (settings : Settings) (m : Scene) : Type 0 where
   pub none_awaits : m.awaiting ≡ []
   pub owes_nothing : Owed settings m → ⊥
 
--- a life may go down where no operation is handed
+-- a life may go down where no operation is with the store
 pub record MayGoDown (m : Scene) : Type 0 where
   pub none_handed : m.life.handed ≡ false
 
@@ -113,16 +133,21 @@ IsDispatcher lane = (lane ≡ Main) ⊎ (lane ≡ Sched)
 
 -- when an entry is allowed in a life
 abbrev pub AllowedIn : Settings → Scene → Entry → Type 0
+AllowedIn settings m (Opened landed epoch stamp) = ⊥
 AllowedIn settings m (Issued op) = MayIssue settings m op
 AllowedIn settings m Handed = MayHand m
 AllowedIn settings m (Kept op) = MayKeep m op
+AllowedIn settings m (Blown passed) = MayBlow m
 AllowedIn settings m (Served sender message reply) = MayServe settings m sender message reply
 AllowedIn settings m (Accepted app) = MayAccept m app
 AllowedIn settings m (Queued attempt) = MayQueue settings m attempt
+AllowedIn settings m (Absorbed name taken ended) = IsSomeAnd (node_of m.life.nodes name) (λ node. MayAbsorb m node taken ended)
+AllowedIn settings m (Pass name grants) = IsSomeAnd (node_of m.life.nodes name) (λ node. MayPass settings m node grants)
+AllowedIn settings m (Ordered container node) = MayOrder m container node
+AllowedIn settings m (Ended cause list) = MayEnd m cause list
 AllowedIn settings m Settled = MaySettle settings m
 AllowedIn settings m Down = MayGoDown m
 AllowedIn settings m (Quiet lane) = IsDispatcher lane
-AllowedIn settings m _ = ⊥
 
 -- Opened is allowed where no life stands, and every other entry only in a life
 abbrev pub AllowedWhere : Settings → Manager → Option LifeState → Entry → Type 0

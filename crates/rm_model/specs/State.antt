@@ -1,5 +1,6 @@
 -- The state of a manager that never dies: plain lists and records. It has no queue of events, no table of transitions, no
--- journal, no index and no running total.
+-- journal, no index and no running total. What a manager knows of applications, attempts, containers and nodes is after YARN's
+-- page on ResourceManager Restart and the design YARN-556; that it is told so, and in these parts, is this project's own.
 use Rattle.std.specs.Prelude.{ℕ, List, [], Bool, false, Option, None}
 use Rattle.rm_types.specs.declared.containers.AskOf.{AskOf}
 use Rattle.rm_types.specs.declared.containers.Closing.{Closing}
@@ -14,40 +15,35 @@ use Rattle.rm_types.specs.declared.replies.Reply.{Reply}
 use Rattle.rm_types.specs.declared.resources.Resource.{Resource}
 use Rattle.rm_types.specs.Records.{Records, records}
 
--- what this life knows of applications
+-- what this life knows of applications, beside what is recorded of them (`RMApp` in YARN)
 pub record Applications : Type 0 where
   -- submitted in this life and not kept, in order
   pub submitted : List Submitted
-  -- those that a client wished to kill
+  -- those that clients wished to kill
   pub wishes : List AppId
   -- those that were accepted
   pub accepted : List AppId
-  -- those whose Remove was kept
+  -- those whose Remove was kept: they are no longer remembered
   pub retired : List AppId
 
--- what the master of an attempt said when it finished
-pub record Finishing : Type 0 where
+-- a master that registered in this life (an ApplicationMaster in YARN): its attempt, the last response id that it was answered
+-- and what it was answered then, and what it said when it finished, once it did
+pub record MasterState : Type 0 where
   pub attempt : AttemptId
-  pub text : List ℕ
-
--- the last id that the master of an attempt was answered, and the reply, if there was one
-pub record Answered : Type 0 where
-  pub attempt : AttemptId
-  pub id : ℕ
-  pub reply : Option Reply
+  pub last_id : ℕ
+  pub last_reply : Reply
+  pub finishing : Option (List ℕ)
 
 -- what this life knows of masters
 pub record Masters : Type 0 where
-  -- the attempts whose master registered
-  pub registered : List AttemptId
-  pub finishing : List Finishing
-  -- those whose master's lease ran out
+  pub registered : List MasterState
+  -- the attempts whose master's lease ran out (its liveness expired, in YARN)
   pub expired : List AttemptId
-  -- the masters' containers that were ordered on their nodes
+  -- the masters' containers that were ordered on their nodes, as YARN's launcher of ApplicationMasters does
   pub ordered : List ContainerId
-  pub answered : List Answered
 
--- a living container: on which node, of what size, how far it has come, and whether its attempt released it
+-- a living container (`RMContainer` in YARN): on which node, of what size, how far it has come, and whether its attempt
+-- released it
 pub record Row : Type 0 where
   pub id : ContainerId
   pub node : List ℕ
@@ -62,51 +58,53 @@ pub record Release : Type 0 where
 
 -- what this life knows of ended containers
 pub record Endings : Type 0 where
-  -- the endings that the attempts' masters were not told yet
+  -- the endings that the attempts' masters were not told yet (completed container statuses, in YARN)
   pub outbox : List Closing
   -- all containers that left the book
   pub left : List ContainerId
   -- the releases that were served since the last Settled
   pub releases : List Release
 
--- a node's registration: its turn, what it offers, and what it reports as running
+-- a node's registration (that of a NodeManager, in YARN): its turn, which rises with each registration of the node, what it
+-- offers, and what it reports as running
 pub record Registration : Type 0 where
   pub turn : ℕ
   pub capability : Resource
   pub running : List Held
 
--- how a node stands: it registered and was not absorbed since, it was absorbed, or its lease ran out
+-- how a node stands: it registered and its report was not absorbed since; it was absorbed (`RUNNING` in YARN); or its lease
+-- ran out (`LOST`)
 pub data Phase : Type 0 where
   Waiting : Phase
   Ready : Phase
   Lost : Phase
 
--- what a node said, or what happened to it, that is not worked off: the registration of a turn, a beat with its done list,
--- an expiry
+-- what a node said or what happened to it, while that is not worked off: the registration of a turn, a beat with its done
+-- list, an expiry
 pub data Undone : Type 0 where
   Registered : (turn : ℕ) → Undone
   Beat : (done : List ContainerId) → Undone
-  Expiry : Undone
+  Expired : Undone
 
 -- a node that registered in this life
 pub record NodeState : Type 0 where
   pub name : List ℕ
-  -- its last registration, and the reply to it
+  -- its last registration
   pub last : Registration
-  pub registered_reply : Reply
   pub phase : Phase
   -- what it offers, once it was absorbed in this life
   pub capability : Option Resource
-  -- the last id that it was answered, and the reply to that beat, if there was one
+  -- the last response id that it was answered, and what it was answered then
   pub last_id : ℕ
-  pub last_reply : Option Reply
+  pub last_reply : Reply
   -- the masters' containers that it is to launch and was not told yet
   pub launches : List ContainerId
-  -- what is not worked off, in order
+  -- what is not worked off, in order; what has nothing left to do at the front falls away
   pub undone : List Undone
 
--- what belongs to one life
+-- what belongs to one life, from a start of the manager to its crash; all of it falls with the life
 pub record LifeState : Type 0 where
+  -- how many lives began before it (YARN-556), and its stamp, which stands in the ids that it gives (YARN's cluster timestamp)
   pub epoch : ℕ
   pub stamp : ℕ
   -- what was recorded when the life began
@@ -115,7 +113,7 @@ pub record LifeState : Type 0 where
   pub is_open : Bool
   -- the first awaiting operation is with the store
   pub handed : Bool
-  -- the store refused an operation
+  -- the store refused an operation, after which nothing more is kept in it
   pub blown : Bool
   -- milliseconds since it opened
   pub now : ℕ
@@ -167,7 +165,7 @@ new_life epoch stamp first =
       given = 0;
       granted = [];
       apps = record { submitted = []; wishes = []; accepted = []; retired = [] };
-      masters = record { registered = []; finishing = []; expired = []; ordered = []; answered = [] };
+      masters = record { registered = []; expired = []; ordered = [] };
       asks = [];
       book = [];
       endings = record { outbox = []; left = []; releases = [] };
