@@ -1,0 +1,2 @@
+pub use Rattle.rm_model.specs.Lawful
+pub mod Laws
