@@ -1,16 +1,18 @@
 -- A fuse over a disk, as contracts see it.
 use Rattle.std.specs.Prelude.{◌≡◌, ◌≤◌, ◌+◌, ◌-◌, ◌^◌, ℕ, min, nat_le, Bool, true, false, List, [], ◌∷◌, ◌++◌, Option, None, Some, option_map, Result, Err, if◌then◌else◌}
+use Rattle.rm_types.specs.Counts.{risen, Rose}
 use Rattle.rm_disk.specs.Disk.{DiskView}
 use Rattle.rm_disk.specs.declared.device.DiskError.{DiskError}
 use Rattle.rm_disk.specs.declared.device.DiskError.TheVariants.{Memory}
 use Rattle.rm_disk.specs.declared.fallen.Fallen.{Fallen}
 use Rattle.rm_disk.specs.declared.fallen.Armed.{Armed}
 
--- A disk under a fuse: its falls while it was armed, the number that it is armed with, how many calls it let
--- pass since it was armed, whether it refused one since, and how many it refused in all.
+-- A disk under a fuse: its falls while it was armed, how often it fell when it wasn't, the number that it is armed
+-- with, how many calls it let pass since it was armed, whether it refused one since, and how many it refused in all.
 pub record Fused (D : Type 0) : Type 0 where
   pub inner : D
   pub falls : List Fallen
+  pub unarmed_falls : ℕ
   pub armed : Option ℕ
   pub passed : ℕ
   pub blown : Bool
@@ -27,7 +29,7 @@ is_spent (Some passes) passed = nat_le passes passed
 
 -- A fuse after a call that it refused.
 abbrev pub refusing : {D : Type 0} → Fused D → Fused D
-refusing fuse = record fuse { blown = true; refused = min (fuse.refused + 1) (2 ^ 64 - 1) }
+refusing fuse = record fuse { blown = true; refused = risen fuse.refused }
 
 -- Whether a call counts as one that passed: not where it found no memory.
 abbrev pub counts : {T : Type 0} → Result T DiskError → Bool
@@ -48,6 +50,11 @@ abbrev pub falls_after : List Fallen → Option ℕ → ℕ → Bool → List Fa
 falls_after falls None image blown = falls
 falls_after falls (Some passes) image blown = falls ++ record { calls = passes; image = image; blown = blown } ∷ []
 
+-- How often a fuse fell unarmed, after one more fall.
+abbrev pub unarmed_falls_after : ℕ → Option ℕ → ℕ
+unarmed_falls_after count None = risen count
+unarmed_falls_after count (Some passes) = count
+
 -- A fall disarms an armed fuse.
 abbrev pub blown_after_fall : Option ℕ → Bool → Bool
 blown_after_fall None blown = blown
@@ -56,7 +63,18 @@ blown_after_fall (Some passes) blown = false
 -- A fuse after a fall that left the inner disk so.
 abbrev pub fallen_fuse : {D : Type 0} → Fused D → D → ℕ → Fused D
 fallen_fuse fuse inner image =
-    record fuse { inner = inner; falls = falls_after fuse.falls fuse.armed image fuse.blown; armed = None; blown = blown_after_fall fuse.armed fuse.blown }
+    record fuse {
+      inner = inner;
+      falls = falls_after fuse.falls fuse.armed image fuse.blown;
+      unarmed_falls = unarmed_falls_after fuse.unarmed_falls fuse.armed;
+      armed = None;
+      blown = blown_after_fall fuse.armed fuse.blown;
+    }
+
+-- A fall of a fuse is a fall of the inner disk to the same image, and is shown.
+pub record FallsThrough {D : Type 0} (inner : ℕ → D → D → Type 0) (image : ℕ) (old new : Fused D) : Type 0 where
+  pub inside : inner image old.inner new.inner
+  pub shown : new ≡ fallen_fuse old new.inner image
 
 -- The number that a fuse is armed with.
 abbrev pub passes_of : Option Armed → Option ℕ
@@ -69,6 +87,13 @@ pub record IsFuse (falls : List Fallen) (armed : Option Armed) (passed : ℕ) (b
   pub within : (a : Armed) → armed ≡ Some a → passed ≤ a.passes
   pub spent : blown ≡ true → passes_of armed ≡ Some passed
 
+-- What a fault of a fuse shows: its count rose, a blown fuse stays blown, and where it isn't blown afterwards the inner
+-- disk failed.
+pub record FaultedFuse {D : Type 0} (view : D → DiskView) (inner : D → D → Type 0) (old new : Fused D) : Type 0 where
+  pub counted : Rose (fused_view (view old.inner) old.refused).faults (fused_view (view new.inner) new.refused).faults
+  pub stays_blown : old.blown ≡ true → new.blown ≡ true
+  pub inside : new.blown ≡ false → inner old.inner new.inner
+
 -- What every call but a fall keeps of a fuse, whether it succeeds or not. The number that it is armed with and its
 -- falls stay. More may pass, but never beyond that number. A call that succeeds leaves it blown or not, as it was;
 -- once blown it stays blown and lets nothing more pass; where it blows, just as many passed as it was armed with; and
@@ -77,6 +102,7 @@ pub record KeepsFuse {D : Type 0} (inner : D → D → Type 0) (succeeds : Bool)
   pub inside : inner old.inner new.inner
   pub armed : new.armed ≡ old.armed
   pub falls : new.falls ≡ old.falls
+  pub unarmed_falls : new.unarmed_falls ≡ old.unarmed_falls
   pub passed : old.passed ≤ new.passed
   pub within : (passes : ℕ) → old.armed ≡ Some passes → old.passed ≤ passes → new.passed ≤ passes
   pub success : succeeds ≡ true → new.blown ≡ old.blown

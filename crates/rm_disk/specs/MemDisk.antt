@@ -1,7 +1,7 @@
 -- What contracts see of a disk in memory beyond what they see of every disk.
 use Rattle.std.specs.Prelude.{◌≡◌, ◌↔◌, ◌+◌, ◌-◌, ◌^◌, ℕ, min, List, drop, Contains, Some, Result, Err}
 use Rattle.rm_disk.specs.Disk.{DiskView, IsDurable}
-use Rattle.rm_disk.specs.Memory.{MemState, view_of}
+use Rattle.rm_disk.specs.Memory.{MemState, fallen, view_of}
 use Rattle.rm_disk.specs.declared.device.DiskError.{DiskError}
 use Rattle.rm_disk.specs.declared.device.DiskError.TheVariants.{DiskFault}
 use Rattle.rm_disk.specs.declared.memory.MemDisk.{MemDisk}
@@ -29,6 +29,12 @@ next_number disk = min (calls_made disk + 1) (2 ^ 64 - 1)
 -- The disk after a call that failed: its number is taken and the fault counted, and nothing else changed.
 abbrev pub after_fault : MemDisk → MemDisk
 after_fault disk = record disk { count = next_number disk; faults = min (disk.faults + 1) (2 ^ 64 - 1) }
+
+-- A fall leaves the image of that number, and takes no number of a call.
+pub record FallsTo (image : ℕ) (old new : MemDisk) : Type 0 where
+  pub told : (memory_view new).told ≡ Some (fallen image (state_of old))
+  pub number : calls_made new ≡ calls_made old
+  pub list : failing_calls new ≡ failing_calls old
 
 -- A call takes the next number, and answers DiskFault exactly where the list has that number, then without effect.
 pub record TakesNumber {T : Type 0} (old new : MemDisk) (result : Result T DiskError) : Type 0 where

@@ -25,6 +25,14 @@ pub trait Disk {
     /// does not. Generic code passes it on, so that its callers learn what their own disk keeps.
     ghost keeps: { Bool → Self → Self → Type 0 };
 
+    /// What a `DiskFault` shows, between the disk before a call and after it: its count of faults rose, and
+    /// what else tells whose fault it was. Generic code passes it on too.
+    ghost faulted: { Self → Self → Type 0 };
+
+    /// What a fall to an image does, between the disk before it and after it, beyond what it does on every
+    /// disk.
+    ghost falls_to: { ℕ → Self → Self → Type 0 };
+
     /// How many bytes the disk has. It never changes.
     fn size(&self) -> u64
         ensures { result ≡ (view self.now).size };
@@ -37,7 +45,7 @@ pub trait Disk {
         ensures bytes { OnOk result (Tells (view self.old) (λ told. into.new ≡ take (length into.old) (drop at told))) }
         ensures quiet { IsQuiet (view self.old) (view self.new) }
         ensures kept { keeps (is_ok result) self.old self.new }
-        ensures fault { IsErrOf result DiskFault → Rose (view self.old).faults (view self.new).faults }
+        ensures fault { IsErrOf result DiskFault → faulted self.old self.new }
         ensures memory { IsErrOf result Memory → ⊥ };
 
     /// Writes bytes at an offset, all of them within the size. Until a sync that succeeds, a crash may leave
@@ -50,7 +58,7 @@ pub trait Disk {
         ensures written { OnOk result ((view self.new).told ≡ option_map (put at bytes.now) (view self.old).told) }
         ensures in_range { MayWrite at (length bytes.now) (view self.old) (view self.new) }
         ensures kept { keeps (is_ok result) self.old self.new }
-        ensures fault { IsErrOf result DiskFault → Rose (view self.old).faults (view self.new).faults }
+        ensures fault { IsErrOf result DiskFault → faulted self.old self.new }
         ensures memory { IsErrOf result Memory → IsAsBefore (view self.old) (view self.new) };
 
     /// Makes what was written last: after it a crash leaves what a read gives. No call of it changes what a
@@ -61,19 +69,26 @@ pub trait Disk {
         ensures durable { OnOk result (IsDurable (view self.new)) }
         ensures quiet { IsQuiet (view self.old) (view self.new) }
         ensures kept { keeps (is_ok result) self.old self.new }
-        ensures fault { IsErrOf result DiskFault → Rose (view self.old).faults (view self.new).faults }
+        ensures fault { IsErrOf result DiskFault → faulted self.old self.new }
         ensures memory { IsErrOf result Memory → IsAsBefore (view self.old) (view self.new) };
 
     /// Crashes: a read then gives one of the images, which a disk may pick by `image`, and nothing is left
     /// unsynced.
     fn fall(&mut self, image: u32)
-        ensures { Falls (view self.old) (view self.new) };
+        ensures falls { Falls (view self.old) (view self.new) }
+        ensures image { falls_to image self.old self.new };
 
     /// No call at all keeps it.
     ghost keeps_same: { (succeeds : Bool) (disk : Self) → keeps succeeds disk disk };
 
     /// One call after another keeps it.
     ghost keeps_on: { (one two : Bool) (first second third : Self) → keeps one first second → keeps two second third → keeps (one && two) first third };
+
+    /// Where a disk goes on, and then a call shows a fault, the calls together show it.
+    ghost faulted_later: { (succeeds : Bool) (first second third : Self) → keeps succeeds first second → (view first).faults ≤ (view second).faults → faulted second third → faulted first third };
+
+    /// Where a fault is shown, the count of faults rose.
+    ghost faulted_counts: { (first second : Self) → faulted first second → Rose (view first).faults (view second).faults };
 
     /// Each image has the disk's size.
     ghost image_size: { (disk : Self) (image : List ℕ) → (view disk).images image → length image ≡ (view disk).size };

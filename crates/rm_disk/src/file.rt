@@ -10,9 +10,13 @@ use std::marker::Model;
 
 const FILE_SIZE: u64 = 4_194_304;
 
+// How often an interrupted call is tried again before it counts as failed.
+const MOST_TRIES: u32 = 1_000_000;
+
 /// A disk of 4,194,304 bytes in a file.
 ///
-/// It tells no bytes: no proof says what a file holds. A sync is the system's `fdatasync`. Contracts see of
+/// It tells no bytes: no proof says what a file holds. A sync is the system's `fdatasync`; where it makes the
+/// file it syncs the folder too. A call that the system says was interrupted is tried again. Contracts see of
 /// it how often it failed.
 pub struct FileDisk<'a, R: Files> {
     runtime: &'a R,
@@ -87,7 +91,7 @@ impl<'a, R: Files> FileDisk<'a, R> {
         if self.lost {
             return Err(io::Error::from(ErrorKind::Other));
         }
-        let outcome = self.file.as_mut().unwrap().sync_data();
+        let outcome = sync_bytes(self.file.as_ref().unwrap());
         self.lost = outcome.is_err();
         outcome
     }
@@ -108,6 +112,7 @@ impl<'a, R: Files> FileDisk<'a, R> {
 
 impl<R: Files> Disk for FileDisk<'_, R> {
     ghost use Rattle.rm_disk.specs.FileDisk.{file_view};
+    ghost use Rattle.rm_disk.specs.Faults.{rose_later};
 
     ghost view = { λ d. file_view d.faults };
 
@@ -116,6 +121,14 @@ impl<R: Files> Disk for FileDisk<'_, R> {
     ghost keeps_same = { λ _ _. tt };
 
     ghost keeps_on = { λ one two first second third _ _. tt };
+
+    ghost faulted = { λ d e. Rose (file_view d.faults).faults (file_view e.faults).faults };
+
+    ghost falls_to = { λ image d e. e ≡ d };
+
+    ghost faulted_later = { λ succeeds first second third _ le rose. rose_later first.faults second.faults third.faults le rose };
+
+    ghost faulted_counts = { λ first second rose. rose };
 
     ghost image_size = { λ d image never. absurd never };
 
@@ -182,14 +195,69 @@ fn open_or_make<R: Files>(runtime: &R, name: &str) -> io::Result<R::File> {
     Ok(file)
 }
 
-// Makes the file, and lets its size last before anything is written, so that a sync of the bytes alone serves.
+// Makes the file, and lets its size and its name last before anything is written, so that a sync of the bytes
+// alone serves.
 fn make<R: Files>(runtime: &R, name: &str) -> io::Result<R::File> {
     let file = OpenOptions::new()
         .read(true)
         .write(true)
         .create_new(true)
         .open(runtime, name)?;
-    file.set_len(FILE_SIZE)?;
-    file.sync_all()?;
+    set_size(&file)?;
+    sync_whole(&file)?;
+    let folder = OpenOptions::new()
+        .read(true)
+        .open(runtime, folder_of(name))?;
+    sync_whole(&folder)?;
     Ok(file)
+}
+
+// The folder in which the file of that name stands.
+fn folder_of(name: &str) -> &str {
+    match name.rsplit_once('/') {
+        Some(("", _)) => "/",
+        Some((folder, _)) => folder,
+        None => ".",
+    }
+}
+
+// Whether a call was interrupted, so that it has to be made again.
+fn was_interrupted(outcome: &io::Result<()>) -> bool {
+    match outcome {
+        Ok(()) => false,
+        Err(error) => error.kind() == ErrorKind::Interrupted,
+    }
+}
+
+fn sync_bytes<F: OpenFile>(file: &F) -> io::Result<()> {
+    let mut outcome = file.sync_data();
+    'again: for _ in 0..MOST_TRIES {
+        if !was_interrupted(&outcome) {
+            break;
+        }
+        outcome = file.sync_data();
+    }
+    outcome
+}
+
+fn sync_whole<F: OpenFile>(file: &F) -> io::Result<()> {
+    let mut outcome = file.sync_all();
+    'again: for _ in 0..MOST_TRIES {
+        if !was_interrupted(&outcome) {
+            break;
+        }
+        outcome = file.sync_all();
+    }
+    outcome
+}
+
+fn set_size<F: OpenFile>(file: &F) -> io::Result<()> {
+    let mut outcome = file.set_len(FILE_SIZE);
+    'again: for _ in 0..MOST_TRIES {
+        if !was_interrupted(&outcome) {
+            break;
+        }
+        outcome = file.set_len(FILE_SIZE);
+    }
+    outcome
 }

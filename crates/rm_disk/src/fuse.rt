@@ -1,7 +1,6 @@
 ghost use Rattle.std.specs.Prelude.{◌≡◌, ◌+◌, ◌≤◌, ◌↔◌, ℕ, true, false, List, length, take, drop, [], None, Some, Err, OnOk, OnErr, IsErrOf, IsTrue, option_map, is_ok};
 ghost use Rattle.std.specs.Bool.{OnTrue, OnFalse};
 ghost use Rattle.rm_disk.specs.Disk.{put, Tells, IsDurable, IsQuiet, MayWrite, Falls, IsAsBefore};
-ghost use Rattle.rm_types.specs.Counts.{Rose};
 ghost use Rattle.rm_disk.specs.Fuse.{is_spent, refusing, passing};
 
 use crate::device::{Disk, DiskError};
@@ -14,11 +13,12 @@ use std::marker::Model;
 /// rest, as if its power went. Reads and falls always reach the inner disk.
 ///
 /// Its count of faults is the inner disk's and the number of its refusals. The falls of an armed fuse are
-/// kept in a list.
+/// kept in a list; those of one that isn't armed are counted.
 #[derive(Drop)]
 pub struct Fuse<D: Disk> {
     inner: D,
     falls: Items<Fallen>,
+    unarmed_falls: u64,
     armed: Option<Armed>,
     passed: u32,
     blown: bool,
@@ -30,7 +30,7 @@ impl<D: Disk> Model for Fuse<D> {
 
     ghost Value = { Fused D };
 
-    ghost view = { λ f. record { inner = f.inner; falls = f.falls; armed = passes_of f.armed; passed = f.passed; blown = f.blown; refused = f.refused } };
+    ghost view = { λ f. record { inner = f.inner; falls = f.falls; unarmed_falls = f.unarmed_falls; armed = passes_of f.armed; passed = f.passed; blown = f.blown; refused = f.refused } };
 
     ghost invariant = { λ f. IsFuse f.falls f.armed f.passed f.blown };
 }
@@ -38,11 +38,12 @@ impl<D: Disk> Model for Fuse<D> {
 impl<D: Disk> Fuse<D> {
     /// A fuse that is not armed, with no falls.
     pub fn new(alloc: Global, inner: D) -> Fuse<D>
-        ensures { result ≡ record { inner = inner; falls = []; armed = None; passed = 0; blown = false; refused = 0 } }
+        ensures { result ≡ record { inner = inner; falls = []; unarmed_falls = 0; armed = None; passed = 0; blown = false; refused = 0 } }
     {
         Fuse {
             inner,
             falls: Items::new(alloc),
+            unarmed_falls: 0,
             armed: None,
             passed: 0,
             blown: false,
@@ -83,6 +84,13 @@ impl<D: Disk> Fuse<D> {
         &self.falls
     }
 
+    /// How often the fuse fell while it wasn't armed. The count stands still at 2^64 - 1.
+    pub fn unarmed_falls(&self) -> u64
+        ensures { result ≡ self.now.unarmed_falls }
+    {
+        self.unarmed_falls
+    }
+
     /// Whether a call was refused since the fuse was last armed or disarmed. If so, it is armed with just as
     /// many as passed.
     pub fn blown(&self) -> bool
@@ -108,6 +116,7 @@ impl<D: Disk> Fuse<D> {
         let Fuse {
             inner,
             falls: _,
+            unarmed_falls: _,
             armed: _,
             passed: _,
             blown: _,
@@ -159,8 +168,8 @@ impl<D: Disk> Fuse<D> {
 }
 
 impl<D: Disk> Disk for Fuse<D> {
-    ghost use Rattle.rm_disk.specs.Fuse.{fused_view, fallen_fuse, KeepsFuse};
-    ghost use Rattle.rm_disk.specs.FuseLaws.{keeps_fuse_same, keeps_fuse_on};
+    ghost use Rattle.rm_disk.specs.Fuse.{fused_view, FallsThrough, FaultedFuse, KeepsFuse};
+    ghost use Rattle.rm_disk.specs.FuseLaws.{keeps_fuse_same, keeps_fuse_on, faulted_fuse_later};
 
     ghost view = { λ f. fused_view (D.view f.inner) f.refused };
 
@@ -169,6 +178,14 @@ impl<D: Disk> Disk for Fuse<D> {
     ghost keeps_same = { λ succeeds f. keeps_fuse_same (D.keeps succeeds) succeeds f (D.keeps_same succeeds f.inner) };
 
     ghost keeps_on = { λ one two x y z xy yz. keeps_fuse_on D.keeps D.keeps_on one two x y z xy yz };
+
+    ghost faulted = { λ f g. FaultedFuse D.view D.faulted f g };
+
+    ghost falls_to = { λ image f g. FallsThrough D.falls_to image f g };
+
+    ghost faulted_later = { λ succeeds x y z xy le yz. faulted_fuse_later D.view D.keeps D.faulted D.faulted_later succeeds x y z xy le yz };
+
+    ghost faulted_counts = { λ x y fault. fault.counted };
 
     ghost image_size = { λ f image is. D.image_size f.inner image is };
 
@@ -182,8 +199,21 @@ impl<D: Disk> Disk for Fuse<D> {
         self.inner.size()
     }
 
-    /// Reads the inner disk, armed or not.
-    fn read(&mut self, at: u64, into: &mut [u8]) -> Result<(), DiskError> {
+    /// Reads the inner disk, armed or not, and blown or not. The fuse stays as it is, and `DiskFault` comes
+    /// only where the inner disk failed.
+    fn read(&mut self, at: u64, into: &mut [u8]) -> Result<(), DiskError>
+        requires { at + length into.old ≤ (D.view self.old.inner).size }
+        ensures bytes { OnOk result (Tells (fused_view (D.view self.old.inner) self.old.refused) (λ told. into.new ≡ take (length into.old) (drop at told))) }
+        ensures quiet { IsQuiet (fused_view (D.view self.old.inner) self.old.refused) (fused_view (D.view self.new.inner) self.new.refused) }
+        ensures kept { KeepsFuse (D.keeps (is_ok result)) (is_ok result) self.old self.new }
+        ensures fault { IsErrOf result DiskError.DiskFault → FaultedFuse D.view D.faulted self.old self.new }
+        ensures memory { IsErrOf result DiskError.Memory → ⊥ }
+
+        // What the fuse itself does.
+        ensures fuse { self.new ≡ record self.old { inner = self.new.inner } }
+        ensures inner_quiet { IsQuiet (D.view self.old.inner) (D.view self.new.inner) }
+        ensures inner_fault { IsErrOf result DiskError.DiskFault → D.faulted self.old.inner self.new.inner }
+    {
         self.inner.read(at, into)
     }
 
@@ -194,13 +224,13 @@ impl<D: Disk> Disk for Fuse<D> {
         ensures written { OnOk result ((fused_view (D.view self.new.inner) self.new.refused).told ≡ option_map (put at bytes.now) (fused_view (D.view self.old.inner) self.old.refused).told) }
         ensures in_range { MayWrite at (length bytes.now) (fused_view (D.view self.old.inner) self.old.refused) (fused_view (D.view self.new.inner) self.new.refused) }
         ensures kept { KeepsFuse (D.keeps (is_ok result)) (is_ok result) self.old self.new }
-        ensures fault { IsErrOf result DiskError.DiskFault → Rose (fused_view (D.view self.old.inner) self.old.refused).faults (fused_view (D.view self.new.inner) self.new.refused).faults }
+        ensures fault { IsErrOf result DiskError.DiskFault → FaultedFuse D.view D.faulted self.old self.new }
         ensures memory { IsErrOf result DiskError.Memory → IsAsBefore (fused_view (D.view self.old.inner) self.old.refused) (fused_view (D.view self.new.inner) self.new.refused) }
 
         // What the fuse itself does.
         ensures refused { is_spent self.old.armed self.old.passed ≡ true → (result ≡ Err DiskError.DiskFault) × (self.new ≡ refusing self.old) }
         ensures passed { is_spent self.old.armed self.old.passed ≡ false → self.new ≡ passing self.old self.new.inner result }
-        ensures inner_fault { is_spent self.old.armed self.old.passed ≡ false → IsErrOf result DiskError.DiskFault → Rose (D.view self.old.inner).faults (D.view self.new.inner).faults }
+        ensures inner_fault { is_spent self.old.armed self.old.passed ≡ false → IsErrOf result DiskError.DiskFault → D.faulted self.old.inner self.new.inner }
     {
         if self.refuses() {
             return Err(DiskError::DiskFault);
@@ -216,13 +246,13 @@ impl<D: Disk> Disk for Fuse<D> {
         ensures durable { OnOk result (IsDurable (fused_view (D.view self.new.inner) self.new.refused)) }
         ensures quiet { IsQuiet (fused_view (D.view self.old.inner) self.old.refused) (fused_view (D.view self.new.inner) self.new.refused) }
         ensures kept { KeepsFuse (D.keeps (is_ok result)) (is_ok result) self.old self.new }
-        ensures fault { IsErrOf result DiskError.DiskFault → Rose (fused_view (D.view self.old.inner) self.old.refused).faults (fused_view (D.view self.new.inner) self.new.refused).faults }
+        ensures fault { IsErrOf result DiskError.DiskFault → FaultedFuse D.view D.faulted self.old self.new }
         ensures memory { IsErrOf result DiskError.Memory → IsAsBefore (fused_view (D.view self.old.inner) self.old.refused) (fused_view (D.view self.new.inner) self.new.refused) }
 
         // What the fuse itself does.
         ensures refused { is_spent self.old.armed self.old.passed ≡ true → (result ≡ Err DiskError.DiskFault) × (self.new ≡ refusing self.old) }
         ensures passed { is_spent self.old.armed self.old.passed ≡ false → self.new ≡ passing self.old self.new.inner result }
-        ensures inner_fault { is_spent self.old.armed self.old.passed ≡ false → IsErrOf result DiskError.DiskFault → Rose (D.view self.old.inner).faults (D.view self.new.inner).faults }
+        ensures inner_fault { is_spent self.old.armed self.old.passed ≡ false → IsErrOf result DiskError.DiskFault → D.faulted self.old.inner self.new.inner }
     {
         if self.refuses() {
             return Err(DiskError::DiskFault);
@@ -232,10 +262,11 @@ impl<D: Disk> Disk for Fuse<D> {
         outcome
     }
 
-    /// Lets the inner disk fall. An armed fuse adds the fall to its list, and is disarmed.
+    /// Lets the inner disk fall to the image. An armed fuse adds the fall to its list, and is disarmed; one that
+    /// isn't counts it.
     fn fall(&mut self, image: u32)
         ensures falls { Falls (fused_view (D.view self.old.inner) self.old.refused) (fused_view (D.view self.new.inner) self.new.refused) }
-        ensures fuse { self.new ≡ fallen_fuse self.old self.new.inner image }
+        ensures image { FallsThrough D.falls_to image self.old self.new }
     {
         self.inner.fall(image);
         if let Some(armed) = self.armed.take() {
@@ -247,6 +278,8 @@ impl<D: Disk> Disk for Fuse<D> {
             });
             self.falls = falls;
             self.blown = false;
+        } else {
+            self.unarmed_falls = self.unarmed_falls.saturating_add(1);
         }
     }
 }

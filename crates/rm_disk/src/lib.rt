@@ -16,6 +16,8 @@ mod file;
 mod fuse;
 mod memory;
 #[cfg(test)]
+mod recorded;
+#[cfg(test)]
 mod tests;
 
 pub use calls::Call;

@@ -78,8 +78,9 @@ impl MemDisk {
 }
 
 impl Disk for MemDisk {
-    ghost use Rattle.rm_disk.specs.MemDisk.{memory_view, state_of, TakesNumber};
+    ghost use Rattle.rm_disk.specs.MemDisk.{memory_view, TakesNumber, FallsTo};
     ghost use Rattle.rm_disk.specs.Images.{image_size, now_is_image, now_since, since_now};
+    ghost use Rattle.rm_disk.specs.Faults.{rose_later};
 
     ghost view = { λ m. memory_view m };
 
@@ -88,6 +89,14 @@ impl Disk for MemDisk {
     ghost keeps_same = { λ _ _. tt };
 
     ghost keeps_on = { λ one two first second third _ _. tt };
+
+    ghost faulted = { λ d e. Rose (memory_view d).faults (memory_view e).faults };
+
+    ghost falls_to = { λ image d e. FallsTo image d e };
+
+    ghost faulted_later = { λ succeeds first second third _ le rose. rose_later first.faults second.faults third.faults le rose };
+
+    ghost faulted_counts = { λ first second rose. rose };
 
     ghost image_size = { λ m image is. image_size m.first.items m.bytes.items m.synced.items m.calls.items m.settled m.replays image is };
 
@@ -173,7 +182,7 @@ impl Disk for MemDisk {
     /// in which it has the new value; or image n above 1, in which the byte at place p is (167 n + p) mod 256.
     fn fall(&mut self, image: u32)
         ensures falls { Falls (memory_view self.old) (memory_view self.new) }
-        ensures image { (memory_view self.new).told ≡ Some (fallen image (state_of self.old)) }
+        ensures image { FallsTo image self.old self.new }
     {
         if self.settled == self.calls.len() {
             return;

@@ -1,4 +1,5 @@
 use super::*;
+use crate::recorded::{Calls, Recorded};
 use rm_types::Items;
 use std::process::Abort;
 use std::test::Fail;
@@ -75,6 +76,7 @@ fn a_fuse_lets_as_many_through_as_it_is_armed_with(rt: HostRuntime) -> Result<()
     fuse.fall(1);
     fuse.fall(1);
     assert_eq!(rt; fuse.falls().len(), 2);
+    assert_eq!(rt; fuse.unarmed_falls(), 1);
     let first = Fallen {
         calls: 2,
         image: 3,
@@ -110,8 +112,38 @@ fn a_file_keeps_what_was_written(rt: HostRuntime) -> io::Result<()> {
     let mut again = FileDisk::new(&rt, name);
     assert_eq!(rt; again.read(4_194_301, &mut bytes), Ok(()));
     assert_eq!(rt; bytes, [7, 8, 9]);
+    let whole = fs::read(&rt, name)?;
+    assert_eq!(rt; whole.len(), 4_194_304);
+    assert_eq!(rt; &whole[4_194_301..], [7, 8, 9].as_slice());
     fs::write(&rt, name, "short")?;
     let mut short = FileDisk::new(&rt, name);
     assert_eq!(rt; short.sync(), Err(DiskError::DiskFault));
+    fs::remove_file(&rt, name)
+}
+
+#[test]
+fn a_file_is_synced_with_its_folder_once_it_is_made(rt: HostRuntime) -> io::Result<()> {
+    let name = "rm_disk_synced.store";
+    let _ = fs::remove_file(&rt, name);
+    let calls = Calls::new();
+    let files = Recorded {
+        files: &rt,
+        calls: &calls,
+    };
+    let mut disk = FileDisk::new(&files, name);
+    assert_eq!(rt; disk.write(1, &[7]), Ok(()));
+    // The file that was made, and its folder.
+    assert_eq!(rt; calls.whole_syncs.get(), 2);
+    assert_eq!(rt; calls.syncs.get(), 0);
+    calls.interruptions.set(2);
+    assert_eq!(rt; disk.sync(), Ok(()));
+    assert_eq!(rt; calls.syncs.get(), 1);
+    assert_eq!(rt; disk.sync(), Ok(()));
+    assert_eq!(rt; calls.syncs.get(), 2);
+    let mut again = FileDisk::new(&files, name);
+    let mut bytes = [1; 3];
+    assert_eq!(rt; again.read(0, &mut bytes), Ok(()));
+    assert_eq!(rt; bytes, [0, 7, 0]);
+    assert_eq!(rt; calls.whole_syncs.get(), 2);
     fs::remove_file(&rt, name)
 }

@@ -15,8 +15,9 @@ use Rattle.rm_types.specs.declared.operations.Submission.{Submission}
 use Rattle.rm_types.specs.declared.resources.Resource.{Resource}
 use Rattle.rm_types.specs.declared.texts.TextKind.{TextKind}
 use Rattle.rm_types.specs.declared.texts.TextKind.TheVariants.{Name, Node, Queue, Note, AclText}
-use Rattle.rm_types.specs.Frames.{frame, CanBeFramed, IsText, IsSubmission, text_frame, app_id_frame, attempt_id_frame, master_frame, submission_frame, how_code}
-use Rattle.rm_types.specs.IdTexts.{IsAppId, IsAttemptId, IsContainerId}
+use Rattle.rm_formats.specs.Frames.{frame, text_frame, app_id_frame, attempt_id_frame, master_frame, submission_frame, how_code}
+use Rattle.rm_types.specs.Ranges.{IsOperation, IsText, IsSubmission}
+use Rattle.rm_types.specs.Ranges.{IsAppId, IsAttemptId, IsContainerId}
 use Rattle.rm_types.specs.Texts.{fault_of, first_not_allowed, least_length, greatest_length}
 use Rattle.rm_frame.specs.Framed.{IsFramed}
 use Rattle.rm_frame.specs.Reads.{ReadsOp}
@@ -157,7 +158,7 @@ submission_alike a b x y is_a is_b e =
 
 -- ---- operations
 
-pub frames_alike : (a b : Op) (x y : List ℕ) → CanBeFramed a → CanBeFramed b → frame a ++ x ≡ frame b ++ y → (a ≡ b) × (x ≡ y)
+pub frames_alike : (a b : Op) (x y : List ℕ) → IsOperation a → IsOperation b → frame a ++ x ≡ frame b ++ y → (a ≡ b) × (x ≡ y)
 frames_alike (Epoch next stamp) (Epoch next2 stamp2) x y can_a can_b e =
     let h = heads_alike 1 1 (to_be_bytes w32 next ++ (to_be_bytes w64 stamp ++ x)) (to_be_bytes w32 next2 ++ (to_be_bytes w64 stamp2 ++ y)) e in
     let n = number32_alike next next2 (to_be_bytes w64 stamp ++ x) (to_be_bytes w64 stamp2 ++ y) (omega (arith, can_a.0)) (omega (arith, can_b.0)) h.1 in

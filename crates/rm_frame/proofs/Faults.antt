@@ -6,8 +6,9 @@ use Rattle.std.specs.Int.{Width, w16, byte_len, from_be_bytes, to_be_bytes}
 use Rattle.std.proofs.lemmas.Bool.{le-leb, leb-true}
 use Rattle.std.proofs.lemmas.List.{take-append-drop, length-take, length-drop, drop-drop}
 use Rattle.rm_types.specs.declared.texts.TextKind.{TextKind}
-use Rattle.rm_types.specs.Frames.{IsText, text_frame}
-use Rattle.rm_types.specs.IdTexts.{IsWithin}
+use Rattle.rm_types.specs.Ranges.{IsText}
+use Rattle.rm_formats.specs.Frames.{text_frame}
+use Rattle.rm_types.specs.Ranges.{IsWithin}
 use Rattle.rm_types.specs.Texts.{fault_of}
 use Rattle.rm_frame.specs.declared.fields.FieldError.{FieldError}
 use Rattle.rm_frame.specs.declared.fields.FieldError.TheVariants.{Bad}

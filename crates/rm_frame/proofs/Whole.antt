@@ -12,8 +12,9 @@ use Rattle.rm_types.specs.declared.operations.Op.TheVariants.{Epoch, App, Attemp
 use Rattle.rm_types.specs.declared.operations.Submission.{Submission}
 use Rattle.rm_types.specs.declared.texts.TextKind.{TextKind}
 use Rattle.rm_types.specs.declared.texts.TextKind.TheVariants.{Name, Node, Queue, Note, AclText}
-use Rattle.rm_types.specs.Frames.{frame, CanBeFramed, IsText, IsSubmission, text_frame, app_id_frame, attempt_id_frame, master_frame, submission_frame, how_code}
-use Rattle.rm_types.specs.IdTexts.{IsWithin, IsAppId, IsAttemptId, IsContainerId}
+use Rattle.rm_formats.specs.Frames.{frame, text_frame, app_id_frame, attempt_id_frame, master_frame, submission_frame, how_code}
+use Rattle.rm_types.specs.Ranges.{IsOperation, IsText, IsSubmission}
+use Rattle.rm_types.specs.Ranges.{IsWithin, IsAppId, IsAttemptId, IsContainerId}
 use Rattle.rm_frame.specs.Fields.{Field, ByteFrom, NumberFrom, TextOf, told_length, left_at_fault, stamp_field, number_field, app_id_fields, attempt_id_fields, master_fields, submission_fields, end_fields, epoch_fields, layout}
 use Rattle.rm_frame.specs.Framed.{IsFramed}
 use Rattle.rm_frame.specs.Reads.{Reads, Stops}
@@ -124,7 +125,7 @@ kind_written : (kind : ℕ) (fields : List Field) (front rest : List ℕ) → Is
 kind_written kind fields front rest h reads =
     written_then (ByteFrom 1 6 ∷ []) fields (kind ∷ []) front rest (byte_reads 1 6 kind (kind ∷ (front ++ rest)) (front ++ rest) refl h.0 h.1) reads
 
-op_written : (op : Op) (rest : List ℕ) → CanBeFramed op → Reads (layout (frame op ++ rest)) (frame op ++ rest) (frame op) rest
+op_written : (op : Op) (rest : List ℕ) → IsOperation op → Reads (layout (frame op ++ rest)) (frame op ++ rest) (frame op) rest
 op_written (Epoch next stamp) rest h =
     kind_written 1 epoch_fields (to_be_bytes w32 next ++ to_be_bytes w64 stamp) rest (omega arith, omega arith)
     (written_then (NumberFrom w32 1 (2 ^ 24) ∷ []) (stamp_field ∷ []) (to_be_bytes w32 next) (to_be_bytes w64 stamp) rest
@@ -155,7 +156,7 @@ none_left : (rest : List ℕ) → left_at_fault [] rest ≡ None
 unfolding left_at_fault
 none_left rest = refl
 
-frame_has_none : (op : Op) (rest : List ℕ) → CanBeFramed op → left_at_fault (layout (frame op ++ rest)) (frame op ++ rest) ≡ None
+frame_has_none : (op : Op) (rest : List ℕ) → IsOperation op → left_at_fault (layout (frame op ++ rest)) (frame op ++ rest) ≡ None
 frame_has_none op rest h =
     ap (λ (all : List Field). left_at_fault all (frame op ++ rest)) (sym (append-nil (layout (frame op ++ rest)))) ∙ (op_written op rest h).goes [] ∙ none_left rest
 

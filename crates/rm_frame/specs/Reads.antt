@@ -1,7 +1,8 @@
 -- What a reader of fields says.
 use Rattle.std.specs.Prelude.{◌≡◌, ℕ, List, ◌++◌, Some}
 use Rattle.rm_types.specs.declared.operations.Op.{Op}
-use Rattle.rm_types.specs.Frames.{frame, CanBeFramed}
+use Rattle.rm_formats.specs.Frames.{frame}
+use Rattle.rm_types.specs.Ranges.{IsOperation}
 use Rattle.rm_frame.specs.declared.fields.FieldError.{FieldError}
 use Rattle.rm_frame.specs.declared.fields.FieldError.TheVariants.{Bad}
 use Rattle.rm_frame.specs.Fields.{Field, left_at_fault}
@@ -21,5 +22,5 @@ StopsBy fields bytes error = (left : ℕ) → error ≡ Bad left → Stops field
 
 -- the bytes are an operation's frame and the rest
 pub record ReadsOp (bytes : List ℕ) (op : Op) (rest : List ℕ) : Type 0 where
-  pub can : CanBeFramed op
+  pub can : IsOperation op
   pub parts : bytes ≡ frame op ++ rest

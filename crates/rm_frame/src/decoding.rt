@@ -1,8 +1,9 @@
 ghost use Rattle.std.specs.Prelude.{◌≡◌, ℕ, ◌∷◌, IfOk, IfErr, Some, Ok};
 ghost use Rattle.std.specs.Int.{to_be_bytes, w32, w64};
 ghost use Rattle.rm_types.specs.declared.operations.Op.{Op as AnyOp};
-ghost use Rattle.rm_types.specs.Frames.{IsSubmission, submission_frame};
-ghost use Rattle.rm_types.specs.IdTexts.{IsWithin};
+ghost use Rattle.rm_types.specs.Ranges.{IsSubmission};
+ghost use Rattle.rm_formats.specs.Frames.{submission_frame};
+ghost use Rattle.rm_types.specs.Ranges.{IsWithin};
 ghost use Rattle.rm_frame.specs.Fields.{submission_fields, master_fields, epoch_fields, app_id_fields, attempt_id_fields, end_fields, TextOf, layout, left_at_fault, fault_place, fields_of};
 ghost use Rattle.rm_frame.specs.Framed.{IsFramed};
 ghost use Rattle.rm_frame.specs.Reads.{Reads, Stops, StopsBy, ReadsOp};

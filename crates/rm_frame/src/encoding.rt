@@ -1,6 +1,7 @@
 ghost use Rattle.std.specs.Prelude.{◌≡◌, ◌<◌, ◌^◌, ◌∷◌, ◌++◌, length, OnOk, OnErr, IfOk};
 ghost use Rattle.std.specs.Int.{to_be_bytes, w32, w64};
-ghost use Rattle.rm_types.specs.Frames.{frame, CanBeFramed, text_frame, app_id_frame, attempt_id_frame, submission_frame, how_code, IsSubmission, IsText};
+ghost use Rattle.rm_formats.specs.Frames.{frame, text_frame, app_id_frame, attempt_id_frame, submission_frame, how_code};
+ghost use Rattle.rm_types.specs.Ranges.{IsOperation, IsSubmission, IsText};
 
 use rm_types::{AppId, AttemptId, ContainerId, How, NoMemory, Op, Submission, Text, TextKind};
 use std::alloc::Global;
@@ -8,7 +9,7 @@ use std::alloc::Global;
 /// Appends the frame of an operation. `NoMemory` leaves the bytes as they were. The parts of the
 /// operation must be in their ranges, and an attempt's master must be a container of that attempt.
 pub fn encode(op: &Op, out: &mut Vec<u8>) -> Result<(), NoMemory>
-    requires { CanBeFramed op.now }
+    requires { IsOperation op.now }
     ensures ok { OnOk result (out.new.items ≡ out.old.items ++ frame op.now) }
     ensures err { OnErr result (out.new.items ≡ out.old.items) }
 {
@@ -20,7 +21,7 @@ pub fn encode(op: &Op, out: &mut Vec<u8>) -> Result<(), NoMemory>
 /// The frame of an operation, in a vector of its own: where memory fails half way, nothing has to be
 /// taken back.
 fn frame_of(alloc: Global, op: &Op) -> Result<Vec<u8>, NoMemory>
-    requires { CanBeFramed op.now }
+    requires { IsOperation op.now }
     ensures { IfOk result (λ bytes. bytes.items ≡ frame op.now) }
 {
     let mut out = Vec::new(alloc);
@@ -29,7 +30,7 @@ fn frame_of(alloc: Global, op: &Op) -> Result<Vec<u8>, NoMemory>
 }
 
 fn put_op(out: &mut Vec<u8>, op: &Op) -> Result<(), NoMemory>
-    requires { CanBeFramed op.now }
+    requires { IsOperation op.now }
     ensures { OnOk result (out.new.items ≡ out.old.items ++ frame op.now) }
 {
     match op {

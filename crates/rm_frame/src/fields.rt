@@ -1,7 +1,8 @@
 ghost use Rattle.std.specs.Prelude.{◌≡◌, ◌≤◌, ◌<◌, ◌∷◌, [], length, take, drop, IfOk, IfErr, IfSome, IsNone};
 ghost use Rattle.std.specs.Int.{from_be_bytes, to_be_bytes, w16, w32, w64};
-ghost use Rattle.rm_types.specs.Frames.{IsText, text_frame, app_id_frame, attempt_id_frame, how_code};
-ghost use Rattle.rm_types.specs.IdTexts.{IsWithin, IsAppId, IsAttemptId};
+ghost use Rattle.rm_types.specs.Ranges.{IsText};
+ghost use Rattle.rm_formats.specs.Frames.{text_frame, app_id_frame, attempt_id_frame, how_code};
+ghost use Rattle.rm_types.specs.Ranges.{IsWithin, IsAppId, IsAttemptId};
 ghost use Rattle.rm_frame.specs.Fields.{ByteFrom, NumberFrom, TextOf, app_id_fields, attempt_id_fields, end_fields};
 ghost use Rattle.rm_frame.specs.Reads.{Reads, Stops, StopsBy};
 

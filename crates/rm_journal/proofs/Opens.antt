@@ -5,17 +5,17 @@ use Rattle.std.proofs.lemmas.List.{take_at, drop_all, length-take-le}
 use Rattle.std.proofs.lemmas.List.Elements.{All-nil, All-cons, All-append}
 use Rattle.rm_disk.specs.Disk.{DiskView, Tells, IsQuiet, IsDurable}
 use Rattle.rm_disk.proofs.Views.{quiet_trans}
-use Rattle.rm_model.specs.Device.{IsPayload, record_of, records_of, HasPayloads, no_bytes, records, IsDamagedAt}
+use Rattle.rm_formats.specs.Device.{IsPayload, journal_record, journal_records, HasPayloads, no_bytes, records, IsDamagedAt}
 use Rattle.rm_journal.specs.Journal.{Place, IsOpened, FindsAt, FindsDamage, region_of}
-use Rattle.rm_journal.proofs.Payloads.{records_push, length-records_push, length-record_of, unique}
+use Rattle.rm_journal.proofs.Payloads.{records_push, length-records_push, length-journal_record, unique}
 use Rattle.rm_journal.proofs.Regions.{region_front, region_on}
 
 -- From the region's first place to a gate there are records.
 pub record Walked (from gate : ℕ) (bytes : List ℕ) : Type 0 where
   pub all : List (List ℕ)
   pub sizes : All IsPayload all
-  pub are : region_of from gate bytes ≡ records_of all
-  pub place : gate ≡ from + length (records_of all)
+  pub are : region_of from gate bytes ≡ journal_records all
+  pub place : gate ≡ from + length (journal_records all)
 
 pub record Walking (old now : DiskView) (from gate end : ℕ) : Type 0 where
   pub quiet : IsQuiet old now
@@ -45,22 +45,22 @@ walking_start old now from end quiet durable le inside size = record {
 }
 
 -- Records, and what stands at the gate behind them, are the region.
-region_is : (from gate end : ℕ) (bytes : List ℕ) (walked : Walked from gate bytes) → gate ≤ end → region_of from end bytes ≡ records_of walked.all ++ region_of gate end bytes
+region_is : (from gate end : ℕ) (bytes : List ℕ) (walked : Walked from gate bytes) → gate ≤ end → region_of from end bytes ≡ journal_records walked.all ++ region_of gate end bytes
 region_is from gate end bytes walked le =
-    let many : ℕ = length (records_of walked.all) in
+    let many : ℕ = length (journal_records walked.all) in
     sym (take-append-drop many (region_of from end bytes))
     ∙ ap (λ (l : List ℕ). l ++ drop many (region_of from end bytes)) (region_front from many end bytes (omega (arith, walked.place, le)) ∙ ap (λ (k : ℕ). region_of from k bytes) (sym walked.place) ∙ walked.are)
-    ∙ ap (λ (l : List ℕ). records_of walked.all ++ l) (sym (region_on from many end bytes) ∙ ap (λ (k : ℕ). region_of k end bytes) (sym walked.place))
+    ∙ ap (λ (l : List ℕ). journal_records walked.all ++ l) (sym (region_on from many end bytes) ∙ ap (λ (k : ℕ). region_of k end bytes) (sym walked.place))
 
 walked_on : (from gate end many : ℕ) (bytes : List ℕ) → Walked from gate bytes → FindsAt gate end bytes (Some many) → gate + 5 + many < end → Walked from (gate + (many + 5)) bytes
 walked_on from gate end many bytes walked (payload, next, rest, small, exact, is) room =
-    let size : length (record_of payload) ≡ many + 5 = omega (arith, length-record_of payload, exact) in
-    let one : region_of gate (gate + (many + 5)) bytes ≡ record_of payload =
-    sym (region_front gate (many + 5) end bytes (omega (arith, room))) ∙ ap (λ (l : List ℕ). take (many + 5) l) is ∙ take_at (record_of payload) (next ∷ rest) (many + 5) size in
+    let size : length (journal_record payload) ≡ many + 5 = omega (arith, length-journal_record payload, exact) in
+    let one : region_of gate (gate + (many + 5)) bytes ≡ journal_record payload =
+    sym (region_front gate (many + 5) end bytes (omega (arith, room))) ∙ ap (λ (l : List ℕ). take (many + 5) l) is ∙ take_at (journal_record payload) (next ∷ rest) (many + 5) size in
     record {
       all = walked.all ++ payload ∷ [];
       sizes = All-append IsPayload walked.all (payload ∷ []) walked.sizes (All-cons IsPayload payload [] small (All-nil IsPayload));
-      are = region_is from gate (gate + (many + 5)) bytes walked (omega arith) ∙ ap (λ (l : List ℕ). records_of walked.all ++ l) one ∙ sym (records_push walked.all payload);
+      are = region_is from gate (gate + (many + 5)) bytes walked (omega arith) ∙ ap (λ (l : List ℕ). journal_records walked.all ++ l) one ∙ sym (records_push walked.all payload);
       place = omega (arith, walked.place, length-records_push walked.all payload, exact);
     }
 
@@ -95,7 +95,7 @@ walking_damaged old now from gate end offset so_far is found = λ bytes told.
       payloads = walked.all;
       rest = damage.0;
       sizes = walked.sizes;
-      bytes_are = region_is from gate end bytes walked so_far.high ∙ ap (λ (l : List ℕ). records_of walked.all ++ l) damage.2;
+      bytes_are = region_is from gate end bytes walked so_far.high ∙ ap (λ (l : List ℕ). journal_records walked.all ++ l) damage.2;
       place = omega (arith, is, walked.place);
       no_record = damage.1;
     }
@@ -104,12 +104,12 @@ walking_damaged old now from gate end offset so_far is found = λ bytes told.
 pub record Found (from gate end : ℕ) (bytes : List ℕ) : Type 0 where
   pub all : List (List ℕ)
   pub holds : HasPayloads (region_of from end bytes) all
-  pub place : gate ≡ from + length (records_of all)
+  pub place : gate ≡ from + length (journal_records all)
 
 pub found_closed : (from gate end : ℕ) (bytes : List ℕ) → Walked from gate bytes → gate ≤ end → FindsAt gate end bytes None → Found from gate end bytes
 found_closed from gate end bytes walked le (closed, rest, ne, is) = record {
   all = walked.all;
-  holds = records closed rest ne walked.sizes (region_is from gate end bytes walked le ∙ ap (λ (l : List ℕ). records_of walked.all ++ l) is);
+  holds = records closed rest ne walked.sizes (region_is from gate end bytes walked le ∙ ap (λ (l : List ℕ). journal_records walked.all ++ l) is);
   place = walked.place;
 }
 
@@ -128,7 +128,7 @@ opened old now j size so_far is cursor sound found = record {
     first = omega (arith, cursor);
     last = omega (arith, cursor, so_far.low, so_far.high);
     payloads = λ bytes told. let there = found bytes told in record { given = []; left = there.all; read = record { holds = there.holds; place = omega (arith, cursor) } };
-    gate = λ _ bytes told all has. let there = found bytes told in there.place ∙ ap (λ (l : List (List ℕ)). j.from + length (records_of l)) (unique (region_of j.from j.end bytes) there.all all there.holds has);
+    gate = λ _ bytes told all has. let there = found bytes told in there.place ∙ ap (λ (l : List (List ℕ)). j.from + length (journal_records l)) (unique (region_of j.from j.end bytes) there.all all there.holds has);
     images = λ _ bytes told image now_image all has. let same : bytes ≡ image = cc (so_far.durable image now_image) in subst (λ (l : List ℕ). HasPayloads (region_of j.from j.end l) all) same has;
   };
   from = refl;

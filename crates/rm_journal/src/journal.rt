@@ -1,7 +1,6 @@
 ghost use Rattle.std.specs.Prelude.{◌≡◌, ◌+◌, ◌-◌, ◌<◌, ◌≤◌, ◌⊎◌, ◌↔◌, ℕ, List, [], ◌∷◌, ◌++◌, Bool, true, false, None, length, take, drop, vec_len, vec_capacity, is_ok, OnOk, OnErr, IfOk, IfErr, IfSome, IsErrOf, Err};
 ghost use Rattle.rm_disk.specs.Disk.{Tells, MayWrite, IsQuiet};
-ghost use Rattle.rm_types.specs.Counts.{Rose};
-ghost use Rattle.rm_model.specs.Device.{sized, HasPayloads, IsDamagedAt};
+ghost use Rattle.rm_formats.specs.Device.{sized, HasPayloads, IsDamagedAt};
 ghost use Rattle.rm_journal.specs.Fault.{IsReadError, IsAppendError, IsRefusal};
 ghost use Rattle.rm_journal.specs.Journal.{region_of, Place, Stands, HasRead, IsOpened, GivesNext, LeavesEither, Adds, StaysInRegion, broken_after};
 
@@ -61,7 +60,7 @@ fn fetch<D: Disk>(disk: &mut D, at: u64, many: usize, buffer: &mut Vec<u8>) -> R
     ensures room { vec_capacity buffer.old ≤ vec_capacity buffer.new }
     ensures kept { D.keeps (is_ok result) disk.old disk.new }
     ensures quiet { IsQuiet (D.view disk.old) (D.view disk.new) }
-    ensures fault { IsErrOf result DiskError.DiskFault → Rose (D.view disk.old).faults (D.view disk.new).faults }
+    ensures fault { IsErrOf result DiskError.DiskFault → D.faulted disk.old disk.new }
     ensures memory { IsErrOf result DiskError.Memory → ⊥ }
 {
     buffer.clear();
@@ -88,7 +87,7 @@ impl Journal {
         ensures undamaged { OnOk result (Tells (D.view disk.old) (λ bytes. (offset : ℕ) → IsDamagedAt (region_of region.from (region.from + region.size) bytes) offset → ⊥)) }
         ensures kept { D.keeps (is_ok result) disk.old disk.new }
         ensures quiet { IsQuiet (D.view disk.old) (D.view disk.new) }
-        ensures fault { IsErrOf result JournalError.DiskFault → Rose (D.view disk.old).faults (D.view disk.new).faults }
+        ensures fault { IsErrOf result JournalError.DiskFault → D.faulted disk.old disk.new }
         ensures errors { IfErr result IsReadError }
     {
         let _size = disk.size();
@@ -133,7 +132,7 @@ impl Journal {
         ensures err { OnErr result ((self.new ≡ self.old) × (out.new.items ≡ out.old.items)) }
         ensures kept { D.keeps (is_ok result) disk.old disk.new }
         ensures quiet { IsQuiet (D.view disk.old) (D.view disk.new) }
-        ensures fault { IsErrOf result JournalError.DiskFault → Rose (D.view disk.old).faults (D.view disk.new).faults }
+        ensures fault { IsErrOf result JournalError.DiskFault → D.faulted disk.old disk.new }
         ensures errors { IfErr result IsReadError }
         ensures damaged { (offset : ℕ) → result ≡ Err (JournalError.Damaged offset) → (D.view disk.old).told ≡ None }
     {
@@ -186,7 +185,7 @@ impl Journal {
         ensures reopen { (result ≡ Err JournalError.NeedsReopen) ↔ (self.old.is_broken ≡ true) }
         ensures full { self.old.is_broken ≡ false → (result ≡ Err (JournalError.Full (length payload.now + 6) (self.old.end - self.old.gate))) ↔ (self.old.end - self.old.gate < length payload.now + 6) }
         ensures only_full { (needed room : ℕ) → result ≡ Err (JournalError.Full needed room) → (needed ≡ length payload.now + 6) × (room ≡ self.old.end - self.old.gate) × (room < needed) }
-        ensures fault { IsErrOf result JournalError.DiskFault → Rose (D.view disk.old).faults (D.view disk.new).faults }
+        ensures fault { IsErrOf result JournalError.DiskFault → D.faulted disk.old disk.new }
     {
         if self.is_broken {
             return Err(JournalError::NeedsReopen);

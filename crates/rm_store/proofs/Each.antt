@@ -86,7 +86,7 @@ one_more r (Attempt id master node) fits one =
 one_more r (AttemptEnd id how text) fits one =
     λ q. let same = count_changed (λ app. record app { attempts = map (with_end id how text) app.attempts }) (λ app. refl) id.app r.apps q in omega (arith, same, one q)
 one_more r (AppEnd id how text) fits one =
-    λ q. let same = count_changed (λ app. record app { ending = Some (how, text); end_order = r.told }) (λ app. refl) id r.apps q in omega (arith, same, one q)
+    λ q. let same = count_changed (λ app. record app { ending = Some (how, text); end_order = r.applied }) (λ app. refl) id r.apps q in omega (arith, same, one q)
 one_more r (Remove id) fits one = λ q. let fewer = count_fewer (λ app. not (is_app app.id id)) r.apps q in omega (arith, fewer, one q)
 
 one_from : (r : Records) (ops : List Op) → stray_from r ops ≡ None → OneEach r.apps → OneEach (fold recorded r ops).apps

@@ -4,9 +4,10 @@ use Rattle.std.specs.Prelude.{All}
 use Rattle.std.proofs.lemmas.List.{append-nil}
 use Rattle.std.proofs.lemmas.List.Elements.{All-head, All-tail}
 use Rattle.rm_types.specs.declared.operations.Op.{Op}
-use Rattle.rm_types.specs.Frames.{frame, CanBeFramed}
+use Rattle.rm_formats.specs.Frames.{frame}
+use Rattle.rm_types.specs.Ranges.{IsOperation}
 use Rattle.rm_types.specs.Records.{records, fits_records, stray}
-use Rattle.rm_model.specs.Device.{Holds}
+use Rattle.rm_formats.specs.Device.{Holds}
 use Rattle.rm_frame.proofs.Apart.{frames_alike}
 use Rattle.rm_journal.proofs.Payloads.{unique, sound_never}
 use Rattle.rm_store.specs.declared.fault.StoreError.TheVariants.{Damaged, Stray}
@@ -14,7 +15,7 @@ use Rattle.rm_store.specs.Causes.{ReadsUpTo, IsFaultless, IsWhy}
 use Rattle.rm_store.proofs.Ops.{fits_there}
 
 -- no two operations have one frame
-same_op : (a b : Op) → CanBeFramed a → CanBeFramed b → frame a ≡ frame b → a ≡ b
+same_op : (a b : Op) → IsOperation a → IsOperation b → frame a ≡ frame b → a ≡ b
 same_op a b can can' e = (frames_alike a b [] [] can can' (append-nil (frame a) ∙ e ∙ sym (append-nil (frame b)))).0
 
 same_head : {a b : List ℕ} {xs ys : List (List ℕ)} → a ∷ xs ≡ b ∷ ys → a ≡ b
@@ -24,13 +25,13 @@ same_tail : {a b : List ℕ} {xs ys : List (List ℕ)} → a ∷ xs ≡ b ∷ ys
 same_tail e = cc
 
 -- no two lists of operations have the same frames
-same_ops : (one other : List Op) → All CanBeFramed one → All CanBeFramed other → map frame one ≡ map frame other → one ≡ other
+same_ops : (one other : List Op) → All IsOperation one → All IsOperation other → map frame one ≡ map frame other → one ≡ other
 same_ops [] [] all all' e = refl
 same_ops [] (b ∷ other) all all' e = absurd cc
 same_ops (a ∷ one) [] all all' e = absurd cc
 same_ops (a ∷ one) (b ∷ other) all all' e =
-    let first = same_op a b (All-head CanBeFramed a one all) (All-head CanBeFramed b other all') (same_head e) in
-    let rest = same_ops one other (All-tail CanBeFramed a one all) (All-tail CanBeFramed b other all') (same_tail e) in
+    let first = same_op a b (All-head IsOperation a one all) (All-head IsOperation b other all') (same_head e) in
+    let rest = same_ops one other (All-tail IsOperation a one all) (All-tail IsOperation b other all') (same_tail e) in
     ap (λ x. x ∷ one) first ∙ ap (λ xs. b ∷ xs) rest
 
 -- one device holds one list of operations
@@ -43,17 +44,17 @@ record StandsBehind (ops front : List Op) (payload : List ℕ) : Type 0 where
   pub rest : List Op
   pub is : ops ≡ front ++ op ∷ rest
   pub frame_is : payload ≡ frame op
-  pub can : CanBeFramed op
+  pub can : IsOperation op
 
-stands_behind : (ops front : List Op) (payload : List ℕ) (more : List (List ℕ)) → All CanBeFramed ops → All CanBeFramed front
+stands_behind : (ops front : List Op) (payload : List ℕ) (more : List (List ℕ)) → All IsOperation ops → All IsOperation front
     → map frame ops ≡ map frame front ++ payload ∷ more → StandsBehind ops front payload
 stands_behind [] [] payload more all all' e = absurd cc
 stands_behind (op ∷ ops) [] payload more all all' e =
-    record { op = op; rest = ops; is = refl; frame_is = sym (same_head e); can = All-head CanBeFramed op ops all }
+    record { op = op; rest = ops; is = refl; frame_is = sym (same_head e); can = All-head IsOperation op ops all }
 stands_behind [] (one ∷ front) payload more all all' e = absurd cc
 stands_behind (op ∷ ops) (one ∷ front) payload more all all' e =
-    let s = stands_behind ops front payload more (All-tail CanBeFramed op ops all) (All-tail CanBeFramed one front all') (same_tail e) in
-    let same = same_op op one (All-head CanBeFramed op ops all) (All-head CanBeFramed one front all') (same_head e) in
+    let s = stands_behind ops front payload more (All-tail IsOperation op ops all) (All-tail IsOperation one front all') (same_tail e) in
+    let same = same_op op one (All-head IsOperation op ops all) (All-head IsOperation one front all') (same_head e) in
     record { op = s.op; rest = s.rest; is = ap (λ x. x ∷ ops) same ∙ ap (λ xs. one ∷ xs) s.is; frame_is = s.frame_is; can = s.can }
 
 -- bytes that hold operations have no fault

@@ -3,7 +3,7 @@ use Rattle.std.proofs.Common.{◌≡◌, ◌+◌, Bool, true, false, List, [], �
 use Rattle.std.specs.Prelude.{All}
 use Rattle.std.proofs.lemmas.List.Elements.{All-nil, All-cons, All-append}
 use Rattle.rm_types.specs.declared.operations.Op.{Op}
-use Rattle.rm_types.specs.Frames.{CanBeFramed}
+use Rattle.rm_types.specs.Ranges.{IsOperation}
 use Rattle.rm_types.specs.Records.{Records, no_records, records, recorded, fits_records, stray, stray_from}
 
 -- the records of one operation more
@@ -15,11 +15,11 @@ pub records_push : (ops : List Op) (op : Op) → records (ops ++ op ∷ []) ≡ 
 records_push ops op = recorded_more no_records ops op
 
 -- each operation is told
-told_more : (r : Records) (ops : List Op) → (fold recorded r ops).told ≡ r.told + length ops
+told_more : (r : Records) (ops : List Op) → (fold recorded r ops).applied ≡ r.applied + length ops
 told_more r [] = omega arith
 told_more r (op ∷ ops) = let h = told_more (recorded r op) ops in omega (arith, h)
 
-pub told_count : (ops : List Op) → (records ops).told ≡ length ops
+pub told_count : (ops : List Op) → (records ops).applied ≡ length ops
 told_count ops = let h = told_more no_records ops in omega (arith, h)
 
 -- an operation that fits leaves none stray
@@ -52,5 +52,5 @@ fits_before r (one ∷ ops) op more s = by (fits_records r one) refl (fits_befor
 pub fits_there : (ops : List Op) (op : Op) (more : List Op) → stray (ops ++ op ∷ more) ≡ None → fits_records (records ops) op ≡ true
 fits_there ops op more s = fits_before no_records ops op more s
 
-pub framed_push : (ops : List Op) (op : Op) → All CanBeFramed ops → CanBeFramed op → All CanBeFramed (ops ++ op ∷ [])
-framed_push ops op all can = All-append CanBeFramed ops (op ∷ []) all (All-cons CanBeFramed op [] can (All-nil CanBeFramed))
+pub framed_push : (ops : List Op) (op : Op) → All IsOperation ops → IsOperation op → All IsOperation (ops ++ op ∷ [])
+framed_push ops op all can = All-append IsOperation ops (op ∷ []) all (All-cons IsOperation op [] can (All-nil IsOperation))

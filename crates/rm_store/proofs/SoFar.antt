@@ -4,9 +4,10 @@ use Rattle.std.specs.Prelude.{All}
 use Rattle.std.proofs.lemmas.List.{append-nil, map-append}
 use Rattle.std.proofs.lemmas.List.Elements.{All-nil}
 use Rattle.rm_types.specs.declared.operations.Op.{Op}
-use Rattle.rm_types.specs.Frames.{frame, CanBeFramed}
+use Rattle.rm_formats.specs.Frames.{frame}
+use Rattle.rm_types.specs.Ranges.{IsOperation}
 use Rattle.rm_types.specs.Records.{Records, no_records, records, fits_records, stray}
-use Rattle.rm_model.specs.Device.{Holds, HasPayloads}
+use Rattle.rm_formats.specs.Device.{Holds, HasPayloads}
 use Rattle.rm_disk.specs.Disk.{DiskView, Tells, IsQuiet}
 use Rattle.rm_disk.proofs.Views.{quiet_trans}
 use Rattle.rm_journal.specs.Journal.{Place, Stands, IsOpened, HasRead, region_of}
@@ -32,7 +33,7 @@ begun first now journal size quiet sized opened holds =
       quiet = quiet;
       whole = record { stands = opened.stands; from = opened.from; end = omega (arith, end, sized, quiet.goes_on.size) };
       unbroken = opened.sound;
-      read = record { framed = All-nil CanBeFramed; none_stray = refl; amounts = refl };
+      read = record { framed = All-nil IsOperation; none_stray = refl; amounts = refl };
       so_far = λ bytes told.
           let has = holds bytes told in
           (has.0, record { holds = rw (opened.from, end) has.1; place = omega (arith, opened.from, opened.cursor) });
@@ -52,7 +53,7 @@ read_more first now next journal moved tree tree' ops ops' payload op so_far qui
       whole = record { stands = stands; from = from ∙ so_far.whole.from; end = end ∙ so_far.whole.end ∙ sym quiet.goes_on.size };
       unbroken = ap (λ (p : Place). p.is_broken) same ∙ so_far.unbroken;
       read = record {
-        framed = subst (All CanBeFramed) (sym grown) (framed_push ops op so_far.read.framed framed.can);
+        framed = subst (All IsOperation) (sym grown) (framed_push ops op so_far.read.framed framed.can);
         none_stray = ap stray grown ∙ stray_push ops op so_far.read.none_stray fits;
         amounts = amounts ∙ ap records (sym grown);
       };

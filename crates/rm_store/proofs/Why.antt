@@ -1,9 +1,10 @@
 -- Why a store was refused.
 use Rattle.std.proofs.Common.{◌≡◌, ℕ, false, List, length, inl, inr, refl, sym, subst}
 use Rattle.rm_types.specs.declared.operations.Op.{Op}
-use Rattle.rm_types.specs.Frames.{frame, CanBeFramed}
+use Rattle.rm_formats.specs.Frames.{frame}
+use Rattle.rm_types.specs.Ranges.{IsOperation}
 use Rattle.rm_types.specs.Records.{records, fits_records}
-use Rattle.rm_model.specs.Device.{IsDamagedAt}
+use Rattle.rm_formats.specs.Device.{IsDamagedAt}
 use Rattle.rm_journal.specs.declared.fault.JournalError.{JournalError}
 use Rattle.rm_journal.specs.declared.fault.JournalError.TheVariants as journal
 use Rattle.rm_store.specs.declared.fault.StoreError.{StoreError}
@@ -22,7 +23,7 @@ why_open bytes journal.Memory damaged = tt
 
 -- a payload behind operations that is no frame, or whose operation is stray
 pub why_taken : (bytes payload : List ℕ) (ops : List Op) (gate : ℕ) (error : StoreError) → ReadsUpTo bytes ops payload gate
-    → ((offset : ℕ) → error ≡ Damaged offset → (offset ≡ gate) × ((op : Op) → CanBeFramed op → payload ≡ frame op → ⊥))
+    → ((offset : ℕ) → error ≡ Damaged offset → (offset ≡ gate) × ((op : Op) → IsOperation op → payload ≡ frame op → ⊥))
     → ((number offset : ℕ) → error ≡ Stray number offset → (offset ≡ gate) × (number ≡ length ops) × ((op : Op) × IsFrameOf payload op × (fits_records (records ops) op ≡ false)))
     → IsWhy bytes error
 why_taken bytes payload ops gate DiskFault reads damaged stray = tt

@@ -3,9 +3,10 @@ use Rattle.std.proofs.Common.{◌≡◌, ℕ, zero, suc, append_assoc, ◌-◌, 
 use Rattle.std.specs.Prelude.{All, ◌⊎◌}
 use Rattle.std.proofs.lemmas.List.{map-append, take-append-drop}
 use Rattle.rm_types.specs.declared.operations.Op.{Op}
-use Rattle.rm_types.specs.Frames.{frame, CanBeFramed}
+use Rattle.rm_formats.specs.Frames.{frame}
+use Rattle.rm_types.specs.Ranges.{IsOperation}
 use Rattle.rm_types.specs.Records.{records, fits_records, stray}
-use Rattle.rm_model.specs.Device.{Holds, HasPayloads, no_bytes, records as whole_records, records_of}
+use Rattle.rm_formats.specs.Device.{Holds, HasPayloads, no_bytes, records as whole_records, journal_records}
 use Rattle.rm_disk.specs.Disk.{DiskView, EachImage, GoesOn}
 use Rattle.rm_disk.proofs.Views.{told_after, leaves_same, leaves_of}
 use Rattle.rm_journal.specs.Journal.{Place, RegionHas, LeavesEither, Adds, region_of}
@@ -23,7 +24,7 @@ front_holds size (x ∷ bytes) payloads some (no_bytes is none) = absurd (never 
     never (suc size) some is = let long : suc (length (take size bytes)) ≡ 0 = ap length is in omega (arith, long)
 front_holds size bytes payloads some (whole_records gate rest shut sizes is) =
     whole_records gate (rest ++ drop size bytes) shut sizes
-    (sym (take-append-drop size bytes) ∙ ap (λ l. l ++ drop size bytes) is ∙ append_assoc (records_of payloads) (gate ∷ rest) (drop size bytes))
+    (sym (take-append-drop size bytes) ∙ ap (λ l. l ++ drop size bytes) is ∙ append_assoc (journal_records payloads) (gate ∷ rest) (drop size bytes))
 
 -- the region of a whole disk
 whole_region : (v : DiskView) (j : Place) (bytes : List ℕ) → IsWhole v j → region_of j.from j.end bytes ≡ take v.size bytes
@@ -33,7 +34,7 @@ pub region_has : (v : DiskView) (j : Place) (bytes : List ℕ) (ops : List Op) �
 region_has v j bytes ops whole long holds =
     subst (λ l. HasPayloads l (map frame ops)) (sym (whole_region v j bytes whole ∙ region_all bytes v.size long)) holds.frames
 
-holds_of : (v : DiskView) (j : Place) (bytes : List ℕ) (ops : List Op) → IsWhole v j → 0 < v.size → All CanBeFramed ops → stray ops ≡ None → RegionHas j bytes (map frame ops) → Holds bytes ops
+holds_of : (v : DiskView) (j : Place) (bytes : List ℕ) (ops : List Op) → IsWhole v j → 0 < v.size → All IsOperation ops → stray ops ≡ None → RegionHas j bytes (map frame ops) → Holds bytes ops
 holds_of v j bytes ops whole some framed none has = record {
   framed = framed;
   frames = front_holds v.size bytes (map frame ops) some (subst (λ l. HasPayloads l (map frame ops)) (whole_region v j bytes whole) has);
@@ -41,7 +42,7 @@ holds_of v j bytes ops whole some framed none has = record {
 }
 
 -- the same of one operation more
-holds_more : (v : DiskView) (j : Place) (bytes : List ℕ) (ops : List Op) (op : Op) → IsWhole v j → 0 < v.size → All CanBeFramed ops → CanBeFramed op → stray ops ≡ None → fits_records (records ops) op ≡ true
+holds_more : (v : DiskView) (j : Place) (bytes : List ℕ) (ops : List Op) (op : Op) → IsWhole v j → 0 < v.size → All IsOperation ops → IsOperation op → stray ops ≡ None → fits_records (records ops) op ≡ true
     → RegionHas j bytes (map frame ops ++ frame op ∷ []) → Holds bytes (ops ++ op ∷ [])
 holds_more v j bytes ops op whole some framed can none fits has =
     holds_of v j bytes (ops ++ op ∷ []) whole some (framed_push ops op framed can) (stray_push ops op none fits)
@@ -68,7 +69,7 @@ still_leaves v j ops op whole sound sized reads has = record {
 }
 
 -- a disk to which the journal adds a frame leaves the operations, or these and the new one
-pub append_leaves : (v v' : DiskView) (j : Place) (ops : List Op) (op : Op) → IsWhole v j → 0 < v.size → ((bytes : List ℕ) → v.told ≡ Some bytes → length bytes ≡ v.size) → CanBeFramed op → fits_records (records ops) op ≡ true → Has v ops
+pub append_leaves : (v v' : DiskView) (j : Place) (ops : List Op) (op : Op) → IsWhole v j → 0 < v.size → ((bytes : List ℕ) → v.told ≡ Some bytes → length bytes ≡ v.size) → IsOperation op → fits_records (records ops) op ≡ true → Has v ops
     → LeavesEither v v' j (frame op) → LeavesOps v v' ops op
 append_leaves v v' j ops op whole some sized can fits has leaves =
     let there = region_has v j has.bytes ops whole (sized has.bytes has.told) has.holds in
@@ -83,7 +84,7 @@ append_leaves v v' j ops op whole some sized can fits has leaves =
     either image (inr more) = inr (holds_more v j image ops op whole some has.holds.framed can has.holds.none_stray fits more)
 
 -- and once it was added, has it
-pub append_adds : (v v' : DiskView) (j : Place) (ops : List Op) (op : Op) → IsWhole v j → 0 < v.size → ((bytes : List ℕ) → v.told ≡ Some bytes → length bytes ≡ v.size) → CanBeFramed op → fits_records (records ops) op ≡ true → Has v ops
+pub append_adds : (v v' : DiskView) (j : Place) (ops : List Op) (op : Op) → IsWhole v j → 0 < v.size → ((bytes : List ℕ) → v.told ≡ Some bytes → length bytes ≡ v.size) → IsOperation op → fits_records (records ops) op ≡ true → Has v ops
     → GoesOn v v' → Adds v v' j (frame op) → AddsOp v' ops op
 append_adds v v' j ops op whole some sized can fits has goes_on adds =
     let there = region_has v j has.bytes ops whole (sized has.bytes has.told) has.holds in
@@ -104,5 +105,5 @@ room_is v j ops whole sound sized has =
     let gate = whole.stands.gate sound has.bytes has.told (map frame ops) there in
     let from = whole.from in
     let end = whole.end in
-    let at : j.gate ≡ length (records_of (map frame ops)) = omega (arith, gate, from) in
+    let at : j.gate ≡ length (journal_records (map frame ops)) = omega (arith, gate, from) in
     rw (end, at) refl

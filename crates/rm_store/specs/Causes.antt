@@ -1,9 +1,10 @@
--- Why a disk's bytes hold no operations: the first fault among them. This project's own.
+-- Why a disk's bytes hold no operations: a fault among them. This project's own.
 use Rattle.std.specs.Prelude.{◌≡◌, ◌⊎◌, ℕ, false, None, List, ◌∷◌, ◌++◌, length, map, All}
 use Rattle.rm_types.specs.declared.operations.Op.{Op}
-use Rattle.rm_types.specs.Frames.{frame, CanBeFramed}
+use Rattle.rm_formats.specs.Frames.{frame}
+use Rattle.rm_types.specs.Ranges.{IsOperation}
 use Rattle.rm_types.specs.Records.{records, stray, fits_records}
-use Rattle.rm_model.specs.Device.{HasPayloads, IsDamagedAt, records_of}
+use Rattle.rm_formats.specs.Device.{HasPayloads, IsDamagedAt, journal_records}
 use Rattle.rm_store.specs.declared.fault.StoreError.{StoreError}
 use Rattle.rm_store.specs.declared.fault.StoreError.TheVariants.{Damaged, Stray}
 
@@ -12,23 +13,23 @@ use Rattle.rm_store.specs.declared.fault.StoreError.TheVariants.{Damaged, Stray}
 pub record ReadsUpTo (bytes : List ℕ) (ops : List Op) (payload : List ℕ) (offset : ℕ) : Type 0 where
   pub more : List (List ℕ)
   pub payloads : HasPayloads bytes (map frame ops ++ payload ∷ more)
-  pub framed : All CanBeFramed ops
+  pub framed : All IsOperation ops
   pub none_stray : stray ops ≡ None
-  pub place : offset ≡ length (records_of (map frame ops))
+  pub place : offset ≡ length (journal_records (map frame ops))
 
 -- Behind such operations, the payload at the offset is the frame of none.
 pub record HasNoFrameAt (bytes : List ℕ) (offset : ℕ) : Type 0 where
   pub ops : List Op
   pub payload : List ℕ
   pub reads : ReadsUpTo bytes ops payload offset
-  pub no_frame : (op : Op) → CanBeFramed op → payload ≡ frame op → ⊥
+  pub no_frame : (op : Op) → IsOperation op → payload ≡ frame op → ⊥
 
 -- Behind so many such operations, the one at the offset is stray.
 pub record HasStrayAt (bytes : List ℕ) (number offset : ℕ) : Type 0 where
   pub ops : List Op
   pub op : Op
   pub reads : ReadsUpTo bytes ops (frame op) offset
-  pub can : CanBeFramed op
+  pub can : IsOperation op
   pub stray : fits_records (records ops) op ≡ false
   pub number_is : number ≡ length ops
 

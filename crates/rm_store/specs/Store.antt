@@ -1,9 +1,10 @@
 -- A store of operations on a disk that may fall at any moment.
 use Rattle.std.specs.Prelude.{◌≡◌, ◌⊎◌, ◌+◌, ◌-◌, ℕ, Bool, false, None, Some, List, [], ◌∷◌, ◌++◌, length, map, All}
 use Rattle.rm_types.specs.declared.operations.Op.{Op}
-use Rattle.rm_types.specs.Frames.{frame, CanBeFramed}
+use Rattle.rm_formats.specs.Frames.{frame}
+use Rattle.rm_types.specs.Ranges.{IsOperation}
 use Rattle.rm_types.specs.Records.{Records, records, stray}
-use Rattle.rm_model.specs.Device.{Holds, records_of}
+use Rattle.rm_formats.specs.Device.{Holds, journal_records}
 use Rattle.rm_disk.specs.Disk.{DiskView, EachImage, AtEachMoment}
 use Rattle.rm_disk.specs.Fuse.{Fused, fused_view}
 use Rattle.rm_journal.specs.Journal.{Place, Stands}
@@ -36,7 +37,7 @@ pub record IsSound {D : Type 0} (view : D → DiskView) (store : StoreState D) :
 
 -- What was read: the parts of each operation are in their ranges, none is stray, and the tree is their records.
 pub record AreRead (tree : Records) (ops : List Op) : Type 0 where
-  pub framed : All CanBeFramed ops
+  pub framed : All IsOperation ops
   pub none_stray : stray ops ≡ None
   pub amounts : tree ≡ records ops
 
@@ -61,4 +62,4 @@ needed_for op = length (frame op) + 6
 
 -- How many bytes a disk of so many has left behind the records of these operations.
 abbrev pub room_behind : ℕ → List Op → ℕ
-room_behind size ops = size - length (records_of (map frame ops))
+room_behind size ops = size - length (journal_records (map frame ops))

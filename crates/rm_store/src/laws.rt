@@ -3,7 +3,7 @@ ghost use Rattle.rm_types.specs.declared.ids.AppId.{AppId};
 ghost use Rattle.rm_types.specs.declared.operations.Op.{Op};
 ghost use Rattle.rm_types.specs.Ids.{is_app};
 ghost use Rattle.rm_types.specs.Records.{records, stray};
-ghost use Rattle.rm_model.specs.Device.{Holds};
+ghost use Rattle.rm_formats.specs.Device.{Holds};
 ghost use Rattle.rm_store.specs.declared.fault.StoreError.TheVariants.{Damaged, Stray};
 ghost use Rattle.rm_store.specs.Causes.{IsWhy, IsFaultless};
 

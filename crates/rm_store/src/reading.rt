@@ -1,9 +1,9 @@
 ghost use Rattle.std.specs.Prelude.{◌≡◌, ◌++◌, ◌∷◌, [], ℕ, true, false, length, is_ok, OnOk, IfOk, IfErr, IsErrOf, Err};
 ghost use Rattle.rm_types.specs.declared.operations.Op.{Op as AnyOp};
-ghost use Rattle.rm_types.specs.Counts.{Rose};
-ghost use Rattle.rm_types.specs.Frames.{frame, CanBeFramed};
+ghost use Rattle.rm_formats.specs.Frames.{frame};
+ghost use Rattle.rm_types.specs.Ranges.{IsOperation};
 ghost use Rattle.rm_types.specs.Records.{records, fits_records};
-ghost use Rattle.rm_model.specs.Device.{Holds};
+ghost use Rattle.rm_formats.specs.Device.{Holds};
 ghost use Rattle.rm_disk.specs.Disk.{Tells, IsQuiet};
 ghost use Rattle.rm_store.specs.Causes.{IsWhy, IsFaultless};
 ghost use Rattle.rm_store.specs.Errors.{IsOpenError};
@@ -36,7 +36,7 @@ pub fn read_all<D: Disk>(alloc: Global, disk: &mut D) -> Result<Read, StoreError
     ensures why { IfErr result (λ error. Tells (D.view disk.old) (λ bytes. IsWhy bytes error)) }
     ensures quiet { IsQuiet (D.view disk.old) (D.view disk.new) }
     ensures kept { D.keeps (is_ok result) disk.old disk.new }
-    ensures fault { IsErrOf result StoreError.DiskFault → Rose (D.view disk.old).faults (D.view disk.new).faults }
+    ensures fault { IsErrOf result StoreError.DiskFault → D.faulted disk.old disk.new }
     ensures errors { IfErr result IsOpenError }
 {
     let size = disk.size();
@@ -61,7 +61,7 @@ fn take_in(
 ) -> Result<(), StoreError>
     requires { tree.old ≡ records ops.old }
     ensures ok { OnOk result ((op : AnyOp) × IsFrameOf payload.now op × (fits_records (records ops.old) op ≡ true) × (ops.new ≡ ops.old ++ op ∷ []) × (tree.new ≡ records (ops.old ++ op ∷ []))) }
-    ensures damaged { (offset : ℕ) → result ≡ Err (StoreError.Damaged offset) → (offset ≡ gate) × ((op : AnyOp) → CanBeFramed op → payload.now ≡ frame op → ⊥) }
+    ensures damaged { (offset : ℕ) → result ≡ Err (StoreError.Damaged offset) → (offset ≡ gate) × ((op : AnyOp) → IsOperation op → payload.now ≡ frame op → ⊥) }
     ensures stray { (number offset : ℕ) → result ≡ Err (StoreError.Stray number offset) → (offset ≡ gate) × (number ≡ length ops.old) × ((op : AnyOp) × IsFrameOf payload.now op × (fits_records (records ops.old) op ≡ false)) }
     ensures errors { IfErr result IsTakeError }
 {
@@ -82,7 +82,7 @@ fn take_in(
 /// The operation whose frame a payload is.
 fn whole_frame(alloc: Global, payload: &[u8], gate: u64) -> Result<Op, StoreError>
     ensures ok { IfOk result (IsFrameOf payload.now) }
-    ensures damaged { (offset : ℕ) → result ≡ Err (StoreError.Damaged offset) → (offset ≡ gate) × ((op : AnyOp) → CanBeFramed op → payload.now ≡ frame op → ⊥) }
+    ensures damaged { (offset : ℕ) → result ≡ Err (StoreError.Damaged offset) → (offset ≡ gate) × ((op : AnyOp) → IsOperation op → payload.now ≡ frame op → ⊥) }
     ensures errors { IfErr result IsFrameError }
 {
     match decode(alloc, payload) {

@@ -1,11 +1,10 @@
 ghost use Rattle.std.specs.Prelude.{◌≡◌, ◌⊎◌, ◌↔◌, ◌<◌, ℕ, List, Bool, true, false, is_ok, OnOk, IfOk, IfErr, IsErrOf, MatchResult, Err};
 ghost use Rattle.rm_types.specs.declared.operations.Op.{Op as AnyOp};
-ghost use Rattle.rm_types.specs.Counts.{Rose};
-ghost use Rattle.rm_types.specs.Frames.{CanBeFramed};
+ghost use Rattle.rm_types.specs.Ranges.{IsOperation};
 ghost use Rattle.rm_types.specs.Records.{records, fits_records};
-ghost use Rattle.rm_model.specs.Device.{Holds};
+ghost use Rattle.rm_formats.specs.Device.{Holds};
 ghost use Rattle.rm_disk.specs.Disk.{Tells, EachImage, IsQuiet, GoesOn};
-ghost use Rattle.rm_disk.specs.Fuse.{KeepsFuse};
+ghost use Rattle.rm_disk.specs.Fuse.{FaultedFuse, KeepsFuse};
 ghost use Rattle.rm_store.specs.Causes.{IsWhy, IsFaultless};
 ghost use Rattle.rm_store.specs.Errors.{IsOpenError, IsAppendError, IsRefusal, broken_after};
 ghost use Rattle.rm_store.specs.Store.{with_disk, seen, IsWhole, IsSound, AreRead, Has, LeavesOps, AddsOp, needed_for, room_behind};
@@ -52,9 +51,11 @@ impl<D: Disk> Store<D> {
     /// Reads the operations of a disk, and what they amount to. Of those no part is out of its range, and none
     /// is stray, also on a disk that tells no bytes. The time is linear in what the disk holds.
     ///
-    /// `Damaged` and `Stray` come exactly where the disk holds no operations, and name the first fault;
-    /// `DiskFault` only where the disk's count of faults rose. A refusal hands the disk back. On every outcome
-    /// a read of the disk gives what it gave; after `Ok` a crash leaves these operations too.
+    /// `Damaged` and `Stray` come exactly where the disk holds no operations, and name the journal's damage, or
+    /// where it has none the first payload that is no operation or a stray one;
+    /// `DiskFault` only where the disk's count of faults rose, and that of the disk inside the fuse unless the
+    /// fuse is blown. A refusal hands the disk back. On every outcome a read of the disk gives what it gave;
+    /// after `Ok` a crash leaves these operations too.
     pub fn open(alloc: Global, disk: Fuse<D>) -> Result<(Store<D>, Tree, Items<Op>), OpenFail<D>>
         ensures sound { IfOk result (λ opened. IsSound D.view opened.0) }
         ensures unbroken { IfOk result (λ opened. opened.0.is_broken ≡ false) }
@@ -65,7 +66,7 @@ impl<D: Disk> Store<D> {
         ensures why { IfErr result (λ refused. Tells (seen D.view disk) (λ bytes. IsWhy bytes refused.why)) }
         ensures quiet { MatchResult result (λ opened. IsQuiet (seen D.view disk) (seen D.view opened.0.disk)) (λ refused. IsQuiet (seen D.view disk) (seen D.view refused.disk)) }
         ensures kept { MatchResult result (λ opened. KeepsFuse (D.keeps true) true disk opened.0.disk) (λ refused. KeepsFuse (D.keeps false) false disk refused.disk) }
-        ensures fault { IfErr result (λ refused. refused.why ≡ StoreError.DiskFault → Rose (seen D.view disk).faults (seen D.view refused.disk).faults) }
+        ensures fault { IfErr result (λ refused. refused.why ≡ StoreError.DiskFault → FaultedFuse D.view D.faulted disk refused.disk) }
         ensures errors { IfErr result (λ refused. IsOpenError refused.why) }
     {
         let mut disk = disk;
@@ -89,10 +90,11 @@ impl<D: Disk> Store<D> {
     /// At every moment a crash leaves the operations from before, or these and the new one; after `Ok` it
     /// leaves the new one too. `NeedsReopen` comes exactly where an earlier append answered `DiskFault` or
     /// `Memory`; else `Full` exactly where the room behind the stored operations is less than what is needed;
-    /// both leave all as it was. `DiskFault` comes only where the disk's count of faults rose.
+    /// both leave all as it was. `DiskFault` comes only where the disk's count of faults rose, and that of the
+    /// disk inside the fuse unless the fuse is blown.
     pub fn append(&mut self, op: &Op) -> Result<(), StoreError>
         requires sound { IsSound D.view self.old }
-        requires op { CanBeFramed op.now }
+        requires op { IsOperation op.now }
 
         ensures sound { IsSound D.view self.new }
         ensures broken { self.new.is_broken ≡ broken_after result self.old.is_broken }
@@ -110,7 +112,7 @@ impl<D: Disk> Store<D> {
         ensures full { self.old.is_broken ≡ false → (ops : List AnyOp) → Has (seen D.view self.old.disk) ops → room_behind (seen D.view self.old.disk).size ops < needed_for op.now
             → (result ≡ Err (StoreError.Full (needed_for op.now) (room_behind (seen D.view self.old.disk).size ops))) ⊎ (result ≡ Err StoreError.Memory) }
         ensures only_full { (needed room : ℕ) → result ≡ Err (StoreError.Full needed room) → (room < needed) × (needed ≡ needed_for op.now) × ((ops : List AnyOp) → Has (seen D.view self.old.disk) ops → room ≡ room_behind (seen D.view self.old.disk).size ops) }
-        ensures fault { IsErrOf result StoreError.DiskFault → Rose (seen D.view self.old.disk).faults (seen D.view self.new.disk).faults }
+        ensures fault { IsErrOf result StoreError.DiskFault → FaultedFuse D.view D.faulted self.old.disk self.new.disk }
     {
         if self.is_broken {
             return Err(StoreError::NeedsReopen);

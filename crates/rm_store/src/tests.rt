@@ -1,7 +1,7 @@
 //! What no clause says: that calls succeed where there is memory, and what bytes stand for which operations,
 //! by hand.
 ghost use Rattle.std.specs.Prelude.{IfOk};
-ghost use Rattle.rm_types.specs.Frames.{CanBeFramed};
+ghost use Rattle.rm_types.specs.Ranges.{IsOperation};
 ghost use Rattle.rm_store.specs.Store.{IsSound};
 
 use super::*;
@@ -24,7 +24,7 @@ const REMOVE: [u8; 13] = [6, 0, 0, 1, 72, 128, 67, 118, 15, 0, 0, 0, 1];
 
 /// The operation of a frame.
 fn op_of(alloc: Global, frame: &[u8]) -> Result<Op, StoreError>
-    ensures { IfOk result CanBeFramed }
+    ensures { IfOk result IsOperation }
 {
     match decode(alloc, frame) {
         Ok((op, _count)) => Ok(op),

@@ -1,7 +1,6 @@
 ghost use Rattle.std.specs.Prelude.{◌≡◌, ◌⊎◌, ◌<◌, ℕ, List, true, false, is_ok, OnOk, IfErr, IsErrOf, Err};
 ghost use Rattle.rm_types.specs.declared.operations.Op.{Op as AnyOp};
-ghost use Rattle.rm_types.specs.Counts.{Rose};
-ghost use Rattle.rm_types.specs.Frames.{CanBeFramed};
+ghost use Rattle.rm_types.specs.Ranges.{IsOperation};
 ghost use Rattle.rm_types.specs.Records.{records, fits_records};
 ghost use Rattle.rm_disk.specs.Disk.{GoesOn};
 ghost use Rattle.rm_store.specs.Errors.{IsWriteError, IsRefusal};
@@ -22,7 +21,7 @@ pub fn write_op<D: Disk>(
 ) -> Result<(), StoreError>
     requires whole { IsWhole (D.view disk.old) journal.old }
     requires unbroken { journal.old.is_broken ≡ false }
-    requires op { CanBeFramed op.now }
+    requires op { IsOperation op.now }
 
     ensures whole { IsWhole (D.view disk.new) journal.new }
     ensures unbroken { OnOk result (journal.new.is_broken ≡ false) }
@@ -36,7 +35,7 @@ pub fn write_op<D: Disk>(
     ensures full { (ops : List AnyOp) → Has (D.view disk.old) ops → room_behind (D.view disk.old).size ops < needed_for op.now
         → (result ≡ Err (StoreError.Full (needed_for op.now) (room_behind (D.view disk.old).size ops))) ⊎ (result ≡ Err StoreError.Memory) }
     ensures only_full { (needed room : ℕ) → result ≡ Err (StoreError.Full needed room) → (room < needed) × (needed ≡ needed_for op.now) × ((ops : List AnyOp) → Has (D.view disk.old) ops → room ≡ room_behind (D.view disk.old).size ops) }
-    ensures fault { IsErrOf result StoreError.DiskFault → Rose (D.view disk.old).faults (D.view disk.new).faults }
+    ensures fault { IsErrOf result StoreError.DiskFault → D.faulted disk.old disk.new }
 {
     frame.clear();
     encode(op, frame)?;

@@ -3,7 +3,7 @@ use Rattle.std.specs.Int.{w32, to_be_bytes}
 use Rattle.rm_types.specs.declared.texts.TextKind.TheVariants.{Name, Queue, AclText}
 use Rattle.rm_frame.specs.Fields.{NumberFrom, TextOf, submission_fields}
 use Rattle.rm_frame.proofs.Faults.{stops_first, stops_then, passes_on, reads_then}
-use Rattle.rm_types.specs.Frames.{text_frame}
+use Rattle.rm_formats.specs.Frames.{text_frame}
 use Rattle.rm_frame.proofs.decoding.submission_at.Goals as goal
 
 pub returns-in_err-user-clause-bad : goal.returns-in_err-user-clause-bad

@@ -1,5 +1,5 @@
 use Rattle.std.proofs.Common.{◌∷◌, [], ◌++◌}
-use Rattle.rm_types.specs.Frames.{app_id_frame, submission_frame}
+use Rattle.rm_formats.specs.Frames.{app_id_frame, submission_frame}
 use Rattle.rm_frame.proofs.Appends.{appends}
 use Rattle.rm_frame.proofs.encoding.put_app.Goals as goal
 

@@ -1,6 +1,6 @@
 use Rattle.std.proofs.Common.{◌∷◌, [], ◌++◌}
 use Rattle.std.specs.Int.{to_be_bytes, w32, w64}
-use Rattle.rm_types.specs.Frames.{text_frame, attempt_id_frame}
+use Rattle.rm_formats.specs.Frames.{text_frame, attempt_id_frame}
 use Rattle.rm_frame.proofs.Appends.{appends}
 use Rattle.rm_frame.proofs.encoding.put_attempt.Goals as goal
 

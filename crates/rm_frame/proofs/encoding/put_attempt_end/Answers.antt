@@ -1,5 +1,5 @@
 use Rattle.std.proofs.Common.{◌∷◌, [], ◌++◌}
-use Rattle.rm_types.specs.Frames.{text_frame, attempt_id_frame, how_code}
+use Rattle.rm_formats.specs.Frames.{text_frame, attempt_id_frame, how_code}
 use Rattle.rm_frame.proofs.Appends.{appends}
 use Rattle.rm_frame.proofs.encoding.put_attempt_end.Goals as goal
 

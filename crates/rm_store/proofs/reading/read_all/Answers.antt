@@ -1,7 +1,7 @@
 use Rattle.std.proofs.Common.{◌≡◌, ℕ, ◌+◌, ◌-◌, true, false, Option, None, Some, Err, List, [], ◌∷◌, ◌++◌, map, refl, sym, ap, subst, ◌∙◌, arith}
 use Rattle.std.proofs.lemmas.Result.{err_from_is_err_and}
-use Rattle.rm_types.specs.Frames.{frame}
-use Rattle.rm_model.specs.Device.{IsDamagedAt}
+use Rattle.rm_formats.specs.Frames.{frame}
+use Rattle.rm_formats.specs.Device.{IsDamagedAt}
 use Rattle.rm_disk.specs.Disk.{Tells}
 use Rattle.rm_journal.specs.declared.fault.JournalError
 use Rattle.rm_store.specs.declared.fault.StoreError

@@ -17,7 +17,7 @@ pub returns-in-Err-Stray-clause-stray : goal.returns-in-Err-Stray-clause-stray
 returns-in-Err-Stray-clause-stray c = λ number offset e.
     let op = c.in_ok-op.op in
     let same : c.apply.new.self ≡ records c.args.ops.now = c.in-Err-Stray.ensures.err ∙ c.requires in
-    let told : c.applied.result ≡ length c.args.ops.now = c.applied.ensures ∙ ap (λ r. r.told) same ∙ told_count c.args.ops.now in
+    let told : c.applied.result ≡ length c.args.ops.now = c.applied.ensures ∙ ap (λ r. r.applied) same ∙ told_count c.args.ops.now in
     let n : number ≡ c.applied.result = cc in
     let f : offset ≡ c.args.gate = cc in
     (f, n ∙ told, (op, c.in_ok-op.ensures.ok, (let stray = rw c.requires at c.in-Err-Stray.ensures.only_stray in stray c.in-Err-Stray.field-0-is)))

@@ -1,10 +1,11 @@
 use Rattle.std.proofs.Common.{◌≡◌, ℕ, List, length, take_all, ◌∙◌, arith}
 use Rattle.rm_types.specs.declared.operations.Op.{Op}
-use Rattle.rm_types.specs.Frames.{frame, CanBeFramed}
+use Rattle.rm_formats.specs.Frames.{frame}
+use Rattle.rm_types.specs.Ranges.{IsOperation}
 use Rattle.rm_frame.specs.Framed.{IsFramed}
 use Rattle.rm_store.proofs.reading.whole_frame.Goals as goal
 
-whole : (payload : List ℕ) (op : Op) → CanBeFramed op → payload ≡ frame op → IsFramed payload op (length payload)
+whole : (payload : List ℕ) (op : Op) → IsOperation op → payload ≡ frame op → IsFramed payload op (length payload)
 whole payload op can e = record { can = can; within = omega arith; is = take_all (length payload) payload (omega arith) ∙ e }
 
 pub returns-then-count-payload-clause-damaged : goal.returns-then-count-payload-clause-damaged

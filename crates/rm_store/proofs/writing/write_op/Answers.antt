@@ -1,7 +1,7 @@
 use Rattle.std.proofs.Common.{◌≡◌, ℕ, ◌+◌, Result, Err, ◌++◌, length, inl, inr, sym, ap, subst, ◌∙◌, arith}
 use Rattle.std.proofs.lemmas.Bool.{cases_lt}
 use Rattle.std.proofs.lemmas.Result.{err_from_is_err_and}
-use Rattle.rm_types.specs.Frames.{frame}
+use Rattle.rm_formats.specs.Frames.{frame}
 use Rattle.rm_journal.specs.declared.fault.JournalError
 use Rattle.rm_journal.specs.Journal.{LeavesEither, Adds}
 use Rattle.rm_store.specs.declared.fault.StoreError

@@ -13,7 +13,8 @@ returns-then-self-len-clause-falls c =
 pub returns-then-self-len-clause-image : goal.returns-then-self-len-clause-image
 returns-then-self-len-clause-image c =
     let s = c.args.self.now in
-    ap (λ (l : List ℕ). Some l) (sym (none_fallen s.first.items s.bytes.items s.synced.items s.calls.items s.settled s.replays (omega (arith, c.if-self-len.true, c.len.ensures)) c.args.image))
+    let told = ap (λ (l : List ℕ). Some l) (sym (none_fallen s.first.items s.bytes.items s.synced.items s.calls.items s.settled s.replays (omega (arith, c.if-self-len.true, c.len.ensures)) c.args.image)) in
+    record { told = told; number = refl; list = refl }
 
 pub settle-requires-clause-size : goal.settle-requires-clause-size
 settle-requires-clause-size c =
@@ -42,4 +43,4 @@ returns-clause-falls c =
     rw (bytes, c.keep.ensures.items) (falls s.first.items s.bytes.items s.synced.items s.calls.items s.settled s.replays (Fall c.args.image) left (fallen_step s.first.items s.bytes.items s.synced.items s.calls.items s.settled s.replays c.args.image) (fallen_here s.first.items s.bytes.items s.synced.items s.calls.items s.settled s.replays c.args.image) refl s.faults)
 
 pub returns-clause-image : goal.returns-clause-image
-returns-clause-image c = ap (λ (l : List ℕ). Some l) c.fall_to.ensures
+returns-clause-image c = record { told = ap (λ (l : List ℕ). Some l) c.fall_to.ensures; number = refl; list = refl }
