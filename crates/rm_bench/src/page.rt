@@ -1,8 +1,8 @@
 use crate::costs::{Stop, hundredths, nanos_each};
 use rm_page::page;
 use rm_types::{
-    AppId, AttemptId, ClientAsk, ContainerId, Entry, Grant, Items, Lane, Message, Reply, Report,
-    Resource, Sender, StateWord, Text,
+    AppId, AttemptId, Boxed, ClientAsk, ContainerId, Entry, Grant, Items, Lane, Message, Reply,
+    Report, Resource, Sender, StateWord, Text,
 };
 use std::alloc::Global;
 use std::time::Instant;
@@ -22,10 +22,11 @@ fn told(alloc: Global, app: AppId) -> Result<Entry, Stop> {
         live: 5,
         text: Text::empty(alloc),
     };
+    let message = Message::Client(text(alloc, b"alice")?, ClientAsk::Report(app));
     Ok(Entry::Served {
         sender: Sender::Client,
-        message: Message::Client(text(alloc, b"alice")?, ClientAsk::Report(app)),
-        reply: Reply::Report(report),
+        message: Boxed::new(alloc, message)?,
+        reply: Boxed::new(alloc, Reply::Report(report))?,
     })
 }
 
@@ -47,7 +48,8 @@ fn granted(alloc: Global, app: AppId) -> Result<Entry, Stop> {
             },
         })?;
     }
-    let node = text(alloc, b"n1")?;
+    let node = Boxed::new(alloc, text(alloc, b"n1")?)?;
+    let grants = Boxed::new(alloc, grants)?;
     Ok(Entry::Pass { node, grants })
 }
 
@@ -92,8 +94,13 @@ fn time_of(rt: HostRuntime, count: u32, rounds: u32) -> Result<u64, Stop> {
     Ok(each)
 }
 
-/// Pages of 10,000 and of 1,000,000 entries: the ratio of their times a byte stays near 1.
+/// Pages of 10,000 and of 1,000,000 entries: the ratio of their times a byte stays near 1. Before them, the
+/// bytes that an entry takes in a log; a silent one takes no more.
 pub fn measure(rt: HostRuntime) -> Result<(), Stop> {
+    println!(rt;
+        "page: an entry takes {} bytes in a log",
+        size_of::<Entry>()
+    )?;
     let few = time_of(rt, 10_000, 20)?;
     let many = time_of(rt, 1_000_000, 5)?;
     println!(rt; "page: ratio in hundredths: {}", hundredths(many, few))?;

@@ -6,7 +6,8 @@ use Rattle.std.proofs.lemmas.List.{append_cancel_left}
 use Rattle.rm_types.specs.declared.ids.AppId.{AppId}
 use Rattle.rm_types.specs.declared.ids.AttemptId.{AttemptId}
 use Rattle.rm_types.specs.declared.ids.ContainerId.{ContainerId}
-use Rattle.rm_types.specs.IdTexts.{padded, app_text, attempt_text, container_text, IsWithin, IsAppId, IsAttemptId, IsContainerId}
+use Rattle.rm_formats.specs.IdTexts.{padded, app_text, attempt_text, container_text}
+use Rattle.rm_types.specs.Ranges.{IsWithin, IsAppId, IsAttemptId, IsContainerId}
 use Rattle.rm_ids.specs.declared.parts.Part.{Part}
 use Rattle.rm_ids.specs.declared.parts.Part.TheVariants.{Stamp, AppNumber, AttemptNumber, AttemptInContainer, Epoch, Sequence}
 use Rattle.rm_ids.specs.Parts.{least_digits, greatest}

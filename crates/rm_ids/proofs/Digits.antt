@@ -5,7 +5,7 @@ use Rattle.std.specs.Fmt.{decimal}
 use Rattle.std.proofs.lemmas.List.{length-append, length-replicate}
 use Rattle.std.proofs.lemmas.Fmt.{digits_decimal, digits_value-decimal}
 use Rattle.std.proofs.lemmas.Str.Parse.{IsNumeralModel, numerals_by_fold}
-use Rattle.rm_types.specs.IdTexts.{padded}
+use Rattle.rm_formats.specs.IdTexts.{padded}
 use Rattle.rm_ids.specs.Digits.{IsDigit, AreDigits, value_after, value_of}
 
 -- the bytes begin with a digit

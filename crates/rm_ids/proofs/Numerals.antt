@@ -5,7 +5,8 @@ use Rattle.std.proofs.lemmas.Bool.{eqb-true, eqb-false, cases_lt}
 use Rattle.std.proofs.lemmas.List.{length-append, length-replicate, length_push, get_or_append_left, nil_from_length}
 use Rattle.std.proofs.lemmas.Fmt.{decimal-digits_value, first_decimal}
 use Rattle.std.proofs.lemmas.Str.Parse.{digits_value_short}
-use Rattle.rm_types.specs.IdTexts.{padded, IsWithin}
+use Rattle.rm_formats.specs.IdTexts.{padded}
+use Rattle.rm_types.specs.Ranges.{IsWithin}
 use Rattle.rm_ids.specs.declared.parts.Part.{Part}
 use Rattle.rm_ids.specs.declared.parts.Part.TheVariants.{Stamp, AppNumber, AttemptNumber, AttemptInContainer, Epoch, Sequence}
 use Rattle.rm_ids.specs.Parts.{least_digits, greatest}

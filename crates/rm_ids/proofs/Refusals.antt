@@ -3,7 +3,8 @@ use Rattle.std.proofs.Common.{◌≡◌, ◌≢◌, ℕ, ◌+◌, ◌-◌, ◌<�
 use Rattle.std.specs.Prelude.{codes}
 use Rattle.std.proofs.lemmas.Bool.{cases_lt}
 use Rattle.std.proofs.lemmas.List.{append_cancel_left, length-append, length-drop, length_push, drop_more, take_at, take-take, take-append-drop, length-take-le}
-use Rattle.rm_types.specs.IdTexts.{padded, IsWithin}
+use Rattle.rm_formats.specs.IdTexts.{padded}
+use Rattle.rm_types.specs.Ranges.{IsWithin}
 use Rattle.rm_ids.specs.declared.parts.Part.{Part}
 use Rattle.rm_ids.specs.Parts.{least_digits, greatest}
 use Rattle.rm_ids.specs.Digits.{IsDigit, AreDigits, value_of, CanBegin}
@@ -406,10 +407,6 @@ pub field_passes : (part : Part) (bytes middle rest : List ℕ) → bytes ≡ co
 field_passes part bytes middle rest e passes = λ more left refuses. behind_word (NumberThen part (AreFields more)) (codes "_") bytes middle left e (passes more left refuses)
 
 -- ---- parts one after another
-
-pub passes_then : (parts others : List Part) (bytes middle rest : List ℕ) → Passes parts bytes middle → Passes others middle rest → Passes (parts ++ others) bytes rest
-passes_then parts others bytes middle rest first second = λ more left refuses.
-    subst (λ (all : List Part). Refuses (AreFields all) bytes left) (sym (append_assoc parts others more)) (first (others ++ more) left (second more left refuses))
 
 pub stops_first : (parts others : List Part) (bytes : List ℕ) (left : ℕ) → Stops parts bytes left → Stops (parts ++ others) bytes left
 stops_first parts others bytes left stops = λ more. subst (λ (all : List Part). Refuses (AreFields all) bytes left) (sym (append_assoc parts others more)) (stops (others ++ more))

@@ -3,7 +3,8 @@ use Rattle.std.specs.Prelude.{◌≡◌}
 use Rattle.rm_types.specs.declared.ids.AppId.{AppId}
 use Rattle.rm_types.specs.declared.ids.AttemptId.{AttemptId}
 use Rattle.rm_types.specs.declared.ids.ContainerId.{ContainerId}
-use Rattle.rm_types.specs.IdTexts.{app_text, attempt_text, container_text, IsAppId, IsAttemptId, IsContainerId}
+use Rattle.rm_formats.specs.IdTexts.{app_text, attempt_text, container_text}
+use Rattle.rm_types.specs.Ranges.{IsAppId, IsAttemptId, IsContainerId}
 
 -- two applications' ids in their ranges that have one text are equal
 abbrev pub AppTextsAreApart : Type 0

@@ -3,7 +3,8 @@ use Rattle.std.specs.Prelude.{◌≡◌, ℕ, ◌≤◌, List, ◌++◌, length,
 use Rattle.rm_types.specs.declared.ids.AppId.{AppId}
 use Rattle.rm_types.specs.declared.ids.AttemptId.{AttemptId}
 use Rattle.rm_types.specs.declared.ids.ContainerId.{ContainerId}
-use Rattle.rm_types.specs.IdTexts.{app_text, attempt_text, container_text, IsAppId, IsAttemptId, IsContainerId}
+use Rattle.rm_formats.specs.IdTexts.{app_text, attempt_text, container_text}
+use Rattle.rm_types.specs.Ranges.{IsAppId, IsAttemptId, IsContainerId}
 
 -- the text of some application's id in its ranges
 pub record IsAppText (text : List ℕ) : Type 0 where
@@ -33,3 +34,8 @@ pub record IsPlace (IsKind : List ℕ → Type 0) (bytes : List ℕ) (place : �
   pub within : place ≤ length bytes
   pub front : Begins IsKind (take place bytes)
   pub longest : (count : ℕ) → count ≤ length bytes → Begins IsKind (take count bytes) → count ≤ place
+
+-- bytes that go on with others: they begin with all of them
+pub record GoesOn (front whole : List ℕ) : Type 0 where
+  pub more : List ℕ
+  pub is : whole ≡ front ++ more

@@ -2,7 +2,7 @@
 use Rattle.std.specs.Prelude.{ℕ, List, [], ◌∷◌, ◌++◌, codes, ◌⊎◌, ◌==◌, if◌then◌else◌}
 use Rattle.rm_types.specs.declared.ids.AppId.{AppId}
 use Rattle.rm_types.specs.declared.ids.AttemptId.{AttemptId}
-use Rattle.rm_types.specs.IdTexts.{padded}
+use Rattle.rm_formats.specs.IdTexts.{padded}
 use Rattle.rm_ids.specs.declared.parts.Part.{Part}
 use Rattle.rm_ids.specs.declared.parts.Part.TheVariants.{Stamp, AppNumber, AttemptInContainer, Epoch, Sequence}
 use Rattle.rm_ids.specs.Steps.{After, NumberThen, AreFields}

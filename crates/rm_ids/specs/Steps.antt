@@ -1,6 +1,7 @@
 -- What the steps of a reader say: of what parts texts are, and how far bytes go along such texts. This project's own.
 use Rattle.std.specs.Prelude.{◌≡◌, ◌≢◌, ℕ, List, [], ◌∷◌, ◌++◌, length, codes}
-use Rattle.rm_types.specs.IdTexts.{padded, IsWithin}
+use Rattle.rm_formats.specs.IdTexts.{padded}
+use Rattle.rm_types.specs.Ranges.{IsWithin}
 use Rattle.rm_ids.specs.declared.parts.Part.{Part}
 use Rattle.rm_ids.specs.Fronts.{Begins}
 use Rattle.rm_ids.specs.Parts.{least_digits, greatest}

@@ -2,7 +2,8 @@ ghost use Rattle.std.specs.Prelude.{◌≡◌, ℕ, ◌-◌, ◌^◌, [], ◌++�
 ghost use Rattle.rm_types.specs.declared.ids.AppId.{AppId as AnyApp};
 ghost use Rattle.rm_types.specs.declared.ids.AttemptId.{AttemptId as AnyAttempt};
 ghost use Rattle.rm_types.specs.declared.ids.ContainerId.{ContainerId as AnyContainer};
-ghost use Rattle.rm_types.specs.IdTexts.{app_text, attempt_text, container_text, IsWithin, IsAppId, IsAttemptId, IsContainerId};
+ghost use Rattle.rm_formats.specs.IdTexts.{app_text, attempt_text, container_text};
+ghost use Rattle.rm_types.specs.Ranges.{IsWithin, IsAppId, IsAttemptId, IsContainerId};
 ghost use Rattle.rm_ids.specs.Fronts.{IsAppText, IsAttemptText, IsContainerText, IsPlace};
 ghost use Rattle.rm_ids.specs.Spelling.{app_parts, grant_parts, app_then, grant_text, epoch_then, IsGrantText};
 ghost use Rattle.rm_ids.specs.Steps.{AreFields, Refuses, Passes, Stops};

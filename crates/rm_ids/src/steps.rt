@@ -1,5 +1,6 @@
 ghost use Rattle.std.specs.Prelude.{◌≡◌, ◌-◌, ◌≤◌, ◌∷◌, [], ◌++◌, length, IfOk, IfErr, MatchResult};
-ghost use Rattle.rm_types.specs.IdTexts.{IsWithin, padded};
+ghost use Rattle.rm_types.specs.Ranges.{IsWithin};
+ghost use Rattle.rm_formats.specs.IdTexts.{padded};
 ghost use Rattle.rm_ids.specs.Parts.{least_digits, greatest};
 ghost use Rattle.rm_ids.specs.Steps.{AreFields, Refuses, LeavesWord, Passes, Stops, NumberPasses, NumberStops};
 

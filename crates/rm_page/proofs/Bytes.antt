@@ -1,5 +1,5 @@
 -- Bytes that stand in no text of a kind, and texts that are cut at such a byte.
-use Rattle.std.proofs.Common.{◌≡◌, ℕ, ◌+◌, ◌^◌, ◌<◌, ◌≤◌, Bool, true, false, not, cond, ◌&&◌, ◌||◌, eqb, ltb, leb, List, [], ◌∷◌, ◌++◌, length, Option, Some, None, refl, sym, ap, subst, ◌∙◌, arith}
+use Rattle.std.proofs.Common.{◌≡◌, ℕ, ◌+◌, ◌^◌, ◌<◌, ◌≤◌, Bool, true, false, not, cond, ◌&&◌, ◌||◌, eqb, ltb, leb, List, [], ◌∷◌, ◌++◌, length, Option, Some, None, refl, sym, ap, ◌∙◌, arith}
 use Rattle.std.specs.Fmt.{decimal}
 use Rattle.std.specs.List.{AllByRecursion, join_with_byte, slice_split, onto_first, position_or_len}
 use Rattle.std.proofs.lemmas.Bool.{and_parts, not-true, ne_eqb, eq-eqb, ltb-false, le-leb, true≢false}
@@ -8,8 +8,8 @@ use Rattle.std.proofs.lemmas.List.Elements.{All-from_recursion}
 use Rattle.std.proofs.lemmas.List.Splits.{slice_split_none, slice_split_at, length-slice_split, join_with_byte-slice_split}
 use Rattle.rm_types.specs.declared.texts.TextKind.{TextKind}
 use Rattle.rm_types.specs.declared.texts.TextKind.TheVariants.{Name, Node, Queue}
-use Rattle.rm_types.specs.Frames.{IsText}
-use Rattle.rm_types.specs.IdTexts.{padded}
+use Rattle.rm_types.specs.Ranges.{IsText}
+use Rattle.rm_formats.specs.IdTexts.{padded}
 use Rattle.rm_types.specs.Texts.{is_allowed, is_digit, least_length, greatest_length, first_not_allowed}
 use Rattle.rm_ids.specs.Digits.{IsDigit, AreDigits, value_of}
 use Rattle.rm_ids.proofs.Digits.{own, padded_is_digits}
@@ -21,8 +21,7 @@ made_of test (byte ∷ bytes) = test byte && made_of test bytes
 
 -- the byte is not among the bytes
 abbrev pub lacks : ℕ → List ℕ → Bool
-lacks byte [] = true
-lacks byte (one ∷ bytes) = not (eqb one byte) && lacks byte bytes
+lacks byte bytes = made_of (λ one. not (eqb one byte)) bytes
 
 pub and_both : (b c : Bool) → b ≡ true → c ≡ true → (b && c) ≡ true
 and_both b c h k = rw (h, k) refl
@@ -34,56 +33,45 @@ made_of-append test (byte ∷ a) b h k =
     and_both (test byte) (made_of test (a ++ b)) parts.0 (made_of-append test a b parts.1 k)
 
 pub lacks-append : (byte : ℕ) (a b : List ℕ) → lacks byte a ≡ true → lacks byte b ≡ true → lacks byte (a ++ b) ≡ true
-lacks-append byte [] b h k = k
-lacks-append byte (one ∷ a) b h k =
-    let parts = and_parts (not (eqb one byte)) (lacks byte a) h in
-    and_both (not (eqb one byte)) (lacks byte (a ++ b)) parts.0 (lacks-append byte a b parts.1 k)
+lacks-append byte a b h k = made_of-append (λ one. not (eqb one byte)) a b h k
+
+-- bytes that pass a test pass each weaker one
+pub made_of-weaker : (p q : ℕ → Bool) → ((byte : ℕ) → p byte ≡ true → q byte ≡ true) → (bytes : List ℕ) → made_of p bytes ≡ true → made_of q bytes ≡ true
+made_of-weaker p q weaker [] made = refl
+made_of-weaker p q weaker (byte ∷ bytes) made =
+    let parts = and_parts (p byte) (made_of p bytes) made in
+    and_both (q byte) (made_of q bytes) (weaker byte parts.0) (made_of-weaker p q weaker bytes parts.1)
+
+-- a byte that passes is not one that doesn't
+unlike : (test : ℕ → Bool) (byte one : ℕ) → test byte ≡ false → test one ≡ true → not (eqb one byte) ≡ true
+unlike test byte one fails passes = ap not (ne_eqb one byte (λ e. absurd (true≢false (sym passes ∙ ap test e ∙ fails))))
 
 -- a byte that doesn't pass is not among bytes that do
 pub lacks_failing : (test : ℕ → Bool) (byte : ℕ) (bytes : List ℕ) → test byte ≡ false → made_of test bytes ≡ true → lacks byte bytes ≡ true
-lacks_failing test byte [] fails made = refl
-lacks_failing test byte (one ∷ bytes) fails made =
-    let parts = and_parts (test one) (made_of test bytes) made in
-    let other : eqb one byte ≡ false = ne_eqb one byte (λ e. absurd (true≢false (sym parts.0 ∙ ap test e ∙ fails))) in
-    and_both (not (eqb one byte)) (lacks byte bytes) (ap not other) (lacks_failing test byte bytes fails parts.1)
+lacks_failing test byte bytes fails made = made_of-weaker test (λ one. not (eqb one byte)) (λ one passes. unlike test byte one fails passes) bytes made
 
 -- ---- numbers
 
--- small letters, digits and `_`
-abbrev pub is_id_byte : ℕ → Bool
-is_id_byte byte = (is_digit byte || eqb byte 95) || (leb 97 byte && leb byte 122)
+-- small letters and digits
+abbrev pub is_part_byte : ℕ → Bool
+is_part_byte byte = is_digit byte || (leb 97 byte && leb byte 122)
 
-digit_passes : (byte : ℕ) → IsDigit byte → is_id_byte byte ≡ true
+-- the same and `_`
+abbrev pub is_id_byte : ℕ → Bool
+is_id_byte byte = is_part_byte byte || eqb byte 95
+
+digit_passes : (byte : ℕ) → IsDigit byte → is_part_byte byte ≡ true
 digit_passes byte digit = rw (le-leb 48 byte digit.0, le-leb byte 57 digit.1) refl
 
-pub digits_made : (digits : List ℕ) → AreDigits digits → made_of is_id_byte digits ≡ true
+digits_made : (digits : List ℕ) → AreDigits digits → made_of is_part_byte digits ≡ true
 digits_made [] all = refl
-digits_made (digit ∷ digits) all = and_both (is_id_byte digit) (made_of is_id_byte digits) (digit_passes digit all.0) (digits_made digits all.1)
+digits_made (digit ∷ digits) all = and_both (is_part_byte digit) (made_of is_part_byte digits) (digit_passes digit all.0) (digits_made digits all.1)
 
-pub decimal_made : (number : ℕ) → number < 2 ^ 64 → made_of is_id_byte (decimal number) ≡ true
+pub decimal_made : (number : ℕ) → number < 2 ^ 64 → made_of is_part_byte (decimal number) ≡ true
 decimal_made number fits = digits_made (decimal number) (digits_decimal own number fits)
 
-pub padded_made : (least number : ℕ) → number < 2 ^ 64 → made_of is_id_byte (padded least number) ≡ true
+pub padded_made : (least number : ℕ) → number < 2 ^ 64 → made_of is_part_byte (padded least number) ≡ true
 padded_made least number fits = digits_made (padded least number) (padded_is_digits least number fits)
-
-pub number_lacks : (byte number : ℕ) → is_id_byte byte ≡ false → number < 2 ^ 64 → lacks byte (decimal number) ≡ true
-number_lacks byte number fails fits = lacks_failing is_id_byte byte (decimal number) fails (decimal_made number fits)
-
--- no `_` stands in a number
-digits_lack : (byte : ℕ) (digits : List ℕ) → ¬ IsDigit byte → AreDigits digits → lacks byte digits ≡ true
-digits_lack byte [] other all = refl
-digits_lack byte (digit ∷ digits) other all =
-    let apart : eqb digit byte ≡ false = ne_eqb digit byte (λ e. other (subst IsDigit e all.0)) in
-    and_both (not (eqb digit byte)) (lacks byte digits) (ap not apart) (digits_lack byte digits other all.1)
-
-bar_is_no_digit : ¬ IsDigit 95
-bar_is_no_digit digit = absurd (omega (arith, digit.1))
-
-pub decimal_lacks_bar : (number : ℕ) → number < 2 ^ 64 → lacks 95 (decimal number) ≡ true
-decimal_lacks_bar number fits = digits_lack 95 (decimal number) bar_is_no_digit (digits_decimal own number fits)
-
-pub padded_lacks_bar : (least number : ℕ) → number < 2 ^ 64 → lacks 95 (padded least number) ≡ true
-padded_lacks_bar least number fits = digits_lack 95 (padded least number) bar_is_no_digit (padded_is_digits least number fits)
 
 pub number_back : (number : ℕ) → number < 2 ^ 64 → value_of (decimal number) ≡ number
 number_back number fits = digits_value-decimal own number fits
@@ -162,10 +150,34 @@ cut-append byte (one ∷ front) back =
 pub join_cut : (byte : ℕ) (text : List ℕ) → join_with_byte byte (cut byte text) ≡ text
 join_cut byte text = join_with_byte-slice_split byte text
 
+-- each piece is made of bytes that pass
+abbrev pub EachMade : (ℕ → Bool) → List (List ℕ) → Type 0
+EachMade test [] = Unit {0}
+EachMade test (piece ∷ pieces) = (made_of test piece ≡ true) × EachMade test pieces
+
+pub EachMade-append : (test : ℕ → Bool) (a b : List (List ℕ)) → EachMade test a → EachMade test b → EachMade test (a ++ b)
+EachMade-append test [] b first second = second
+EachMade-append test (piece ∷ a) b first second = (first.0, EachMade-append test a b first.1 second)
+
+pub EachMade-weaker : (p q : ℕ → Bool) → ((byte : ℕ) → p byte ≡ true → q byte ≡ true) → (pieces : List (List ℕ)) → EachMade p pieces → EachMade q pieces
+EachMade-weaker p q weaker [] made = tt
+EachMade-weaker p q weaker (piece ∷ pieces) made = (made_of-weaker p q weaker piece made.0, EachMade-weaker p q weaker pieces made.1)
+
+-- what doesn't pass is not among bytes that do
+pub each_lacks : (test : ℕ → Bool) (byte : ℕ) (pieces : List (List ℕ)) → test byte ≡ false → EachMade test pieces → EachMade (λ one. not (eqb one byte)) pieces
+each_lacks test byte pieces fails made = EachMade-weaker test (λ one. not (eqb one byte)) (λ one passes. unlike test byte one fails passes) pieces made
+
+-- what passes for the pieces and for the byte that joins them passes for the whole
+pub joined_made : (test : ℕ → Bool) (joint : ℕ) (pieces : List (List ℕ)) → test joint ≡ true → EachMade test pieces → made_of test (join_with_byte joint pieces) ≡ true
+joined_made test joint [] passes made = refl
+joined_made test joint (piece ∷ []) passes made = made.0
+joined_made test joint (piece ∷ next ∷ more) passes made =
+    made_of-append test piece (joint ∷ join_with_byte joint (next ∷ more)) made.0
+    (and_both (test joint) (made_of test (join_with_byte joint (next ∷ more))) passes (joined_made test joint (next ∷ more) passes made.1))
+
 -- no piece has the byte
 abbrev pub EachLacks : ℕ → List (List ℕ) → Type 0
-EachLacks byte [] = Unit {0}
-EachLacks byte (piece ∷ pieces) = (lacks byte piece ≡ true) × EachLacks byte pieces
+EachLacks byte pieces = EachMade (λ one. not (eqb one byte)) pieces
 
 -- pieces that are joined by a byte which stands in none of them come back
 pub cut_joined : (byte : ℕ) (piece : List ℕ) (pieces : List (List ℕ)) → EachLacks byte (piece ∷ pieces) → cut byte (join_with_byte byte (piece ∷ pieces)) ≡ piece ∷ pieces
@@ -196,26 +208,32 @@ behind_is (byte ∷ label) text = behind_is label text
 abbrev pub is_word_byte : ℕ → Bool
 is_word_byte byte = not (eqb byte 10) && (not (eqb byte 32) && not (eqb byte 62))
 
-word_from : (bytes : List ℕ) → lacks 10 bytes ≡ true → lacks 32 bytes ≡ true → lacks 62 bytes ≡ true → made_of is_word_byte bytes ≡ true
-word_from [] feed space arrow = refl
-word_from (byte ∷ bytes) feed space arrow =
-    let feeds = and_parts (not (eqb byte 10)) (lacks 10 bytes) feed in
-    let spaces = and_parts (not (eqb byte 32)) (lacks 32 bytes) space in
-    let arrows = and_parts (not (eqb byte 62)) (lacks 62 bytes) arrow in
-    and_both (is_word_byte byte) (made_of is_word_byte bytes)
-    (and_both (not (eqb byte 10)) (not (eqb byte 32) && not (eqb byte 62)) feeds.0 (and_both (not (eqb byte 32)) (not (eqb byte 62)) spaces.0 arrows.0))
-    (word_from bytes feeds.1 spaces.1 arrows.1)
+word_passes : (test : ℕ → Bool) (one : ℕ) → test 10 ≡ false → test 32 ≡ false → test 62 ≡ false → test one ≡ true → is_word_byte one ≡ true
+word_passes test one feed space arrow passes =
+    and_both (not (eqb one 10)) (not (eqb one 32) && not (eqb one 62)) (unlike test 10 one feed passes)
+    (and_both (not (eqb one 32)) (not (eqb one 62)) (unlike test 32 one space passes) (unlike test 62 one arrow passes))
 
--- bytes of a kind to which neither of the three belongs are a word
+-- bytes of a kind to which none of the three belongs are a word
 pub word_by : (test : ℕ → Bool) (bytes : List ℕ) → test 10 ≡ false → test 32 ≡ false → test 62 ≡ false → made_of test bytes ≡ true → made_of is_word_byte bytes ≡ true
-word_by test bytes feed space arrow made =
-    word_from bytes (lacks_failing test 10 bytes feed made) (lacks_failing test 32 bytes space made) (lacks_failing test 62 bytes arrow made)
+word_by test bytes feed space arrow made = made_of-weaker test is_word_byte (λ one passes. word_passes test one feed space arrow passes) bytes made
+
+-- a byte of the pieces that another joins to an item of a list: one of a word, and neither a comma nor that one
+abbrev pub is_piece_byte : ℕ → ℕ → Bool
+is_piece_byte joint byte = is_word_byte byte && (not (eqb byte 44) && not (eqb byte joint))
+
+pub piece_by : (joint : ℕ) (test : ℕ → Bool) (bytes : List ℕ) → test 10 ≡ false → test 32 ≡ false → test 62 ≡ false → test 44 ≡ false → test joint ≡ false → made_of test bytes ≡ true
+    → made_of (is_piece_byte joint) bytes ≡ true
+piece_by joint test bytes feed space arrow comma other made =
+    made_of-weaker test (is_piece_byte joint) (λ one passes.
+    and_both (is_word_byte one) (not (eqb one 44) && not (eqb one joint)) (word_passes test one feed space arrow passes)
+    (and_both (not (eqb one 44)) (not (eqb one joint)) (unlike test 44 one comma passes) (unlike test joint one other passes)))
+    bytes made
 
 pub id_word : (bytes : List ℕ) → made_of is_id_byte bytes ≡ true → made_of is_word_byte bytes ≡ true
 id_word bytes made = word_by is_id_byte bytes refl refl refl made
 
 pub number_word : (number : ℕ) → number < 2 ^ 64 → made_of is_word_byte (decimal number) ≡ true
-number_word number fits = id_word (decimal number) (decimal_made number fits)
+number_word number fits = word_by is_part_byte (decimal number) refl refl refl (decimal_made number fits)
 
 pub name_word : (text : List ℕ) → IsText Name text → made_of is_word_byte text ≡ true
 name_word text fits = word_by (is_allowed Name) text refl refl refl (text_made Name text fits)
@@ -228,25 +246,14 @@ queue_word text fits = word_by (is_allowed Queue) text refl refl refl (text_made
 
 -- each of them is a word
 abbrev pub AreWords : List (List ℕ) → Type 0
-AreWords [] = Unit {0}
-AreWords (word ∷ words) = (made_of is_word_byte word ≡ true) × AreWords words
-
-pub AreWords-append : (a b : List (List ℕ)) → AreWords a → AreWords b → AreWords (a ++ b)
-AreWords-append [] b first second = second
-AreWords-append (word ∷ a) b first second = (first.0, AreWords-append a b first.1 second)
+AreWords words = EachMade is_word_byte words
 
 pub words_lack : (byte : ℕ) (words : List (List ℕ)) → is_word_byte byte ≡ false → AreWords words → EachLacks byte words
-words_lack byte [] fails are = tt
-words_lack byte (word ∷ words) fails are = (lacks_failing is_word_byte byte word fails are.0, words_lack byte words fails are.1)
+words_lack byte words fails are = each_lacks is_word_byte byte words fails are
 
 pub EachLacks-append : (byte : ℕ) (a b : List (List ℕ)) → EachLacks byte a → EachLacks byte b → EachLacks byte (a ++ b)
-EachLacks-append byte [] b first second = second
-EachLacks-append byte (word ∷ a) b first second = (first.0, EachLacks-append byte a b first.1 second)
+EachLacks-append byte a b first second = EachMade-append (λ one. not (eqb one byte)) a b first second
 
 -- what stands in none of the pieces and doesn't join them stands not in the whole
 pub joined_lacks : (byte joint : ℕ) (pieces : List (List ℕ)) → eqb joint byte ≡ false → EachLacks byte pieces → lacks byte (join_with_byte joint pieces) ≡ true
-joined_lacks byte joint [] other lack = refl
-joined_lacks byte joint (piece ∷ []) other lack = lack.0
-joined_lacks byte joint (piece ∷ next ∷ more) other lack =
-    lacks-append byte piece (joint ∷ join_with_byte joint (next ∷ more)) lack.0
-    (and_both (not (eqb joint byte)) (lacks byte (join_with_byte joint (next ∷ more))) (ap not other) (joined_lacks byte joint (next ∷ more) other lack.1))
+joined_lacks byte joint pieces other lack = joined_made (λ one. not (eqb one byte)) joint pieces (ap not other) lack

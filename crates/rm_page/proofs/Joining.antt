@@ -4,8 +4,8 @@ use Rattle.std.specs.List.{flat_map, join_with_byte}
 use Rattle.std.proofs.lemmas.List.{append_assoc, append-nil, take_all, replicate-append-replicate}
 use Rattle.std.proofs.lemmas.Grind.{flat_map-append}
 use Rattle.std.proofs.lemmas.List.Folds.{flat_map-map}
-use Rattle.rm_model.specs.Wording.{listed}
-use Rattle.rm_model.specs.Page.{line}
+use Rattle.rm_formats.specs.Wording.{listed}
+use Rattle.rm_formats.specs.Page.{line}
 use Rattle.rm_page.specs.Continued.{continued}
 
 -- pieces that are joined by a byte: the first, and the others with the byte before each

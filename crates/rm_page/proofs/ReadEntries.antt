@@ -22,21 +22,21 @@ use Rattle.rm_types.specs.declared.operations.Op.{Op}
 use Rattle.rm_types.specs.declared.operations.Op.TheVariants as ops
 use Rattle.rm_types.specs.declared.replies.Reply.{Reply}
 use Rattle.rm_types.specs.declared.replies.Reply.TheVariants as replies
-use Rattle.rm_types.specs.Frames.{CanBeFramed}
-use Rattle.rm_types.specs.IdTexts.{app_text, attempt_text, container_text}
+use Rattle.rm_types.specs.Ranges.{IsOperation}
+use Rattle.rm_formats.specs.IdTexts.{app_text, attempt_text, container_text}
 use Rattle.rm_types.specs.Lists.{is_nil}
-use Rattle.rm_model.specs.Page.{line, line_of}
-use Rattle.rm_model.specs.Replies.{sender_of}
-use Rattle.rm_model.specs.Wording.{spaced, bracketed, cause_text, message_words, message_text, op_words, reply_words}
+use Rattle.rm_formats.specs.Page.{line, line_of}
+use Rattle.rm_types.specs.Lanes.{sender_of}
+use Rattle.rm_formats.specs.Wording.{spaced, bracketed, cause_text, message_words, message_text, op_words, reply_words}
 use Rattle.rm_ids.specs.Digits.{value_of}
 use Rattle.rm_page.specs.Ranges.{IsEntry, IsServed, IsMessage, IsHeld, IsGrant, AsksForReport}
 use Rattle.rm_page.specs.Shown.{listed_held, listed_grant, shown_reply, shown, is_silent}
-use Rattle.rm_page.proofs.Bytes.{made_of, lacks, is_word_byte, number_word, node_word, AreWords, words_lack, number_back, cut, cut_at, cut-append, EachLacks, EachLacks-append, joined_lacks, behind}
-use Rattle.rm_page.proofs.ReadIds.{read_app, read_attempt, read_container, app_word, attempt_word, container_word, app_back, attempt_back, container_back}
+use Rattle.rm_page.proofs.Bytes.{made_of, lacks, number_back, cut, cut_at, cut-append, EachLacks, behind, is_word_byte, number_word, node_word, AreWords, words_lack, EachLacks-append, joined_lacks}
+use Rattle.rm_page.proofs.ReadIds.{app_word, attempt_word, container_word, read_app, read_attempt, read_container, app_back, attempt_back, container_back}
 use Rattle.rm_page.proofs.ReadOperations.{cut_words, read_op, op_back, op_lacks_feed}
-use Rattle.rm_page.proofs.ReadLists.{ComesBack, read_bracketed, bracketed_back, bracketed_word, without_last, without_last-push, read_cause, cause_back, cause_word, read_listed_held, listed_held_comes_back, read_listed_grant, listed_grant_comes_back}
-use Rattle.rm_page.proofs.ReadMessages.{read_message, message_pieces, message_are, message_front, cut_message, message_pieces_back, message_lacks_feed, ids_back}
-use Rattle.rm_page.proofs.ReadReplies.{read_reply, reply_pieces, reply_are, reply_front, cut_reply, reply_pieces_back, reply_lacks_feed, reply_words-shown, same_texts}
+use Rattle.rm_page.proofs.ReadLists.{ComesBack, without_last, without_last-push, read_bracketed, bracketed_back, bracketed_word, read_cause, cause_back, cause_word, read_listed_held, listed_held_comes_back, read_listed_grant, listed_grant_comes_back}
+use Rattle.rm_page.proofs.ReadMessages.{read_message, ids_back, message_front, message_are, message_pieces, cut_message, message_lacks_feed, message_pieces_back}
+use Rattle.rm_page.proofs.ReadReplies.{read_reply, reply_front, reply_are, reply_pieces, cut_reply, reply_lacks_feed, reply_pieces_back, same_texts, reply_words-shown}
 
 -- ---- the arrow between a message and its reply
 
@@ -115,48 +115,22 @@ are_free pieces = false
 free_start : (message : Message) (more : List (List ℕ)) → are_free (message_pieces message ++ more) ≡ frees message
 unfolding are_free frees message_pieces
 free_start (messages.Client user clients.New) more = refl
-free_start (messages.Client user (clients.Submit id submission)) more = refl
-free_start (messages.Client user (clients.Report id)) more = refl
-free_start (messages.Client user (clients.Kill id)) more = refl
 free_start (messages.Master attempt masters.Register) more = refl
-free_start (messages.Master attempt (masters.Finish text)) more = refl
-free_start (messages.Master attempt (masters.Allocate id asks release)) more = refl
 free_start (messages.Node node (nodes.Register turn capability running)) more = refl
-free_start (messages.Node node (nodes.Beat id running done)) more = refl
 free_start (messages.Clock (clocks.Tick time)) more = refl
-free_start (messages.Clock (clocks.ExpireNode node)) more = refl
-free_start (messages.Clock (clocks.ExpireMaster attempt)) more = refl
+free_start message more = refl
 
 -- any other message has words alone
 unfree_are : (message : Message) → IsMessage message → frees message ≡ false → AreWords (message_pieces message)
 unfolding frees message_pieces message_front
-unfree_are (messages.Client user clients.New) is e = message_are (messages.Client user clients.New) is
 unfree_are (messages.Client user (clients.Submit id submission)) is e = absurd cc
-unfree_are (messages.Client user (clients.Report id)) is e = message_are (messages.Client user (clients.Report id)) is
-unfree_are (messages.Client user (clients.Kill id)) is e = message_are (messages.Client user (clients.Kill id)) is
-unfree_are (messages.Master attempt masters.Register) is e = message_are (messages.Master attempt masters.Register) is
 unfree_are (messages.Master attempt (masters.Finish text)) is e = absurd cc
-unfree_are (messages.Master attempt (masters.Allocate id asks release)) is e = message_are (messages.Master attempt (masters.Allocate id asks release)) is
-unfree_are (messages.Node node (nodes.Register turn capability running)) is e = message_are (messages.Node node (nodes.Register turn capability running)) is
-unfree_are (messages.Node node (nodes.Beat id running done)) is e = message_are (messages.Node node (nodes.Beat id running done)) is
-unfree_are (messages.Clock (clocks.Tick time)) is e = message_are (messages.Clock (clocks.Tick time)) is
-unfree_are (messages.Clock (clocks.ExpireNode node)) is e = message_are (messages.Clock (clocks.ExpireNode node)) is
-unfree_are (messages.Clock (clocks.ExpireMaster attempt)) is e = message_are (messages.Clock (clocks.ExpireMaster attempt)) is
+unfree_are message is e = message_are message is
 
 no_report : (message : Message) → frees message ≡ true → AsksForReport message → ⊥
 unfolding frees
-no_report (messages.Client user clients.New) e wants = wants
-no_report (messages.Client user (clients.Submit id submission)) e wants = wants
 no_report (messages.Client user (clients.Report id)) e wants = cc
-no_report (messages.Client user (clients.Kill id)) e wants = wants
-no_report (messages.Master attempt masters.Register) e wants = wants
-no_report (messages.Master attempt (masters.Finish text)) e wants = wants
-no_report (messages.Master attempt (masters.Allocate id asks release)) e wants = wants
-no_report (messages.Node node (nodes.Register turn capability running)) e wants = wants
-no_report (messages.Node node (nodes.Beat id running done)) e wants = wants
-no_report (messages.Clock (clocks.Tick time)) e wants = wants
-no_report (messages.Clock (clocks.ExpireNode node)) e wants = wants
-no_report (messages.Clock (clocks.ExpireMaster attempt)) e wants = wants
+no_report message e wants = wants
 
 -- and the reply to such a message has
 free_are : (message : Message) (reply : Reply) → IsServed message reply → frees message ≡ true → AreWords (reply_pieces reply)
@@ -256,13 +230,9 @@ first_word word (next ∷ words) lack some = cut_at 32 word (spaced (next ∷ wo
 
 op_some : (op : Op) → is_nil (op_words op) ≡ false
 op_some (ops.Epoch next stamp) = refl
-op_some (ops.App id submission) = refl
-op_some (ops.Attempt id master node) = refl
-op_some (ops.AttemptEnd id how text) = refl
-op_some (ops.AppEnd id how text) = refl
-op_some (ops.Remove id) = refl
+op_some op = refl
 
-issued_line : (op : Op) → CanBeFramed op → HasLine (entries.Issued op)
+issued_line : (op : Op) → IsOperation op → HasLine (entries.Issued op)
 unfolding read_line read_entry entry_by keyword
 issued_line op is = record {
   body = spaced (codes "issued" ∷ op_words op);
@@ -271,7 +241,7 @@ issued_line op is = record {
   back = ap read_entry (first_word (codes "issued") (op_words op) refl (op_some op)) ∙ ap entries.Issued (op_back op is);
 }
 
-kept_line : (op : Op) → CanBeFramed op → HasLine (entries.Kept op)
+kept_line : (op : Op) → IsOperation op → HasLine (entries.Kept op)
 unfolding read_line read_entry entry_by keyword
 kept_line op is = record {
   body = spaced (codes "kept" ∷ op_words op);
@@ -284,9 +254,7 @@ kept_line op is = record {
 
 message_some : (message : Message) → is_nil (message_words message) ≡ false
 message_some (messages.Client user ask) = refl
-message_some (messages.Master attempt ask) = refl
-message_some (messages.Node node ask) = refl
-message_some (messages.Clock ask) = refl
+message_some message = refl
 
 spaced-append : (front : List (List ℕ)) (word : List ℕ) (words : List (List ℕ)) → is_nil front ≡ false → spaced (front ++ word ∷ words) ≡ spaced front ++ 32 ∷ spaced (word ∷ words)
 spaced-append [] word words some = absurd cc
@@ -296,30 +264,7 @@ spaced-append (one ∷ next ∷ front) word words some =
 
 reply_some : (reply : Reply) → is_nil (reply_words reply) ≡ false
 reply_some replies.NotOpen = refl
-reply_some (replies.New id) = refl
-reply_some replies.Submitted = refl
-reply_some replies.BadId = refl
-reply_some replies.Retired = refl
-reply_some replies.NoQueue = refl
-reply_some (replies.Denied denial) = refl
-reply_some replies.TooLarge = refl
-reply_some replies.Full = refl
-reply_some replies.Unknown = refl
-reply_some (replies.Report report) = refl
-reply_some replies.Killing = refl
-reply_some replies.AppEnded = refl
-reply_some replies.MasterRegistered = refl
-reply_some replies.Already = refl
-reply_some replies.Gone = refl
-reply_some replies.Resync = refl
-reply_some replies.WrongId = refl
-reply_some replies.NotRegistered = refl
-reply_some replies.Finishing = refl
-reply_some replies.Finished = refl
-reply_some (replies.Allocated id grants ended) = refl
-reply_some (replies.NodeRegistered turn epoch) = refl
-reply_some (replies.Beat id launch clean) = refl
-reply_some replies.Ok = refl
+reply_some reply = refl
 
 served_pieces : (message : Message) (reply : Reply) → IsServed message reply
     → cut 32 (spaced (codes "served" ∷ (message_words message ++ codes "->" ∷ reply_words reply))) ≡ codes "served" ∷ (message_pieces message ++ codes "->" ∷ reply_pieces reply)

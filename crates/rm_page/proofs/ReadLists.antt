@@ -1,8 +1,9 @@
 -- Lists, read back from their texts, and the items that stand in them.
-use Rattle.std.proofs.Common.{◌≡◌, ℕ, ◌^◌, ◌<◌, ◌≤◌, Bool, true, false, not, cond, eqb, List, [], ◌∷◌, ◌++◌, length, map, filter, All, refl, ap, ◌∙◌, arith, codes}
+use Rattle.std.proofs.Common.{◌≡◌, ℕ, ◌^◌, ◌<◌, ◌≤◌, Bool, true, false, not, cond, ◌&&◌, eqb, List, [], ◌∷◌, ◌++◌, length, map, filter, All, refl, ap, ◌∙◌, arith, codes}
 use Rattle.std.specs.Fmt.{decimal}
 use Rattle.std.specs.Str.{bytes_eq}
-use Rattle.std.specs.List.{AllByRecursion}
+use Rattle.std.specs.List.{AllByRecursion, join_with_byte}
+use Rattle.std.proofs.lemmas.Bool.{and_parts}
 use Rattle.std.proofs.lemmas.Fmt.{decimal_nonempty}
 use Rattle.std.proofs.lemmas.List.{map-id}
 use Rattle.std.proofs.lemmas.List.Elements.{recursion_from_All}
@@ -14,15 +15,16 @@ use Rattle.rm_types.specs.declared.containers.Grant.{Grant}
 use Rattle.rm_types.specs.declared.containers.Held.{Held}
 use Rattle.rm_types.specs.declared.ids.ContainerId.{ContainerId}
 use Rattle.rm_types.specs.declared.texts.TextKind.TheVariants.{Node, Queue}
-use Rattle.rm_types.specs.Frames.{IsText}
-use Rattle.rm_types.specs.IdTexts.{container_text, IsContainerId}
+use Rattle.rm_types.specs.Ranges.{IsText, IsContainerId}
+use Rattle.rm_types.specs.Texts.{is_allowed}
+use Rattle.rm_formats.specs.IdTexts.{container_text}
 use Rattle.rm_types.specs.Lists.{is_nil}
-use Rattle.rm_model.specs.Wording.{listed, bracketed, list_word, held_text, ask_text, cause_text, grant_text, closing_text}
+use Rattle.rm_formats.specs.Wording.{listed, bracketed, list_word, held_text, ask_text, cause_text, grant_text, closing_text}
 use Rattle.rm_ids.specs.Digits.{value_of}
 use Rattle.rm_page.specs.Ranges.{IsHeld, IsAsk, IsGrant, IsClosing}
 use Rattle.rm_page.specs.Shown.{no_size, told_grant, listed_grant, listed_held}
-use Rattle.rm_page.proofs.Bytes.{made_of, made_of-append, lacks, lacks-append, is_word_byte, number_word, node_word, queue_word, AreWords, number_lacks, number_back, text_lacks, text_long, cut, cut_at, cut_last, cut_joined, EachLacks, behind, behind_is}
-use Rattle.rm_page.proofs.ReadIds.{read_container, container_lacks, container_word, container_back, container_some}
+use Rattle.rm_page.proofs.Bytes.{made_of, lacks, made_of-append, is_part_byte, is_id_byte, decimal_made, number_back, text_made, text_lacks, text_long, cut, EachMade, EachMade-weaker, joined_made, cut_joined, behind, behind_is, is_word_byte, is_piece_byte, piece_by, queue_word, AreWords, joined_lacks}
+use Rattle.rm_page.proofs.ReadIds.{container_made, container_lacks, container_word, read_container, container_back, container_not_nil}
 
 -- ---- items with commas between them
 
@@ -41,9 +43,10 @@ read_list read text = map read (filter (λ piece. not (is_nil piece)) (cut 44 te
 cons_same : {Y : Type 0} (x y : Y) (xs ys : List Y) → x ≡ y → xs ≡ ys → x ∷ xs ≡ y ∷ ys
 cons_same x y xs ys e f = rw (e, f) refl
 
-pieces_lack : {X Y : Type 0} (text : X → List ℕ) (read : List ℕ → Y) (keep : X → Y) (items : List X) → AllByRecursion (ComesBack text read keep) items → EachLacks 44 (map text items)
-pieces_lack text read keep [] all = tt
-pieces_lack text read keep (item ∷ items) all = (all.0.no_comma, pieces_lack text read keep items all.1)
+pieces_made : {X Y : Type 0} (test : ℕ → Bool) (text : X → List ℕ) (read : List ℕ → Y) (keep : X → Y) → ((item : X) → ComesBack text read keep item → made_of test (text item) ≡ true)
+    → (items : List X) → AllByRecursion (ComesBack text read keep) items → EachMade test (map text items)
+pieces_made test text read keep made [] all = tt
+pieces_made test text read keep made (item ∷ items) all = (made item all.0, pieces_made test text read keep made items all.1)
 
 pieces_back : {X Y : Type 0} (text : X → List ℕ) (read : List ℕ → Y) (keep : X → Y) (items : List X) → AllByRecursion (ComesBack text read keep) items
     → map read (filter (λ piece. not (is_nil piece)) (map text items)) ≡ map keep items
@@ -58,7 +61,7 @@ list_back_by : {X Y : Type 0} (text : X → List ℕ) (read : List ℕ → Y) (k
 unfolding read_list
 list_back_by text read keep [] all = refl
 list_back_by text read keep (item ∷ items) all =
-    ap (λ (ps : List (List ℕ)). map read (filter (λ piece. not (is_nil piece)) ps)) (cut_joined 44 (text item) (map text items) (pieces_lack text read keep (item ∷ items) all))
+    ap (λ (ps : List (List ℕ)). map read (filter (λ piece. not (is_nil piece)) ps)) (cut_joined 44 (text item) (map text items) (pieces_made (λ one. not (eqb one 44)) text read keep (λ one is. is.no_comma) (item ∷ items) all))
     ∙ pieces_back text read keep (item ∷ items) all
 
 -- each item of the list comes back
@@ -71,17 +74,11 @@ pub whole_list_back : {X : Type 0} (text : X → List ℕ) (read : List ℕ → 
     → read_list read (listed (map text items)) ≡ items
 whole_list_back text read items all = list_back text read (λ x. x) items all ∙ map-id items
 
-listed_word_by : {X Y : Type 0} (text : X → List ℕ) (read : List ℕ → Y) (keep : X → Y) (items : List X) → AllByRecursion (ComesBack text read keep) items
-    → made_of is_word_byte (listed (map text items)) ≡ true
-listed_word_by text read keep [] all = refl
-listed_word_by text read keep (item ∷ []) all = all.0.word
-listed_word_by text read keep (item ∷ next ∷ items) all =
-    made_of-append is_word_byte (text item) (44 ∷ listed (map text (next ∷ items))) all.0.word (listed_word_by text read keep (next ∷ items) all.1)
-
 -- the text of a list is a word
 pub listed_word : {X Y : Type 0} (text : X → List ℕ) (read : List ℕ → Y) (keep : X → Y) (items : List X) → All (ComesBack text read keep) items
     → made_of is_word_byte (listed (map text items)) ≡ true
-listed_word text read keep items all = listed_word_by text read keep items (recursion_from_All (ComesBack text read keep) items all)
+listed_word text read keep items all =
+    joined_made is_word_byte 44 (map text items) refl (pieces_made is_word_byte text read keep (λ item is. is.word) items (recursion_from_All (ComesBack text read keep) items all))
 
 -- ---- lists in brackets
 
@@ -163,16 +160,38 @@ lone_running_word (held ∷ running) = refl
 
 -- ---- items
 
-some-append : (front back : List ℕ) → is_nil front ≡ false → is_nil (front ++ back) ≡ false
-some-append [] back e = absurd cc
-some-append (byte ∷ front) back e = refl
+joined_some : (joint : ℕ) (first : List ℕ) (more : List (List ℕ)) → is_nil first ≡ false → is_nil (join_with_byte joint (first ∷ more)) ≡ false
+joined_some joint [] more some = absurd cc
+joined_some joint (byte ∷ first) [] some = refl
+joined_some joint (byte ∷ first) (next ∷ more) some = refl
+
+-- an item comes back that is pieces joined by a byte, where none of them has this byte or a comma
+joined_comes_back : {X Y : Type 0} (text : X → List ℕ) (of : List (List ℕ) → Y) (keep : X → Y) (item : X) (joint : ℕ) (first : List ℕ) (more : List (List ℕ))
+    → text item ≡ join_with_byte joint (first ∷ more) → is_word_byte joint ≡ true → eqb joint 44 ≡ false → is_nil first ≡ false
+    → EachMade (is_piece_byte joint) (first ∷ more) → of (first ∷ more) ≡ keep item → ComesBack text (λ t. of (cut joint t)) keep item
+joined_comes_back text of keep item joint first more same joins other some made back =
+    let word : (byte : ℕ) → is_piece_byte joint byte ≡ true → is_word_byte byte ≡ true =
+    λ byte passes. (and_parts (is_word_byte byte) (not (eqb byte 44) && not (eqb byte joint)) passes).0 in
+    let others : (byte : ℕ) → is_piece_byte joint byte ≡ true → (not (eqb byte 44) ≡ true) × (not (eqb byte joint) ≡ true) =
+    λ byte passes. and_parts (not (eqb byte 44)) (not (eqb byte joint)) (and_parts (is_word_byte byte) (not (eqb byte 44) && not (eqb byte joint)) passes).1 in
+    let pieces : List (List ℕ) = first ∷ more in
+    record {
+      no_comma = ap (lacks 44) same ∙ joined_lacks 44 joint pieces other (EachMade-weaker (is_piece_byte joint) (λ byte. not (eqb byte 44)) (λ byte passes. (others byte passes).0) pieces made);
+      some = ap is_nil same ∙ joined_some joint first more some;
+      word = ap (made_of is_word_byte) same ∙ joined_made is_word_byte joint pieces joins (EachMade-weaker (is_piece_byte joint) is_word_byte word pieces made);
+      back = ap (λ (t : List ℕ). of (cut joint t)) same
+          ∙ ap of (cut_joined joint first more (EachMade-weaker (is_piece_byte joint) (λ byte. not (eqb byte joint)) (λ byte passes. (others byte passes).1) pieces made)) ∙ back;
+    }
 
 some_by_length : (text : List ℕ) → 1 ≤ length text → is_nil text ≡ false
 some_by_length [] some = absurd (omega arith)
 some_by_length (byte ∷ text) some = refl
 
-container_not_nil : (id : ContainerId) → is_nil (container_text id) ≡ false
-container_not_nil id = let some = container_some id in ap is_nil some.2
+number_piece : (joint number : ℕ) → is_part_byte joint ≡ false → number < 2 ^ 64 → made_of (is_piece_byte joint) (decimal number) ≡ true
+number_piece joint number other fits = piece_by joint is_part_byte (decimal number) refl refl refl refl other (decimal_made number fits)
+
+container_piece : (joint : ℕ) (id : ContainerId) → is_id_byte joint ≡ false → IsContainerId id → made_of (is_piece_byte joint) (container_text id) ≡ true
+container_piece joint id other is = piece_by joint is_id_byte (container_text id) refl refl refl refl other (container_made id is)
 
 pub containers_come_back : (id : ContainerId) → IsContainerId id → ComesBack container_text read_container (λ x. x) id
 containers_come_back id is = record { no_comma = container_lacks 44 id refl is; some = container_not_nil id; word = container_word id is; back = container_back id is }
@@ -187,30 +206,14 @@ held_of pieces = record { id = read_container []; size = no_size }
 pub read_held : List ℕ → Held
 read_held text = held_of (cut 58 text)
 
-held_back : (held : Held) → IsHeld held → read_held (held_text held) ≡ held
-unfolding read_held held_of
-held_back held is =
-    let memory : List ℕ = decimal held.size.memory_mb in
-    let vcores : List ℕ = decimal held.size.vcores in
-    ap held_of (cut_at 58 (container_text held.id) (memory ++ (codes ":" ++ vcores)) (container_lacks 58 held.id refl is.id)
-    ∙ ap (λ (ps : List (List ℕ)). container_text held.id ∷ ps) (cut_at 58 memory vcores (number_lacks 58 held.size.memory_mb refl (omega (arith, is.size.0)))
-    ∙ ap (λ (ps : List (List ℕ)). memory ∷ ps) (cut_last 58 vcores (number_lacks 58 held.size.vcores refl (omega (arith, is.size.1))))))
-    ∙ rw (container_back held.id is.id, number_back held.size.memory_mb (omega (arith, is.size.0)), number_back held.size.vcores (omega (arith, is.size.1))) refl
-
 pub held_comes_back : (held : Held) → IsHeld held → ComesBack held_text read_held (λ x. x) held
+unfolding read_held held_of
 held_comes_back held is =
-    let memory : List ℕ = decimal held.size.memory_mb in
-    let vcores : List ℕ = decimal held.size.vcores in
-    let small_memory : held.size.memory_mb < 2 ^ 64 = omega (arith, is.size.0) in
-    let small_vcores : held.size.vcores < 2 ^ 64 = omega (arith, is.size.1) in
-    record {
-      no_comma = lacks-append 44 (container_text held.id) (codes ":" ++ (memory ++ (codes ":" ++ vcores))) (container_lacks 44 held.id refl is.id)
-          (lacks-append 44 memory (codes ":" ++ vcores) (number_lacks 44 held.size.memory_mb refl small_memory) (number_lacks 44 held.size.vcores refl small_vcores));
-      some = some-append (container_text held.id) (codes ":" ++ (memory ++ (codes ":" ++ vcores))) (container_not_nil held.id);
-      word = made_of-append is_word_byte (container_text held.id) (codes ":" ++ (memory ++ (codes ":" ++ vcores))) (container_word held.id is.id)
-          (made_of-append is_word_byte memory (codes ":" ++ vcores) (number_word held.size.memory_mb small_memory) (number_word held.size.vcores small_vcores));
-      back = held_back held is;
-    }
+    let memory : held.size.memory_mb < 2 ^ 64 = omega (arith, is.size.0) in
+    let vcores : held.size.vcores < 2 ^ 64 = omega (arith, is.size.1) in
+    joined_comes_back held_text held_of (λ x. x) held 58 (container_text held.id) (decimal held.size.memory_mb ∷ decimal held.size.vcores ∷ []) refl refl refl (container_not_nil held.id)
+    (container_piece 58 held.id refl is.id, (number_piece 58 held.size.memory_mb refl memory, (number_piece 58 held.size.vcores refl vcores, tt)))
+    (rw (container_back held.id is.id, number_back held.size.memory_mb memory, number_back held.size.vcores vcores) refl)
 
 ask_of : List (List ℕ) → Ask
 ask_of (priority ∷ count ∷ memory ∷ vcores ∷ []) =
@@ -220,50 +223,19 @@ ask_of pieces = record { priority = 0; count = 0; size = no_size }
 pub read_ask : List ℕ → Ask
 read_ask text = ask_of (cut 58 text)
 
-record AskFits (ask : Ask) : Type 0 where
-  pub priority : ask.priority < 2 ^ 64
-  pub count : ask.count < 2 ^ 64
-  pub memory : ask.size.memory_mb < 2 ^ 64
-  pub vcores : ask.size.vcores < 2 ^ 64
-
-ask_fits : (ask : Ask) → IsAsk ask → AskFits ask
-ask_fits ask is = record {
-  priority = omega (arith, is.priority);
-  count = omega (arith, is.count);
-  memory = omega (arith, is.size.0);
-  vcores = omega (arith, is.size.1);
-}
-
-ask_back : (ask : Ask) → IsAsk ask → read_ask (ask_text ask) ≡ ask
-unfolding read_ask ask_of
-ask_back ask is =
-    let fits = ask_fits ask is in
-    let front : List ℕ → List (List ℕ) → List (List ℕ) = λ piece pieces. piece ∷ pieces in
-    let count : List ℕ = decimal ask.count in
-    let memory : List ℕ = decimal ask.size.memory_mb in
-    let vcores : List ℕ = decimal ask.size.vcores in
-    ap ask_of (cut_at 58 (decimal ask.priority) (count ++ (codes ":" ++ (memory ++ (codes ":" ++ vcores)))) (number_lacks 58 ask.priority refl fits.priority)
-    ∙ ap (front (decimal ask.priority)) (cut_at 58 count (memory ++ (codes ":" ++ vcores)) (number_lacks 58 ask.count refl fits.count)
-    ∙ ap (front count) (cut_at 58 memory vcores (number_lacks 58 ask.size.memory_mb refl fits.memory)
-    ∙ ap (front memory) (cut_last 58 vcores (number_lacks 58 ask.size.vcores refl fits.vcores)))))
-    ∙ rw (number_back ask.priority fits.priority, number_back ask.count fits.count, number_back ask.size.memory_mb fits.memory, number_back ask.size.vcores fits.vcores) refl
-
 pub ask_comes_back : (ask : Ask) → IsAsk ask → ComesBack ask_text read_ask (λ x. x) ask
+unfolding read_ask ask_of
 ask_comes_back ask is =
-    let fits = ask_fits ask is in
-    let count : List ℕ = decimal ask.count in
-    let memory : List ℕ = decimal ask.size.memory_mb in
-    let vcores : List ℕ = decimal ask.size.vcores in
-    record {
-      no_comma = lacks-append 44 (decimal ask.priority) (codes ":" ++ (count ++ (codes ":" ++ (memory ++ (codes ":" ++ vcores))))) (number_lacks 44 ask.priority refl fits.priority)
-          (lacks-append 44 count (codes ":" ++ (memory ++ (codes ":" ++ vcores))) (number_lacks 44 ask.count refl fits.count)
-          (lacks-append 44 memory (codes ":" ++ vcores) (number_lacks 44 ask.size.memory_mb refl fits.memory) (number_lacks 44 ask.size.vcores refl fits.vcores)));
-      some = some-append (decimal ask.priority) (codes ":" ++ (count ++ (codes ":" ++ (memory ++ (codes ":" ++ vcores))))) (some_by_length (decimal ask.priority) (omega (arith, decimal_nonempty ask.priority fits.priority)));
-      word = made_of-append is_word_byte (decimal ask.priority) (codes ":" ++ (count ++ (codes ":" ++ (memory ++ (codes ":" ++ vcores))))) (number_word ask.priority fits.priority)
-          (made_of-append is_word_byte count (codes ":" ++ (memory ++ (codes ":" ++ vcores))) (number_word ask.count fits.count)
-          (made_of-append is_word_byte memory (codes ":" ++ vcores) (number_word ask.size.memory_mb fits.memory) (number_word ask.size.vcores fits.vcores)));
-      back = ask_back ask is;
-    }
+    let priority : ask.priority < 2 ^ 64 = omega (arith, is.priority) in
+    let count : ask.count < 2 ^ 64 = omega (arith, is.count) in
+    let memory : ask.size.memory_mb < 2 ^ 64 = omega (arith, is.size.0) in
+    let vcores : ask.size.vcores < 2 ^ 64 = omega (arith, is.size.1) in
+    joined_comes_back ask_text ask_of (λ x. x) ask 58 (decimal ask.priority) (decimal ask.count ∷ decimal ask.size.memory_mb ∷ decimal ask.size.vcores ∷ []) refl refl refl
+    (some_by_length (decimal ask.priority) (omega (arith, decimal_nonempty ask.priority priority))) (
+      number_piece 58 ask.priority refl priority,
+      (number_piece 58 ask.count refl count, (number_piece 58 ask.size.memory_mb refl memory, (number_piece 58 ask.size.vcores refl vcores, tt))),
+    )
+    (rw (number_back ask.priority priority, number_back ask.count count, number_back ask.size.memory_mb memory, number_back ask.size.vcores vcores) refl)
 
 grant_of : List (List ℕ) → Grant
 grant_of (id ∷ node ∷ []) = record { id = read_container id; node = node; size = no_size }
@@ -272,20 +244,12 @@ grant_of pieces = record { id = read_container []; node = []; size = no_size }
 pub read_grant : List ℕ → Grant
 read_grant text = grant_of (cut 64 text)
 
-grant_back : (grant : Grant) → IsGrant grant → read_grant (grant_text grant) ≡ told_grant grant
-unfolding read_grant grant_of
-grant_back grant is =
-    ap grant_of (cut_at 64 (container_text grant.id) grant.node (container_lacks 64 grant.id refl is.id)
-    ∙ ap (λ (ps : List (List ℕ)). container_text grant.id ∷ ps) (cut_last 64 grant.node (text_lacks Node 64 grant.node refl is.node)))
-    ∙ rw (container_back grant.id is.id) refl
-
 pub grant_comes_back : (grant : Grant) → IsGrant grant → ComesBack grant_text read_grant told_grant grant
-grant_comes_back grant is = record {
-  no_comma = lacks-append 44 (container_text grant.id) (codes "@" ++ grant.node) (container_lacks 44 grant.id refl is.id) (text_lacks Node 44 grant.node refl is.node);
-  some = some-append (container_text grant.id) (codes "@" ++ grant.node) (container_not_nil grant.id);
-  word = made_of-append is_word_byte (container_text grant.id) (codes "@" ++ grant.node) (container_word grant.id is.id) (node_word grant.node is.node);
-  back = grant_back grant is;
-}
+unfolding read_grant grant_of
+grant_comes_back grant is =
+    joined_comes_back grant_text grant_of told_grant grant 64 (container_text grant.id) (grant.node ∷ []) refl refl refl (container_not_nil grant.id)
+    (container_piece 64 grant.id refl is.id, (piece_by 64 (is_allowed Node) grant.node refl refl refl refl refl (text_made Node grant.node is.node), tt))
+    (rw (container_back grant.id is.id) refl)
 
 pub read_cause : List ℕ → Cause
 read_cause word =
@@ -297,31 +261,15 @@ read_cause word =
 pub cause_back : (cause : Cause) → read_cause (cause_text cause) ≡ cause
 unfolding read_cause
 cause_back Done = refl
-cause_back Released = refl
-cause_back NodeLost = refl
-cause_back AttemptOver = refl
-cause_back NotTaken = refl
+cause_back cause = refl
 
 pub cause_word : (cause : Cause) → made_of is_word_byte (cause_text cause) ≡ true
 cause_word Done = refl
-cause_word Released = refl
-cause_word NodeLost = refl
-cause_word AttemptOver = refl
-cause_word NotTaken = refl
+cause_word cause = refl
 
-cause_lacks_comma : (cause : Cause) → lacks 44 (cause_text cause) ≡ true
-cause_lacks_comma Done = refl
-cause_lacks_comma Released = refl
-cause_lacks_comma NodeLost = refl
-cause_lacks_comma AttemptOver = refl
-cause_lacks_comma NotTaken = refl
-
-cause_lacks_colon : (cause : Cause) → lacks 58 (cause_text cause) ≡ true
-cause_lacks_colon Done = refl
-cause_lacks_colon Released = refl
-cause_lacks_colon NodeLost = refl
-cause_lacks_colon AttemptOver = refl
-cause_lacks_colon NotTaken = refl
+cause_piece : (cause : Cause) → made_of (is_piece_byte 58) (cause_text cause) ≡ true
+cause_piece Done = refl
+cause_piece cause = refl
 
 closing_of : List (List ℕ) → Closing
 closing_of (id ∷ cause ∷ []) = record { id = read_container id; cause = read_cause cause }
@@ -330,20 +278,11 @@ closing_of pieces = record { id = read_container []; cause = Done }
 pub read_closing : List ℕ → Closing
 read_closing text = closing_of (cut 58 text)
 
-closing_back : (closing : Closing) → IsClosing closing → read_closing (closing_text closing) ≡ closing
-unfolding read_closing closing_of
-closing_back closing is =
-    ap closing_of (cut_at 58 (container_text closing.id) (cause_text closing.cause) (container_lacks 58 closing.id refl is)
-    ∙ ap (λ (ps : List (List ℕ)). container_text closing.id ∷ ps) (cut_last 58 (cause_text closing.cause) (cause_lacks_colon closing.cause)))
-    ∙ rw (container_back closing.id is, cause_back closing.cause) refl
-
 pub closing_comes_back : (closing : Closing) → IsClosing closing → ComesBack closing_text read_closing (λ x. x) closing
-closing_comes_back closing is = record {
-  no_comma = lacks-append 44 (container_text closing.id) (codes ":" ++ cause_text closing.cause) (container_lacks 44 closing.id refl is) (cause_lacks_comma closing.cause);
-  some = some-append (container_text closing.id) (codes ":" ++ cause_text closing.cause) (container_not_nil closing.id);
-  word = made_of-append is_word_byte (container_text closing.id) (codes ":" ++ cause_text closing.cause) (container_word closing.id is) (cause_word closing.cause);
-  back = closing_back closing is;
-}
+unfolding read_closing closing_of
+closing_comes_back closing is =
+    joined_comes_back closing_text closing_of (λ x. x) closing 58 (container_text closing.id) (cause_text closing.cause ∷ []) refl refl refl (container_not_nil closing.id)
+    (container_piece 58 closing.id refl is, (cause_piece closing.cause, tt)) (rw (container_back closing.id is, cause_back closing.cause) refl)
 
 -- ---- items by their containers alone
 

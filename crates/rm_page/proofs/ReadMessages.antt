@@ -1,6 +1,5 @@
 -- Messages, read back from their texts.
-use Rattle.std.proofs.Common.{◌≡◌, ℕ, cond, List, [], ◌∷◌, ◌++◌, map, All, refl, sym, ap, ◌∙◌, arith, codes}
-use Rattle.std.specs.Fmt.{decimal}
+use Rattle.std.proofs.Common.{◌≡◌, ℕ, cond, List, [], ◌∷◌, map, All, refl, sym, ap, ◌∙◌, arith, codes}
 use Rattle.std.specs.Str.{bytes_eq}
 use Rattle.std.proofs.lemmas.List.Elements.{All-weaker}
 use Rattle.rm_types.specs.declared.containers.Ask.{Ask}
@@ -19,14 +18,15 @@ use Rattle.rm_types.specs.declared.messages.NodeAsk.TheVariants.{Register as Joi
 use Rattle.rm_types.specs.declared.operations.Submission.{Submission}
 use Rattle.rm_types.specs.declared.resources.Resource.{Resource}
 use Rattle.rm_types.specs.declared.texts.TextKind.TheVariants.{Note, AclText}
-use Rattle.rm_types.specs.IdTexts.{app_text, attempt_text, container_text, IsContainerId}
-use Rattle.rm_model.specs.Wording.{spaced, list_word, text_word, held_text, ask_text, message_words, message_text}
+use Rattle.rm_formats.specs.IdTexts.{app_text, attempt_text, container_text}
+use Rattle.rm_types.specs.Ranges.{IsContainerId}
+use Rattle.rm_formats.specs.Wording.{spaced, list_word, text_word, held_text, ask_text, message_words, message_text}
 use Rattle.rm_ids.specs.Digits.{value_of}
 use Rattle.rm_page.specs.Ranges.{IsMessage, IsHeld, IsAsk}
-use Rattle.rm_page.proofs.Bytes.{number_word, name_word, node_word, AreWords, AreWords-append, words_lack, number_back, text_lacks, cut, join_cut, EachLacks, EachLacks-append, behind}
-use Rattle.rm_page.proofs.ReadIds.{read_app, read_attempt, read_container, app_word, attempt_word, app_back, attempt_back}
-use Rattle.rm_page.proofs.ReadOperations.{cut_words, cut_words_last, cut_with_last, last_lacks, read_submission, submission_front, submission_pieces, submission_are, submission_back}
-use Rattle.rm_page.proofs.ReadLists.{ComesBack, read_list, whole_list_back, list_word_is, word_at, ask_word, release_word, running_word, done_word, lone_running_word, read_ask, ask_comes_back, read_held, held_comes_back, containers_come_back}
+use Rattle.rm_page.proofs.Bytes.{number_back, text_lacks, cut, join_cut, EachMade-append, EachLacks, behind, is_word_byte, number_word, name_word, node_word, AreWords, words_lack, EachLacks-append}
+use Rattle.rm_page.proofs.ReadIds.{app_word, attempt_word, read_app, read_attempt, read_container, app_back, attempt_back}
+use Rattle.rm_page.proofs.ReadOperations.{cut_all, cut_words_last, cut_with_last, last_lacks, read_submission, submission_pieces, submission_front, submission_are, submission_back}
+use Rattle.rm_page.proofs.ReadLists.{ComesBack, read_list, whole_list_back, list_word_is, word_at, ask_word, release_word, running_word, done_word, lone_running_word, containers_come_back, read_held, held_comes_back, read_ask, ask_comes_back}
 
 -- ---- how they are read
 
@@ -136,7 +136,7 @@ message_are (Master attempt (Allocate id asks release)) is = (
       refl,
       (
         number_word id (omega (arith, is.1.0)),
-        AreWords-append (list_word (codes "ask=") (map ask_text asks)) (list_word (codes "release=") (map container_text release))
+        EachMade-append is_word_byte (list_word (codes "ask=") (map ask_text asks)) (list_word (codes "release=") (map container_text release))
             (list_word_is ask_text read_ask (λ x. x) (codes "ask=") asks refl (asks_back asks is.1.1))
             (list_word_is container_text read_container (λ x. x) (codes "release=") release refl (ids_back release is.1.2)),
       ),
@@ -170,7 +170,7 @@ message_are (Node node (Beat id running done)) is = (
       refl,
       (
         number_word id (omega (arith, is.1.0)),
-        AreWords-append (list_word (codes "running=") (map held_text running)) (list_word (codes "done=") (map container_text done))
+        EachMade-append is_word_byte (list_word (codes "running=") (map held_text running)) (list_word (codes "done=") (map container_text done))
             (list_word_is held_text read_held (λ x. x) (codes "running=") running refl (helds_back running is.1.1))
             (list_word_is container_text read_container (λ x. x) (codes "done=") done refl (ids_back done is.1.2)),
       ),
@@ -189,46 +189,22 @@ message_pieces message = message_words message
 
 pub cut_message : (message : Message) → IsMessage message → cut 32 (message_text message) ≡ message_pieces message
 unfolding message_front message_pieces
-cut_message (Client user New) is = cut_words (codes "client") (user ∷ codes "new" ∷ []) (message_are (Client user New) is)
 cut_message (Client user (Submit id submission)) is =
     cut_with_last (codes "client") (user ∷ codes "submit" ∷ app_text id ∷ submission_front submission) (codes "modify=") submission.modify (message_are (Client user (Submit id submission)) is)
-cut_message (Client user (Report id)) is = cut_words (codes "client") (user ∷ codes "report" ∷ app_text id ∷ []) (message_are (Client user (Report id)) is)
-cut_message (Client user (Kill id)) is = cut_words (codes "client") (user ∷ codes "kill" ∷ app_text id ∷ []) (message_are (Client user (Kill id)) is)
-cut_message (Master attempt Register) is = cut_words (codes "master") (attempt_text attempt ∷ codes "register" ∷ []) (message_are (Master attempt Register) is)
 cut_message (Master attempt (Finish text)) is = cut_words_last (codes "master" ∷ attempt_text attempt ∷ codes "finish" ∷ []) text (message_are (Master attempt (Finish text)) is)
-cut_message (Master attempt (Allocate id asks release)) is =
-    cut_words (codes "master") (attempt_text attempt ∷ codes "allocate" ∷ decimal id ∷ (list_word (codes "ask=") (map ask_text asks) ++ list_word (codes "release=") (map container_text release)))
-    (message_are (Master attempt (Allocate id asks release)) is)
-cut_message (Node node (Join turn capability running)) is =
-    cut_words (codes "node") (node ∷ codes "register" ∷ decimal turn ∷ (codes "memory=" ++ decimal capability.memory_mb) ∷ (codes "vcores=" ++ decimal capability.vcores) ∷ list_word (codes "running=") (map held_text running))
-    (message_are (Node node (Join turn capability running)) is)
-cut_message (Node node (Beat id running done)) is =
-    cut_words (codes "node") (node ∷ codes "beat" ∷ decimal id ∷ (list_word (codes "running=") (map held_text running) ++ list_word (codes "done=") (map container_text done)))
-    (message_are (Node node (Beat id running done)) is)
-cut_message (Clock (Tick time)) is = cut_words (codes "clock") (codes "tick" ∷ decimal time ∷ []) (message_are (Clock (Tick time)) is)
-cut_message (Clock (ExpireNode node)) is = cut_words (codes "clock") (codes "expire" ∷ codes "node" ∷ node ∷ []) (message_are (Clock (ExpireNode node)) is)
-cut_message (Clock (ExpireMaster attempt)) is = cut_words (codes "clock") (codes "expire" ∷ codes "master" ∷ attempt_text attempt ∷ []) (message_are (Clock (ExpireMaster attempt)) is)
+cut_message message is = cut_all (message_words message) refl (message_are message is)
 
 -- no line feed stands in a message's words
 pub message_lacks_feed : (message : Message) → IsMessage message → EachLacks 10 (message_words message)
 unfolding message_front
-message_lacks_feed (Client user New) is = words_lack 10 (message_words (Client user New)) refl (message_are (Client user New) is)
 message_lacks_feed (Client user (Submit id submission)) is =
     EachLacks-append 10 (message_front (Client user (Submit id submission))) (text_word (codes "modify=") submission.modify)
     (words_lack 10 (message_front (Client user (Submit id submission))) refl (message_are (Client user (Submit id submission)) is))
     (last_lacks 10 (codes "modify=") submission.modify refl (text_lacks AclText 10 submission.modify refl is.1.1.modify))
-message_lacks_feed (Client user (Report id)) is = words_lack 10 (message_words (Client user (Report id))) refl (message_are (Client user (Report id)) is)
-message_lacks_feed (Client user (Kill id)) is = words_lack 10 (message_words (Client user (Kill id))) refl (message_are (Client user (Kill id)) is)
-message_lacks_feed (Master attempt Register) is = words_lack 10 (message_words (Master attempt Register)) refl (message_are (Master attempt Register) is)
 message_lacks_feed (Master attempt (Finish text)) is =
     EachLacks-append 10 (message_front (Master attempt (Finish text))) (text ∷ [])
     (words_lack 10 (message_front (Master attempt (Finish text))) refl (message_are (Master attempt (Finish text)) is)) (text_lacks Note 10 text refl is.1, tt)
-message_lacks_feed (Master attempt (Allocate id asks release)) is =
-    words_lack 10 (message_words (Master attempt (Allocate id asks release))) refl (message_are (Master attempt (Allocate id asks release)) is)
-message_lacks_feed (Node node (Join turn capability running)) is =
-    words_lack 10 (message_words (Node node (Join turn capability running))) refl (message_are (Node node (Join turn capability running)) is)
-message_lacks_feed (Node node (Beat id running done)) is = words_lack 10 (message_words (Node node (Beat id running done))) refl (message_are (Node node (Beat id running done)) is)
-message_lacks_feed (Clock ask) is = words_lack 10 (message_words (Clock ask)) refl (message_are (Clock ask) is)
+message_lacks_feed message is = words_lack 10 (message_words message) refl (message_are message is)
 
 -- ---- and come back
 

@@ -1,5 +1,5 @@
 -- Store operations, read back from their texts.
-use Rattle.std.proofs.Common.{◌≡◌, ℕ, true, cond, List, [], ◌∷◌, ◌++◌, refl, sym, ap, ◌∙◌, arith, codes}
+use Rattle.std.proofs.Common.{◌≡◌, ℕ, true, false, cond, List, [], ◌∷◌, ◌++◌, refl, sym, ap, ◌∙◌, arith, codes}
 use Rattle.std.specs.Fmt.{decimal}
 use Rattle.std.specs.Str.{bytes_eq}
 use Rattle.std.proofs.lemmas.List.{append-nil}
@@ -9,17 +9,23 @@ use Rattle.rm_types.specs.declared.operations.Op.{Op}
 use Rattle.rm_types.specs.declared.operations.Op.TheVariants.{Epoch, App, Attempt, AttemptEnd, AppEnd, Remove}
 use Rattle.rm_types.specs.declared.operations.Submission.{Submission}
 use Rattle.rm_types.specs.declared.texts.TextKind.TheVariants.{Note, AclText}
-use Rattle.rm_types.specs.Frames.{IsSubmission, CanBeFramed}
-use Rattle.rm_types.specs.IdTexts.{app_text, attempt_text, container_text}
-use Rattle.rm_model.specs.Wording.{spaced, text_word, how_text, op_words, op_text}
+use Rattle.rm_types.specs.Lists.{is_nil}
+use Rattle.rm_types.specs.Ranges.{IsSubmission, IsOperation}
+use Rattle.rm_formats.specs.IdTexts.{app_text, attempt_text, container_text}
+use Rattle.rm_formats.specs.Wording.{spaced, text_word, how_text, op_words, op_text}
 use Rattle.rm_ids.specs.Digits.{value_of}
-use Rattle.rm_page.proofs.Bytes.{made_of, lacks, lacks-append, is_word_byte, number_word, name_word, node_word, queue_word, AreWords, words_lack, number_back, text_lacks, cut, cut_joined, cut_joined_last, join_cut, EachLacks, EachLacks-append, behind, behind_is}
-use Rattle.rm_page.proofs.ReadIds.{read_app, read_attempt, read_container, app_word, attempt_word, container_word, app_back, attempt_back, container_back}
+use Rattle.rm_page.proofs.Bytes.{made_of, lacks, lacks-append, number_back, text_lacks, cut, join_cut, EachLacks, cut_joined, cut_joined_last, behind, behind_is, is_word_byte, number_word, name_word, node_word, queue_word, AreWords, words_lack, EachLacks-append}
+use Rattle.rm_page.proofs.ReadIds.{app_word, attempt_word, container_word, read_app, read_attempt, read_container, app_back, attempt_back, container_back}
 
 -- ---- words between spaces
 
 pub cut_words : (word : List ℕ) (words : List (List ℕ)) → AreWords (word ∷ words) → cut 32 (spaced (word ∷ words)) ≡ word ∷ words
 cut_words word words are = cut_joined 32 word words (words_lack 32 (word ∷ words) refl are)
+
+-- the same of words of which there are some
+pub cut_all : (words : List (List ℕ)) → is_nil words ≡ false → AreWords words → cut 32 (spaced words) ≡ words
+cut_all [] some are = absurd cc
+cut_all (word ∷ words) some are = cut_words word words are
 
 pub cut_words_last : (words : List (List ℕ)) (last : List ℕ) → AreWords words → cut 32 (spaced (words ++ last ∷ [])) ≡ words ++ cut 32 last
 cut_words_last words last are = cut_joined_last 32 words last (words_lack 32 words refl are)
@@ -146,25 +152,21 @@ read_op [] = Epoch 0 0
 
 how_word : (how : How) → made_of is_word_byte (how_text how) ≡ true
 how_word Finished = refl
-how_word Failed = refl
-how_word Killed = refl
+how_word how = refl
 
 how_back : (how : How) → read_how (how_text how) ≡ how
 unfolding read_how
 how_back Finished = refl
-how_back Failed = refl
-how_back Killed = refl
+how_back how = refl
 
 -- the words of an operation but a text in which spaces may stand
 op_front : Op → List (List ℕ)
-op_front (Epoch next stamp) = op_words (Epoch next stamp)
 op_front (App id submission) = codes "app" ∷ app_text id ∷ (codes "user=" ++ submission.user) ∷ submission_front submission
-op_front (Attempt id master node) = op_words (Attempt id master node)
 op_front (AttemptEnd id how text) = codes "attempt-end" ∷ attempt_text id ∷ how_text how ∷ []
 op_front (AppEnd id how text) = codes "app-end" ∷ app_text id ∷ how_text how ∷ []
-op_front (Remove id) = op_words (Remove id)
+op_front op = op_words op
 
-op_are : (op : Op) → CanBeFramed op → AreWords (op_front op)
+op_are : (op : Op) → IsOperation op → AreWords (op_front op)
 unfolding op_front
 op_are (Epoch next stamp) is = (refl, (number_word next (omega (arith, is.0.1)), (number_word stamp (omega (arith, is.1.1)), tt)))
 op_are (App id submission) is = (refl, (app_word id is.0, (name_word submission.user is.1.user, submission_are submission is.1)))
@@ -173,7 +175,7 @@ op_are (AttemptEnd id how text) is = (refl, (attempt_word id is.0, (how_word how
 op_are (AppEnd id how text) is = (refl, (app_word id is.0, (how_word how, tt)))
 op_are (Remove id) is = (refl, (app_word id is, tt))
 
-pub op_back : (op : Op) → CanBeFramed op → read_op (cut 32 (op_text op)) ≡ op
+pub op_back : (op : Op) → IsOperation op → read_op (cut 32 (op_text op)) ≡ op
 unfolding read_op op_by op_word op_front
 op_back (Epoch next stamp) is =
     ap read_op (cut_words (codes "epoch") ((codes "next=" ++ decimal next) ∷ (codes "stamp=" ++ decimal stamp) ∷ []) (op_are (Epoch next stamp) is))
@@ -193,20 +195,18 @@ op_back (AppEnd id how text) is =
 op_back (Remove id) is = ap read_op (cut_words (codes "remove") (app_text id ∷ []) (op_are (Remove id) is)) ∙ rw (app_back id is) refl
 
 -- no line feed stands in an operation's words
-pub op_lacks_feed : (op : Op) → CanBeFramed op → EachLacks 10 (op_words op)
+pub op_lacks_feed : (op : Op) → IsOperation op → EachLacks 10 (op_words op)
 unfolding op_front
-op_lacks_feed (Epoch next stamp) is = words_lack 10 (op_words (Epoch next stamp)) refl (op_are (Epoch next stamp) is)
 op_lacks_feed (App id submission) is =
     EachLacks-append 10 (op_front (App id submission)) (text_word (codes "modify=") submission.modify) (words_lack 10 (op_front (App id submission)) refl (op_are (App id submission) is))
     (last_lacks 10 (codes "modify=") submission.modify refl (text_lacks AclText 10 submission.modify refl is.1.modify))
-op_lacks_feed (Attempt id master node) is = words_lack 10 (op_words (Attempt id master node)) refl (op_are (Attempt id master node) is)
 op_lacks_feed (AttemptEnd id how text) is =
     EachLacks-append 10 (op_front (AttemptEnd id how text)) ((codes "text=" ++ text) ∷ []) (words_lack 10 (op_front (AttemptEnd id how text)) refl (op_are (AttemptEnd id how text) is))
     (text_lacks Note 10 text refl is.1, tt)
 op_lacks_feed (AppEnd id how text) is =
     EachLacks-append 10 (op_front (AppEnd id how text)) ((codes "text=" ++ text) ∷ []) (words_lack 10 (op_front (AppEnd id how text)) refl (op_are (AppEnd id how text) is))
     (text_lacks Note 10 text refl is.1, tt)
-op_lacks_feed (Remove id) is = words_lack 10 (op_words (Remove id)) refl (op_are (Remove id) is)
+op_lacks_feed op is = words_lack 10 (op_words op) refl (op_are op is)
 
-pub ops_apart : (a b : Op) → CanBeFramed a → CanBeFramed b → op_text a ≡ op_text b → a ≡ b
+pub ops_apart : (a b : Op) → IsOperation a → IsOperation b → op_text a ≡ op_text b → a ≡ b
 ops_apart a b is_a is_b e = sym (op_back a is_a) ∙ ap (λ (text : List ℕ). read_op (cut 32 text)) e ∙ op_back b is_b

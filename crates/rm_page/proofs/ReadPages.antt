@@ -10,7 +10,8 @@ use Rattle.rm_types.specs.declared.entries.Entry.TheVariants as entries
 use Rattle.rm_types.specs.declared.messages.Lane.{Lane}
 use Rattle.rm_types.specs.declared.messages.Lane.TheVariants as lanes
 use Rattle.rm_types.specs.Lists.{is_nil}
-use Rattle.rm_model.specs.Page.{line_of, lane_letter, lane_of_entry, letters, moves_line, page}
+use Rattle.rm_formats.specs.Page.{line_of, lane_letter, letters, moves_line, page}
+use Rattle.rm_types.specs.Lanes.{lane_of_entry}
 use Rattle.rm_page.specs.Ranges.{IsEntry}
 use Rattle.rm_page.specs.Shown.{shown, is_silent, shown_log}
 use Rattle.rm_page.proofs.Bytes.{lacks, lacks-append, cut, cut_at, behind}
@@ -26,21 +27,9 @@ record PageIs (log : List Entry) : Type 0 where
   pub back : map read_line bodies ≡ shown_log log
 
 silent_line : (entry : Entry) → is_silent entry ≡ true → line_of entry ≡ []
-silent_line (entries.Opened landed epoch stamp) silent = absurd cc
-silent_line (entries.Issued op) silent = absurd cc
 silent_line entries.Handed silent = refl
-silent_line (entries.Kept op) silent = absurd cc
-silent_line (entries.Blown passed) silent = absurd cc
-silent_line (entries.Served sender message reply) silent = absurd cc
-silent_line (entries.Accepted app) silent = absurd cc
-silent_line (entries.Queued attempt) silent = absurd cc
-silent_line (entries.Absorbed node taken ended) silent = absurd cc
-silent_line (entries.Pass node grants) silent = absurd cc
-silent_line (entries.Ordered container node) silent = absurd cc
-silent_line (entries.Ended cause list) silent = absurd cc
-silent_line entries.Settled silent = absurd cc
-silent_line entries.Down silent = absurd cc
 silent_line (entries.Quiet lane) silent = refl
+silent_line entry silent = absurd cc
 
 shown_log-silent : (entry : Entry) (log : List Entry) → is_silent entry ≡ true → shown_log (entry ∷ log) ≡ shown_log log
 shown_log-silent entry log silent =
@@ -125,27 +114,11 @@ lane_of_letter letter =
 lane_back : (lane : Lane) (more : List ℕ) → map lane_of_letter (lane_letter lane ++ more) ≡ lane ∷ map lane_of_letter more
 unfolding lane_of_letter
 lane_back lanes.Client more = refl
-lane_back lanes.Master more = refl
-lane_back lanes.Node more = refl
-lane_back lanes.Clock more = refl
-lane_back lanes.Main more = refl
-lane_back lanes.Sched more = refl
-lane_back lanes.Hand more = refl
-lane_back lanes.Write more = refl
-lane_back lanes.End more = refl
-lane_back lanes.Begin more = refl
+lane_back lane more = refl
 
 lane_lacks_feed : (lane : Lane) → lacks 10 (lane_letter lane) ≡ true
 lane_lacks_feed lanes.Client = refl
-lane_lacks_feed lanes.Master = refl
-lane_lacks_feed lanes.Node = refl
-lane_lacks_feed lanes.Clock = refl
-lane_lacks_feed lanes.Main = refl
-lane_lacks_feed lanes.Sched = refl
-lane_lacks_feed lanes.Hand = refl
-lane_lacks_feed lanes.Write = refl
-lane_lacks_feed lanes.End = refl
-lane_lacks_feed lanes.Begin = refl
+lane_lacks_feed lane = refl
 
 letters_back : (log : List Entry) → map lane_of_letter (letters log) ≡ map lane_of_entry log
 letters_back [] = refl

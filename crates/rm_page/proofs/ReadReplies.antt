@@ -15,15 +15,15 @@ use Rattle.rm_types.specs.declared.replies.Reply.TheVariants as replies
 use Rattle.rm_types.specs.declared.replies.StateWord.{StateWord}
 use Rattle.rm_types.specs.declared.replies.StateWord.TheVariants as states
 use Rattle.rm_types.specs.declared.texts.TextKind.TheVariants.{Note, Queue}
-use Rattle.rm_types.specs.Frames.{IsText}
-use Rattle.rm_types.specs.IdTexts.{app_text, container_text}
-use Rattle.rm_model.specs.Wording.{spaced, listed, bracketed, acl_op_text, state_text, grant_text, closing_text, reply_words, reply_text}
+use Rattle.rm_types.specs.Ranges.{IsText}
+use Rattle.rm_formats.specs.IdTexts.{container_text}
+use Rattle.rm_formats.specs.Wording.{spaced, listed, acl_op_text, state_text, grant_text, closing_text, reply_words, reply_text}
 use Rattle.rm_ids.specs.Digits.{value_of}
 use Rattle.rm_page.specs.Ranges.{IsReply, IsGrant, IsClosing}
 use Rattle.rm_page.specs.Shown.{told_grant, shown_reply}
-use Rattle.rm_page.proofs.Bytes.{made_of, is_word_byte, number_word, name_word, queue_word, AreWords, words_lack, number_back, text_lacks, cut, EachLacks, EachLacks-append, behind}
-use Rattle.rm_page.proofs.ReadIds.{read_app, read_container, app_word, app_back}
-use Rattle.rm_page.proofs.ReadOperations.{cut_words, cut_words_last, read_last, last_back}
+use Rattle.rm_page.proofs.Bytes.{made_of, number_back, text_lacks, cut, EachLacks, behind, is_word_byte, number_word, name_word, queue_word, AreWords, words_lack, EachLacks-append}
+use Rattle.rm_page.proofs.ReadIds.{app_word, read_app, read_container, app_back}
+use Rattle.rm_page.proofs.ReadOperations.{cut_all, cut_words_last, read_last, last_back}
 use Rattle.rm_page.proofs.ReadLists.{ComesBack, read_list, whole_list_back, listed_word, read_bracketed, bracketed_back, bracketed_word, texts_come_back, read_grant, grant_comes_back, read_closing, closing_comes_back}
 use Rattle.rm_page.proofs.ReadMessages.{ids_back}
 
@@ -114,24 +114,12 @@ acl_op_back ToKill = refl
 
 state_word : (state : StateWord) → made_of is_word_byte (state_text state) ≡ true
 state_word states.New = refl
-state_word states.NewSaving = refl
-state_word states.Submitted = refl
-state_word states.Accepted = refl
-state_word states.Running = refl
-state_word states.Finished = refl
-state_word states.Failed = refl
-state_word states.Killed = refl
+state_word state = refl
 
 state_back : (state : StateWord) → read_state (state_text state) ≡ state
 unfolding read_state
 state_back states.New = refl
-state_back states.NewSaving = refl
-state_back states.Submitted = refl
-state_back states.Accepted = refl
-state_back states.Running = refl
-state_back states.Finished = refl
-state_back states.Failed = refl
-state_back states.Killed = refl
+state_back state = refl
 
 names_come_back : (names : List (List ℕ)) → All (IsText Queue) names → All (ComesBack (λ x. x) (λ x. x) (λ x. x)) names
 names_come_back names all = All-weaker (IsText Queue) (ComesBack (λ x. x) (λ x. x) (λ x. x)) texts_come_back names all
@@ -201,25 +189,7 @@ reply_are (replies.Beat id launch clean) is = (
     (bracketed_word container_text read_container (λ x. x) launch (ids_back launch is.1), (bracketed_word container_text read_container (λ x. x) clean (ids_back clean is.2), tt)),
   ),
 )
-reply_are replies.NotOpen is = (refl, tt)
-reply_are replies.Submitted is = (refl, tt)
-reply_are replies.BadId is = (refl, tt)
-reply_are replies.Retired is = (refl, tt)
-reply_are replies.NoQueue is = (refl, tt)
-reply_are replies.TooLarge is = (refl, tt)
-reply_are replies.Full is = (refl, tt)
-reply_are replies.Unknown is = (refl, tt)
-reply_are replies.Killing is = (refl, tt)
-reply_are replies.AppEnded is = (refl, tt)
-reply_are replies.MasterRegistered is = (refl, tt)
-reply_are replies.Already is = (refl, tt)
-reply_are replies.Gone is = (refl, tt)
-reply_are replies.Resync is = (refl, tt)
-reply_are replies.WrongId is = (refl, tt)
-reply_are replies.NotRegistered is = (refl, tt)
-reply_are replies.Finishing is = (refl, tt)
-reply_are replies.Finished is = (refl, tt)
-reply_are replies.Ok is = (refl, tt)
+reply_are reply is = (refl, tt)
 
 -- the pieces of a reply's text
 unfoldable pub reply_pieces : Reply → List (List ℕ)
@@ -228,36 +198,8 @@ reply_pieces reply = reply_words reply
 
 pub cut_reply : (reply : Reply) → IsReply reply → cut 32 (reply_text reply) ≡ reply_pieces reply
 unfolding reply_front reply_pieces
-cut_reply (replies.New id) is = cut_words (codes "new") (app_text id ∷ []) (reply_are (replies.New id) is)
-cut_reply (replies.Denied denial) is = cut_words (codes "DENIED") (acl_op_text denial.op ∷ denial.queue ∷ codes "by" ∷ listed denial.lists ∷ []) (reply_are (replies.Denied denial) is)
 cut_reply (replies.Report report) is = cut_words_last (report_front report) (codes "text=" ++ report.text) (reply_are (replies.Report report) is)
-cut_reply (replies.Allocated id grants ended) is =
-    cut_words (codes "allocated") ((codes "id=" ++ decimal id) ∷ (codes "grants=" ++ bracketed (map grant_text grants)) ∷ (codes "ended=" ++ bracketed (map closing_text ended)) ∷ [])
-    (reply_are (replies.Allocated id grants ended) is)
-cut_reply (replies.NodeRegistered turn epoch) is =
-    cut_words (codes "registered") ((codes "turn=" ++ decimal turn) ∷ (codes "epoch=" ++ decimal epoch) ∷ []) (reply_are (replies.NodeRegistered turn epoch) is)
-cut_reply (replies.Beat id launch clean) is =
-    cut_words (codes "beat") ((codes "id=" ++ decimal id) ∷ (codes "launch=" ++ bracketed (map container_text launch)) ∷ (codes "clean=" ++ bracketed (map container_text clean)) ∷ [])
-    (reply_are (replies.Beat id launch clean) is)
-cut_reply replies.NotOpen is = cut_words (codes "NOTOPEN") [] (refl, tt)
-cut_reply replies.Submitted is = cut_words (codes "submitted") [] (refl, tt)
-cut_reply replies.BadId is = cut_words (codes "BADID") [] (refl, tt)
-cut_reply replies.Retired is = cut_words (codes "RETIRED") [] (refl, tt)
-cut_reply replies.NoQueue is = cut_words (codes "NOQUEUE") [] (refl, tt)
-cut_reply replies.TooLarge is = cut_words (codes "TOOLARGE") [] (refl, tt)
-cut_reply replies.Full is = cut_words (codes "FULL") [] (refl, tt)
-cut_reply replies.Unknown is = cut_words (codes "UNKNOWN") [] (refl, tt)
-cut_reply replies.Killing is = cut_words (codes "killing") [] (refl, tt)
-cut_reply replies.AppEnded is = cut_words (codes "ended") [] (refl, tt)
-cut_reply replies.MasterRegistered is = cut_words (codes "registered") [] (refl, tt)
-cut_reply replies.Already is = cut_words (codes "ALREADY") [] (refl, tt)
-cut_reply replies.Gone is = cut_words (codes "GONE") [] (refl, tt)
-cut_reply replies.Resync is = cut_words (codes "RESYNC") [] (refl, tt)
-cut_reply replies.WrongId is = cut_words (codes "WRONGID") [] (refl, tt)
-cut_reply replies.NotRegistered is = cut_words (codes "NOTREGISTERED") [] (refl, tt)
-cut_reply replies.Finishing is = cut_words (codes "finishing") [] (refl, tt)
-cut_reply replies.Finished is = cut_words (codes "finished") [] (refl, tt)
-cut_reply replies.Ok is = cut_words (codes "ok") [] (refl, tt)
+cut_reply reply is = cut_all (reply_words reply) refl (reply_are reply is)
 
 -- no line feed stands in a reply's words
 pub reply_lacks_feed : (reply : Reply) → IsReply reply → EachLacks 10 (reply_words reply)
@@ -290,25 +232,7 @@ reply_pieces_back (replies.Beat id launch clean) is =
       map-id launch,
       map-id clean,
     ) refl
-reply_pieces_back replies.NotOpen is = refl
-reply_pieces_back replies.Submitted is = refl
-reply_pieces_back replies.BadId is = refl
-reply_pieces_back replies.Retired is = refl
-reply_pieces_back replies.NoQueue is = refl
-reply_pieces_back replies.TooLarge is = refl
-reply_pieces_back replies.Full is = refl
-reply_pieces_back replies.Unknown is = refl
-reply_pieces_back replies.Killing is = refl
-reply_pieces_back replies.AppEnded is = refl
-reply_pieces_back replies.MasterRegistered is = refl
-reply_pieces_back replies.Already is = refl
-reply_pieces_back replies.Gone is = refl
-reply_pieces_back replies.Resync is = refl
-reply_pieces_back replies.WrongId is = refl
-reply_pieces_back replies.NotRegistered is = refl
-reply_pieces_back replies.Finishing is = refl
-reply_pieces_back replies.Finished is = refl
-reply_pieces_back replies.Ok is = refl
+reply_pieces_back reply is = refl
 
 pub reply_back : (reply : Reply) → IsReply reply → read_reply (cut 32 (reply_text reply)) ≡ shown_reply reply
 reply_back reply is = ap read_reply (cut_reply reply is) ∙ reply_pieces_back reply is

@@ -4,15 +4,16 @@ use Rattle.rm_types.specs.declared.entries.Entry.{Entry}
 use Rattle.rm_types.specs.declared.messages.Message.{Message}
 use Rattle.rm_types.specs.declared.operations.Op.{Op}
 use Rattle.rm_types.specs.declared.replies.Reply.{Reply}
-use Rattle.rm_types.specs.Frames.{CanBeFramed}
-use Rattle.rm_model.specs.Wording.{message_text, op_text, reply_text}
-use Rattle.rm_model.specs.Page.{line_of, page, lane_of_entry}
+use Rattle.rm_types.specs.Ranges.{IsOperation}
+use Rattle.rm_formats.specs.Wording.{message_text, op_text, reply_text}
+use Rattle.rm_formats.specs.Page.{line_of, page}
+use Rattle.rm_types.specs.Lanes.{lane_of_entry}
 use Rattle.rm_page.specs.Ranges.{IsMessage, IsReply, IsEntry}
 use Rattle.rm_page.specs.Shown.{shown_reply, shown, is_silent, shown_log}
 
 -- no two operations have one text
 abbrev pub OpTextsAreApart : Type 0
-OpTextsAreApart = (a b : Op) → CanBeFramed a → CanBeFramed b → op_text a ≡ op_text b → a ≡ b
+OpTextsAreApart = (a b : Op) → IsOperation a → IsOperation b → op_text a ≡ op_text b → a ≡ b
 
 -- no two messages have one text
 abbrev pub MessageTextsAreApart : Type 0

@@ -22,8 +22,7 @@ use Rattle.rm_types.specs.declared.replies.Reply.{Reply}
 use Rattle.rm_types.specs.declared.replies.Reply.TheVariants as replies
 use Rattle.rm_types.specs.declared.replies.Report.{Report}
 use Rattle.rm_types.specs.declared.texts.TextKind.TheVariants.{Name, Node, Queue, Note}
-use Rattle.rm_types.specs.Frames.{IsText, IsSubmission, CanBeFramed}
-use Rattle.rm_types.specs.IdTexts.{IsAppId, IsAttemptId, IsContainerId}
+use Rattle.rm_types.specs.Ranges.{IsText, IsSubmission, IsOperation, IsAppId, IsAttemptId, IsContainerId}
 use Rattle.rm_types.specs.Resources.{IsInRange}
 
 -- a number of 32 bits
@@ -128,9 +127,9 @@ pub record IsServed (message : Message) (reply : Reply) : Type 0 where
 -- an entry
 abbrev pub IsEntry : Entry → Type 0
 IsEntry (entries.Opened landed epoch stamp) = IsWord32 landed × IsWord32 epoch × IsWord64 stamp
-IsEntry (entries.Issued op) = CanBeFramed op
+IsEntry (entries.Issued op) = IsOperation op
 IsEntry entries.Handed = Unit {0}
-IsEntry (entries.Kept op) = CanBeFramed op
+IsEntry (entries.Kept op) = IsOperation op
 IsEntry (entries.Blown passed) = IsWord32 passed
 IsEntry (entries.Served sender message reply) = IsServed message reply
 IsEntry (entries.Accepted app) = IsAppId app

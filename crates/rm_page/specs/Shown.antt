@@ -7,7 +7,7 @@ use Rattle.rm_types.specs.declared.entries.Entry.TheVariants.{Handed, Served, Ab
 use Rattle.rm_types.specs.declared.replies.Reply.{Reply}
 use Rattle.rm_types.specs.declared.replies.Reply.TheVariants.{Allocated}
 use Rattle.rm_types.specs.declared.resources.Resource.{Resource}
-use Rattle.rm_model.specs.Replies.{sender_of}
+use Rattle.rm_types.specs.Lanes.{sender_of}
 
 -- a size that isn't shown
 abbrev pub no_size : Resource

@@ -1,6 +1,7 @@
 ghost use Rattle.std.specs.Prelude.{◌≡◌, [], ◌∷◌, ◌++◌, codes, OnOk};
-ghost use Rattle.rm_model.specs.Wording.{message_words, op_words, reply_words};
-ghost use Rattle.rm_model.specs.Page.{line, line_of, lane_letter, feed_lane, lane_of_entry};
+ghost use Rattle.rm_formats.specs.Wording.{message_words, op_words, reply_words};
+ghost use Rattle.rm_formats.specs.Page.{line, line_of, lane_letter};
+ghost use Rattle.rm_types.specs.Lanes.{feed_lane, lane_of_entry};
 
 use crate::lists::{ByContainer, Whole, cause_text};
 use crate::writing::Lines;
@@ -19,11 +20,11 @@ impl Lines {
                 epoch,
                 stamp,
             } => self.opened_line(*landed, *epoch, *stamp),
-            Entry::Issued { op } => self.op_line(b"issued", op),
+            Entry::Issued { op } => self.op_line(b"issued", op.get()),
             Entry::Handed | Entry::Quiet { .. } => Ok(()),
-            Entry::Kept { op } => self.op_line(b"kept", op),
+            Entry::Kept { op } => self.op_line(b"kept", op.get()),
             Entry::Blown { passed } => self.blown_line(*passed),
-            Entry::Served { message, reply, .. } => self.served_line(message, reply),
+            Entry::Served { message, reply, .. } => self.served_line(message.get(), reply.get()),
             Entry::Accepted { app } => {
                 self.text(b"accepted ")?;
                 self.app(*app)?;
@@ -34,9 +35,13 @@ impl Lines {
                 self.attempt(*attempt)?;
                 self.text(b"\n")
             }
-            Entry::Absorbed { node, taken, ended } => self.absorbed_line(node, taken, ended),
-            Entry::Pass { node, grants } => self.pass_line(node, grants),
-            Entry::Ordered { container, node } => self.ordered_line(*container, node),
+            Entry::Absorbed { node, taken, ended } => self.absorbed_line(
+                node.get(),
+                taken.get(),
+                ended.get(),
+            ),
+            Entry::Pass { node, grants } => self.pass_line(node.get(), grants.get()),
+            Entry::Ordered { container, node } => self.ordered_line(*container.get(), node.get()),
             Entry::Ended { cause, list } => self.ended_line(*cause, list),
             Entry::Settled => self.text(b"settled\n"),
             Entry::Down => self.text(b"down\n"),

@@ -4,12 +4,11 @@
 //! It also promises what a page tells: no two operations and no two messages have one text, and a line
 //! determines all of its entry but what `Shown` names.
 //!
-//! It stands on `rm_types` for the values, on `rm_model` for the definitions, and on `itoa` for digits; its
-//! proofs use those of `rm_ids`.
+//! It stands on `rm_types` for the values, on `rm_formats` for the definitions, on `rm_ids` for the texts of ids,
+//! and on `itoa` for digits.
 #![tactic(auto)]
 
 mod entries;
-mod ids;
 mod laws;
 mod lists;
 mod messages;

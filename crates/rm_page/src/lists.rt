@@ -1,7 +1,7 @@
 ghost use Rattle.std.specs.Prelude.{◌≡◌, ℕ, List, ◌∷◌, ◌++◌, map, OnOk};
 ghost use Rattle.std.specs.List.{flat_map};
-ghost use Rattle.rm_types.specs.IdTexts.{container_text};
-ghost use Rattle.rm_model.specs.Wording.{listed, bracketed, list_word, text_word, held_text, ask_text, cause_text, grant_text, closing_text};
+ghost use Rattle.rm_formats.specs.IdTexts.{container_text};
+ghost use Rattle.rm_formats.specs.Wording.{listed, bracketed, list_word, text_word, held_text, ask_text, cause_text, grant_text, closing_text};
 ghost use Rattle.rm_page.specs.Continued.{continued};
 
 use crate::writing::Lines;

@@ -1,5 +1,5 @@
 ghost use Rattle.std.specs.Prelude.{◌≡◌, ◌++◌, OnOk};
-ghost use Rattle.rm_model.specs.Wording.{client_words, master_words, node_words, clock_words, message_words};
+ghost use Rattle.rm_formats.specs.Wording.{client_words, master_words, node_words, clock_words, message_words};
 ghost use Rattle.rm_page.specs.Continued.{continued};
 
 use crate::lists::Whole;

@@ -1,5 +1,5 @@
 ghost use Rattle.std.specs.Prelude.{◌≡◌, ◌++◌, OnOk};
-ghost use Rattle.rm_model.specs.Wording.{submission_words, how_text, op_words};
+ghost use Rattle.rm_formats.specs.Wording.{submission_words, how_text, op_words};
 ghost use Rattle.rm_page.specs.Continued.{continued};
 
 use crate::writing::Lines;

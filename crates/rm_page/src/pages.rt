@@ -1,6 +1,6 @@
 ghost use Rattle.std.specs.Prelude.{◌≡◌, ◌++◌, IfOk, OnOk};
 ghost use Rattle.std.specs.List.{flat_map};
-ghost use Rattle.rm_model.specs.Page.{line_of, moves_line, letters, page, store_page};
+ghost use Rattle.rm_formats.specs.Page.{line_of, moves_line, letters, page, store_page};
 
 use crate::entries::{lane_letter, lane_of_entry};
 use crate::writing::Lines;

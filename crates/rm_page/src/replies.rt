@@ -1,5 +1,5 @@
 ghost use Rattle.std.specs.Prelude.{◌≡◌, ◌++◌, OnOk};
-ghost use Rattle.rm_model.specs.Wording.{state_text, acl_op_text, denial_words, report_words, reply_words};
+ghost use Rattle.rm_formats.specs.Wording.{state_text, acl_op_text, denial_words, report_words, reply_words};
 ghost use Rattle.rm_page.specs.Continued.{continued};
 
 use crate::lists::Whole;

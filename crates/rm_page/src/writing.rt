@@ -1,8 +1,9 @@
 ghost use Rattle.std.specs.Prelude.{◌≡◌, [], ◌∷◌, ◌++◌, decimal, OnOk};
-ghost use Rattle.rm_types.specs.IdTexts.{padded};
+ghost use Rattle.rm_formats.specs.IdTexts.{app_text, attempt_text, container_text};
 
 use itoa::Buffer;
-use rm_types::NoMemory;
+use rm_ids::{write_app, write_attempt, write_container};
+use rm_types::{AppId, AttemptId, ContainerId, NoMemory};
 use std::alloc::Global;
 use std::marker::Model;
 
@@ -64,19 +65,6 @@ impl Lines {
         self.text(buffer.format(number).as_bytes())
     }
 
-    /// Writes a number in decimal, with zeros before it up to so many digits.
-    pub fn padded(&mut self, digits: usize, number: u64) -> Result<(), NoMemory>
-        ensures { OnOk result (self.new ≡ self.old ++ padded digits number) }
-    {
-        let mut buffer = Buffer::new();
-        let numeral = buffer.format(number).as_bytes();
-        let zeros = digits.saturating_sub(numeral.len());
-        'zeros: for _zero in 0..zeros {
-            self.byte(b'0')?;
-        }
-        self.text(numeral)
-    }
-
     /// Writes a name and then a text, as `queue=Q`.
     pub fn text_field(&mut self, name: &[u8], text: &[u8]) -> Result<(), NoMemory>
         ensures { OnOk result (self.new ≡ self.old ++ name.now ++ text.now) }
@@ -91,5 +79,26 @@ impl Lines {
     {
         self.text(name)?;
         self.number(number)
+    }
+
+    /// Writes the id of an application.
+    pub fn app(&mut self, id: AppId) -> Result<(), NoMemory>
+        ensures { OnOk result (self.new ≡ self.old ++ app_text id) }
+    {
+        write_app(id, &mut self.bytes)
+    }
+
+    /// Writes the id of an attempt.
+    pub fn attempt(&mut self, id: AttemptId) -> Result<(), NoMemory>
+        ensures { OnOk result (self.new ≡ self.old ++ attempt_text id) }
+    {
+        write_attempt(id, &mut self.bytes)
+    }
+
+    /// Writes the id of a container. Epoch 0 is not shown.
+    pub fn container(&mut self, id: ContainerId) -> Result<(), NoMemory>
+        ensures { OnOk result (self.new ≡ self.old ++ container_text id) }
+    {
+        write_container(id, &mut self.bytes)
     }
 }

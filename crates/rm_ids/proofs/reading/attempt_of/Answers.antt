@@ -1,7 +1,8 @@
 use Rattle.std.proofs.Common.{◌≡◌, [], ◌∷◌, ◌++◌, ap, sym, ◌∙◌}
 use Rattle.std.specs.Prelude.{codes}
 use Rattle.rm_types.specs.declared.ids.AttemptId.{AttemptId}
-use Rattle.rm_types.specs.IdTexts.{padded, IsAttemptId}
+use Rattle.rm_formats.specs.IdTexts.{padded}
+use Rattle.rm_types.specs.Ranges.{IsAttemptId}
 use Rattle.rm_ids.specs.declared.parts.Part.TheVariants.{AttemptNumber}
 use Rattle.rm_ids.specs.Fronts.{IsAttemptText}
 use Rattle.rm_ids.specs.Steps.{AreFields, Refuses}

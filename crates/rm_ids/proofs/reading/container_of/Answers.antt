@@ -1,7 +1,7 @@
 use Rattle.std.proofs.Common.{◌++◌, ap, sym, ◌∙◌}
 use Rattle.std.specs.Prelude.{codes}
 use Rattle.rm_types.specs.declared.ids.ContainerId.{ContainerId}
-use Rattle.rm_types.specs.IdTexts.{IsContainerId}
+use Rattle.rm_types.specs.Ranges.{IsContainerId}
 use Rattle.rm_ids.specs.Fronts.{IsContainerText}
 use Rattle.rm_ids.specs.Steps.{Refuses}
 use Rattle.rm_ids.specs.Spelling.{IsGrantText, epoch_then}

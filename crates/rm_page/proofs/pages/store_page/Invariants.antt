@@ -1,5 +1,5 @@
 use Rattle.std.proofs.Common.{◌≡◌, take}
-use Rattle.rm_model.specs.Page.{store_page}
+use Rattle.rm_formats.specs.Page.{store_page}
 use Rattle.rm_page.proofs.pages.store_page.Given as goal
 
 abbrev pub invariant-ops : goal.invariant-ops

@@ -1,5 +1,5 @@
 use Rattle.std.proofs.Common.{◌≡◌, ◌++◌, take}
-use Rattle.rm_model.specs.Page.{letters}
+use Rattle.rm_formats.specs.Page.{letters}
 use Rattle.rm_page.proofs.writing.Lines.letters.Given as goal
 
 abbrev pub invariant-letters : goal.invariant-letters

@@ -1,6 +1,6 @@
 use Rattle.std.proofs.Common.{◌++◌, ap, sym}
 use Rattle.std.proofs.lemmas.List.{append_assoc}
-use Rattle.rm_model.specs.Wording.{message_words, reply_words}
+use Rattle.rm_formats.specs.Wording.{message_words, reply_words}
 use Rattle.rm_page.proofs.Joining.{line-served}
 use Rattle.rm_page.proofs.writing.Lines.served_line.Goals as goal
 
