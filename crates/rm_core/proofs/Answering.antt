@@ -17,15 +17,16 @@ use Rattle.rm_types.specs.declared.records.AppRecord.{AppRecord}
 use Rattle.rm_types.specs.declared.replies.Reply.{Reply}
 use Rattle.rm_types.specs.declared.replies.Reply.TheVariants as replies
 use Rattle.rm_types.specs.declared.settings.Settings.{Settings}
-use Rattle.rm_types.specs.Frames.{CanBeFramed}
+use Rattle.rm_types.specs.Ranges.{IsOperation}
 use Rattle.rm_types.specs.Ids.{is_app}
 use Rattle.rm_types.specs.Records.{record_of}
 use Rattle.rm_model.specs.Changes.{after_in}
 use Rattle.rm_model.specs.Facts.{is_known}
-use Rattle.rm_model.specs.Replies.{AnswersClient, next_app}
+use Rattle.rm_model.specs.ClientReplies.{client_reply, next_app}
+use Rattle.rm_model.specs.State.{Scene}
 use Rattle.rm_core.specs.declared.tables.Tables.{Tables}
 use Rattle.rm_core.specs.Told.{History, scene_in, standing, no_history}
-use Rattle.rm_core.specs.Serving.{IsBuiltAsk, IsBuiltMessage, IsServed, after_client, joined, taken}
+use Rattle.rm_core.specs.Serving.{AnswersClient, IsBuiltAsk, IsBuiltMessage, IsServed, after_client, joined, taken}
 use Rattle.rm_core.specs.Keeps.{Keeps, IsSound, Stage, none, starting, saving, running, IsRunning}
 use Rattle.rm_core.specs.InFlight.{kept_at, submitted_at}
 use Rattle.rm_core.proofs.Counts.{fails_never, is_some-find}
@@ -47,6 +48,12 @@ neither : (a b : Bool) → (a || b) ≡ false → (a ≡ false) × (b ≡ false)
 neither true b h = cc
 neither false b h = (refl, h)
 
+answered : (settings : Settings) (m : Scene) (user : List ℕ) (ask : ClientAsk) (reply : Reply) → AnswersClient settings m ask reply → reply ≡ client_reply settings m user ask
+answered settings m user New reply is = is
+answered settings m user (Submit id submission) reply is = is
+answered settings m user (Report id) reply is = is
+answered settings m user (Kill id) reply is = absurd is
+
 module _ (settings : Settings) (t : Tables) (s : IsSound settings t) (r : IsRunning t) where
   -- the answer leaves the applications as they were
   quiet_sound : (given : ℕ) → given ≤ t.served + 1 → IsSound settings (record t { given = given; served = t.served + 1 })
@@ -62,7 +69,7 @@ module _ (settings : Settings) (t : Tables) (s : IsSound settings t) (r : IsRunn
   same_given = let g = s.given in omega arith
 
   -- a submission joins
-  joins_sound : (id : AppId) (one : Submission) → CanBeFramed (App id one) → is_known (scene_in no_history t) id ≡ false → IsSound settings (more_served t (joined t id one))
+  joins_sound : (id : AppId) (one : Submission) → IsOperation (App id one) → is_known (scene_in no_history t) id ≡ false → IsSound settings (more_served t (joined t id one))
   joins_sound id one can new =
       let parts = neither (list_any (λ (other : Submitted). is_app other.id id) t.submitted) (is_some (record_of t.apps id)) new in
       let kept : kept_at id t.apps ≡ 0 = fails_never (λ (app : AppRecord). is_app app.id id) t.apps (sym (is_some-find (λ (app : AppRecord). is_app app.id id) t.apps) ∙ parts.1) in
@@ -79,11 +86,11 @@ module _ (settings : Settings) (t : Tables) (s : IsSound settings t) (r : IsRunn
         rights = s.rights;
       }
 
-  taken_sound : (id : AppId) (one : Submission) → CanBeFramed (App id one) → (b : Bool) → is_known (scene_in no_history t) id ≡ b → IsSound settings (more_served t (taken t id one))
+  taken_sound : (id : AppId) (one : Submission) → IsOperation (App id one) → (b : Bool) → is_known (scene_in no_history t) id ≡ b → IsSound settings (more_served t (taken t id one))
   taken_sound id one can true e = rw e (quiet_sound t.given same_given)
   taken_sound id one can false e = rw e (joins_sound id one can e)
 
-  submit_sound : (id : AppId) (one : Submission) (reply : Reply) → CanBeFramed (App id one) → IsSound settings (more_served t (after_client t (Submit id one) reply))
+  submit_sound : (id : AppId) (one : Submission) (reply : Reply) → IsOperation (App id one) → IsSound settings (more_served t (after_client t (Submit id one) reply))
   submit_sound id one replies.Submitted can = taken_sound id one can (is_known (scene_in no_history t) id) refl
   submit_sound id one reply can = quiet_sound t.given same_given
 
@@ -99,14 +106,14 @@ module _ (settings : Settings) (t : Tables) (s : IsSound settings t) (r : IsRunn
         → Keeps settings opening (log ++ Served Client (FromClient user ask) reply ∷ []) (record t { given = given; served = t.served + 1 })
     quiet ask reply given answers changed =
         keeps_more settings opening log t (record t { given = given; served = t.served + 1 }) (Served Client (FromClient user ask) reply) k r.alive r.alive
-        (record { serving = rw r.is_open refl; of_sender = refl; answers = rw r.is_open answers }) changed (known settings opening log t k r.alive)
+        (record { serving = rw r.is_open refl; of_sender = refl; answers = rw r.is_open (answered settings (scene_in k.history t) user ask reply answers) }) changed (known settings opening log t k r.alive)
 
     joins_keeps : (id : AppId) (one : Submission) → AnswersClient settings (scene_in k.history t) (Submit id one) replies.Submitted
         → is_known (scene_in no_history t) id ≡ false
         → Keeps settings opening (log ++ Served Client (FromClient user (Submit id one)) replies.Submitted ∷ []) (more_served t (joined t id one))
     joins_keeps id one answers new =
         keeps_more settings opening log t (more_served t (joined t id one)) (Served Client (FromClient user (Submit id one)) replies.Submitted) k r.alive r.alive
-        (record { serving = rw r.is_open refl; of_sender = refl; answers = rw r.is_open answers }) (rw new refl) (known settings opening log t k r.alive)
+        (record { serving = rw r.is_open refl; of_sender = refl; answers = rw r.is_open (answered settings (scene_in k.history t) user (Submit id one) replies.Submitted answers) }) (rw new refl) (known settings opening log t k r.alive)
 
     taken_keeps : (id : AppId) (one : Submission) (b : Bool) → is_known (scene_in no_history t) id ≡ b
         → AnswersClient settings (scene_in k.history t) (Submit id one) replies.Submitted

@@ -12,7 +12,8 @@ use Rattle.rm_types.specs.Ids.{is_app}
 use Rattle.rm_types.specs.Records.{record_of}
 use Rattle.rm_model.specs.State.{Scene}
 use Rattle.rm_model.specs.Facts.{app_issued, has_app, is_app_op, waiting_submission}
-use Rattle.rm_model.specs.Rules.{MayAccept, MayQueue, first_unissued}
+use Rattle.rm_model.specs.Rules.{MayAccept, MayQueue}
+use Rattle.rm_model.specs.Issuing.{first_unissued}
 use Rattle.rm_core.specs.declared.events.MainEvent.{MainEvent}
 use Rattle.rm_core.specs.declared.events.MainEvent.TheVariants.{AppStart, AppAccepted}
 use Rattle.rm_core.specs.declared.events.SchedEvent.{SchedEvent}

@@ -12,7 +12,7 @@ use Rattle.rm_types.specs.declared.operations.Op.TheVariants.{Epoch, App, Attemp
 use Rattle.rm_types.specs.declared.operations.Submission.{Submission}
 use Rattle.rm_types.specs.declared.operations.Submitted.{Submitted}
 use Rattle.rm_types.specs.declared.records.AppRecord.{AppRecord}
-use Rattle.rm_types.specs.Frames.{CanBeFramed}
+use Rattle.rm_types.specs.Ranges.{IsOperation}
 use Rattle.rm_types.specs.Ids.{is_app}
 use Rattle.rm_types.specs.Records.{new_record}
 use Rattle.rm_model.specs.Facts.{is_app_op}
@@ -208,7 +208,7 @@ AllFirst-push [] e h l = l
 AllFirst-push (AppAdded id ∷ sched) e h l = AllFirst-push sched e h l
 AllFirst-push (AttemptAdded attempt ∷ sched) e h l = (h.0, AllFirst-push sched e h.1 l)
 
-AllApps-push : (ops : List Op) (id : AppId) (s : Submission) → AllApps ops → CanBeFramed (App id s) → AllApps (ops ++ App id s ∷ [])
+AllApps-push : (ops : List Op) (id : AppId) (s : Submission) → AllApps ops → IsOperation (App id s) → AllApps (ops ++ App id s ∷ [])
 AllApps-push [] id s h can = (can, tt)
 AllApps-push (App one two ∷ ops) id s h can = (h.0, AllApps-push ops id s h.1 can)
 AllApps-push (Epoch next stamp ∷ ops) id s h can = absurd h
@@ -217,11 +217,11 @@ AllApps-push (AttemptEnd one how text ∷ ops) id s h can = absurd h
 AllApps-push (AppEnd one how text ∷ ops) id s h can = absurd h
 AllApps-push (Remove one ∷ ops) id s h can = absurd h
 
-AllSavable-push : (submitted : List Submitted) (one : Submitted) → AllSavable submitted → CanBeFramed (App one.id one.submission) → AllSavable (submitted ++ one ∷ [])
+AllSavable-push : (submitted : List Submitted) (one : Submitted) → AllSavable submitted → IsOperation (App one.id one.submission) → AllSavable (submitted ++ one ∷ [])
 AllSavable-push [] one h can = (can, tt)
 AllSavable-push (other ∷ submitted) one h can = (h.0, AllSavable-push submitted one h.1 can)
 
-savable_one : (one : Submitted) (more : List Submitted) (id : AppId) (b : Bool) → is_app one.id id ≡ b → CanBeFramed (App one.id one.submission)
+savable_one : (one : Submitted) (more : List Submitted) (id : AppId) (b : Bool) → is_app one.id id ≡ b → IsOperation (App one.id one.submission)
     → AllSavable (filter (is_other id) more) → AllSavable (filter (is_other id) (one ∷ more))
 savable_one one more id true e can h = rw e h
 savable_one one more id false e can h = rw e (can, h)
@@ -254,7 +254,7 @@ module _ (apps : List AppRecord) (submitted : List Submitted) (awaiting : List O
         masters = r.masters;
       }
 
-  pub start_runs : (id : AppId) (s : Submission) → CanBeFramed (App id s) → Runs apps submitted awaiting accepted asks (AppStart id ∷ main) sched
+  pub start_runs : (id : AppId) (s : Submission) → IsOperation (App id s) → Runs apps submitted awaiting accepted asks (AppStart id ∷ main) sched
       → Runs apps submitted (awaiting ++ App id s ∷ []) accepted asks main sched
   start_runs id s can r =
       record {
@@ -325,7 +325,7 @@ module _ (apps : List AppRecord) (submitted : List Submitted) (awaiting : List O
         masters = AllMasters-push asks one r.masters (ap (λ (a : AttemptId). a.number) e ∙ r.first.0) p;
       }
 
-  pub join_runs : (id : AppId) (s : Submission) → CanBeFramed (App id s) → kept_at id apps ≡ 0 → submitted_at id submitted ≡ 0
+  pub join_runs : (id : AppId) (s : Submission) → IsOperation (App id s) → kept_at id apps ≡ 0 → submitted_at id submitted ≡ 0
       → Runs apps submitted awaiting accepted asks main sched
       → Runs apps (submitted ++ record { id = id; submission = s } ∷ []) awaiting accepted asks (main ++ AppStart id ∷ []) sched
   join_runs id s can kept new r =

@@ -10,9 +10,6 @@ is_app-refl a = grind (arith, nat_tests)
 pub is_app_same : (a b : AppId) → is_app a b ≡ true → a ≡ b
 is_app_same a b h = grind (arith, nat_tests)
 
-pub is_app_comm : (a b : AppId) → is_app a b ≡ is_app b a
-is_app_comm a b = grind (arith, nat_tests)
-
 -- the same two ids are tested alike
 pub same_test : (a b q : AppId) → is_app a b ≡ true → is_app a q ≡ is_app b q
 same_test a b q h = grind (arith, nat_tests)

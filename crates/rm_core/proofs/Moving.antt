@@ -14,12 +14,11 @@ use Rattle.rm_types.specs.declared.operations.Op.TheVariants.{Epoch, App, Attemp
 use Rattle.rm_types.specs.declared.operations.Submission.{Submission}
 use Rattle.rm_types.specs.declared.settings.Settings.{Settings}
 use Rattle.rm_types.specs.Lists.{is_nil}
-use Rattle.rm_types.specs.Frames.{CanBeFramed}
-use Rattle.rm_types.specs.Records.{Records, records, fits_records}
+use Rattle.rm_types.specs.Ranges.{IsOperation}
+use Rattle.rm_types.specs.Records.{Records, records, fits_records, record_of}
 use Rattle.rm_model.specs.State.{Manager}
 use Rattle.rm_types.specs.declared.records.AppRecord.{AppRecord}
 use Rattle.rm_types.specs.Ids.{is_app}
-use Rattle.rm_types.specs.Records.{record_of}
 use Rattle.rm_model.specs.Facts.{is_app_op, kept_attempts, waiting_submission}
 use Rattle.rm_model.specs.Lawful.{state_after}
 use Rattle.rm_core.specs.declared.events.MainEvent.{MainEvent}
@@ -351,19 +350,19 @@ settle_does settings log longer t s (Ok x) ok ready err =
 settle_does settings log longer t s (Err e) ok ready err = refused Settle settings log longer t t e s refl
 
 -- what is with the store has its parts in their ranges
-saving_framed : (t : Tables) → t.epoch < 2 ^ 24 → IsSaving t → (op : Op) → handed_op t ≡ Some op → CanBeFramed op
+saving_framed : (t : Tables) → t.epoch < 2 ^ 24 → IsSaving t → (op : Op) → handed_op t ≡ Some op → IsOperation op
 saving_framed t low s op h = saves t.handed refl
   where
-    within : CanBeFramed (Epoch (t.epoch + 1) t.stamp)
+    within : IsOperation (Epoch (t.epoch + 1) t.stamp)
     within = let n = s.new.fits in let r = s.new.rises in ((omega arith, omega arith), (omega arith, omega arith))
 
-    saves : (b : Bool) → t.handed ≡ b → CanBeFramed op
-    saves true e = let found = rw (s.alive, e, s.awaiting) at h in let same : Epoch (t.epoch + 1) t.stamp ≡ op = cc in subst CanBeFramed same within
+    saves : (b : Bool) → t.handed ≡ b → IsOperation op
+    saves true e = let found = rw (s.alive, e, s.awaiting) at h in let same : Epoch (t.epoch + 1) t.stamp ≡ op = cc in subst IsOperation same within
     saves false e = absurd (let found = rw (s.alive, e) at h in cc)
 
-first_framed : (ops : List Op) → AllApps ops → (op : Op) → slice_get ops 0 ≡ Some op → CanBeFramed op
+first_framed : (ops : List Op) → AllApps ops → (op : Op) → slice_get ops 0 ≡ Some op → IsOperation op
 first_framed [] apps op h = cc
-first_framed (App id one ∷ rest) apps op h = let same : App id one ≡ op = cc in subst CanBeFramed same apps.0
+first_framed (App id one ∷ rest) apps op h = let same : App id one ≡ op = cc in subst IsOperation same apps.0
 first_framed (Epoch n stamp ∷ rest) apps op h = absurd apps
 first_framed (Attempt id master node ∷ rest) apps op h = absurd apps
 first_framed (AttemptEnd id how text ∷ rest) apps op h = absurd apps
@@ -393,13 +392,13 @@ none_handed settings t s true true a h n = absurd (stage_handed t s.stage a h (r
 none_handed settings t s true false a h n = rw (a, h) refl
 none_handed settings t s false h a e n = rw a refl
 
-stage_framed : (t : Tables) → t.epoch < 2 ^ 24 → Stage t → (op : Op) → handed_op t ≡ Some op → CanBeFramed op
+stage_framed : (t : Tables) → t.epoch < 2 ^ 24 → Stage t → (op : Op) → handed_op t ≡ Some op → IsOperation op
 stage_framed t low (none n) op h = absurd (let x = rw n.alive at h in cc)
 stage_framed t low (starting s) op h = absurd (let x = rw (s.alive, s.handed) at h in cc)
 stage_framed t low (saving s) op h = saving_framed t low s op h
 stage_framed t low (running r) op h = first_framed t.awaiting r.runs.apps_await op (handed_is t op h t.alive t.handed refl refl).1
 
-pub handed_framed : (settings : Settings) (t : Tables) → IsSound settings t → (op : Op) → handed_op t ≡ Some op → CanBeFramed op
+pub handed_framed : (settings : Settings) (t : Tables) → IsSound settings t → (op : Op) → handed_op t ≡ Some op → IsOperation op
 handed_framed settings t s op h = stage_framed t s.epoch s.stage op h
 
 -- and fits what is recorded

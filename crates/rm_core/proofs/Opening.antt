@@ -62,7 +62,7 @@ begin_sound settings t tree stamp s over low high =
 
 -- records that agree in all but their count are the same with one count
 same_records : (r : Records) (next stamp : ℕ) (apps : List AppRecord) → next ≡ r.next_epoch → stamp ≡ r.stamp → apps ≡ r.apps
-    → r ≡ record { next_epoch = next; stamp = stamp; apps = apps; told = r.told }
+    → r ≡ record { next_epoch = next; stamp = stamp; apps = apps; applied = r.applied }
 same_records r next stamp apps n s a = rw (n, s, a) refl
 
 module _ (settings : Settings) (opening : List Op) (log : List Entry) (t : Tables) (k : Keeps settings opening log t) where
@@ -199,7 +199,7 @@ module _ (settings : Settings) (t : Tables) (s : IsSound settings t) where
     epoch_kept_keeps next stamp rest a e hd =
         let op = Epoch next stamp in
         let more = recorded_more a op in
-        let told : (records (k.history.kept ++ op ∷ [])).told ≡ (records k.history.kept).told + 1 = ap (λ (r : Records). r.told) more in
+        let told : (records (k.history.kept ++ op ∷ [])).applied ≡ (records k.history.kept).applied + 1 = ap (λ (r : Records). r.applied) more in
         keeps_more settings opening log t (kept_after t op) (Kept op) k a a
         (record { handed = hd; first = rw e refl }) refl (more ∙ rw told refl)
 

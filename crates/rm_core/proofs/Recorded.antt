@@ -76,7 +76,7 @@ once_more r (App id s) once fits = λ q. added_at r.apps id s q (is_app id q) re
 once_more r (Attempt id master node) once fits =
     changed_once (λ app. record app { attempts = app.attempts ++ record { id = id; master = master; node = node; ending = None } ∷ [] }) (λ app. refl) id.app r.apps once
 once_more r (AttemptEnd id how text) once fits = changed_once (λ app. record app { attempts = map (with_end id how text) app.attempts }) (λ app. refl) id.app r.apps once
-once_more r (AppEnd id how text) once fits = changed_once (λ app. record app { ending = Some (how, text); end_order = r.told }) (λ app. refl) id r.apps once
+once_more r (AppEnd id how text) once fits = changed_once (λ app. record app { ending = Some (how, text); end_order = r.applied }) (λ app. refl) id r.apps once
 once_more r (Remove id) once fits = λ q. let less = filter_less (λ app. not (is_app app.id id)) q r.apps in omega (arith, less, once q)
 
 once_step : (op : Op) (ops : List Op) (r : Records) (b : Bool) → fits_records r op ≡ b → EachOnce r.apps → stray_from r (op ∷ ops) ≡ None

@@ -11,7 +11,7 @@ use Rattle.rm_types.specs.declared.operations.Submission.{Submission}
 use Rattle.rm_types.specs.declared.records.AppRecord.{AppRecord}
 use Rattle.rm_types.specs.declared.settings.Settings.{Settings}
 use Rattle.rm_types.specs.declared.operations.Submitted.{Submitted}
-use Rattle.rm_types.specs.Frames.{CanBeFramed}
+use Rattle.rm_types.specs.Ranges.{IsOperation}
 use Rattle.rm_types.specs.Ids.{is_app}
 use Rattle.rm_types.specs.Records.{Records, records, record_of}
 use Rattle.rm_model.specs.Facts.{submission_in, waiting_submission}
@@ -71,16 +71,16 @@ is_there None waiting h = cc
 is_there (Some app) waiting h = λ e. cc
 
 waiting_one : (one : Submitted) (more : List Submitted) (id : AppId) (s : Submission) (b : Bool) → is_app one.id id ≡ b → AllSavable (one ∷ more)
-    → waiting_submission (one ∷ more) id ≡ Some s → (waiting_submission more id ≡ Some s → CanBeFramed (App id s)) → CanBeFramed (App id s)
+    → waiting_submission (one ∷ more) id ≡ Some s → (waiting_submission more id ≡ Some s → IsOperation (App id s)) → IsOperation (App id s)
 waiting_one one more id s true e h w next =
     let same : one.id ≡ id = is_app_same one.id id e in
     let found : Some one.submission ≡ Some s = rw e at w in
     let is : one.submission ≡ s = cc in
-    subst (λ (x : Submission). CanBeFramed (App id x)) is (subst (λ (x : AppId). CanBeFramed (App x one.submission)) same h.0)
+    subst (λ (x : Submission). IsOperation (App id x)) is (subst (λ (x : AppId). IsOperation (App x one.submission)) same h.0)
 waiting_one one more id s false e h w next = next (rw e at w)
 
 -- the operation that saves what was submitted for an application has its parts in their ranges
-waiting_savable : (submitted : List Submitted) (id : AppId) (s : Submission) → AllSavable submitted → waiting_submission submitted id ≡ Some s → CanBeFramed (App id s)
+waiting_savable : (submitted : List Submitted) (id : AppId) (s : Submission) → AllSavable submitted → waiting_submission submitted id ≡ Some s → IsOperation (App id s)
 waiting_savable [] id s h w = cc
 waiting_savable (one ∷ more) id s h w = waiting_one one more id s (is_app one.id id) refl h w (waiting_savable more id s h.1)
 
@@ -248,6 +248,6 @@ module _ (settings : Settings) (t : Tables) (s : IsSound settings t) where
         let r = running_app t id one rest s.stage a e in
         let op = App id one in
         let more = recorded_more settings t s opening log k a op in
-        let told : (records (k.history.kept ++ op ∷ [])).told ≡ (records k.history.kept).told + 1 = ap (λ (x : Records). x.told) more in
+        let told : (records (k.history.kept ++ op ∷ [])).applied ≡ (records k.history.kept).applied + 1 = ap (λ (x : Records). x.applied) more in
         keeps_more settings opening log t (kept_after t op) (Kept op) k r.alive r.alive
         (record { handed = hd; first = rw e refl }) refl (more ∙ rw told refl)

@@ -8,8 +8,7 @@ use Rattle.rm_types.specs.declared.operations.Op.{Op}
 use Rattle.rm_types.specs.declared.replies.Reply.{Reply}
 use Rattle.rm_types.specs.Records.{Records, records, stray}
 use Rattle.rm_model.specs.Lawful.{state_after}
-use Rattle.rm_model.specs.Page.{feed_lane}
-use Rattle.rm_model.specs.Replies.{sender_of}
+use Rattle.rm_types.specs.Lanes.{feed_lane, sender_of}
 use Rattle.rm_core.specs.InFlight.{AllPlain}
 use Rattle.rm_core.specs.Ready.{is_ready, may_go_down}
 use Rattle.rm_core.specs.Seen.{Seen, handed_op}

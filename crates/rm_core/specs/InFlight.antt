@@ -8,7 +8,7 @@ use Rattle.rm_types.specs.declared.operations.Op.{Op}
 use Rattle.rm_types.specs.declared.operations.Op.TheVariants.{App}
 use Rattle.rm_types.specs.declared.operations.Submitted.{Submitted}
 use Rattle.rm_types.specs.declared.records.AppRecord.{AppRecord}
-use Rattle.rm_types.specs.Frames.{CanBeFramed}
+use Rattle.rm_types.specs.Ranges.{IsOperation}
 use Rattle.rm_types.specs.Ids.{is_app}
 use Rattle.rm_model.specs.Facts.{is_app_op}
 use Rattle.rm_core.specs.declared.events.MainEvent.{MainEvent}
@@ -98,13 +98,13 @@ AllLater (Retire ∷ more) = AllLater more
 -- the operations that await are of applications, with their parts in their ranges
 abbrev pub AllApps : List Op → Type 0
 AllApps [] = Unit {0}
-AllApps (App id submission ∷ more) = CanBeFramed (App id submission) × AllApps more
+AllApps (App id submission ∷ more) = IsOperation (App id submission) × AllApps more
 AllApps (_ ∷ more) = ⊥
 
 -- so are the operations that submissions will be
 abbrev pub AllSavable : List Submitted → Type 0
 AllSavable [] = Unit {0}
-AllSavable (one ∷ more) = CanBeFramed (App one.id one.submission) × AllSavable more
+AllSavable (one ∷ more) = IsOperation (App one.id one.submission) × AllSavable more
 
 -- no application has an attempt or an end
 abbrev pub AllPlain : List AppRecord → Type 0

@@ -1,9 +1,11 @@
 pub use Rattle.rm_types.specs.Ids
+pub use Rattle.rm_types.specs.Lanes
 pub use Rattle.rm_types.specs.Lists
 pub use Rattle.rm_types.specs.Records
 pub use Rattle.rm_types.specs.Rights
 pub use Rattle.rm_model.specs.State
 pub use Rattle.rm_model.specs.Facts
+pub use Rattle.rm_model.specs.ClientReplies
 pub use Rattle.rm_model.specs.Replies
 pub use Rattle.rm_model.specs.Changes
 pub use Rattle.rm_model.specs.Owed

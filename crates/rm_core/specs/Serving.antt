@@ -15,9 +15,10 @@ use Rattle.rm_types.specs.declared.messages.Sender.TheVariants.{Client}
 use Rattle.rm_types.specs.declared.replies.Reply.{Reply}
 use Rattle.rm_types.specs.declared.replies.Reply.TheVariants.{New as Gives, Submitted as Taken}
 use Rattle.rm_types.specs.declared.settings.Settings.{Settings}
-use Rattle.rm_types.specs.Frames.{CanBeFramed}
-use Rattle.rm_model.specs.Facts.{is_known}
-use Rattle.rm_model.specs.Replies.{AnswersClient}
+use Rattle.rm_types.specs.Ranges.{IsOperation}
+use Rattle.rm_model.specs.State.{Scene}
+use Rattle.rm_model.specs.Facts.{is_known, submission_of}
+use Rattle.rm_model.specs.ClientReplies.{next_app, submit_reply, report_of}
 use Rattle.rm_core.specs.declared.events.MainEvent.TheVariants.{AppStart}
 use Rattle.rm_core.specs.declared.tables.Tables.{Tables}
 use Rattle.rm_core.specs.Told.{scene_in, no_history}
@@ -25,7 +26,7 @@ use Rattle.rm_core.specs.Told.{scene_in, no_history}
 -- the asks that are served so far: no kill; the parts of a submission are in their ranges
 abbrev pub IsBuiltAsk : ClientAsk → Type 0
 IsBuiltAsk New = Unit {0}
-IsBuiltAsk (Submit id submission) = CanBeFramed (App id submission)
+IsBuiltAsk (Submit id submission) = IsOperation (App id submission)
 IsBuiltAsk (Report id) = Unit {0}
 IsBuiltAsk (Kill id) = ⊥
 
@@ -48,6 +49,13 @@ abbrev pub after_client : Tables → ClientAsk → Reply → Tables
 after_client t New (Gives id) = record t { given = id.number }
 after_client t (Submit id submission) Taken = taken t id submission
 after_client t _ _ = t
+
+-- what a client is answered so far: no kill
+abbrev pub AnswersClient : Settings → Scene → ClientAsk → Reply → Type 0
+AnswersClient settings m New reply = reply ≡ Gives (next_app m)
+AnswersClient settings m (Submit id submission) reply = reply ≡ submit_reply settings m id submission
+AnswersClient settings m (Report id) reply = reply ≡ report_of m id (submission_of m id)
+AnswersClient settings m (Kill id) reply = ⊥
 
 -- a client is answered, and the tables change with the answer
 pub record IsClientServed (settings : Settings) (old new : Tables) (ask : ClientAsk) (reply : Reply) : Type 0 where

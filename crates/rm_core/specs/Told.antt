@@ -17,7 +17,7 @@ no_history = record { kept = []; first = no_records }
 
 -- what is recorded, by the tables; how many operations were told they do not know
 abbrev pub recorded_in : History → Tables → Records
-recorded_in h t = record { next_epoch = t.next_epoch; stamp = t.stored_stamp; apps = t.apps; told = (records h.kept).told }
+recorded_in h t = record { next_epoch = t.next_epoch; stamp = t.stored_stamp; apps = t.apps; applied = (records h.kept).applied }
 
 -- the life that the tables stand for
 abbrev pub life_in : History → Tables → LifeState
@@ -33,7 +33,7 @@ life_in h t =
       given = t.given;
       granted = [];
       apps = record { submitted = t.submitted; wishes = []; accepted = t.accepted; retired = [] };
-      masters = record { registered = []; finishing = []; expired = []; ordered = []; answered = [] };
+      masters = record { registered = []; expired = []; ordered = [] };
       asks = t.asks;
       book = [];
       endings = record { outbox = []; left = []; releases = [] };

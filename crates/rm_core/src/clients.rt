@@ -3,7 +3,7 @@ ghost use Rattle.std.specs.List.{list_any};
 ghost use Rattle.rm_types.specs.Records.{record_of};
 ghost use Rattle.rm_types.specs.Rights.{is_below, is_leaf, is_queue};
 ghost use Rattle.rm_model.specs.Facts.{is_known, kept_attempts, submission_of};
-ghost use Rattle.rm_model.specs.Replies.{end_text, end_word, going, going_word, is_given, next_app, report_of, submit_reply};
+ghost use Rattle.rm_model.specs.ClientReplies.{end_text, end_word, going, going_word, is_given, next_app, report_of, submit_reply};
 ghost use Rattle.rm_core.specs.Told.{scene_in, no_history};
 ghost use Rattle.rm_types.specs.declared.ids.AppId.{AppId};
 ghost use Rattle.rm_types.specs.declared.messages.ClientAsk.{ClientAsk};

@@ -4,7 +4,7 @@ ghost use Rattle.rm_core.specs.Steps.{main_entry, main_after, front_of_main};
 use crate::events::{MainEvent, Refused, SchedEvent};
 use crate::searches::find_submission;
 use crate::tables::Tables;
-use rm_types::{AppId, AttemptId, Duplicate, Entry, Lane, NoMemory, Op};
+use rm_types::{AppId, AttemptId, Boxed, Duplicate, Entry, Lane, NoMemory, Op};
 
 /// The life's first operation is issued.
 fn issue_epoch(t: &mut Tables) -> Result<Entry, NoMemory>
@@ -14,11 +14,10 @@ fn issue_epoch(t: &mut Tables) -> Result<Entry, NoMemory>
 {
     let next = t.epoch + 1;
     let stamp = t.stamp;
+    let issued = Boxed::new(t.alloc, Op::Epoch { next, stamp })?;
     t.awaiting.push(Op::Epoch { next, stamp })?;
     let _ = t.main.take_first();
-    Ok(Entry::Issued {
-        op: Op::Epoch { next, stamp },
-    })
+    Ok(Entry::Issued { op: issued })
 }
 
 /// A submitted application is issued.
@@ -34,10 +33,7 @@ fn issue_app(t: &mut Tables, id: AppId) -> Result<Entry, NoMemory>
         id,
         submission: submission.copy()?,
     };
-    let issued = Op::App {
-        id,
-        submission: submission.copy()?,
-    };
+    let issued = Boxed::new(t.alloc, awaits.copy()?)?;
     t.awaiting.push(awaits)?;
     let _ = t.main.take_first();
     Ok(Entry::Issued { op: issued })

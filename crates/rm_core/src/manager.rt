@@ -3,7 +3,7 @@ ghost use Rattle.std.specs.Option.{option_copied};
 ghost use Rattle.rm_types.specs.declared.entries.Entry.{Entry};
 ghost use Rattle.rm_types.specs.declared.messages.Lane.{Lane};
 ghost use Rattle.rm_types.specs.declared.operations.Op.{Op as AnyOp};
-ghost use Rattle.rm_types.specs.Frames.{CanBeFramed};
+ghost use Rattle.rm_types.specs.Ranges.{IsOperation};
 ghost use Rattle.rm_model.specs.State.{opening_state};
 ghost use Rattle.rm_model.specs.Lawful.{AllAllowed};
 ghost use Rattle.rm_core.specs.Adds.{Adds, AmountsTo, CanBeginOver, CanMake, GoesOnFrom, Stands, TablesStay, Weighs, may_make, served_after};
@@ -108,7 +108,7 @@ impl Core {
     pub fn handed(&self) -> Option<&Op>
         ensures op { option_copied result ≡ handed_op self.now.tables }
         ensures none { IfNone result (is_ready self.now.tables Lane.Write ≡ false) }
-        ensures framed { IfSome result (λ op. CanBeFramed op.now) }
+        ensures framed { IfSome result (λ op. IsOperation op.now) }
         ensures next { IfSome result (λ op. (opening : List AnyOp) → StandsFor opening self.now → IsToBeKept opening self.now op.now) }
     {
         if is_ready(&self.tables, Lane::Write) {

@@ -16,7 +16,9 @@ use crate::keeping::{keep_app, keep_epoch};
 use crate::scheduler::front_sched;
 use crate::tables::{Tables, begin, go_down, hand, is_ready, may_go_down};
 use rm_tree::Tree;
-use rm_types::{Duplicate, Entry, Items, Lane, Message, NoMemory, Op, Sender, Settings};
+use rm_types::{
+    Boxed, Duplicate, Entry, Items, Lane, Message, NoMemory, Op, Reply, Sender, Settings,
+};
 
 // Each move takes the room for its entry first, so that the tables and the log change together or not at
 // all. The entry that takes the room is replaced by the move's own.
@@ -131,7 +133,7 @@ pub fn move_kept(t: &mut Tables, log: &mut Items<Entry>) -> Result<(), Refused>
         return Err(Refused::NotReady);
     };
     let op = first.copy()?;
-    let logged = first.copy()?;
+    let logged = Boxed::new(t.alloc, first.copy()?)?;
     log.push(Entry::Kept { op: logged })?;
     match keep(t, op) {
         Ok(()) => Ok(()),
@@ -191,17 +193,20 @@ pub fn move_serve(
     if !is_ready(t, Lane::Client) {
         return Err(Refused::NotReady);
     }
-    let Message::Client(user, ask) = message else {
+    let served = t.served + 1;
+    let message = Boxed::new(t.alloc, message)?;
+    let mut reply = Boxed::new(t.alloc, Reply::NotOpen)?;
+    let Message::Client(_, ask) = message.get() else {
         unreachable!()
     };
-    let served = t.served + 1;
     log.push(Entry::Settled)?;
-    match serve(settings, t, &ask) {
-        Ok(reply) => {
+    match serve(settings, t, ask) {
+        Ok(answer) => {
             t.served = served;
+            reply.set(answer);
             log.set_last(Entry::Served {
                 sender: Sender::Client,
-                message: Message::Client(user, ask),
+                message,
                 reply,
             });
             Ok(())

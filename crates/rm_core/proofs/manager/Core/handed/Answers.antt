@@ -1,7 +1,7 @@
 use Rattle.std.proofs.Common.{◌≡◌, ◌&&◌, true, sym, ◌∙◌, List}
 use Rattle.std.specs.Option.{option_copied}
 use Rattle.rm_types.specs.declared.operations.Op.{Op}
-use Rattle.rm_types.specs.Frames.{CanBeFramed}
+use Rattle.rm_types.specs.Ranges.{IsOperation}
 use Rattle.rm_core.specs.Seen.{IsToBeKept, Seen, StandsFor, handed_op}
 use Rattle.rm_core.proofs.Listed.{if_copied}
 use Rattle.rm_core.proofs.Moving.{handed_framed, handed_next}
@@ -12,7 +12,7 @@ returns-then-is_ready-clause-framed c =
     let t = c.self.inside.tables in
     let ready : (t.alive && t.handed) ≡ true = sym c.is_ready.ensures ∙ c.if-is_ready.true in
     let at : option_copied c.first.result ≡ handed_op t = rw ready c.first.ensures.first in
-    if_copied CanBeFramed c.first.result (handed_op t) at (handed_framed c.self.inside.settings t c.self.invariant)
+    if_copied IsOperation c.first.result (handed_op t) at (handed_framed c.self.inside.settings t c.self.invariant)
 
 pub returns-then-is_ready-clause-next : goal.returns-then-is_ready-clause-next
 returns-then-is_ready-clause-next c =

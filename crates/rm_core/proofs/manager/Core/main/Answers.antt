@@ -1,21 +1,24 @@
 use Rattle.rm_core.specs.declared.manager.Move.TheVariants.{Main}
-use Rattle.rm_core.proofs.Moving.{main_does, lawful_move}
+use Rattle.rm_core.proofs.Moving.{Does, main_does, lawful_move}
 use Rattle.rm_core.proofs.manager.Core.main.Goals as goal
 
+does : (c : goal.After-move_main) → Does Main c.self.inside.settings c.self.inside.log c.move_main.new.log c.self.inside.tables c.move_main.new.t c.move_main.result
+does c = main_does c.self.inside.settings c.self.inside.log c.move_main.new.log c.self.inside.tables c.move_main.new.t c.self.invariant c.move_main.result c.move_main.ensures.ok c.move_main.ensures.err
+
 pub invariant_of-self : goal.invariant_of-self
-invariant_of-self c = (main_does c.self.inside.settings c.self.inside.log c.move_main.new.log c.self.inside.tables c.move_main.new.t c.self.invariant c.move_main.result c.move_main.ensures.ok c.move_main.ensures.err).sound
+invariant_of-self c = (does c).sound
 
 pub returns-clause-added : goal.returns-clause-added
-returns-clause-added c = rw (← c.self.view_is) (main_does c.self.inside.settings c.self.inside.log c.move_main.new.log c.self.inside.tables c.move_main.new.t c.self.invariant c.move_main.result c.move_main.ensures.ok c.move_main.ensures.err).adds
+returns-clause-added c = rw (← c.self.view_is) (does c).adds
 
 pub returns-clause-weighs : goal.returns-clause-weighs
-returns-clause-weighs c = rw (← c.self.view_is) (main_does c.self.inside.settings c.self.inside.log c.move_main.new.log c.self.inside.tables c.move_main.new.t c.self.invariant c.move_main.result c.move_main.ensures.ok c.move_main.ensures.err).weighs
+returns-clause-weighs c = rw (← c.self.view_is) (does c).weighs
 
 pub returns-clause-stands : goal.returns-clause-stands
-returns-clause-stands c = rw (← c.self.view_is) (main_does c.self.inside.settings c.self.inside.log c.move_main.new.log c.self.inside.tables c.move_main.new.t c.self.invariant c.move_main.result c.move_main.ensures.ok c.move_main.ensures.err).stands
+returns-clause-stands c = rw (← c.self.view_is) (does c).stands
 
 pub returns-clause-served : goal.returns-clause-served
-returns-clause-served c = rw (← c.self.view_is) (main_does c.self.inside.settings c.self.inside.log c.move_main.new.log c.self.inside.tables c.move_main.new.t c.self.invariant c.move_main.result c.move_main.ensures.ok c.move_main.ensures.err).served
+returns-clause-served c = rw (← c.self.view_is) (does c).served
 
 pub returns-clause-lawful : goal.returns-clause-lawful
-returns-clause-lawful c = rw (← c.self.view_is) (lawful_move Main c.self.inside.settings c.self.inside.log c.move_main.new.log c.self.inside.tables c.move_main.new.t c.move_main.result (λ ops. tt) (main_does c.self.inside.settings c.self.inside.log c.move_main.new.log c.self.inside.tables c.move_main.new.t c.self.invariant c.move_main.result c.move_main.ensures.ok c.move_main.ensures.err))
+returns-clause-lawful c = rw (← c.self.view_is) (lawful_move Main c.self.inside.settings c.self.inside.log c.move_main.new.log c.self.inside.tables c.move_main.new.t c.move_main.result (λ ops. tt) (does c))
