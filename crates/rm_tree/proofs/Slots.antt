@@ -14,7 +14,7 @@ use Rattle.rm_types.specs.declared.records.AppRecord.{AppRecord}
 use Rattle.rm_types.specs.declared.duplicate.NoMemory.{NoMemory}
 use Rattle.rm_types.specs.Ids.{is_app}
 use Rattle.rm_types.specs.Records.{record_of, with_record, is_some_and}
-use Rattle.rm_tree.specs.Numbers.{AreAttemptsFrom}
+use Rattle.rm_tree.specs.Numbers.{AreAttemptsFrom, AreApart, AreNumbered}
 use Rattle.rm_tree.specs.Slots.{Slot, present, IsOwn, AreOwn, AreSlots, joined}
 
 flips : (a b : AppId) → is_app a b ≡ is_app b a
@@ -29,6 +29,9 @@ same_id a b e = grind (arith, nat_tests)
 -- the records without an application's
 abbrev pub without : AppId → List AppRecord → List AppRecord
 without id apps = filter (λ app. not (is_app app.id id)) apps
+
+itself : (a : AppId) → is_app a a ≡ true
+itself a = grind (arith, nat_tests)
 
 -- a slot of another application changes nothing
 other_found : (key id : AppId) (v : Option AppRecord) (apps : List AppRecord) → is_app key id ≡ false → IsOwn key v
@@ -199,6 +202,21 @@ module _ (id : AppId) where
       by : (b : Bool) → is_app id slot.0 ≡ b → AreOwn (remove_entry (is_app id) slots) → AreOwn (remove_entry (is_app id) (slot ∷ slots))
       by true e rest = rw e o.1
       by false e rest = rw e (o.0, rest)
+
+-- no two records are of one application
+pub apart : (slots : List Slot) → IsDistinct is_app (keys_of slots) → AreOwn slots → AreApart (present slots)
+apart [] d o = tt
+apart ((key, None) ∷ slots) d o = apart slots (IsDistinct-tail is_app key (keys_of slots) d) o.1
+apart ((key, Some app) ∷ slots) d o = (
+  rw o.0.same (later_absent key (key, Some app) slots d o.1 (itself key)),
+  apart slots (IsDistinct-tail is_app key (keys_of slots) d) o.1,
+)
+
+-- and the attempts of each are numbered
+pub numbered : (slots : List Slot) → AreOwn slots → AreNumbered (present slots)
+numbered [] o = tt
+numbered ((key, None) ∷ slots) o = numbered slots o.1
+numbered ((key, Some app) ∷ slots) o = let own = o.0 in (rw own.same own.numbered, numbered slots o.1)
 
 -- one more slot at the end
 pub own_end : (slots : List Slot) (slot : Slot) → AreOwn slots → IsOwn slot.0 slot.1 → AreOwn (slots ++ slot ∷ [])

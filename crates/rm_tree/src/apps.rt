@@ -1,10 +1,11 @@
-ghost use Rattle.std.specs.Prelude.{◌≡◌, ◌+◌, ◌<◌, List, [], ◌∷◌, ◌++◌, length, filter, not, slice_get, Some, None, OnOk, OnErr, IsTrue, is_some};
+ghost use Rattle.std.specs.Prelude.{◌≡◌, ◌+◌, ◌<◌, List, [], ◌∷◌, ◌++◌, length, filter, not, slice_get, Some, None, OnOk, OnErr, IfSome, IsTrue, is_some};
 ghost use Rattle.std.specs.Option.{option_copied, option_map};
 ghost use Rattle.std.specs.Map.{lookup, set_value};
 ghost use Rattle.rm_types.specs.Ids.{is_app};
 ghost use Rattle.rm_types.specs.Records.{record_of, with_record, is_some_and};
 ghost use Rattle.rm_tree.specs.Changes.{with_attempt, with_ended, with_ending, is_next, is_unended_last};
 ghost use Rattle.indexmap.specs.IndexMap.{values};
+ghost use Rattle.rm_tree.specs.Numbers.{AreAttemptsFrom, AreApart, AreNumbered};
 ghost use Rattle.rm_tree.specs.Slots.{joined, present};
 
 use crate::attempts::end_in_slot;
@@ -45,16 +46,20 @@ impl Apps {
         }
     }
 
-    /// How many records there are.
+    /// How many records there are. No two are of one application, and the attempts of each are numbered
+    /// from 1.
     pub fn len(&self) -> usize
-        ensures { result ≡ length self.now }
+        ensures length { result ≡ length self.now }
+        ensures apart { AreApart self.now }
+        ensures numbered { AreNumbered self.now }
     {
         self.count
     }
 
-    /// The record of an application, if there is one.
+    /// The record of an application, if there is one. Its attempts are numbered from 1.
     pub fn find(&self, id: AppId) -> Option<&AppRecord>
-        ensures { option_copied result ≡ record_of self.now id }
+        ensures record { option_copied result ≡ record_of self.now id }
+        ensures numbered { IfSome (option_copied result) (λ app. AreAttemptsFrom app.id 0 app.attempts) }
     {
         match self.slots.get(&id) {
             Some(slot) => slot.as_ref(),

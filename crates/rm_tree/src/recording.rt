@@ -7,11 +7,11 @@ use rm_types::{AppRecord, AttemptRecord, Duplicate, Items, NoMemory, Op};
 use std::alloc::Global;
 
 impl Apps {
-    /// Records an operation that fits, before which so many others were told. `NoMemory` leaves the records as
+    /// Records an operation that fits, before which so many others were applied. `NoMemory` leaves the records as
     /// they were.
-    pub fn record(&mut self, alloc: Global, op: &Op, told: u64) -> Result<(), NoMemory>
+    pub fn record(&mut self, alloc: Global, op: &Op, applied: u64) -> Result<(), NoMemory>
         requires { FitsApps self.old op.now }
-        ensures ok { OnOk result (self.new ≡ apps_recorded self.old told op.now) }
+        ensures ok { OnOk result (self.new ≡ apps_recorded self.old applied op.now) }
         ensures err { OnErr result (self.new ≡ self.old) }
     {
         match op {
@@ -32,7 +32,7 @@ impl Apps {
             Op::AttemptEnd { id, how, text } => self.end_attempt(*id, *how, text),
             Op::AppEnd { id, how, text } => {
                 let text = text.copy()?;
-                self.set_ending(*id, *how, text, told);
+                self.set_ending(*id, *how, text, applied);
                 Ok(())
             }
             Op::Remove { id } => {

@@ -243,5 +243,16 @@ fn a_removal_leaves_the_order_of_the_others(rt: HostRuntime) -> Result<(), Fail>
         shown(alloc, &tree)?.as_str(),
         "2: - goes on;6: - goes on;7: - goes on;"
     );
+    let kept = AppId {
+        stamp: 7,
+        number: 6,
+    };
+    let record = tree.find(kept).ok_or("the record is there")?;
+    assert_eq!(rt; record.id, kept);
+    let removed = AppId {
+        stamp: 7,
+        number: 5,
+    };
+    assert!(rt; tree.find(removed).is_none());
     Ok(())
 }

@@ -1,10 +1,12 @@
-ghost use Rattle.std.specs.Prelude.{◌≡◌, ◌<◌, length, slice_get, Some, Err, false, OnOk, OnErr, IfErr};
+ghost use Rattle.std.specs.Prelude.{◌≡◌, ◌<◌, length, slice_get, Some, Err, false, OnOk, OnErr, IfErr, IfSome};
+ghost use Rattle.std.specs.Option.{option_copied};
 ghost use Rattle.rm_tree.specs.declared.tree.TreeError.TheVariants.{Memory, Stray};
-ghost use Rattle.rm_types.specs.Records.{recorded, fits_records, no_records};
+ghost use Rattle.rm_tree.specs.Numbers.{AreAttemptsFrom, AreApart, AreNumbered};
+ghost use Rattle.rm_types.specs.Records.{recorded, record_of, fits_records, no_records};
 
 use crate::apps::Apps;
 use crate::attempts::{has_stopped, is_next_attempt, is_unended_last};
-use rm_types::{AppRecord, NoMemory, Op};
+use rm_types::{AppId, AppRecord, NoMemory, Op};
 use std::alloc::Global;
 use std::marker::Model;
 
@@ -40,7 +42,7 @@ impl Model for Tree {
 
     ghost Value = { Records };
 
-    ghost view = { λ a. record { next_epoch = a.next_epoch; stamp = a.stamp; apps = a.apps; told = a.applied } };
+    ghost view = { λ a. record { next_epoch = a.next_epoch; stamp = a.stamp; apps = a.apps; applied = a.applied } };
 }
 
 impl Tree {
@@ -73,14 +75,17 @@ impl Tree {
 
     /// How many operations were applied.
     pub fn applied(&self) -> u64
-        ensures { result ≡ self.now.told }
+        ensures { result ≡ self.now.applied }
     {
         self.applied
     }
 
-    /// How many applications are kept.
+    /// How many applications are kept. In each tree no two records are of one application, and the attempts of
+    /// each are numbered from 1.
     pub fn len(&self) -> usize
-        ensures { result ≡ length self.now.apps }
+        ensures length { result ≡ length self.now.apps }
+        ensures apart { AreApart self.now.apps }
+        ensures numbered { AreNumbered self.now.apps }
     {
         self.apps.len()
     }
@@ -91,6 +96,15 @@ impl Tree {
         ensures { slice_get self.now.apps place ≡ Some result.now }
     {
         self.apps.get(place).unwrap()
+    }
+
+    /// The record of an application, found without a walk; its attempts are numbered from 1. `None` comes exactly
+    /// where the application isn't kept.
+    pub fn find(&self, id: AppId) -> Option<&AppRecord>
+        ensures record { option_copied result ≡ record_of self.now.apps id }
+        ensures numbered { IfSome (option_copied result) (λ app. AreAttemptsFrom app.id 0 app.attempts) }
+    {
+        self.apps.find(id)
     }
 
     /// Closes the gaps that removals left. Nothing that is seen changes; until the next removal the record at a
