@@ -1,6 +1,10 @@
 pub mod Asked
 pub mod Changes
 pub mod Entries
+pub mod Ids
+pub mod Lists
 pub mod Nodes
+pub mod Numbered
 pub mod Rows
 pub mod Splits
+pub mod Viewed

@@ -1,3 +1,3 @@
+pub mod AskLines
 pub mod AskTables
 pub mod Books
-pub mod Order

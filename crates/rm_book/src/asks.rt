@@ -1,14 +1,16 @@
-ghost use Rattle.std.specs.Prelude.{◌≡◌, ◌+◌, [], OnOk, OnErr};
+ghost use Rattle.std.specs.Prelude.{◌≡◌, [], OnOk, OnErr, map, option_map};
+ghost use Rattle.std.specs.List.{list_any};
 ghost use Rattle.std.specs.Option.{option_copied};
-ghost use Rattle.rm_types.specs.Passes.{in_order};
-ghost use Rattle.rm_book.specs.AskTables.{no_asks, lines_of, some_lines, lines_set, lines_granted, Gives};
+ghost use Rattle.rm_types.specs.Passes.{by_priority};
+ghost use Rattle.rm_book.specs.AskTables.{AskNow, asks_of, asks_set, asks_granted, is_for, some_asks};
 
 use crate::lines::{AttemptAsks, grant_entry, place_of_attempt, set_entry};
 use rm_types::{Ask, AskLine, AttemptId, Items, NoMemory, Resource};
 use std::alloc::Global;
 use std::marker::Model;
 
-/// What attempts ask for and haven't been granted: of each, lines in the order of a pass.
+/// What attempts ask for and haven't been granted. Contracts see the asks of each attempt in the order of
+/// first asking.
 #[derive(Debug, Drop)]
 pub struct Asks {
     entries: Vec<AttemptAsks>,
@@ -16,11 +18,13 @@ pub struct Asks {
 }
 
 impl Model for Asks {
-    ghost use Rattle.rm_book.specs.AskTables.{AskTable, IsAskTable};
+    ghost use Rattle.std.specs.Prelude.{List, map};
+    ghost use Rattle.rm_book.specs.AskLines.{IsAskTable, asks_of_entry};
+    ghost use Rattle.rm_book.specs.AskTables.{AsksOf};
 
-    ghost Value = { AskTable };
+    ghost Value = { List AsksOf };
 
-    ghost view = { λ a. record { entries = a.entries.items; asked = a.asked } };
+    ghost view = { λ a. map asks_of_entry a.entries.items };
 
     ghost invariant = { λ a. IsAskTable a.asked a.entries.items };
 }
@@ -28,7 +32,7 @@ impl Model for Asks {
 impl Asks {
     /// No attempt asks for anything. It takes no memory.
     pub fn new(alloc: Global) -> Asks
-        ensures { result ≡ no_asks }
+        ensures { result ≡ [] }
     {
         Asks {
             entries: Vec::new(alloc),
@@ -39,8 +43,7 @@ impl Asks {
     /// Sets the number outstanding of a priority and size; 0 takes the ask away. A new ask stands last in its
     /// priority. `NoMemory`, which also comes where no number is left to order asks by, changes nothing.
     pub fn set(&mut self, attempt: AttemptId, ask: Ask) -> Result<(), NoMemory>
-        ensures ok { OnOk result (Gives self.old self.new attempt (lines_set ask (self.old.asked + 1) (lines_of self.old attempt))) }
-        ensures asked { OnOk result (self.new.asked ≡ self.old.asked + 1) }
+        ensures ok { OnOk result (AskNow self.old self.new attempt (asks_set ask (asks_of self.old attempt))) }
         ensures err { OnErr result (self.new ≡ self.old) }
     {
         let Some(order) = self.asked.checked_add(1) else {
@@ -51,10 +54,10 @@ impl Asks {
         Ok(())
     }
 
-    /// An attempt's lines, in the order of a pass. `None` comes exactly where it asks for nothing.
+    /// Lines of what an attempt asks for, by priority and then as first asked. `None` comes exactly where it
+    /// asks for nothing.
     pub fn of(&self, attempt: AttemptId) -> Option<&Items<AskLine>>
-        ensures lines { option_copied result ≡ some_lines (lines_of self.now attempt) }
-        ensures order { in_order (lines_of self.now attempt) ≡ lines_of self.now attempt }
+        ensures { option_map (map (λ line. line.ask)) (option_copied result) ≡ some_asks (by_priority (asks_of self.now attempt)) }
     {
         let place = place_of_attempt(&self.entries, attempt)?;
         let lines = &self.entries[place].lines;
@@ -63,17 +66,17 @@ impl Asks {
 
     /// Takes all asks of an attempt away.
     pub fn clear(&mut self, attempt: AttemptId)
-        ensures lines { Gives self.old self.new attempt [] }
-        ensures asked { self.new.asked ≡ self.old.asked }
+        ensures { AskNow self.old self.new attempt [] }
     {
         self.entries.retain(|entry| entry.attempt != attempt);
     }
 
-    /// One of an ask was granted: its number outstanding falls by one, and at 0 it goes.
-    pub fn granted(&mut self, attempt: AttemptId, priority: u32, size: Resource)
-        ensures lines { Gives self.old self.new attempt (lines_granted priority size (lines_of self.old attempt)) }
-        ensures asked { self.new.asked ≡ self.old.asked }
+    /// One of an ask was granted: its number outstanding falls by one, and at 0 it goes. `false` comes exactly
+    /// where the attempt has no ask of this priority and size. It takes no memory.
+    pub fn granted(&mut self, attempt: AttemptId, priority: u32, size: Resource) -> bool
+        ensures found { result ≡ list_any (is_for priority size) (asks_of self.old attempt) }
+        ensures asks { AskNow self.old self.new attempt (asks_granted priority size (asks_of self.old attempt)) }
     {
-        grant_entry(&mut self.entries, attempt, priority, size);
+        grant_entry(&mut self.entries, attempt, priority, size)
     }
 }

@@ -1,17 +1,21 @@
 ghost use Rattle.std.specs.Prelude.{◌≡◌, ◌≤◌, ◌<◌, ◌+◌, ◌^◌, ◌++◌, Bool, true, Some, OnOk, IfOk, IsSomeAnd, IsTrue, length};
+ghost use Rattle.std.specs.List.{list_all};
 ghost use Rattle.rm_types.specs.declared.resources.Resource.{Resource};
-ghost use Rattle.rm_types.specs.Passes.{pass_list, in_order};
-ghost use Rattle.rm_book.specs.AskTables.{lines_of};
-ghost use Rattle.rm_book.specs.Books.{capability_of, free_on};
+ghost use Rattle.rm_types.specs.Passes.{by_priority, pass_list, total_of};
+ghost use Rattle.rm_types.specs.Resources.{Fits};
+ghost use Rattle.rm_book.specs.AskTables.{asks_of};
+ghost use Rattle.rm_book.specs.Books.{AreNew, are_on, capability_of, free_on, sizes_of, sizes_on};
 ghost use Rattle.rm_fit.specs.Turns.{turn_grants, turn_left};
-ghost use Rattle.rm_fit.specs.Conditions.{AreApart, are_early, are_some_sizes, have_sizes};
+ghost use Rattle.rm_fit.specs.Conditions.{AreApart, are_early, are_past, is_some_size, are_some_sizes, have_sizes};
 
 use crate::turns::grant_turn;
 use rm_book::{Asks, Book};
 use rm_types::{AskLine, AttemptId, Grant, Items, NoMemory, Resource, Text, Turn};
 use std::alloc::Global;
 
-/// The grants of one pass on a node, of which there are at most 256. The node must have a capability, of
+/// The grants of one pass on a node, of which there are at most 256; their sizes together fit what is left of
+/// the node, and their containers differ and are new where none of the book is one that the order may yet
+/// grant. The node must have a capability, of
 /// which at most 256 cores are left; the attempts in the order must differ, each next sequence must be at
 /// most 2^39, and each size that they ask for must have a megabyte and a core at least, as `have_sizes` tests.
 pub fn first_fit(
@@ -25,9 +29,12 @@ pub fn first_fit(
     requires room { IsSomeAnd (free_on book.now node.now) (λ free. free.vcores ≤ 256) }
     requires attempts { AreApart order.now }
     requires sequences { IsTrue (are_early order.now) }
-    requires sizes { IsTrue (have_sizes (lines_of asks.now) order.now) }
-    ensures pass { IfOk result (λ grants. (capability : Resource) → capability_of book.now node.now ≡ Some capability → grants ≡ pass_list capability node.now book.now.rows (lines_of asks.now) order.now epoch) }
+    requires sizes { IsTrue (have_sizes (asks_of asks.now) order.now) }
+    ensures pass { IfOk result (λ grants. (capability : Resource) → capability_of book.now node.now ≡ Some capability → grants ≡ pass_list (record { node = node.now; capability = capability; sizes = sizes_on node.now book.now.rows; epoch = epoch }) (asks_of asks.now) order.now) }
     ensures few { IfOk result (λ grants. length grants ≤ 256) }
+    ensures on { IfOk result (λ grants. IsTrue (are_on node.now grants)) }
+    ensures new { IfOk result (λ grants. IsTrue (are_past epoch order.now book.now.rows) → AreNew book.now.rows grants) }
+    ensures fit { IfOk result (λ grants. IsSomeAnd (free_on book.now node.now) (λ free. Fits (total_of (sizes_of grants)) free)) }
 {
     let mut left = book.free_of(node).unwrap();
     let mut grants = Items::new(alloc);
@@ -48,9 +55,9 @@ fn grant_attempt(
     asks: &Asks,
 ) -> Result<Resource, NoMemory>
     requires sequence { turn.next_seq + left.vcores < 2 ^ 63 }
-    requires sizes { IsTrue (are_some_sizes (lines_of asks.now turn.attempt)) }
-    ensures grants { OnOk result (grants.new ≡ grants.old ++ turn_grants (record { node = node.now; epoch = epoch; attempt = turn.attempt }) left turn.next_seq (in_order (lines_of asks.now turn.attempt))) }
-    ensures left { IfOk result (λ rest. rest ≡ turn_left left (in_order (lines_of asks.now turn.attempt))) }
+    requires sizes { IsTrue (are_some_sizes (asks_of asks.now turn.attempt)) }
+    ensures grants { OnOk result (grants.new ≡ grants.old ++ turn_grants (record { node = node.now; epoch = epoch; attempt = turn.attempt }) left turn.next_seq (by_priority (asks_of asks.now turn.attempt))) }
+    ensures left { IfOk result (λ rest. rest ≡ turn_left left (by_priority (asks_of asks.now turn.attempt))) }
     ensures few { IfOk result (λ rest. length grants.new + rest.vcores ≤ length grants.old + left.vcores) }
 {
     match asks.of(turn.attempt) {
@@ -61,7 +68,7 @@ fn grant_attempt(
 
 /// Whether each size that the attempts in the order ask for has a megabyte and a core at least.
 pub fn have_sizes(asks: &Asks, order: &Items<Turn>) -> bool
-    ensures { result ≡ have_sizes (lines_of asks.now) order.now }
+    ensures { result ≡ have_sizes (asks_of asks.now) order.now }
 {
     order
         .as_slice()
@@ -71,7 +78,7 @@ pub fn have_sizes(asks: &Asks, order: &Items<Turn>) -> bool
 
 /// Whether each size that an attempt asks for has.
 fn has_sizes(asks: &Asks, attempt: AttemptId) -> bool
-    ensures { result ≡ are_some_sizes (lines_of asks.now attempt) }
+    ensures { result ≡ are_some_sizes (asks_of asks.now attempt) }
 {
     match asks.of(attempt) {
         Some(lines) => are_some_sizes(lines.as_slice()),
@@ -81,7 +88,7 @@ fn has_sizes(asks: &Asks, attempt: AttemptId) -> bool
 
 /// Whether each size of these lines has.
 fn are_some_sizes(lines: &[AskLine]) -> bool
-    ensures { result ≡ are_some_sizes lines.now }
+    ensures { result ≡ list_all (λ line. is_some_size line.ask.size) lines.now }
 {
     lines.iter().all(|line| line.ask.size.memory_mb >= 1 && line.ask.size.vcores >= 1)
 }

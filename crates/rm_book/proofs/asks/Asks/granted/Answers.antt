@@ -1,11 +1,24 @@
+use Rattle.std.proofs.Common.{sym, ◌∙◌, ap}
+use Rattle.std.specs.List.{list_any}
+use Rattle.rm_book.specs.AskLines.{lines_in}
+use Rattle.rm_book.specs.AskTables.{asks_granted, is_for}
 use Rattle.rm_book.proofs.Entries.{granted_leaves}
+use Rattle.rm_book.proofs.Viewed.{any_same, changed_view, granted_view, view_of}
 use Rattle.rm_book.proofs.asks.Asks.granted.Goals as goal
 
 pub invariant_of-self : goal.invariant_of-self
 invariant_of-self c =
-    (granted_leaves c.self.inside.asked c.self.inside.entries.items c.grant_entry.new.entries.items c.args.attempt c.args.priority c.args.size c.grant_entry.ensures c.self.invariant).lawful
+    (granted_leaves c.self.inside.asked c.self.inside.entries.items c.grant_entry.new.entries.items c.args.attempt c.args.priority c.args.size c.grant_entry.ensures.entries c.self.invariant).lawful
 
-pub returns-clause-lines : goal.returns-clause-lines
-returns-clause-lines c =
+pub returns-clause-found : goal.returns-clause-found
+returns-clause-found c =
     rw (← c.self.view_is)
-    (granted_leaves c.self.inside.asked c.self.inside.entries.items c.grant_entry.new.entries.items c.args.attempt c.args.priority c.args.size c.grant_entry.ensures c.self.invariant).gives
+    (c.grant_entry.ensures.found ∙ any_same c.args.priority c.args.size (lines_in c.self.inside.entries.items c.args.attempt)
+    ∙ ap (list_any (is_for c.args.priority c.args.size)) (sym (view_of c.self.inside.entries.items c.args.attempt)))
+
+pub returns-clause-asks : goal.returns-clause-asks
+returns-clause-asks c =
+    rw (← c.self.view_is)
+    (changed_view c.self.inside.asked _ _ c.args.attempt _ (asks_granted c.args.priority c.args.size)
+    (granted_leaves c.self.inside.asked c.self.inside.entries.items c.grant_entry.new.entries.items c.args.attempt c.args.priority c.args.size c.grant_entry.ensures.entries c.self.invariant)
+    (granted_view c.args.priority c.args.size (lines_in c.self.inside.entries.items c.args.attempt)))

@@ -1,4 +1,7 @@
-use Rattle.rm_book.proofs.Entries.{set_leaves}
+use Rattle.rm_book.specs.AskLines.{lines_in}
+use Rattle.rm_book.specs.AskTables.{asks_set}
+use Rattle.rm_book.proofs.Entries.{set_leaves, lawful_lines}
+use Rattle.rm_book.proofs.Viewed.{changed_view, set_view}
 use Rattle.rm_book.proofs.asks.Asks.set.Goals as goal
 
 pub invariant_of-self-2 : goal.invariant_of-self-2
@@ -9,5 +12,7 @@ invariant_of-self-2 c =
 pub returns-clause-ok : goal.returns-clause-ok
 returns-clause-ok c =
     rw (← c.self.view_is)
+    (changed_view c.in-Some.order _ _ c.args.attempt _ (asks_set c.args.ask)
     (set_leaves c.self.inside.asked c.in-Some.order c.self.inside.entries.items c.set_entry.new.entries.items c.args.attempt c.args.ask c.in-Some.ensures.1
-    c.in_ok-set_entry.ensures.ok c.self.invariant).gives
+    c.in_ok-set_entry.ensures.ok c.self.invariant)
+    (set_view c.self.inside.asked c.args.ask (lines_in c.self.inside.entries.items c.args.attempt) (lawful_lines c.self.inside.asked c.self.inside.entries.items c.args.attempt c.self.invariant)))

@@ -1,0 +1,80 @@
+-- What attempts ask for, as contracts see it, after each change of their lines.
+use Rattle.std.proofs.Common.{◌≡◌, ℕ, ◌+◌, List, [], ◌∷◌, Bool, true, false, not, ◌==◌, nat_lt, map, filter, None, Some, refl, sym, ◌∙◌, ap}
+use Rattle.std.specs.List.{list_any}
+use Rattle.std.proofs.lemmas.List.{map-append}
+use Rattle.rm_types.specs.declared.containers.Ask.{Ask}
+use Rattle.rm_types.specs.declared.containers.AskLine.{AskLine}
+use Rattle.rm_types.specs.declared.ids.AttemptId.{AttemptId}
+use Rattle.rm_types.specs.declared.resources.Resource.{Resource}
+use Rattle.rm_types.specs.Ids.{is_attempt}
+use Rattle.rm_types.specs.Lists.{is_nil}
+use Rattle.rm_types.specs.Passes.{by_priority}
+use Rattle.rm_book.specs.declared.lines.AttemptAsks.{AttemptAsks}
+use Rattle.rm_book.specs.AskTables.{AskNow, asks_of, asks_set, asks_granted, is_for, one_less, renewed, some_asks}
+use Rattle.rm_book.specs.AskLines.{AreLines, IsAskTable, ask_of, asks_in, asks_of_entry, by_order, in_line, is_line_for, lines_in, lines_set, lines_granted}
+use Rattle.rm_book.proofs.Entries.{Changed, lawful_lines}
+use Rattle.rm_book.proofs.Lists.{any_view, filter_view, map_view}
+use Rattle.rm_book.proofs.Numbered.{any_by_order, placed_last, by_order_changed, by_order_filter, kept_in_order}
+
+-- an ask of a priority and size is one of a line of them
+pub any_same : (priority : ℕ) (size : Resource) (lines : List AskLine) → list_any (is_line_for priority size) lines ≡ list_any (is_for priority size) (asks_in lines)
+any_same priority size lines = sym (any_by_order (is_line_for priority size) lines) ∙ any_view ask_of (is_for priority size) (by_order lines)
+
+-- asks that go, and asks that change
+asks_filter : (p : Ask → Bool) (lines : List AskLine) → asks_in (filter (λ line. p line.ask) lines) ≡ filter p (asks_in lines)
+asks_filter p lines = ap (map ask_of) (by_order_filter (λ line. p line.ask) lines) ∙ filter_view ask_of p (by_order lines)
+
+asks_changed : (change : Ask → Ask) (lines : List AskLine) → asks_in (map (in_line change) lines) ≡ map change (asks_in lines)
+asks_changed change lines = ap (map ask_of) (by_order_changed change lines) ∙ map_view ask_of (in_line change) change (λ line. refl) (by_order lines)
+
+-- an ask is set
+pub set_view : (asked : ℕ) (ask : Ask) (lines : List AskLine) → AreLines asked lines → asks_in (lines_set ask (asked + 1) lines) ≡ asks_set ask (asks_in lines)
+set_view asked ask lines h = by (ask.count == 0) (list_any (is_line_for ask.priority ask.size) lines) refl refl
+  where
+    by : (b c : Bool) → (ask.count == 0) ≡ b → list_any (is_line_for ask.priority ask.size) lines ≡ c → asks_in (lines_set ask (asked + 1) lines) ≡ asks_set ask (asks_in lines)
+    by true c e f = rw e (asks_filter (λ one. not (is_for ask.priority ask.size one)) lines)
+    by false true e f =
+        let g : list_any (is_for ask.priority ask.size) (asks_in lines) ≡ true = sym (any_same ask.priority ask.size lines) ∙ f in
+        rw (e, f, g) (asks_changed (renewed ask) lines)
+    by false false e f =
+        let g : list_any (is_for ask.priority ask.size) (asks_in lines) ≡ false = sym (any_same ask.priority ask.size lines) ∙ f in
+        let line : AskLine = record { ask = ask; order = asked + 1 } in
+        rw (e, f, g) (ap (map ask_of) (placed_last line lines h.numbers) ∙ map-append ask_of (by_order lines) (line ∷ []))
+
+-- one is granted
+pub granted_view : (priority : ℕ) (size : Resource) (lines : List AskLine) → asks_in (lines_granted priority size lines) ≡ asks_granted priority size (asks_in lines)
+granted_view priority size lines =
+    asks_filter (λ ask. nat_lt 0 ask.count) (map (in_line (one_less priority size)) lines)
+    ∙ ap (filter (λ (ask : Ask). nat_lt 0 ask.count)) (asks_changed (one_less priority size) lines)
+
+-- what each attempt asks for
+pub view_of : (entries : List AttemptAsks) (attempt : AttemptId) → asks_of (map asks_of_entry entries) attempt ≡ asks_in (lines_in entries attempt)
+view_of [] attempt = refl
+view_of (entry ∷ entries) attempt = by (is_attempt entry.attempt attempt) refl (view_of entries attempt)
+  where
+    by : (b : Bool) → is_attempt entry.attempt attempt ≡ b → asks_of (map asks_of_entry entries) attempt ≡ asks_in (lines_in entries attempt)
+        → asks_of (map asks_of_entry (entry ∷ entries)) attempt ≡ asks_in (lines_in (entry ∷ entries) attempt)
+    by true e rest = rw e refl
+    by false e rest = rw e rest
+
+pub changed_view : (asked : ℕ) (old new : List AttemptAsks) (attempt : AttemptId) (lines : List AskLine) (change : List Ask → List Ask) → Changed asked old new attempt lines
+    → asks_in lines ≡ change (asks_in (lines_in old attempt)) → AskNow (map asks_of_entry old) (map asks_of_entry new) attempt (change (asks_of (map asks_of_entry old) attempt))
+changed_view asked old new attempt lines change c same = record {
+  at = view_of new attempt ∙ ap asks_in c.at ∙ same ∙ ap change (sym (view_of old attempt));
+  others = λ other apart. view_of new other ∙ ap asks_in (c.others other apart) ∙ sym (view_of old other);
+}
+
+-- an attempt without lines asks for nothing
+pub none_view : (entries : List AttemptAsks) (attempt : AttemptId) → lines_in entries attempt ≡ [] → None ≡ some_asks (by_priority (asks_of (map asks_of_entry entries) attempt))
+none_view entries attempt none = rw (view_of entries attempt, none) refl
+
+-- the lines of another are what a pass goes over
+pub some_view : (asked : ℕ) (entries : List AttemptAsks) (attempt : AttemptId) (lines : List AskLine) → IsAskTable asked entries → lines_in entries attempt ≡ lines
+    → is_nil lines ≡ false → Some (map ask_of lines) ≡ some_asks (by_priority (asks_of (map asks_of_entry entries) attempt))
+some_view asked entries attempt lines h is some =
+    let kept : by_priority (asks_in lines) ≡ map ask_of lines = kept_in_order lines (rw is at (lawful_lines asked entries attempt h)).order in
+    rw (view_of entries attempt, is, kept) (not_nil lines some)
+  where
+    not_nil : (lines : List AskLine) → is_nil lines ≡ false → Some (map ask_of lines) ≡ some_asks (map ask_of lines)
+    not_nil [] e = cc
+    not_nil (line ∷ lines) e = refl
