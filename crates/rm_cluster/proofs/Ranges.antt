@@ -6,14 +6,15 @@ use Rattle.std.specs.Prelude.{All, is_some, option_map, option_and_then}
 use Rattle.std.specs.Option.{option_map_or}
 use Rattle.serde_json.specs.Data.{Data, Items, no_items, item, Members, no_members, member}
 use Rattle.serde_json.specs.Find.{as_bool, as_number, as_str, as_array, as_object, as_u64}
-use Rattle.rm_types.specs.Frames.{IsText}
-use Rattle.rm_types.specs.IdTexts.{IsWithin}
+use Rattle.rm_types.specs.Ranges.{IsText}
+use Rattle.rm_types.specs.Ranges.{IsWithin}
 use Rattle.rm_types.specs.Texts.{fault_of}
 use Rattle.rm_types.specs.declared.settings.QueueSpec.{QueueSpec}
 use Rattle.rm_types.specs.declared.settings.Settings.{Settings}
 use Rattle.rm_types.specs.declared.settings.UserGroups.{UserGroups}
 use Rattle.rm_types.specs.declared.texts.TextKind.{TextKind}
 use Rattle.rm_types.specs.declared.texts.TextKind.TheVariants.{Name, AclText}
+use Rattle.rm_cluster.specs.Limits.{longest_wait_ms, most_apps, most_attempts, most_completed, most_memory_mb, most_vcores}
 use Rattle.rm_cluster.specs.Readings.{number_within, text_of, string_of, names_of, name_list_of, user_of, users_of, user_groups_of}
 use Rattle.rm_cluster.specs.Rules.{max_attempts_of, max_completed_of, max_apps_of, wait_ms_of, acl_enable_of, admin_acl_of, max_memory_of, max_vcores_of, groups_of, queues_of, default_queues, IsSettingsOf}
 use Rattle.rm_cluster.specs.Ranges.{HasNames, IsInRange}
@@ -128,14 +129,14 @@ nothing queues e = absurd cc
 pub in_range : (file : Data) (settings : Settings) → IsSettingsOf file settings → IsInRange settings
 unfolding max_attempts_of max_completed_of max_apps_of wait_ms_of acl_enable_of admin_acl_of max_memory_of max_vcores_of groups_of queues_of
 in_range file settings kept = record {
-  max_attempts = kept_at_key (IsWithin 1 100) _ _ _ _ (within 1 100) (lit≤ tt, lit≤ tt) kept.max_attempts;
-  max_completed = kept_at_key (IsWithin 0 10000) _ _ _ _ (within 0 10000) (lit≤ tt, lit≤ tt) kept.max_completed;
-  max_apps = kept_at_key (IsWithin 1 100000) _ _ _ _ (within 1 100000) (lit≤ tt, lit≤ tt) kept.max_apps;
-  wait_ms = kept_at_key (IsWithin 0 1000000000) _ _ _ _ (within 0 1000000000) (lit≤ tt, lit≤ tt) kept.wait_ms;
+  max_attempts = kept_at_key (IsWithin 1 most_attempts) _ _ _ _ (within 1 most_attempts) (lit≤ tt, lit≤ tt) kept.max_attempts;
+  max_completed = kept_at_key (IsWithin 0 most_completed) _ _ _ _ (within 0 most_completed) (lit≤ tt, lit≤ tt) kept.max_completed;
+  max_apps = kept_at_key (IsWithin 1 most_apps) _ _ _ _ (within 1 most_apps) (lit≤ tt, lit≤ tt) kept.max_apps;
+  wait_ms = kept_at_key (IsWithin 0 longest_wait_ms) _ _ _ _ (within 0 longest_wait_ms) (lit≤ tt, lit≤ tt) kept.wait_ms;
   acl_enable = kept_at_key (λ enabled. enabled ≡ false) _ _ _ _ (λ value enabled e. off_found (as_bool value) enabled e) refl kept.acl_enable;
   admin_acl = kept_at_key (IsText AclText) _ _ _ _ (string_is AclText) refl kept.admin_acl;
-  max_memory = kept_at_key (IsWithin 1 16777216) _ _ _ _ (within 1 16777216) (lit≤ tt, lit≤ tt) kept.max_memory;
-  max_vcores = kept_at_key (IsWithin 1 256) _ _ _ _ (within 1 256) (lit≤ tt, lit≤ tt) kept.max_vcores;
+  max_memory = kept_at_key (IsWithin 1 most_memory_mb) _ _ _ _ (within 1 most_memory_mb) (lit≤ tt, lit≤ tt) kept.max_memory;
+  max_vcores = kept_at_key (IsWithin 1 most_vcores) _ _ _ _ (within 1 most_vcores) (lit≤ tt, lit≤ tt) kept.max_vcores;
   groups = kept_at_key (All HasNames) _ _ _ _ groups_are (All-nil HasNames) kept.groups;
   queues = kept_at_key (λ queues. queues ≡ default_queues) _ _ _ _ (λ value. nothing) refl kept.queues;
 }

@@ -1,3 +1,4 @@
+pub mod Limits
 pub mod Readings
 pub mod Rules
 pub mod Ranges

@@ -9,6 +9,7 @@ use Rattle.rm_types.specs.declared.settings.QueueSpec.{QueueSpec}
 use Rattle.rm_types.specs.declared.settings.Settings.{Settings}
 use Rattle.rm_types.specs.declared.settings.UserGroups.{UserGroups}
 use Rattle.rm_types.specs.declared.texts.TextKind.TheVariants.{AclText}
+use Rattle.rm_cluster.specs.Limits.{longest_wait_ms, most_apps, most_attempts, most_completed, most_memory_mb, most_vcores}
 use Rattle.rm_cluster.specs.Readings.{at_key, number_within, string_of, user_groups_of, has_only}
 
 -- the keys that may stand in the file
@@ -25,21 +26,21 @@ is_known key = list_any (bytes_eq key) known_keys
 unfoldable pub has_known_keys : Data → Bool
 has_known_keys = has_only is_known
 
--- the global bound on attempts: 1 to 100, and 2 where the key is absent
+-- the global bound on attempts: 1 to the most, and 2 where the key is absent
 unfoldable pub max_attempts_of : Data → Option ℕ
-max_attempts_of = at_key (codes "max_attempts") (number_within 1 100) 2
+max_attempts_of = at_key (codes "max_attempts") (number_within 1 most_attempts) 2
 
--- how many completed applications are remembered: 0 to 10000, and 1000 where the key is absent
+-- how many completed applications are remembered: 0 to the most, and 1000 where the key is absent
 unfoldable pub max_completed_of : Data → Option ℕ
-max_completed_of = at_key (codes "max_completed") (number_within 0 10000) 1000
+max_completed_of = at_key (codes "max_completed") (number_within 0 most_completed) 1000
 
--- how many applications may run: 1 to 100000, and 10000 where the key is absent
+-- how many applications may run: 1 to the most, and 10000 where the key is absent
 unfoldable pub max_apps_of : Data → Option ℕ
-max_apps_of = at_key (codes "max_apps") (number_within 1 100000) 10000
+max_apps_of = at_key (codes "max_apps") (number_within 1 most_apps) 10000
 
--- how long a recovered manager waits, in milliseconds: 0 to 1000000000, and 10000 where the key is absent
+-- how long a recovered manager waits, in milliseconds: 0 to the longest, and 10000 where the key is absent
 unfoldable pub wait_ms_of : Data → Option ℕ
-wait_ms_of = at_key (codes "wait_ms") (number_within 0 1000000000) 10000
+wait_ms_of = at_key (codes "wait_ms") (number_within 0 longest_wait_ms) 10000
 
 -- whether rights are checked, which so far may only be false: false where the key is absent
 unfoldable pub acl_enable_of : Data → Option Bool
@@ -49,13 +50,13 @@ acl_enable_of = at_key (codes "acl_enable") (λ value. option_and_then (λ enabl
 unfoldable pub admin_acl_of : Data → Option (List ℕ)
 admin_acl_of = at_key (codes "admin_acl") (string_of AclText) (codes "*")
 
--- the memory of the greatest container, in MB: 1 to 16777216, and 8192 where the key is absent
+-- the memory of the greatest container, in MB: 1 to the most, and 8192 where the key is absent
 unfoldable pub max_memory_of : Data → Option ℕ
-max_memory_of = at_key (codes "max_memory_mb") (number_within 1 16777216) 8192
+max_memory_of = at_key (codes "max_memory_mb") (number_within 1 most_memory_mb) 8192
 
--- the cores of the greatest container: 1 to 256, and 8 where the key is absent
+-- the cores of the greatest container: 1 to the most, and 8 where the key is absent
 unfoldable pub max_vcores_of : Data → Option ℕ
-max_vcores_of = at_key (codes "max_vcores") (number_within 1 256) 8
+max_vcores_of = at_key (codes "max_vcores") (number_within 1 most_vcores) 8
 
 -- the groups of users: none where the key is absent
 unfoldable pub groups_of : Data → Option (List UserGroups)

@@ -1,7 +1,7 @@
 -- The text of a number is read as that number, and no other text is.
 use Rattle.std.proofs.Common.{◌≡◌, ℕ, zero, suc, ◌+◌, ◌-◌, ◌*◌, ◌^◌, ◌<◌, ◌≤◌, Bool, true, false, cond, ◌&&◌, ◌||◌, ltb, leb, List, [], ◌∷◌, length, get_or, Option, Some, None, refl, sym, ap, subst, ◌∙◌, arith, rules}
 use Rattle.std.specs.Fmt.{decimal}
-use Rattle.rm_types.specs.IdTexts.{IsWithin}
+use Rattle.rm_types.specs.Ranges.{IsWithin}
 use Rattle.std.proofs.lemmas.Bool.{ltb-true, lt-ltb, leb-true, le-leb, eqb-false, ne_eqb, and_parts, and_from, true≢false}
 use Rattle.std.proofs.lemmas.Option.{cond_some, same_Some}
 use Rattle.std.proofs.lemmas.Str.Parse.{IsNumeralModel, numerals_by_fold}

@@ -1,12 +1,12 @@
 -- Lines put together to a draft of a script, which is what was written so far.
-use Rattle.std.proofs.Common.{◌≡◌, ℕ, ◌<◌, Bool, true, false, not, ◌||◌, cond, List, [], ◌∷◌, ◌++◌, length, map, Some, refl, sym, ap, ◌∙◌, append_assoc, arith}
+use Rattle.std.proofs.Common.{◌≡◌, ℕ, ◌<◌, Bool, true, false, not, ◌||◌, List, [], ◌∷◌, ◌++◌, length, map, Some, refl, sym, ap, ◌∙◌, append_assoc, arith}
 use Rattle.std.specs.Prelude.{codes, All}
 use Rattle.std.specs.List.{flat_map, AllByRecursion}
 use Rattle.std.proofs.lemmas.Option.{same_Some}
 use Rattle.std.proofs.lemmas.List.{append-nil, map-append}
 use Rattle.std.proofs.lemmas.List.Concat.{flat_map-append}
-use Rattle.std.proofs.lemmas.List.Elements.{All-nil, All-push, filter-append}
-use Rattle.rm_types.specs.IdTexts.{IsWithin}
+use Rattle.std.proofs.lemmas.List.Elements.{All-nil, All-push}
+use Rattle.rm_types.specs.Ranges.{IsWithin}
 use Rattle.rm_types.specs.Lists.{is_nil}
 use Rattle.rm_types.specs.declared.messages.Message.{Message}
 use Rattle.rm_types.specs.declared.scripts.Life.{Life}
@@ -16,13 +16,12 @@ use Rattle.rm_script.specs.declared.lines.Line.TheVariants.{Skipped, Start, Sett
 use Rattle.rm_script.specs.declared.drafts.Living.{Living}
 use Rattle.rm_script.specs.declared.drafts.Draft.{Draft}
 use Rattle.rm_script.specs.declared.drafts.Draft.TheVariants as drafts
-use Rattle.rm_script.specs.Lines.{is_skipped, kept_lines, IsLineText}
 use Rattle.rm_script.specs.Written.{Sent, Delivered, Lost, WrittenLife, delivered, settled_segment, life_of}
 use Rattle.rm_script.specs.Spelling.{sent_text, start_text, settled_lines, life_lines, script_lines}
 use Rattle.rm_script.specs.Scripts.{IsRead, IsSent, IsCrash, IsLife, Crashes}
-use Rattle.rm_script.specs.Reading.{line_of, settled, crashed, crash_life, with_start, with_settle, with_crash, with_message, with_loss, with_line, with_text, with_texts}
+use Rattle.rm_script.specs.Limits.{greatest_stamp}
+use Rattle.rm_script.specs.Reading.{settled, crashed, crash_life, line_text, with_start, with_settle, with_crash, with_message, with_loss, with_line, with_lines, IsCrashLine, IsMark}
 use Rattle.rm_script.proofs.Labels.{bound, not_chosen}
-use Rattle.rm_script.proofs.OneLine.{IsCrashLine, IsLine, IsTextOf, line_text, Says, is_kept, line_of_is}
 
 -- a script as it is written, as far as its lines go: the lives that crashed, and the life that goes on
 pub data Written : Type 0 where
@@ -50,7 +49,7 @@ pub record AreCrashed (lives : List WrittenLife) : Type 0 where
 
 pub record IsGoing (lives : List WrittenLife) (stamp : ℕ) (done : List (List Sent)) (sent : List Sent) : Type 0 where
   pub lives_fit : AreCrashed lives
-  pub stamp_fits : IsWithin 1 1000000000000000 stamp
+  pub stamp_fits : IsWithin 1 greatest_stamp stamp
   pub done_fit : All (All IsSent) done
   pub sent_fit : All IsSent sent
 
@@ -99,7 +98,7 @@ crashed_life stamp done calls image = record { stamp = stamp; settled = done; cr
 pub crashed_is : (lives : List WrittenLife) (life : WrittenLife) → drafts.Between (map life_of lives ++ life_of life ∷ []) ≡ draft_of (Between (lives ++ life ∷ []))
 crashed_is lives life = ap (λ (ls : List Life). drafts.Between ls) (sym (map-append life_of lives (life ∷ [])))
 
-grow_start : (before : Written) (stamp : ℕ) (next : Draft) → with_start (draft_of before) stamp ≡ Some next → Fits before → IsWithin 1 1000000000000000 stamp
+grow_start : (before : Written) (stamp : ℕ) (next : Draft) → with_start (draft_of before) stamp ≡ Some next → Fits before → IsWithin 1 greatest_stamp stamp
     → Grown before (start_text stamp ∷ []) next
 grow_start (Between lives) stamp next e fits fine = record {
   after = Going lives stamp [] [];
@@ -134,7 +133,7 @@ some_settled : (done : List (List Sent)) → is_nil (map settled_segment done) �
 some_settled [] e = absurd cc
 some_settled (sent ∷ done) e = omega arith
 
-crashed_fit : (lives : List WrittenLife) (stamp : ℕ) (done : List (List Sent)) (calls image : ℕ) → AreCrashed lives → IsWithin 1 1000000000000000 stamp → All (All IsSent) done → 0 < length done
+crashed_fit : (lives : List WrittenLife) (stamp : ℕ) (done : List (List Sent)) (calls image : ℕ) → AreCrashed lives → IsWithin 1 greatest_stamp stamp → All (All IsSent) done → 0 < length done
     → IsCrashLine calls image → AreCrashed (lives ++ crashed_life stamp done calls image ∷ [])
 crashed_fit lives stamp done calls image fit stamp_fits done_fit some fine =
     let life : WrittenLife = crashed_life stamp done calls image in
@@ -198,66 +197,27 @@ grow_loss (Going lives stamp done sent) message next e fits fine = record {
   lines = sent_lines (script_lines lives) (start_text stamp ∷ flat_map settled_lines done) sent (Lost message);
 }
 
--- the lines that the line adds
-abbrev pub shown : Line → List (List ℕ)
-shown Skipped = []
-shown (Start stamp) = line_text (Start stamp) ∷ []
-shown Settle = line_text Settle ∷ []
-shown (Crash calls image) = line_text (Crash calls image) ∷ []
-shown (Deliver message) = line_text (Deliver message) ∷ []
-shown (Lose message) = line_text (Lose message) ∷ []
+-- a line more
+grow : (before : Written) (line : Line) (next : Draft) → with_line (draft_of before) line ≡ Some next → Fits before → IsMark line → Grown before (line_text line ∷ []) next
+grow before Skipped next e fits mark = absurd mark
+grow before (Start stamp) next e fits mark = grow_start before stamp next e fits mark
+grow before Settle next e fits mark = grow_settle before next e fits
+grow before (Crash calls image) next e fits mark = grow_crash before calls image next e fits mark
+grow before (Deliver message) next e fits mark = grow_message before message next e fits mark
+grow before (Lose message) next e fits mark = grow_loss before message next e fits mark
 
-grow : (before : Written) (line : Line) (next : Draft) → with_line (draft_of before) line ≡ Some next → Fits before → IsLine line → Grown before (shown line) next
-grow before Skipped next e fits fine = record { after = before; is = sym (same_Some (draft_of before) next e); fits = fits; lines = sym (append-nil (written_lines before)) }
-grow before (Start stamp) next e fits fine = grow_start before stamp next e fits fine
-grow before Settle next e fits fine = grow_settle before next e fits
-grow before (Crash calls image) next e fits fine = grow_crash before calls image next e fits fine
-grow before (Deliver message) next e fits fine = grow_message before message next e fits fine
-grow before (Lose message) next e fits fine = grow_loss before message next e fits fine
-
-kept_one : (line : Line) (text : List ℕ) → Says line → IsLine line → text ≡ line_text line → kept_lines (text ∷ []) ≡ line_text line ∷ []
-kept_one line text says fine same =
-    ap (λ (t : List ℕ). kept_lines (t ∷ [])) same ∙ ap (λ (b : Bool). cond b (line_text line ∷ []) []) (is_kept line says fine)
-
--- a text that is kept, or isn't
-kept_text : (line : Line) (text : List ℕ) → IsTextOf line text → IsLine line → kept_lines (text ∷ []) ≡ shown line
-kept_text Skipped text is fine = ap (λ (b : Bool). cond (not b) (text ∷ []) []) is
-kept_text (Start stamp) text is fine = kept_one (Start stamp) text tt fine is
-kept_text Settle text is fine = kept_one Settle text tt fine is
-kept_text (Crash calls image) text is fine = kept_one (Crash calls image) text tt fine is
-kept_text (Deliver message) text is fine = kept_one (Deliver message) text tt fine is
-kept_text (Lose message) text is fine = kept_one (Lose message) text tt fine is
-
--- ---- lines one after the other
-
--- the draft is that of something written, which has those of these lines more that say something
-pub record Grew (before : Written) (texts : List (List ℕ)) (last : Draft) : Type 0 where
-  pub after : Written
-  pub is : last ≡ draft_of after
-  pub fits : Fits after
-  pub lines : written_lines after ≡ written_lines before ++ kept_lines texts
-  pub fine : AllByRecursion IsLineText texts
-
-joined : (before shown_now later kept after last : List (List ℕ)) → after ≡ before ++ shown_now → last ≡ after ++ later → kept ≡ shown_now ++ later → last ≡ before ++ kept
-joined before shown_now later kept after last e f g =
-    f ∙ ap (λ (ls : List (List ℕ)). ls ++ later) e ∙ append_assoc before shown_now later ∙ ap (λ (ls : List (List ℕ)). before ++ ls) (sym g)
-
-pub with_texts_are : (before : Written) (texts : List (List ℕ)) (last : Draft) → with_texts (draft_of before) texts ≡ Some last → Fits before → Grew before texts last
-with_texts_are before [] last e fits =
-    record { after = before; is = sym (same_Some (draft_of before) last e); fits = fits; lines = sym (append-nil (written_lines before)); fine = tt }
-with_texts_are before (text ∷ texts) last e fits =
-    let first = bound (with_text (draft_of before) text) (λ next. with_texts next texts) last e in
-    let line = bound (line_of text) (with_line (draft_of before)) first.0 first.1 in
-    let is = line_of_is text line.0 line.1 in
-    let one = grow before line.0 first.0 line.2 fits is.fits in
-    let more : with_texts (draft_of one.after) texts ≡ Some last = ap (λ (d : Draft). with_texts d texts) (sym one.is) ∙ first.2 in
-    let rest = with_texts_are one.after texts last more one.fits in
-    let kept : kept_lines (text ∷ texts) ≡ shown line.0 ++ kept_lines texts =
-    filter-append (λ l. not (is_skipped l)) (text ∷ []) texts ∙ ap (λ (ls : List (List ℕ)). ls ++ kept_lines texts) (kept_text line.0 text is.same is.fits) in
+-- lines one after the other
+pub with_lines_are : (before : Written) (lines : List Line) (last : Draft) → with_lines (draft_of before) lines ≡ Some last → Fits before → AllByRecursion IsMark lines
+    → Grown before (map line_text lines) last
+with_lines_are before [] last e fits marks = record { after = before; is = sym (same_Some (draft_of before) last e); fits = fits; lines = sym (append-nil (written_lines before)) }
+with_lines_are before (line ∷ lines) last e fits marks =
+    let first = bound (with_line (draft_of before) line) (λ next. with_lines next lines) last e in
+    let one = grow before line first.0 first.1 fits marks.0 in
+    let more : with_lines (draft_of one.after) lines ≡ Some last = ap (λ (d : Draft). with_lines d lines) (sym one.is) ∙ first.2 in
+    let rest = with_lines_are one.after lines last more one.fits marks.1 in
     record {
       after = rest.after;
       is = rest.is;
       fits = rest.fits;
-      lines = joined (written_lines before) (shown line.0) (kept_lines texts) (kept_lines (text ∷ texts)) (written_lines one.after) (written_lines rest.after) one.lines rest.lines kept;
-      fine = (is.fine, rest.fine);
+      lines = rest.lines ∙ ap (λ (ls : List (List ℕ)). ls ++ map line_text lines) one.lines ∙ append_assoc (written_lines before) (line_text line ∷ []) (map line_text lines);
     }

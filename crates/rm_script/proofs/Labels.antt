@@ -1,6 +1,6 @@
 -- Texts, and fields with a label: what is written is read again, and nothing else is.
 use Rattle.std.proofs.Common.{◌≡◌, ℕ, ◌+◌, ◌^◌, ◌<◌, ◌≤◌, Bool, true, false, not, cond, ltb, leb, List, [], ◌∷◌, ◌++◌, length, take, drop, Option, Some, None, refl, sym, ap, subst, ◌∙◌, arith}
-use Rattle.rm_types.specs.IdTexts.{IsWithin}
+use Rattle.rm_types.specs.Ranges.{IsWithin}
 use Rattle.std.specs.Fmt.{decimal}
 use Rattle.std.specs.Str.{bytes_eq}
 use Rattle.std.specs.Option.{option_map}
@@ -12,7 +12,7 @@ use Rattle.std.proofs.lemmas.List.Elements.{All-from_recursion}
 use Rattle.std.proofs.lemmas.Slice.Eq.{bytes_eq-Decides}
 use Rattle.rm_types.specs.Texts.{is_allowed, fault_of, least_length, greatest_length, first_not_allowed}
 use Rattle.rm_types.specs.declared.texts.TextKind.{TextKind}
-use Rattle.rm_types.specs.Frames.{IsText}
+use Rattle.rm_types.specs.Ranges.{IsText}
 use Rattle.rm_script.specs.Results.{◌>>=◌}
 use Rattle.rm_script.specs.Fields.{after_label, number_in, number_field, unless_fault, text_in, text_field}
 use Rattle.rm_script.proofs.Decimals.{number_in-decimal, number_in_is}
@@ -23,10 +23,6 @@ use Rattle.rm_script.proofs.Words.{IsOther, Lacks, IsClear}
 pub bound : {A B : Type 0} (o : Option A) (f : A → Option B) (y : B) → (o >>= f) ≡ Some y → (x : A) × (o ≡ Some x) × (f x ≡ Some y)
 bound None f y e = absurd cc
 bound (Some x) f y e = (x, refl, e)
-
-pub chosen : {A : Type 0} (b : Bool) (o : Option A) (x : A) → cond b o None ≡ Some x → (b ≡ true) × (o ≡ Some x)
-chosen true o x e = (refl, e)
-chosen false o x e = absurd cc
 
 pub not_chosen : {A : Type 0} (b : Bool) (o : Option A) (x : A) → cond b None o ≡ Some x → (b ≡ false) × (o ≡ Some x)
 not_chosen true o x e = absurd cc

@@ -1,18 +1,35 @@
 -- Taking the lines of a script one after the other.
-use Rattle.std.proofs.Common.{◌≡◌, ℕ, zero, suc, ◌+◌, ◌<◌, ◌≤◌, List, [], ◌∷◌, ◌++◌, length, take, drop, Option, Some, None, Ok, Err, refl, sym, ap, subst, ◌∙◌, arith, inl, inr}
-use Rattle.std.specs.Prelude.{◌⊎◌, min}
-use Rattle.std.specs.List.{flat_map}
-use Rattle.std.proofs.lemmas.List.{append-nil, length-append, length-drop}
+use Rattle.std.proofs.Common.{◌≡◌, ℕ, zero, suc, ◌+◌, ◌<◌, ◌≤◌, Bool, true, false, not, cond, List, [], ◌∷◌, ◌++◌, length, map, take, drop, Option, Some, Ok, Err, refl, sym, ap, subst, ◌∙◌, arith, inl, inr}
+use Rattle.std.specs.Prelude.{◌⊎◌, min, All}
+use Rattle.std.specs.List.{flat_map, AllByRecursion}
+use Rattle.std.proofs.lemmas.List.{append-nil, map-append, length-append, length-drop}
 use Rattle.std.proofs.lemmas.List.Concat.{flat_map-append}
+use Rattle.std.proofs.lemmas.List.Elements.{All-nil, All-push, filter-append, recursion_from_All}
+use Rattle.std.proofs.lemmas.Option.{same_Some}
 use Rattle.rm_types.specs.declared.scripts.Script.{Script}
 use Rattle.rm_script.specs.declared.errors.LineError.{LineError}
 use Rattle.rm_script.specs.declared.errors.LineError.TheVariants as faults
 use Rattle.rm_script.specs.declared.errors.ScriptError.TheVariants as scripts
 use Rattle.rm_script.specs.declared.drafts.Draft.{Draft}
-use Rattle.rm_script.specs.Lines.{lines_of, ended, size_of_first}
-use Rattle.rm_script.specs.Results.{◌>>=◌, Fails, at_line}
-use Rattle.rm_script.proofs.Running.{associated}
-use Rattle.rm_script.specs.Reading.{with_text, with_texts, no_lines, script_of_draft, Reads, Tells}
+use Rattle.rm_script.specs.declared.lines.Line.{Line}
+use Rattle.rm_script.specs.declared.lines.Line.TheVariants.{Skipped}
+use Rattle.rm_script.specs.Limits.{most_bytes, most_lines}
+use Rattle.rm_script.specs.Lines.{lines_of, ended, size_of_first, is_skipped, kept_lines, IsLineText}
+use Rattle.rm_script.specs.Results.{◌>>=◌, Fails, FindsNone, at_line}
+use Rattle.rm_script.specs.Reading.{line_text, with_line, with_lines, no_lines, script_of_draft, IsMark, IsMarkText, Takes, Reads, Tells}
+use Rattle.rm_script.proofs.Asks.{heads}
+use Rattle.rm_script.proofs.Labels.{bound}
+use Rattle.rm_script.proofs.OneLine.{is_told, mark_said, none_said, says}
+use Rattle.rm_script.proofs.Running.{with_lines-append, one_lines}
+
+-- all of a list with one more at its end
+recursion_last : {A : Type 0} (P : A → Type 0) (xs : List A) (x : A) → AllByRecursion P (xs ++ x ∷ []) → P x
+recursion_last P [] x h = h.0
+recursion_last P (one ∷ xs) x h = recursion_last P xs x h.1
+
+recursion_front : {A : Type 0} (P : A → Type 0) (xs : List A) (x : A) → AllByRecursion P (xs ++ x ∷ []) → AllByRecursion P xs
+recursion_front P [] x h = tt
+recursion_front P (one ∷ xs) x h = (h.0, recursion_front P xs x h.1)
 
 -- so many lines were read as the draft, and the rest is left
 pub record IsAt (count : ℕ) (bytes rest : List ℕ) (draft : Draft) : Type 0 where
@@ -23,7 +40,7 @@ pub record IsAt (count : ℕ) (bytes rest : List ℕ) (draft : Draft) : Type 0 w
 
 pub at_start : (bytes : List ℕ) → IsAt 0 bytes bytes no_lines
 at_start bytes = record {
-  reads = record { few = omega arith; size = omega arith; lines = refl };
+  reads = record { few = omega arith; size = omega arith; each = All-nil IsLineText; lines = []; marks = All-nil IsMark; texts = refl; draft_is = refl };
   within = omega arith;
   left = refl;
   size = omega arith;
@@ -75,52 +92,145 @@ is_next count bytes rest draft text after is some lines cut =
       size = ap (λ (n : ℕ). min (length bytes) n + length after) done ∙ grown;
     }
 
-ended_here : (o : Option Draft) → (o >>= λ next. Some next) ≡ o
-ended_here None = refl
-ended_here (Some draft) = refl
+-- the lines of the texts so far and one more
 
-with_texts-push : (draft : Draft) (texts : List (List ℕ)) (text : List ℕ) → with_texts draft (texts ++ text ∷ []) ≡ (with_texts draft texts >>= λ last. with_text last text)
-with_texts-push draft [] text = ended_here (with_text draft text)
-with_texts-push draft (first ∷ texts) text =
-    associated (with_text draft first) (λ next. with_texts next (texts ++ text ∷ [])) (λ next. with_texts next texts) (λ last. with_text last text) (λ next. with_texts-push next texts text)
+-- a text that says a line more
+kept_more : (texts : List (List ℕ)) (text : List ℕ) (lines : List Line) (line : Line) → kept_lines texts ≡ map line_text lines → IsMarkText text line
+    → kept_lines (texts ++ text ∷ []) ≡ map line_text (lines ++ line ∷ [])
+kept_more texts text lines line so_far is =
+    let told : is_skipped text ≡ false = ap is_skipped is.same ∙ is_told line is.mark in
+    filter-append (λ one. not (is_skipped one)) texts (text ∷ [])
+    ∙ ap (λ (b : Bool). kept_lines texts ++ cond (not b) (text ∷ []) []) told
+    ∙ ap (λ (ls : List (List ℕ)). ls ++ text ∷ []) so_far
+    ∙ ap (λ (one : List ℕ). map line_text lines ++ one ∷ []) is.same
+    ∙ sym (map-append line_text lines (line ∷ []))
 
--- the first lines and the next one
-next_reads : (count : ℕ) (bytes rest : List ℕ) (draft : Draft) (text after : List ℕ) → IsAt count bytes rest draft → IsNext count bytes text after
-    → with_texts no_lines (take (count + 1) (lines_of bytes)) ≡ with_text draft text
-next_reads count bytes rest draft text after is next =
-    ap (with_texts no_lines) next.taken ∙ with_texts-push no_lines (take count (lines_of bytes)) text ∙ ap (λ (o : Option Draft). o >>= λ last. with_text last text) is.reads.lines
+-- and one that is skipped
+kept_same : (texts : List (List ℕ)) (text : List ℕ) → is_skipped text ≡ true → kept_lines (texts ++ text ∷ []) ≡ kept_lines texts
+kept_same texts text skipped =
+    filter-append (λ one. not (is_skipped one)) texts (text ∷ []) ∙ ap (λ (b : Bool). kept_lines texts ++ cond (not b) (text ∷ []) []) skipped ∙ append-nil (kept_lines texts)
+
+run_more : (draft next : Draft) (lines : List Line) (line : Line) → with_lines no_lines lines ≡ Some draft → with_line draft line ≡ Some next → with_lines no_lines (lines ++ line ∷ []) ≡ Some next
+run_more draft next lines line so_far e =
+    with_lines-append no_lines lines (line ∷ []) ∙ ap (λ (o : Option Draft). o >>= λ last. with_lines last (line ∷ [])) so_far
+    ∙ ap (λ (o : Option Draft). o >>= λ last. Some last) e
 
 -- one line on
 pub goes_on : (count : ℕ) (bytes rest : List ℕ) (draft next : Draft) (text after : List ℕ) → IsAt count bytes rest draft → IsNext count bytes text after
-    → count + 1 ≤ 100000 → length bytes ≤ 16777216 + length after → with_text draft text ≡ Some next → IsAt (count + 1) bytes after next
-goes_on count bytes rest draft next text after is line few size e = record {
-  reads = record { few = few; size = omega (arith, line.size); lines = next_reads count bytes rest draft text after is line ∙ e };
+    → count + 1 ≤ most_lines → length bytes ≤ most_bytes + length after → Takes draft text next → IsAt (count + 1) bytes after next
+goes_on count bytes rest draft next text after is line few size takes = record {
+  reads = by (is_skipped text) refl;
   within = omega (arith, line.there);
   left = line.left;
   size = line.size;
 }
+  where
+    texts : List (List ℕ)
+    texts = take count (lines_of bytes)
+
+    each : All IsLineText (take (count + 1) (lines_of bytes))
+    each = subst (All IsLineText) (sym line.taken) (All-push IsLineText (take count (lines_of bytes)) text is.reads.each takes.is.fine)
+
+    by : (b : Bool) → is_skipped text ≡ b → Reads (count + 1) bytes next
+    by true e =
+        let none : takes.line ≡ Skipped = none_said text takes.line e takes.is.says in
+        let same : draft ≡ next = same_Some draft next (sym (ap (with_line draft) none) ∙ takes.next_is) in
+        record {
+          few = few;
+          size = omega (arith, line.size);
+          each = each;
+          lines = is.reads.lines;
+          marks = is.reads.marks;
+          texts = ap kept_lines line.taken ∙ kept_same (take count (lines_of bytes)) text e ∙ is.reads.texts;
+          draft_is = is.reads.draft_is ∙ ap Some same;
+        }
+    by false e =
+        let said = mark_said text takes.line e takes.is.says in
+        record {
+          few = few;
+          size = omega (arith, line.size);
+          each = each;
+          lines = is.reads.lines ++ takes.line ∷ [];
+          marks = All-push IsMark is.reads.lines takes.line is.reads.marks said.mark;
+          texts = ap kept_lines line.taken ∙ kept_more (take count (lines_of bytes)) text is.reads.lines takes.line is.reads.texts said;
+          draft_is = run_more draft next is.reads.lines takes.line is.reads.draft_is takes.next_is;
+        }
 
 fails_after : (count : ℕ) (bytes rest : List ℕ) (draft : Draft) (text after : List ℕ) → IsAt count bytes rest draft → IsNext count bytes text after
     → ((next : Draft) → Reads (count + 1) bytes next → ⊥) → Tells bytes (Err (scripts.Refused (count + 1)))
 fails_after count bytes rest draft text after is line fails = inl (count, refl, record { there = line.there; draft = draft; before = is.reads; fails = fails })
 
 -- a line too many
-pub too_many : (count : ℕ) (bytes rest : List ℕ) (draft : Draft) (text after : List ℕ) → IsAt count bytes rest draft → IsNext count bytes text after → 100000 < count + 1
+pub too_many : (count : ℕ) (bytes rest : List ℕ) (draft : Draft) (text after : List ℕ) → IsAt count bytes rest draft → IsNext count bytes text after → most_lines < count + 1
     → Tells bytes (Err (scripts.Refused (count + 1)))
 too_many count bytes rest draft text after is line h = fails_after count bytes rest draft text after is line (λ next reads. absurd (omega (arith, reads.few)))
 
 -- a line too far
-pub too_far : (count : ℕ) (bytes rest : List ℕ) (draft : Draft) (text after : List ℕ) → IsAt count bytes rest draft → IsNext count bytes text after → 16777216 + length after < length bytes
+pub too_far : (count : ℕ) (bytes rest : List ℕ) (draft : Draft) (text after : List ℕ) → IsAt count bytes rest draft → IsNext count bytes text after → most_bytes + length after < length bytes
     → Tells bytes (Err (scripts.Refused (count + 1)))
 too_far count bytes rest draft text after is line h = fails_after count bytes rest draft text after is line (λ next reads. absurd (omega (arith, reads.size, line.size)))
 
+-- the texts of lines that end with one are those of the lines before the last, and the last has that text
+record EndWith (front : List (List ℕ)) (text : List ℕ) (lines : List Line) : Type 0 where
+  pub before : List Line
+  pub last : Line
+  pub apart : lines ≡ before ++ last ∷ []
+  pub front_is : front ≡ map line_text before
+  pub text_is : text ≡ line_text last
+
+end_with : (front : List (List ℕ)) (text : List ℕ) (lines : List Line) → front ++ text ∷ [] ≡ map line_text lines → EndWith front text lines
+end_with [] text [] e = absurd cc
+end_with [] text (line ∷ []) e = record { before = []; last = line; apart = refl; front_is = refl; text_is = (heads e).0 }
+end_with [] text (line ∷ next ∷ lines) e = absurd (let f = (heads e).1 in cc)
+end_with (one ∷ front) text [] e = absurd cc
+end_with (one ∷ front) text (line ∷ lines) e =
+    let parts = heads e in
+    let rest = end_with front text lines parts.1 in
+    record {
+      before = line ∷ rest.before;
+      last = rest.last;
+      apart = ap (λ (ls : List Line). line ∷ ls) rest.apart;
+      front_is = ap (λ (t : List ℕ). t ∷ front) parts.0 ∙ ap (λ (ls : List (List ℕ)). line_text line ∷ ls) rest.front_is;
+      text_is = rest.text_is;
+    }
+
+-- what the lines so far and the next one read as, the next line gives
+took : (count : ℕ) (bytes rest : List ℕ) (draft next : Draft) (text after : List ℕ) → IsAt count bytes rest draft → IsNext count bytes text after → Reads (count + 1) bytes next → (last : Draft) × Takes draft text last
+took count bytes rest draft next text after is line reads = by (is_skipped text) refl
+  where
+    fine : IsLineText text
+    fine = (recursion_last IsLineText (take count (lines_of bytes)) text (recursion_from_All IsLineText (take count (lines_of bytes) ++ text ∷ []) (subst (All IsLineText) line.taken reads.each)))
+
+    by : (b : Bool) → is_skipped text ≡ b → (last : Draft) × Takes draft text last
+    by true e = (draft, record { line = Skipped; is = record { fine = fine; says = e }; next_is = refl })
+    by false e =
+        let whole : kept_lines (take count (lines_of bytes)) ++ text ∷ [] ≡ map line_text reads.lines =
+        sym (filter-append (λ one. not (is_skipped one)) (take count (lines_of bytes)) (text ∷ []) ∙ ap (λ (b : Bool). kept_lines (take count (lines_of bytes)) ++ cond (not b) (text ∷ []) []) e)
+        ∙ ap kept_lines (sym line.taken) ∙ reads.texts in
+        let ends = end_with (kept_lines (take count (lines_of bytes))) text reads.lines whole in
+        let marks : AllByRecursion IsMark (ends.before ++ ends.last ∷ []) = subst (AllByRecursion IsMark) ends.apart (recursion_from_All IsMark reads.lines reads.marks) in
+        let before : ends.before ≡ is.reads.lines =
+        one_lines ends.before is.reads.lines (recursion_front IsMark ends.before ends.last marks) (recursion_from_All IsMark is.reads.lines is.reads.marks) (sym ends.front_is ∙ is.reads.texts) in
+        let run : (with_lines no_lines ends.before >>= λ d. with_lines d (ends.last ∷ [])) ≡ Some next =
+        sym (with_lines-append no_lines ends.before (ends.last ∷ [])) ∙ ap (with_lines no_lines) (sym ends.apart) ∙ reads.draft_is in
+        let at : (with_line draft ends.last >>= λ d. Some d) ≡ Some next =
+        sym (ap (λ (o : Option Draft). o >>= λ d. with_lines d (ends.last ∷ [])) (ap (with_lines no_lines) before ∙ is.reads.draft_is)) ∙ run in
+        let made = bound (with_line draft ends.last) (λ d. Some d) next at in (
+          made.0,
+          record {
+            line = ends.last;
+            is = record { fine = fine; says = says text ends.last (record { same = ends.text_is; mark = recursion_last IsMark ends.before ends.last marks }) };
+            next_is = made.1;
+          },
+        )
+
 -- a line that fails
 pub refuses : (error : LineError) (count : ℕ) (bytes rest : List ℕ) (draft : Draft) (text after : List ℕ) → IsAt count bytes rest draft → IsNext count bytes text after
-    → Fails error (with_text draft text) → Tells bytes (Err (at_line error (count + 1)))
+    → FindsNone error (Takes draft text) → Tells bytes (Err (at_line error (count + 1)))
 refuses faults.Memory count bytes rest draft text after is line fails = tt
 refuses faults.Refused count bytes rest draft text after is line none =
     fails_after count bytes rest draft text after is line
-    (λ next reads. let two : Some next ≡ None = sym reads.lines ∙ next_reads count bytes rest draft text after is line ∙ none in absurd cc)
+    (λ next reads. let last = took count bytes rest draft next text after is line reads in none last.0 last.1)
 
 -- ---- with no line left
 

@@ -1,8 +1,7 @@
 -- The lines of lives, put together to the script that these lives are.
-use Rattle.std.proofs.Common.{◌≡◌, ℕ, ◌<◌, true, false, not, cond, List, [], ◌∷◌, ◌++◌, length, map, Option, Some, None, refl, sym, ap, ◌∙◌, append_assoc, arith}
+use Rattle.std.proofs.Common.{◌≡◌, ℕ, ◌<◌, List, [], ◌∷◌, ◌++◌, length, map, Option, Some, None, refl, sym, ap, ◌∙◌, append_assoc, arith}
 use Rattle.std.specs.Prelude.{codes, All, IfSome, IsSome}
 use Rattle.std.specs.List.{flat_map, AllByRecursion}
-use Rattle.std.proofs.lemmas.Option.{same_Some}
 use Rattle.std.proofs.lemmas.List.{append-nil, map-append}
 use Rattle.std.proofs.lemmas.List.Elements.{recursion_from_All}
 use Rattle.rm_types.specs.declared.scripts.Life.{Life}
@@ -10,13 +9,13 @@ use Rattle.rm_types.specs.declared.scripts.Segment.{Segment}
 use Rattle.rm_script.specs.declared.lines.Line.{Line}
 use Rattle.rm_script.specs.declared.lines.Line.TheVariants.{Start, Settle, Crash, Deliver, Lose}
 use Rattle.rm_script.specs.declared.drafts.Draft.{Draft}
-use Rattle.rm_script.specs.Lines.{is_skipped, kept_lines, IsLineText}
 use Rattle.rm_script.specs.Written.{Sent, Delivered, Lost, Crashing, WrittenLife, settled_segment, crash_segments, life_of, script_of_lives}
 use Rattle.rm_script.specs.Spelling.{sent_text, start_text, settled_lines, crash_lines, life_lines, script_lines}
 use Rattle.rm_script.specs.Scripts.{IsSent, IsCrash, IsLife, Crashes, IsLineOf, EachButLast, AreLives}
 use Rattle.rm_script.specs.Results.{◌>>=◌}
-use Rattle.rm_script.specs.Reading.{words_of, line_of_words, with_line, with_text, with_texts, script_of_draft}
-use Rattle.rm_script.proofs.OneLine.{IsLine, line_text, Says, line_of-skipped, line_of-text, words_read}
+use Rattle.rm_script.specs.Reading.{line_text, with_line, with_lines, script_of_draft, IsMark}
+use Rattle.rm_script.proofs.Asks.{heads}
+use Rattle.rm_script.proofs.OneLine.{one_line}
 use Rattle.rm_script.proofs.Drafting.{Between, Going, draft_of, crashed_life, delivered_is, lost_is, settled_is, crashed_is}
 
 -- ---- the lines of lives as values
@@ -69,71 +68,53 @@ texts-lives (life ∷ lives) =
     map-append line_text (life_marks life) (script_marks lives) ∙ ap (λ (ls : List (List ℕ)). ls ++ map line_text (script_marks lives)) (texts-life life)
     ∙ ap (λ (ls : List (List ℕ)). life_lines life ++ ls) (texts-lives lives)
 
--- a line that says something, with its values in their ranges
-pub record IsMark (line : Line) : Type 0 where
-  pub says : Says line
-  pub fits : IsLine line
-
 pub append_both : {A : Type 0} (P : A → Type 0) (xs ys : List A) → AllByRecursion P xs → AllByRecursion P ys → AllByRecursion P (xs ++ ys)
 append_both P [] ys h k = k
 append_both P (x ∷ xs) ys h k = (h.0, append_both P xs ys h.1 k)
 
 marks-sent : (sent : List Sent) → AllByRecursion IsSent sent → AllByRecursion IsMark (map mark_of sent)
 marks-sent [] fit = tt
-marks-sent (Delivered message ∷ sent) fit = (record { says = tt; fits = fit.0 }, marks-sent sent fit.1)
-marks-sent (Lost message ∷ sent) fit = (record { says = tt; fits = fit.0 }, marks-sent sent fit.1)
+marks-sent (Delivered message ∷ sent) fit = (fit.0, marks-sent sent fit.1)
+marks-sent (Lost message ∷ sent) fit = (fit.0, marks-sent sent fit.1)
 
 marks-segments : (done : List (List Sent)) → AllByRecursion (All IsSent) done → AllByRecursion IsMark (flat_map settled_marks done)
 marks-segments [] fit = tt
 marks-segments (sent ∷ done) fit =
     append_both IsMark (settled_marks sent) (flat_map settled_marks done)
-    (append_both IsMark (map mark_of sent) (Settle ∷ []) (marks-sent sent (recursion_from_All IsSent sent fit.0)) (record { says = tt; fits = tt }, tt)) (marks-segments done fit.1)
+    (append_both IsMark (map mark_of sent) (Settle ∷ []) (marks-sent sent (recursion_from_All IsSent sent fit.0)) (tt, tt)) (marks-segments done fit.1)
 
 marks-crash : (life : WrittenLife) (crash : Option Crashing) → IfSome crash (IsCrash life) → AllByRecursion IsMark (crash_marks crash)
 marks-crash life None fit = tt
-marks-crash life (Some crash) fit = (record { says = tt; fits = record { calls_fit = fit.calls; image_fits = fit.image } }, tt)
+marks-crash life (Some crash) fit = (record { calls_fit = fit.calls; image_fits = fit.image }, tt)
 
 marks-life : (life : WrittenLife) → IsLife life → AllByRecursion IsMark (life_marks life)
 marks-life life fit =
     append_both IsMark (Start life.stamp ∷ flat_map settled_marks life.settled) (crash_marks life.crash)
-    (record { says = tt; fits = fit.stamp }, marks-segments life.settled (recursion_from_All (All IsSent) life.settled fit.settled)) (marks-crash life life.crash fit.crash)
+    (fit.stamp, marks-segments life.settled (recursion_from_All (All IsSent) life.settled fit.settled)) (marks-crash life life.crash fit.crash)
 
 -- each of them is such a line
 pub marks-lives : (lives : List WrittenLife) → AllByRecursion IsLife lives → AllByRecursion IsMark (script_marks lives)
 marks-lives [] fit = tt
 marks-lives (life ∷ lives) fit = append_both IsMark (life_marks life) (script_marks lives) (marks-life life fit.0) (marks-lives lives fit.1)
 
--- ---- from their texts to them
-
--- lines as values, one after the other
-abbrev pub with_lines : Draft → List Line → Option Draft
-with_lines draft [] = Some draft
-with_lines draft (line ∷ more) = with_line draft line >>= λ next. with_lines next more
-
-pub goes_on_alike : (o : Option Draft) (f g : Draft → Option Draft) → ((draft : Draft) → f draft ≡ g draft) → (o >>= f) ≡ (o >>= g)
-goes_on_alike None f g h = refl
-goes_on_alike (Some draft) f g h = h draft
+-- ---- lines one after the other
 
 pub associated : (o : Option Draft) (f g h : Draft → Option Draft) → ((draft : Draft) → f draft ≡ (g draft >>= h)) → (o >>= f) ≡ ((o >>= g) >>= h)
 associated None f g h e = refl
 associated (Some draft) f g h e = e draft
 
--- texts of lines make the draft that the lines make
-pub with_texts-marks : (draft : Draft) (marks : List Line) → AllByRecursion IsMark marks → AllByRecursion IsLineText (map line_text marks) → with_texts draft (map line_text marks) ≡ with_lines draft marks
-with_texts-marks draft [] fits fine = refl
-with_texts-marks draft (line ∷ more) fits fine =
-    ap (λ (o : Option Line). (o >>= with_line draft) >>= λ next. with_texts next (map line_text more)) (line_of-text line fits.0.says fits.0.fits fine.0)
-    ∙ goes_on_alike (with_line draft line) (λ next. with_texts next (map line_text more)) (λ next. with_lines next more) (λ next. with_texts-marks next more fits.1 fine.1)
+pub with_lines-append : (draft : Draft) (xs ys : List Line) → with_lines draft (xs ++ ys) ≡ (with_lines draft xs >>= λ next. with_lines next ys)
+with_lines-append draft [] ys = refl
+with_lines-append draft (line ∷ xs) ys = associated (with_line draft line) (λ next. with_lines next (xs ++ ys)) (λ next. with_lines next xs) (λ next. with_lines next ys) (λ next. with_lines-append next xs ys)
 
--- texts that are skipped make no difference
-pub with_texts-kept : (draft : Draft) (texts : List (List ℕ)) → AllByRecursion IsLineText texts → with_texts draft texts ≡ with_texts draft (kept_lines texts)
-with_texts-kept draft [] fine = refl
-with_texts-kept draft (text ∷ texts) fine =
-    elim (is_skipped text) as (λ b. is_skipped text ≡ b → with_texts draft (text ∷ texts) ≡ with_texts draft (cond (not b) (text ∷ kept_lines texts) (kept_lines texts))) [
-      | true ↦ λ e.
-          ap (λ (o : Option Line). (o >>= with_line draft) >>= λ next. with_texts next texts) (line_of-skipped text fine.0 e) ∙ with_texts-kept draft texts fine.1
-      | false ↦ λ e. goes_on_alike (with_text draft text) (λ next. with_texts next texts) (λ next. with_texts next (kept_lines texts)) (λ next. with_texts-kept next texts fine.1)
-    ] refl
+-- lines with the same texts are the same
+pub one_lines : (ones others : List Line) → AllByRecursion IsMark ones → AllByRecursion IsMark others → map line_text ones ≡ map line_text others → ones ≡ others
+one_lines [] [] marks marks' e = refl
+one_lines [] (other ∷ others) marks marks' e = absurd cc
+one_lines (one ∷ ones) [] marks marks' e = absurd cc
+one_lines (one ∷ ones) (other ∷ others) marks marks' e =
+    let parts = heads e in
+    ap (λ (line : Line). line ∷ ones) (one_line one other marks.0 marks'.0 parts.0) ∙ ap (λ (lines : List Line). other ∷ lines) (one_lines ones others marks.1 marks'.1 parts.1)
 
 -- ---- their draft
 
@@ -220,17 +201,9 @@ text_of_mark : (sent : Sent) → line_text (mark_of sent) ≡ sent_text sent
 text_of_mark (Delivered message) = refl
 text_of_mark (Lost message) = refl
 
-mark_says : (sent : Sent) → Says (mark_of sent)
-mark_says (Delivered message) = tt
-mark_says (Lost message) = tt
-
-mark_fits : (sent : Sent) → IsSent sent → IsLine (mark_of sent)
+mark_fits : (sent : Sent) → IsSent sent → IsMark (mark_of sent)
 mark_fits (Delivered message) fits = fits
 mark_fits (Lost message) fits = fits
-
-sent_read : (line : List ℕ) (sent : Sent) → IsLineOf line sent → line_of_words (words_of line) ≡ Some (mark_of sent)
-sent_read line sent is =
-    ap (λ (text : List ℕ). line_of_words (words_of text)) (is.text ∙ sym (text_of_mark sent)) ∙ words_read (mark_of sent) (mark_says sent) (mark_fits sent is.fits)
 
 same_sent : (one other : Sent) → mark_of one ≡ mark_of other → one ≡ other
 same_sent (Delivered message) (Delivered again) e =
@@ -244,4 +217,5 @@ same_sent (Lost message) (Lost again) e =
 
 pub one_sent : (line : List ℕ) (one other : Sent) → IsLineOf line one → IsLineOf line other → one ≡ other
 one_sent line one other is again =
-    same_sent one other (same_Some (mark_of one) (mark_of other) (sym (sent_read line one is) ∙ sent_read line other again))
+    same_sent one other
+    (one_line (mark_of one) (mark_of other) (mark_fits one is.fits) (mark_fits other again.fits) (text_of_mark one ∙ sym is.text ∙ again.text ∙ sym (text_of_mark other)))

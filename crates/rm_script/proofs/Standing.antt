@@ -6,10 +6,10 @@ use Rattle.std.specs.List.{flat_map, AllByRecursion}
 use Rattle.std.proofs.lemmas.Option.{same_Some}
 use Rattle.std.proofs.lemmas.List.{append-nil, map-append, take-take, take-map, take_all, take-append-drop, length-append}
 use Rattle.std.proofs.lemmas.List.Concat.{flat_map-append}
-use Rattle.std.proofs.lemmas.List.Elements.{All-nil, All-push, All-take, All-filter, filter-append, All-from_recursion, recursion_from_All}
+use Rattle.std.proofs.lemmas.List.Elements.{All-nil, All-push, All-take, filter-append, All-from_recursion, recursion_from_All}
 use Rattle.std.proofs.Math.Seq.{take-append_seam}
 use Rattle.rm_types.specs.Lists.{is_nil}
-use Rattle.rm_types.specs.IdTexts.{IsWithin}
+use Rattle.rm_types.specs.Ranges.{IsWithin}
 use Rattle.rm_types.specs.declared.scripts.Life.{Life}
 use Rattle.rm_types.specs.declared.scripts.Segment.{Segment}
 use Rattle.rm_types.specs.declared.scripts.Script.{Script}
@@ -21,11 +21,11 @@ use Rattle.rm_script.specs.Spelling.{start_text, life_lines, script_lines}
 use Rattle.rm_script.specs.Scripts.{IsSent, IsLife, Crashes, EachButLast, AreLives, Spell, IsScript}
 use Rattle.rm_script.specs.Refusals.{CanBegin, Stand}
 use Rattle.rm_script.specs.Results.{◌>>=◌}
-use Rattle.rm_script.specs.Reading.{told_life, with_line, with_texts, no_lines, script_of_draft, Reads, ReadsAll}
+use Rattle.rm_script.specs.Limits.{greatest_stamp}
+use Rattle.rm_script.specs.Reading.{told_life, line_text, with_lines, no_lines, script_of_draft, IsMark, Reads, ReadsAll}
 use Rattle.rm_script.proofs.Labels.{bound, not_chosen}
-use Rattle.rm_script.proofs.OneLine.{line_text}
-use Rattle.rm_script.proofs.Drafting.{Written, Between, Going, living_of, draft_of, written_lines, AreCrashed, Fits, nothing_sent, settled_text, lines_of-push, with_texts_are}
-use Rattle.rm_script.proofs.Running.{IsMark, script_marks, texts-lives, marks-lives, with_lines, with_texts-marks, with_texts-kept, script_runs, associated}
+use Rattle.rm_script.proofs.Drafting.{Written, Between, Going, living_of, draft_of, written_lines, AreCrashed, Fits, Grown, nothing_sent, settled_text, lines_of-push, with_lines_are}
+use Rattle.rm_script.proofs.Running.{script_marks, texts-lives, marks-lives, with_lines-append, one_lines, script_runs}
 
 -- ---- lives at the end of others
 
@@ -46,7 +46,7 @@ crashed_are_lives lives fit = record { each = fit.each; crash = each_apart lives
 abbrev open_life : ℕ → List (List Sent) → WrittenLife
 open_life stamp done = record { stamp = stamp; settled = done; crash = None }
 
-with_open_life : (lives : List WrittenLife) (stamp : ℕ) (done : List (List Sent)) → AreCrashed lives → IsWithin 1 1000000000000000 stamp → All (All IsSent) done
+with_open_life : (lives : List WrittenLife) (stamp : ℕ) (done : List (List Sent)) → AreCrashed lives → IsWithin 1 greatest_stamp stamp → All (All IsSent) done
     → AreLives (lives ++ open_life stamp done ∷ [])
 with_open_life lives stamp done fit stamp_fits done_fit =
     let life : WrittenLife = open_life stamp done in
@@ -82,14 +82,19 @@ finish (Going lives stamp done sent) lines fits same =
 no_lives : AreCrashed []
 no_lives = record { each = All-nil IsLife; crash = All-nil Crashes }
 
+-- what was written of the lines that read as a draft
+grown_of : (count : ℕ) (bytes : List ℕ) (draft : Draft) → Reads count bytes draft → Grown (Between []) (kept_lines (take count (lines_of bytes))) draft
+grown_of count bytes draft reads =
+    subst (λ (ls : List (List ℕ)). Grown (Between []) ls draft) (sym reads.texts)
+    (with_lines_are (Between []) reads.lines draft reads.draft_is no_lives (recursion_from_All IsMark reads.lines reads.marks))
+
 -- lines that read as a draft stand
 pub reads_stand : (count : ℕ) (bytes : List ℕ) (draft : Draft) → Reads count bytes draft → Stand count bytes
 reads_stand count bytes draft reads =
-    let lines : List (List ℕ) = take count (lines_of bytes) in
-    let grew = with_texts_are (Between []) lines draft reads.lines no_lives in
+    let grew = grown_of count bytes draft reads in
     record {
-      limits = record { few = reads.few; size = reads.size; each = All-from_recursion IsLineText lines grew.fine };
-      begin = finish grew.after lines grew.fits grew.lines;
+      limits = record { few = reads.few; size = reads.size; each = reads.each };
+      begin = finish grew.after (take count (lines_of bytes)) grew.fits grew.lines;
     }
 
 -- ---- a draft that is a script
@@ -125,80 +130,74 @@ all_lines bytes = take_all (length (lines_of bytes)) (lines_of bytes) (omega ari
 -- bytes all lines of which read as a draft that is a script are the script
 pub read_is_script : (bytes : List ℕ) (script : Script) → ReadsAll bytes script → IsScript bytes script
 read_is_script bytes script all =
-    let whole : with_texts no_lines (lines_of bytes) ≡ Some all.draft = ap (with_texts no_lines) (sym (all_lines bytes)) ∙ all.before.lines in
-    let grew = with_texts_are (Between []) (lines_of bytes) all.draft whole no_lives in
+    let grew = grown_of (length (lines_of bytes)) bytes all.draft all.before in
     let made : script_of_draft (draft_of grew.after) ≡ Some script = ap script_of_draft (sym grew.is) ∙ all.script_is in
+    let lines : written_lines grew.after ≡ kept_lines (lines_of bytes) = grew.lines ∙ ap kept_lines (all_lines bytes) in
     record {
       limits = (reads_stand (length (lines_of bytes)) bytes all.draft all.before).limits;
-      spelled = done_spells grew.after (lines_of bytes) script grew.fits grew.lines made;
+      spelled = done_spells grew.after (lines_of bytes) script grew.fits lines made;
     }
 
 -- ---- what stands is read
-
-with_lines-append : (draft : Draft) (xs ys : List Line) → with_lines draft (xs ++ ys) ≡ (with_lines draft xs >>= λ next. with_lines next ys)
-with_lines-append draft [] ys = refl
-with_lines-append draft (line ∷ xs) ys = associated (with_line draft line) (λ next. with_lines next (xs ++ ys)) (λ next. with_lines next xs) (λ next. with_lines next ys) (λ next. with_lines-append next xs ys)
-
-take_fits : {A : Type 0} (P : A → Type 0) (count : ℕ) (xs : List A) → AllByRecursion P xs → AllByRecursion P (take count xs)
-take_fits P count xs fit = recursion_from_All P (take count xs) (All-take P count xs (All-from_recursion P xs fit))
-
-fine_kept : (lines : List (List ℕ)) → All IsLineText lines → All IsLineText (kept_lines lines)
-fine_kept lines fine = All-filter (λ line. not (is_skipped line)) IsLineText lines fine
-
--- lines whose kept ones are the texts of lines read as these
-reads_marks : (lines : List (List ℕ)) (marks : List Line) → All IsLineText lines → AllByRecursion IsMark marks → kept_lines lines ≡ map line_text marks → with_texts no_lines lines ≡ with_lines no_lines marks
-reads_marks lines marks fine fits same =
-    let kept_fine : AllByRecursion IsLineText (map line_text marks) = subst (AllByRecursion IsLineText) same (recursion_from_All IsLineText (kept_lines lines) (fine_kept lines fine)) in
-    with_texts-kept no_lines lines (recursion_from_All IsLineText lines fine) ∙ ap (with_texts no_lines) same ∙ with_texts-marks no_lines marks fits kept_fine
 
 -- the first lines of a script are the texts of its first lines as values
 front_marks : (lives : List WrittenLife) (front back : List (List ℕ)) → front ++ back ≡ script_lines lives → front ≡ map line_text (take (length front) (script_marks lives))
 front_marks lives front back same =
     sym (take-append_seam front back) ∙ ap (take (length front)) (same ∙ sym (texts-lives lives)) ∙ take-map line_text (length front) (script_marks lives)
 
--- lines that can begin a script, and may stand in one, read as a draft
-pub begin_reads : (lines : List (List ℕ)) → All IsLineText lines → CanBegin lines → (draft : Draft) × (with_texts no_lines lines ≡ Some draft)
-begin_reads lines fine begin =
-    let lives : List WrittenLife = begin.spelled.lives in
-    let fit : AreLives lives = begin.spelled.fit in
-    let marks : List Line = script_marks lives in
-    let front : List (List ℕ) = kept_lines lines in
-    let apart : front ++ kept_lines begin.more ≡ script_lines lives = sym (filter-append (λ line. not (is_skipped line)) lines begin.more) ∙ begin.spelled.text in
-    let same : front ≡ map line_text (take (length front) marks) = front_marks lives front (kept_lines begin.more) apart in
-    let all_fit : AllByRecursion IsMark marks = marks-lives lives (recursion_from_All IsLife lives fit.each) in
-    let read : with_texts no_lines lines ≡ with_lines no_lines (take (length front) marks) =
-    reads_marks lines (take (length front) marks) fine (take_fits IsMark (length front) marks all_fit) same in
-    let run = bound (with_lines no_lines marks) script_of_draft (script_of_lives lives) (script_runs lives fit) in
-    let split : (with_lines no_lines (take (length front) marks) >>= λ next. with_lines next (drop (length front) marks)) ≡ Some run.0 =
-    sym (with_lines-append no_lines (take (length front) marks) (drop (length front) marks)) ∙ ap (with_lines no_lines) (take-append-drop (length front) marks) ∙ run.1 in
-    let first = bound (with_lines no_lines (take (length front) marks)) (λ next. with_lines next (drop (length front) marks)) run.0 split in
-    (first.0, read ∙ first.1)
-
+-- the first lines of bytes that stand read as a draft
 pub stand_reads : (count : ℕ) (bytes : List ℕ) → Stand count bytes → (draft : Draft) × Reads count bytes draft
 stand_reads count bytes stand =
-    let read = begin_reads (take count (lines_of bytes)) stand.limits.each stand.begin in
-    (read.0, record { few = stand.limits.few; size = stand.limits.size; lines = read.1 })
+    let lines : List (List ℕ) = take count (lines_of bytes) in
+    let lives : List WrittenLife = stand.begin.spelled.lives in
+    let fit : AreLives lives = stand.begin.spelled.fit in
+    let marks : List Line = script_marks lives in
+    let front : List (List ℕ) = kept_lines lines in
+    let first : List Line = take (length front) marks in
+    let apart : front ++ kept_lines stand.begin.more ≡ script_lines lives = sym (filter-append (λ line. not (is_skipped line)) lines stand.begin.more) ∙ stand.begin.spelled.text in
+    let all_fit : AllByRecursion IsMark marks = marks-lives lives (recursion_from_All IsLife lives fit.each) in
+    let run = bound (with_lines no_lines marks) script_of_draft (script_of_lives lives) (script_runs lives fit) in
+    let split : (with_lines no_lines first >>= λ next. with_lines next (drop (length front) marks)) ≡ Some run.0 =
+    sym (with_lines-append no_lines first (drop (length front) marks)) ∙ ap (with_lines no_lines) (take-append-drop (length front) marks) ∙ run.1 in
+    let made = bound (with_lines no_lines first) (λ next. with_lines next (drop (length front) marks)) run.0 split in (
+      made.0,
+      record {
+        few = stand.limits.few;
+        size = stand.limits.size;
+        each = stand.limits.each;
+        lines = first;
+        marks = All-take IsMark (length front) marks (All-from_recursion IsMark marks all_fit);
+        texts = front_marks lives front (kept_lines stand.begin.more) apart;
+        draft_is = made.1;
+      },
+    )
 
 -- all lines of a script read as a draft that is it
 pub script_is_read : (bytes : List ℕ) (script : Script) → IsScript bytes script → ReadsAll bytes script
 script_is_read bytes script is =
     let lives : List WrittenLife = is.spelled.lives in
     let fit : AreLives lives = is.spelled.fit in
-    let lines : List (List ℕ) = lines_of bytes in
-    let fine : All IsLineText lines = subst (All IsLineText) (all_lines bytes) is.limits.each in
-    let same : kept_lines lines ≡ map line_text (script_marks lives) = is.spelled.text ∙ sym (texts-lives lives) in
-    let read : with_texts no_lines lines ≡ with_lines no_lines (script_marks lives) =
-    reads_marks lines (script_marks lives) fine (marks-lives lives (recursion_from_All IsLife lives fit.each)) same in
     let run = bound (with_lines no_lines (script_marks lives)) script_of_draft (script_of_lives lives) (script_runs lives fit) in
     record {
       draft = run.0;
-      before = record { few = is.limits.few; size = is.limits.size; lines = ap (with_texts no_lines) (all_lines bytes) ∙ read ∙ run.1 };
+      before = record {
+        few = is.limits.few;
+        size = is.limits.size;
+        each = is.limits.each;
+        lines = script_marks lives;
+        marks = All-from_recursion IsMark (script_marks lives) (marks-lives lives (recursion_from_All IsLife lives fit.each));
+        texts = ap kept_lines (all_lines bytes) ∙ is.spelled.text ∙ sym (texts-lives lives);
+        draft_is = run.1;
+      };
       script_is = run.2 ∙ ap Some (sym is.spelled.same);
     }
 
 -- the same lines read as one draft
 pub one_draft : (count : ℕ) (bytes : List ℕ) (one other : Draft) → Reads count bytes one → Reads count bytes other → one ≡ other
-one_draft count bytes one other reads again = same_Some one other (sym reads.lines ∙ again.lines)
+one_draft count bytes one other reads again =
+    let lines : reads.lines ≡ again.lines =
+    one_lines reads.lines again.lines (recursion_from_All IsMark reads.lines reads.marks) (recursion_from_All IsMark again.lines again.marks) (sym reads.texts ∙ again.texts) in
+    same_Some one other (sym reads.draft_is ∙ ap (with_lines no_lines) lines ∙ again.draft_is)
 
 -- ---- fewer lines stand too
 

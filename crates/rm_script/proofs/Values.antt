@@ -9,6 +9,7 @@ use Rattle.std.proofs.lemmas.List.Sums.{sum_by-cons, sum_by-append}
 use Rattle.rm_types.specs.declared.scripts.Life.{Life}
 use Rattle.rm_types.specs.declared.scripts.Segment.{Segment}
 use Rattle.rm_types.specs.declared.scripts.Script.{Script}
+use Rattle.rm_script.specs.Limits.{most_lines}
 use Rattle.rm_script.specs.Lines.{lines_of, is_skipped, kept_lines}
 use Rattle.rm_script.specs.Written.{Sent, Delivered, Lost, Crashing, WrittenLife, delivered, settled_segment, crash_segments, life_of}
 use Rattle.rm_script.specs.Spelling.{sent_text, start_text, settled_lines, crash_lines, life_lines, script_lines}
@@ -98,7 +99,7 @@ fewer_kept (line ∷ lines) =
 
 -- ---- lives
 
-told_life : (life : WrittenLife) → IsLife life → length (life_lines life) ≤ 100000 → IsToldLife (life_of life)
+told_life : (life : WrittenLife) → IsLife life → length (life_lines life) ≤ most_lines → IsToldLife (life_of life)
 told_life life fit few = record {
   stamp = fit.stamp;
   messages = All-append AreRead (map settled_segment life.settled) (crash_segments life.crash)
@@ -107,7 +108,7 @@ told_life life fit few = record {
   few = omega (arith, fewer_in_life life);
 }
 
-told_lives : (lives : List WrittenLife) → AllByRecursion IsLife lives → length (script_lines lives) ≤ 100000 → AllByRecursion IsToldLife (map life_of lives)
+told_lives : (lives : List WrittenLife) → AllByRecursion IsLife lives → length (script_lines lives) ≤ most_lines → AllByRecursion IsToldLife (map life_of lives)
 told_lives [] fit few = tt
 told_lives (life ∷ lives) fit few =
     let lines : length (script_lines (life ∷ lives)) ≡ length (life_lines life) + length (script_lines lives) =
@@ -127,7 +128,7 @@ pub told_values : (bytes : List ℕ) (script : Script) → IsScript bytes script
 told_values bytes script is =
     let lives : List WrittenLife = is.spelled.lives in
     let fit : AllByRecursion IsLife lives = recursion_from_All IsLife lives is.spelled.fit.each in
-    let few : length (script_lines lives) ≤ 100000 = omega (arith, ap length is.spelled.text, fewer_kept (lines_of bytes), is.limits.few) in
+    let few : length (script_lines lives) ≤ most_lines = omega (arith, ap length is.spelled.text, fewer_kept (lines_of bytes), is.limits.few) in
     subst IsToldScript (sym is.spelled.same) (record {
       each = All-from_recursion IsToldLife (map life_of lives) (told_lives lives fit few);
       crash = told_crashes lives fit is.spelled.fit.crash;

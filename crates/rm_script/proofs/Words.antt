@@ -4,7 +4,7 @@ use Rattle.std.specs.List.{AllByRecursion}
 use Rattle.std.proofs.lemmas.Bool.{and_parts, not-true}
 use Rattle.std.proofs.lemmas.List.Elements.{All-from_recursion, All-append}
 use Rattle.std.proofs.lemmas.List.Splits.{slice_split_none, slice_split_at, join_with_byte-slice_split}
-use Rattle.rm_model.specs.Wording.{spaced}
+use Rattle.rm_formats.specs.Wording.{spaced}
 use Rattle.rm_script.specs.Reading.{words_of}
 
 -- the one byte is another than the byte

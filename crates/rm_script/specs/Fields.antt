@@ -1,8 +1,7 @@
--- The parts of a line, as functions of bytes: numbers, texts, fields with a label, applications' ids.
-use Rattle.std.specs.Prelude.{ℕ, ◌+◌, ◌-◌, ◌*◌, ◌^◌, List, [], ◌∷◌, length, take, drop, position, Option, Some, None, Bool, false, ◌&&◌, ◌||◌, nat_lt, nat_le, ◌==◌, if◌then◌else◌, codes}
+-- The parts of a line, as functions of bytes: numbers, texts, and fields with a label.
+use Rattle.std.specs.Prelude.{ℕ, ◌+◌, ◌-◌, ◌*◌, ◌^◌, List, [], ◌∷◌, length, take, drop, Option, Some, None, Bool, false, ◌&&◌, ◌||◌, nat_lt, nat_le, ◌==◌, if◌then◌else◌}
 use Rattle.std.specs.Str.{bytes_eq}
 use Rattle.rm_types.specs.Texts.{is_digit, fault_of}
-use Rattle.rm_types.specs.declared.ids.AppId.{AppId}
 use Rattle.rm_types.specs.declared.texts.TextKind.{TextKind}
 use Rattle.rm_script.specs.Results.{◌>>=◌}
 
@@ -66,28 +65,3 @@ abbrev pub text_field : List ℕ → TextKind → List ℕ → Option (List ℕ)
 text_field label kind word = do
   text ← after_label label word
   text_in kind text
-
--- the number of an application in at least four digits, with no zero before more than four
-abbrev pub app_number : List ℕ → Option ℕ
-app_number text =
-    if nat_lt (length text) 4 then None else
-    (if length text == 4 then number_after 0 text >>= number_within 1 (2 ^ 31 - 1) else number_in 1 (2 ^ 31 - 1) text)
-
--- the id with this stamp and number
-abbrev pub id_of : List ℕ → List ℕ → Option AppId
-id_of stamp number = do
-  stamp_is ← number_in 1 (2 ^ 63 - 1) stamp
-  number_is ← app_number number
-  Some (record { stamp = stamp_is; number = number_is })
-
--- the id that a text writes after `application_`: a `_` stands between the stamp and the number
-abbrev pub id_after : List ℕ → Option AppId
-id_after text = do
-  place ← position (λ byte. byte == 95) text
-  id_of (take place text) (drop (place + 1) text)
-
--- the application's id that a word is
-unfoldable pub app_id : List ℕ → Option AppId
-app_id word = do
-  text ← after_label (codes "application_") word
-  id_after text

@@ -1,7 +1,8 @@
 -- The lines of bytes, and the limits that the lines of a script keep.
 use Rattle.std.specs.Prelude.{◌≡◌, ℕ, ◌<◌, ◌≤◌, List, [], ◌∷◌, ◌++◌, length, take, min, Bool, true, false, not, ◌==◌, if◌then◌else◌, ◌⊎◌, All, codes}
 use Rattle.std.specs.List.{filter, flat_map, onto_first}
-use Rattle.rm_types.specs.IdTexts.{IsWithin}
+use Rattle.rm_types.specs.Ranges.{IsWithin}
+use Rattle.rm_script.specs.Limits.{most_bytes, most_lines, most_line_bytes}
 
 -- the lines of the bytes: each ends with a line feed (10), which the last may lack
 abbrev pub lines_of : List ℕ → List (List ℕ)
@@ -45,11 +46,11 @@ kept_lines lines = filter (λ line. not (is_skipped line)) lines
 -- a line may stand in a script's text, whatever it says: its bytes are printable, and it isn't too long
 pub record IsLineText (line : List ℕ) : Type 0 where
   pub printable : All (IsWithin 0x20 0x7e) line
-  pub short : length line ≤ 65536
+  pub short : length line ≤ most_line_bytes
 
--- so many first lines of the bytes keep the limits: they are not too many, they end before byte 16,777,217, and each
--- of them, skipped or not, may stand there
+-- so many first lines of the bytes keep the limits: they are not too many, neither are their bytes, and each of them, skipped
+-- or not, may stand there
 pub record KeepLimits (count : ℕ) (bytes : List ℕ) : Type 0 where
-  pub few : count ≤ 100000
-  pub size : size_of_first count bytes ≤ 16777216
+  pub few : count ≤ most_lines
+  pub size : size_of_first count bytes ≤ most_bytes
   pub each : All IsLineText (take count (lines_of bytes))

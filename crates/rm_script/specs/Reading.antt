@@ -1,14 +1,15 @@
--- What reading gives, as functions of lists: a line read by itself, and the lines put together.
-use Rattle.std.specs.Prelude.{◌≡◌, ◌⊎◌, ℕ, ◌+◌, ◌<◌, ◌≤◌, List, [], ◌∷◌, ◌++◌, length, take, Option, Some, None, Result, Ok, Err, true, false, ◌||◌, nat_lt, ◌==◌, if◌then◌else◌, codes}
-use Rattle.std.specs.List.{slice_split, list_all}
-use Rattle.std.specs.Str.{bytes_eq}
+-- What reading gives: a line by itself, and the lines put together.
+use Rattle.std.specs.Prelude.{◌≡◌, ◌⊎◌, ℕ, ◌+◌, ◌<◌, ◌≤◌, List, [], ◌∷◌, ◌++◌, length, map, take, Option, Some, None, Result, Ok, Err, true, false, ◌||◌, ◌==◌, if◌then◌else◌, All, codes}
+use Rattle.std.specs.List.{slice_split}
+use Rattle.std.specs.Fmt.{decimal}
 use Rattle.std.specs.Option.{option_map}
 use Rattle.rm_types.specs.Lists.{is_nil}
-use Rattle.rm_types.specs.Texts.{is_printable}
+use Rattle.rm_types.specs.Ranges.{IsWithin}
 use Rattle.rm_types.specs.declared.messages.Message.{Message}
 use Rattle.rm_types.specs.declared.scripts.Close.TheVariants as closes
 use Rattle.rm_types.specs.declared.scripts.Life.{Life}
 use Rattle.rm_types.specs.declared.scripts.Script.{Script}
+use Rattle.rm_formats.specs.Wording.{spaced, message_words}
 use Rattle.rm_script.specs.declared.errors.ScriptError.{ScriptError}
 use Rattle.rm_script.specs.declared.errors.ScriptError.TheVariants.{Refused, Memory}
 use Rattle.rm_script.specs.declared.lines.Line.{Line}
@@ -16,10 +17,11 @@ use Rattle.rm_script.specs.declared.lines.Line.TheVariants.{Skipped, Start, Sett
 use Rattle.rm_script.specs.declared.drafts.Living.{Living}
 use Rattle.rm_script.specs.declared.drafts.Draft.{Draft}
 use Rattle.rm_script.specs.declared.drafts.Draft.TheVariants as drafts
-use Rattle.rm_script.specs.Lines.{lines_of, size_of_first, is_skipped}
-use Rattle.rm_script.specs.Results.{◌>>=◌}
 use Rattle.rm_script.specs.Fields.{number_in}
-use Rattle.rm_script.specs.Clients.{client_message}
+use Rattle.rm_script.specs.Limits.{most_bytes, most_lines, greatest_stamp, greatest_calls, greatest_image}
+use Rattle.rm_script.specs.Lines.{lines_of, size_of_first, is_skipped, kept_lines, IsLineText}
+use Rattle.rm_script.specs.Results.{◌>>=◌}
+use Rattle.rm_script.specs.Scripts.{IsRead}
 
 -- ---- a line by itself
 
@@ -29,7 +31,7 @@ words_of line = slice_split (λ byte. byte == 32) line
 
 -- the words after `start`
 abbrev pub start_line : List (List ℕ) → Option Line
-start_line (stamp ∷ []) = option_map Start (number_in 1 1000000000000000 stamp)
+start_line (stamp ∷ []) = option_map Start (number_in 1 greatest_stamp stamp)
 start_line words = None
 
 -- the words after `settle`
@@ -40,8 +42,8 @@ settle_line words = None
 -- the two numbers after `crash`
 abbrev pub crash_of : List ℕ → List ℕ → Option Line
 crash_of calls image = do
-  calls_are ← number_in 0 1000000 calls
-  image_is ← number_in 0 4294967295 image
+  calls_are ← number_in 0 greatest_calls calls
+  image_is ← number_in 0 greatest_image image
   Some (Crash calls_are image_is)
 
 -- the words after `crash`
@@ -49,30 +51,52 @@ abbrev pub crash_line : List (List ℕ) → Option Line
 crash_line (calls ∷ image ∷ []) = crash_of calls image
 crash_line words = None
 
--- the message of a sender: its name, the word that says what it asks, and the words after that
-abbrev pub message_from : List ℕ → List ℕ → List ℕ → List (List ℕ) → Option Message
-message_from sender name word more = if bytes_eq sender (codes "client") then client_message name word more else None
+-- the words of a line that says something
+abbrev pub line_words : Line → List (List ℕ)
+line_words Skipped = []
+line_words (Start stamp) = codes "start" ∷ decimal stamp ∷ []
+line_words Settle = codes "settle" ∷ []
+line_words (Crash calls image) = codes "crash" ∷ decimal calls ∷ decimal image ∷ []
+line_words (Deliver message) = message_words message
+line_words (Lose message) = codes "lose" ∷ message_words message
 
--- a message by its words
-abbrev pub message_of_words : List (List ℕ) → Option Message
-message_of_words (sender ∷ name ∷ word ∷ more) = message_from sender name word more
-message_of_words words = None
+-- its text
+abbrev pub line_text : Line → List ℕ
+line_text line = spaced (line_words line)
 
--- a line by its words
-abbrev pub line_of_words : List (List ℕ) → Option Line
-line_of_words [] = None
-line_of_words (word ∷ more) =
-    if bytes_eq word (codes "start") then start_line more else
-    (if bytes_eq word (codes "settle") then settle_line more else
-    (if bytes_eq word (codes "crash") then crash_line more else
-    (if bytes_eq word (codes "lose") then option_map Lose (message_of_words more)
-    else option_map Deliver (message_of_words (word ∷ more)))))
+-- the crash of a life in its ranges
+pub record IsCrashLine (calls image : ℕ) : Type 0 where
+  pub calls_fit : IsWithin 0 greatest_calls calls
+  pub image_fits : IsWithin 0 greatest_image image
 
--- a line by itself
-abbrev pub line_of : List ℕ → Option Line
-line_of text =
-    if nat_lt 65536 (length text) then None else
-    (if list_all is_printable text then (if is_skipped text then Some Skipped else line_of_words (words_of text)) else None)
+-- the line says something, its values are in their ranges, and it is of a kind that is read
+abbrev pub IsMark : Line → Type 0
+IsMark Skipped = ⊥
+IsMark (Start stamp) = IsWithin 1 greatest_stamp stamp
+IsMark Settle = Unit {0}
+IsMark (Crash calls image) = IsCrashLine calls image
+IsMark (Deliver message) = IsRead message
+IsMark (Lose message) = IsRead message
+
+-- the words say the line
+pub record Spells (words : List (List ℕ)) (line : Line) : Type 0 where
+  pub same : words ≡ line_words line
+  pub mark : IsMark line
+
+-- the text is that of a line that says something
+pub record IsMarkText (text : List ℕ) (line : Line) : Type 0 where
+  pub same : text ≡ line_text line
+  pub mark : IsMark line
+
+-- the text says the line, or is skipped
+abbrev pub Says : List ℕ → Line → Type 0
+Says text Skipped = is_skipped text ≡ true
+Says text line = IsMarkText text line
+
+-- the text may stand in a script, and says the line
+pub record IsLineAs (text : List ℕ) (line : Line) : Type 0 where
+  pub fine : IsLineText text
+  pub says : Says text line
 
 -- ---- the lines put together
 
@@ -90,6 +114,7 @@ abbrev pub settled : Living → Living
 settled living =
     record living { segments = living.segments ++ record { messages = living.messages; close = closes.Settle } ∷ []; messages = []; is_sending = false }
 
+-- a draft whose segment settles
 abbrev pub with_settle : Draft → Option Draft
 with_settle (drafts.Between lives) = None
 with_settle (drafts.Living lives living) = Some (drafts.Living lives (settled living))
@@ -130,18 +155,18 @@ with_line draft (Crash calls image) = with_crash draft calls image
 with_line draft (Deliver message) = with_message draft message
 with_line draft (Lose message) = with_loss draft
 
--- a draft with the line of this text more
-abbrev pub with_text : Draft → List ℕ → Option Draft
-with_text draft text = do
-  line ← line_of text
-  with_line draft line
+-- the draft with the line of this text more
+pub record Takes (draft : Draft) (text : List ℕ) (next : Draft) : Type 0 where
+  pub line : Line
+  pub is : IsLineAs text line
+  pub next_is : with_line draft line ≡ Some next
 
--- a draft with the lines of these texts more
-abbrev pub with_texts : Draft → List (List ℕ) → Option Draft
-with_texts draft [] = Some draft
-with_texts draft (text ∷ texts) = do
-  next ← with_text draft text
-  with_texts next texts
+-- a draft with these lines more, where they may stand there
+abbrev pub with_lines : Draft → List Line → Option Draft
+with_lines draft [] = Some draft
+with_lines draft (line ∷ lines) = do
+  next ← with_line draft line
+  with_lines next lines
 
 -- the draft of no line
 abbrev pub no_lines : Draft
@@ -154,11 +179,16 @@ script_of_draft (drafts.Living lives living) = if living.is_sending then None el
 
 -- ---- the bytes
 
--- so many first lines of the bytes read as this draft
+-- so many first lines of the bytes read as this draft: they keep the limits, and those that say something are lines that
+-- make it
 pub record Reads (count : ℕ) (bytes : List ℕ) (draft : Draft) : Type 0 where
-  pub few : count ≤ 100000
-  pub size : size_of_first count bytes ≤ 16777216
-  pub lines : with_texts no_lines (take count (lines_of bytes)) ≡ Some draft
+  pub few : count ≤ most_lines
+  pub size : size_of_first count bytes ≤ most_bytes
+  pub each : All IsLineText (take count (lines_of bytes))
+  pub lines : List Line
+  pub marks : All IsMark lines
+  pub texts : kept_lines (take count (lines_of bytes)) ≡ map line_text lines
+  pub draft_is : with_lines no_lines lines ≡ Some draft
 
 -- the line after so many doesn't
 pub record FailsAfter (count : ℕ) (bytes : List ℕ) : Type 0 where

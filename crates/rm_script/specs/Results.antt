@@ -1,4 +1,4 @@
--- What a function of the reader returns beside what reading gives.
+-- What a private function of the reader answers.
 use Rattle.std.specs.Prelude.{◌≡◌, ℕ, Option, Some, None, Result, Ok, Err}
 use Rattle.std.specs.Option.{option_and_then}
 use Rattle.rm_script.specs.declared.errors.LineError.{LineError}
@@ -6,17 +6,27 @@ use Rattle.rm_script.specs.declared.errors.LineError.TheVariants.{Refused, Memor
 use Rattle.rm_script.specs.declared.errors.ScriptError.{ScriptError}
 use Rattle.rm_script.specs.declared.errors.ScriptError.TheVariants as scripts
 
+-- the error says that there is no value of which this holds, or that memory ran out
+abbrev pub FindsNone : {X : Type 0} → LineError → (X → Type 0) → Type 0
+FindsNone {X} Refused Is = (value : X) → Is value → ⊥
+FindsNone Memory Is = Unit {0}
+
+-- the answer is a value of which this holds, or there is none, unless memory ran out
+abbrev pub Finds : {X : Type 0} → Result X LineError → (X → Type 0) → Type 0
+Finds (Ok value) Is = Is value
+Finds (Err error) Is = FindsNone error Is
+
 infixl 10 ◌>>=◌
 -- where there is a value, what follows from it
 abbrev pub ◌>>=◌ : {A B : Type 0} → Option A → (A → Option B) → Option B
 o >>= f = option_and_then f o
 
--- the error says that reading gives nothing, or that memory ran out
+-- the error says that a function gives nothing, or that memory ran out
 abbrev pub Fails : {X : Type 0} → LineError → Option X → Type 0
 Fails Refused read = read ≡ None
 Fails Memory read = Unit {0}
 
--- the result is what reading gives, unless memory ran out
+-- the answer is what a function gives, unless memory ran out
 abbrev pub Gives : {X : Type 0} → Result X LineError → Option X → Type 0
 Gives (Ok value) read = read ≡ Some value
 Gives (Err error) read = Fails error read

@@ -1,7 +1,6 @@
 -- Which bytes are which script.
 use Rattle.std.specs.Prelude.{◌≡◌, ℕ, ◌<◌, List, [], ◌∷◌, length, IfSome, IsSome, All}
-use Rattle.rm_types.specs.Frames.{IsText}
-use Rattle.rm_types.specs.IdTexts.{IsWithin, IsAppId}
+use Rattle.rm_types.specs.Ranges.{IsText, IsWithin, IsAppId}
 use Rattle.rm_types.specs.declared.texts.TextKind.TheVariants.{Name, Queue}
 use Rattle.rm_types.specs.declared.messages.ClientAsk.{ClientAsk}
 use Rattle.rm_types.specs.declared.messages.ClientAsk.TheVariants.{New, Submit, Report, Kill}
@@ -9,6 +8,7 @@ use Rattle.rm_types.specs.declared.messages.Message.{Message}
 use Rattle.rm_types.specs.declared.messages.Message.TheVariants as messages
 use Rattle.rm_types.specs.declared.operations.Submission.{Submission}
 use Rattle.rm_types.specs.declared.scripts.Script.{Script}
+use Rattle.rm_script.specs.Limits.{greatest_stamp, greatest_calls, greatest_image, greatest_memory_mb, greatest_vcores, greatest_attempts}
 use Rattle.rm_script.specs.Lines.{lines_of, kept_lines, KeepLimits}
 use Rattle.rm_script.specs.Written.{Sent, message_of, Crashing, WrittenLife, script_of_lives}
 use Rattle.rm_script.specs.Spelling.{sent_text, script_lines}
@@ -18,9 +18,9 @@ pub record IsSubmission (user : List ℕ) (submission : Submission) : Type 0 whe
   pub by_user : submission.user ≡ user
   pub queue : IsText Queue submission.queue
   pub name : IsText Name submission.name
-  pub memory : IsWithin 1 16777216 submission.master.memory_mb
-  pub vcores : IsWithin 1 256 submission.master.vcores
-  pub attempts : IsWithin 0 100 submission.attempts
+  pub memory : IsWithin 1 greatest_memory_mb submission.master.memory_mb
+  pub vcores : IsWithin 1 greatest_vcores submission.master.vcores
+  pub attempts : IsWithin 0 greatest_attempts submission.attempts
 
 -- what the user asks has its parts in their ranges
 abbrev pub IsClientAsk : List ℕ → ClientAsk → Type 0
@@ -66,13 +66,13 @@ pub record IsLineOf (line : List ℕ) (sent : Sent) : Type 0 where
 
 -- the crash of a life is in its ranges, and stands directly after a `settle`
 pub record IsCrash (life : WrittenLife) (crash : Crashing) : Type 0 where
-  pub calls : IsWithin 0 1000000 crash.calls
-  pub image : IsWithin 0 4294967295 crash.image
+  pub calls : IsWithin 0 greatest_calls crash.calls
+  pub image : IsWithin 0 greatest_image crash.image
   pub after_settle : 0 < length life.settled
 
 -- a life that may stand in a script
 pub record IsLife (life : WrittenLife) : Type 0 where
-  pub stamp : IsWithin 1 1000000000000000 life.stamp
+  pub stamp : IsWithin 1 greatest_stamp life.stamp
   pub settled : All (All IsSent) life.settled
   pub crash : IfSome life.crash (IsCrash life)
 

@@ -2,7 +2,7 @@
 use Rattle.std.specs.Prelude.{ℕ, List, [], ◌∷◌, ◌++◌, map, Option, Some, None, codes}
 use Rattle.std.specs.List.{flat_map}
 use Rattle.std.specs.Fmt.{decimal}
-use Rattle.rm_model.specs.Wording.{spaced, message_words, message_text}
+use Rattle.rm_formats.specs.Wording.{spaced, message_words, message_text}
 use Rattle.rm_script.specs.Written.{Sent, Delivered, Lost, Crashing, WrittenLife}
 
 -- the line of a message that is sent: the message's text, after `lose` where it is lost

@@ -1,10 +1,11 @@
 -- What holds of each script that is read: how its lives close, and the ranges of its values.
 use Rattle.std.specs.Prelude.{◌≡◌, ◌⊎◌, ℕ, ◌<◌, ◌≤◌, List, [], ◌∷◌, ◌++◌, length, sum_by, All}
-use Rattle.rm_types.specs.IdTexts.{IsWithin}
+use Rattle.rm_types.specs.Ranges.{IsWithin}
 use Rattle.rm_types.specs.declared.scripts.Close.TheVariants.{Settle, Crash}
 use Rattle.rm_types.specs.declared.scripts.Segment.{Segment}
 use Rattle.rm_types.specs.declared.scripts.Life.{Life}
 use Rattle.rm_types.specs.declared.scripts.Script.{Script}
+use Rattle.rm_script.specs.Limits.{most_lines, greatest_stamp, greatest_calls, greatest_image}
 use Rattle.rm_script.specs.Scripts.{IsRead, EachButLast}
 
 -- the segment settles
@@ -19,8 +20,8 @@ pub record EndInCrash (segments : List Segment) : Type 0 where
   pub apart : segments ≡ before ++ record { messages = []; close = Crash calls image } ∷ []
   pub settle : All Settles before
   pub some : 0 < length before
-  pub calls_fit : IsWithin 0 1000000 calls
-  pub image_fits : IsWithin 0 4294967295 image
+  pub calls_fit : IsWithin 0 greatest_calls calls
+  pub image_fits : IsWithin 0 greatest_image image
 
 -- how many messages are in the segments
 abbrev pub messages_in : List Segment → ℕ
@@ -28,10 +29,10 @@ messages_in segments = sum_by (λ segment. length segment.messages) segments
 
 -- a life of a script that is read
 pub record IsToldLife (life : Life) : Type 0 where
-  pub stamp : IsWithin 1 1000000000000000 life.stamp
+  pub stamp : IsWithin 1 greatest_stamp life.stamp
   pub messages : All (λ segment. All IsRead segment.messages) life.segments
   pub closes : All Settles life.segments ⊎ EndInCrash life.segments
-  pub few : messages_in life.segments ≤ 100000
+  pub few : messages_in life.segments ≤ most_lines
 
 -- a script that is read: each life but the last crashes
 pub record IsToldScript (script : Script) : Type 0 where

@@ -1,6 +1,6 @@
 ghost use Rattle.std.specs.Prelude.{Some};
-ghost use Rattle.rm_script.specs.Results.{Gives};
-ghost use Rattle.rm_script.specs.Reading.{settled, with_start, with_settle, crash_life, with_crash, with_message, with_loss, with_line, with_text, script_of_draft};
+ghost use Rattle.rm_script.specs.Results.{Finds, Gives};
+ghost use Rattle.rm_script.specs.Reading.{settled, with_start, with_settle, crash_life, with_crash, with_message, with_loss, with_line, script_of_draft, Takes};
 
 use crate::errors::LineError;
 use crate::lines::{Line, line_of};
@@ -69,7 +69,7 @@ impl Draft {
     /// The draft with the line of this text more. `Refused` comes where the text is no line, or the line
     /// may not stand there.
     pub(crate) fn with_text(self, alloc: Global, text: &[u8]) -> Result<Draft, LineError>
-        ensures { Gives result (with_text self text.now) }
+        ensures { Finds result (Takes self text.now) }
     {
         let line = line_of(alloc, text)?;
         self.with_line(alloc, line)

@@ -2,11 +2,13 @@
 //!
 //! It promises that a script is answered exactly where the bytes are one, and else the first line that is
 //! refused; that the same bytes are one script at most; and that a message has one line. Of its `specs/`,
-//! `Lines` has the lines of bytes and the limits; `Written` and `Spelling` a script as it is written, and
-//! its lines; `Scripts` says which bytes are which script, `Refusals` which line is refused first, and
-//! `Values` what holds of each script that is read; the others say what the private functions answer.
+//! `Limits` has the limits, and `Lines` the lines of bytes; `Written` and `Spelling` a script as it is
+//! written, and its lines; `Scripts` says which bytes are which script, `Refusals` which line is refused
+//! first, and `Values` what holds of each script that is read; the others say what the private functions
+//! answer.
 //!
-//! It stands on the values of `rm_types`, and on the wording of messages in `rm_model`.
+//! It stands on the values of `rm_types`, on the wording of messages in `rm_formats`, and on `rm_ids`, which
+//! reads an application's id.
 #![tactic(auto)]
 
 mod clients;

@@ -1,9 +1,10 @@
-ghost use Rattle.std.specs.Prelude.{◌≡◌, ◌+◌, ◌<◌, ◌∷◌, ◌==◌, ◌⊎◌, length, map, position, IfOk, IfErr};
+ghost use Rattle.std.specs.Prelude.{◌≡◌, ◌+◌, ◌<◌, ◌∷◌, ◌==◌, ◌⊎◌, length, map, position, IfOk, IfErr, codes};
 ghost use Rattle.std.specs.List.{list_all};
 ghost use Rattle.rm_types.specs.Texts.{is_printable};
 ghost use Rattle.rm_script.specs.Lines.{lines_of, is_skipped};
-ghost use Rattle.rm_script.specs.Results.{Gives};
-ghost use Rattle.rm_script.specs.Reading.{words_of, start_line, settle_line, crash_of, crash_line, message_from, message_of_words, line_of_words, line_of};
+ghost use Rattle.rm_script.specs.Clients.{IsMessageText};
+ghost use Rattle.rm_script.specs.Results.{Finds};
+ghost use Rattle.rm_script.specs.Reading.{words_of, start_line, settle_line, crash_of, crash_line, Spells, IsLineAs};
 
 use crate::clients::client_message;
 use crate::errors::LineError;
@@ -112,50 +113,51 @@ fn crash_line(words: &[&[u8]]) -> Option<Line>
     }
 }
 
-/// The message of a sender: its name, the word that says what it asks, and the words after that.
-fn message_from(
-    alloc: Global,
-    sender: &[u8],
-    name: &[u8],
-    word: &[u8],
-    more: &[&[u8]],
-) -> Result<Message, LineError>
-    ensures { Gives result (message_from sender.now name.now word.now (map (λ one. one.now) more.now)) }
+/// The message of a sender, by the words after it.
+fn message_from(alloc: Global, sender: &[u8], words: &[&[u8]]) -> Result<Message, LineError>
+    ensures { Finds result (IsMessageText (sender.now ∷ map (λ word. word.now) words.now)) }
 {
     if sender == "client".as_bytes() {
-        client_message(alloc, name, word, more)
+        client_message(alloc, words)
     } else {
         Err(LineError::Refused)
     }
 }
 
-/// A message by its words.
-fn message_of_words(alloc: Global, words: &[&[u8]]) -> Result<Message, LineError>
-    ensures { Gives result (message_of_words (map (λ word. word.now) words.now)) }
+/// A line with a message that is lost, by the words after `lose`.
+fn lose_line(alloc: Global, words: &[&[u8]]) -> Result<Line, LineError>
+    ensures { Finds result (Spells (codes "lose" ∷ map (λ word. word.now) words.now)) }
 {
     match words {
-        [sender, name, word, more @ ..] => message_from(alloc, sender, name, word, more),
-        _ => Err(LineError::Refused),
+        [sender, more @ ..] => Ok(Line::Lose(message_from(alloc, sender, more)?)),
+        [] => Err(LineError::Refused),
+    }
+}
+
+/// A line by its first word and the words after that.
+fn line_from(alloc: Global, word: &[u8], more: &[&[u8]]) -> Result<Line, LineError>
+    ensures { Finds result (Spells (word.now ∷ map (λ one. one.now) more.now)) }
+{
+    if word == "start".as_bytes() {
+        start_line(more).ok_or(LineError::Refused)
+    } else if word == "settle".as_bytes() {
+        settle_line(more).ok_or(LineError::Refused)
+    } else if word == "crash".as_bytes() {
+        crash_line(more).ok_or(LineError::Refused)
+    } else if word == "lose".as_bytes() {
+        lose_line(alloc, more)
+    } else {
+        Ok(Line::Deliver(message_from(alloc, word, more)?))
     }
 }
 
 /// A line by its words.
 fn line_of_words(alloc: Global, words: &[&[u8]]) -> Result<Line, LineError>
-    ensures { Gives result (line_of_words (map (λ word. word.now) words.now)) }
+    ensures { Finds result (Spells (map (λ word. word.now) words.now)) }
 {
-    let [word, more @ ..] = words else {
-        return Err(LineError::Refused);
-    };
-    if *word == "start".as_bytes() {
-        start_line(more).ok_or(LineError::Refused)
-    } else if *word == "settle".as_bytes() {
-        settle_line(more).ok_or(LineError::Refused)
-    } else if *word == "crash".as_bytes() {
-        crash_line(more).ok_or(LineError::Refused)
-    } else if *word == "lose".as_bytes() {
-        message_of_words(alloc, more).map(Line::Lose)
-    } else {
-        message_of_words(alloc, words).map(Line::Deliver)
+    match words {
+        [word, more @ ..] => line_from(alloc, word, more),
+        [] => Err(LineError::Refused),
     }
 }
 
@@ -178,7 +180,7 @@ fn all_printable(text: &[u8]) -> bool
 
 /// A line by itself.
 pub(crate) fn line_of(alloc: Global, text: &[u8]) -> Result<Line, LineError>
-    ensures { Gives result (line_of text.now) }
+    ensures { Finds result (IsLineAs text.now) }
 {
     if text.len() > MOST_LINE_BYTES || !all_printable(text) {
         return Err(LineError::Refused);

@@ -25,7 +25,7 @@ fn digit_after(number: u64, digit: u8) -> Option<u64>
 }
 
 /// The number that the digits write, zeros before it or not; 0 where there is no digit.
-pub(crate) fn digits_value(digits: &[u8]) -> Option<u64>
+fn digits_value(digits: &[u8]) -> Option<u64>
     ensures { result ≡ number_after 0 digits.now }
 {
     let mut number: u64 = 0;
@@ -36,7 +36,7 @@ pub(crate) fn digits_value(digits: &[u8]) -> Option<u64>
 }
 
 /// The number, where it is neither below the least nor above the greatest.
-pub(crate) fn number_within(number: u64, least: u64, greatest: u64) -> Option<u64>
+fn number_within(number: u64, least: u64, greatest: u64) -> Option<u64>
     ensures { result ≡ number_within least greatest number }
 {
     if least <= number && number <= greatest {
