@@ -1,5 +1,5 @@
 -- What stands on a shelf, and how much of it a read gives.
-use Rattle.std.specs.Prelude.{ℕ, List, Option, Result, Ok, Err, take}
+use Rattle.std.specs.Prelude.{◌≡◌, ◌⊎◌, ℕ, Contains, IsNone, List, Option, Result, Ok, Err, take}
 use Rattle.std.specs.Option.{option_map}
 use Rattle.std.specs.List.{find}
 use Rattle.std.specs.Str.{bytes_eq}
@@ -33,3 +33,12 @@ faults_after faults (Err Memory) = faults
 -- The shelf in memory after a call that gave this answer: the call counts, and so does a failure.
 abbrev pub shelf_after : {A : Type 0} → MemShelfState → Result A ShelfError → MemShelfState
 shelf_after shelf answer = record shelf { calls = risen shelf.calls; faults = faults_after shelf.faults answer }
+
+-- One read of a file of the name: the call counts; it fails exactly where its number is among those that fail or the shelf
+-- holds no file of the name, and then the failure counts.
+pub record IsRead (name : List ℕ) (old new : MemShelfState) : Type 0 where
+  pub files : new.files ≡ old.files
+  pub failing : new.failing ≡ old.failing
+  pub calls : new.calls ≡ risen old.calls
+  pub fails : Contains old.failing (risen old.calls) ⊎ IsNone (bytes_of_name old.files name) → new.faults ≡ risen old.faults
+  pub reads : (Contains old.failing (risen old.calls) ⊎ IsNone (bytes_of_name old.files name) → ⊥) → new.faults ≡ old.faults

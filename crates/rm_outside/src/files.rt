@@ -12,6 +12,7 @@ use std::{fs, io};
 pub struct FileShelf<R> {
     rt: R,
     faults: u64,
+    answered: u64,
 }
 
 impl<R> Model for FileShelf<R> {
@@ -27,7 +28,18 @@ impl<R> FileShelf<R> {
     pub fn new(rt: R) -> FileShelf<R>
         ensures { result ≡ 0 }
     {
-        FileShelf { rt, faults: 0 }
+        FileShelf {
+            rt,
+            faults: 0,
+            answered: 0,
+        }
+    }
+}
+
+impl<R> FileShelf<R> {
+    /// How many reads were answered with bytes, for who wants to tell which one wasn't. Contracts don't see it.
+    pub fn answered(&self) -> u64 {
+        self.answered
     }
 }
 
@@ -38,15 +50,21 @@ impl<R: Files + AllocGlobal> Shelf for FileShelf<R> {
 
     ghost faults = { λ faults. faults };
 
+    ghost reads = { λ _ _ _. Unit {0} };
+
     /// `Failed` comes where the file can't be opened or read, and `Memory` where no memory was found for
     /// that or for its bytes.
     fn read(&mut self, name: &str) -> Result<Vec<u8>, ShelfError>
         ensures most { IfOk result (λ bytes. length bytes.items ≤ MOST_READ) }
         ensures after { self.new ≡ faults_after self.old result }
+        ensures one { Unit {0} }
         ensures never_falls { self.old ≤ self.new }
     {
         match read_part(&self.rt, name) {
-            Ok(bytes) => Ok(bytes),
+            Ok(bytes) => {
+                self.answered = self.answered.saturating_add(1);
+                Ok(bytes)
+            }
             Err(error) if error.kind() == ErrorKind::OutOfMemory => Err(ShelfError::Memory),
             Err(_) => {
                 self.faults = self.faults.saturating_add(1);
@@ -74,11 +92,18 @@ mod tests {
     use std::test::Fail;
 
     #[test]
-    fn a_shelf_of_files_reads_one_and_counts_a_missing_one(rt: HostRuntime) -> Result<(), Fail> {
+    fn a_shelf_of_files_reads_those_named_and_counts_a_missing_one(
+        rt: HostRuntime,
+    ) -> Result<(), Fail> {
         fs::write(&rt, "input", "begin\n")?;
         let mut shelf = FileShelf::new(rt);
         assert_eq!(rt; shelf.read("input")?.as_slice(), b"begin\n".as_slice());
+        fs::write(&rt, "other", "other\n")?;
+        assert_eq!(rt; shelf.read("other")?.as_slice(), b"other\n".as_slice());
+        assert_eq!(rt; shelf.read("input")?.as_slice(), b"begin\n".as_slice());
+        fs::remove_file(&rt, "other")?;
         assert_eq!(rt; shelf.faults, 0);
+        assert_eq!(rt; shelf.answered(), 3);
         assert!(rt; matches!(shelf.read("output"), Err(ShelfError::Failed)));
         assert_eq!(rt; shelf.faults, 1);
         Ok(())

@@ -1,8 +1,13 @@
-ghost use Rattle.std.specs.Prelude.{◌≡◌, ◌≢◌, ◌≤◌, None};
+ghost use Rattle.std.specs.Prelude.{◌≡◌, ◌≢◌, ◌≤◌, None, IfOk, length};
 ghost use Rattle.std.specs.Io.{WritesAtMost};
 
 use crate::sinks::{Sink, SinkError};
+use std::io;
+use std::io::ErrorKind;
 use std::marker::Model;
+
+/// How often an interrupted write is tried again before it counts as refused.
+const MOST_TRIES: u32 = 1_000_000;
 
 /// The standard output as a sink. It tells no bytes: contracts see its counts alone.
 #[derive(Drop)]
@@ -42,7 +47,8 @@ impl<R: Print> Sink for OutSink<R> {
 
     ghost idle = { λ s. s.idle };
 
-    /// `SinkFault` comes where the system refused the write. There is no `Memory`.
+    /// `SinkFault` comes where the system refused the write; one that it says was interrupted is tried again.
+    /// There is no `Memory`.
     fn write(&mut self, bytes: &[u8]) -> Result<usize, SinkError>
         ensures count { WritesAtMost result bytes.now }
         ensures after { self.new ≡ counts_after self.old result bytes.now }
@@ -50,7 +56,7 @@ impl<R: Print> Sink for OutSink<R> {
         ensures faults_never_fall { self.old.faults ≤ self.new.faults }
         ensures idle_never_falls { self.old.idle ≤ self.new.idle }
     {
-        match self.rt.write_some(bytes) {
+        match write_part(&self.rt, bytes) {
             Ok(count) => {
                 if count == 0 && !bytes.is_empty() {
                     self.idle = self.idle.saturating_add(1);
@@ -63,4 +69,17 @@ impl<R: Print> Sink for OutSink<R> {
             }
         }
     }
+}
+
+/// Writes a first part of the bytes, and says how many that is.
+fn write_part<R: Print>(rt: &R, bytes: &[u8]) -> io::Result<usize>
+    ensures { IfOk result (λ count. count ≤ length bytes.now) }
+{
+    'again: for _ in 0..MOST_TRIES {
+        match rt.write_some(bytes) {
+            Err(error) if error.kind() == ErrorKind::Interrupted => {}
+            outcome => return outcome,
+        }
+    }
+    Err(io::Error::from(ErrorKind::Interrupted))
 }

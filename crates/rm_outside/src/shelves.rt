@@ -32,6 +32,10 @@ pub trait Shelf {
     /// How many calls failed.
     ghost faults: { Self → ℕ };
 
+    /// What one read of the file of a name does to the shelf, whether it succeeds or not. Generic code passes
+    /// it on, so that its callers learn which names were read.
+    ghost reads: { List ℕ → Self → Self → Type 0 };
+
     /// Reads a file by its name: all its bytes up to 16,777,216, and the first 16,777,217 of a longer
     /// one, so that a caller can tell that it is too long.
     ///
@@ -41,6 +45,7 @@ pub trait Shelf {
         ensures bytes { IfOk result (λ bytes. IfSome (bytes_of self.old name.now) (λ all. bytes.items ≡ bytes_read all)) }
         ensures most { IfOk result (λ bytes. length bytes.items ≤ MOST_READ) }
         ensures told { bytes_of self.new ≡ bytes_of self.old }
+        ensures one { reads name.now self.old self.new }
         ensures never_falls { faults self.old ≤ faults self.new }
         ensures failed { result ≡ Err ShelfError.Failed → Rose (faults self.old) (faults self.new) }
         ensures ok { OnOk result (faults self.new ≡ faults self.old) }
@@ -99,11 +104,13 @@ impl MemShelf {
 }
 
 impl Shelf for MemShelf {
-    ghost use Rattle.rm_outside.specs.Shelves.{shelf_after};
+    ghost use Rattle.rm_outside.specs.Shelves.{shelf_after, IsRead};
 
     ghost bytes_of = { λ s name. bytes_of_name s.files name };
 
     ghost faults = { λ s. s.faults };
+
+    ghost reads = { λ name old new. IsRead name old new };
 
     /// `Failed` comes exactly where the call's number is among those that fail, or the shelf holds no
     /// file of the name. Each answer counts as a call.
@@ -111,6 +118,7 @@ impl Shelf for MemShelf {
         ensures bytes { IfOk result (λ bytes. option_map bytes_read (bytes_of_name self.old.files name.now) ≡ Some bytes.items) }
         ensures failed { (result ≡ Err ShelfError.Failed) ↔ (Contains self.old.failing (risen self.old.calls) ⊎ IsNone (bytes_of_name self.old.files name.now)) }
         ensures after { self.new ≡ shelf_after self.old result }
+        ensures one { IsRead name.now self.old self.new }
         ensures most { IfOk result (λ bytes. length bytes.items ≤ MOST_READ) }
         ensures never_falls { self.old.faults ≤ self.new.faults }
     {

@@ -4,6 +4,10 @@ use crate::sinks::{MemSink, Sink};
 use crate::writes::{Written, write_all};
 use rm_types::{Items, Text};
 use std::alloc::Global;
+use std::cell::Cell;
+use std::fmt::Display;
+use std::io;
+use std::io::ErrorKind;
 use std::test::Fail;
 
 /// A shelf that holds `input` and, under the same name, another file behind it.
@@ -81,4 +85,66 @@ fn the_standard_output_takes_a_short_piece(rt: HostRuntime) -> Result<(), Fail> 
     assert_eq!(rt; sink.write(b""), Ok(0));
     assert_eq!(rt; write_all(&mut sink, b"short\n"), Written::All);
     Ok(())
+}
+
+/// What an output was asked for, and took.
+#[derive(Drop)]
+struct Taken {
+    calls: Cell<u32>,
+    /// How many of the next calls are interrupted.
+    interruptions: Cell<u32>,
+    /// The bytes, as a number with the base 256.
+    bytes: Cell<u64>,
+}
+
+/// An output that takes two bytes at a time.
+#[derive(Drop)]
+struct TwoBytes<'a> {
+    taken: &'a Taken,
+}
+
+impl Print for TwoBytes<'_> {
+    fn print<D: Display + Drop>(&self, _value: D) -> io::Result<()> {
+        Err(io::Error::from(ErrorKind::Unsupported))
+    }
+
+    fn println<D: Display + Drop>(&self, _value: D) -> io::Result<()> {
+        Err(io::Error::from(ErrorKind::Unsupported))
+    }
+
+    fn write_all(&self, _bytes: &[u8]) -> io::Result<()> {
+        Err(io::Error::from(ErrorKind::Unsupported))
+    }
+
+    fn write_some(&self, bytes: &[u8]) -> io::Result<usize> {
+        self.taken
+            .calls
+            .set(self.taken.calls.get().saturating_add(1));
+        let interruptions = self.taken.interruptions.get();
+        if interruptions > 0 {
+            self.taken.interruptions.set(interruptions - 1);
+            return Err(io::Error::from(ErrorKind::Interrupted));
+        }
+        let count = bytes.len().min(2);
+        for byte in &bytes[..count] {
+            let before = self.taken.bytes.get();
+            self.taken
+                .bytes
+                .set(before.wrapping_mul(256).wrapping_add(u64::from(*byte)));
+        }
+        Ok(count)
+    }
+}
+
+#[test]
+fn the_standard_output_takes_each_byte_once(rt: HostRuntime) {
+    let taken = Taken {
+        calls: Cell::new(0),
+        interruptions: Cell::new(2),
+        bytes: Cell::new(0),
+    };
+    let mut sink = OutSink::new(TwoBytes { taken: &taken });
+    assert_eq!(rt; write_all(&mut sink, b"abcde"), Written::All);
+    assert_eq!(rt; taken.bytes.get(), 0x61_62_63_64_65);
+    assert_eq!(rt; taken.calls.get(), 5);
 }
