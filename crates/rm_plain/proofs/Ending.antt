@@ -44,11 +44,11 @@ stores_trans opening a b c one two three goes ab bc = λ k has.
 
 module _ {D : Type 0} (view : D → DiskView) where
   pub fuse_same : (a : Fused D) → FuseStays view a a
-  fuse_same a = record { falls = refl; refused = refl; size = refl; faults = omega arith }
+  fuse_same a = record { falls = refl; unarmed_falls = refl; refused = refl; size = refl; faults = omega arith }
 
   pub fuse_trans : (a b c : Fused D) → FuseStays view a b → FuseStays view b c → FuseStays view a c
   fuse_trans a b c ab bc =
-      record { falls = bc.falls ∙ ab.falls; refused = bc.refused ∙ ab.refused; size = bc.size ∙ ab.size; faults = omega (arith, ab.faults, bc.faults) }
+      record { falls = bc.falls ∙ ab.falls; unarmed_falls = bc.unarmed_falls ∙ ab.unarmed_falls; refused = bc.refused ∙ ab.refused; size = bc.size ∙ ab.size; faults = omega (arith, ab.faults, bc.faults) }
 
   module _ (a b c : Desk) (first second third : StoreState D) (goes : Goes [] a b) (kept : (opening : List Op) → StoresOn opening a b (seen view first.disk) (seen view second.disk)) where
     pub stores_on : Stores view b c second third → Stores view a c first third
@@ -56,7 +56,7 @@ module _ {D : Type 0} (view : D → DiskView) where
         record { sound = h.sound; kept = λ opening. stores_trans opening a b c (seen view first.disk) (seen view second.disk) (seen view third.disk) goes (kept opening) (h.kept opening) }
 
     pub rest_on : ComesToRest view b c second third → ComesToRest view a c first third
-    rest_on h = record { goes = goes_trans (λ opening. Unit {0}) [] [] a b c goes h.goes; over = h.over; unarmed = h.unarmed; stores = stores_on h.stores }
+    rest_on h = record { goes = goes_trans (λ opening. Unit {0}) [] [] a b c goes h.goes; over = h.over; unarmed = h.unarmed; unblown = h.unblown; stores = stores_on h.stores }
 
     pub down_on : (image : ℕ) → WentDown view b c second third image → WentDown view a c first third image
     down_on image h =
@@ -180,5 +180,6 @@ comes_to_rest view d store h a serves ready rests =
         rest = (rests main sched (λ b. awaits_none d n a)).at_rest;
       };
       unarmed = serves.armed ∙ none_armed d d.close refl segments;
+      unblown = serves.unblown;
       stores = record { sound = serves.sound; kept = λ opening. unkept_stores opening d d (record { kept = λ ops k. refl; more = []; grows = sym (append-nil d.core.log) }) (seen view store.disk) };
     }

@@ -1,6 +1,6 @@
 -- All lives of a script, from the first one on, and what a run over them shows.
-use Rattle.std.proofs.Common.{◌≡◌, ◌⊎◌, ℕ, List, [], ◌++◌, false, None, Ok, Err, Result, refl, sym, ◌∙◌, ap, subst, inl, inr, ⊎_elim, arith}
-use Rattle.std.specs.Prelude.{IsOk, OnOk}
+use Rattle.std.proofs.Common.{◌≡◌, ◌≢◌, ◌⊎◌, ℕ, List, [], ◌++◌, false, None, Ok, Err, Result, refl, sym, ◌∙◌, ap, subst, inl, inr, ⊎_elim, arith}
+use Rattle.std.specs.Prelude.{IfErr, IsOk, OnOk}
 use Rattle.std.specs.declared.alloc.Global.{Global}
 use Rattle.std.proofs.lemmas.List.{append-nil, append_assoc}
 use Rattle.rm_types.specs.declared.operations.Op.{Op}
@@ -10,12 +10,12 @@ use Rattle.rm_types.specs.declared.settings.Settings.{Settings}
 use Rattle.rm_disk.specs.declared.fallen.Fallen.{Fallen}
 use Rattle.rm_disk.specs.Disk.{DiskView}
 use Rattle.rm_disk.specs.Fuse.{Fused}
-use Rattle.rm_disk.proofs.Views.{leaves_of, leaves_same, leaves_trans}
+use Rattle.rm_disk.proofs.Views.{leaves_of, leaves_same, leaves_trans, quiet_same}
 use Rattle.rm_model.specs.Downs.{AllGoDownAtRest}
 use Rattle.rm_model.specs.Lawful.{AllAllowed, IsAtRest, IsDone, Lawful, state_after}
 use Rattle.rm_model.specs.Place.{Place}
 use Rattle.rm_model.specs.State.{Manager, opening_state}
-use Rattle.rm_model.specs.Survives.{HoldsWithin}
+use Rattle.rm_plain.specs.Survives.{HoldsWithin, SurvivesAll, SurvivesNow}
 use Rattle.rm_store.specs.Store.{seen}
 use Rattle.rm_core.specs.Seen.{Seen, StandsFor}
 use Rattle.rm_plain.specs.declared.desk.Desk.{Desk}
@@ -24,34 +24,33 @@ use Rattle.rm_plain.specs.declared.halts.Stop.TheVariants.{DiskFault, Damaged, F
 use Rattle.rm_plain.specs.Along.{CanRun, IsSound, first_desk, place_of}
 use Rattle.rm_plain.specs.Falls.{falls_of}
 use Rattle.rm_plain.specs.Goes.{IsOver, IsRun}
-use Rattle.rm_plain.specs.Later.{FirstLived, FirstStopped, IsFirstStop, IsLaterStop, LaterTo}
-use Rattle.rm_plain.specs.Stops.{CannotGoOn, IsStoppedBy}
+use Rattle.rm_plain.specs.Keeping.{IsFull, IsHanded, IsKeptOn, LeftOver}
+use Rattle.rm_plain.specs.Later.{FirstLived, FirstStopped, IsDueAt, IsLaterStop, LaterTo}
+use Rattle.rm_plain.specs.Stops.{IsDue, IsStoppedBy, IsTold}
 use Rattle.rm_plain.specs.Whole.{AllLived, Ends}
 use Rattle.rm_plain.proofs.Ending.{goes_trans}
+use Rattle.rm_plain.proofs.Halting.{after_within, full_known, goes_any, keeps_leaves}
 use Rattle.rm_plain.proofs.Moving.{goes_same}
-use Rattle.rm_plain.proofs.Onward.{goes_over, stays_same, stays_trans}
+use Rattle.rm_plain.proofs.Onward.{stays_same, stays_trans}
 use Rattle.rm_plain.proofs.Stored.{within_longer}
-
--- where the first life stopped the run
-first_stop : (opening : List Op) (log : List Entry) (old new : DiskView) (stop : Stop) → IsFirstStop opening log old new stop → IsStoppedBy old new opening log stop
-first_stop opening log old new DiskFault h = h
-first_stop opening log old new (Damaged offset) h = λ bytes told.
-    ⊎_elim (λ none. inl (h.0, none)) (λ no. inr (no.0, no.1, subst (λ (l : List Entry). CannotGoOn opening l) (sym h.0) no.2)) (h.1 bytes told)
-first_stop opening log old new (Full needed room) h = h
-first_stop opening log old new EpochsSpent h = h
-first_stop opening log old new Memory h = tt
 
 module _ {D : Type 0} (view : D → DiskView) (opening : List Op) where
   -- a script without lives
-  pub none_lived : (d : Desk) (disk : Fused D) → IsSound d → d.core.tables.alive ≡ false → d.core.log ≡ [] → d.lives ≡ [] → AllLived view opening d d disk disk (Ok tt)
-  none_lived d disk h dead empty none =
+  pub none_lived : (d : Desk) (disk : Fused D) → IsSound d → d.core.tables.alive ≡ false → d.core.log ≡ [] → d.lives ≡ [] → disk.armed ≡ None → opening ≡ [] → AllLived view opening d d disk disk (Ok tt)
+  none_lived d disk h dead empty none unarmed nothing =
       record {
         fallen = [];
-        goes = goes_over view (λ ops. Unit {0}) (λ ops. ops ≡ opening) [] d d (λ ops q k. tt) (goes_same d h);
+        goes = goes_any (λ ops. ops ≡ opening) d d (goes_same d h);
         falls = sym (append-nil disk.falls);
         stays = stays_same view disk;
-        opened = λ k some. absurd (some empty);
+        unarmed = unarmed;
+        unblown = λ was. was;
+        opened = λ some. absurd (some empty);
+        found = inl nothing;
         ends = record { lives = none; over = inl dead };
+        quiet = λ no. quiet_same (seen view disk);
+        idle = λ no. (empty, refl, refl);
+        begun = λ some. absurd (some none);
         images = λ k bytes told.
             record { so_far = leaves_same (seen view disk) (λ image. (seen view disk).images image ⊎ HoldsWithin opening d.core.log image); now = λ image is. inl is };
         images_now = λ k some. absurd (some empty);
@@ -59,51 +58,79 @@ module _ {D : Type 0} (view : D → DiskView) (opening : List Op) where
       }
 
   -- the first life stopped the run
-  pub first_stops : (a b : Desk) (disk now : Fused D) (stop : Stop) → FirstStopped view opening a b disk now stop → AllLived view opening a b disk now (Err stop)
-  first_stops a b disk now stop h =
+  pub first_stops : (a b : Desk) (disk now : Fused D) (stop : Stop) → a.lives ≢ [] → FirstStopped view opening a b disk now stop → AllLived view opening a b disk now (Err stop)
+  first_stops a b disk now stop lives h =
       record {
         fallen = [];
         goes = h.goes;
         falls = h.falls ∙ sym (append-nil disk.falls);
         stays = h.stays;
-        opened = λ k some. h.held some;
+        unarmed = h.at_ease.unarmed;
+        unblown = λ some. h.at_ease.unblown;
+        opened = h.held;
+        found = h.found;
         ends = tt;
-        images = λ k. tt;
-        images_now = λ k. tt;
-        stopped = λ k. first_stop opening b.core.log (seen view disk) (seen view now) stop (h.why k);
+        quiet = h.quiet;
+        idle = λ none. absurd (lives none);
+        begun = λ some. tt;
+        images = λ k. (h.left k).0;
+        images_now = λ k. (h.left k).1;
+        stopped = h.why;
       }
 
   -- the first life was lived, and others behind it
-  module _ (a b c : Desk) (first second third : Fused D) (ab : FirstLived view opening a b first second) where
-    later_stop : StandsFor opening a.core → (stop : Stop) → IsLaterStop opening b.core.log c.core.log (seen view second) (seen view third) stop
-        → IsStoppedBy (seen view first) (seen view third) opening c.core.log stop
-    later_stop k DiskFault why = let before = ab.stays.faults in omega (arith, why)
-    later_stop k (Damaged offset) why = λ bytes told. let no = why (ab.kept bytes told k).kept in inr (no.0, (ab.kept bytes told k).opened, no.1)
-    later_stop k (Full needed room) why = why
-    later_stop k EpochsSpent why = (λ bytes told. (ab.kept bytes told k).opened, why)
-    later_stop k Memory why = tt
+  module _ (a b c : Desk) (first second third : Fused D) (lives : a.lives ≢ []) (ab : FirstLived view opening a b first second) where
+    held : IsTold (seen view first) → StandsFor opening a.core → IsKeptOn opening b.core.log (seen view second)
+    held told k = (ab.kept told.0 told.1 k).kept
+
+    later_stop : StandsFor opening a.core → c.core.log ≢ [] → (stop : Stop) → IsLaterStop view opening b c second third stop → IsStoppedBy view (IsDueAt c) first third opening c.core.log stop
+    later_stop k some DiskFault why = (let before = ab.stays.faults in let rose = why.0 in omega arith, why.1, λ none. absurd (some none))
+    later_stop k some (Damaged offset) why = (
+      why.0,
+      λ bytes told. let no = why.1 (ab.kept bytes told k).kept in inr (no.0, (ab.kept bytes told k).opened, no.1),
+      λ none. absurd (some none),
+    )
+    later_stop k some (Full needed room) why =
+        full_known (IsKeptOn opening b.core.log (seen view second)) (IsTold (seen view first)) opening c.core.log (view third.inner).size needed room (λ told. held told k) why
+    later_stop k some EpochsSpent why = (why.0, (λ bytes told. (ab.kept bytes told k).opened, why.1))
+    later_stop k some Memory why = tt
+
+    -- at each moment up to the end of the first life, and then
+    all_images : StandsFor opening a.core → LeftOver (λ ops. Unit {0}) b c (seen view second) (seen view third) → SurvivesAll opening c.core.log (seen view first) (seen view third)
+    all_images k left = λ bytes told.
+        let P : List ℕ → Type 0 = λ image. (seen view first).images image ⊎ HoldsWithin opening c.core.log image in
+        let was = ab.kept bytes told k in
+        let on = left opening tt (ab.goes.lawful opening refl k) was.kept in
+        record {
+          so_far = leaves_trans (seen view first) (seen view second) (seen view third) P
+              (leaves_of (seen view first) (seen view second) (λ image. (seen view first).images image ⊎ HoldsWithin opening b.core.log image) P
+              (λ image is. ⊎_elim (λ before. inl before) (λ within. inr (within_longer opening b.core.log c.core.log on.more on.grows image within)) is) was.time)
+              (leaves_of (seen view second) (seen view third) (HoldsWithin opening c.core.log) P (λ image is. inr is) on.time);
+          now = λ image is. inr (after_within opening c.core.log image (on.now image is));
+        }
+
+    all_images_now : StandsFor opening a.core → LeftOver (λ ops. Unit {0}) b c (seen view second) (seen view third) → SurvivesNow opening c.core.log (seen view first) (seen view third)
+    all_images_now k left = λ some bytes told. (left opening tt (ab.goes.lawful opening refl k) (ab.kept bytes told k).kept).now
 
     pub all_lived : (r : Result (Unit {0}) Stop) → LaterTo view b c second third r → OnOk r (c.lives ≡ []) → AllLived view opening a c first third r
     all_lived (Ok x) bc none =
-        let P : List ℕ → Type 0 = λ image. (seen view first).images image ⊎ HoldsWithin opening c.core.log image in
+        let left : LeftOver (λ ops. Unit {0}) b c (seen view second) (seen view third) =
+        λ ops is k has. keeps_leaves ops b.core.log c.core.log (seen view second) (seen view third) (bc.kept ops is k has) in
         record {
           fallen = ab.fallen ++ bc.fallen;
           goes = goes_trans (λ ops. ops ≡ opening) ab.fallen bc.fallen a b c ab.goes bc.goes;
           falls = bc.falls ∙ ap (λ (xs : List Fallen). xs ++ bc.fallen) ab.falls ∙ append_assoc first.falls ab.fallen bc.fallen;
           stays = stays_trans view first second third ab.stays bc.disk_stays;
-          opened = λ k some bytes told. (ab.kept bytes told k).opened;
+          unarmed = bc.at_ease.unarmed;
+          unblown = λ some. bc.at_ease.unblown;
+          opened = λ some. (ab.plain, ab.opened);
+          found = inr ab.opened;
           ends = record { lives = none; over = bc.ends };
-          images = λ k bytes told.
-              let held = ab.kept bytes told k in
-              let on = bc.kept opening tt (ab.goes.lawful opening refl k) held.kept in
-              record {
-                so_far = leaves_trans (seen view first) (seen view second) (seen view third) P
-                    (leaves_of (seen view first) (seen view second) (λ image. (seen view first).images image ⊎ HoldsWithin opening b.core.log image) P
-                    (λ image is. ⊎_elim (λ was. inl was) (λ within. inr (within_longer opening b.core.log c.core.log on.more on.grows image within)) is) held.time)
-                    (leaves_of (seen view second) (seen view third) (HoldsWithin opening c.core.log) P (λ image is. inr is) on.time);
-                now = λ image is. inr (record { before = c.core.log; later = []; whole = sym (append-nil c.core.log); holds = inl (on.kept.images image is) });
-              };
-          images_now = λ k some bytes told image is. inl ((bc.kept opening tt (ab.goes.lawful opening refl k) (ab.kept bytes told k).kept).kept.images image is);
+          quiet = λ empty. absurd (bc.some empty);
+          idle = λ no. absurd (lives no);
+          begun = λ some. bc.some;
+          images = λ k. all_images k left;
+          images_now = λ k. all_images_now k left;
           stopped = λ k. tt;
         }
     all_lived (Err stop) bc none =
@@ -112,11 +139,17 @@ module _ {D : Type 0} (view : D → DiskView) (opening : List Op) where
           goes = goes_trans (λ ops. ops ≡ opening) ab.fallen bc.fallen a b c ab.goes bc.goes;
           falls = bc.falls ∙ ap (λ (xs : List Fallen). xs ++ bc.fallen) ab.falls ∙ append_assoc first.falls ab.fallen bc.fallen;
           stays = stays_trans view first second third ab.stays bc.stays;
-          opened = λ k some bytes told. (ab.kept bytes told k).opened;
+          unarmed = bc.at_ease.unarmed;
+          unblown = λ some. bc.at_ease.unblown;
+          opened = λ some. (ab.plain, ab.opened);
+          found = inr ab.opened;
           ends = tt;
-          images = λ k. tt;
-          images_now = λ k. tt;
-          stopped = λ k. later_stop k stop (bc.why opening (ab.goes.lawful opening refl k));
+          quiet = λ empty. absurd (bc.goes.some ab.some empty);
+          idle = λ no. absurd (lives no);
+          begun = λ some. tt;
+          images = λ k. all_images k bc.left;
+          images_now = λ k. all_images_now k bc.left;
+          stopped = λ k. later_stop k (bc.goes.some ab.some) stop (bc.why opening (ab.goes.lawful opening refl k));
         }
 
 -- the desk before the first life is sound
@@ -140,6 +173,20 @@ at_rest settings s h = rw h tt
 life_none : (opening : List Op) (core : Seen) → StandsFor opening core → core.tables.alive ≡ false → (state_after opening core.log).life ≡ None
 life_none opening core k dead = ap (λ (m : Manager). m.life) k.same ∙ rw dead refl
 
+-- what follows for an error, where the error was told
+if_err : {A E : Type 0} {P Q : E → Type 0} (r : Result A E) → ((e : E) → P e → Q e) → IfErr r P → IfErr r Q
+if_err (Ok x) by h = tt
+if_err (Err e) by h = by e h
+
+-- why a run stopped, where what says that a life was due is told otherwise
+due_is : {D : Type 0} (view : D → DiskView) (opening : List Op) (log : List Entry) (disk now : Fused D) (one other : Type 0) → (one → other)
+    → (stop : Stop) → IsStoppedBy view one disk now opening log stop → IsStoppedBy view other disk now opening log stop
+due_is view opening log disk now one other by DiskFault why = (why.0, ⊎_elim (λ due. inl (by due)) (λ handed. inr handed) why.1, why.2)
+due_is view opening log disk now one other by (Damaged offset) why = (by why.0, why.1, why.2)
+due_is view opening log disk now one other by (Full needed room) why = why
+due_is view opening log disk now one other by EpochsSpent why = (by why.0, why.1)
+due_is view opening log disk now one other by Memory why = tt
+
 -- a run from before the first life
 module _ {D : Type 0} (view : D → DiskView) (opening : List Op) (settings : Settings) (alloc : Global) (core : Seen) (script : Script) (new : Desk) (disk now : Fused D) (ended : Result (Unit {0}) Stop)
     (all : AllLived view opening (first_desk alloc core script) new disk now ended) (same : core.settings ≡ settings) (empty : core.log ≡ []) (k : StandsFor opening core) where
@@ -159,6 +206,17 @@ module _ {D : Type 0} (view : D → DiskView) (opening : List Op) (settings : Se
 
   ends_at : Ends new → (place_of new).segments ≡ []
   ends_at ends = ⊎_elim (λ dead. all.goes.sound.between dead) (λ (o : IsOver new). o.segments) ends.over
+
+  -- where a life was due by the desk, one is due in the script
+  pub due_on : IsDueAt new → IsDue script opening new.core.log
+  due_on due =
+      record {
+        dead = life_none opening new.core stands_on due.dead;
+        lives = λ none. due.lives (sym (ap (λ (p : Place). p.lives) whole_run.along.at) ∙ none);
+      }
+
+  pub stopped_on : IfErr ended (IsStoppedBy view (IsDue script opening new.core.log) disk now opening new.core.log)
+  stopped_on = if_err ended (λ stop why. due_is view opening new.core.log disk now (IsDueAt new) (IsDue script opening new.core.log) due_on stop why) (all.stopped k)
 
   pub is_done : Ends new → IsDone settings script opening new.core.log
   is_done ends =

@@ -5,3 +5,4 @@ pub mod Ending
 pub mod Starting
 pub mod Onward
 pub mod Finishing
+pub mod Halting

@@ -24,7 +24,7 @@ use Rattle.rm_model.specs.Changes.{after, after_where, kept_after_landing}
 use Rattle.rm_model.specs.Downs.{GoesDownAtRest}
 use Rattle.rm_model.specs.Lawful.{IsAtRest, state_after}
 use Rattle.rm_model.specs.Place.{Place, IsNext, Begins, Settles, Crashes, moved, begun, rest_of, messages_left, close_left, is_from, first_from, segments_without, without_first}
-use Rattle.rm_model.specs.Replies.{sender_of}
+use Rattle.rm_types.specs.Lanes.{sender_of}
 use Rattle.rm_core.specs.Adds.{Adds, AmountsTo, GoesOnFrom, IsOf}
 use Rattle.rm_core.specs.declared.events.Refused.{Refused}
 use Rattle.rm_core.specs.declared.manager.Move.{Move}

@@ -1,16 +1,17 @@
 -- The first life of a script, and one life after the other.
-use Rattle.std.proofs.Common.{◌≡◌, ◌≢◌, ◌⊎◌, ℕ, ◌^◌, ◌-◌, ◌<◌, List, [], ◌++◌, false, Some, None, Ok, Err, Result, refl, sym, ◌∙◌, ap, subst, inl, inr, ⊎_elim, arith}
+use Rattle.std.proofs.Common.{◌≡◌, ◌≢◌, ◌⊎◌, ℕ, ◌^◌, ◌-◌, ◌<◌, ◌≤◌, List, [], ◌++◌, false, Some, None, Ok, Err, Result, refl, sym, ◌∙◌, ap, subst, inl, inr, ⊎_elim, arith}
 use Rattle.std.proofs.lemmas.List.{append-nil, append_assoc}
 use Rattle.rm_types.specs.declared.operations.Op.{Op}
 use Rattle.rm_types.specs.declared.entries.Entry.{Entry}
+use Rattle.rm_types.specs.declared.records.AppRecord.{AppRecord}
 use Rattle.rm_types.specs.Records.{Records, records}
 use Rattle.rm_disk.specs.declared.fallen.Fallen.{Fallen}
-use Rattle.rm_disk.specs.Disk.{DiskView}
+use Rattle.rm_disk.specs.Disk.{DiskView, Tells}
 use Rattle.rm_disk.specs.Fuse.{Fused}
-use Rattle.rm_disk.proofs.Views.{leaves_of, leaves_same, leaves_trans}
-use Rattle.rm_model.specs.Device.{Holds}
+use Rattle.rm_disk.proofs.Views.{leaves_of, leaves_same, leaves_trans, quiet_trans}
+use Rattle.rm_formats.specs.Device.{Holds}
 use Rattle.rm_model.specs.Lawful.{state_after}
-use Rattle.rm_model.specs.Survives.{HoldsWithin}
+use Rattle.rm_plain.specs.Survives.{HoldsWithin, SurvivesAll, SurvivesNow}
 use Rattle.rm_store.specs.Store.{StoreState, seen}
 use Rattle.rm_store.proofs.Faultless.{one_list, never_damaged, never_stray}
 use Rattle.rm_core.specs.Adds.{AmountsTo}
@@ -24,11 +25,12 @@ use Rattle.rm_plain.specs.declared.halts.Stop.TheVariants.{DiskFault, Damaged, F
 use Rattle.rm_plain.specs.Along.{IsSound}
 use Rattle.rm_plain.specs.Goes.{GoesOver, IsOver}
 use Rattle.rm_plain.specs.Halted.{stop_of}
-use Rattle.rm_plain.specs.Keeping.{IsHaltedBy, IsKeptOn}
-use Rattle.rm_plain.specs.Later.{FirstTo, IsAgain, IsFirst, IsFirstStop, IsLaterStop, IsReady, LaterTo, StopsLater}
-use Rattle.rm_plain.specs.Starts.{DiskStays, Halts, IsOpened, IsUnopenedBy, Lives, LivesTo}
-use Rattle.rm_plain.specs.Stops.{IsNoStore}
+use Rattle.rm_plain.specs.Keeping.{HaltsOver, IsHaltedBy, IsHanded, IsKeptOn}
+use Rattle.rm_plain.specs.Later.{FirstStopped, FirstTo, IsAgain, IsDueAt, IsFirst, IsLaterStop, IsReady, IsUnfounded, IsUnready, LaterTo, StopsLater}
+use Rattle.rm_plain.specs.Starts.{DiskStays, Halts, IsAtEase, IsGivenBack, IsOpened, IsRefusedBy, IsUnopenedBy, Lives, LivesTo}
+use Rattle.rm_plain.specs.Stops.{CannotGoOn, IsNoStore, IsStoppedBy, IsTold, NoneLeft}
 use Rattle.rm_plain.proofs.Ending.{goes_trans}
+use Rattle.rm_plain.proofs.Halting.{after_within, full_known, goes_any, leaves_after}
 use Rattle.rm_plain.proofs.Moving.{goes_same}
 use Rattle.rm_plain.proofs.Stored.{keeps_trans}
 
@@ -36,20 +38,36 @@ use Rattle.rm_plain.proofs.Stored.{keeps_trans}
 no_store_not : (bytes : List ℕ) (ops : List Op) (offset : ℕ) → Holds bytes ops → IsNoStore offset bytes → ⊥
 no_store_not bytes ops offset holds why = ⊎_elim (λ damaged. never_damaged bytes ops holds offset damaged) (λ stray. never_stray bytes ops holds stray.0 offset stray.1) why
 
--- a later life whose store wasn't opened
-pub unopened_again : (opening : List Op) (log : List Entry) (old new : DiskView) (why : Stop) → IsUnopenedBy old new why → IsLaterStop opening log log old new why
-unopened_again opening log old new DiskFault h = h
-unopened_again opening log old new (Damaged offset) h = λ has. absurd (no_store_not has.bytes (state_after opening log).kept offset has.holds (h has.bytes has.told))
-unopened_again opening log old new Memory h = tt
-unopened_again opening log old new (Full needed room) h = absurd h
-unopened_again opening log old new EpochsSpent h = absurd h
+-- before the first life nothing is with the store
+never_handed : (opening : List Op) (op : Op) → IsHanded opening [] op → ⊥
+never_handed opening op h = let never = h.first in cc
+
+-- records that have the same next epoch, stamp and applications differ by how many operations they count at most
+amounts_same : (a b : Records) → a.next_epoch ≡ b.next_epoch → a.stamp ≡ b.stamp → a.apps ≡ b.apps → a ≡ record b { applied = a.applied }
+amounts_same a b epoch stamp apps = λ i. record { next_epoch = epoch i; stamp = stamp i; apps = apps i; applied = a.applied }
 
 module _ {D : Type 0} (view : D → DiskView) where
   pub stays_trans : (a b c : Fused D) → DiskStays view a b → DiskStays view b c → DiskStays view a c
-  stays_trans a b c ab bc = record { refused = bc.refused ∙ ab.refused; size = bc.size ∙ ab.size; faults = (let one = ab.faults in let two = bc.faults in omega arith) }
+  stays_trans a b c ab bc = record { refused = bc.refused ∙ ab.refused; unarmed_falls = bc.unarmed_falls ∙ ab.unarmed_falls; size = bc.size ∙ ab.size; faults = (let one = ab.faults in let two = bc.faults in omega arith) }
 
   pub stays_same : (a : Fused D) → DiskStays view a a
-  stays_same a = record { refused = refl; size = refl; faults = omega arith }
+  stays_same a = record { refused = refl; unarmed_falls = refl; size = refl; faults = omega arith }
+
+  -- a later life whose store wasn't opened
+  pub unopened_again : (opening : List Op) (log : List Entry) (disk now : Fused D) (why : Stop) → IsUnopenedBy view disk now why → IsUnready view opening log disk now why
+  unopened_again opening log disk now DiskFault h = h
+  unopened_again opening log disk now (Damaged offset) h = λ has. absurd (no_store_not has.bytes (state_after opening log).kept offset has.holds (h has.bytes has.told))
+  unopened_again opening log disk now Memory h = tt
+  unopened_again opening log disk now (Full needed room) h = absurd h
+  unopened_again opening log disk now EpochsSpent h = absurd h
+
+  -- the first life's store wasn't opened
+  pub unopened_first : (disk now : Fused D) (why : Stop) → IsUnopenedBy view disk now why → IsUnfounded view [] disk now why
+  unopened_first disk now DiskFault h = (refl, h)
+  unopened_first disk now (Damaged offset) h = inl (refl, h)
+  unopened_first disk now Memory h = tt
+  unopened_first disk now (Full needed room) h = absurd h
+  unopened_first disk now EpochsSpent h = absurd h
 
   module _ (disk : Fused D) (store : StoreState D) (tree : Records) (ops : List Op) (o : IsOpened view disk store tree ops) where
     -- what was opened is what was kept
@@ -73,13 +91,35 @@ module _ {D : Type 0} (view : D → DiskView) where
           over = record { of_store = record { ops = ops; none_stray = o.read.none_stray; amounts = o.read.amounts }; epoch = epoch; stamp = stamp; plain = plain };
         }
 
+    -- it is given back, since no life can begin over it
+    pub given_back : IsGivenBack view disk store.disk
+    given_back = record { quiet = o.quiet; stays = o.disk; falls = o.falls; at_ease = record { unarmed = o.unarmed; unblown = o.unblown } }
+
+    -- for its operations
+    pub refused_first : (stop : Stop) → IsRefusedBy tree stop → IsUnfounded view ops disk store.disk stop
+    refused_first (Damaged offset) h = inr (h.0, o.holds, λ all. h.1 (subst (λ (r : Records). AllPlain r.apps) (sym o.read.amounts) all))
+    refused_first EpochsSpent h = (o.holds, subst (λ (r : Records). AllPlain r.apps × ((2 ^ 24 ≤ r.next_epoch) ⊎ (2 ^ 63 - 1 ≤ r.stamp))) o.read.amounts h)
+    refused_first DiskFault h = absurd h
+    refused_first (Full needed room) h = absurd h
+    refused_first Memory h = absurd h
+
+    -- or for those that are kept
+    pub refused_again : (opening : List Op) (core : Seen) → AmountsTo tree opening core → (stop : Stop) → IsRefusedBy tree stop → IsUnready view opening core.log disk store.disk stop
+    refused_again opening core amounts (Damaged offset) h = λ has. (h.0, λ all. h.1 (subst (λ (l : List AppRecord). AllPlain l) (sym amounts.apps) all))
+    refused_again opening core amounts EpochsSpent h =
+        let is : tree ≡ record (records (state_after opening core.log).kept) { applied = tree.applied } = amounts_same tree (records (state_after opening core.log).kept) amounts.next_epoch amounts.stamp amounts.apps in
+        subst (λ (r : Records). AllPlain r.apps × ((2 ^ 24 ≤ r.next_epoch) ⊎ (2 ^ 63 - 1 ≤ r.stamp))) is h
+    refused_again opening core amounts DiskFault h = absurd h
+    refused_again opening core amounts (Full needed room) h = absurd h
+    refused_again opening core amounts Memory h = absurd h
+
     pub is_first : tree.next_epoch < 2 ^ 24 → tree.stamp < 2 ^ 63 - 1 → AllPlain tree.apps → IsFirst view disk store tree ops
     is_first epoch stamp plain =
         record {
           ready = ready epoch stamp plain;
           amounts = o.read.amounts;
-          kept = λ bytes told. (o.holds bytes told, record { bytes = bytes; told = o.told ∙ told; holds = o.holds bytes told; images = o.images bytes told });
-          time = o.time;
+          kept = λ bytes told. (o.holds bytes told, record { bytes = bytes; told = o.quiet.told ∙ told; holds = o.holds bytes told; images = o.images bytes told });
+          quiet = o.quiet;
         }
 
     pub is_again : (core : Seen) → tree.next_epoch < 2 ^ 24 → tree.stamp < 2 ^ 63 - 1 → AllPlain tree.apps → ((opening : List Op) → StandsFor opening core → AmountsTo tree opening core)
@@ -93,12 +133,12 @@ module _ {D : Type 0} (view : D → DiskView) where
               record {
                 kept = record {
                   bytes = has.bytes;
-                  told = o.told ∙ has.told;
+                  told = o.quiet.told ∙ has.told;
                   holds = has.holds;
                   images = λ image is. subst (λ (l : List Op). Holds image l) same (o.images has.bytes has.told image is);
                 };
                 time = leaves_of (seen view disk) (seen view store.disk) (seen view disk).images (HoldsWithin opening core.log)
-                    (λ image is. record { before = core.log; later = []; whole = sym (append-nil core.log); holds = inl (has.images image is) }) o.time;
+                    (λ image is. record { before = core.log; later = []; whole = sym (append-nil core.log); holds = inl (has.images image is) }) o.quiet.time;
                 more = [];
                 grows = sym (append-nil core.log);
               };
@@ -118,10 +158,14 @@ module _ {D : Type 0} (view : D → DiskView) where
 
   -- a life after an earlier one
   module _ (d new : Desk) (disk now : Fused D) (store : StoreState D) (tree : Records) (again : IsAgain view d.core disk store tree) where
-    halted_later : (stop : Stop) → Halts view (λ opening. AmountsTo tree opening d.core) d new store.disk now stop → (halt : Halt) → IsHaltedBy new (seen view store.disk) (seen view now) halt
-        → (opening : List Op) → StandsFor opening d.core → IsLaterStop opening d.core.log new.core.log (seen view disk) (seen view now) (stop_of halt)
-    halted_later stop h halts.DiskFault why opening k = let before = again.ready.stays.faults in omega (arith, why)
-    halted_later stop h (halts.Full needed room) why opening k = why opening (h.goes.lawful opening (again.amounts opening k) k)
+    halted_later : (stop : Stop) → Halts view (λ opening. AmountsTo tree opening d.core) d new store.disk now stop → (halt : Halt)
+        → IsHaltedBy view (λ opening. AmountsTo tree opening d.core) d new store.disk now halt
+        → (opening : List Op) → StandsFor opening d.core → IsLaterStop view opening d new disk now (stop_of halt)
+    halted_later stop h halts.DiskFault why opening k =
+        (let before = again.ready.stays.faults in let rose = why.0 in omega arith, inr (why.1 opening (again.amounts opening k) k))
+    halted_later stop h (halts.Full needed room) why opening k =
+        full_known (IsKeptOn opening d.core.log (seen view store.disk)) (IsKeptOn opening d.core.log (seen view disk)) opening new.core.log (view now.inner).size needed room
+        (λ has. (again.kept opening k has).kept) (why opening (again.amounts opening k) k)
     halted_later stop h halts.Memory why opening k = tt
 
     pub again_to : (r : Result (Unit {0}) Stop) → LivesTo view (λ opening. AmountsTo tree opening d.core) d new store.disk now r → LaterTo view d new disk now r
@@ -130,7 +174,7 @@ module _ {D : Type 0} (view : D → DiskView) where
           fallen = l.fallen;
           goes = goes_over (λ opening. AmountsTo tree opening d.core) (λ opening. Unit {0}) l.fallen d new (λ opening q k. again.amounts opening k) l.goes;
           falls = l.falls ∙ ap (λ (xs : List Fallen). xs ++ l.fallen) again.ready.falls;
-          unarmed = l.unarmed;
+          at_ease = l.at_ease;
           disk_stays = stays_trans disk store.disk now again.ready.stays l.disk_stays;
           ends = l.ends;
           some = l.some;
@@ -141,27 +185,54 @@ module _ {D : Type 0} (view : D → DiskView) where
     again_to (Err stop) h =
         record {
           fallen = [];
-          goes = goes_over (λ opening. AmountsTo tree opening d.core) (λ opening. Unit {0}) [] d new (λ opening q k. again.amounts opening k) h.goes;
+          goes = goes_over (λ opening. AmountsTo tree opening d.core) (λ opening. Unit {0}) [] d new (λ opening q k. again.amounts opening k) h.halted.goes;
           falls = h.falls ∙ again.ready.falls ∙ sym (append-nil disk.falls);
           stays = stays_trans disk store.disk now again.ready.stays h.disk_stays;
-          why = λ opening k.
-              subst (λ (s : Stop). IsLaterStop opening d.core.log new.core.log (seen view disk) (seen view now) s) (sym h.stops) (halted_later stop h h.halt h.why opening k);
+          at_ease = h.at_ease;
+          why = λ opening k. subst (λ (s : Stop). IsLaterStop view opening d new disk now s) (sym h.stops) (halted_later stop h h.halt h.halted.why opening k);
+          left = λ opening q k has.
+              let first = again.kept opening k has in
+              leaves_after opening d.core.log d.core.log new.core.log (seen view disk) (seen view store.disk) (seen view now) first (h.halted.left opening (again.amounts opening k) k first.kept);
         }
 
-  -- a later life whose store wasn't opened
-  pub stopped_before : (d : Desk) (disk now : Fused D) (stop : Stop) → IsSound d → now.falls ≡ disk.falls → DiskStays view disk now
-      → ((opening : List Op) → StandsFor opening d.core → IsLaterStop opening d.core.log d.core.log (seen view disk) (seen view now) stop) → StopsLater view d d disk now stop
-  stopped_before d disk now stop h falls stays why =
-      record { fallen = []; goes = goes_same d h; falls = falls ∙ sym (append-nil disk.falls); stays = stays; why = why }
+  -- a later life that had no store to begin over
+  pub stopped_before : (d : Desk) (disk now : Fused D) (stop : Stop) → IsSound d → d.core.tables.alive ≡ false → d.lives ≢ [] → IsGivenBack view disk now
+      → ((opening : List Op) → StandsFor opening d.core → IsUnready view opening d.core.log disk now stop) → StopsLater view d d disk now stop
+  stopped_before d disk now stop h dead lives back why =
+      record {
+        fallen = [];
+        goes = goes_same d h;
+        falls = back.falls ∙ sym (append-nil disk.falls);
+        stays = back.stays;
+        at_ease = back.at_ease;
+        why = λ opening k. by opening stop (why opening k);
+        left = λ opening q k has.
+            record {
+              time = leaves_of (seen view disk) (seen view now) (seen view disk).images (HoldsWithin opening d.core.log) (λ image is. after_within opening d.core.log image (inl (has.images image is))) back.quiet.time;
+              now = λ image is. inl (has.images image (back.quiet.images image is));
+              more = [];
+              grows = sym (append-nil d.core.log);
+            };
+      }
+    where
+      due : IsDueAt d
+      due = record { dead = dead; lives = lives }
+
+      by : (opening : List Op) (stop : Stop) → IsUnready view opening d.core.log disk now stop → IsLaterStop view opening d d disk now stop
+      by opening DiskFault why = (why, inl due)
+      by opening (Damaged offset) why = (due, why)
+      by opening (Full needed room) why = absurd why
+      by opening EpochsSpent why = (due, why)
+      by opening Memory why = tt
 
   -- no life was lived yet
-  pub lives_same : (d : Desk) (disk : Fused D) → IsSound d → disk.armed ≡ None → (d.core.tables.alive ≡ false) ⊎ IsOver d → d.core.log ≢ [] → Lives view (λ opening. Unit {0}) d d disk disk
-  lives_same d disk h unarmed ends some =
+  pub lives_same : (d : Desk) (disk : Fused D) → IsSound d → IsAtEase disk → (d.core.tables.alive ≡ false) ⊎ IsOver d → d.core.log ≢ [] → Lives view (λ opening. Unit {0}) d d disk disk
+  lives_same d disk h at_ease ends some =
       record {
         fallen = [];
         goes = goes_same d h;
         falls = sym (append-nil disk.falls);
-        unarmed = unarmed;
+        at_ease = at_ease;
         disk_stays = stays_same disk;
         ends = ends;
         some = some;
@@ -176,7 +247,7 @@ module _ {D : Type 0} (view : D → DiskView) where
           fallen = ab.fallen ++ bc.fallen;
           goes = goes_trans (λ opening. Unit {0}) ab.fallen bc.fallen a b c ab.goes bc.goes;
           falls = bc.falls ∙ ap (λ (xs : List Fallen). xs ++ bc.fallen) ab.falls ∙ append_assoc first.falls ab.fallen bc.fallen;
-          unarmed = bc.unarmed;
+          at_ease = bc.at_ease;
           disk_stays = stays_trans first second third ab.disk_stays bc.disk_stays;
           ends = bc.ends;
           some = bc.some;
@@ -185,11 +256,12 @@ module _ {D : Type 0} (view : D → DiskView) where
               keeps_trans opening a.core.log b.core.log c.core.log (seen view first) (seen view second) (seen view third) one (bc.kept opening q (ab.goes.lawful opening q k) one.kept);
         }
 
-    later_stop : (opening : List Op) → StandsFor opening a.core → (stop : Stop) → IsLaterStop opening b.core.log c.core.log (seen view second) (seen view third) stop
-        → IsLaterStop opening a.core.log c.core.log (seen view first) (seen view third) stop
-    later_stop opening k DiskFault why = let before = ab.disk_stays.faults in omega (arith, why)
-    later_stop opening k (Damaged offset) why = λ has. why (ab.kept opening tt k has).kept
-    later_stop opening k (Full needed room) why = why
+    later_stop : (opening : List Op) → StandsFor opening a.core → (stop : Stop) → IsLaterStop view opening b c second third stop → IsLaterStop view opening a c first third stop
+    later_stop opening k DiskFault why = (let before = ab.disk_stays.faults in let rose = why.0 in omega arith, why.1)
+    later_stop opening k (Damaged offset) why = (why.0, λ has. why.1 (ab.kept opening tt k has).kept)
+    later_stop opening k (Full needed room) why =
+        full_known (IsKeptOn opening b.core.log (seen view second)) (IsKeptOn opening a.core.log (seen view first)) opening c.core.log (view third.inner).size needed room
+        (λ has. (ab.kept opening tt k has).kept) why
     later_stop opening k EpochsSpent why = why
     later_stop opening k Memory why = tt
 
@@ -200,7 +272,11 @@ module _ {D : Type 0} (view : D → DiskView) where
           goes = goes_trans (λ opening. Unit {0}) ab.fallen bc.fallen a b c ab.goes bc.goes;
           falls = bc.falls ∙ ap (λ (xs : List Fallen). xs ++ bc.fallen) ab.falls ∙ append_assoc first.falls ab.fallen bc.fallen;
           stays = stays_trans first second third ab.disk_stays bc.stays;
+          at_ease = bc.at_ease;
           why = λ opening k. later_stop opening k stop (bc.why opening (ab.goes.lawful opening tt k));
+          left = λ opening q k has.
+              let one = ab.kept opening q k has in
+              leaves_after opening a.core.log b.core.log c.core.log (seen view first) (seen view second) (seen view third) one (bc.left opening q (ab.goes.lawful opening q k) one.kept);
         }
 
   -- the first life
@@ -214,11 +290,38 @@ module _ {D : Type 0} (view : D → DiskView) where
     kept_first : (bytes : List ℕ) → (seen view disk).told ≡ Some bytes → IsKeptOn opening d.core.log (seen view store.disk)
     kept_first bytes told = rw empty (first.kept bytes told).1
 
-    halted_first : (stop : Stop) → Halts view (λ ops. AmountsTo tree ops d.core) d new store.disk now stop → (halt : Halt) → IsHaltedBy new (seen view store.disk) (seen view now) halt
-        → StandsFor opening d.core → IsFirstStop opening new.core.log (seen view disk) (seen view now) (stop_of halt)
-    halted_first stop h halts.DiskFault why k = let before = first.ready.stays.faults in omega (arith, why)
-    halted_first stop h (halts.Full needed room) why k = why opening (h.goes.lawful opening (amounts_first opening refl) k)
+    -- a halt of it stops the run
+    halted_first : (stop : Stop) → Halts view (λ ops. AmountsTo tree ops d.core) d new store.disk now stop → (halt : Halt)
+        → IsHaltedBy view (λ ops. AmountsTo tree ops d.core) d new store.disk now halt → StandsFor opening d.core
+        → IsStoppedBy view (IsDueAt new) disk now opening new.core.log (stop_of halt)
+    halted_first stop h halts.DiskFault why k =
+        let handed = why.1 opening (amounts_first opening refl) k in (
+          let before = first.ready.stays.faults in let rose = why.0 in omega arith,
+          inr handed,
+          λ none. absurd (never_handed opening handed.0 (subst (λ (l : List Entry). IsHanded opening l handed.0) none handed.1)),
+        )
+    halted_first stop h (halts.Full needed room) why k =
+        full_known (IsKeptOn opening d.core.log (seen view store.disk)) (IsTold (seen view disk)) opening new.core.log (view now.inner).size needed room
+        (λ told. kept_first told.0 told.1) (why opening (amounts_first opening refl) k)
     halted_first stop h halts.Memory why k = tt
+
+    -- and what is left then
+    left_first : (halt : Halt) → HaltsOver view (λ ops. AmountsTo tree ops d.core) d new store.disk now halt → StandsFor opening d.core
+        → SurvivesAll opening new.core.log (seen view disk) (seen view now) × SurvivesNow opening new.core.log (seen view disk) (seen view now)
+    left_first halt h k = (
+      λ bytes told.
+          let left = h.left opening (amounts_first opening refl) k (kept_first bytes told) in
+          record {
+            so_far = leaves_trans (seen view disk) (seen view store.disk) (seen view now) (λ image. (seen view disk).images image ⊎ HoldsWithin opening new.core.log image)
+                (leaves_of (seen view disk) (seen view store.disk) (seen view disk).images (λ image. (seen view disk).images image ⊎ HoldsWithin opening new.core.log image) (λ image is. inl is) first.quiet.time)
+                (leaves_of (seen view store.disk) (seen view now) (HoldsWithin opening new.core.log) (λ image. (seen view disk).images image ⊎ HoldsWithin opening new.core.log image) (λ image is. inr is) left.time);
+            now = λ image is. inr (after_within opening new.core.log image (left.now image is));
+          },
+      λ some bytes told. (h.left opening (amounts_first opening refl) k (kept_first bytes told)).now,
+    )
+
+    plain_first : AllPlain (records opening).apps
+    plain_first = subst (λ (r : Records). AllPlain r.apps) first.amounts first.ready.over.plain
 
     pub first_to : (r : Result (Unit {0}) Stop) → LivesTo view (λ ops. AmountsTo tree ops d.core) d new store.disk now r → FirstTo view opening d new disk now r
     first_to (Ok x) l =
@@ -226,25 +329,66 @@ module _ {D : Type 0} (view : D → DiskView) where
           fallen = l.fallen;
           goes = goes_over (λ ops. AmountsTo tree ops d.core) (λ ops. ops ≡ opening) l.fallen d new (λ ops q k. amounts_first ops q) l.goes;
           falls = l.falls ∙ ap (λ (xs : List Fallen). xs ++ l.fallen) first.ready.falls;
-          unarmed = l.unarmed;
+          at_ease = l.at_ease;
           stays = stays_trans disk store.disk now first.ready.stays l.disk_stays;
           ends = l.ends;
           some = l.some;
+          plain = plain_first;
+          opened = λ bytes told. (first.kept bytes told).0;
           kept = λ bytes told k.
               let on = l.kept opening (amounts_first opening refl) k (kept_first bytes told) in
               record {
                 opened = (first.kept bytes told).0;
                 kept = on.kept;
                 time = leaves_trans (seen view disk) (seen view store.disk) (seen view now) _
-                    (leaves_of (seen view disk) (seen view store.disk) (seen view disk).images (λ image. (seen view disk).images image ⊎ HoldsWithin opening new.core.log image) (λ image is. inl is) first.time)
+                    (leaves_of (seen view disk) (seen view store.disk) (seen view disk).images (λ image. (seen view disk).images image ⊎ HoldsWithin opening new.core.log image) (λ image is. inl is) first.quiet.time)
                     (leaves_of (seen view store.disk) (seen view now) (HoldsWithin opening new.core.log) (λ image. (seen view disk).images image ⊎ HoldsWithin opening new.core.log image) (λ image is. inr is) on.time);
               };
         }
     first_to (Err stop) h =
         record {
-          goes = goes_over (λ ops. AmountsTo tree ops d.core) (λ ops. ops ≡ opening) [] d new (λ ops q k. amounts_first ops q) h.goes;
+          goes = goes_over (λ ops. AmountsTo tree ops d.core) (λ ops. ops ≡ opening) [] d new (λ ops q k. amounts_first ops q) h.halted.goes;
           falls = h.falls ∙ first.ready.falls;
           stays = stays_trans disk store.disk now first.ready.stays h.disk_stays;
-          held = λ some bytes told. (first.kept bytes told).0;
-          why = λ k. subst (λ (s : Stop). IsFirstStop opening new.core.log (seen view disk) (seen view now) s) (sym h.stops) (halted_first stop h h.halt h.why k);
+          at_ease = h.at_ease;
+          held = λ some. (plain_first, λ bytes told. (first.kept bytes told).0);
+          found = inr (λ bytes told. (first.kept bytes told).0);
+          quiet = λ none. quiet_trans (seen view disk) (seen view store.disk) (seen view now) first.quiet (h.quiet none);
+          left = λ k. left_first h.halt h.halted k;
+          why = λ k. subst (λ (s : Stop). IsStoppedBy view (IsDueAt new) disk now opening new.core.log s) (sym h.stops) (halted_first stop h h.halt h.halted.why k);
         }
+
+  -- the first life had no store to begin over
+  pub unfounded_stops : (d : Desk) (disk now : Fused D) (opening : List Op) (stop : Stop) → IsSound d → d.core.tables.alive ≡ false → d.lives ≢ [] → d.core.log ≡ [] → IsGivenBack view disk now
+      → (opening ≡ []) ⊎ Tells (seen view disk) (λ bytes. Holds bytes opening) → IsUnfounded view opening disk now stop → FirstStopped view opening d d disk now stop
+  unfounded_stops d disk now opening stop h dead lives empty back found why =
+      record {
+        goes = goes_any (λ ops. ops ≡ opening) d d (goes_same d h);
+        falls = back.falls;
+        stays = back.stays;
+        at_ease = back.at_ease;
+        held = λ some. absurd (some empty);
+        found = found;
+        quiet = λ none. back.quiet;
+        left = λ k. (
+          λ bytes told.
+              record {
+                so_far = leaves_of (seen view disk) (seen view now) (seen view disk).images (λ image. (seen view disk).images image ⊎ HoldsWithin opening d.core.log image) (λ image is. inl is) back.quiet.time;
+                now = λ image is. inl (back.quiet.images image is);
+              },
+          λ some. absurd (some empty),
+        );
+        why = λ k. by stop why;
+      }
+    where
+      due : IsDueAt d
+      due = record { dead = dead; lives = lives }
+
+      by : (stop : Stop) → IsUnfounded view opening disk now stop → IsStoppedBy view (IsDueAt d) disk now opening d.core.log stop
+      by DiskFault why = (why.1, inl due, λ none. why.0)
+      by (Damaged offset) (inl why) = (due, λ bytes told. inl (empty, why.0, why.1 bytes told), λ none. inl why.0)
+      by (Damaged offset) (inr why) =
+          (due, λ bytes told. inr (why.0, why.1 bytes told, subst (λ (l : List Entry). CannotGoOn opening l) (sym empty) why.2), λ none. inr why.0)
+      by (Full needed room) why = absurd why
+      by EpochsSpent why = (due, (why.0, subst (λ (l : List Entry). NoneLeft opening l) (sym empty) why.1))
+      by Memory why = tt

@@ -8,11 +8,11 @@ use Rattle.rm_types.specs.declared.records.AppRecord.{AppRecord}
 use Rattle.rm_types.specs.Records.{Records}
 use Rattle.rm_disk.specs.declared.fallen.Fallen.{Fallen}
 use Rattle.rm_disk.specs.Disk.{DiskView, EachImage, Falls, IsQuiet, Tells}
-use Rattle.rm_disk.specs.Fuse.{Fused, KeepsFuse, fallen_fuse, falls_after}
-use Rattle.rm_disk.proofs.Views.{leaves_of, leaves_same, told_after}
-use Rattle.rm_model.specs.Device.{Holds}
+use Rattle.rm_disk.specs.Fuse.{Fused, KeepsFuse, blown_after_fall, fallen_fuse, falls_after, unarmed_falls_after}
+use Rattle.rm_disk.proofs.Views.{leaves_of, leaves_same, quiet_same, told_after}
+use Rattle.rm_formats.specs.Device.{Holds}
 use Rattle.rm_model.specs.Lawful.{state_after}
-use Rattle.rm_model.specs.Survives.{HoldsWithin}
+use Rattle.rm_plain.specs.Survives.{HoldsWithin}
 use Rattle.rm_store.specs.Store.{StoreState, AreRead, IsSound as IsStoreSound, seen}
 use Rattle.rm_core.specs.Adds.{AmountsTo}
 use Rattle.rm_core.specs.InFlight.{AllPlain}
@@ -26,10 +26,11 @@ use Rattle.rm_plain.specs.declared.lives.LifeEnd.TheVariants.{Rest, Down}
 use Rattle.rm_plain.specs.Falls.{fall}
 use Rattle.rm_plain.specs.Goes.{Goes, GoesOver}
 use Rattle.rm_plain.specs.Halted.{stop_of}
-use Rattle.rm_plain.specs.Keeping.{FuseStays, IsBegun, IsHaltedBy, IsKeptOn, KeepsOn, Serves, StoresOn}
+use Rattle.rm_plain.specs.Keeping.{FuseStays, HaltsBy, HaltsOver, IsBegun, IsHaltedBy, IsKeptOn, KeepsOn, Serves, StoresOn}
 use Rattle.rm_plain.specs.Lives.{EndsBy, ComesToRest, WentDown}
-use Rattle.rm_plain.specs.Starts.{Begins, DiskStays, Halts, IsOpened, KeepsOver, Leaves, Lives, LivesTo}
+use Rattle.rm_plain.specs.Starts.{Begins, DiskStays, Halts, IsOpened, KeepsOver, Leaves, Lives, LivesTo, disarmed}
 use Rattle.rm_plain.proofs.Ending.{fuse_trans, goes_trans}
+use Rattle.rm_plain.proofs.Halting.{halts_on, keeps_leaves}
 use Rattle.rm_plain.proofs.Stored.{keeps_trans}
 
 -- one more record without an attempt and an end
@@ -69,12 +70,16 @@ module _ {D : Type 0} (view : D → DiskView) where
         unarmed = kept.armed;
         unblown = unblown;
         falls = kept.falls;
-        disk = record { refused = kept.unrefused unblown; size = quiet.goes_on.size; faults = quiet.goes_on.faults };
+        disk = record {
+          refused = kept.unrefused unblown;
+          unarmed_falls = kept.unarmed_falls;
+          size = quiet.goes_on.size;
+          faults = (let same = kept.unrefused unblown in let more = quiet.goes_on.faults in omega arith);
+        };
         read = read;
-        told = quiet.told;
+        quiet = quiet;
         holds = holds;
         images = images;
-        time = quiet.time;
       })
 
   -- a life began, and its store serves it
@@ -117,13 +122,22 @@ module _ {D : Type 0} (view : D → DiskView) where
         grows = sym (append-nil log);
       }
 
+  -- disarming a fuse changes nothing of what is told of a halt
+  disarmed_halts : (over : List Op → Type 0) (d new : Desk) (disk now : Fused D) (halt : Halt) → HaltsOver view over d new disk now halt → HaltsOver view over d new disk (disarmed now) halt
+  disarmed_halts over d new disk now halt h = record { goes = h.goes; why = why halt h.why; left = h.left }
+    where
+      why : (halt : Halt) → IsHaltedBy view over d new disk now halt → IsHaltedBy view over d new disk (disarmed now) halt
+      why halts.DiskFault is = is
+      why (halts.Full needed room) is = is
+      why halts.Memory is = tt
+
   module _ (over : List Op → Type 0) (d mid new : Desk) (store one two : StoreState D) (goes : GoesOver over [] d mid) (begun : Begins view over d mid store one)
       (first : FuseStays view store.disk one.disk) (second : FuseStays view one.disk two.disk) where
     stays : FuseStays view store.disk two.disk
     stays = fuse_trans view store.disk one.disk two.disk first second
 
     disk_stays : DiskStays view store.disk two.disk
-    disk_stays = record { refused = stays.refused; size = stays.size; faults = stays.faults }
+    disk_stays = record { refused = stays.refused; unarmed_falls = stays.unarmed_falls; size = stays.size; faults = stays.faults }
 
     kept_to : ((opening : List Op) → StoresOn opening mid new (seen view one.disk) (seen view two.disk)) → KeepsOver over d new (seen view store.disk) (seen view two.disk)
     kept_to stores = λ opening is k has.
@@ -138,7 +152,7 @@ module _ {D : Type 0} (view : D → DiskView) where
           fallen = [];
           goes = goes_trans over [] [] d mid new goes rest.goes;
           falls = stays.falls ∙ sym (append-nil store.disk.falls);
-          unarmed = rest.unarmed;
+          at_ease = record { unarmed = rest.unarmed; unblown = rest.unblown };
           disk_stays = disk_stays;
           ends = inr rest.over;
           some = rest.goes.some begun.some;
@@ -157,11 +171,15 @@ module _ {D : Type 0} (view : D → DiskView) where
           fallen = fall down.calls image ∷ [];
           goes = goes_trans over [] (fall down.calls image ∷ []) d mid new goes down.goes;
           falls = fell;
-          unarmed = ap (λ (f : Fused D). f.armed) is;
+          at_ease = record {
+            unarmed = ap (λ (f : Fused D). f.armed) is;
+            unblown = ap (λ (f : Fused D). f.blown) is ∙ ap (λ (a : Option ℕ). blown_after_fall a two.disk.blown) down.armed;
+          };
           disk_stays = record {
             refused = ap (λ (f : Fused D). f.refused) is ∙ stays.refused;
+            unarmed_falls = ap (λ (f : Fused D). f.unarmed_falls) is ∙ ap (λ (a : Option ℕ). unarmed_falls_after two.disk.unarmed_falls a) down.armed ∙ stays.unarmed_falls;
             size = falls.goes_on.size ∙ stays.size;
-            faults = (let one_more = falls.goes_on.faults in let before = stays.faults in omega arith);
+            faults = (let same = falls.faults in let refused = ap (λ (f : Fused D). f.refused) is in let before = stays.faults in omega arith);
           };
           ends = inl down.down;
           some = down.goes.some begun.some;
@@ -171,29 +189,59 @@ module _ {D : Type 0} (view : D → DiskView) where
               (falls_keep opening new.core.log (seen view two.disk) (seen view disk) falls so_far.kept);
         }
 
-    halted : (disk : Fused D) (halt : Halt) → disk ≡ two.disk → Goes [] mid new → IsHaltedBy new (seen view one.disk) (seen view two.disk) halt → Halts view over d new store.disk disk (stop_of halt)
-    halted disk halt same more why =
+    halted : (disk : Fused D) (halt : Halt) → disk ≡ disarmed two.disk → HaltsBy view mid new one.disk two.disk halt → Halts view over d new store.disk disk (stop_of halt)
+    halted disk halt same h =
         subst (λ (f : Fused D). Halts view over d new store.disk f (stop_of halt)) (sym same)
         (record {
-          goes = goes_trans over [] [] d mid new goes more;
           falls = stays.falls;
-          disk_stays = disk_stays;
+          at_ease = record { unarmed = refl; unblown = refl };
+          disk_stays = record { refused = stays.refused; unarmed_falls = stays.unarmed_falls; size = stays.size; faults = stays.faults };
           halt = halt;
           stops = refl;
-          why = halted_by halt why;
+          halted = disarmed_halts over d new store.disk two.disk halt (halts_on view over d mid new store.disk one.disk two.disk goes begun.kept first.faults halt h);
+          quiet = λ empty. absurd (h.goes.some begun.some empty);
         })
-      where
-        halted_by : (halt : Halt) → IsHaltedBy new (seen view one.disk) (seen view two.disk) halt → IsHaltedBy new (seen view store.disk) (seen view two.disk) halt
-        halted_by halts.DiskFault why = let before = first.faults in omega (arith, why)
-        halted_by (halts.Full needed room) why = why
-        halted_by halts.Memory why = tt
 
     -- how a life that began went
-    pub lived : (disk : Fused D) (ended : Result LifeEnd Halt) (result : Result (Unit {0}) Stop) → OnErr ended (Goes [] mid new) → IfOk ended (EndsBy view mid new one two)
-        → IfErr ended (IsHaltedBy new (seen view one.disk) (seen view two.disk)) → Leaves view two.disk disk ended result → LivesTo view over d new store.disk disk result
-    lived disk (Ok Rest) result goes_on ends why leaves =
+    pub lived : (inner : ℕ → D → D → Type 0) (disk : Fused D) (ended : Result LifeEnd Halt) (result : Result (Unit {0}) Stop) → IfOk ended (EndsBy view mid new one two)
+        → IfErr ended (HaltsBy view mid new one.disk two.disk) → Leaves view inner two.disk disk ended result → LivesTo view over d new store.disk disk result
+    lived inner disk (Ok Rest) result ends why leaves =
         subst (λ (r : Result (Unit {0}) Stop). LivesTo view over d new store.disk disk r) (sym leaves.1) (rested disk leaves.0 ends)
-    lived disk (Ok (Down image)) result goes_on ends why leaves =
-        subst (λ (r : Result (Unit {0}) Stop). LivesTo view over d new store.disk disk r) (sym leaves.1) (went_down disk image leaves.0.0 leaves.0.1 ends)
-    lived disk (Err halt) result goes_on ends why leaves =
-        subst (λ (r : Result (Unit {0}) Stop). LivesTo view over d new store.disk disk r) (sym leaves.1) (halted disk halt leaves.0 goes_on why)
+    lived inner disk (Ok (Down image)) result ends why leaves =
+        subst (λ (r : Result (Unit {0}) Stop). LivesTo view over d new store.disk disk r) (sym leaves.1) (went_down disk image leaves.0.0 leaves.0.1.shown ends)
+    lived inner disk (Err halt) result ends why leaves =
+        subst (λ (r : Result (Unit {0}) Stop). LivesTo view over d new store.disk disk r) (sym leaves.1) (halted disk halt leaves.0 why)
+
+  -- a life that did not begin stopped the run
+  pub unbegun : (over : List Op → Type 0) (d new : Desk) (store two : StoreState D) (disk : Fused D) (halt : Halt) → HaltsOver view over d new store.disk two.disk halt → two.disk.inner ≡ store.disk.inner
+      → FuseStays view store.disk two.disk → disk ≡ disarmed two.disk → Halts view over d new store.disk disk (stop_of halt)
+  unbegun over d new store two disk halt h inner stays same =
+      subst (λ (f : Fused D). Halts view over d new store.disk f (stop_of halt)) (sym same)
+      (record {
+        falls = stays.falls;
+        at_ease = record { unarmed = refl; unblown = refl };
+        disk_stays = record { refused = stays.refused; unarmed_falls = stays.unarmed_falls; size = stays.size; faults = stays.faults };
+        halt = halt;
+        stops = refl;
+        halted = disarmed_halts over d new store.disk two.disk halt h;
+        quiet = λ empty. rw (inner, stays.refused) (quiet_same (seen view store.disk));
+      })
+
+  -- memory ran out directly after a life began
+  pub begun_halts : (d mid : Desk) (disk now : Fused D) (tree : Records) → GoesOver (λ opening. AmountsTo tree opening d.core) [] d mid → IsBegun tree d mid → now.inner ≡ disk.inner → now.refused ≡ disk.refused
+      → HaltsOver view (λ opening. AmountsTo tree opening d.core) d mid disk now halts.Memory
+  begun_halts d mid disk now tree goes begun inner refused =
+      record {
+        goes = goes;
+        why = tt;
+        left = λ opening amounts k has.
+            let kept = begun.kept opening k amounts in
+            rw (inner, refused)
+            (keeps_leaves opening d.core.log mid.core.log (seen view disk) (seen view disk)
+            (record {
+              kept = record { bytes = has.bytes; told = has.told; holds = rw kept has.holds; images = λ image is. rw kept (has.images image is) };
+              time = leaves_same (seen view disk) (HoldsWithin opening mid.core.log);
+              more = begun.more;
+              grows = begun.grows;
+            }));
+      }

@@ -11,7 +11,7 @@ use Rattle.rm_disk.proofs.Views.{leaves_same, leaves_trans, leaves_of}
 use Rattle.rm_model.specs.State.{Manager, LifeState, opening_state}
 use Rattle.rm_model.specs.Changes.{after, after_where}
 use Rattle.rm_model.specs.Lawful.{state_after}
-use Rattle.rm_model.specs.Survives.{HoldsWithin}
+use Rattle.rm_plain.specs.Survives.{HoldsWithin}
 use Rattle.rm_store.specs.Store.{Has, AddsOp, LeavesOps}
 use Rattle.rm_core.specs.Seen.{Seen, StandsFor, IsToBeKept}
 use Rattle.rm_core.specs.Told.{life_in}

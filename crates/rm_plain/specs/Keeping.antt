@@ -1,5 +1,5 @@
 -- What the store of a run holds, and what is told of its device.
-use Rattle.std.specs.Prelude.{◌≡◌, ◌≢◌, ◌≤◌, ◌<◌, ℕ, List, [], ◌++◌, false, Option, None, Some, slice_get}
+use Rattle.std.specs.Prelude.{◌≡◌, ◌≢◌, ◌≤◌, ◌<◌, ℕ, List, [], ◌++◌, true, false, Option, None, Some, slice_get}
 use Rattle.rm_types.specs.declared.entries.Entry.{Entry}
 use Rattle.rm_types.specs.declared.operations.Op.{Op}
 use Rattle.rm_types.specs.declared.scripts.Close.{Close}
@@ -7,9 +7,11 @@ use Rattle.rm_types.specs.declared.scripts.Close.TheVariants.{Crash}
 use Rattle.rm_types.specs.Counts.{Rose}
 use Rattle.rm_disk.specs.Disk.{DiskView, EachImage, Leaves}
 use Rattle.rm_disk.specs.Fuse.{Fused}
-use Rattle.rm_model.specs.Device.{Holds}
+use Rattle.rm_formats.specs.Device.{Holds}
 use Rattle.rm_model.specs.Lawful.{state_after}
-use Rattle.rm_model.specs.Survives.{HoldsWithin}
+use Rattle.rm_model.specs.State.{LifeState}
+use Rattle.rm_plain.specs.Goes.{GoesOver}
+use Rattle.rm_plain.specs.Survives.{HoldsAfter, HoldsWithin}
 use Rattle.rm_store.specs.Store.{StoreState, IsSound, seen, needed_for, room_behind}
 use Rattle.rm_types.specs.Records.{Records}
 use Rattle.rm_core.specs.Adds.{AmountsTo}
@@ -66,20 +68,59 @@ pub record Serves {D : Type 0} (view : D → DiskView) (d : Desk) (store : Store
 -- a fuse after some of a run: it refused nothing and showed no fall, and its disk has its size and no fewer faults
 pub record FuseStays {D : Type 0} (view : D → DiskView) (old new : Fused D) : Type 0 where
   pub falls : new.falls ≡ old.falls
+  pub unarmed_falls : new.unarmed_falls ≡ old.unarmed_falls
   pub refused : new.refused ≡ old.refused
-  pub size : (seen view new).size ≡ (seen view old).size
-  pub faults : (seen view old).faults ≤ (seen view new).faults
+  pub size : (view new.inner).size ≡ (view old.inner).size
+  pub faults : (view old.inner).faults ≤ (view new.inner).faults
 
--- the operation that is with the store needs so much, and behind what is kept the disk has less room
-pub record IsFull (opening : List Op) (log : List Entry) (disk : DiskView) (needed room : ℕ) : Type 0 where
-  pub op : Op
+-- over a disk that had what is kept after a log, a part of a run later: at each moment between a crash left what is kept
+-- after a part of the longer log, or this and the operation that awaits there, and of the disk now it leaves what is kept
+-- after the whole longer log, or this and the one that awaits
+pub record LeavesOn (opening : List Op) (log longer : List Entry) (old new : DiskView) : Type 0 where
+  pub time : Leaves old new (HoldsWithin opening longer)
+  pub now : EachImage new (HoldsAfter opening longer)
+  pub more : List Entry
+  pub grows : longer ≡ log ++ more
+
+-- the same, where what was kept before is there, over each opening list for which something holds
+abbrev pub LeftOver : (List Op → Type 0) → Desk → Desk → DiskView → DiskView → Type 0
+LeftOver over old new before now =
+    (opening : List Op) → over opening → StandsFor opening old.core → IsKeptOn opening old.core.log before → LeavesOn opening old.core.log new.core.log before now
+
+-- an operation is with the store in a life
+abbrev pub HasHanded : Option LifeState → Type 0
+HasHanded None = ⊥
+HasHanded (Some life) = life.handed ≡ true
+
+-- the operation is with the store: it is the first that awaits, and was handed
+pub record IsHanded (opening : List Op) (log : List Entry) (op : Op) : Type 0 where
   pub first : slice_get (state_after opening log).awaiting 0 ≡ Some op
+  pub handed : HasHanded (state_after opening log).life
+
+-- the operation that is with the store needs so much, and a disk of so many bytes has less room; where the disk is known,
+-- the room is that behind what is kept
+pub record IsFull (known : Type 0) (opening : List Op) (log : List Entry) (size needed room : ℕ) : Type 0 where
+  pub op : Op
+  pub handed : IsHanded opening log op
   pub needs : needed ≡ needed_for op
   pub less : room < needed
-  pub has : IsKeptOn opening log disk → room ≡ room_behind disk.size (state_after opening log).kept
+  pub behind : known → room ≡ room_behind size (state_after opening log).kept
 
--- why a run halted: the disk counted a fault, or it was full
-abbrev pub IsHaltedBy : Desk → DiskView → DiskView → Halt → Type 0
-IsHaltedBy d old new DiskFault = Rose old.faults new.faults
-IsHaltedBy d old new (Full needed room) = (opening : List Op) → StandsFor opening d.core → IsFull opening d.core.log new needed room
-IsHaltedBy d old new Memory = Unit {0}
+-- why a part of a run halted: the disk inside the fuse counted a fault, while an operation was with the store; or it was full
+abbrev pub IsHaltedBy : {D : Type 0} → (D → DiskView) → (List Op → Type 0) → Desk → Desk → Fused D → Fused D → Halt → Type 0
+IsHaltedBy view over old new disk now DiskFault =
+    Rose (view disk.inner).faults (view now.inner).faults × ((opening : List Op) → over opening → StandsFor opening old.core → (op : Op) × IsHanded opening new.core.log op)
+IsHaltedBy view over old new disk now (Full needed room) =
+    (opening : List Op) → over opening → StandsFor opening old.core
+    → IsFull (IsKeptOn opening old.core.log (seen view disk)) opening new.core.log (view now.inner).size needed room
+IsHaltedBy view over old new disk now Memory = Unit {0}
+
+-- a part of a run halted: what was run, why, and what is left on the disk
+pub record HaltsOver {D : Type 0} (view : D → DiskView) (over : List Op → Type 0) (old new : Desk) (disk now : Fused D) (halt : Halt) : Type 0 where
+  pub goes : GoesOver over [] old new
+  pub why : IsHaltedBy view over old new disk now halt
+  pub left : LeftOver over old new (seen view disk) (seen view now)
+
+-- the same over each opening list
+abbrev pub HaltsBy : {D : Type 0} → (D → DiskView) → Desk → Desk → Fused D → Fused D → Halt → Type 0
+HaltsBy view old new disk now halt = HaltsOver view (λ opening. Unit {0}) old new disk now halt

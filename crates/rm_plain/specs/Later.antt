@@ -5,20 +5,21 @@ use Rattle.rm_types.specs.declared.entries.Entry.{Entry}
 use Rattle.rm_types.specs.Counts.{Rose}
 use Rattle.rm_types.specs.Records.{Records, records}
 use Rattle.rm_disk.specs.declared.fallen.Fallen.{Fallen}
-use Rattle.rm_disk.specs.Disk.{DiskView, Leaves, Tells}
+use Rattle.rm_disk.specs.Disk.{DiskView, IsQuiet, Leaves, Tells}
 use Rattle.rm_disk.specs.Fuse.{Fused}
-use Rattle.rm_model.specs.Device.{Holds}
-use Rattle.rm_model.specs.Survives.{HoldsWithin}
+use Rattle.rm_formats.specs.Device.{Holds}
+use Rattle.rm_plain.specs.Survives.{HoldsWithin, SurvivesAll, SurvivesNow}
 use Rattle.rm_store.specs.Store.{StoreState, IsSound, seen}
 use Rattle.rm_core.specs.Adds.{AmountsTo, CanBeginOver}
+use Rattle.rm_core.specs.InFlight.{AllPlain}
 use Rattle.rm_core.specs.Seen.{Seen, StandsFor}
 use Rattle.rm_plain.specs.declared.desk.Desk.{Desk}
 use Rattle.rm_plain.specs.declared.halts.Stop.{Stop}
 use Rattle.rm_plain.specs.declared.halts.Stop.TheVariants.{DiskFault, Damaged, Full, EpochsSpent, Memory}
 use Rattle.rm_plain.specs.Goes.{GoesOver, IsOver}
-use Rattle.rm_plain.specs.Keeping.{IsFull, IsKeptOn, KeepsOn}
-use Rattle.rm_plain.specs.Starts.{DiskStays, Lives}
-use Rattle.rm_plain.specs.Stops.{CannotGoOn, IsNoStore, IsSpent, NoneLeft}
+use Rattle.rm_plain.specs.Keeping.{IsFull, IsHanded, IsKeptOn, KeepsOn, LeftOver}
+use Rattle.rm_plain.specs.Starts.{DiskStays, IsAtEase, Lives}
+use Rattle.rm_plain.specs.Stops.{CannotGoOn, IsNoStore, IsSpent, IsStoppedBy, NoneLeft}
 
 -- a store that is ready for a life: whole, with its fuse unarmed, over a tree that a life can begin over
 pub record IsReady {D : Type 0} (view : D → DiskView) (disk : Fused D) (store : StoreState D) (tree : Records) : Type 0 where
@@ -35,7 +36,7 @@ pub record IsFirst {D : Type 0} (view : D → DiskView) (disk : Fused D) (store 
   pub ready : IsReady view disk store tree
   pub amounts : tree ≡ records opening
   pub kept : (bytes : List ℕ) → (seen view disk).told ≡ Some bytes → Holds bytes opening × IsKeptOn opening [] (seen view store.disk)
-  pub time : Leaves (seen view disk) (seen view store.disk) (seen view disk).images
+  pub quiet : IsQuiet (seen view disk) (seen view store.disk)
 
 -- the store of a later life, over what was kept
 pub record IsAgain {D : Type 0} (view : D → DiskView) (core : Seen) (disk : Fused D) (store : StoreState D) (tree : Records) : Type 0 where
@@ -43,21 +44,29 @@ pub record IsAgain {D : Type 0} (view : D → DiskView) (core : Seen) (disk : Fu
   pub amounts : (opening : List Op) → StandsFor opening core → AmountsTo tree opening core
   pub kept : (opening : List Op) → StandsFor opening core → IsKeptOn opening core.log (seen view disk) → KeepsOn opening core.log core.log (seen view disk) (seen view store.disk)
 
--- why a later life stopped the run, over a disk that held what was kept
-abbrev pub IsLaterStop : List Op → List Entry → List Entry → DiskView → DiskView → Stop → Type 0
-IsLaterStop opening log longer old new DiskFault = Rose old.faults new.faults
-IsLaterStop opening log longer old new (Damaged offset) = IsKeptOn opening log old → (offset ≡ 2 ^ 64 - 1) × CannotGoOn opening longer
-IsLaterStop opening log longer old new (Full needed room) = IsFull opening longer new needed room
-IsLaterStop opening log longer old new EpochsSpent = NoneLeft opening longer
-IsLaterStop opening log longer old new Memory = Unit {0}
+-- no life stands, and one is left in the script
+pub record IsDueAt (d : Desk) : Type 0 where
+  pub dead : d.core.tables.alive ≡ false
+  pub lives : d.lives ≢ []
 
--- why the first life stopped it, over a disk that held the opening list or no store
-abbrev pub IsFirstStop : List Op → List Entry → DiskView → DiskView → Stop → Type 0
-IsFirstStop opening log old new DiskFault = Rose old.faults new.faults
-IsFirstStop opening log old new (Damaged offset) = (log ≡ []) × Tells old (λ bytes. IsNoStore offset bytes ⊎ ((offset ≡ 2 ^ 64 - 1) × Holds bytes opening × CannotGoOn opening []))
-IsFirstStop opening log old new (Full needed room) = IsFull opening log new needed room
-IsFirstStop opening log old new EpochsSpent = IsSpent old opening log
-IsFirstStop opening log old new Memory = Unit {0}
+-- why a later life has no store that it can begin over
+abbrev pub IsUnready : {D : Type 0} → (D → DiskView) → List Op → List Entry → Fused D → Fused D → Stop → Type 0
+IsUnready view opening log disk now DiskFault = Rose (view disk.inner).faults (view now.inner).faults
+IsUnready view opening log disk now (Damaged offset) = IsKeptOn opening log (seen view disk) → (offset ≡ 2 ^ 64 - 1) × CannotGoOn opening log
+IsUnready view opening log disk now (Full needed room) = ⊥
+IsUnready view opening log disk now EpochsSpent = NoneLeft opening log
+IsUnready view opening log disk now Memory = Unit {0}
+
+-- why a later life stopped the run, over a disk that held what was kept
+abbrev pub IsLaterStop : {D : Type 0} → (D → DiskView) → List Op → Desk → Desk → Fused D → Fused D → Stop → Type 0
+IsLaterStop view opening old new disk now DiskFault =
+    Rose (view disk.inner).faults (view now.inner).faults × (IsDueAt new ⊎ ((op : Op) × IsHanded opening new.core.log op))
+IsLaterStop view opening old new disk now (Damaged offset) =
+    IsDueAt new × (IsKeptOn opening old.core.log (seen view disk) → (offset ≡ 2 ^ 64 - 1) × CannotGoOn opening new.core.log)
+IsLaterStop view opening old new disk now (Full needed room) =
+    IsFull (IsKeptOn opening old.core.log (seen view disk)) opening new.core.log (view now.inner).size needed room
+IsLaterStop view opening old new disk now EpochsSpent = IsDueAt new × NoneLeft opening new.core.log
+IsLaterStop view opening old new disk now Memory = Unit {0}
 
 -- some lives were lived, and one stopped the run
 pub record StopsLater {D : Type 0} (view : D → DiskView) (old new : Desk) (disk now : Fused D) (stop : Stop) : Type 0 where
@@ -65,7 +74,9 @@ pub record StopsLater {D : Type 0} (view : D → DiskView) (old new : Desk) (dis
   pub goes : GoesOver (λ opening. Unit {0}) fallen old new
   pub falls : now.falls ≡ disk.falls ++ fallen
   pub stays : DiskStays view disk now
-  pub why : (opening : List Op) → StandsFor opening old.core → IsLaterStop opening old.core.log new.core.log (seen view disk) (seen view now) stop
+  pub at_ease : IsAtEase now
+  pub why : (opening : List Op) → StandsFor opening old.core → IsLaterStop view opening old new disk now stop
+  pub left : LeftOver (λ opening. Unit {0}) old new (seen view disk) (seen view now)
 
 -- how later lives went
 abbrev pub LaterTo : {D : Type 0} → (D → DiskView) → Desk → Desk → Fused D → Fused D → Result (Unit {0}) Stop → Type 0
@@ -83,21 +94,37 @@ pub record FirstLived {D : Type 0} (view : D → DiskView) (opening : List Op) (
   pub fallen : List Fallen
   pub goes : GoesOver (λ ops. ops ≡ opening) fallen old new
   pub falls : now.falls ≡ disk.falls ++ fallen
-  pub unarmed : now.armed ≡ None
+  pub at_ease : IsAtEase now
   pub stays : DiskStays view disk now
   pub ends : (new.core.tables.alive ≡ false) ⊎ IsOver new
   pub some : new.core.log ≢ []
+  pub plain : AllPlain (records opening).apps
+  pub opened : Tells (seen view disk) (λ bytes. Holds bytes opening)
   pub kept : (bytes : List ℕ) → (seen view disk).told ≡ Some bytes → StandsFor opening old.core → HeldFirst view opening new disk now bytes
 
--- the first life stopped the run
+-- the first life stopped the run; where nothing was logged, its disk was left alone
 pub record FirstStopped {D : Type 0} (view : D → DiskView) (opening : List Op) (old new : Desk) (disk now : Fused D) (stop : Stop) : Type 0 where
   pub goes : GoesOver (λ ops. ops ≡ opening) [] old new
   pub falls : now.falls ≡ disk.falls
   pub stays : DiskStays view disk now
-  pub held : new.core.log ≢ [] → Tells (seen view disk) (λ bytes. Holds bytes opening)
-  pub why : StandsFor opening old.core → IsFirstStop opening new.core.log (seen view disk) (seen view now) stop
+  pub at_ease : IsAtEase now
+  pub held : new.core.log ≢ [] → AllPlain (records opening).apps × Tells (seen view disk) (λ bytes. Holds bytes opening)
+  pub found : (opening ≡ []) ⊎ Tells (seen view disk) (λ bytes. Holds bytes opening)
+  pub quiet : new.core.log ≡ [] → IsQuiet (seen view disk) (seen view now)
+  pub left : StandsFor opening old.core → SurvivesAll opening new.core.log (seen view disk) (seen view now) × SurvivesNow opening new.core.log (seen view disk) (seen view now)
+  pub why : StandsFor opening old.core → IsStoppedBy view (IsDueAt new) disk now opening new.core.log stop
 
 -- how the first life went
 abbrev pub FirstTo : {D : Type 0} → (D → DiskView) → List Op → Desk → Desk → Fused D → Fused D → Result (Unit {0}) Stop → Type 0
 FirstTo view opening old new disk now (Ok _) = FirstLived view opening old new disk now
 FirstTo view opening old new disk now (Err stop) = FirstStopped view opening old new disk now stop
+
+-- why the first life had no store that it can begin over, and what its disk held, if it held a store
+abbrev pub IsUnfounded : {D : Type 0} → (D → DiskView) → List Op → Fused D → Fused D → Stop → Type 0
+IsUnfounded view opening disk now DiskFault = (opening ≡ []) × Rose (view disk.inner).faults (view now.inner).faults
+IsUnfounded view opening disk now (Damaged offset) =
+    ((opening ≡ []) × Tells (seen view disk) (IsNoStore offset))
+    ⊎ ((offset ≡ 2 ^ 64 - 1) × Tells (seen view disk) (λ bytes. Holds bytes opening) × (AllPlain (records opening).apps → ⊥))
+IsUnfounded view opening disk now (Full needed room) = ⊥
+IsUnfounded view opening disk now EpochsSpent = IsSpent (seen view disk) opening []
+IsUnfounded view opening disk now Memory = Unit {0}

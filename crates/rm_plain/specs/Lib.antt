@@ -1,8 +1,10 @@
 pub use Rattle.rm_types.specs.Ids
+pub use Rattle.rm_types.specs.Lanes as EntryLanes
 pub use Rattle.rm_types.specs.Lists
 pub use Rattle.rm_types.specs.Records
 pub use Rattle.rm_model.specs.State
 pub use Rattle.rm_model.specs.Facts
+pub use Rattle.rm_model.specs.ClientReplies
 pub use Rattle.rm_model.specs.Replies
 pub use Rattle.rm_model.specs.Changes
 pub use Rattle.rm_model.specs.Owed
@@ -21,6 +23,7 @@ pub mod Policy
 pub mod Along
 pub mod Lanes
 pub mod Falls
+pub mod Survives
 pub mod Keeping
 pub mod Goes
 pub mod Lives

@@ -31,6 +31,7 @@ pub record ComesToRest {D : Type 0} (view : D → DiskView) (old new : Desk) (st
   pub goes : Goes [] old new
   pub over : IsOver new
   pub unarmed : now.disk.armed ≡ None
+  pub unblown : now.disk.blown ≡ false
   pub stores : Stores view old new store now
 
 -- the life went down, and the device is to fall to the image

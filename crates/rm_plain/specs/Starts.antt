@@ -1,12 +1,12 @@
 -- How a life starts over what its disk holds, and what a life leaves of its disk.
-use Rattle.std.specs.Prelude.{◌≡◌, ◌≢◌, ◌⊎◌, ◌-◌, ◌^◌, ◌≤◌, List, [], ◌++◌, true, false, None, Result, Ok, Err}
+use Rattle.std.specs.Prelude.{◌≡◌, ◌≢◌, ◌⊎◌, ℕ, ◌-◌, ◌^◌, ◌≤◌, List, [], ◌++◌, true, false, None, Result, Ok, Err}
 use Rattle.rm_types.specs.declared.operations.Op.{Op}
 use Rattle.rm_types.specs.Counts.{Rose}
 use Rattle.rm_types.specs.Records.{Records}
 use Rattle.rm_disk.specs.declared.fallen.Fallen.{Fallen}
-use Rattle.rm_disk.specs.Disk.{DiskView, EachImage, Falls, Leaves as LeavesAll, Tells}
-use Rattle.rm_disk.specs.Fuse.{Fused, fallen_fuse}
-use Rattle.rm_model.specs.Device.{Holds}
+use Rattle.rm_disk.specs.Disk.{DiskView, EachImage, Falls, IsQuiet, Tells}
+use Rattle.rm_disk.specs.Fuse.{Fused, FallsThrough}
+use Rattle.rm_formats.specs.Device.{Holds}
 use Rattle.rm_store.specs.Store.{StoreState, AreRead, IsSound, seen}
 use Rattle.rm_core.specs.InFlight.{AllPlain}
 use Rattle.rm_core.specs.Seen.{StandsFor}
@@ -16,18 +16,24 @@ use Rattle.rm_plain.specs.declared.halts.Stop.{Stop}
 use Rattle.rm_plain.specs.declared.halts.Stop.TheVariants.{DiskFault, Damaged, EpochsSpent, Memory}
 use Rattle.rm_plain.specs.Goes.{GoesOver, IsOver}
 use Rattle.rm_plain.specs.Halted.{stop_of}
-use Rattle.rm_plain.specs.Keeping.{IsHaltedBy, IsKeptOn, KeepsOn, Serves}
+use Rattle.rm_plain.specs.Keeping.{HaltsOver, IsKeptOn, KeepsOn, Serves}
 use Rattle.rm_plain.specs.declared.lives.LifeEnd.{LifeEnd}
 use Rattle.rm_plain.specs.declared.lives.LifeEnd.TheVariants.{Rest, Down}
 use Rattle.rm_plain.specs.Stops.{IsNoStore}
 
--- the fuse refused nothing, and its disk has its size and no fewer faults
+-- the fuse refused nothing and fell only while it was armed, and its disk has its size and no fewer faults
 pub record DiskStays {D : Type 0} (view : D → DiskView) (old new : Fused D) : Type 0 where
   pub refused : new.refused ≡ old.refused
-  pub size : (seen view new).size ≡ (seen view old).size
-  pub faults : (seen view old).faults ≤ (seen view new).faults
+  pub unarmed_falls : new.unarmed_falls ≡ old.unarmed_falls
+  pub size : (view new.inner).size ≡ (view old.inner).size
+  pub faults : (view old.inner).faults ≤ (view new.inner).faults
 
--- a store was opened on a disk: it holds these operations, and so does each image of what it became, which reads as it did
+-- the fuse is not armed, and not blown
+pub record IsAtEase {D : Type 0} (fuse : Fused D) : Type 0 where
+  pub unarmed : fuse.armed ≡ None
+  pub unblown : fuse.blown ≡ false
+
+-- a store was opened on a disk, quietly: the disk holds these operations, and so does each image of what it became
 pub record IsOpened {D : Type 0} (view : D → DiskView) (old : Fused D) (store : StoreState D) (tree : Records) (ops : List Op) : Type 0 where
   pub sound : IsSound view store
   pub unbroken : store.is_broken ≡ false
@@ -36,22 +42,28 @@ pub record IsOpened {D : Type 0} (view : D → DiskView) (old : Fused D) (store 
   pub falls : store.disk.falls ≡ old.falls
   pub disk : DiskStays view old store.disk
   pub read : AreRead tree ops
-  pub told : (seen view store.disk).told ≡ (seen view old).told
+  pub quiet : IsQuiet (seen view old) (seen view store.disk)
   pub holds : Tells (seen view old) (λ bytes. Holds bytes ops)
   pub images : Tells (seen view old) (λ bytes. EachImage (seen view store.disk) (λ image. Holds image ops))
-  pub time : LeavesAll (seen view old) (seen view store.disk) (seen view old).images
 
--- a store was not opened: the disk failed, holds none, or memory ran out
-abbrev pub IsUnopenedBy : DiskView → DiskView → Stop → Type 0
-IsUnopenedBy old new DiskFault = Rose old.faults new.faults
-IsUnopenedBy old new (Damaged offset) = Tells old (IsNoStore offset)
-IsUnopenedBy old new Memory = Unit {0}
-IsUnopenedBy old new _ = ⊥
+-- why a store was not opened: the disk inside the fuse failed, it holds no store, or memory ran out
+abbrev pub IsUnopenedBy : {D : Type 0} → (D → DiskView) → Fused D → Fused D → Stop → Type 0
+IsUnopenedBy view old new DiskFault = Rose (view old.inner).faults (view new.inner).faults
+IsUnopenedBy view old new (Damaged offset) = Tells (seen view old) (IsNoStore offset)
+IsUnopenedBy view old new Memory = Unit {0}
+IsUnopenedBy view old new _ = ⊥
 
--- no life can begin over a tree: an application has an attempt or an end, or no epoch or no stamp is left
+-- a disk that is given back because no life began on it: no call changed a byte, and no fall is shown
+pub record IsGivenBack {D : Type 0} (view : D → DiskView) (old new : Fused D) : Type 0 where
+  pub quiet : IsQuiet (seen view old) (seen view new)
+  pub stays : DiskStays view old new
+  pub falls : new.falls ≡ old.falls
+  pub at_ease : IsAtEase new
+
+-- why no life can begin over a tree: an application has an attempt or an end; or none has, and no epoch or no stamp is left
 abbrev pub IsRefusedBy : Records → Stop → Type 0
 IsRefusedBy tree (Damaged offset) = (offset ≡ 2 ^ 64 - 1) × (AllPlain tree.apps → ⊥)
-IsRefusedBy tree EpochsSpent = (2 ^ 24 ≤ tree.next_epoch) ⊎ (2 ^ 63 - 1 ≤ tree.stamp)
+IsRefusedBy tree EpochsSpent = AllPlain tree.apps × ((2 ^ 24 ≤ tree.next_epoch) ⊎ (2 ^ 63 - 1 ≤ tree.stamp))
 IsRefusedBy tree _ = ⊥
 
 -- where a life began over what is kept, and what was kept before it was on its disk, what is kept after it is there
@@ -64,20 +76,21 @@ pub record Lives {D : Type 0} (view : D → DiskView) (over : List Op → Type 0
   pub fallen : List Fallen
   pub goes : GoesOver over fallen old new
   pub falls : now.falls ≡ disk.falls ++ fallen
-  pub unarmed : now.armed ≡ None
+  pub at_ease : IsAtEase now
   pub disk_stays : DiskStays view disk now
   pub ends : (new.core.tables.alive ≡ false) ⊎ IsOver new
   pub some : new.core.log ≢ []
   pub kept : KeepsOver over old new (seen view disk) (seen view now)
 
--- a life halted, and stopped the run
+-- a life halted, and stopped the run; where nothing was logged, its disk was left alone
 pub record Halts {D : Type 0} (view : D → DiskView) (over : List Op → Type 0) (old new : Desk) (disk now : Fused D) (stop : Stop) : Type 0 where
-  pub goes : GoesOver over [] old new
   pub falls : now.falls ≡ disk.falls
+  pub at_ease : IsAtEase now
   pub disk_stays : DiskStays view disk now
   pub halt : Halt
   pub stops : stop ≡ stop_of halt
-  pub why : IsHaltedBy new (seen view disk) (seen view now) halt
+  pub halted : HaltsOver view over old new disk now halt
+  pub quiet : new.core.log ≡ [] → IsQuiet (seen view disk) (seen view now)
 
 -- how a life that began over a tree went
 abbrev pub LivesTo : {D : Type 0} → (D → DiskView) → (List Op → Type 0) → Desk → Desk → Fused D → Fused D → Result (Unit {0}) Stop → Type 0
@@ -91,12 +104,16 @@ pub record Begins {D : Type 0} (view : D → DiskView) (over : List Op → Type 
   pub serves : Serves view new now
   pub kept : KeepsOver over old new (seen view store.disk) (seen view now.disk)
 
--- a device falls where its life went down, and else stays as it is
-abbrev pub FallsBy : {D : Type 0} → (D → DiskView) → Fused D → Fused D → LifeEnd → Type 0
-FallsBy view old new Rest = new ≡ old
-FallsBy view old new (Down image) = Falls (seen view old) (seen view new) × (new ≡ fallen_fuse old new.inner image)
+-- a device falls to its image where its life went down, and else stays as it is
+abbrev pub FallsBy : {D : Type 0} → (D → DiskView) → (ℕ → D → D → Type 0) → Fused D → Fused D → LifeEnd → Type 0
+FallsBy view inner old new Rest = new ≡ old
+FallsBy view inner old new (Down image) = Falls (seen view old) (seen view new) × FallsThrough inner image old new
+
+-- a fuse that was disarmed
+abbrev pub disarmed : {D : Type 0} → Fused D → Fused D
+disarmed fuse = record fuse { armed = None; blown = false }
 
 -- what is left of a life that ended so, or halted
-abbrev pub Leaves : {D : Type 0} → (D → DiskView) → Fused D → Fused D → Result LifeEnd Halt → Result (Unit {0}) Stop → Type 0
-Leaves view old new (Ok end) result = FallsBy view old new end × (result ≡ Ok tt)
-Leaves view old new (Err halt) result = (new ≡ old) × (result ≡ Err (stop_of halt))
+abbrev pub Leaves : {D : Type 0} → (D → DiskView) → (ℕ → D → D → Type 0) → Fused D → Fused D → Result LifeEnd Halt → Result (Unit {0}) Stop → Type 0
+Leaves view inner old new (Ok end) result = FallsBy view inner old new end × (result ≡ Ok tt)
+Leaves view inner old new (Err halt) result = (new ≡ disarmed old) × (result ≡ Err (stop_of halt))

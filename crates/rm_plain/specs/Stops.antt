@@ -1,16 +1,19 @@
 -- Why a run stopped before its script's end.
-use Rattle.std.specs.Prelude.{◌≡◌, ◌⊎◌, ◌-◌, ◌^◌, ◌≤◌, ℕ, List, []}
+use Rattle.std.specs.Prelude.{◌≡◌, ◌≢◌, ◌⊎◌, ◌-◌, ◌^◌, ◌≤◌, ℕ, List, [], None, Some}
 use Rattle.rm_types.specs.declared.entries.Entry.{Entry}
 use Rattle.rm_types.specs.declared.operations.Op.{Op}
 use Rattle.rm_types.specs.Counts.{Rose}
 use Rattle.rm_types.specs.Records.{records}
+use Rattle.rm_types.specs.declared.scripts.Script.{Script}
 use Rattle.rm_disk.specs.Disk.{DiskView, Tells}
-use Rattle.rm_model.specs.Device.{Holds}
-use Rattle.rm_model.specs.Lawful.{state_after}
+use Rattle.rm_disk.specs.Fuse.{Fused}
+use Rattle.rm_formats.specs.Device.{Holds}
+use Rattle.rm_model.specs.Lawful.{place_after, state_after}
 use Rattle.rm_store.specs.Causes.{IsWhy}
 use Rattle.rm_store.specs.declared.fault.StoreError.TheVariants as store
 use Rattle.rm_core.specs.InFlight.{AllPlain}
-use Rattle.rm_plain.specs.Keeping.{IsFull}
+use Rattle.rm_store.specs.Store.{seen}
+use Rattle.rm_plain.specs.Keeping.{IsFull, IsHanded}
 use Rattle.rm_plain.specs.declared.halts.Stop.{Stop}
 use Rattle.rm_plain.specs.declared.halts.Stop.TheVariants.{DiskFault, Damaged, Full, EpochsSpent, Memory}
 
@@ -22,26 +25,40 @@ IsNoStore offset bytes = IsWhy bytes (store.Damaged offset) ⊎ ((number : ℕ) 
 abbrev pub CannotGoOn : List Op → List Entry → Type 0
 CannotGoOn opening log = AllPlain (records (state_after opening log).kept).apps → ⊥
 
--- a start found no store that it can begin over, on a disk that tells its bytes: before the first life these are none, or
--- they held the opening list, and what is kept can't be begun over yet
+-- a start found no store that it can begin over, on a disk that tells its bytes: before the first life these are none, and no
+-- opening list was read; or they held the opening list, and what is kept can't be begun over yet
 abbrev pub IsDamaged : DiskView → List Op → List Entry → ℕ → Type 0
 IsDamaged disk opening log offset =
-    Tells disk (λ bytes. ((log ≡ []) × IsNoStore offset bytes) ⊎ ((offset ≡ 2 ^ 64 - 1) × Holds bytes opening × CannotGoOn opening log))
+    Tells disk (λ bytes. ((log ≡ []) × (opening ≡ []) × IsNoStore offset bytes) ⊎ ((offset ≡ 2 ^ 64 - 1) × Holds bytes opening × CannotGoOn opening log))
 
--- no epoch or no stamp is left for one more life
+-- what is kept has no attempt and no end, and no epoch or no stamp is left for one more life
 abbrev pub NoneLeft : List Op → List Entry → Type 0
 NoneLeft opening log =
-    (2 ^ 24 ≤ (records (state_after opening log).kept).next_epoch) ⊎ (2 ^ 63 - 1 ≤ (records (state_after opening log).kept).stamp)
+    AllPlain (records (state_after opening log).kept).apps
+    × ((2 ^ 24 ≤ (records (state_after opening log).kept).next_epoch) ⊎ (2 ^ 63 - 1 ≤ (records (state_after opening log).kept).stamp))
 
 -- the disk held the opening list, and no epoch or no stamp is left for one more life
 abbrev pub IsSpent : DiskView → List Op → List Entry → Type 0
 IsSpent disk opening log = Tells disk (λ bytes. Holds bytes opening) × NoneLeft opening log
 
--- why a run stopped, between the handed disk and the one given back: the disk counted a fault; the store was none; it was
--- full; epochs or stamps were used up; or memory ran out
-abbrev pub IsStoppedBy : DiskView → DiskView → List Op → List Entry → Stop → Type 0
-IsStoppedBy old new opening log DiskFault = Rose old.faults new.faults
-IsStoppedBy old new opening log (Damaged offset) = IsDamaged old opening log offset
-IsStoppedBy old new opening log (Full needed room) = IsFull opening log new needed room
-IsStoppedBy old new opening log EpochsSpent = IsSpent old opening log
-IsStoppedBy old new opening log Memory = Unit {0}
+-- the disk tells its bytes
+abbrev pub IsTold : DiskView → Type 0
+IsTold disk = (bytes : List ℕ) × (disk.told ≡ Some bytes)
+
+-- no life stands, and the script's next thing is a life
+pub record IsDue (script : Script) (opening : List Op) (log : List Entry) : Type 0 where
+  pub dead : (state_after opening log).life ≡ None
+  pub lives : (place_after script log).lives ≢ []
+
+-- why a run stopped, between the handed disk and the one given back. The disk inside the fuse counted a fault, while a life
+-- was due or an operation was with the store; a life was due, and the store was none that it can begin over, or its epochs
+-- or stamps were used up; the store was full; or memory ran out. Where nothing was logged and the store wasn't opened, there
+-- is no opening list.
+abbrev pub IsStoppedBy : {D : Type 0} → (D → DiskView) → Type 0 → Fused D → Fused D → List Op → List Entry → Stop → Type 0
+IsStoppedBy view due old new opening log DiskFault =
+    Rose (view old.inner).faults (view new.inner).faults × (due ⊎ ((op : Op) × IsHanded opening log op)) × (log ≡ [] → opening ≡ [])
+IsStoppedBy view due old new opening log (Damaged offset) =
+    due × IsDamaged (seen view old) opening log offset × (log ≡ [] → (opening ≡ []) ⊎ (offset ≡ 2 ^ 64 - 1))
+IsStoppedBy view due old new opening log (Full needed room) = IsFull (IsTold (seen view old)) opening log (view new.inner).size needed room
+IsStoppedBy view due old new opening log EpochsSpent = due × IsSpent (seen view old) opening log
+IsStoppedBy view due old new opening log Memory = Unit {0}

@@ -2,7 +2,7 @@ ghost use Rattle.std.specs.Prelude.{◌≡◌, ◌≢◌, ◌<◌, [], find, OnO
 ghost use Rattle.rm_store.specs.Store.{IsSound as IsStoreSound, seen};
 ghost use Rattle.rm_plain.specs.Along.{IsSound};
 ghost use Rattle.rm_plain.specs.Goes.{Goes};
-ghost use Rattle.rm_plain.specs.Keeping.{FuseStays, IsHaltedBy, Serves};
+ghost use Rattle.rm_plain.specs.Keeping.{FuseStays, HaltsBy, Serves};
 ghost use Rattle.rm_types.specs.declared.messages.Lane.{Lane};
 ghost use Rattle.rm_types.specs.declared.scripts.Close.{Close};
 ghost use Rattle.rm_plain.specs.declared.halts.Halt.{Halt};
@@ -44,10 +44,9 @@ fn settle_on<D: Disk>(d: &mut Desk, store: &mut Store<D>) -> Result<(), Halt>
     requires ready { is_ready_at d.old Lane.End ≡ true }
     requires settles { d.old.close ≡ Some Close.Settle }
     requires serves { Serves D.view d.old store.old }
-    ensures goes { Goes [] d.old d.new }
     ensures on { OnOk result (GoesOn D.view d.old d.new store.old store.new) }
     ensures fuse { FuseStays D.view store.old.disk store.new.disk }
-    ensures halts { IfErr result (λ halt. halt ≡ Halt.Memory) }
+    ensures halts { IfErr result (HaltsBy D.view d.old d.new store.old.disk store.new.disk) }
 {
     memory_only(settle(d))?;
     arm(d, store)
@@ -59,9 +58,8 @@ fn work_on<D: Disk>(d: &mut Desk, store: &Store<D>, lane: Lane) -> Result<(), Ha
     requires ready { is_ready_at d.old lane ≡ true }
     requires own { IsManagers lane }
     requires serves { Serves D.view d.old store.now }
-    ensures goes { Goes [] d.old d.new }
     ensures on { OnOk result (GoesOn D.view d.old d.new store.now store.now) }
-    ensures halts { IfErr result (λ halt. halt ≡ Halt.Memory) }
+    ensures halts { IfErr result (HaltsBy D.view d.old d.new store.now.disk store.now.disk) }
 {
     let _ = store;
     memory_only(work(d, lane))?;
@@ -73,10 +71,9 @@ fn close<D: Disk>(d: &mut Desk, store: &mut Store<D>) -> Result<Moved, Halt>
     requires sound { IsSound d.old }
     requires ready { is_ready_at d.old Lane.End ≡ true }
     requires serves { Serves D.view d.old store.old }
-    ensures goes { OnErr result (Goes [] d.old d.new) }
     ensures moves { IfOk result (MovesTo D.view d.old d.new store.old store.new) }
     ensures fuse { FuseStays D.view store.old.disk store.new.disk }
-    ensures halts { IfErr result (λ halt. halt ≡ Halt.Memory) }
+    ensures halts { IfErr result (HaltsBy D.view d.old d.new store.old.disk store.new.disk) }
 {
     match d.close {
         Some(Close::Crash { image, .. }) => {
@@ -97,10 +94,9 @@ fn advance<D: Disk>(d: &mut Desk, store: &mut Store<D>, lane: Lane) -> Result<Mo
     requires ready { is_ready_at d.old lane ≡ true }
     requires stands { d.old.core.tables.alive ≡ true }
     requires serves { Serves D.view d.old store.old }
-    ensures goes { OnErr result (Goes [] d.old d.new) }
     ensures moves { IfOk result (MovesTo D.view d.old d.new store.old store.new) }
     ensures fuse { FuseStays D.view store.old.disk store.new.disk }
-    ensures halts { IfErr result (IsHaltedBy d.new (seen D.view store.old.disk) (seen D.view store.new.disk)) }
+    ensures halts { IfErr result (HaltsBy D.view d.old d.new store.old.disk store.new.disk) }
 {
     match lane {
         Lane::End => close(d, store),
@@ -121,10 +117,9 @@ pub(crate) fn tick<D: Disk>(d: &mut Desk, store: &mut Store<D>) -> Result<Moved,
     requires sound { IsSound d.old }
     requires stands { d.old.core.tables.alive ≡ true }
     requires serves { Serves D.view d.old store.old }
-    ensures goes { OnErr result (Goes [] d.old d.new) }
     ensures moves { IfOk result (MovesTo D.view d.old d.new store.old store.new) }
     ensures fuse { FuseStays D.view store.old.disk store.new.disk }
-    ensures halts { IfErr result (IsHaltedBy d.new (seen D.view store.old.disk) (seen D.view store.new.disk)) }
+    ensures halts { IfErr result (HaltsBy D.view d.old d.new store.old.disk store.new.disk) }
 {
     match d.first_ready() {
         Some(lane) => advance(d, store, lane),
@@ -142,10 +137,9 @@ pub fn run_life<D: Disk>(d: &mut Desk, store: &mut Store<D>) -> Result<LifeEnd, 
     requires sound { IsSound d.old }
     requires stands { d.old.core.tables.alive ≡ true }
     requires serves { Serves D.view d.old store.old }
-    ensures goes { OnErr result (Goes [] d.old d.new) }
     ensures ends { IfOk result (EndsBy D.view d.old d.new store.old store.new) }
     ensures fuse { FuseStays D.view store.old.disk store.new.disk }
-    ensures halts { IfErr result (IsHaltedBy d.new (seen D.view store.old.disk) (seen D.view store.new.disk)) }
+    ensures halts { IfErr result (HaltsBy D.view d.old d.new store.old.disk store.new.disk) }
 {
     'moves: loop {
         match tick(d, store)? {

@@ -1,18 +1,20 @@
-ghost use Rattle.std.specs.Prelude.{◌≡◌, ◌≢◌, ◌⊎◌, ◌++◌, ◌<◌, ℕ, [], length, IsOk, IfErr, OnOk, None, false};
-ghost use Rattle.rm_disk.specs.Disk.{Tells, EachImage, AtEachMoment};
-ghost use Rattle.rm_model.specs.Device.{Holds};
+ghost use Rattle.std.specs.Prelude.{◌≡◌, ◌≢◌, ◌⊎◌, ◌++◌, ◌<◌, [], length, IsOk, IfErr, OnOk, None, false};
+ghost use Rattle.rm_disk.specs.Disk.{IsQuiet, Tells};
+ghost use Rattle.rm_formats.specs.Device.{Holds};
 ghost use Rattle.rm_model.specs.Downs.{AllGoDownAtRest};
 ghost use Rattle.rm_model.specs.Lawful.{Lawful, IsDone};
 ghost use Rattle.rm_model.specs.State.{opening_state};
-ghost use Rattle.rm_model.specs.Survives.{HoldsAfter, HoldsWithin};
+ghost use Rattle.rm_core.specs.InFlight.{AllPlain};
+ghost use Rattle.rm_types.specs.Records.{records};
+ghost use Rattle.rm_plain.specs.Survives.{SurvivesAll, SurvivesNow};
 ghost use Rattle.rm_store.specs.Store.{seen};
 ghost use Rattle.rm_plain.specs.Along.{CanRun, IsSound};
 ghost use Rattle.rm_plain.specs.Goes.{IsOver};
 ghost use Rattle.rm_plain.specs.Falls.{falls_of};
 ghost use Rattle.rm_plain.specs.Later.{FirstTo, LaterTo};
-ghost use Rattle.rm_plain.specs.Starts.{DiskStays};
-ghost use Rattle.rm_plain.specs.Stops.{IsStoppedBy};
-ghost use Rattle.rm_plain.specs.Whole.{AllLived, SurvivesAll, SurvivesNow};
+ghost use Rattle.rm_plain.specs.Starts.{DiskStays, IsAtEase};
+ghost use Rattle.rm_plain.specs.Stops.{IsDue, IsStoppedBy};
+ghost use Rattle.rm_plain.specs.Whole.{AllLived};
 
 use crate::desk::{Desk, new_desk};
 use crate::halts::Stop;
@@ -90,7 +92,7 @@ fn later_lives<D: Disk>(alloc: Global, d: &mut Desk, disk: Fuse<D>) -> Lived<D>
     requires sound { IsSound d.old }
     requires ends { (d.old.core.tables.alive ≡ false) ⊎ IsOver d.old }
     requires some { d.old.core.log ≢ [] }
-    requires unarmed { disk.armed ≡ None }
+    requires at_ease { IsAtEase disk }
     ensures later { LaterTo D.view d.old d.new disk result.disk result.ended }
     ensures over { OnOk result.ended (d.new.lives ≡ []) }
 {
@@ -151,16 +153,21 @@ fn all_lives<D: Disk>(alloc: Global, d: &mut Desk, disk: Fuse<D>) -> First<D>
 /// Runs a script on one thread, over the store on the handed disk, with its fuse.
 ///
 /// The log is lawful whatever the disk does, and so it is where the run stops before its script's end:
-/// - `DiskFault`: the disk counted a fault that the fuse did not make;
+/// - `DiskFault`: the disk inside the fuse counted a fault;
 /// - `Damaged`: the disk held no store, with the offset at which it is damaged, or, with the largest offset,
 ///   one that no life can begin over yet, since an application in it has an attempt or an end;
 /// - `Full`: the operation that awaits the store needs so many bytes, and so many are left;
 /// - `EpochsSpent`: no epoch, or no stamp, is left for one more life;
 /// - `Memory`: no memory was found.
 ///
-/// The disk is given back in every case. Where the run came to its end, whatever a crash could have left of
-/// the disk at any moment is what it could have left before the run, or it holds what was kept by some
-/// moment of the run, or this and the operation that awaited the store then.
+/// `Damaged` and `EpochsSpent` come only where a life is due and none stands, `Full` only where the operation is
+/// with the store, and `DiskFault` only where one of the two is so.
+///
+/// The disk is given back in every case, with a fuse that isn't armed. Whether or not the run came to its end,
+/// whatever a crash could have left of the disk at any moment is what it could have left before the run, or it
+/// holds what was kept by some moment of the run, or this and the operation that awaited the store then. Where
+/// nothing was logged a read gives what it gave, and of a script without lives no call of the disk is made. A
+/// disk falls only where a life went down.
 pub fn run_script<D: Disk>(
     alloc: Global,
     settings: Settings,
@@ -175,10 +182,16 @@ pub fn run_script<D: Disk>(
     ensures downs { AllGoDownAtRest settings (opening_state result.opening) result.log }
     ensures falls { result.disk.falls ≡ disk.falls ++ falls_of script result.opening result.log }
     ensures stays { DiskStays D.view disk result.disk }
-    ensures opening { result.log ≢ [] → Tells (seen D.view disk) (λ bytes. Holds bytes result.opening) }
-    ensures images { OnOk result.ended (SurvivesAll result.opening result.log (seen D.view disk) (seen D.view result.disk)) }
-    ensures images_now { OnOk result.ended (SurvivesNow result.opening result.log (seen D.view disk) (seen D.view result.disk)) }
-    ensures stopped { IfErr result.ended (IsStoppedBy (seen D.view disk) (seen D.view result.disk) result.opening result.log) }
+    ensures unarmed { result.disk.armed ≡ None }
+    ensures unblown { disk.blown ≡ false → result.disk.blown ≡ false }
+    ensures idle { script.lives ≡ [] → (result.log ≡ []) × (result.disk ≡ disk) × IsOk result.ended }
+    ensures begun { script.lives ≢ [] → OnOk result.ended (result.log ≢ []) }
+    ensures opening { result.log ≢ [] → AllPlain (records result.opening).apps × Tells (seen D.view disk) (λ bytes. Holds bytes result.opening) }
+    ensures found { (result.opening ≡ []) ⊎ Tells (seen D.view disk) (λ bytes. Holds bytes result.opening) }
+    ensures quiet { result.log ≡ [] → IsQuiet (seen D.view disk) (seen D.view result.disk) }
+    ensures images { SurvivesAll result.opening result.log (seen D.view disk) (seen D.view result.disk) }
+    ensures images_now { SurvivesNow result.opening result.log (seen D.view disk) (seen D.view result.disk) }
+    ensures stopped { IfErr result.ended (IsStoppedBy D.view (IsDue script result.opening result.log) disk result.disk result.opening result.log) }
 {
     let Ok(core) = Core::new(alloc, settings) else {
         unreachable!()

@@ -1,5 +1,7 @@
-ghost use Rattle.std.specs.Prelude.{◌≡◌, ◌≢◌, ◌<◌, ◌-◌, ◌^◌, ◌↔◌, List, [], length, IfOk, IfErr, OnOk, OnErr, IsTrue, None, false};
+ghost use Rattle.std.specs.Prelude.{◌≡◌, ◌≢◌, ◌⊎◌, ◌<◌, ◌-◌, ◌^◌, ◌↔◌, List, [], length, IfOk, IfErr, OnOk, OnErr, IsTrue, None, false};
+ghost use Rattle.rm_disk.specs.Disk.{Tells};
 ghost use Rattle.rm_disk.specs.Fuse.{Fused};
+ghost use Rattle.rm_formats.specs.Device.{Holds};
 ghost use Rattle.rm_store.specs.Errors.{IsOpenError};
 ghost use Rattle.rm_store.specs.Store.{IsSound as IsStoreSound, seen};
 ghost use Rattle.rm_core.specs.Adds.{AmountsTo, CanBeginOver};
@@ -7,12 +9,12 @@ ghost use Rattle.rm_core.specs.InFlight.{AllPlain};
 ghost use Rattle.rm_types.specs.declared.operations.Op.{Op as AnyOp};
 ghost use Rattle.rm_core.specs.Seen.{StandsFor};
 ghost use Rattle.rm_plain.specs.Along.{IsSound};
-ghost use Rattle.rm_plain.specs.Later.{IsAgain, IsFirst, IsFirstStop, IsLaterStop};
+ghost use Rattle.rm_plain.specs.Later.{IsAgain, IsFirst, IsUnfounded, IsUnready};
 ghost use Rattle.rm_plain.specs.declared.halts.Halt.{Halt};
 ghost use Rattle.rm_plain.specs.Goes.{GoesOver};
 ghost use Rattle.rm_plain.specs.Halted.{stop_at_open};
-ghost use Rattle.rm_plain.specs.Keeping.{FuseStays};
-ghost use Rattle.rm_plain.specs.Starts.{Begins, DiskStays, FallsBy, IsOpened, IsRefusedBy, IsUnopenedBy, Leaves, LivesTo};
+ghost use Rattle.rm_plain.specs.Keeping.{FuseStays, HaltsOver};
+ghost use Rattle.rm_plain.specs.Starts.{Begins, FallsBy, IsGivenBack, IsOpened, IsRefusedBy, IsUnopenedBy, Leaves, LivesTo};
 
 use crate::desk::Desk;
 use crate::halts::{Halt, Stop};
@@ -66,9 +68,8 @@ pub(crate) fn open<D: Disk>(
 ) -> Result<(Store<D>, Tree, Items<Op>), Unopened<D>>
     requires { disk.armed ≡ None }
     ensures opened { IfOk result (λ opened. IsOpened D.view disk opened.0 opened.1 opened.2) }
-    ensures why { IfErr result (λ unopened. IsUnopenedBy (seen D.view disk) (seen D.view unopened.disk) unopened.why) }
-    ensures stays { IfErr result (λ unopened. DiskStays D.view disk unopened.disk) }
-    ensures falls { IfErr result (λ unopened. unopened.disk.falls ≡ disk.falls) }
+    ensures why { IfErr result (λ unopened. IsUnopenedBy D.view disk unopened.disk unopened.why) }
+    ensures given_back { IfErr result (λ unopened. IsGivenBack D.view disk unopened.disk) }
 {
     let mut disk = disk;
     disk.disarm();
@@ -132,7 +133,8 @@ fn begin_life<D: Disk>(d: &mut Desk, store: &mut Store<D>, tree: Tree) -> Result
     ensures begun { OnOk result (Begins D.view (λ opening. AmountsTo tree opening d.old.core) d.old d.new store.old store.new) }
     ensures fuse { FuseStays D.view store.old.disk store.new.disk }
     ensures fewer { OnOk result (length d.new.lives < length d.old.lives) }
-    ensures halts { IfErr result (λ halt. halt ≡ Halt.Memory) }
+    ensures inner { store.new.disk.inner ≡ store.old.disk.inner }
+    ensures halts { IfErr result (HaltsOver D.view (λ opening. AmountsTo tree opening d.old.core) d.old d.new store.old.disk store.new.disk) }
 {
     memory_only(begin(d, tree))?;
     arm(d, store)
@@ -140,7 +142,7 @@ fn begin_life<D: Disk>(d: &mut Desk, store: &mut Store<D>, tree: Tree) -> Result
 
 /// Lets the device of a life fall that went down.
 fn fall<D: Disk>(disk: Fuse<D>, end: LifeEnd) -> Fuse<D>
-    ensures { FallsBy D.view disk result end }
+    ensures { FallsBy D.view D.falls_to disk result end }
 {
     let mut disk = disk;
     if let LifeEnd::Down { image } = end {
@@ -149,20 +151,23 @@ fn fall<D: Disk>(disk: Fuse<D>, end: LifeEnd) -> Fuse<D>
     disk
 }
 
-/// What a life left, once its store is closed.
+/// What a life left, once its store is closed: where it halted, the fuse is disarmed.
 fn leave<D: Disk>(store: Store<D>, ended: Result<LifeEnd, Halt>) -> Lived<D>
-    ensures { Leaves D.view store.disk result.disk ended result.ended }
+    ensures { Leaves D.view D.falls_to store.disk result.disk ended result.ended }
 {
-    let disk = store.close();
+    let mut disk = store.close();
     match ended {
         Ok(end) => Lived {
             disk: fall(disk, end),
             ended: Ok(()),
         },
-        Err(halt) => Lived {
-            disk,
-            ended: Err(Stop::from(halt)),
-        },
+        Err(halt) => {
+            disk.disarm();
+            Lived {
+                disk,
+                ended: Err(Stop::from(halt)),
+            }
+        }
     }
 }
 
@@ -204,9 +209,9 @@ pub(crate) fn open_first<D: Disk>(
 ) -> Result<(Store<D>, Tree, Items<Op>), Unfounded<D>>
     requires { disk.armed ≡ None }
     ensures first { IfOk result (λ first. IsFirst D.view disk first.0 first.1 first.2) }
-    ensures why { IfErr result (λ none. IsFirstStop none.opening [] (seen D.view disk) (seen D.view none.disk) none.why) }
-    ensures stays { IfErr result (λ none. DiskStays D.view disk none.disk) }
-    ensures falls { IfErr result (λ none. none.disk.falls ≡ disk.falls) }
+    ensures why { IfErr result (λ none. IsUnfounded D.view none.opening disk none.disk none.why) }
+    ensures found { IfErr result (λ none. (none.opening ≡ []) ⊎ Tells (seen D.view disk) (λ bytes. Holds bytes none.opening)) }
+    ensures given_back { IfErr result (λ none. IsGivenBack D.view disk none.disk) }
 {
     let (store, tree, opening) = match open(alloc, disk) {
         Ok(opened) => opened,
@@ -238,9 +243,8 @@ pub(crate) fn open_again<D: Disk>(
     requires unarmed { disk.armed ≡ None }
     requires some { core.now.log ≢ [] }
     ensures again { IfOk result (λ again. IsAgain D.view core.now disk again.0 again.1) }
-    ensures why { IfErr result (λ none. (opening : List AnyOp) → StandsFor opening core.now → IsLaterStop opening core.now.log core.now.log (seen D.view disk) (seen D.view none.disk) none.why) }
-    ensures stays { IfErr result (λ none. DiskStays D.view disk none.disk) }
-    ensures falls { IfErr result (λ none. none.disk.falls ≡ disk.falls) }
+    ensures why { IfErr result (λ none. (opening : List AnyOp) → StandsFor opening core.now → IsUnready D.view opening core.now.log disk none.disk none.why) }
+    ensures given_back { IfErr result (λ none. IsGivenBack D.view disk none.disk) }
 {
     let (store, tree) = match open(alloc, disk) {
         Ok((store, tree, _)) => (store, tree),

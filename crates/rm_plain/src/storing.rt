@@ -5,7 +5,7 @@ ghost use Rattle.rm_store.specs.Store.{IsSound as IsStoreSound, seen};
 ghost use Rattle.rm_plain.specs.Along.{IsSound, left};
 ghost use Rattle.rm_plain.specs.Goes.{Goes};
 ghost use Rattle.rm_plain.specs.Halted.{halt_of};
-ghost use Rattle.rm_plain.specs.Keeping.{FuseStays, IsHaltedBy, Serves, StoresOn};
+ghost use Rattle.rm_plain.specs.Keeping.{FuseStays, HaltsBy, Serves, StoresOn};
 ghost use Rattle.rm_plain.specs.Lanes.{is_ready_at};
 
 use crate::desk::Desk;
@@ -38,7 +38,7 @@ pub(crate) fn keep<D: Disk>(d: &mut Desk, store: &mut Store<D>) -> Result<(), Ha
     ensures serves { OnOk result (Serves D.view d.new store.new) }
     ensures stores { OnOk result ((opening : List AnyOp) → StoresOn opening d.old d.new (seen D.view store.old.disk) (seen D.view store.new.disk)) }
     ensures fuse { FuseStays D.view store.old.disk store.new.disk }
-    ensures halts { IfErr result (IsHaltedBy d.new (seen D.view store.old.disk) (seen D.view store.new.disk)) }
+    ensures halts { IfErr result (HaltsBy D.view d.old d.new store.old.disk store.new.disk) }
 {
     let Some(op) = d.core.handed() else {
         unreachable!()

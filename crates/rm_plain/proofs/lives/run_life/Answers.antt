@@ -1,12 +1,18 @@
-use Rattle.std.proofs.Common.{[]}
+use Rattle.std.proofs.Common.{[], Err, ◌∙◌, ap}
+use Rattle.std.proofs.lemmas.Result.{err_from_is_err_and}
 use Rattle.rm_store.specs.Store.{seen}
-use Rattle.rm_plain.proofs.Ending.{goes_trans, stores_trans, fuse_trans, rest_on, down_on, on_err_of}
+use Rattle.rm_plain.specs.declared.halts.Halt.{Halt}
+use Rattle.rm_plain.proofs.Ending.{goes_trans, stores_trans, fuse_trans, rest_on, down_on}
+use Rattle.rm_plain.proofs.Halting.{halts_on}
 use Rattle.rm_plain.proofs.lives.run_life.Goals as goal
 
-pub returns-in_err-tick-clause-goes : goal.returns-in_err-tick-clause-goes
-returns-in_err-tick-clause-goes g c =
-    let goes = goes_trans (λ ops. Unit {0}) [] [] c.args.d.now c.moves.d c.tick.new.d c.moves.invariant.goes c.in_err-tick.ensures.goes in
-    on_err_of c.from_residual.result goes
+pub returns-in_err-tick-clause-halts : goal.returns-in_err-tick-clause-halts
+returns-in_err-tick-clause-halts g c =
+    let m = c.moves.invariant in
+    let p = err_from_is_err_and c.from_residual.result c.from_residual.ensures.1 in
+    rw (p.1 ∙ ap (λ (e : Halt). Err e) p.2)
+    (halts_on g.D.Disk.view (λ ops. Unit {0}) c.args.d.now c.moves.d c.tick.new.d c.args.store.now.disk c.moves.store.disk c.tick.new.store.disk m.goes (λ ops is k has. m.stores ops k has) m.fuse.faults
+    c.in_err-tick.field-0.0 c.in_err-tick.ensures.halts)
 
 pub moves-preserved : goal.moves-preserved
 moves-preserved g c =

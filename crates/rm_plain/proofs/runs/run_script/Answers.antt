@@ -1,4 +1,4 @@
-use Rattle.rm_plain.proofs.Finishing.{downs_on, falls_on, is_done, lawful_on, ok_of, stands_on}
+use Rattle.rm_plain.proofs.Finishing.{downs_on, falls_on, is_done, lawful_on, ok_of, stands_on, stopped_on}
 use Rattle.rm_plain.proofs.runs.run_script.Goals as goal
 
 pub returns-clause-lawful : goal.returns-clause-lawful
@@ -29,7 +29,18 @@ returns-clause-falls g c =
     (falls_on g.D.Disk.view c.all_lives-opening.result.opening c.args.settings c.args.alloc c.in-Ok.core c.args.script c.all_lives-opening.new.d c.args.disk c.all_lives-opening.result.disk c.all_lives-opening.result.ended
     (rw c.new_desk-d.ensures at c.all_lives-opening.ensures.all) c.in-Ok.ensures.settings c.in-Ok.ensures.log (c.in-Ok.ensures.stands c.all_lives-opening.result.opening))
 
+pub returns-clause-images : goal.returns-clause-images
+returns-clause-images g c =
+    rw c.into_log-log.ensures.log
+    ((rw c.new_desk-d.ensures at c.all_lives-opening.ensures.all).images (c.in-Ok.ensures.stands c.all_lives-opening.result.opening))
+
 pub returns-clause-images_now : goal.returns-clause-images_now
 returns-clause-images_now g c =
     rw c.into_log-log.ensures.log
     ((rw c.new_desk-d.ensures at c.all_lives-opening.ensures.all).images_now (c.in-Ok.ensures.stands c.all_lives-opening.result.opening))
+
+pub returns-clause-stopped : goal.returns-clause-stopped
+returns-clause-stopped g c =
+    rw c.into_log-log.ensures.log
+    (stopped_on g.D.Disk.view c.all_lives-opening.result.opening c.args.settings c.args.alloc c.in-Ok.core c.args.script c.all_lives-opening.new.d c.args.disk c.all_lives-opening.result.disk c.all_lives-opening.result.ended
+    (rw c.new_desk-d.ensures at c.all_lives-opening.ensures.all) c.in-Ok.ensures.settings c.in-Ok.ensures.log (c.in-Ok.ensures.stands c.all_lives-opening.result.opening))

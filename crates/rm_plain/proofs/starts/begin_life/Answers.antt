@@ -1,8 +1,34 @@
-use Rattle.std.proofs.Common.{◌≡◌, true, refl, sym, ◌∙◌}
+use Rattle.std.proofs.Common.{◌≡◌, List, true, false, Err, refl, sym, ◌∙◌, ap}
+use Rattle.std.proofs.lemmas.Result.{err_from_is_err_and}
 use Rattle.std.specs.Prelude.{is_ok}
-use Rattle.rm_plain.proofs.Moving.{ok_holds}
-use Rattle.rm_plain.proofs.Starting.{begins, ok_map}
+use Rattle.rm_types.specs.declared.operations.Op.{Op}
+use Rattle.rm_core.specs.Adds.{AmountsTo}
+use Rattle.rm_plain.specs.declared.halts.Halt.{Halt}
+use Rattle.rm_plain.specs.Keeping.{HaltsOver}
+use Rattle.rm_plain.proofs.Halting.{halts_same, if_memory}
+use Rattle.rm_plain.proofs.Moving.{err_holds, ok_holds}
+use Rattle.rm_plain.proofs.Starting.{begins, begun_halts, ok_map}
 use Rattle.rm_plain.proofs.starts.begin_life.Goals as goal
+
+pub returns-in_err-memory_only-clause-halts : goal.returns-in_err-memory_only-clause-halts
+returns-in_err-memory_only-clause-halts g c =
+    let d = c.args.d.now in
+    let failed : is_ok c.begin.result ≡ false = sym c.memory_only.ensures ∙ rw c.in_err-memory_only.was refl in
+    let same : c.begin.new.d ≡ d = err_holds c.begin.result failed c.begin.ensures.err in
+    let p = err_from_is_err_and c.from_residual.result c.from_residual.ensures.1 in
+    rw (p.1 ∙ ap (λ (e : Halt). Err e) p.2, same) (halts_same g.D.Disk.view (λ ops. AmountsTo c.args.tree ops d.core) d c.args.store.now.disk c.requires.sound)
+
+pub returns-clause-halts : goal.returns-clause-halts
+returns-clause-halts g c =
+    let d = c.args.d.now in
+    let mid = c.begin.new.d in
+    let made : is_ok c.begin.result ≡ true = sym c.memory_only.ensures ∙ rw c.in_ok-memory_only.was refl in
+    let over : List Op → Type 0 = λ ops. AmountsTo c.args.tree ops d.core in
+    let P : Halt → Type 0 = λ halt. HaltsOver g.D.Disk.view over d mid c.args.store.now.disk c.arm.new.store.disk halt in
+    if_memory P c.arm.result
+    (begun_halts g.D.Disk.view d mid c.args.store.now.disk c.arm.new.store.disk c.args.tree (ok_holds c.begin.result made c.begin.ensures.goes) (ok_holds c.begin.result made c.begin.ensures.same)
+    c.arm.ensures.inner c.arm.ensures.fuse.refused)
+    c.arm.ensures.halts
 
 pub returns-clause-begun : goal.returns-clause-begun
 returns-clause-begun g c =

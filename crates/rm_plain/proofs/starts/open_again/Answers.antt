@@ -9,7 +9,7 @@ not_both false h t = cc
 
 pub returns-in-Err-clause-why : goal.returns-in-Err-clause-why
 returns-in-Err-clause-why g c = λ opening k.
-    unopened_again opening c.args.core.now.log (seen g.D.Disk.view c.args.disk) (seen g.D.Disk.view c.in-Err.unopened.disk) c.in-Err.unopened.why c.in-Err.ensures.why
+    unopened_again g.D.Disk.view opening c.args.core.now.log c.args.disk c.in-Err.unopened.disk c.in-Err.unopened.why c.in-Err.ensures.why
 
 pub returns-then-not-is_known-clause-why : goal.returns-then-not-is_known-clause-why
 returns-then-not-is_known-clause-why g c = λ opening k has.

@@ -1,11 +1,39 @@
-use Rattle.std.proofs.Common.{◌≡◌, ◌++◌, ◌∷◌, [], true, false, refl, sym, ◌∙◌, ap}
+use Rattle.std.proofs.Common.{◌≡◌, ◌++◌, ◌∷◌, [], true, false, Err, refl, sym, ◌∙◌, ap}
+use Rattle.std.proofs.lemmas.Result.{err_from_is_err_and}
 use Rattle.std.specs.Prelude.{is_ok}
 use Rattle.rm_types.specs.declared.entries.Entry.{Entry}
 use Rattle.rm_types.specs.declared.entries.Entry.TheVariants.{Kept as KeptEntry}
 use Rattle.rm_types.specs.declared.operations.Op.{Op}
+use Rattle.rm_store.specs.declared.fault.StoreError.{StoreError}
+use Rattle.rm_plain.specs.declared.halts.Halt.{Halt}
 use Rattle.rm_plain.proofs.Moving.{goes_same, kept_goes, write_calm, both, ok_holds, err_holds, some_same, no_err}
 use Rattle.rm_plain.proofs.Stored.{op_stores}
+use Rattle.rm_plain.proofs.Halting.{append_halts, stays_unblown, unlearned_halts}
 use Rattle.rm_plain.proofs.storing.keep.Goals as goal
+
+pub returns-in-Err-clause-halts : goal.returns-in-Err-clause-halts
+returns-in-Err-clause-halts g c =
+    let d = c.args.d.now in
+    let store = c.args.store.now in
+    let now = c.append.new.self in
+    let tried = c.append.ensures in
+    let refused = c.in-Err.ensures in
+    let ready = both d.core.tables.alive d.core.tables.handed c.requires.ready in
+    let unblown = stays_unblown (g.D.Disk.keeps (is_ok c.append.result)) (is_ok c.append.result) d store.disk now.disk c.requires.sound ready.1 c.requires.serves.armed c.requires.serves.unblown tried.kept in
+    rw c.halt_of.ensures
+    (append_halts g.D.Disk.view g.D.Disk.faulted g.met.D.Disk.faulted_counts d store.disk now.disk c.in-Some.op.now c.requires.sound ready.0 ready.1 c.in-Some.ensures.next
+    (tried.any_moment c.requires.serves.unbroken) tried.goes_on.size c.in-Err.error (λ is. (refused.fault (ap (λ (e : StoreError). Err e) is)).inside unblown)
+    (λ needed room is. refused.only_full needed room (ap (λ (e : StoreError). Err e) is)))
+
+pub returns-in_err-memory_only-clause-halts : goal.returns-in_err-memory_only-clause-halts
+returns-in_err-memory_only-clause-halts g c =
+    let d = c.args.d.now in
+    let failed : is_ok c.step.result ≡ false = sym c.memory_only.ensures ∙ rw c.in_err-memory_only.was refl in
+    let same : c.step.new.self ≡ d.core = err_holds c.step.result failed c.step.ensures.err in
+    let p = err_from_is_err_and c.from_residual.result c.from_residual.ensures.1 in
+    rw (p.1 ∙ ap (λ (e : Halt). Err e) p.2, same)
+    (unlearned_halts g.D.Disk.view d c.args.store.now.disk c.append.new.self.disk c.in-Some.op.now c.requires.sound c.in-Some.ensures.next
+    (c.append.ensures.any_moment c.requires.serves.unbroken))
 
 pub returns-in_err-memory_only-clause-goes : goal.returns-in_err-memory_only-clause-goes
 returns-in_err-memory_only-clause-goes g c =

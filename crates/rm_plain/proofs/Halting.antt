@@ -1,0 +1,211 @@
+-- What is left on a disk where a part of a run halted.
+use Rattle.std.proofs.Common.{◌≡◌, ◌⊎◌, ℕ, ◌<◌, ◌≤◌, List, [], ◌∷◌, ◌++◌, None, Some, Option, Bool, true, false, Ok, Err, Result, refl, sym, ◌∙◌, ap, subst, inl, inr, arith}
+use Rattle.std.specs.Prelude.{IfErr}
+use Rattle.std.proofs.lemmas.List.{append-nil, append_assoc}
+use Rattle.rm_types.specs.declared.entries.Entry.{Entry}
+use Rattle.rm_types.specs.declared.operations.Op.{Op}
+use Rattle.rm_types.specs.declared.scripts.Close.{Close}
+use Rattle.rm_types.specs.declared.scripts.Close.TheVariants.{Settle, Crash}
+use Rattle.rm_types.specs.Counts.{Rose}
+use Rattle.rm_types.specs.Records.{Records, records, fits_records}
+use Rattle.rm_disk.specs.Disk.{DiskView}
+use Rattle.rm_disk.specs.Fuse.{Fused, KeepsFuse}
+use Rattle.rm_disk.proofs.Views.{leaves_trans, leaves_of}
+use Rattle.rm_formats.specs.Device.{Holds}
+use Rattle.rm_model.specs.Lawful.{state_after}
+use Rattle.rm_model.specs.State.{Manager, LifeState}
+use Rattle.rm_plain.specs.Survives.{HoldsAfter, HoldsWithin}
+use Rattle.rm_store.specs.declared.fault.StoreError.{StoreError}
+use Rattle.rm_store.specs.declared.fault.StoreError.TheVariants as store
+use Rattle.rm_store.specs.Store.{Has, LeavesOps, needed_for, room_behind, seen}
+use Rattle.rm_core.specs.Adds.{AmountsTo}
+use Rattle.rm_core.specs.Seen.{Seen, StandsFor, IsToBeKept}
+use Rattle.rm_core.specs.Told.{life_in}
+use Rattle.rm_core.proofs.Standing.{stands}
+use Rattle.rm_plain.specs.declared.desk.Desk.{Desk}
+use Rattle.rm_plain.specs.declared.halts.Halt.{Halt}
+use Rattle.rm_plain.specs.declared.halts.Halt.TheVariants.{DiskFault, Full, Memory}
+use Rattle.rm_plain.specs.Along.{IsSound}
+use Rattle.rm_plain.specs.Goes.{Goes, GoesOver}
+use Rattle.rm_plain.specs.Halted.{halt_of}
+use Rattle.rm_plain.specs.Keeping.{HasHanded, HaltsBy, HaltsOver, IsBegun, IsFull, IsHaltedBy, IsHanded, IsKeptOn, IsUnkept, KeepsOn, LeavesOn, LeftOver, armed_by}
+use Rattle.rm_plain.proofs.Ending.{goes_trans}
+use Rattle.rm_plain.proofs.Moving.{goes_same}
+use Rattle.rm_plain.proofs.Stored.{unkept_stores, within_longer}
+
+-- a disk that has what is kept leaves it
+pub keeps_leaves : (opening : List Op) (log longer : List Entry) (old new : DiskView) → KeepsOn opening log longer old new → LeavesOn opening log longer old new
+keeps_leaves opening log longer old new k =
+    record { time = k.time; now = λ image is. inl (k.kept.images image is); more = k.more; grows = k.grows }
+
+-- one part after the other
+pub leaves_after : (opening : List Op) (first second third : List Entry) (a b c : DiskView) → KeepsOn opening first second a b → LeavesOn opening second third b c → LeavesOn opening first third a c
+leaves_after opening first second third a b c ab bc =
+    record {
+      time = leaves_trans a b c (HoldsWithin opening third)
+          (leaves_of a b (HoldsWithin opening second) (HoldsWithin opening third) (within_longer opening second third bc.more bc.grows) ab.time) bc.time;
+      now = bc.now;
+      more = ab.more ++ bc.more;
+      grows = bc.grows ∙ ap (λ (l : List Entry). l ++ bc.more) ab.grows ∙ append_assoc first ab.more bc.more;
+    }
+
+-- what is left after a log is left of some beginning of it
+pub after_within : (opening : List Op) (log : List Entry) (image : List ℕ) → HoldsAfter opening log image → HoldsWithin opening log image
+after_within opening log image is = record { before = log; later = []; whole = sym (append-nil log); holds = is }
+
+-- a disk to which the operation that awaits was to be added
+op_leaves : (opening : List Op) (core : Seen) (op : Op) (old new : DiskView) → IsToBeKept opening core op
+    → ((ops : List Op) → Has old ops → fits_records (records ops) op ≡ true → LeavesOps old new ops op)
+    → IsKeptOn opening core.log old → LeavesOn opening core.log core.log old new
+op_leaves opening core op old new to_keep leaves has =
+    let s = state_after opening core.log in
+    let moments = leaves s.kept (record { bytes = has.bytes; told = has.told; holds = has.holds }) to_keep.fits in
+    record {
+      time = leaves_of old new _ (HoldsWithin opening core.log) (λ image is. after_within opening core.log image (either image is)) moments.so_far;
+      now = λ image is. either image (moments.now image is);
+      more = [];
+      grows = sym (append-nil core.log);
+    }
+  where
+    either : (image : List ℕ) → Holds image (state_after opening core.log).kept ⊎ Holds image ((state_after opening core.log).kept ++ op ∷ []) → HoldsAfter opening core.log image
+    either image (inl before) = inl before
+    either image (inr after) = inr (op, to_keep.first, after)
+
+-- where the tables say that an operation is with the store, so does the state
+has_handed : (opening : List Op) (core : Seen) → StandsFor opening core → core.tables.alive ≡ true → core.tables.handed ≡ true → HasHanded (state_after opening core.log).life
+has_handed opening core k alive handed =
+    let life : (state_after opening core.log).life ≡ Some (life_in k.history core.tables) = ap (λ (m : Manager). m.life) (stands core.settings opening core.log core.tables k alive) in
+    subst HasHanded (sym life) handed
+
+-- the fuse isn't armed while an operation is with the store, so it doesn't blow
+pub stays_unblown : {D : Type 0} (keeps : D → D → Type 0) (succeeds : Bool) (d : Desk) (old new : Fused D) → IsSound d → d.core.tables.handed ≡ true → old.armed ≡ armed_by d.close → old.blown ≡ false
+    → KeepsFuse keeps succeeds old new → new.blown ≡ false
+stays_unblown keeps succeeds d old new h handed armed unblown kept = by new.blown refl
+  where
+    never : (close : Option Close) → d.close ≡ close → new.armed ≡ Some new.passed → ⊥
+    never None e is = let none = sym (ap armed_by e) ∙ (sym armed ∙ (sym kept.armed ∙ is)) in cc
+    never (Some Settle) e is = let none = sym (ap armed_by e) ∙ (sym armed ∙ (sym kept.armed ∙ is)) in cc
+    never (Some (Crash calls image)) e is = let idle = h.crashing calls image e in let no = sym handed ∙ idle.handed in cc
+
+    by : (b : Bool) → new.blown ≡ b → new.blown ≡ false
+    by false e = e
+    by true e = absurd (never d.close refl (kept.blew unblown e))
+
+-- an error that is want of memory
+pub if_memory : {A : Type 0} (P : Halt → Type 0) (r : Result A Halt) → P Memory → IfErr r (λ halt. halt ≡ Memory) → IfErr r P
+if_memory P (Ok x) p h = tt
+if_memory P (Err halt) p h = subst P (sym h) p
+
+-- what is told of a full disk where more is known, is told where less is
+pub full_known : (known less : Type 0) (opening : List Op) (log : List Entry) (size needed room : ℕ) → (less → known) → IsFull known opening log size needed room → IsFull less opening log size needed room
+full_known known less opening log size needed room by full =
+    record { op = full.op; handed = full.handed; needs = full.needs; less = full.less; behind = λ is. full.behind (by is) }
+
+-- a part of a run over some opening lists alone
+pub goes_any : (over : List Op → Type 0) (a b : Desk) → Goes [] a b → GoesOver over [] a b
+goes_any over a b g =
+    record {
+      sound = g.sound;
+      settings = g.settings;
+      lives = g.lives;
+      some = g.some;
+      lawful = λ opening is k. g.lawful opening tt k;
+      run = λ opening script fallen is run. g.run opening script fallen tt run;
+    }
+
+pub unkept_same : (d : Desk) → IsUnkept d d
+unkept_same d = record { kept = λ opening k. refl; more = []; grows = sym (append-nil d.core.log) }
+
+module _ {D : Type 0} (view : D → DiskView) where
+  -- memory ran out where nothing was kept
+  pub halts_unkept : (d next : Desk) (disk now : Fused D) → Goes [] d next → IsUnkept d next → now.inner ≡ disk.inner → now.refused ≡ disk.refused → HaltsBy view d next disk now Memory
+  halts_unkept d next disk now goes same inner refused =
+      record {
+        goes = goes;
+        why = tt;
+        left = λ opening is k has.
+            let kept = unkept_stores opening d next same (seen view disk) k has in
+            rw (inner, refused) (keeps_leaves opening d.core.log next.core.log (seen view disk) (seen view disk) kept);
+      }
+
+  -- and where nothing was done at all
+  pub halts_same : (over : List Op → Type 0) (d : Desk) (disk : Fused D) → IsSound d → HaltsOver view over d d disk disk Memory
+  halts_same over d disk h =
+      record {
+        goes = goes_any over d d (goes_same d h);
+        why = tt;
+        left = λ opening is k has.
+            keeps_leaves opening d.core.log d.core.log (seen view disk) (seen view disk) (unkept_stores opening d d (unkept_same d) (seen view disk) k has);
+      }
+
+  -- an append was refused by a whole store
+  pub append_halts : (faulted : D → D → Type 0) → ((x y : D) → faulted x y → Rose (view x).faults (view y).faults)
+      → (d : Desk) (disk now : Fused D) (op : Op) → IsSound d → d.core.tables.alive ≡ true → d.core.tables.handed ≡ true
+      → ((opening : List Op) → StandsFor opening d.core → IsToBeKept opening d.core op)
+      → ((ops : List Op) → Has (seen view disk) ops → fits_records (records ops) op ≡ true → LeavesOps (seen view disk) (seen view now) ops op)
+      → (view now.inner).size ≡ (view disk.inner).size
+      → (error : StoreError) → (error ≡ store.DiskFault → faulted disk.inner now.inner)
+      → ((needed room : ℕ) → error ≡ store.Full needed room → (room < needed) × (needed ≡ needed_for op) × ((ops : List Op) → Has (seen view disk) ops → room ≡ room_behind (view disk.inner).size ops))
+      → HaltsBy view d d disk now (halt_of error)
+  append_halts faulted counts d disk now op h alive handed next leaves size error fault full =
+      record {
+        goes = goes_same d h;
+        why = by error fault full;
+        left = λ opening is k has. op_leaves opening d.core op (seen view disk) (seen view now) (next opening k) leaves has;
+      }
+    where
+      is_handed : (opening : List Op) → StandsFor opening d.core → IsHanded opening d.core.log op
+      is_handed opening k = record { first = (next opening k).first; handed = has_handed opening d.core k alive handed }
+
+      by : (error : StoreError) → (error ≡ store.DiskFault → faulted disk.inner now.inner)
+          → ((needed room : ℕ) → error ≡ store.Full needed room → (room < needed) × (needed ≡ needed_for op) × ((ops : List Op) → Has (seen view disk) ops → room ≡ room_behind (view disk.inner).size ops))
+          → IsHaltedBy view (λ opening. Unit {0}) d d disk now (halt_of error)
+      by store.DiskFault fault full = (counts disk.inner now.inner (fault refl), λ opening is k. (op, is_handed opening k))
+      by (store.Full needed room) fault full = λ opening is k.
+          let told = full needed room refl in
+          record {
+            op = op;
+            handed = is_handed opening k;
+            needs = told.1;
+            less = told.0;
+            behind = λ has.
+                told.2 (state_after opening d.core.log).kept (record { bytes = has.bytes; told = has.told; holds = has.holds })
+                ∙ ap (λ (n : ℕ). room_behind n (state_after opening d.core.log).kept) (sym size);
+          }
+      by (store.Damaged offset) fault full = tt
+      by (store.Stray number offset) fault full = tt
+      by store.NeedsReopen fault full = tt
+      by store.Memory fault full = tt
+
+  -- the store has the operation, and the manager found no memory to learn so
+  pub unlearned_halts : (d : Desk) (disk now : Fused D) (op : Op) → IsSound d
+      → ((opening : List Op) → StandsFor opening d.core → IsToBeKept opening d.core op)
+      → ((ops : List Op) → Has (seen view disk) ops → fits_records (records ops) op ≡ true → LeavesOps (seen view disk) (seen view now) ops op)
+      → HaltsBy view d d disk now Memory
+  unlearned_halts d disk now op h next leaves =
+      record {
+        goes = goes_same d h;
+        why = tt;
+        left = λ opening is k has. op_leaves opening d.core op (seen view disk) (seen view now) (next opening k) leaves has;
+      }
+
+  -- a part of a run, and one after it that halted
+  module _ (over : List Op → Type 0) (a b c : Desk) (first second third : Fused D) (goes : GoesOver over [] a b)
+      (kept : (opening : List Op) → over opening → StandsFor opening a.core → IsKeptOn opening a.core.log (seen view first) → KeepsOn opening a.core.log b.core.log (seen view first) (seen view second))
+      (faults : (view first.inner).faults ≤ (view second.inner).faults) where
+    pub halts_on : (halt : Halt) → HaltsBy view b c second third halt → HaltsOver view over a c first third halt
+    halts_on halt h =
+        record {
+          goes = goes_trans over [] [] a b c goes h.goes;
+          why = by halt h.why;
+          left = λ opening is k has.
+              let so_far = kept opening is k has in
+              leaves_after opening a.core.log b.core.log c.core.log (seen view first) (seen view second) (seen view third) so_far (h.left opening tt (goes.lawful opening is k) so_far.kept);
+        }
+      where
+        by : (halt : Halt) → IsHaltedBy view (λ opening. Unit {0}) b c second third halt → IsHaltedBy view over a c first third halt
+        by DiskFault why = (let rose = why.0 in omega (arith, faults, rose), λ opening is k. why.1 opening tt (goes.lawful opening is k))
+        by (Full needed room) why = λ opening is k.
+            full_known (IsKeptOn opening b.core.log (seen view second)) (IsKeptOn opening a.core.log (seen view first)) opening c.core.log (view third.inner).size needed room
+            (λ has. (kept opening is k has).kept) (why opening tt (goes.lawful opening is k))
+        by Memory why = tt
