@@ -1,5 +1,5 @@
 -- The outcome of a run that stopped, and of one whose page was written so.
-use Rattle.std.proofs.Common.{◌≡◌, ℕ, List, [], Option, Result, Ok, Err, length, refl, arith, sym, subst, inl}
+use Rattle.std.proofs.Common.{◌≡◌, ◌⊎◌, ℕ, List, [], Option, Result, Ok, Err, length, refl, arith, sym, subst, inl, inr}
 use Rattle.std.specs.Prelude.{IsOk, OnOk, IfErr}
 use Rattle.std.proofs.lemmas.Bool.{false≢true}
 use Rattle.std.specs.Io.KnownBytes.{Appends}
@@ -8,38 +8,19 @@ use Rattle.rm_types.specs.declared.entries.Entry.{Entry}
 use Rattle.rm_types.specs.declared.operations.Op.{Op}
 use Rattle.rm_types.specs.declared.outcomes.Outcome.{Outcome}
 use Rattle.rm_types.specs.declared.outcomes.Outcome.TheVariants.{Done, Usage, ReadFault, WriteFault, ClusterRefused, ScriptRefused, ScheduleRefused, DiskFault, StoreDamaged, StoreFull, EpochsSpent, Memory}
-use Rattle.rm_disk.specs.Disk.{DiskView}
+use Rattle.rm_disk.specs.Disk.{DiskView, IsQuiet, Tells}
+use Rattle.rm_disk.specs.Fuse.{Fused}
+use Rattle.rm_disk.proofs.Views.{leaves_of}
+use Rattle.rm_formats.specs.Device.{Holds}
 use Rattle.rm_plain.specs.declared.halts.Stop.{Stop}
 use Rattle.rm_plain.specs.declared.halts.Stop.TheVariants as stops
 use Rattle.rm_plain.specs.Starts.{IsUnopenedBy}
 use Rattle.rm_plain.specs.Stops.{IsStoppedBy}
-use Rattle.rm_main.specs.Runs.{IsCausedBy, Writes}
-use Rattle.rm_main.specs.Ways.{IsOfWriting, outcome_of}
-
--- an outcome that is Done is that of a run that came to its end
-pub ended_well : (ended : Result (Unit {0}) Stop) (written : Outcome) → outcome_of ended written ≡ Done → IsOk ended
-ended_well (Ok done) written h = refl
-ended_well (Err stops.DiskFault) Done h = absurd (cc)
-ended_well (Err (stops.Damaged offset)) Done h = absurd (cc)
-ended_well (Err (stops.Full needed room)) Done h = absurd (cc)
-ended_well (Err stops.EpochsSpent) Done h = absurd (cc)
-ended_well (Err stops.Memory) Done h = absurd (cc)
-ended_well (Err stop) Usage h = absurd (cc)
-ended_well (Err stop) ReadFault h = absurd (cc)
-ended_well (Err stop) (WriteFault took_nothing) h = absurd (cc)
-ended_well (Err stop) (ClusterRefused place) h = absurd (cc)
-ended_well (Err stop) (ScriptRefused line) h = absurd (cc)
-ended_well (Err stop) (ScheduleRefused place) h = absurd (cc)
-ended_well (Err stop) DiskFault h = absurd (cc)
-ended_well (Err stop) (StoreDamaged offset) h = absurd (cc)
-ended_well (Err stop) (StoreFull needed room) h = absurd (cc)
-ended_well (Err stop) EpochsSpent h = absurd (cc)
-ended_well (Err stop) Memory h = absurd (cc)
-
--- what holds where a run came to its end
-pub from_ok : {P : Type 0} (ended : Result (Unit {0}) Stop) → OnOk ended P → IsOk ended → P
-from_ok (Ok done) h ok = h
-from_ok (Err stop) h ok = absurd (false≢true ok)
+use Rattle.rm_plain.specs.Survives.{HoldsWithin, SurvivesAll}
+use Rattle.rm_store.specs.Store.{seen}
+use Rattle.rm_main.specs.Runs.{Ends, IsCausedBy, IsListed, Made, Ran, Told, Writes}
+use Rattle.rm_main.specs.Ways.{IsOfRun, IsOfWriting, outcome_of}
+use Rattle.rm_main.specs.Words.{Asked}
 
 -- a whole page is a beginning of it
 whole : (old new : Option (List ℕ)) (bytes : List ℕ) → Appends old new bytes → Writes Memory old new bytes
@@ -77,42 +58,91 @@ still_writes old new bytes (Err stop) EpochsSpent h w = absurd h
 still_writes old new bytes (Err stop) Memory h w = w
 
 -- why a run stopped is why its outcome came
-pub caused : (old new : DiskView) (opening : List Op) (log : List Entry) (ended : Result (Unit {0}) Stop) (written : Outcome) → IsOfWriting written → IfErr ended (IsStoppedBy old new opening log)
-    → IsCausedBy old new opening log (outcome_of ended written)
-caused old new opening log (Ok done) Done h why = tt
-caused old new opening log (Ok done) Usage h why = absurd h
-caused old new opening log (Ok done) ReadFault h why = absurd h
-caused old new opening log (Ok done) (WriteFault took_nothing) h why = tt
-caused old new opening log (Ok done) (ClusterRefused place) h why = absurd h
-caused old new opening log (Ok done) (ScriptRefused line) h why = absurd h
-caused old new opening log (Ok done) (ScheduleRefused place) h why = absurd h
-caused old new opening log (Ok done) DiskFault h why = absurd h
-caused old new opening log (Ok done) (StoreDamaged offset) h why = absurd h
-caused old new opening log (Ok done) (StoreFull needed room) h why = absurd h
-caused old new opening log (Ok done) EpochsSpent h why = absurd h
-caused old new opening log (Ok done) Memory h why = tt
-caused old new opening log (Err stops.DiskFault) Done h why = why
-caused old new opening log (Err (stops.Damaged offset)) Done h why = why
-caused old new opening log (Err (stops.Full needed room)) Done h why = why
-caused old new opening log (Err stops.EpochsSpent) Done h why = why
-caused old new opening log (Err stops.Memory) Done h why = tt
-caused old new opening log (Err stop) Usage h why = absurd h
-caused old new opening log (Err stop) ReadFault h why = absurd h
-caused old new opening log (Err stop) (WriteFault took_nothing) h why = tt
-caused old new opening log (Err stop) (ClusterRefused place) h why = absurd h
-caused old new opening log (Err stop) (ScriptRefused line) h why = absurd h
-caused old new opening log (Err stop) (ScheduleRefused place) h why = absurd h
-caused old new opening log (Err stop) DiskFault h why = absurd h
-caused old new opening log (Err stop) (StoreDamaged offset) h why = absurd h
-caused old new opening log (Err stop) (StoreFull needed room) h why = absurd h
-caused old new opening log (Err stop) EpochsSpent h why = absurd h
-caused old new opening log (Err stop) Memory h why = tt
+pub caused : {D : Type 0} (view : D → DiskView) (due : Type 0) (made : Made D) (ended : Result (Unit {0}) Stop) (written : Outcome) → IsOfWriting written → IfErr ended (IsStoppedBy view due made.before made.after made.opening made.log)
+    → IsCausedBy view due made (outcome_of ended written)
+caused view due made (Ok done) Done h why = tt
+caused view due made (Ok done) Usage h why = absurd h
+caused view due made (Ok done) ReadFault h why = absurd h
+caused view due made (Ok done) (WriteFault took_nothing) h why = tt
+caused view due made (Ok done) (ClusterRefused place) h why = absurd h
+caused view due made (Ok done) (ScriptRefused line) h why = absurd h
+caused view due made (Ok done) (ScheduleRefused place) h why = absurd h
+caused view due made (Ok done) DiskFault h why = absurd h
+caused view due made (Ok done) (StoreDamaged offset) h why = absurd h
+caused view due made (Ok done) (StoreFull needed room) h why = absurd h
+caused view due made (Ok done) EpochsSpent h why = absurd h
+caused view due made (Ok done) Memory h why = tt
+caused view due made (Err stops.DiskFault) Done h why = why
+caused view due made (Err (stops.Damaged offset)) Done h why = why
+caused view due made (Err (stops.Full needed room)) Done h why = why
+caused view due made (Err stops.EpochsSpent) Done h why = why
+caused view due made (Err stops.Memory) Done h why = tt
+caused view due made (Err stop) Usage h why = absurd h
+caused view due made (Err stop) ReadFault h why = absurd h
+caused view due made (Err stop) (WriteFault took_nothing) h why = tt
+caused view due made (Err stop) (ClusterRefused place) h why = absurd h
+caused view due made (Err stop) (ScriptRefused line) h why = absurd h
+caused view due made (Err stop) (ScheduleRefused place) h why = absurd h
+caused view due made (Err stop) DiskFault h why = absurd h
+caused view due made (Err stop) (StoreDamaged offset) h why = absurd h
+caused view due made (Err stop) (StoreFull needed room) h why = absurd h
+caused view due made (Err stop) EpochsSpent h why = absurd h
+caused view due made (Err stop) Memory h why = tt
 
--- a store that wasn't opened stops a call before its log
-pub unopened : (old new : DiskView) (ops : List Op) (ended : Result (Unit {0}) Stop) → IfErr ended (IsUnopenedBy old new) → IfErr ended (IsStoppedBy old new ops [])
-unopened old new ops (Ok done) h = tt
-unopened old new ops (Err stops.DiskFault) h = h
-unopened old new ops (Err (stops.Damaged offset)) h = λ bytes told. inl (refl, h bytes told)
-unopened old new ops (Err (stops.Full needed room)) h = absurd h
-unopened old new ops (Err stops.EpochsSpent) h = absurd h
-unopened old new ops (Err stops.Memory) h = tt
+-- what is listed is what the store holds, and nothing where it wasn't opened
+pub listed : {D : Type 0} (view : D → DiskView) (made : Made D) (ended : Result (Unit {0}) Stop) (written : Outcome) → IsOfWriting written → IfErr ended (IsUnopenedBy view made.before made.after) → IfErr ended (λ stop. made.opening ≡ [])
+    → (IsOk ended → Tells (seen view made.before) (λ bytes. Holds bytes made.opening)) → IsListed view made (outcome_of ended written)
+listed view made (Ok done) Done h why empty holds = holds refl
+listed view made (Ok done) (WriteFault took_nothing) h why empty holds = tt
+listed view made (Ok done) Memory h why empty holds = tt
+listed view made (Ok done) Usage h why empty holds = absurd h
+listed view made (Ok done) ReadFault h why empty holds = absurd h
+listed view made (Ok done) (ClusterRefused place) h why empty holds = absurd h
+listed view made (Ok done) (ScriptRefused line) h why empty holds = absurd h
+listed view made (Ok done) (ScheduleRefused place) h why empty holds = absurd h
+listed view made (Ok done) DiskFault h why empty holds = absurd h
+listed view made (Ok done) (StoreDamaged offset) h why empty holds = absurd h
+listed view made (Ok done) (StoreFull needed room) h why empty holds = absurd h
+listed view made (Ok done) EpochsSpent h why empty holds = absurd h
+listed view made (Err stops.DiskFault) Done h why empty holds = (empty, why)
+listed view made (Err (stops.Damaged offset)) Done h why empty holds = (empty, why)
+listed view made (Err (stops.Full needed room)) Done h why empty holds = absurd why
+listed view made (Err stops.EpochsSpent) Done h why empty holds = absurd why
+listed view made (Err stops.Memory) Done h why empty holds = tt
+listed view made (Err stop) (WriteFault took_nothing) h why empty holds = tt
+listed view made (Err stop) Memory h why empty holds = tt
+listed view made (Err stop) Usage h why empty holds = absurd h
+listed view made (Err stop) ReadFault h why empty holds = absurd h
+listed view made (Err stop) (ClusterRefused place) h why empty holds = absurd h
+listed view made (Err stop) (ScriptRefused line) h why empty holds = absurd h
+listed view made (Err stop) (ScheduleRefused place) h why empty holds = absurd h
+listed view made (Err stop) DiskFault h why empty holds = absurd h
+listed view made (Err stop) (StoreDamaged offset) h why empty holds = absurd h
+listed view made (Err stop) (StoreFull needed room) h why empty holds = absurd h
+listed view made (Err stop) EpochsSpent h why empty holds = absurd h
+
+-- an opening list is empty where the store wasn't opened, and else the disk held it
+pub listed_held : {D : Type 0} (view : D → DiskView) (disk : Fused D) (ops : List Op) (ended : Result (Unit {0}) Stop) → IfErr ended (λ stop. ops ≡ []) → (IsOk ended → Tells (seen view disk) (λ bytes. Holds bytes ops))
+    → (ops ≡ []) ⊎ Tells (seen view disk) (λ bytes. Holds bytes ops)
+listed_held view disk ops (Ok done) empty holds = inr (holds refl)
+listed_held view disk ops (Err stop) empty holds = inl empty
+
+-- a call of the disk that changes no byte leaves what could have been left
+pub quiet_survives : (opening : List Op) (log : List Entry) (old new : DiskView) → IsQuiet old new → SurvivesAll opening log old new
+quiet_survives opening log old new quiet = λ bytes told.
+    record { so_far = leaves_of old new old.images (λ image. old.images image ⊎ HoldsWithin opening log image) (λ image is. inl is) quiet.time; now = λ image is. inl (quiet.images image is) }
+
+-- how a run that was made ends
+pub run_ends : {D : Type 0} (view : D → DiskView) (told : Told) (asked : Option Asked) (made : Made D) (outcome : Outcome) → IsOfRun outcome → Ran view told asked made outcome → Ends view told asked made outcome
+run_ends view told asked made Done h ran = inl ran
+run_ends view told asked made Usage h ran = absurd h
+run_ends view told asked made ReadFault h ran = absurd h
+run_ends view told asked made (WriteFault took_nothing) h ran = inl ran
+run_ends view told asked made (ClusterRefused place) h ran = absurd h
+run_ends view told asked made (ScriptRefused line) h ran = absurd h
+run_ends view told asked made (ScheduleRefused place) h ran = absurd h
+run_ends view told asked made DiskFault h ran = inl ran
+run_ends view told asked made (StoreDamaged offset) h ran = inl ran
+run_ends view told asked made (StoreFull needed room) h ran = ran
+run_ends view told asked made EpochsSpent h ran = ran
+run_ends view told asked made Memory h ran = inl ran

@@ -14,7 +14,7 @@ use Rattle.rm_types.specs.declared.scripts.Segment.{Segment}
 use Rattle.rm_types.specs.declared.scripts.Script.{Script}
 use Rattle.rm_types.specs.declared.operations.Submission.{Submission}
 use Rattle.rm_types.specs.declared.texts.TextKind.TheVariants.{Name, AclText}
-use Rattle.rm_types.specs.Frames.{IsText, IsSubmission as IsFramedSubmission}
+use Rattle.rm_types.specs.Ranges.{IsText, IsSubmission as IsFramedSubmission}
 use Rattle.rm_core.specs.Serving.{IsBuiltAsk as IsServedAsk, IsBuiltMessage as IsServedMessage}
 use Rattle.rm_script.specs.Scripts.{IsScript, IsRead, IsBuiltAsk, IsClientAsk, IsSubmission, EachButLast}
 use Rattle.rm_script.specs.Values.{Settles, EndInCrash, IsToldLife, IsToldScript}

@@ -3,3 +3,4 @@ pub mod Runs
 pub mod Inputs
 pub mod Statuses
 pub mod Ways
+pub mod Complete

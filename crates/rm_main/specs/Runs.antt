@@ -8,11 +8,12 @@ use Rattle.rm_types.specs.declared.outcomes.Outcome.TheVariants.{Done, Usage, Re
 use Rattle.rm_types.specs.declared.scripts.Script.{Script}
 use Rattle.rm_types.specs.declared.settings.Settings.{Settings}
 use Rattle.rm_types.specs.Counts.{Rose}
-use Rattle.rm_disk.specs.declared.fallen.Fallen.{Fallen}
-use Rattle.rm_disk.specs.Disk.{DiskView}
+use Rattle.rm_disk.specs.Disk.{DiskView, Tells}
+use Rattle.rm_disk.specs.Fuse.{Fused}
+use Rattle.rm_formats.specs.Device.{Holds}
 use Rattle.rm_model.specs.Downs.{AllGoDownAtRest}
 use Rattle.rm_model.specs.Lawful.{Lawful, IsDone}
-use Rattle.rm_model.specs.Page.{page, store_page}
+use Rattle.rm_formats.specs.Page.{page, store_page}
 use Rattle.rm_model.specs.State.{opening_state}
 use Rattle.rm_outside.specs.Shelves.{bytes_read}
 use Rattle.rm_outside.specs.Writes.{AppendsPart}
@@ -21,8 +22,9 @@ use Rattle.rm_cluster.specs.declared.clusters.ClusterError.TheVariants.{Refused}
 use Rattle.rm_script.specs.Refusals.{IsFirstRefused}
 use Rattle.rm_script.specs.Scripts.{IsScript}
 use Rattle.rm_plain.specs.Falls.{falls_of}
-use Rattle.rm_plain.specs.Keeping.{IsFull}
-use Rattle.rm_plain.specs.Stops.{IsDamaged, IsSpent}
+use Rattle.rm_plain.specs.Stops.{IsDue, IsNoStore, IsStoppedBy}
+use Rattle.rm_plain.specs.declared.halts.Stop.TheVariants as stops
+use Rattle.rm_store.specs.Store.{seen}
 use Rattle.rm_main.specs.Words.{Asked, Run, Listing}
 
 -- what a shelf tells of each name
@@ -57,17 +59,34 @@ pub record HasNoScript (told : Option (List ℕ)) (line : ℕ) : Type 0 where
   pub read : WereRead told bytes
   pub none : IsFirstRefused bytes line
 
--- what a call made: what its disk held when it was opened, its log, and the falls that the disk showed before and after it
-pub record Made : Type 0 where
+-- what a call made: what its disk held when it was opened, its log, and the disk before it and after it
+pub record Made (D : Type 0) : Type 0 where
   pub opening : List Op
   pub log : List Entry
-  pub before : List Fallen
-  pub falls : List Fallen
+  pub before : Fused D
+  pub after : Fused D
+
+-- why the device or the store stopped a run, by its outcome
+abbrev pub IsCausedBy : {D : Type 0} → (D → DiskView) → Type 0 → Made D → Outcome → Type 0
+IsCausedBy view due made DiskFault = IsStoppedBy view due made.before made.after made.opening made.log stops.DiskFault
+IsCausedBy view due made (StoreDamaged offset) = IsStoppedBy view due made.before made.after made.opening made.log (stops.Damaged offset)
+IsCausedBy view due made (StoreFull needed room) = IsStoppedBy view due made.before made.after made.opening made.log (stops.Full needed room)
+IsCausedBy view due made EpochsSpent = IsStoppedBy view due made.before made.after made.opening made.log stops.EpochsSpent
+IsCausedBy view due made _ = Unit {0}
+
+-- what a listing shows, by its outcome: the disk inside the fuse counted a fault, or it holds no store, and then nothing is
+-- listed; or it holds what is listed
+abbrev pub IsListed : {D : Type 0} → (D → DiskView) → Made D → Outcome → Type 0
+IsListed view made DiskFault = (made.opening ≡ []) × Rose (view made.before.inner).faults (view made.after.inner).faults
+IsListed view made (StoreDamaged offset) = (made.opening ≡ []) × Tells (seen view made.before) (IsNoStore offset)
+IsListed view made Done = Tells (seen view made.before) (λ bytes. Holds bytes made.opening)
+IsListed view made _ = Unit {0}
 
 -- a run was made: it was asked for by the names of two files; the log is lawful for the settings and the script that these
--- hold, over the opening list; lives went down at rest, and each that went down let the device fall once more; and where the
--- outcome is Done the run came to its end
-pub record Ran (told : Told) (asked : Option Asked) (made : Made) (outcome : Outcome) : Type 0 where
+-- hold, over the opening list; lives went down at rest, and each that went down let the device fall once more; where the
+-- outcome is Done the run came to its end, and where the device or the store stopped it, it had its cause; a script without
+-- lives makes no call of the device
+pub record Ran {D : Type 0} (view : D → DiskView) (told : Told) (asked : Option Asked) (made : Made D) (outcome : Outcome) : Type 0 where
   pub cluster_file : List ℕ
   pub script_file : List ℕ
   pub asks : asked ≡ Some (Run cluster_file script_file)
@@ -77,28 +96,31 @@ pub record Ran (told : Told) (asked : Option Asked) (made : Made) (outcome : Out
   pub of_script : IsScriptOf (told script_file) script
   pub lawful : Lawful settings script made.opening made.log
   pub downs : AllGoDownAtRest settings (opening_state made.opening) made.log
-  pub fallen : made.falls ≡ made.before ++ falls_of script made.opening made.log
+  pub fallen : made.after.falls ≡ made.before.falls ++ falls_of script made.opening made.log
   pub done : outcome ≡ Done → IsDone settings script made.opening made.log
+  pub caused : IsCausedBy view (IsDue script made.opening made.log) made outcome
+  pub idle : script.lives ≡ [] → (made.log ≡ []) × (made.after ≡ made.before)
 
 -- nothing was run, and the device did not fall
-pub record RanNothing (made : Made) : Type 0 where
+pub record RanNothing {D : Type 0} (made : Made D) : Type 0 where
   pub empty : made.log ≡ []
-  pub fallen : made.falls ≡ made.before
+  pub fallen : made.after.falls ≡ made.before.falls
 
 -- a run was asked for, and nothing was run
-pub record WasToRun (asked : Option Asked) (made : Made) : Type 0 where
+pub record WasToRun {D : Type 0} (asked : Option Asked) (made : Made D) : Type 0 where
   pub cluster_file : List ℕ
   pub script_file : List ℕ
   pub asks : asked ≡ Some (Run cluster_file script_file)
   pub nothing : RanNothing made
 
 -- a listing was asked for, and nothing was run
-pub record WasToList (asked : Option Asked) (made : Made) : Type 0 where
+pub record WasToList {D : Type 0} (view : D → DiskView) (asked : Option Asked) (made : Made D) (outcome : Outcome) : Type 0 where
   pub asks : asked ≡ Some Listing
   pub nothing : RanNothing made
+  pub listed : IsListed view made outcome
 
 -- the cluster file was refused at the place
-pub record RefusedCluster (told : Told) (asked : Option Asked) (made : Made) (place : ℕ) : Type 0 where
+pub record RefusedCluster {D : Type 0} (told : Told) (asked : Option Asked) (made : Made D) (place : ℕ) : Type 0 where
   pub cluster_file : List ℕ
   pub script_file : List ℕ
   pub asks : asked ≡ Some (Run cluster_file script_file)
@@ -106,7 +128,7 @@ pub record RefusedCluster (told : Told) (asked : Option Asked) (made : Made) (pl
   pub nothing : RanNothing made
 
 -- the script was refused at the line: the cluster file holds settings, and the script's file no script
-pub record RefusedScript (told : Told) (asked : Option Asked) (made : Made) (line : ℕ) : Type 0 where
+pub record RefusedScript {D : Type 0} (told : Told) (asked : Option Asked) (made : Made D) (line : ℕ) : Type 0 where
   pub cluster_file : List ℕ
   pub script_file : List ℕ
   pub asks : asked ≡ Some (Run cluster_file script_file)
@@ -116,28 +138,24 @@ pub record RefusedScript (told : Told) (asked : Option Asked) (made : Made) (lin
   pub nothing : RanNothing made
 
 -- how a call ends, by its outcome; no other outcome comes
-abbrev pub Ends : Told → Option Asked → Made → Outcome → Type 0
-Ends told asked made Done = Ran told asked made Done ⊎ WasToList asked made
-Ends told asked made Usage = (asked ≡ None) × RanNothing made
-Ends told asked made ReadFault = WasToRun asked made
-Ends told asked made (WriteFault took_nothing) = Ran told asked made (WriteFault took_nothing) ⊎ WasToList asked made
-Ends told asked made (ClusterRefused place) = RefusedCluster told asked made place
-Ends told asked made (ScriptRefused line) = RefusedScript told asked made line
-Ends told asked made (ScheduleRefused place) = ⊥
-Ends told asked made DiskFault = Ran told asked made DiskFault ⊎ WasToList asked made
-Ends told asked made (StoreDamaged offset) = Ran told asked made (StoreDamaged offset) ⊎ WasToList asked made
-Ends told asked made (StoreFull needed room) = Ran told asked made (StoreFull needed room)
-Ends told asked made EpochsSpent = Ran told asked made EpochsSpent
-Ends told asked made Memory = Ran told asked made Memory ⊎ (WasToList asked made ⊎ WasToRun asked made)
+abbrev pub Ends : {D : Type 0} → (D → DiskView) → Told → Option Asked → Made D → Outcome → Type 0
+Ends view told asked made Done = Ran view told asked made Done ⊎ WasToList view asked made Done
+Ends view told asked made Usage = (asked ≡ None) × RanNothing made
+Ends view told asked made ReadFault = WasToRun asked made
+Ends view told asked made (WriteFault took_nothing) = Ran view told asked made (WriteFault took_nothing) ⊎ WasToList view asked made (WriteFault took_nothing)
+Ends view told asked made (ClusterRefused place) = RefusedCluster told asked made place
+Ends view told asked made (ScriptRefused line) = RefusedScript told asked made line
+Ends view told asked made (ScheduleRefused place) = ⊥
+Ends view told asked made DiskFault = Ran view told asked made DiskFault ⊎ WasToList view asked made DiskFault
+Ends view told asked made (StoreDamaged offset) = Ran view told asked made (StoreDamaged offset) ⊎ WasToList view asked made (StoreDamaged offset)
+Ends view told asked made (StoreFull needed room) = Ran view told asked made (StoreFull needed room)
+Ends view told asked made EpochsSpent = Ran view told asked made EpochsSpent
+Ends view told asked made Memory = Ran view told asked made Memory ⊎ (WasToList view asked made Memory ⊎ WasToRun asked made)
 
--- why the device or the store stopped a call, between the handed disk and the one given back: the disk counted a fault;
--- what it tells is no store that a life can begin over; the store was full; or its epochs or stamps were used up
-abbrev pub IsCausedBy : DiskView → DiskView → List Op → List Entry → Outcome → Type 0
-IsCausedBy old new opening log DiskFault = Rose old.faults new.faults
-IsCausedBy old new opening log (StoreDamaged offset) = IsDamaged old opening log offset
-IsCausedBy old new opening log (StoreFull needed room) = IsFull opening log new needed room
-IsCausedBy old new opening log EpochsSpent = IsSpent old opening log
-IsCausedBy old new opening log _ = Unit {0}
+-- which files were read: of a run the cluster file, or it and then the script's file; else none
+abbrev pub AreRead : {F : Type 0} → (List ℕ → F → F → Type 0) → Option Asked → F → F → Type 0
+AreRead {F = F} reads (Some (Run cluster script)) old new = reads cluster old new ⊎ ((mid : F) × reads cluster old mid × reads script mid new)
+AreRead reads _ old new = new ≡ old
 
 -- the outcome of a call that stopped before it used the device
 abbrev pub StopsBefore : Outcome → Type 0

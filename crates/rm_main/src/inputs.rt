@@ -1,7 +1,8 @@
-ghost use Rattle.std.specs.Prelude.{◌≡◌, ◌≤◌, IfOk, IfErr, OnOk, Err, false};
+ghost use Rattle.std.specs.Prelude.{◌≡◌, ◌≤◌, IfOk, IfErr, OnOk, Err, Some, false};
 ghost use Rattle.rm_types.specs.Counts.{Rose};
 ghost use Rattle.rm_plain.specs.Along.{CanRun};
-ghost use Rattle.rm_main.specs.Runs.{AreSettings, IsScriptOf};
+ghost use Rattle.rm_main.specs.Runs.{AreRead, AreSettings, IsScriptOf};
+ghost use Rattle.rm_main.specs.Words.{Run};
 ghost use Rattle.rm_main.specs.Inputs.{StopsAtCluster, StopsAtScript, StopsEarly};
 
 use rm_cluster::{ClusterError, read_cluster};
@@ -16,6 +17,7 @@ fn read_settings<F: Shelf>(alloc: Global, shelf: &mut F, name: &str) -> Result<S
     ensures rights { IfOk result (λ settings. settings.acl_enable ≡ false) }
     ensures refused { IfErr result (StopsAtCluster (F.bytes_of shelf.old name.now)) }
     ensures told { F.bytes_of shelf.new ≡ F.bytes_of shelf.old }
+    ensures one { F.reads name.now shelf.old shelf.new }
     ensures fault { result ≡ Err Outcome.ReadFault → Rose (F.faults shelf.old) (F.faults shelf.new) }
     ensures quiet { OnOk result (F.faults shelf.new ≡ F.faults shelf.old) }
 {
@@ -36,6 +38,7 @@ fn read_lives<F: Shelf>(alloc: Global, shelf: &mut F, name: &str) -> Result<Scri
     ensures read { IfOk result (λ script. IsScriptOf (F.bytes_of shelf.old name.now) script) }
     ensures can_run { IfOk result CanRun }
     ensures refused { IfErr result (StopsAtScript (F.bytes_of shelf.old name.now)) }
+    ensures one { F.reads name.now shelf.old shelf.new }
     ensures fault { result ≡ Err Outcome.ReadFault → Rose (F.faults shelf.old) (F.faults shelf.new) }
 {
     let bytes = match shelf.read(name) {
@@ -50,8 +53,8 @@ fn read_lives<F: Shelf>(alloc: Global, shelf: &mut F, name: &str) -> Result<Scri
     }
 }
 
-/// Reads the settings and the script of two files, the settings first. A refusal is the outcome that it
-/// makes.
+/// Reads the settings and the script of two files, the settings first, and no other file. A refusal is the
+/// outcome that it makes.
 pub fn read_inputs<F: Shelf>(
     alloc: Global,
     shelf: &mut F,
@@ -63,6 +66,7 @@ pub fn read_inputs<F: Shelf>(
     ensures script { IfOk result (λ inputs. IsScriptOf (F.bytes_of shelf.old script.now) inputs.1) }
     ensures can_run { IfOk result (λ inputs. CanRun inputs.1) }
     ensures refused { IfErr result (StopsEarly (F.bytes_of shelf.old) cluster.now script.now) }
+    ensures order { AreRead F.reads (Some (Run cluster.now script.now)) shelf.old shelf.new }
     ensures fault { result ≡ Err Outcome.ReadFault → Rose (F.faults shelf.old) (F.faults shelf.new) }
 {
     let settings = read_settings(alloc, shelf, cluster)?;

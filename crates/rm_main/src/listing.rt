@@ -1,7 +1,7 @@
 ghost use Rattle.std.specs.Prelude.{◌≡◌, [], IsOk, IfErr, None};
 ghost use Rattle.rm_disk.specs.Disk.{IsQuiet, Tells};
-ghost use Rattle.rm_model.specs.Device.{Holds};
-ghost use Rattle.rm_plain.specs.Starts.{DiskStays, IsUnopenedBy};
+ghost use Rattle.rm_formats.specs.Device.{Holds};
+ghost use Rattle.rm_plain.specs.Starts.{DiskStays, IsAtEase, IsUnopenedBy};
 ghost use Rattle.rm_store.specs.Store.{seen};
 
 use rm_disk::{Disk, Fuse};
@@ -23,11 +23,12 @@ pub struct Listing<D: Disk> {
 pub fn list_store<D: Disk>(alloc: Global, disk: Fuse<D>) -> Listing<D>
     requires { disk.armed ≡ None }
     ensures holds { IsOk result.ended → Tells (seen D.view disk) (λ bytes. Holds bytes result.ops) }
-    ensures stopped { IfErr result.ended (IsUnopenedBy (seen D.view disk) (seen D.view result.disk)) }
+    ensures stopped { IfErr result.ended (IsUnopenedBy D.view disk result.disk) }
     ensures empty { IfErr result.ended (λ _. result.ops ≡ []) }
     ensures quiet { IsQuiet (seen D.view disk) (seen D.view result.disk) }
     ensures stays { DiskStays D.view disk result.disk }
     ensures falls { result.disk.falls ≡ disk.falls }
+    ensures at_ease { IsAtEase result.disk }
 {
     let mut disk = disk;
     disk.disarm();

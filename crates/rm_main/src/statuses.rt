@@ -23,36 +23,71 @@ pub fn status_of(outcome: Outcome) -> u8
     }
 }
 
+/// What is known of a call beside its outcome, for who reads standard error.
+#[derive(Clone, Copy)]
+pub struct Told<'a> {
+    /// The program's path, as it was called.
+    pub program: &'a str,
+    /// The names of the cluster file and of the script's, empty where the words don't have them.
+    pub cluster: &'a str,
+    pub script: &'a str,
+    /// The file that could not be read.
+    pub unread: &'a str,
+    /// What should stand in the place of what was refused.
+    pub hint: &'a str,
+}
+
 /// Writes one line about an outcome other than Done to standard error. Where that can't be written the
 /// exit status alone tells it.
-pub fn explain<R: Eprint>(rt: &R, outcome: Outcome) {
+pub fn explain<R: Eprint>(rt: &R, outcome: Outcome, told: Told<'_>) {
+    let Told {
+        program,
+        cluster,
+        script,
+        unread,
+        hint,
+    } = told;
     let _ = match outcome {
         Outcome::Done => return,
-        Outcome::Usage => eprintln!(rt; "rm: usage: rm plain CLUSTER SCRIPT | rm store"),
-        Outcome::ReadFault => eprintln!(rt; "rm: a file could not be read"),
+        Outcome::Usage => eprintln!(rt;
+            "{program}: usage: {program} plain CLUSTER SCRIPT | {program} store"
+        ),
+        Outcome::ReadFault => eprintln!(rt; "{program}: the file could not be read: {unread}"),
         Outcome::WriteFault {
             took_nothing: false,
-        } => eprintln!(rt; "rm: the page could not be written"),
+        } => eprintln!(rt; "{program}: the page could not be written"),
         Outcome::WriteFault { took_nothing: true } => eprintln!(rt;
-            "rm: the output takes nothing of the page"
+            "{program}: the output takes nothing of the page"
         ),
         Outcome::ClusterRefused { place } => eprintln!(rt;
-            "rm: the cluster file is refused, at place {place}"
+            "{program}: the cluster file {cluster} is refused at place {place}: expected {hint}"
         ),
         Outcome::ScriptRefused { line } => eprintln!(rt;
-            "rm: the script is refused, at line {line}"
+            "{program}: the script {script} is refused at line {line}: {hint}"
         ),
+        other => return explain_device(rt, other, program),
+    };
+}
+
+/// The same of what the device, its store or memory stopped.
+fn explain_device<R: Eprint>(rt: &R, outcome: Outcome, program: &str) {
+    let _ = match outcome {
         Outcome::ScheduleRefused { place } => eprintln!(rt;
-            "rm: the schedule is refused, at byte {place}"
+            "{program}: the schedule is refused at byte {place}"
         ),
-        Outcome::DiskFault => eprintln!(rt; "rm: the store's device failed"),
+        Outcome::DiskFault => eprintln!(rt; "{program}: the store's device failed"),
+        Outcome::StoreDamaged { offset: u64::MAX } => eprintln!(rt;
+            "{program}: an application in the store has an attempt or an end, over which no life can begin yet"
+        ),
         Outcome::StoreDamaged { offset } => eprintln!(rt;
-            "rm: the store is damaged, at offset {offset}"
+            "{program}: the device holds no store: it is damaged at offset {offset}"
         ),
         Outcome::StoreFull { needed, room } => eprintln!(rt;
-            "rm: the store is full: {needed} bytes are needed, {room} are left"
+            "{program}: the store is full: {needed} bytes are needed, {room} are left"
         ),
-        Outcome::EpochsSpent => eprintln!(rt; "rm: the store's epochs are used up"),
-        Outcome::Memory => eprintln!(rt; "rm: out of memory"),
+        Outcome::EpochsSpent => eprintln!(rt;
+            "{program}: no epoch, or no stamp, is left for one more life"
+        ),
+        _ => eprintln!(rt; "{program}: out of memory"),
     };
 }

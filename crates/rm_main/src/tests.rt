@@ -1,8 +1,9 @@
 use crate::top::top_plain;
-use rm_disk::{Fuse, MemDisk};
+use rm_disk::{Disk, DiskError, Fuse, MemDisk};
 use rm_outside::{MemShelf, MemSink, NamedFile};
 use rm_types::{Items, Outcome, Text};
 use std::alloc::Global;
+use std::process::Abort;
 use std::test::Fail;
 
 /// A device in memory: it begins with these bytes, behind which stand zeros.
@@ -105,11 +106,30 @@ fn run(alloc: Global, case: &Case<'_>) -> Result<Left, Fail> {
     run_on(alloc, case, device_of(alloc, case.device)?)
 }
 
+/// Checks that a device begins with these bytes.
+fn begins(rt: &impl Abort, device: MemDisk, wanted: &[u8; 20]) {
+    let mut device = device;
+    assert!(rt; device.size() >= 20);
+    let mut bytes = [255; 20];
+    assert_eq!(rt; device.read(0, &mut bytes), Ok(()));
+    assert_eq!(rt; bytes, *wanted);
+}
+
 #[test]
-fn an_empty_script_writes_nothing(rt: HostRuntime) -> Result<(), Fail> {
-    let left = run(rt.alloc(), &plain(""))?;
+fn an_empty_script_makes_no_call_of_the_device(rt: HostRuntime) -> Result<(), Fail> {
+    let case = Case {
+        device: Device {
+            failing: &[1],
+            ..EMPTY
+        },
+        ..plain("")
+    };
+    let left = run(rt.alloc(), &case)?;
     assert_eq!(rt; left.outcome, Outcome::Done);
     assert!(rt; left.taken.is_empty());
+    // The first call is still to come, and fails.
+    let mut device = left.device;
+    assert_eq!(rt; device.sync(), Err(DiskError::DiskFault));
     Ok(())
 }
 
@@ -144,6 +164,12 @@ fn a_second_write_that_fails_leaves_the_first_piece(rt: HostRuntime) -> Result<(
         }
     );
     assert_eq!(rt; left.taken.as_slice(), b"opened lan".as_slice());
+    // The device keeps the epoch of the life, under the stamp 5.
+    begins(
+        &rt,
+        left.device,
+        &[1, 0, 0, 0, 13, 1, 0, 0, 0, 1, 0, 0, 0, 0, 0, 0, 0, 5, 0, 0],
+    );
     Ok(())
 }
 
@@ -470,6 +496,15 @@ const LAST_STAMP: [u8; 18] = [
 /// The record that takes application_1410901177871_0001 away.
 const REMOVE: [u8; 18] = [1, 0, 0, 0, 13, 6, 0, 0, 1, 72, 128, 67, 118, 15, 0, 0, 0, 1];
 
+/// The records of an application and of an attempt of it: its master's container is number 1 of epoch 1, on
+/// the node n:1.
+const IN_FLIGHT: [u8; 92] = [
+    1, 0, 0, 0, 47, 2, 0, 0, 1, 72, 128, 67, 118, 15, 0, 0, 0, 1, 0, 1, b'u', 0, 12, b'r', b'o',
+    b'o', b't', b'.', b'd', b'e', b'f', b'a', b'u', b'l', b't', 0, 1, b'j', 0, 0, 4, 0, 0, 0, 0, 1,
+    0, 0, 0, 0, 0, 0, 1, 0, 0, 0, 34, 3, 0, 0, 1, 72, 128, 67, 118, 15, 0, 0, 0, 1, 0, 0, 0, 1, 0,
+    0, 0, 1, 0, 0, 0, 0, 0, 0, 0, 1, 0, 3, b'n', b':', b'1', 0,
+];
+
 #[test]
 fn a_device_stops_a_run_before_its_log(rt: HostRuntime) -> Result<(), Fail> {
     let damaged = Outcome::StoreDamaged { offset: 0 };
@@ -478,6 +513,7 @@ fn a_device_stops_a_run_before_its_log(rt: HostRuntime) -> Result<(), Fail> {
         (&[1, 255, 255, 255, 255], &[], damaged),
         (&REMOVE, &[], damaged),
         (&[], &[1], Outcome::DiskFault),
+        (&IN_FLIGHT, &[], Outcome::StoreDamaged { offset: u64::MAX }),
     ] {
         let case = Case {
             device: Device {
@@ -490,7 +526,52 @@ fn a_device_stops_a_run_before_its_log(rt: HostRuntime) -> Result<(), Fail> {
         let left = run(rt.alloc(), &case)?;
         assert_eq!(rt; left.outcome, outcome);
         assert!(rt; left.taken.is_empty());
+        let mut handed = [0; 20];
+        for (place, byte) in handed.iter_mut().zip(bytes) {
+            *place = *byte;
+        }
+        begins(&rt, left.device, &handed);
     }
+    Ok(())
+}
+
+#[test]
+fn a_damaged_store_is_not_listed(rt: HostRuntime) -> Result<(), Fail> {
+    let case = Case {
+        words: &["store"],
+        device: Device {
+            bytes: &[1, 255, 255, 255, 255],
+            ..EMPTY
+        },
+        ..plain("")
+    };
+    let left = run(rt.alloc(), &case)?;
+    assert_eq!(rt; left.outcome, Outcome::StoreDamaged { offset: 0 });
+    assert!(rt; left.taken.is_empty());
+    Ok(())
+}
+
+#[test]
+fn a_life_begins_on_the_last_epoch(rt: HostRuntime) -> Result<(), Fail> {
+    let case = Case {
+        device: Device {
+            bytes: &LAST_EPOCH,
+            ..EMPTY
+        },
+        ..plain(ONE_LIFE)
+    };
+    let left = run(rt.alloc(), &case)?;
+    assert_eq!(rt; left.outcome, Outcome::Done);
+    assert_eq!(rt;
+        left.taken.as_slice(),
+        b"\
+opened landed=0 epoch=16777215 stamp=1410901177872
+issued epoch next=16777216 stamp=1410901177872
+kept epoch next=16777216 stamp=1410901177872
+settled
+"
+            .as_slice()
+    );
     Ok(())
 }
 

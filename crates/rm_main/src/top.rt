@@ -1,17 +1,21 @@
-ghost use Rattle.std.specs.Prelude.{◌≡◌, ◌≢◌, ◌++◌, [], map, string_bytes, false, true, None, Some};
+ghost use Rattle.std.specs.Prelude.{◌≡◌, ◌≢◌, ◌⊎◌, ◌++◌, [], map, string_bytes, false, true, None, Some};
 ghost use Rattle.rm_disk.specs.Disk.{IsQuiet, Tells};
-ghost use Rattle.rm_model.specs.Device.{Holds};
+ghost use Rattle.rm_formats.specs.Device.{Holds};
 ghost use Rattle.rm_model.specs.Downs.{AllGoDownAtRest};
 ghost use Rattle.rm_model.specs.Lawful.{Lawful, IsDone};
-ghost use Rattle.rm_model.specs.Page.{page, store_page};
+ghost use Rattle.rm_formats.specs.Page.{page, store_page};
 ghost use Rattle.rm_model.specs.State.{opening_state};
 ghost use Rattle.rm_types.specs.Counts.{Rose};
 ghost use Rattle.rm_plain.specs.Along.{CanRun};
 ghost use Rattle.rm_plain.specs.Falls.{falls_of};
-ghost use Rattle.rm_plain.specs.Starts.{DiskStays};
-ghost use Rattle.rm_plain.specs.Whole.{SurvivesAll, SurvivesNow};
+ghost use Rattle.rm_types.specs.Records.{records};
+ghost use Rattle.rm_core.specs.InFlight.{AllPlain};
+ghost use Rattle.rm_plain.specs.Starts.{DiskStays, IsAtEase};
+ghost use Rattle.rm_plain.specs.Stops.{IsDue};
+ghost use Rattle.rm_plain.specs.Survives.{SurvivesAll, SurvivesNow};
 ghost use Rattle.rm_store.specs.Store.{seen};
-ghost use Rattle.rm_main.specs.Runs.{Ends, IsCausedBy, StopsBefore, Writes, page_for};
+ghost use Rattle.rm_main.specs.Complete.{HasPlace, IsAccepted, NoneRose};
+ghost use Rattle.rm_main.specs.Runs.{AreRead, Ends, IsCausedBy, IsListed, StopsBefore, Writes, page_for};
 ghost use Rattle.rm_main.specs.Ways.{IsOfListing, IsOfRun};
 ghost use Rattle.rm_main.specs.Words.{Run, Listing, mode_of};
 
@@ -57,15 +61,16 @@ fn list<K: Sink, D: Disk>(alloc: Global, sink: &mut K, disk: Fuse<D>) -> Ended<D
     requires { disk.armed ≡ None }
     ensures log { result.log ≡ [] }
     ensures of_listing { IsOfListing result.outcome }
-    ensures falls { result.disk.falls ≡ disk.falls }
-    ensures quiet { IsQuiet (seen D.view disk) (seen D.view result.disk) }
-    ensures stays { DiskStays D.view disk result.disk }
-    ensures opening { result.outcome ≡ Outcome.Done → Tells (seen D.view disk) (λ bytes. Holds bytes result.opening) }
-    ensures causes { IsCausedBy (seen D.view disk) (seen D.view result.disk) result.opening [] result.outcome }
+    ensures listed { IsListed D.view (record { opening = result.opening; log = result.log; before = disk; after = result.disk }) result.outcome }
     ensures writes { Writes result.outcome (K.taken sink.old) (K.taken sink.new) (store_page result.opening) }
     ensures write_fault { result.outcome ≡ Outcome.WriteFault false → Rose (K.faults sink.old) (K.faults sink.new) }
     ensures took_nothing { result.outcome ≡ Outcome.WriteFault true → Rose (K.idle sink.old) (K.idle sink.new) }
     ensures untouched { store_page result.opening ≡ [] → sink.new ≡ sink.old }
+    ensures falls { result.disk.falls ≡ disk.falls }
+    ensures quiet { IsQuiet (seen D.view disk) (seen D.view result.disk) }
+    ensures stays { DiskStays D.view disk result.disk }
+    ensures at_ease { IsAtEase result.disk }
+    ensures held { (result.opening ≡ []) ⊎ Tells (seen D.view disk) (λ bytes. Holds bytes result.opening) }
 {
     let listed = list_store(alloc, disk);
     let written = write_store(alloc, sink, &listed.ops);
@@ -91,17 +96,22 @@ fn run<K: Sink, D: Disk>(
     ensures lawful { Lawful settings script result.opening result.log }
     ensures done { result.outcome ≡ Outcome.Done → IsDone settings script result.opening result.log }
     ensures downs { AllGoDownAtRest settings (opening_state result.opening) result.log }
-    ensures falls { result.disk.falls ≡ disk.falls ++ falls_of script result.opening result.log }
-    ensures stays { DiskStays D.view disk result.disk }
-    ensures opening { result.log ≢ [] → Tells (seen D.view disk) (λ bytes. Holds bytes result.opening) }
-    ensures images { result.outcome ≡ Outcome.Done → SurvivesAll result.opening result.log (seen D.view disk) (seen D.view result.disk) }
-    ensures images_now { result.outcome ≡ Outcome.Done → SurvivesNow result.opening result.log (seen D.view disk) (seen D.view result.disk) }
     ensures of_run { IsOfRun result.outcome }
-    ensures causes { IsCausedBy (seen D.view disk) (seen D.view result.disk) result.opening result.log result.outcome }
+    ensures causes { IsCausedBy D.view (IsDue script result.opening result.log) (record { opening = result.opening; log = result.log; before = disk; after = result.disk }) result.outcome }
     ensures writes { Writes result.outcome (K.taken sink.old) (K.taken sink.new) (page result.log false) }
     ensures write_fault { result.outcome ≡ Outcome.WriteFault false → Rose (K.faults sink.old) (K.faults sink.new) }
     ensures took_nothing { result.outcome ≡ Outcome.WriteFault true → Rose (K.idle sink.old) (K.idle sink.new) }
     ensures untouched { page result.log false ≡ [] → sink.new ≡ sink.old }
+    ensures falls { result.disk.falls ≡ disk.falls ++ falls_of script result.opening result.log }
+    ensures idle { script.lives ≡ [] → (result.log ≡ []) × (result.disk ≡ disk) }
+    ensures stays { DiskStays D.view disk result.disk }
+    ensures unarmed { result.disk.armed ≡ None }
+    ensures unblown { disk.blown ≡ false → result.disk.blown ≡ false }
+    ensures opening { result.log ≢ [] → AllPlain (records result.opening).apps × Tells (seen D.view disk) (λ bytes. Holds bytes result.opening) }
+    ensures held { (result.opening ≡ []) ⊎ Tells (seen D.view disk) (λ bytes. Holds bytes result.opening) }
+    ensures quiet { result.log ≡ [] → IsQuiet (seen D.view disk) (seen D.view result.disk) }
+    ensures images { SurvivesAll result.opening result.log (seen D.view disk) (seen D.view result.disk) }
+    ensures images_now { SurvivesNow result.opening result.log (seen D.view disk) (seen D.view result.disk) }
 {
     let made = run_script(alloc, settings, script, disk);
     let written = write_page(alloc, sink, &made.log);
@@ -123,18 +133,22 @@ fn plain<F: Shelf, K: Sink, D: Disk>(
     disk: Fuse<D>,
 ) -> Ended<D>
     requires { disk.armed ≡ None }
-    ensures ends { Ends (F.bytes_of shelf.old) (Some (Run cluster.now script.now)) (record { opening = result.opening; log = result.log; before = disk.falls; falls = result.disk.falls }) result.outcome }
+    ensures ends { Ends D.view (F.bytes_of shelf.old) (Some (Run cluster.now script.now)) (record { opening = result.opening; log = result.log; before = disk; after = result.disk }) result.outcome }
+    ensures reads { AreRead F.reads (Some (Run cluster.now script.now)) shelf.old shelf.new }
     ensures writes { Writes result.outcome (K.taken sink.old) (K.taken sink.new) (page result.log false) }
-    ensures causes { IsCausedBy (seen D.view disk) (seen D.view result.disk) result.opening result.log result.outcome }
     ensures read_fault { result.outcome ≡ Outcome.ReadFault → Rose (F.faults shelf.old) (F.faults shelf.new) }
     ensures write_fault { result.outcome ≡ Outcome.WriteFault false → Rose (K.faults sink.old) (K.faults sink.new) }
     ensures took_nothing { result.outcome ≡ Outcome.WriteFault true → Rose (K.idle sink.old) (K.idle sink.new) }
     ensures untouched { page result.log false ≡ [] → sink.new ≡ sink.old }
     ensures unused { StopsBefore result.outcome → result.disk ≡ disk }
     ensures stays { DiskStays D.view disk result.disk }
-    ensures opening { result.log ≢ [] → Tells (seen D.view disk) (λ bytes. Holds bytes result.opening) }
-    ensures images { result.outcome ≡ Outcome.Done → SurvivesAll result.opening result.log (seen D.view disk) (seen D.view result.disk) }
-    ensures images_now { result.outcome ≡ Outcome.Done → SurvivesNow result.opening result.log (seen D.view disk) (seen D.view result.disk) }
+    ensures unarmed { result.disk.armed ≡ None }
+    ensures unblown { disk.blown ≡ false → result.disk.blown ≡ false }
+    ensures opening { result.log ≢ [] → AllPlain (records result.opening).apps × Tells (seen D.view disk) (λ bytes. Holds bytes result.opening) }
+    ensures held { (result.opening ≡ []) ⊎ Tells (seen D.view disk) (λ bytes. Holds bytes result.opening) }
+    ensures quiet { result.log ≡ [] → IsQuiet (seen D.view disk) (seen D.view result.disk) }
+    ensures images { SurvivesAll result.opening result.log (seen D.view disk) (seen D.view result.disk) }
+    ensures images_now { SurvivesNow result.opening result.log (seen D.view disk) (seen D.view result.disk) }
 {
     match read_inputs(alloc, shelf, cluster, script) {
         Ok((settings, script)) => run(alloc, settings, script, sink, disk),
@@ -152,22 +166,28 @@ fn plain<F: Shelf, K: Sink, D: Disk>(
 ///   script is at its end, nothing awaits and nothing is owed. `Usage`: exactly where the words are of
 ///   another form. `ClusterRefused` and `ScriptRefused`: exactly where the file, as the shelf tells it,
 ///   breaks a rule or is no script, with the first rule's place or the first line; the cluster file is read
-///   first. The others: as below.
+///   first. `DiskFault`: the device inside the fuse counted a fault, while a life was due or an operation was
+///   with the store. `StoreDamaged`: a life was due, and the device holds no store, at the offset of a fault
+///   that the store names; or, at 2^64 - 1, one in which an application has an attempt or an end. `StoreFull`: the operation
+///   that is with the store needs more than is left behind what is kept. `EpochsSpent`: a life was due, and
+///   no epoch or stamp is left. `Memory` is free. Of a script without lives no call of the device is made.
+/// - `complete`: where the files are accepted, the device holds a store with place for the run, and no count
+///   rises, the outcome is `Done` or `Memory`.
+/// - `reads`: the cluster file was read, and then the script's file, or the first alone; else no file.
+///   `read_fault`: a `ReadFault` comes only where the shelf's count of faults rose; `write_fault` and
+///   `took_nothing`: a `WriteFault` only where one of the sink's counts did, that of faults, or that of idle
+///   writes.
 /// - `writes`: the sink took the page of the log, or of `store` the page of what is kept; after a
 ///   `WriteFault` or `Memory` a beginning of it; where nothing was run, nothing. `untouched`: where that
 ///   page is empty, the sink is as it was.
-/// - `causes`: a `DiskFault` comes only where the device's count of faults rose, while the fuse refused
-///   nothing (`stays`); `StoreDamaged`, where the device holds no store, at the offset of its first fault,
-///   or one that no life can begin over; `StoreFull`, where the operation that awaits needs more than is
-///   left; `EpochsSpent`, where no epoch or stamp is left. A `ReadFault` comes only where the shelf's count
-///   of faults rose, a `WriteFault` only where one of the sink's counts did: that of faults, or with
-///   `took_nothing` that of idle writes. `Memory` is free.
-/// - `unused`: where the words or a file stop the call, the device is as it was.
-/// - `opening`: a device whose store was used held the opening list.
-/// - `images` and `images_now`: at each moment of a run that is `Done` a crash left what could be left of the
-///   handed device, or what is kept at some moment of the log, or this and the operation that awaited; and
-///   it leaves now what is kept, or this and the operation that awaits.
-/// - `told`: `store` changes no byte of the device.
+/// - `unused`: where the words or a file stop the call, the device is as it was. `quiet`: where nothing was
+///   logged, and so by `store`, no byte of it changed. `stays`: it fell only where a life went down, and the
+///   fuse, which is given back unarmed, refused nothing.
+/// - `opening`: a device on which something was logged held the opening list, in which no application has an
+///   attempt or an end. `held`: the opening list is empty, or the device held it.
+/// - `images` and `images_now`, for every outcome: at each moment of the call a crash left what could be left
+///   of the handed device, or what is kept at some moment of the log, or this and the operation that awaited;
+///   and where something was logged it leaves now what is kept, or this and the operation that awaits.
 pub fn top_plain<F: Shelf, K: Sink, D: Disk>(
     alloc: Global,
     words: &[String],
@@ -176,9 +196,12 @@ pub fn top_plain<F: Shelf, K: Sink, D: Disk>(
     disk: Fuse<D>,
 ) -> Ended<D>
     requires { disk.armed ≡ None }
-    ensures ends { Ends (F.bytes_of shelf.old) (mode_of (map string_bytes words.now)) (record { opening = result.opening; log = result.log; before = disk.falls; falls = result.disk.falls }) result.outcome }
+    ensures ends { Ends D.view (F.bytes_of shelf.old) (mode_of (map string_bytes words.now)) (record { opening = result.opening; log = result.log; before = disk; after = result.disk }) result.outcome }
+    ensures complete { IsAccepted (F.bytes_of shelf.old) (mode_of (map string_bytes words.now)) → HasPlace D.view (record { opening = result.opening; log = result.log; before = disk; after = result.disk })
+        → NoneRose (F.faults shelf.old) (F.faults shelf.new) (K.faults sink.old) (K.faults sink.new) (K.idle sink.old) (K.idle sink.new)
+        → (result.outcome ≡ Outcome.Done) ⊎ (result.outcome ≡ Outcome.Memory) }
+    ensures reads { AreRead F.reads (mode_of (map string_bytes words.now)) shelf.old shelf.new }
     ensures writes { Writes result.outcome (K.taken sink.old) (K.taken sink.new) (page_for (mode_of (map string_bytes words.now)) result.opening result.log) }
-    ensures causes { IsCausedBy (seen D.view disk) (seen D.view result.disk) result.opening result.log result.outcome }
     ensures read_fault { result.outcome ≡ Outcome.ReadFault → Rose (F.faults shelf.old) (F.faults shelf.new) }
     ensures write_fault { result.outcome ≡ Outcome.WriteFault false → Rose (K.faults sink.old) (K.faults sink.new) }
     ensures took_nothing { result.outcome ≡ Outcome.WriteFault true → Rose (K.idle sink.old) (K.idle sink.new) }
@@ -187,11 +210,13 @@ pub fn top_plain<F: Shelf, K: Sink, D: Disk>(
     // What becomes of the device.
     ensures unused { StopsBefore result.outcome → result.disk ≡ disk }
     ensures stays { DiskStays D.view disk result.disk }
-    ensures opening { result.log ≢ [] → Tells (seen D.view disk) (λ bytes. Holds bytes result.opening) }
-    ensures listed { mode_of (map string_bytes words.now) ≡ Some Listing → result.outcome ≡ Outcome.Done → Tells (seen D.view disk) (λ bytes. Holds bytes result.opening) }
-    ensures told { mode_of (map string_bytes words.now) ≡ Some Listing → (seen D.view result.disk).told ≡ (seen D.view disk).told }
-    ensures images { result.outcome ≡ Outcome.Done → SurvivesAll result.opening result.log (seen D.view disk) (seen D.view result.disk) }
-    ensures images_now { result.outcome ≡ Outcome.Done → SurvivesNow result.opening result.log (seen D.view disk) (seen D.view result.disk) }
+    ensures unarmed { result.disk.armed ≡ None }
+    ensures unblown { disk.blown ≡ false → result.disk.blown ≡ false }
+    ensures opening { result.log ≢ [] → AllPlain (records result.opening).apps × Tells (seen D.view disk) (λ bytes. Holds bytes result.opening) }
+    ensures held { (result.opening ≡ []) ⊎ Tells (seen D.view disk) (λ bytes. Holds bytes result.opening) }
+    ensures quiet { result.log ≡ [] → IsQuiet (seen D.view disk) (seen D.view result.disk) }
+    ensures images { SurvivesAll result.opening result.log (seen D.view disk) (seen D.view result.disk) }
+    ensures images_now { SurvivesNow result.opening result.log (seen D.view disk) (seen D.view result.disk) }
 {
     match mode_of(words) {
         Some(Mode::Plain { cluster, script }) => plain(alloc, cluster, script, shelf, sink, disk),

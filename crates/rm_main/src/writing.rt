@@ -1,5 +1,5 @@
 ghost use Rattle.std.specs.Prelude.{◌≡◌, [], false, true};
-ghost use Rattle.rm_model.specs.Page.{page, store_page};
+ghost use Rattle.rm_formats.specs.Page.{page, store_page};
 ghost use Rattle.rm_types.specs.Counts.{Rose};
 ghost use Rattle.rm_main.specs.Runs.{Writes};
 ghost use Rattle.rm_main.specs.Ways.{IsOfWriting, outcome_of, outcome_of_stop};

@@ -1,0 +1,106 @@
+-- A run that nothing stands in the way of is Done, or memory ran out.
+use Rattle.std.proofs.Common.{◌≡◌, ◌⊎◌, ◌<◌, ◌≤◌, ℕ, List, [], Option, Some, None, Bool, true, false, inl, inr, refl, sym, ◌∙◌, ap, subst, arith, ⊎_elim}
+use Rattle.rm_types.specs.declared.operations.Op.{Op}
+use Rattle.rm_types.specs.declared.outcomes.Outcome.{Outcome}
+use Rattle.rm_types.specs.declared.outcomes.Outcome.TheVariants.{Done, Usage, ReadFault, WriteFault, ClusterRefused, ScriptRefused, ScheduleRefused, DiskFault, StoreDamaged, StoreFull, EpochsSpent, Memory}
+use Rattle.rm_types.specs.declared.scripts.Script.{Script}
+use Rattle.rm_types.specs.declared.settings.Settings.{Settings}
+use Rattle.rm_types.specs.Counts.{Rose}
+use Rattle.rm_disk.specs.Disk.{DiskView}
+use Rattle.rm_formats.specs.Device.{Holds}
+use Rattle.rm_model.specs.Lawful.{state_after}
+use Rattle.rm_outside.specs.Shelves.{bytes_read}
+use Rattle.rm_cluster.specs.Clusters.{Breaks, HoldsNone, IsCluster, IsNoCluster}
+use Rattle.rm_cluster.specs.declared.clusters.ClusterError.TheVariants.{Refused}
+use Rattle.rm_cluster.specs.Rules.{first_broken}
+use Rattle.rm_script.specs.Refusals.{IsFirstRefused}
+use Rattle.rm_script.specs.Scripts.{IsScript}
+use Rattle.rm_script.proofs.Answered.{not_both}
+use Rattle.rm_store.proofs.Faultless.{never_damaged, never_stray}
+use Rattle.rm_store.specs.Store.{needed_for, room_behind}
+use Rattle.rm_plain.specs.Keeping.{IsFull}
+use Rattle.rm_plain.specs.Stops.{IsDue, IsNoStore, IsTold}
+use Rattle.rm_main.specs.Complete.{IsAccepted, HasPlace, NoneRose}
+use Rattle.rm_main.specs.Runs.{Ends, HasNoScript, HasNoSettings, Made, Ran, Told, WasToList, WereRead}
+use Rattle.rm_main.specs.Words.{Asked, Run, Listing}
+
+-- the names that are asked for
+abbrev cluster_of : Option Asked → List ℕ
+cluster_of (Some (Run cluster script)) = cluster
+cluster_of _ = []
+
+abbrev script_of : Option Asked → List ℕ
+script_of (Some (Run cluster script)) = script
+script_of _ = []
+
+-- what was read of a file whose bytes are told
+read_is : (told : Option (List ℕ)) (bytes all : List ℕ) → told ≡ Some all → WereRead told bytes → bytes ≡ bytes_read all
+read_is told bytes all is read = let now = subst (λ (o : Option (List ℕ)). WereRead o bytes) is read in now
+
+-- bytes that hold settings break no rule
+apart : (bytes : List ℕ) (settings : Settings) (place : ℕ) → IsCluster bytes settings → IsNoCluster bytes (Refused place) → ⊥
+apart bytes settings place is (inl none) = let never = sym (none.1 is.holds.short is.holds.utf8) ∙ is.holds.value in cc
+apart bytes settings place is (inr breaks) =
+    let one = sym is.holds.value ∙ breaks.holds.value in
+    let same : is.file ≡ breaks.file = cc in
+    let broken : first_broken is.file ≡ Some place = rw same breaks.broken in
+    let never = sym is.settled.unbroken ∙ broken in cc
+
+-- a store is none at no offset
+a_store : (bytes : List ℕ) (ops : List Op) (offset : ℕ) → Holds bytes ops → IsNoStore offset bytes → ⊥
+a_store bytes ops offset holds why = ⊎_elim (λ damaged. never_damaged bytes ops holds offset damaged) (λ stray. never_stray bytes ops holds stray.0 offset stray.1) why
+
+module _ {D : Type 0} (view : D → DiskView) (told : Told) (asked : Option Asked) (made : Made D) (accepted : IsAccepted told asked) (place : HasPlace view made) where
+  no_list : {P : Type 0} → asked ≡ Some Listing → P
+  no_list is = absurd (let never = sym accepted.asks ∙ is in cc)
+
+  same_names : (cluster script : List ℕ) → asked ≡ Some (Run cluster script) → (cluster ≡ accepted.cluster_file) × (script ≡ accepted.script_file)
+  same_names cluster script is = (ap cluster_of (sym is ∙ accepted.asks), ap script_of (sym is ∙ accepted.asks))
+
+  no_bad_cluster : (cluster script : List ℕ) → asked ≡ Some (Run cluster script) → (at : ℕ) → HasNoSettings (told cluster) at → ⊥
+  no_bad_cluster cluster script is at none =
+      let same : told cluster ≡ Some accepted.cluster_bytes = ap told (same_names cluster script is).0 ∙ accepted.cluster_told in
+      let read = read_is (told cluster) none.bytes accepted.cluster_bytes same none.read in
+      apart (bytes_read accepted.cluster_bytes) accepted.settings at accepted.of_cluster (subst (λ (l : List ℕ). IsNoCluster l (Refused at)) read none.none)
+
+  no_bad_script : (cluster script : List ℕ) → asked ≡ Some (Run cluster script) → (line : ℕ) → HasNoScript (told script) line → ⊥
+  no_bad_script cluster script is line none =
+      let same : told script ≡ Some accepted.script_bytes = ap told (same_names cluster script is).1 ∙ accepted.script_told in
+      let read = read_is (told script) none.bytes accepted.script_bytes same none.read in
+      not_both (bytes_read accepted.script_bytes) accepted.script line accepted.of_script (subst (λ (l : List ℕ). IsFirstRefused l line) read none.none)
+
+  no_fault : Ran view told asked made DiskFault → ⊥
+  no_fault ran = place.faultless ran.caused.0
+
+  no_damage : (offset : ℕ) → Ran view told asked made (StoreDamaged offset) → ⊥
+  no_damage offset ran =
+      ⊎_elim (λ none. a_store place.bytes place.ops offset place.holds none.2) (λ cannot. cannot.2 place.plain) (ran.caused.1 place.bytes place.told)
+
+  no_full : (needed room : ℕ) → Ran view told asked made (StoreFull needed room) → ⊥
+  no_full needed room ran =
+      let full : IsFull (IsTold (view made.before.inner)) made.opening made.log (view made.after.inner).size needed room = ran.caused in
+      let behind = ran.caused.behind (place.bytes, place.told) in
+      let enough = place.room ran.caused.op ran.caused.handed.first in
+      let less = ran.caused.less in
+      let needs = ran.caused.needs in
+      absurd (omega (arith, behind, enough, less, needs))
+
+  no_spent : Ran view told asked made EpochsSpent → ⊥
+  no_spent ran = place.some_left ran.caused.1.1
+
+  module _ (read_old read_new write_old write_new idle_old idle_new : ℕ) (none : NoneRose read_old read_new write_old write_new idle_old idle_new) where
+    pub complete : (outcome : Outcome) → Ends view told asked made outcome → (outcome ≡ ReadFault → Rose read_old read_new) → (outcome ≡ WriteFault false → Rose write_old write_new)
+        → (outcome ≡ WriteFault true → Rose idle_old idle_new) → (outcome ≡ Done) ⊎ (outcome ≡ Memory)
+    complete Done ends read write idle = inl refl
+    complete Memory ends read write idle = inr refl
+    complete Usage ends read write idle = absurd (let never = sym accepted.asks ∙ ends.0 in cc)
+    complete ReadFault ends read write idle = absurd (none.reads (read refl))
+    complete (WriteFault true) ends read write idle = absurd (none.idle (idle refl))
+    complete (WriteFault false) ends read write idle = absurd (none.writes (write refl))
+    complete (ClusterRefused at) ends read write idle = absurd (no_bad_cluster ends.cluster_file ends.script_file ends.asks at ends.refused)
+    complete (ScriptRefused line) ends read write idle = absurd (no_bad_script ends.cluster_file ends.script_file ends.asks line ends.refused)
+    complete (ScheduleRefused at) ends read write idle = absurd ends
+    complete DiskFault ends read write idle = ⊎_elim (λ ran. absurd (no_fault ran)) (λ list. no_list list.asks) ends
+    complete (StoreDamaged offset) ends read write idle = ⊎_elim (λ ran. absurd (no_damage offset ran)) (λ list. no_list list.asks) ends
+    complete (StoreFull needed room) ends read write idle = absurd (no_full needed room ends)
+    complete EpochsSpent ends read write idle = absurd (no_spent ends)

@@ -1,0 +1,50 @@
+-- A run that nothing stands in the way of.
+use Rattle.std.specs.Prelude.{◌≡◌, ◌≤◌, ℕ, List, Option, Some, slice_get}
+use Rattle.rm_types.specs.declared.operations.Op.{Op}
+use Rattle.rm_types.specs.declared.scripts.Script.{Script}
+use Rattle.rm_types.specs.declared.settings.Settings.{Settings}
+use Rattle.rm_types.specs.Counts.{Rose}
+use Rattle.rm_types.specs.Records.{records}
+use Rattle.rm_disk.specs.Disk.{DiskView}
+use Rattle.rm_formats.specs.Device.{Holds}
+use Rattle.rm_model.specs.Lawful.{state_after}
+use Rattle.rm_outside.specs.Shelves.{bytes_read}
+use Rattle.rm_cluster.specs.Clusters.{IsCluster}
+use Rattle.rm_script.specs.Scripts.{IsScript}
+use Rattle.rm_core.specs.InFlight.{AllPlain}
+use Rattle.rm_store.specs.Store.{needed_for, room_behind, seen}
+use Rattle.rm_plain.specs.Stops.{NoneLeft}
+use Rattle.rm_main.specs.Runs.{Made, Told}
+use Rattle.rm_main.specs.Words.{Asked, Run}
+
+-- the words name two files, and the shelf tells that these hold settings and a script
+pub record IsAccepted (told : Told) (asked : Option Asked) : Type 0 where
+  pub cluster_file : List ℕ
+  pub script_file : List ℕ
+  pub asks : asked ≡ Some (Run cluster_file script_file)
+  pub cluster_bytes : List ℕ
+  pub cluster_told : told cluster_file ≡ Some cluster_bytes
+  pub settings : Settings
+  pub of_cluster : IsCluster (bytes_read cluster_bytes) settings
+  pub script_bytes : List ℕ
+  pub script_told : told script_file ≡ Some script_bytes
+  pub script : Script
+  pub of_script : IsScript (bytes_read script_bytes) script
+
+-- The device tells that it held a store. What is kept after the log has no attempt and no end, and an epoch and a stamp are
+-- left; the operation that awaits there, if one does, has room; and the disk inside the fuse counted no fault.
+pub record HasPlace {D : Type 0} (view : D → DiskView) (made : Made D) : Type 0 where
+  pub bytes : List ℕ
+  pub told : (view made.before.inner).told ≡ Some bytes
+  pub ops : List Op
+  pub holds : Holds bytes ops
+  pub plain : AllPlain (records (state_after made.opening made.log).kept).apps
+  pub some_left : NoneLeft made.opening made.log → ⊥
+  pub room : (op : Op) → slice_get (state_after made.opening made.log).awaiting 0 ≡ Some op → needed_for op ≤ room_behind (view made.after.inner).size (state_after made.opening made.log).kept
+  pub faultless : Rose (view made.before.inner).faults (view made.after.inner).faults → ⊥
+
+-- each count of the shelf and the sink stays below its end and does not rise
+pub record NoneRose (read_old read_new write_old write_new idle_old idle_new : ℕ) : Type 0 where
+  pub reads : Rose read_old read_new → ⊥
+  pub writes : Rose write_old write_new → ⊥
+  pub idle : Rose idle_old idle_new → ⊥
