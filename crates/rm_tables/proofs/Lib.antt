@@ -1,0 +1,2 @@
+pub mod FirstOp
+pub mod Placed

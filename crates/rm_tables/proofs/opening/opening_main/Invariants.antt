@@ -1,0 +1,7 @@
+use Rattle.std.proofs.Common.{◌≡◌, take}
+use Rattle.std.specs.List.{flat_map}
+use Rattle.rm_tables.specs.Opening.{main_of}
+use Rattle.rm_tables.proofs.opening.opening_main.Given as goal
+
+abbrev pub invariant-records : goal.invariant-records
+invariant-records l = l.queue ≡ flat_map main_of (take l.place l.tree.apps)

@@ -1,0 +1,9 @@
+use Rattle.std.proofs.Common.{rules, ◌≡◌, ◌∷◌, [], ◌++◌, None, Some, ◌∙◌}
+use Rattle.indexmap.proofs.CallerLemmas.{insert_entry-new}
+use Rattle.rm_types.specs.Ids.{is_app}
+use Rattle.rm_tables.proofs.rows.Rows.add.Goals as goal
+
+pub returns-clause-ok : goal.returns-clause-ok
+returns-clause-ok c =
+    let none = rw (← c.self.view_is) at c.requires in
+    rw (← c.self.view_is) (c.in_ok-insert.ensures.entries ∙ insert_entry-new is_app c.self.inside.map c.args.id (Some c.args.row) none)

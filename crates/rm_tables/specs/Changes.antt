@@ -1,0 +1,112 @@
+-- How the row of an application changes, for each thing that happens to it. The states are those of the tables of transitions of
+-- applications and attempts.
+use Rattle.std.specs.Prelude.{ℕ, Bool, true, false, Option, None, Some}
+use Rattle.rm_types.specs.declared.operations.How.{How}
+use Rattle.rm_types.specs.declared.operations.How.TheVariants as ways
+use Rattle.rm_types.specs.declared.operations.Submission.{Submission}
+use Rattle.rm_app.specs.declared.states.AppState.{AppState}
+use Rattle.rm_app.specs.declared.states.AppState.TheVariants as apps
+use Rattle.rm_app.specs.Table.{state_of}
+use Rattle.rm_attempt.specs.declared.states.AttemptState.{AttemptState}
+use Rattle.rm_attempt.specs.declared.states.AttemptState.TheVariants as attempts
+use Rattle.rm_tables.specs.declared.rows.AppRow.{AppRow}
+use Rattle.rm_tables.specs.declared.rows.Current.{Current}
+use Rattle.rm_tables.specs.declared.changes.RowChange.{RowChange}
+use Rattle.rm_tables.specs.declared.changes.RowChange.TheVariants.{Issue, Keep, Wish, Kill, Schedule, Register, End, KeepEnd, OfAttempt}
+use Rattle.rm_tables.specs.declared.changes.AttemptChange.{AttemptChange}
+use Rattle.rm_tables.specs.declared.changes.AttemptChange.TheVariants as of_attempt
+
+-- an application that runs is only accepted again once its attempt has failed
+abbrev pub after_failure : How → AppState → AppState
+after_failure ways.Failed apps.Running = apps.Accepted
+after_failure _ state = state
+
+-- the state of an application after something happened to its current attempt
+abbrev pub state_with : AttemptChange → AppState → AppState
+state_with (of_attempt.KeepEnd how) state = after_failure how state
+state_with _ state = state
+
+-- the state of an application after a change
+abbrev pub state_after : RowChange → AppState → AppState
+state_after Issue state = apps.NewSaving
+state_after Keep state = apps.Submitted
+state_after Wish state = state
+state_after Kill state = apps.Killing
+state_after (Schedule number) state = apps.Accepted
+state_after Register state = apps.Running
+state_after End state = apps.FinalSaving
+state_after (KeepEnd how) state = state_of how
+state_after (OfAttempt change) state = state_with change state
+
+-- a wish to kill it stays until its life is over
+abbrev pub wish_after : RowChange → Bool → Bool
+wish_after Wish wish = true
+wish_after _ wish = wish
+
+-- a submission waits until it is kept
+abbrev pub pending_after : RowChange → Option Submission → Option Submission
+pending_after Keep pending = None
+pending_after _ pending = pending
+
+-- an attempt of this number that waits for its master's container
+abbrev pub scheduled : ℕ → Current
+scheduled number = record { number = number; state = attempts.Scheduled; master = None; registered = false; lost = false }
+
+-- an attempt after something happened to it
+abbrev pub attempt_after : AttemptChange → Current → Current
+attempt_after (of_attempt.Grant master) current = record current { state = attempts.Granted; master = Some master; lost = false }
+attempt_after of_attempt.Requeue current = scheduled current.number
+attempt_after of_attempt.Issue current = record current { state = attempts.Saving; lost = false }
+attempt_after of_attempt.Lose current = record current { lost = true }
+attempt_after of_attempt.Keep current = record current { state = attempts.Live }
+attempt_after of_attempt.Finish current = record current { state = attempts.Finishing }
+attempt_after of_attempt.End current = record current { state = attempts.Ending }
+attempt_after (of_attempt.KeepEnd how) current = record current { state = attempts.Ended }
+
+-- an attempt whose application ends: dropped where it isn't issued
+abbrev pub dropped_state : AttemptState → AttemptState
+dropped_state attempts.Scheduled = attempts.Dropped
+dropped_state attempts.Granted = attempts.Dropped
+dropped_state attempts.Saving = attempts.Saving
+dropped_state attempts.Live = attempts.Live
+dropped_state attempts.Registered = attempts.Registered
+dropped_state attempts.Finishing = attempts.Finishing
+dropped_state attempts.Ending = attempts.Ending
+dropped_state attempts.Ended = attempts.Ended
+dropped_state attempts.Dropped = attempts.Dropped
+
+-- an attempt whose application is killed: its end is issued where it lives
+abbrev pub killed_state : AttemptState → AttemptState
+killed_state attempts.Scheduled = attempts.Scheduled
+killed_state attempts.Granted = attempts.Granted
+killed_state attempts.Saving = attempts.Saving
+killed_state attempts.Live = attempts.Ending
+killed_state attempts.Registered = attempts.Ending
+killed_state attempts.Finishing = attempts.Ending
+killed_state attempts.Ending = attempts.Ending
+killed_state attempts.Ended = attempts.Ended
+killed_state attempts.Dropped = attempts.Dropped
+
+-- the current attempt after a change, where there is one
+abbrev pub current_with : RowChange → Current → Current
+current_with Register current = record current { state = attempts.Registered; registered = true }
+current_with Kill current = record current { state = killed_state current.state }
+current_with End current = record current { state = dropped_state current.state }
+current_with (OfAttempt change) current = attempt_after change current
+current_with _ current = current
+
+-- the current attempt after a change
+abbrev pub current_after : RowChange → Option Current → Option Current
+current_after (Schedule number) current = Some (scheduled number)
+current_after change None = None
+current_after change (Some current) = Some (current_with change current)
+
+-- the row after a change
+abbrev pub changed : RowChange → AppRow → AppRow
+changed change row =
+    record {
+      state = state_after change row.state;
+      wish = wish_after change row.wish;
+      pending = pending_after change row.pending;
+      current = current_after change row.current;
+    }

@@ -1,0 +1,130 @@
+ghost use Rattle.std.specs.Prelude.{◌≡◌, ◌∷◌, [], ◌++◌, Some, None, OnOk, OnErr, option_map};
+ghost use Rattle.std.specs.Option.{option_copied};
+ghost use Rattle.rm_tables.specs.Rows.{slot_of, row_of, is_retired, with_row, without_row};
+ghost use Rattle.rm_tables.specs.Changes.{changed};
+
+use crate::changes::RowChange;
+use indexmap::IndexMap;
+use rm_app::AppState;
+use rm_attempt::AttemptState;
+use rm_types::{AppId, ContainerId, NoMemory, Submission};
+use std::alloc::Global;
+use std::marker::Model;
+
+/// The attempt of an application with the greatest number. All before it are kept and have ended.
+#[derive(Clone, Copy, Debug, PartialEq, Eq)]
+pub struct Current {
+    pub number: u32,
+    pub state: AttemptState,
+    /// Its master's container, once one was granted.
+    pub master: Option<ContainerId>,
+    /// Its master registered in this life.
+    pub registered: bool,
+    /// Its master's container was lost before the attempt was saved.
+    pub lost: bool,
+}
+
+/// What a life knows of an application beside what is recorded of it.
+#[derive(Debug, Drop)]
+pub struct AppRow {
+    pub state: AppState,
+    /// A client wished to kill it in this life.
+    pub wish: bool,
+    /// What was submitted, until it is kept.
+    pub pending: Option<Submission>,
+    pub current: Option<Current>,
+}
+
+/// The rows of the applications that a life knows, each found by its id without a walk. A removed application
+/// leaves an empty slot, which tells that its id is retired. Contracts see the slots in the order of entering.
+#[derive(Debug, Drop)]
+pub struct Rows {
+    map: IndexMap<AppId, Option<AppRow>>,
+}
+
+impl Model for Rows {
+    ghost use Rattle.std.specs.Prelude.{List, Option};
+    ghost use Rattle.rm_types.specs.declared.ids.AppId.{AppId};
+    ghost use Rattle.rm_tables.specs.declared.rows.AppRow.{AppRow};
+
+    ghost Value = { List (AppId × Option AppRow) };
+
+    ghost view = { λ a. a.map.entries };
+}
+
+impl Rows {
+    /// No rows. It takes no memory.
+    pub fn new(alloc: Global) -> Rows
+        ensures { result ≡ [] }
+    {
+        Rows {
+            map: IndexMap::new(alloc),
+        }
+    }
+
+    /// The row of an application. `None` comes exactly where the life doesn't know it.
+    pub fn find(&self, id: AppId) -> Option<&AppRow>
+        ensures { option_copied result ≡ row_of self.now id }
+    {
+        match self.map.get(&id) {
+            Some(slot) => row_in(slot),
+            None => None,
+        }
+    }
+
+    /// Whether an application was removed in this life.
+    pub fn is_retired(&self, id: AppId) -> bool
+        ensures { result ≡ is_retired self.now id }
+    {
+        match self.map.get(&id) {
+            Some(slot) => slot.is_none(),
+            None => false,
+        }
+    }
+
+    /// Adds the row of an application that has no slot. `NoMemory` leaves the rows as they were; the row is then
+    /// dropped.
+    pub fn add(&mut self, id: AppId, row: AppRow) -> Result<(), NoMemory>
+        requires { slot_of self.old id ≡ None }
+        ensures ok { OnOk result (self.new ≡ self.old ++ (id, Some row) ∷ []) }
+        ensures err { OnErr result (self.new ≡ self.old) }
+    {
+        self.map.insert(id, Some(row))?;
+        Ok(())
+    }
+
+    /// Something happens to an application, where the life knows it. It takes no memory.
+    pub fn change(&mut self, id: AppId, change: RowChange)
+        ensures { self.new ≡ with_row (changed change) id self.old }
+    {
+        if let Some(slot) = self.map.get_mut(&id) {
+            change_slot(slot, change);
+        }
+    }
+
+    /// Removes an application, whose id is retired from then on.
+    pub fn remove(&mut self, id: AppId)
+        ensures { self.new ≡ without_row id self.old }
+    {
+        if let Some(slot) = self.map.get_mut(&id) {
+            *slot = None;
+        }
+    }
+}
+
+fn change_slot(slot: &mut Option<AppRow>, change: RowChange)
+    ensures { slot.new ≡ option_map (changed change) slot.old }
+{
+    if let Some(row) = slot {
+        row.change(change);
+    }
+}
+
+fn row_in(slot: &Option<AppRow>) -> Option<&AppRow>
+    ensures { option_copied result ≡ slot.now }
+{
+    match slot {
+        Some(row) => Some(row),
+        None => None,
+    }
+}
