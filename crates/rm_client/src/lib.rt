@@ -1,0 +1,16 @@
+//! The service of clients: it answers what a client asks, from the tables of the manager.
+//!
+//! `serve` answers a new id, a submission, a report and a kill. Its reply is the judge's for every scene that the tables show
+//! (`Shows` in `specs/`), and the tables change by one equation (`Answers`). It finds an application by its id without a walk,
+//! takes its memory first, and leaves all as it was where there is none.
+//!
+//! It stands on `rm_tables`, on the rights of `rm_queues`, and on the judge's replies in `rm_model`.
+#![tactic(auto)]
+
+mod kills;
+mod reports;
+mod serving;
+mod submissions;
+mod words;
+
+pub use serving::serve;

@@ -1,0 +1,111 @@
+ghost use Rattle.std.specs.Prelude.{◌≡◌, ◌<◌, ◌^◌, [], length, IfOk, Some, None};
+ghost use Rattle.std.specs.Option.{option_copied};
+ghost use Rattle.rm_types.specs.declared.ids.AppId.{AppId as App};
+ghost use Rattle.rm_model.specs.State.{Scene};
+ghost use Rattle.rm_model.specs.Facts.{attempts_in, kept_record, submission_of};
+ghost use Rattle.rm_model.specs.ClientReplies.{end_text, report_of};
+ghost use Rattle.rm_tables.specs.Actions.{found_in};
+ghost use Rattle.rm_client.specs.Answers.{report_with};
+ghost use Rattle.rm_client.specs.Shows.{RowShows, Shows};
+
+use crate::words::{end_word, going_word};
+use rm_tables::{AppRow, Tables};
+use rm_types::{
+    AppId, AppRecord, Duplicate, How, NoMemory, Reply, Report, StateWord, Submission, Text,
+};
+
+/// What was submitted for an application that is known: as it is recorded, else as it waits.
+pub fn submission_of(t: &Tables, id: AppId) -> Option<&Submission>
+    ensures { (m : Scene) → Shows m t.now → option_copied result ≡ submission_of m id }
+{
+    match t.tree.find(id) {
+        Some(app) => Some(&app.submission),
+        None => match t.rows.find(id) {
+            Some(row) => row.pending.as_ref(),
+            None => None,
+        },
+    }
+}
+
+/// The text of a kept end, else no text.
+fn end_text(t: &Tables, ending: &Option<(How, Text)>) -> Result<Text, NoMemory>
+    ensures { IfOk result (λ text. text ≡ end_text ending.now) }
+{
+    match ending {
+        Some((_, text)) => Ok(text.copy()?),
+        None => Ok(Text::empty(t.alloc)),
+    }
+}
+
+/// A report by what was submitted, and what there is of attempts and an end.
+fn report_with(
+    t: &Tables,
+    state: StateWord,
+    submission: &Submission,
+    attempts: u32,
+    ending: &Option<(How, Text)>,
+) -> Result<Report, NoMemory>
+    ensures { IfOk result (λ report. report ≡ report_with state submission.now attempts (end_text ending.now)) }
+{
+    let user = submission.user.copy()?;
+    let queue = submission.queue.copy()?;
+    let name = submission.name.copy()?;
+    let text = end_text(t, ending)?;
+    Ok(Report {
+        state,
+        user,
+        queue,
+        name,
+        attempts,
+        live: 0,
+        text,
+    })
+}
+
+/// A report of an application that is kept.
+fn report_kept(t: &Tables, row: &AppRow, app: &AppRecord) -> Result<Reply, NoMemory>
+    requires few { length app.now.attempts < 2 ^ 32 }
+    ensures { (m : Scene) (id : App) → RowShows m id row.now → kept_record m id ≡ Some app.now → m.life.book ≡ [] → IfOk result (λ reply. reply ≡ report_of m id (Some app.now.submission)) }
+{
+    let state = match &app.ending {
+        Some((how, _)) => end_word(*how),
+        None => going_word(row, Some(app)),
+    };
+    let attempts = app.attempts.len() as u32;
+    let report = report_with(t, state, &app.submission, attempts, &app.ending)?;
+    Ok(Reply::Report(report))
+}
+
+/// A report of an application that isn't kept.
+fn report_waiting(t: &Tables, row: &AppRow, submission: &Submission) -> Result<Reply, NoMemory>
+    ensures { (m : Scene) (id : App) → RowShows m id row.now → kept_record m id ≡ None → m.life.book ≡ [] → IfOk result (λ reply. reply ≡ report_of m id (Some submission.now)) }
+{
+    let state = going_word(row, None);
+    let report = report_with(t, state, submission, 0, &None)?;
+    Ok(Reply::Report(report))
+}
+
+/// A report of an application that has a row.
+fn report_row(t: &Tables, id: AppId, row: &AppRow) -> Result<Reply, NoMemory>
+    requires few { length (attempts_in (found_in t.now id)) < 2 ^ 32 }
+    ensures { (m : Scene) → Shows m t.now → RowShows m id row.now → IfOk result (λ reply. reply ≡ report_of m id (submission_of m id)) }
+{
+    match t.tree.find(id) {
+        Some(app) => report_kept(t, row, app),
+        None => match &row.pending {
+            Some(submission) => report_waiting(t, row, submission),
+            None => Ok(Reply::Unknown),
+        },
+    }
+}
+
+/// What a client is told of an application.
+pub fn report(t: &Tables, id: AppId) -> Result<Reply, NoMemory>
+    requires few { length (attempts_in (found_in t.now id)) < 2 ^ 32 }
+    ensures { (m : Scene) → Shows m t.now → IfOk result (λ reply. reply ≡ report_of m id (submission_of m id)) }
+{
+    match t.rows.find(id) {
+        Some(row) => report_row(t, id, row),
+        None => Ok(Reply::Unknown),
+    }
+}
