@@ -1,0 +1,14 @@
+pub mod Counts
+pub mod Effects
+pub mod Found
+pub mod Keeping
+pub mod Own
+pub mod Events
+pub mod Queueing
+pub mod Saving
+pub mod Lists
+pub mod Weighing
+pub mod Running
+pub mod Plain
+pub mod Resting
+pub mod Opening

@@ -1,0 +1,73 @@
+-- The state of the judge's manager that the tables stand for.
+use Rattle.std.specs.Prelude.{ℕ, List, [], Bool, true, false, Option, None, Some}
+use Rattle.rm_types.specs.declared.ids.ContainerId.{ContainerId}
+use Rattle.rm_types.specs.declared.operations.Op.{Op}
+use Rattle.rm_types.specs.Records.{Records, records}
+use Rattle.rm_model.specs.State.{Applications, Endings, LifeState, Manager, Masters, NodeState, Row, Scene}
+use Rattle.rm_tables.specs.declared.tables.Tables.{Tables}
+
+-- what the judge remembers and the tables do not, or not as a list: the kept operations, what was recorded when the life began, and
+-- of the life its clock, its applications' lists, its masters, its book and its nodes
+pub record History : Type 0 where
+  pub kept : List Op
+  pub first : Records
+  pub now : ℕ
+  pub granted : List ContainerId
+  pub apps : Applications
+  pub masters : Masters
+  pub book : List Row
+  pub endings : Endings
+  pub nodes : List NodeState
+
+-- the history of a life as it begins over what is kept
+abbrev pub new_history : List Op → History
+new_history kept =
+    record {
+      kept = kept;
+      first = records kept;
+      now = 0;
+      granted = [];
+      apps = record { submitted = []; wishes = []; accepted = []; retired = [] };
+      masters = record { registered = []; expired = []; ordered = [] };
+      book = [];
+      endings = record { outbox = []; left = []; releases = [] };
+      nodes = [];
+    }
+
+-- the life that the tables stand for
+abbrev pub life_in : History → Tables → LifeState
+life_in h t =
+    record {
+      epoch = t.epoch;
+      stamp = t.stamp;
+      first = h.first;
+      is_open = t.is_open;
+      handed = t.handed;
+      blown = t.blown;
+      now = h.now;
+      given = t.given;
+      granted = h.granted;
+      apps = h.apps;
+      masters = h.masters;
+      asks = t.asks;
+      book = h.book;
+      endings = h.endings;
+      nodes = h.nodes;
+    }
+
+-- what the rules of the life look at
+abbrev pub scene_in : History → Tables → Scene
+scene_in h t = record { records = t.tree; awaiting = t.awaiting; life = life_in h t }
+
+-- the state where this life stands
+abbrev pub standing : History → Tables → Manager
+standing h t = record { kept = h.kept; awaiting = t.awaiting; blew = false; life = Some (life_in h t) }
+
+-- the life, where one stands
+abbrev pub life_where : Bool → History → Tables → Option LifeState
+life_where true h t = Some (life_in h t)
+life_where false h t = None
+
+-- the state that the tables stand for
+abbrev pub told : History → Tables → Manager
+told h t = record { kept = h.kept; awaiting = t.awaiting; blew = false; life = life_where t.alive h t }
