@@ -1,156 +1,195 @@
 -- A client is answered: the answer is the judge's, and the tables go on standing for the state.
-use Rattle.std.proofs.Common.{◌≡◌, ℕ, ◌+◌, ◌≤◌, List, [], ◌∷◌, ◌++◌, Bool, true, false, ◌||◌, is_some, refl, sym, ◌∙◌, arith}
-use Rattle.std.specs.List.{list_any}
+use Rattle.std.proofs.Common.{◌≡◌, ◌≢◌, ℕ, ◌+◌, ◌≤◌, List, [], ◌∷◌, ◌++◌, Bool, true, false, ◌||◌, Option, None, Some, length, length-append, map, refl, sym, ◌∙◌, ap, subst, arith}
+use Rattle.std.specs.List.{flat_map}
+use Rattle.std.proofs.lemmas.List.{append_assoc, map-append}
+use Rattle.std.proofs.lemmas.Grind.{flat_map-append}
 use Rattle.rm_types.specs.declared.entries.Entry.{Entry}
 use Rattle.rm_types.specs.declared.entries.Entry.TheVariants.{Served}
 use Rattle.rm_types.specs.declared.ids.AppId.{AppId}
 use Rattle.rm_types.specs.declared.messages.ClientAsk.{ClientAsk}
-use Rattle.rm_types.specs.declared.messages.ClientAsk.TheVariants.{New, Submit, Report, Kill}
-use Rattle.rm_types.specs.declared.messages.Message.{Message}
-use Rattle.rm_types.specs.declared.messages.Message.TheVariants.{Client as FromClient, Master as FromMaster, Node as FromNode, Clock as FromClock}
+use Rattle.rm_types.specs.declared.messages.ClientAsk.TheVariants as asks
+use Rattle.rm_types.specs.declared.messages.Message.TheVariants.{Client as FromClient}
 use Rattle.rm_types.specs.declared.messages.Sender.TheVariants.{Client}
-use Rattle.rm_types.specs.declared.operations.Op.{Op}
 use Rattle.rm_types.specs.declared.operations.Op.TheVariants.{App}
 use Rattle.rm_types.specs.declared.operations.Submission.{Submission}
-use Rattle.rm_types.specs.declared.operations.Submitted.{Submitted}
-use Rattle.rm_types.specs.declared.records.AppRecord.{AppRecord}
 use Rattle.rm_types.specs.declared.replies.Reply.{Reply}
 use Rattle.rm_types.specs.declared.replies.Reply.TheVariants as replies
-use Rattle.rm_types.specs.declared.settings.Settings.{Settings}
-use Rattle.rm_types.specs.Ranges.{IsOperation}
+use Rattle.rm_types.specs.declared.ids.AttemptId.{AttemptId}
 use Rattle.rm_types.specs.Ids.{is_app}
-use Rattle.rm_types.specs.Records.{record_of}
-use Rattle.rm_model.specs.Changes.{after_in}
-use Rattle.rm_model.specs.Facts.{is_known}
+use Rattle.rm_types.specs.Ranges.{IsOperation}
+use Rattle.rm_types.specs.Records.{records}
+use Rattle.rm_model.specs.Changes.{after}
 use Rattle.rm_model.specs.ClientReplies.{client_reply, next_app}
-use Rattle.rm_model.specs.State.{Scene}
-use Rattle.rm_core.specs.declared.tables.Tables.{Tables}
-use Rattle.rm_core.specs.Told.{History, scene_in, standing, no_history}
-use Rattle.rm_core.specs.Serving.{AnswersClient, IsBuiltAsk, IsBuiltMessage, IsServed, after_client, joined, taken}
-use Rattle.rm_core.specs.Keeps.{Keeps, IsSound, Stage, none, starting, saving, running, IsRunning}
-use Rattle.rm_core.specs.InFlight.{kept_at, submitted_at}
-use Rattle.rm_core.proofs.Counts.{fails_never, is_some-find}
-use Rattle.rm_core.proofs.Flows.{join_runs}
-use Rattle.rm_core.proofs.Standing.{keeps_more, known}
+use Rattle.rm_model.specs.Facts.{is_known}
+use Rattle.rm_model.specs.Rules.{Allowed, AllowedIn}
+use Rattle.rm_model.specs.State.{Manager}
+use Rattle.rm_tables.specs.declared.events.MainEvent.TheVariants as mains
+use Rattle.rm_tables.specs.declared.rows.AppRow.{AppRow}
+use Rattle.rm_tables.specs.declared.tables.Tables.{Tables}
+use Rattle.rm_tables.specs.Opening.{going_in}
+use Rattle.rm_tables.specs.Rows.{row_of}
+use Rattle.rm_client.specs.Answers.{after_client, joined, taken_by}
+use Rattle.rm_client.specs.Shows.{ShowsAt}
+use Rattle.rm_facts.specs.Step.{Keeps}
+use Rattle.rm_facts.specs.Submissions.{IsPlainRow, Lists, OnlySubmits, Runs, has_registered, is_registered, saving, starting, submitted_ids}
+use Rattle.rm_facts.specs.Told.{History, life_in, scene_in, standing, told}
+use Rattle.rm_facts.specs.View.{put_if, view}
+use Rattle.rm_facts.specs.Weights.{weight}
+use Rattle.rm_facts.proofs.Found.{retired_put, row_put}
+use Rattle.rm_facts.proofs.Keeping.{in_scene}
+use Rattle.rm_facts.proofs.Lists.{AllOfApps-push, AllSavable-push}
+use Rattle.rm_facts.proofs.Saving.{joined_says, row_new, submitting}
+use Rattle.rm_facts.proofs.Weighing.{joined_weighs}
+use Rattle.rm_core.specs.Keeps.{IsRunning, running}
+use Rattle.rm_core.specs.Serving.{IsBuiltAsk}
+use Rattle.rm_core.proofs.Showing.{shows}
+use Rattle.rm_core.proofs.Standing.{Moves, told_standing}
 
--- a life that is open runs
-pub open_runs : (t : Tables) → Stage t → t.alive ≡ true → t.is_open ≡ true → IsRunning t
-open_runs t (none n) a o = absurd (let x = n.alive in cc)
-open_runs t (starting s) a o = absurd (let x = s.is_open in cc)
-open_runs t (saving s) a o = absurd (let x = s.is_open in cc)
-open_runs t (running r) a o = r
+-- rows stay plain where one is put
+put_plain : (id : AppId) (s : Submission) (rows : List (AppId × Option AppRow)) → ((q : AppId) → IsPlainRow rows q) → (q : AppId) → IsPlainRow (rows ++ (id, Some (row_new s)) ∷ []) q
+put_plain id s rows plain q =
+    record { stays = retired_put id q (row_new s) rows ∙ (plain q).stays; unregistered = ap is_registered (row_put id q (row_new s) rows (plain id).stays) ∙ by (is_app id q) (row_of rows q) (plain q).unregistered }
+  where
+    by : (b : Bool) (o : Option AppRow) → is_registered o ≡ false → is_registered (put_if b (row_new s) o) ≡ false
+    by true None e = refl
+    by true (Some row) e = e
+    by false o e = e
 
--- the tables with one more message served
-abbrev more_served : Tables → Tables → Tables
-more_served t next = record next { served = t.served + 1 }
+module _ (h : History) (t : Tables) (r : IsRunning h t) (user : List ℕ) where
+  -- a client is answered as the judge says
+  lawful_answer : (ask : ClientAsk) (reply : Reply) → reply ≡ client_reply t.settings (scene_in h t) user ask → AllowedIn t.settings (scene_in h t) (Served Client (FromClient user ask) reply)
+  lawful_answer ask reply answers = let o = r.runs.keeps.is_open in record { serving = rw o refl; of_sender = refl; answers = rw o answers }
 
-neither : (a b : Bool) → (a || b) ≡ false → (a ≡ false) × (b ≡ false)
-neither true b h = cc
-neither false b h = (refl, h)
-
-answered : (settings : Settings) (m : Scene) (user : List ℕ) (ask : ClientAsk) (reply : Reply) → AnswersClient settings m ask reply → reply ≡ client_reply settings m user ask
-answered settings m user New reply is = is
-answered settings m user (Submit id submission) reply is = is
-answered settings m user (Report id) reply is = is
-answered settings m user (Kill id) reply is = absurd is
-
-module _ (settings : Settings) (t : Tables) (s : IsSound settings t) (r : IsRunning t) where
-  -- the answer leaves the applications as they were
-  quiet_sound : (given : ℕ) → given ≤ t.served + 1 → IsSound settings (record t { given = given; served = t.served + 1 })
-  quiet_sound given few =
+  moves : (ask : ClientAsk) (reply : Reply) (g : History) (next : Tables) → reply ≡ client_reply t.settings (scene_in h t) user ask → next.settings ≡ t.settings → next.alive ≡ t.alive
+      → next.alloc ≡ t.alloc → next ≡ record (after_client ask reply t) { served = t.served + 1 } → (next.handed ≡ true → next.awaiting ≢ []) → after (standing h t) (Served Client (FromClient user ask) reply) ≡ standing g next → Runs g next → Moves h t (Served Client (FromClient user ask) reply) next
+  moves ask reply g next answers settings lives alloc own handed same runs =
+      let is = told_standing h t r.alive in
+      let alive : next.alive ≡ true = lives ∙ r.alive in
       record {
-        stage = running (record { alive = r.alive; is_open = r.is_open; handed = r.handed; runs = r.runs });
-        epoch = s.epoch;
-        given = few;
-        rights = s.rights;
+        history = g;
+        lawful = subst (λ (m : Manager). Allowed t.settings m (Served Client (FromClient user ask) reply)) (sym is)
+            (in_scene t.settings h t r.runs.keeps (Served Client (FromClient user ask) reply) (lawful_answer ask reply answers));
+        same = ap (λ (m : Manager). after m (Served Client (FromClient user ask) reply)) is ∙ same ∙ sym (told_standing g next alive);
+        recorded = runs.keeps.recorded;
+        phase = running (record { alive = alive; handed = handed; runs = runs });
+        settings = settings;
+        alloc = alloc;
+        own = own;
       }
 
-  same_given : t.given ≤ t.served + 1
-  same_given = let g = s.given in omega arith
+  -- the answer leaves the applications as they were
+  quiet : (ask : ClientAsk) (reply : Reply) (given : ℕ) → reply ≡ client_reply t.settings (scene_in h t) user ask
+      → after (standing h t) (Served Client (FromClient user ask) reply) ≡ standing h (record t { given = given; served = t.served + 1 })
+      → record t { given = given; served = t.served + 1 } ≡ record (after_client ask reply t) { served = t.served + 1 }
+      → Moves h t (Served Client (FromClient user ask) reply) (record t { given = given; served = t.served + 1 })
+  quiet ask reply given answers same own =
+      moves ask reply h (record t { given = given; served = t.served + 1 }) answers refl refl refl own r.handed same
+      (record {
+        keeps = record { is_open = r.runs.keeps.is_open; recorded = r.runs.keeps.recorded; all = r.runs.keeps.all };
+        lists = record { order = r.runs.lists.order; going = r.runs.lists.going };
+        only = record { bare = r.runs.only.bare; rows = r.runs.only.rows; main = r.runs.only.main; sched = r.runs.only.sched; awaiting = r.runs.only.awaiting; savable = r.runs.only.savable; plain = r.runs.only.plain; ended = r.runs.only.ended; unblown = r.runs.only.unblown };
+      })
 
   -- a submission joins
-  joins_sound : (id : AppId) (one : Submission) → IsOperation (App id one) → is_known (scene_in no_history t) id ≡ false → IsSound settings (more_served t (joined t id one))
-  joins_sound id one can new =
-      let parts = neither (list_any (λ (other : Submitted). is_app other.id id) t.submitted) (is_some (record_of t.apps id)) new in
-      let kept : kept_at id t.apps ≡ 0 = fails_never (λ (app : AppRecord). is_app app.id id) t.apps (sym (is_some-find (λ (app : AppRecord). is_app app.id id) t.apps) ∙ parts.1) in
-      let submitted : submitted_at id t.submitted ≡ 0 = fails_never (λ (other : Submitted). is_app other.id id) t.submitted parts.0 in
-      record {
-        stage = running (record {
-          alive = r.alive;
-          is_open = r.is_open;
-          handed = r.handed;
-          runs = join_runs t.apps t.submitted t.awaiting t.accepted t.asks t.main t.sched id one can kept submitted r.runs;
-        });
-        epoch = s.epoch;
-        given = same_given;
-        rights = s.rights;
-      }
+  module _ (id : AppId) (s : Submission) (can : IsOperation (App id s)) (found : row_of t.rows id ≡ None) where
+    abbrev with_it : History
+    with_it = submitting t.settings h t r.runs.keeps.all id s
 
-  taken_sound : (id : AppId) (one : Submission) → IsOperation (App id one) → (b : Bool) → is_known (scene_in no_history t) id ≡ b → IsSound settings (more_served t (taken t id one))
-  taken_sound id one can true e = rw e (quiet_sound t.given same_given)
-  taken_sound id one can false e = rw e (joins_sound id one can e)
+    abbrev joined_now : Tables
+    joined_now = record (joined id s t) { served = t.served + 1 }
 
-  submit_sound : (id : AppId) (one : Submission) (reply : Reply) → IsOperation (App id one) → IsSound settings (more_served t (after_client t (Submit id one) reply))
-  submit_sound id one replies.Submitted can = taken_sound id one can (is_known (scene_in no_history t) id) refl
-  submit_sound id one reply can = quiet_sound t.given same_given
+    fresh : (q : AttemptId) → is_app id q.app ≡ true → (view h t q).retired ≡ false
+    fresh q same = let none = r.runs.only.bare.retired in rw none refl
 
-  client_sound : (ask : ClientAsk) (reply : Reply) → IsBuiltAsk ask → AnswersClient settings (scene_in no_history t) ask reply → IsSound settings (more_served t (after_client t ask reply))
-  client_sound New reply built answers = rw answers (quiet_sound (t.given + 1) (let g = s.given in omega arith))
-  client_sound (Submit id one) reply built answers = submit_sound id one reply built
-  client_sound (Report id) reply built answers = quiet_sound t.given same_given
-  client_sound (Kill id) reply built answers = absurd built
+    order : submitted_ids (h.apps.submitted ++ record { id = id; submission = s } ∷ []) ≡ flat_map saving t.awaiting ++ flat_map starting (t.main ++ mains.AppStart id ∷ [])
+    order = simp (map-append, flat_map-append, append_assoc) (ap (λ xs. xs ++ id ∷ []) r.runs.lists.order ∙ simp append_assoc refl)
 
-  module _ (opening : List Op) (log : List Entry) (k : Keeps settings opening log t) (user : List ℕ) where
-    quiet : (ask : ClientAsk) (reply : Reply) (given : ℕ) → AnswersClient settings (scene_in k.history t) ask reply
-        → after_in (standing k.history t) (scene_in k.history t) (Served Client (FromClient user ask) reply) ≡ standing k.history (record t { given = given; served = t.served + 1 })
-        → Keeps settings opening (log ++ Served Client (FromClient user ask) reply ∷ []) (record t { given = given; served = t.served + 1 })
-    quiet ask reply given answers changed =
-        keeps_more settings opening log t (record t { given = given; served = t.served + 1 }) (Served Client (FromClient user ask) reply) k r.alive r.alive
-        (record { serving = rw r.is_open refl; of_sender = refl; answers = rw r.is_open (answered settings (scene_in k.history t) user ask reply answers) }) changed (known settings opening log t k r.alive)
+    going : t.going + 1 ≡ length (h.apps.submitted ++ record { id = id; submission = s } ∷ []) + going_in t.tree.apps
+    going =
+        let before = r.runs.lists.going in
+        let more = length-append h.apps.submitted (record { id = id; submission = s } ∷ []) in
+        omega (arith, before, more)
 
-    joins_keeps : (id : AppId) (one : Submission) → AnswersClient settings (scene_in k.history t) (Submit id one) replies.Submitted
-        → is_known (scene_in no_history t) id ≡ false
-        → Keeps settings opening (log ++ Served Client (FromClient user (Submit id one)) replies.Submitted ∷ []) (more_served t (joined t id one))
-    joins_keeps id one answers new =
-        keeps_more settings opening log t (more_served t (joined t id one)) (Served Client (FromClient user (Submit id one)) replies.Submitted) k r.alive r.alive
-        (record { serving = rw r.is_open refl; of_sender = refl; answers = rw r.is_open (answered settings (scene_in k.history t) user (Submit id one) replies.Submitted answers) }) (rw new refl) (known settings opening log t k r.alive)
+    joins_runs : Runs with_it joined_now
+    joins_runs =
+        let b = r.runs.only.bare in
+        record {
+          keeps = record { is_open = r.runs.keeps.is_open; recorded = r.runs.keeps.recorded; all = joined_says t.settings h t r.runs.keeps.all id s found (r.runs.only.rows id).stays fresh };
+          lists = record { order = order; going = going };
+          only = record {
+            bare = record { wishes = b.wishes; retired = b.retired; masters = b.masters; book = b.book; left = b.left; nodes = b.nodes };
+            rows = put_plain id s t.rows r.runs.only.rows;
+            main = AllOfApps-push t.main (mains.AppStart id) r.runs.only.main tt;
+            sched = r.runs.only.sched;
+            awaiting = r.runs.only.awaiting;
+            savable = AllSavable-push h.apps.submitted (record { id = id; submission = s }) r.runs.only.savable can;
+            plain = r.runs.only.plain;
+            ended = r.runs.only.ended;
+            unblown = r.runs.only.unblown;
+          };
+        }
 
-    taken_keeps : (id : AppId) (one : Submission) (b : Bool) → is_known (scene_in no_history t) id ≡ b
-        → AnswersClient settings (scene_in k.history t) (Submit id one) replies.Submitted
-        → Keeps settings opening (log ++ Served Client (FromClient user (Submit id one)) replies.Submitted ∷ []) (more_served t (taken t id one))
-    taken_keeps id one true e answers = rw e (quiet (Submit id one) replies.Submitted t.given answers (rw e refl))
-    taken_keeps id one false e answers = rw e (joins_keeps id one answers e)
+    joins : is_known (scene_in h t) id ≡ false → replies.Submitted ≡ client_reply t.settings (scene_in h t) user (asks.Submit id s)
+        → Moves h t (Served Client (FromClient user (asks.Submit id s)) replies.Submitted) joined_now
+    joins new answers =
+        let unknown : is_known (record { records = records h.kept; awaiting = t.awaiting; life = life_in h t }) id ≡ false = rw r.runs.keeps.recorded new in
+        moves (asks.Submit id s) replies.Submitted with_it joined_now answers refl refl refl (rw found refl) r.handed (rw unknown refl) joins_runs
 
-    submit_keeps : (id : AppId) (one : Submission) (reply : Reply) → AnswersClient settings (scene_in k.history t) (Submit id one) reply
-        → Keeps settings opening (log ++ Served Client (FromClient user (Submit id one)) reply ∷ []) (more_served t (after_client t (Submit id one) reply))
-    submit_keeps id one replies.Submitted answers = taken_keeps id one (is_known (scene_in no_history t) id) refl answers
-    submit_keeps id one reply answers = quiet (Submit id one) reply t.given answers refl
+  -- a submission is taken: it joins where its application isn't known
+  taken : (id : AppId) (s : Submission) → IsOperation (App id s) → (row : Option AppRow) → row_of t.rows id ≡ row → replies.Submitted ≡ client_reply t.settings (scene_in h t) user (asks.Submit id s)
+      → Moves h t (Served Client (FromClient user (asks.Submit id s)) replies.Submitted) (record (taken_by row id s t) { served = t.served + 1 })
+  taken id s can None found answers =
+      let shown : ShowsAt (scene_in h t) id None = rw found at ((shows h t r.runs).at id) in
+      joins id s can found shown.unknown answers
+  taken id s can (Some row) found answers =
+      let shown : ShowsAt (scene_in h t) id (Some row) = rw found at ((shows h t r.runs).at id) in
+      let known : is_known (record { records = records h.kept; awaiting = t.awaiting; life = life_in h t }) id ≡ true = rw r.runs.keeps.recorded shown.known in
+      quiet (asks.Submit id s) replies.Submitted t.given answers (rw known refl) (rw found refl)
 
-    client_keeps : (ask : ClientAsk) (reply : Reply) → AnswersClient settings (scene_in k.history t) ask reply
-        → Keeps settings opening (log ++ Served Client (FromClient user ask) reply ∷ []) (more_served t (after_client t ask reply))
-    client_keeps New reply answers = rw answers (quiet New (replies.New (next_app (scene_in k.history t))) (t.given + 1) refl refl)
-    client_keeps (Submit id one) reply answers = submit_keeps id one reply answers
-    client_keeps (Report id) reply answers = quiet (Report id) reply t.given answers refl
-    client_keeps (Kill id) reply answers = absurd answers
+  submits : (id : AppId) (s : Submission) (reply : Reply) → IsOperation (App id s) → reply ≡ client_reply t.settings (scene_in h t) user (asks.Submit id s)
+      → Moves h t (Served Client (FromClient user (asks.Submit id s)) reply) (record (after_client (asks.Submit id s) reply t) { served = t.served + 1 })
+  submits id s replies.Submitted can answers = taken id s can (row_of t.rows id) refl answers
+  submits id s reply can answers = quiet (asks.Submit id s) reply t.given answers refl refl
 
--- what is answered by the tables is what the judge answers
-by_history : (settings : Settings) (t : Tables) (h : History) (ask : ClientAsk) (reply : Reply)
-    → AnswersClient settings (scene_in no_history t) ask reply → AnswersClient settings (scene_in h t) ask reply
-by_history settings t h New reply answers = answers
-by_history settings t h (Submit id s) reply answers = answers
-by_history settings t h (Report id) reply answers = answers
-by_history settings t h (Kill id) reply answers = answers
+  gives : (reply : Reply) → reply ≡ client_reply t.settings (scene_in h t) user asks.New
+      → Moves h t (Served Client (FromClient user asks.New) reply) (record (after_client asks.New reply t) { served = t.served + 1 })
+  gives reply answers =
+      subst (λ (x : Reply). Moves h t (Served Client (FromClient user asks.New) x) (record (after_client asks.New x t) { served = t.served + 1 })) (sym answers)
+      (quiet asks.New (replies.New (next_app (scene_in h t))) (t.given + 1) refl refl refl)
 
-module _ (settings : Settings) (t : Tables) (s : IsSound settings t) (a : t.alive ≡ true) (o : t.is_open ≡ true) (log longer : List Entry) (next : Tables) where
-  pub served_sound : (message : Message) → IsBuiltMessage message → IsServed settings t next log longer message → IsSound settings next
-  served_sound (FromClient user ask) built (reply, answers, changed, added) = rw changed (client_sound settings t s (open_runs t s.stage a o) ask reply built answers)
-  served_sound (FromMaster attempt ask) built is = absurd is
-  served_sound (FromNode node ask) built is = absurd is
-  served_sound (FromClock ask) built is = absurd is
+  pub client_moves : (ask : ClientAsk) (reply : Reply) → IsBuiltAsk ask → reply ≡ client_reply t.settings (scene_in h t) user ask
+      → Moves h t (Served Client (FromClient user ask) reply) (record (after_client ask reply t) { served = t.served + 1 })
+  client_moves asks.New reply built answers = gives reply answers
+  client_moves (asks.Submit id s) reply built answers = submits id s reply built answers
+  client_moves (asks.Report id) reply built answers = quiet (asks.Report id) reply t.given answers refl refl
+  client_moves (asks.Kill id) reply built answers = absurd built
 
-  pub served_keeps : (opening : List Op) → Keeps settings opening log t → (message : Message) → IsServed settings t next log longer message → Keeps settings opening longer next
-  served_keeps opening k (FromClient user ask) (reply, answers, changed, added) =
-      rw (changed, added) (client_keeps settings t s (open_runs t s.stage a o) opening log k user ask reply (by_history settings t k.history ask reply answers))
-  served_keeps opening k (FromMaster attempt ask) is = absurd is
-  served_keeps opening k (FromNode node ask) is = absurd is
-  served_keeps opening k (FromClock ask) is = absurd is
+-- what is left to do, the life and its numbers after a client was answered
+pub record Answered (t next : Tables) : Type 0 where
+  pub weighs : weight next ≤ weight t + 20
+  pub alive : next.alive ≡ t.alive
+  pub epoch : next.epoch ≡ t.epoch
+  pub given : t.given ≤ t.served → next.given ≤ next.served
+  pub served : next.served ≡ t.served + 1
+
+same_answered : (t : Tables) (given : ℕ) → (t.given ≤ t.served → given ≤ t.served + 1) → Answered t (record t { given = given; served = t.served + 1 })
+same_answered t given few = record { weighs = omega arith; alive = refl; epoch = refl; given = few; served = refl }
+
+taken_answered : (t : Tables) (id : AppId) (s : Submission) (row : Option AppRow) → Answered t (record (taken_by row id s t) { served = t.served + 1 })
+taken_answered t id s None =
+    record { weighs = joined_weighs t (t.rows ++ (id, Some (row_new s)) ∷ []) (t.going + 1) t.given (t.served + 1) id; alive = refl; epoch = refl; given = λ g. omega (arith, g); served = refl }
+taken_answered t id s (Some row) = same_answered t t.given (λ g. omega (arith, g))
+
+submit_answered : (t : Tables) (id : AppId) (s : Submission) (reply : Reply) → Answered t (record (after_client (asks.Submit id s) reply t) { served = t.served + 1 })
+submit_answered t id s replies.Submitted = taken_answered t id s (row_of t.rows id)
+submit_answered t id s reply = same_answered t t.given (λ g. omega (arith, g))
+
+new_answered : (t : Tables) (h : History) (reply : Reply) → reply ≡ replies.New (next_app (scene_in h t)) → Answered t (record (after_client asks.New reply t) { served = t.served + 1 })
+new_answered t h reply is = rw is (same_answered t (t.given + 1) (λ g. omega (arith, g)))
+
+pub client_answered : (t : Tables) (h : History) (user : List ℕ) (ask : ClientAsk) (reply : Reply) → IsBuiltAsk ask → reply ≡ client_reply t.settings (scene_in h t) user ask
+    → Answered t (record (after_client ask reply t) { served = t.served + 1 })
+client_answered t h user asks.New reply built answers = new_answered t h reply answers
+client_answered t h user (asks.Submit id s) reply built answers = submit_answered t id s reply
+client_answered t h user (asks.Report id) reply built answers = same_answered t t.given (λ g. omega (arith, g))
+client_answered t h user (asks.Kill id) reply built answers = absurd built

@@ -1,14 +1,10 @@
-pub mod Listed
-pub mod Counts
-pub mod Ids
-pub mod Flows
-pub mod Standing
-pub mod Recorded
-pub mod Opening
-pub mod Found
-pub mod Deciding
-pub mod Running
-pub mod Settling
-pub mod Answering
-pub mod Weighing
-pub mod Moving
+mod Listed
+mod Standing
+mod Recorded
+mod Phases
+mod Showing
+mod Answering
+mod Settling
+mod Lives
+mod Moving
+pub mod Telling

@@ -1,5 +1,7 @@
 -- What a store's operations amount to has each application once.
-use Rattle.std.proofs.Common.{◌≡◌, ℕ, ◌≤◌, List, [], ◌∷◌, ◌++◌, Bool, true, false, not, cond, fold, map, filter, find, is_none, is_some, None, Some, Option, if◌then◌else◌, refl, sym, ◌∙◌, ap, arith}
+use Rattle.std.proofs.Common.{◌≡◌, ℕ, ◌+◌, ◌≤◌, List, [], ◌∷◌, ◌++◌, Bool, true, false, not, cond, fold, map, filter, find, is_none, is_some, None, Some, Option, if◌then◌else◌, count_by, refl, sym, ◌∙◌, ap, arith}
+use Rattle.std.specs.List.{list_any}
+use Rattle.std.proofs.lemmas.List.Sums.{sum_by-append, sum_by-cons}
 use Rattle.rm_types.specs.declared.ids.AppId.{AppId}
 use Rattle.rm_types.specs.declared.operations.Op.{Op}
 use Rattle.rm_types.specs.declared.operations.Op.TheVariants.{Epoch, App, Attempt, AttemptEnd, AppEnd, Remove}
@@ -8,10 +10,30 @@ use Rattle.rm_types.specs.declared.records.AppRecord.{AppRecord}
 use Rattle.rm_types.specs.Ids.{is_app}
 use Rattle.rm_types.specs.Records.{Records, records, recorded, no_records, new_record, record_of, fits_records, stray_from, with_record, with_end}
 use Rattle.rm_core.specs.Adds.{CanBeginOver}
-use Rattle.rm_core.specs.InFlight.{kept_at}
-use Rattle.rm_core.specs.Keeps.{CanGoOn}
-use Rattle.rm_core.proofs.Counts.{count_front, count_end, fails_never, is_some-find}
-use Rattle.rm_core.proofs.Ids.{is_app_same}
+use Rattle.rm_facts.proofs.Counts.{fails_never}
+use Rattle.rm_facts.proofs.Found.{is_app_same}
+
+-- how often an application is recorded
+abbrev kept_at : AppId → List AppRecord → ℕ
+kept_at q apps = count_by (λ app. is_app app.id q) apps
+
+count_front : {X : Type 0} (p : X → Bool) (x : X) (xs : List X) → count_by p (x ∷ xs) ≡ cond (p x) 1 0 + count_by p xs
+count_front p x xs = sum_by-cons (λ y. cond (p y) 1 0) x xs
+
+count_end : {X : Type 0} (p : X → Bool) (xs : List X) (x : X) → count_by p (xs ++ x ∷ []) ≡ count_by p xs + cond (p x) 1 0
+count_end p xs x =
+    let e : count_by p (xs ++ x ∷ []) ≡ count_by p xs + count_by p (x ∷ []) = sum_by-append (λ y. cond (p y) 1 0) xs (x ∷ []) in
+    let f = count_front p x [] in
+    omega (arith, e, f)
+
+find_more : {X : Type 0} (p : X → Bool) (x : X) (xs : List X) (b : Bool) → p x ≡ b → is_some (find p xs) ≡ list_any p xs → is_some (find p (x ∷ xs)) ≡ list_any p (x ∷ xs)
+find_more p x xs true e h = rw e refl
+find_more p x xs false e h = rw e h
+
+-- something is found exactly where one passes
+is_some-find : {X : Type 0} (p : X → Bool) (xs : List X) → is_some (find p xs) ≡ list_any p xs
+is_some-find p [] = refl
+is_some-find p (x ∷ xs) = find_more p x xs (p x) refl (is_some-find p xs)
 
 -- each application is there once at most
 abbrev pub EachOnce : List AppRecord → Type 0
@@ -89,10 +111,10 @@ once_from : (ops : List Op) (r : Records) → EachOnce r.apps → stray_from r o
 once_from [] r once none = once
 once_from (op ∷ ops) r once none = once_step op ops r (fits_records r op) refl once none (once_from ops (recorded r op))
 
--- a life can go on over what it begins over
-pub can_go_on : (tree : Records) → CanBeginOver tree → CanGoOn tree.apps
-can_go_on tree over =
+-- a life begins over records of which no two are of one application
+pub each_once : (tree : Records) → CanBeginOver tree → EachOnce tree.apps
+each_once tree over =
     let store = over.of_store in
     let none : EachOnce no_records.apps = λ q. omega arith in
     let once : EachOnce (records store.ops).apps = once_from store.ops no_records none store.none_stray in
-    record { plain = over.plain; once = rw store.amounts once }
+    rw store.amounts once

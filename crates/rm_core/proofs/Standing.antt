@@ -1,17 +1,21 @@
--- One more entry in a life that stands.
-use Rattle.std.proofs.Common.{◌≡◌, ◌≢◌, List, [], ◌∷◌, ◌++◌, true, None, Some, refl, sym, ◌∙◌, ap, subst}
+-- One more entry of a log: a move that is lawful by the tables keeps what holds of them and of the log.
+use Rattle.std.proofs.Common.{◌≡◌, ◌≢◌, ◌≤◌, ◌<◌, ◌^◌, List, [], ◌∷◌, ◌++◌, Bool, true, false, None, Some, refl, sym, ◌∙◌, ap, subst}
 use Rattle.std.proofs.lemmas.List.Sums.{fold_push}
+use Rattle.std.specs.declared.alloc.Global.{Global}
 use Rattle.rm_types.specs.declared.entries.Entry.{Entry}
 use Rattle.rm_types.specs.declared.operations.Op.{Op}
 use Rattle.rm_types.specs.declared.settings.Settings.{Settings}
-use Rattle.rm_types.specs.Records.{Records, records}
+use Rattle.rm_types.specs.Records.{records}
 use Rattle.rm_model.specs.State.{Manager, opening_state}
-use Rattle.rm_model.specs.Changes.{after, after_in, after_all}
-use Rattle.rm_model.specs.Rules.{Allowed, AllowedIn}
+use Rattle.rm_model.specs.Changes.{after, after_all}
+use Rattle.rm_model.specs.Rules.{Allowed}
 use Rattle.rm_model.specs.Lawful.{AllAllowed, state_after}
-use Rattle.rm_core.specs.declared.tables.Tables.{Tables}
-use Rattle.rm_core.specs.Told.{History, told, standing, scene_in, life_in, recorded_in, history_after}
-use Rattle.rm_core.specs.Keeps.{Keeps}
+use Rattle.rm_tables.specs.declared.tables.Tables.{Tables}
+use Rattle.rm_facts.specs.Told.{History, life_in, standing, told}
+use Rattle.rm_facts.specs.Submissions.{RunsOn}
+use Rattle.rm_facts.specs.Weights.{weight}
+use Rattle.rm_core.specs.Queues.{tables_after, tables_moved, unopened}
+use Rattle.rm_core.specs.Keeps.{Keeps, IsRunning, IsSound, Phase, running}
 
 -- an entry that is allowed after a log may be added to it
 pub AllAllowed-push : (settings : Settings) (s : Manager) (log : List Entry) (e : Entry) → AllAllowed settings s log → Allowed settings (after_all s log) e
@@ -23,45 +27,78 @@ AllAllowed-push settings s (x ∷ log) e h a = (h.0, AllAllowed-push settings (a
 pub told_standing : (h : History) (t : Tables) → t.alive ≡ true → told h t ≡ standing h t
 told_standing h t a = rw a refl
 
-module _ (settings : Settings) (opening : List Op) (log : List Entry) (t : Tables) (k : Keeps settings opening log t) (alive : t.alive ≡ true) where
-  -- the state after a log, by the tables of a life that stands
-  pub stands : state_after opening log ≡ standing k.history t
-  stands = k.same ∙ told_standing k.history t alive
-
-  -- a life stands only after an entry
-  pub some_entry : log ≢ []
-  some_entry = λ none.
-      let at : opening_state opening ≡ standing k.history t = subst (λ (l : List Entry). state_after opening l ≡ standing k.history t) none stands in
-      let life : None ≡ Some (life_in k.history t) = ap (λ (s : Manager). s.life) at in
-      cc
-
-  -- what is recorded, by the tables of a life that stands
-  pub known : records k.history.kept ≡ recorded_in k.history t
-  known = k.recorded some_entry
+-- what a move does to the tables, with a history: its entry is allowed, the state goes on by it, and a phase is reached
+pub record Moves (h : History) (t : Tables) (e : Entry) (next : Tables) : Type 0 where
+  pub history : History
+  pub lawful : Allowed t.settings (told h t) e
+  pub same : after (told h t) e ≡ told history next
+  pub recorded : records history.kept ≡ next.tree
+  pub phase : Phase history next
+  pub settings : next.settings ≡ t.settings
+  pub alloc : next.alloc ≡ t.alloc
+  pub own : next ≡ tables_moved t e
 
 -- a log with an entry at its end
 pub not_empty : {X : Type 0} (xs : List X) (x : X) → xs ++ x ∷ [] ≢ []
 not_empty [] x = λ h. cc
 not_empty (y ∷ xs) x = λ h. cc
 
--- one more entry keeps what holds, where it is allowed by the tables, changes the state as it changes the tables, and the
--- records with them
-pub keeps_more : (settings : Settings) (opening : List Op) (log : List Entry) (t next : Tables) (e : Entry) (k : Keeps settings opening log t) → t.alive ≡ true → next.alive ≡ true
-    → AllowedIn settings (scene_in k.history t) e
-    → after_in (standing k.history t) (scene_in k.history t) e ≡ standing (history_after k.history e) next
-    → records (history_after k.history e).kept ≡ recorded_in (history_after k.history e) next
-    → Keeps settings opening (log ++ e ∷ []) next
-keeps_more settings opening log t next e k alive lives a same recorded =
-    let h = k.history in
-    let at = stands settings opening log t k alive in
-    let is = known settings opening log t k alive in
-    let allowed : Allowed settings (standing h t) e =
-    subst (λ (r : Records). AllowedIn settings (record { records = r; awaiting = t.awaiting; life = life_in h t }) e) (sym is) a in
-    let changed : after (standing h t) e ≡ standing (history_after h e) next =
-    subst (λ (r : Records). after_in (standing h t) (record { records = r; awaiting = t.awaiting; life = life_in h t }) e ≡ standing (history_after h e) next) (sym is) same in
+-- the tables are told by one more entry, where a life began before
+told_more : (opening : List Op) (log : List Entry) (t next : Tables) (e : Entry) → t ≡ tables_after t.alloc t.settings opening log → next.settings ≡ t.settings → next.alloc ≡ t.alloc → next ≡ tables_moved t e
+    → next ≡ tables_after next.alloc next.settings opening (log ++ e ∷ [])
+told_more opening log t next e before settings alloc own =
+    let more : tables_after t.alloc t.settings opening (log ++ e ∷ []) ≡ tables_moved (tables_after t.alloc t.settings opening log) e = fold_push tables_moved (unopened t.alloc t.settings opening) log e in
+    let here : next ≡ tables_after t.alloc t.settings opening (log ++ e ∷ []) = own ∙ ap (λ (x : Tables). tables_moved x e) before ∙ sym more in
+    here ∙ ap (λ (x : Settings). tables_after t.alloc x opening (log ++ e ∷ [])) (sym settings) ∙ ap (λ (x : Global). tables_after x next.settings opening (log ++ e ∷ [])) (sym alloc)
+
+-- a life stands only after an entry
+pub some_entry : (opening : List Op) (log : List Entry) (t : Tables) → Keeps opening log t → t.alive ≡ true → log ≢ []
+some_entry opening log t k alive = λ none. let fresh = ap (λ (x : Tables). x.alive) (k.fresh none) in cc
+
+-- the same over each store that held an opening list for which the log was lawful
+pub keeps_more : (opening : List Op) (log : List Entry) (t next : Tables) (e : Entry) (k : Keeps opening log t) → t.alive ≡ true → Moves k.history t e next → Keeps opening (log ++ e ∷ []) next
+keeps_more opening log t next e k alive m =
     record {
-      allowed = AllAllowed-push settings (opening_state opening) log e k.allowed (subst (λ s. Allowed settings s e) (sym at) allowed);
-      history = history_after h e;
-      same = fold_push after (opening_state opening) log e ∙ ap (λ s. after s e) at ∙ changed ∙ sym (told_standing (history_after h e) next lives);
-      recorded = λ some. recorded;
+      allowed = rw m.settings (AllAllowed-push t.settings (opening_state opening) log e k.allowed (subst (λ (s : Manager). Allowed t.settings s e) (sym k.same) m.lawful));
+      history = m.history;
+      same = fold_push after (opening_state opening) log e ∙ ap (λ (s : Manager). after s e) k.same ∙ m.same;
+      recorded = λ some. m.recorded;
+      phase = m.phase;
+      fresh = λ none. absurd (not_empty log e none);
+      told_by = λ some. told_more opening log t next e (k.told_by (some_entry opening log t k alive)) m.settings m.alloc m.own;
     }
+
+-- a step of an open life is such a move
+pub running_moves : (h : History) (t next : Tables) (e : Entry) → IsRunning h t → RunsOn h t e next → next ≡ tables_moved t e → Moves h t e next
+running_moves h t next e r on own =
+    let is = told_standing h t r.alive in
+    let lives : next.alive ≡ true = on.stays.alive ∙ r.alive in
+    record {
+      history = on.history;
+      lawful = subst (λ (s : Manager). Allowed t.settings s e) (sym is) on.lawful;
+      same = ap (λ (s : Manager). after s e) is ∙ on.same ∙ sym (told_standing on.history next lives);
+      recorded = on.runs.keeps.recorded;
+      phase = running (record { alive = lives; handed = on.stays.handed r.handed; runs = on.runs });
+      settings = on.stays.settings;
+      alloc = on.stays.alloc;
+      own = own;
+    }
+
+-- a move of the manager's own: the life stands before and after it with its epoch and its numbers, and less is left to do
+pub record Own (h : History) (t : Tables) (e : Entry) (next : Tables) : Type 0 where
+  pub moves : Moves h t e next
+  pub lighter : weight next < weight t
+  pub stood : t.alive ≡ true
+  pub stands : next.alive ≡ true
+  pub epoch : next.epoch ≡ t.epoch
+  pub given : next.given ≡ t.given
+  pub served : next.served ≡ t.served
+
+pub running_own : (h : History) (t next : Tables) (e : Entry) → IsRunning h t → RunsOn h t e next → next ≡ tables_moved t e → Own h t e next
+running_own h t next e r on own =
+    record { moves = running_moves h t next e r on own; lighter = on.lighter; stood = r.alive; stands = on.stays.alive ∙ r.alive; epoch = on.stays.epoch; given = on.stays.given; served = on.stays.served }
+
+-- the tables stay sound
+pub sound_own : (t next : Tables) (e : Entry) (s : IsSound t) → Own s.history t e next → IsSound next
+sound_own t next e s own =
+    record { history = own.moves.history; phase = own.moves.phase; epoch = rw own.epoch s.epoch; given = rw (own.given, own.served) s.given }

@@ -9,11 +9,12 @@ use Rattle.rm_types.specs.declared.replies.Reply.{Reply}
 use Rattle.rm_types.specs.Records.{Records, records, stray}
 use Rattle.rm_model.specs.Lawful.{state_after}
 use Rattle.rm_types.specs.Lanes.{feed_lane, sender_of}
-use Rattle.rm_core.specs.InFlight.{AllPlain}
-use Rattle.rm_core.specs.Ready.{is_ready, may_go_down}
-use Rattle.rm_core.specs.Seen.{Seen, handed_op}
+use Rattle.rm_core.specs.Seen.{Seen, StandsFor, handed_op}
 use Rattle.rm_core.specs.Serving.{IsBuiltMessage}
-use Rattle.rm_core.specs.declared.tables.Tables.{Tables}
+use Rattle.rm_tables.specs.declared.tables.Tables.{Tables}
+use Rattle.rm_tables.specs.Lives.{is_ready, may_go_down}
+use Rattle.rm_facts.specs.Submissions.{AllPlain, IsOfLane}
+use Rattle.rm_facts.specs.Weights.{weight}
 use Rattle.rm_core.specs.declared.manager.Move.{Move}
 use Rattle.rm_core.specs.declared.manager.Move.TheVariants.{Serve, Main, Sched, Hand, Kept, Settle, Down, Begin}
 
@@ -54,18 +55,12 @@ abbrev pub may_make : Tables → Move → Bool
 may_make t Down = may_go_down t
 may_make t next = is_ready t (lane_of next)
 
--- the entries that the main queue's dispatcher may log
+-- the entries that the main queue's dispatcher may log, and those of the scheduler
 abbrev pub IsOfMain : Entry → Type 0
-IsOfMain (Issued op) = Unit {0}
-IsOfMain (Accepted app) = Unit {0}
-IsOfMain (Quiet lane) = lane ≡ MainLane
-IsOfMain _ = ⊥
+IsOfMain e = IsOfLane MainLane e
 
--- the entries that the scheduler may log
 abbrev pub IsOfSched : Entry → Type 0
-IsOfSched (Queued attempt) = Unit {0}
-IsOfSched (Quiet lane) = lane ≡ SchedLane
-IsOfSched _ = ⊥
+IsOfSched e = IsOfLane SchedLane e
 
 -- the entry that a move adds to a log
 abbrev pub IsOf : Move → Tables → Entry → Type 0
@@ -85,10 +80,8 @@ pub record Adds (next : Move) (t : Tables) (log longer : List Entry) : Type 0 wh
   pub added : longer ≡ log ++ entry ∷ []
 
 -- the tree is what the operations that are kept after a log amount to
-pub record AmountsTo (tree : Records) (opening : List Op) (seen : Seen) : Type 0 where
-  pub next_epoch : tree.next_epoch ≡ (records (state_after opening seen.log).kept).next_epoch
-  pub stamp : tree.stamp ≡ (records (state_after opening seen.log).kept).stamp
-  pub apps : tree.apps ≡ (records (state_after opening seen.log).kept).apps
+abbrev pub AmountsTo : Records → List Op → Seen → Type 0
+AmountsTo tree opening seen = tree ≡ records (state_after opening seen.log).kept
 
 -- a life begins over what is kept; of other moves this says nothing
 abbrev pub GoesOnFrom : Move → List Op → Seen → Type 0
@@ -121,3 +114,15 @@ served_after _ served = served
 abbrev pub TablesStay : Move → Tables → Tables → Type 0
 TablesStay Settle old new = new ≡ old
 TablesStay _ old new = Unit {0}
+
+-- what a move that is made does: it adds its entry; over each store for which the log was lawful, and over which a life that begins
+-- begins, it is lawful still; it was ready; less is left to do, as far as its kind says
+pub record Does (next : Move) (old new : Seen) : Type 0 where
+  pub added : Adds next old.tables old.log new.log
+  pub lawful : (opening : List Op) → StandsFor opening old → GoesOnFrom next opening old → StandsFor opening new
+  pub ready : may_make old.tables next ≡ true
+  pub weighs : Weighs next (weight old.tables) (weight new.tables)
+  pub stands : Stands next old.tables.alive new.tables.alive
+  pub served : new.tables.served ≡ served_after next old.tables.served
+  pub tables : TablesStay next old.tables new.tables
+  pub settings : new.settings ≡ old.settings

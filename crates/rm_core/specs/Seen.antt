@@ -6,7 +6,7 @@ use Rattle.rm_types.specs.declared.operations.Op.{Op}
 use Rattle.rm_types.specs.declared.settings.Settings.{Settings}
 use Rattle.rm_types.specs.Records.{Records, records, fits_records}
 use Rattle.rm_model.specs.Lawful.{IsAtRest, state_after}
-use Rattle.rm_core.specs.declared.tables.Tables.{Tables}
+use Rattle.rm_tables.specs.declared.tables.Tables.{Tables}
 use Rattle.rm_core.specs.Keeps.{Keeps}
 
 pub record Seen : Type 0 where
@@ -17,7 +17,7 @@ pub record Seen : Type 0 where
 -- the log is one that a manager over a store that held the opening list could have made, and the tables stand for the
 -- state after it
 abbrev pub StandsFor : List Op → Seen → Type 0
-StandsFor opening seen = Keeps seen.settings opening seen.log seen.tables
+StandsFor opening seen = Keeps opening seen.log seen.tables
 
 -- the operation that is with the store
 abbrev pub handed_op : Tables → Option Op
@@ -35,16 +35,10 @@ pub record RestsWhere (seen : Seen) : Type 0 where
   pub none_handed : seen.tables.alive ≡ true → seen.tables.handed ≡ false
   pub at_rest : (opening : List Op) → StandsFor opening seen → IsAtRest seen.settings (state_after opening seen.log) (state_after opening seen.log).life
 
--- where nothing is left to do, nothing is owed
-abbrev pub Rests : Seen → Type 0
-Rests seen =
-    seen.tables.main ≡ [] → seen.tables.sched ≡ [] → (seen.tables.alive ≡ true → seen.tables.awaiting ≡ []) → RestsWhere seen
-
--- the tables know of a store what the tree says
-pub record IsKnown (t : Tables) (tree : Records) : Type 0 where
-  pub next_epoch : t.next_epoch ≡ tree.next_epoch
-  pub stamp : t.stored_stamp ≡ tree.stamp
-  pub apps : t.apps ≡ tree.apps
+-- no store has refused an operation of a life that stands; and where nothing is left to do, nothing is owed
+pub record Rests (seen : Seen) : Type 0 where
+  pub unblown : seen.tables.alive ≡ true → seen.tables.blown ≡ false
+  pub left : seen.tables.main ≡ [] → seen.tables.sched ≡ [] → (seen.tables.alive ≡ true → seen.tables.awaiting ≡ []) → RestsWhere seen
 
 -- the operation is the first that awaits after the log, and fits what is kept by then
 pub record IsToBeKept (opening : List Op) (seen : Seen) (op : Op) : Type 0 where

@@ -1,24 +1,16 @@
-//! The manager itself: its tables, its two queues of events and its log.
+//! The manager itself: its tables, with their two queues of events, and its log.
 //!
-//! Each move adds one entry to the log, or is refused and changes nothing. The log is at every moment
-//! one that a manager that never dies could have made: the judge of `rm_model` allows each entry in the
-//! state that those before it leave.
+//! Each move adds one entry to the log, or is refused and changes nothing. The log is at every moment one that a manager that never
+//! dies could have made: the judge of `rm_model` allows each entry in the state that those before it leave.
 //!
-//! It stands on `rm_types`, on `rm_tree` for what a store holds, and on the definitions of `rm_model`. Which message is served and when a
-//! segment closes is for the layer above to say.
+//! It stands on `rm_tables` and on the crates that work off its queues (`rm_dispatch`, `rm_sched`) and answer clients (`rm_client`),
+//! and on `rm_facts` for why each of their steps is lawful. Which message is served and when a segment closes is for the layer above
+//! to say.
 #![tactic(auto)]
 
-mod clients;
-mod dispatch;
-mod events;
-mod keeping;
 mod likeness;
 mod manager;
 mod moves;
-mod scheduler;
-mod searches;
-mod tables;
 
-pub use events::{MainEvent, Refused, SchedEvent};
 pub use manager::{Core, Move};
-pub use tables::Tables;
+pub use rm_tables::Refused;

@@ -1,7 +1,5 @@
 ghost use Rattle.std.specs.Prelude.{◌≡◌, ◌↔◌, IsTrue};
-ghost use Rattle.rm_core.specs.Seen.{IsKnown};
 
-use crate::tables::Tables;
 use rm_tree::Tree;
 use rm_types::{AppRecord, AttemptRecord, How, Submission, Text};
 
@@ -59,24 +57,26 @@ fn is_same_app(one: &AppRecord, other: &AppRecord) -> bool
         && one.end_order == other.end_order
 }
 
-fn are_same_apps(apps: &[AppRecord], tree: &Tree) -> bool
-    ensures { IsTrue result ↔ (apps.now ≡ tree.now.apps) }
+fn are_same_apps(tree: &Tree, other: &Tree) -> bool
+    ensures { IsTrue result ↔ (tree.now.apps ≡ other.now.apps) }
 {
-    if apps.len() != tree.len() {
+    if tree.len() != other.len() {
         return false;
     }
-    'records: for place in 0..apps.len() {
-        if !is_same_app(&apps[place], tree.at(place)) {
+    'records: for place in 0..tree.len() {
+        if !is_same_app(tree.at(place), other.at(place)) {
             return false;
         }
     }
     true
 }
 
-/// Whether the tables know of a store just what a tree says.
-pub fn is_known(t: &Tables, tree: &Tree) -> bool
-    ensures { IsTrue result ↔ IsKnown t.now tree.now }
+/// Whether two trees record the same.
+pub fn are_same(tree: &Tree, other: &Tree) -> bool
+    ensures { IsTrue result ↔ (tree.now ≡ other.now) }
 {
-    let numbers = t.next_epoch == tree.next_epoch() && t.stored_stamp == tree.stamp();
-    numbers && are_same_apps(t.apps.as_slice(), tree)
+    let numbers = tree.next_epoch() == other.next_epoch()
+        && tree.stamp() == other.stamp()
+        && tree.applied() == other.applied();
+    numbers && are_same_apps(tree, other)
 }

@@ -1,24 +1,22 @@
-ghost use Rattle.std.specs.Prelude.{◌≡◌, ◌↔◌, ◌+◌, ◌*◌, ◌<◌, ◌≤◌, List, [], OnOk, OnErr, IsOk, IfOk, IfNone, IfSome, IsErrOf, IsTrue, count_by, length, true, false};
+ghost use Rattle.std.specs.Prelude.{◌≡◌, ◌↔◌, ◌<◌, ◌≤◌, List, [], OnOk, OnErr, IsOk, IfOk, IfNone, IfSome, IsErrOf, IsTrue, Some, count_by, false};
 ghost use Rattle.std.specs.Option.{option_copied};
 ghost use Rattle.rm_types.specs.declared.entries.Entry.{Entry};
 ghost use Rattle.rm_types.specs.declared.messages.Lane.{Lane};
 ghost use Rattle.rm_types.specs.declared.operations.Op.{Op as AnyOp};
 ghost use Rattle.rm_types.specs.Ranges.{IsOperation};
+ghost use Rattle.rm_queues.specs.Rules.{KeepsRules};
 ghost use Rattle.rm_model.specs.State.{opening_state};
 ghost use Rattle.rm_model.specs.Lawful.{AllAllowed};
-ghost use Rattle.rm_core.specs.Adds.{Adds, AmountsTo, CanBeginOver, CanMake, GoesOnFrom, Stands, TablesStay, Weighs, may_make, served_after};
-ghost use Rattle.rm_core.specs.Ready.{is_ready, may_go_down};
-ghost use Rattle.rm_core.specs.Seen.{IsKnown, IsToBeKept, Rests, StandsFor, handed_op, is_kept_entry};
+ghost use Rattle.rm_tables.specs.Lives.{is_ready, may_go_down, no_life};
+ghost use Rattle.rm_core.specs.Adds.{AmountsTo, CanBeginOver, CanMake, Does, may_make};
+ghost use Rattle.rm_core.specs.Keeps.{QueuesAre};
+ghost use Rattle.rm_core.specs.Seen.{IsToBeKept, Rests, StandsFor, handed_op, is_kept_entry};
 ghost use Rattle.rm_core.specs.Serving.{IsBuiltMessage};
-ghost use Rattle.rm_core.specs.Steps.{no_life};
-ghost use Rattle.rm_core.specs.Weights.{weight};
 
-use crate::events::Refused;
-use crate::likeness::is_known;
-use crate::moves::{
-    move_begin, move_down, move_hand, move_kept, move_main, move_sched, move_serve, move_settle,
-};
-use crate::tables::{Tables, is_ready, may_go_down, new_tables};
+use crate::likeness::are_same;
+use crate::moves;
+use rm_queues::QueueTree;
+use rm_tables::{Refused, Tables};
 use rm_tree::Tree;
 use rm_types::{Entry, Items, Lane, Message, NoMemory, Op, Settings};
 use std::alloc::Global;
@@ -47,40 +45,40 @@ pub enum Move {
 }
 
 /// The manager and its log. The log is stored here, once.
-#[derive(Debug, Drop)]
+#[derive(Drop)]
 pub struct Core {
-    settings: Settings,
+    /// The queues of the settings, from the first life on.
+    queues: Option<QueueTree>,
     tables: Tables,
     log: Items<Entry>,
 }
 
 impl Model for Core {
+    ghost use Rattle.rm_core.specs.Keeps.{QueuesAre};
     ghost use Rattle.rm_core.specs.Seen.{Seen};
 
     ghost Value = { Seen };
 
-    ghost use Rattle.rm_core.specs.Keeps.{IsSound};
+    ghost use Rattle.rm_core.specs.Keeps.{IsSoundCore};
 
-    ghost view = { λ a. record { settings = a.settings; tables = a.tables; log = a.log } };
+    ghost view = { λ a. record { settings = a.tables.settings; tables = a.tables; log = a.log } };
 
-    ghost invariant = { λ a. IsSound a.settings a.tables };
+    ghost invariant = { λ a. IsSoundCore a.queues a.tables };
 }
 
 impl Core {
-    /// A manager before its first life. Whatever the store holds, an empty log is lawful.
-    ///
-    /// Rights can't be checked yet, so the settings have `acl_enable` false.
+    /// A manager before its first life. Whatever the store holds, an empty log is lawful. The first queue of the settings is the root.
     pub fn new(alloc: Global, settings: Settings) -> Result<Core, NoMemory>
-        requires { settings.acl_enable ≡ false }
+        requires { KeepsRules settings }
         ensures made { IsOk result }
         ensures settings { IfOk result (λ core. core.settings ≡ settings) }
-        ensures tables { IfOk result (λ core. core.tables ≡ no_life alloc) }
+        ensures tables { IfOk result (λ core. core.tables ≡ no_life alloc settings) }
         ensures log { IfOk result (λ core. core.log ≡ []) }
         ensures stands { IfOk result (λ core. (opening : List AnyOp) → StandsFor opening core) }
     {
         Ok(Core {
-            settings,
-            tables: new_tables(alloc),
+            queues: None,
+            tables: Tables::new(alloc, settings),
             log: Items::new(alloc),
         })
     }
@@ -111,7 +109,7 @@ impl Core {
         ensures framed { IfSome result (λ op. IsOperation op.now) }
         ensures next { IfSome result (λ op. (opening : List AnyOp) → StandsFor opening self.now → IsToBeKept opening self.now op.now) }
     {
-        if is_ready(&self.tables, Lane::Write) {
+        if self.tables.is_ready(Lane::Write) {
             self.tables.awaiting.first()
         } else {
             None
@@ -129,22 +127,22 @@ impl Core {
     pub fn is_ready(&self, lane: Lane) -> bool
         ensures { result ≡ is_ready self.now.tables lane }
     {
-        is_ready(&self.tables, lane)
+        self.tables.is_ready(lane)
     }
 
     /// Whether the life may go down: one stands, and no operation is with the store.
     pub fn may_go_down(&self) -> bool
         ensures { result ≡ may_go_down self.now.tables }
     {
-        may_go_down(&self.tables)
+        self.tables.may_go_down()
     }
 
     /// Whether a tree is what the store holds by all that the manager was told, from the first life on.
     pub fn is_known(&self, tree: &Tree) -> bool
-        ensures known { IsTrue result ↔ IsKnown self.now.tables tree.now }
+        ensures known { IsTrue result ↔ (self.now.tables.tree ≡ tree.now) }
         ensures amounts { (opening : List AnyOp) → StandsFor opening self.now → (self.now.log ≡ [] → ⊥) → IsTrue result ↔ AmountsTo tree.now opening self.now }
     {
-        is_known(&self.tables, tree)
+        are_same(&self.tables.tree, tree)
     }
 
     /// Where nothing is left to do, nothing is owed.
@@ -154,20 +152,13 @@ impl Core {
         let _ = &self.log;
     }
 
-    /// Makes one move: the log has one more entry, or the move is refused and nothing has changed.
-    /// `NotReady` comes exactly where the move's lane isn't ready. Where the log was lawful over a store that
-    /// held an opening list, and a life begins over what is kept by then, it is lawful after the move too.
+    /// Makes one move: the log has one more entry, or the move is refused and nothing has changed. `NotReady` comes exactly where the
+    /// move's lane isn't ready. Where the log was lawful over a store that held an opening list, and a life begins over what is
+    /// kept by then, it is lawful after the move too.
     pub fn step(&mut self, next: Move) -> Result<(), Refused>
         requires { CanMake self.old.tables next }
-        ensures added { OnOk result (Adds next self.old.tables self.old.log self.new.log) }
-        ensures lawful { OnOk result ((opening : List AnyOp) → StandsFor opening self.old → GoesOnFrom next opening self.old → StandsFor opening self.new) }
-        ensures ready { OnOk result (may_make self.old.tables next ≡ true) }
-        ensures weighs { OnOk result (Weighs next (weight self.old.tables) (weight self.new.tables)) }
-        ensures stands { OnOk result (Stands next self.old.tables.alive self.new.tables.alive) }
-        ensures served { OnOk result (self.new.tables.served ≡ served_after next self.old.tables.served) }
-        ensures tables { OnOk result (TablesStay next self.old.tables self.new.tables) }
+        ensures does { OnOk result (Does next self.old self.new) }
         ensures not_ready { IsErrOf result Refused.NotReady → may_make self.old.tables next ≡ false }
-        ensures settings { self.new.settings ≡ self.old.settings }
         ensures err { OnErr result (self.new ≡ self.old) }
     {
         match next {
@@ -176,9 +167,9 @@ impl Core {
             Move::Main => self.main(),
             Move::Sched => self.sched(),
             Move::Hand => self.hand(),
-            Move::Kept => self.kept(),
+            Move::Kept => self.keep(),
             Move::Settle => self.settle(),
-            Move::Down => self.down(),
+            Move::Down => self.go_down(),
         }
     }
 
@@ -186,123 +177,92 @@ impl Core {
         requires over { CanBeginOver tree }
         requires low { 1 ≤ handed }
         requires high { handed ≤ 1000000000000000 }
-        ensures added { OnOk result (Adds (Move.Begin tree handed) self.old.tables self.old.log self.new.log) }
-        ensures lawful { OnOk result ((opening : List AnyOp) → StandsFor opening self.old → AmountsTo tree opening self.old → StandsFor opening self.new) }
-        ensures ready { OnOk result (is_ready self.old.tables Lane.Begin ≡ true) }
-        ensures weighs { OnOk result (weight self.new.tables ≤ 13 + 7 * length tree.apps) }
-        ensures stands { OnOk result ((self.old.tables.alive ≡ false) × (self.new.tables.alive ≡ true)) }
-        ensures served { OnOk result (self.new.tables.served ≡ 0) }
+        ensures does { OnOk result (Does (Move.Begin tree handed) self.old self.new) }
         ensures not_ready { IsErrOf result Refused.NotReady → is_ready self.old.tables Lane.Begin ≡ false }
-        ensures settings { self.new.settings ≡ self.old.settings }
         ensures err { OnErr result (self.new ≡ self.old) }
     {
         if self.tables.alive {
             return Err(Refused::NotReady);
         }
+        ready_queues(&mut self.queues, &self.tables)?;
         let stamp = handed.max(tree.stamp() + 1);
-        move_begin(&mut self.tables, &mut self.log, &tree, stamp)
+        moves::begin(&mut self.tables, &mut self.log, tree, stamp)
     }
 
     fn main(&mut self) -> Result<(), Refused>
-        ensures added { OnOk result (Adds Move.Main self.old.tables self.old.log self.new.log) }
-        ensures lawful { OnOk result ((opening : List AnyOp) → StandsFor opening self.old → StandsFor opening self.new) }
-        ensures ready { OnOk result (is_ready self.old.tables Lane.Main ≡ true) }
-        ensures weighs { OnOk result (weight self.new.tables < weight self.old.tables) }
-        ensures stands { OnOk result ((self.old.tables.alive ≡ true) × (self.new.tables.alive ≡ true)) }
-        ensures served { OnOk result (self.new.tables.served ≡ self.old.tables.served) }
+        ensures does { OnOk result (Does Move.Main self.old self.new) }
         ensures not_ready { IsErrOf result Refused.NotReady → is_ready self.old.tables Lane.Main ≡ false }
-        ensures settings { self.new.settings ≡ self.old.settings }
         ensures err { OnErr result (self.new ≡ self.old) }
     {
-        move_main(&mut self.tables, &mut self.log)
+        moves::main(&mut self.tables, &mut self.log)
     }
 
     fn sched(&mut self) -> Result<(), Refused>
-        ensures added { OnOk result (Adds Move.Sched self.old.tables self.old.log self.new.log) }
-        ensures lawful { OnOk result ((opening : List AnyOp) → StandsFor opening self.old → StandsFor opening self.new) }
-        ensures ready { OnOk result (is_ready self.old.tables Lane.Sched ≡ true) }
-        ensures weighs { OnOk result (weight self.new.tables < weight self.old.tables) }
-        ensures stands { OnOk result ((self.old.tables.alive ≡ true) × (self.new.tables.alive ≡ true)) }
-        ensures served { OnOk result (self.new.tables.served ≡ self.old.tables.served) }
+        ensures does { OnOk result (Does Move.Sched self.old self.new) }
         ensures not_ready { IsErrOf result Refused.NotReady → is_ready self.old.tables Lane.Sched ≡ false }
-        ensures settings { self.new.settings ≡ self.old.settings }
         ensures err { OnErr result (self.new ≡ self.old) }
     {
-        move_sched(&mut self.tables, &mut self.log)
+        moves::sched(&mut self.tables, &mut self.log)
     }
 
     fn hand(&mut self) -> Result<(), Refused>
-        ensures added { OnOk result (Adds Move.Hand self.old.tables self.old.log self.new.log) }
-        ensures lawful { OnOk result ((opening : List AnyOp) → StandsFor opening self.old → StandsFor opening self.new) }
-        ensures ready { OnOk result (is_ready self.old.tables Lane.Hand ≡ true) }
-        ensures weighs { OnOk result (weight self.new.tables < weight self.old.tables) }
-        ensures stands { OnOk result ((self.old.tables.alive ≡ true) × (self.new.tables.alive ≡ true)) }
-        ensures served { OnOk result (self.new.tables.served ≡ self.old.tables.served) }
+        ensures does { OnOk result (Does Move.Hand self.old self.new) }
         ensures not_ready { IsErrOf result Refused.NotReady → is_ready self.old.tables Lane.Hand ≡ false }
-        ensures settings { self.new.settings ≡ self.old.settings }
         ensures err { OnErr result (self.new ≡ self.old) }
     {
-        move_hand(&mut self.tables, &mut self.log)
+        moves::hand(&mut self.tables, &mut self.log)
     }
 
-    fn kept(&mut self) -> Result<(), Refused>
-        ensures added { OnOk result (Adds Move.Kept self.old.tables self.old.log self.new.log) }
-        ensures lawful { OnOk result ((opening : List AnyOp) → StandsFor opening self.old → StandsFor opening self.new) }
-        ensures ready { OnOk result (is_ready self.old.tables Lane.Write ≡ true) }
-        ensures weighs { OnOk result (weight self.new.tables < weight self.old.tables) }
-        ensures stands { OnOk result ((self.old.tables.alive ≡ true) × (self.new.tables.alive ≡ true)) }
-        ensures served { OnOk result (self.new.tables.served ≡ self.old.tables.served) }
+    fn keep(&mut self) -> Result<(), Refused>
+        ensures does { OnOk result (Does Move.Kept self.old self.new) }
         ensures not_ready { IsErrOf result Refused.NotReady → is_ready self.old.tables Lane.Write ≡ false }
-        ensures settings { self.new.settings ≡ self.old.settings }
         ensures err { OnErr result (self.new ≡ self.old) }
     {
-        move_kept(&mut self.tables, &mut self.log)
+        moves::keep(&mut self.tables, &mut self.log)
     }
 
     fn serve(&mut self, message: Message) -> Result<(), Refused>
         requires built { IsBuiltMessage message }
         requires few { self.old.tables.served < 100000 }
-        ensures added { OnOk result (Adds (Move.Serve message) self.old.tables self.old.log self.new.log) }
-        ensures lawful { OnOk result ((opening : List AnyOp) → StandsFor opening self.old → StandsFor opening self.new) }
-        ensures ready { OnOk result (is_ready self.old.tables Lane.Client ≡ true) }
-        ensures weighs { OnOk result (weight self.new.tables ≤ weight self.old.tables + 20) }
-        ensures stands { OnOk result ((self.old.tables.alive ≡ true) × (self.new.tables.alive ≡ true)) }
-        ensures served { OnOk result (self.new.tables.served ≡ self.old.tables.served + 1) }
+        ensures does { OnOk result (Does (Move.Serve message) self.old self.new) }
         ensures not_ready { IsErrOf result Refused.NotReady → is_ready self.old.tables Lane.Client ≡ false }
-        ensures settings { self.new.settings ≡ self.old.settings }
         ensures err { OnErr result (self.new ≡ self.old) }
     {
-        move_serve(&self.settings, &mut self.tables, &mut self.log, message)
+        let Some(queues) = &self.queues else {
+            return Err(Refused::NotReady);
+        };
+        moves::answer_message(queues, &mut self.tables, &mut self.log, message)
     }
 
     fn settle(&mut self) -> Result<(), Refused>
-        ensures added { OnOk result (Adds Move.Settle self.old.tables self.old.log self.new.log) }
-        ensures lawful { OnOk result ((opening : List AnyOp) → StandsFor opening self.old → StandsFor opening self.new) }
-        ensures ready { OnOk result (is_ready self.old.tables Lane.End ≡ true) }
-        ensures weighs { OnOk result (weight self.new.tables ≤ weight self.old.tables) }
-        ensures stands { OnOk result ((self.old.tables.alive ≡ true) × (self.new.tables.alive ≡ true)) }
-        ensures served { OnOk result (self.new.tables.served ≡ self.old.tables.served) }
-        ensures tables { self.new.tables ≡ self.old.tables }
+        ensures does { OnOk result (Does Move.Settle self.old self.new) }
         ensures not_ready { IsErrOf result Refused.NotReady → is_ready self.old.tables Lane.End ≡ false }
-        ensures settings { self.new.settings ≡ self.old.settings }
         ensures err { OnErr result (self.new ≡ self.old) }
     {
-        move_settle(&self.tables, &mut self.log)
+        moves::settle(&self.tables, &mut self.log)
     }
 
-    fn down(&mut self) -> Result<(), Refused>
-        ensures added { OnOk result (Adds Move.Down self.old.tables self.old.log self.new.log) }
-        ensures lawful { OnOk result ((opening : List AnyOp) → StandsFor opening self.old → StandsFor opening self.new) }
-        ensures ready { OnOk result (may_go_down self.old.tables ≡ true) }
-        ensures weighs { OnOk result (weight self.new.tables ≤ weight self.old.tables) }
-        ensures stands { OnOk result ((self.old.tables.alive ≡ true) × (self.new.tables.alive ≡ false)) }
-        ensures served { OnOk result (self.new.tables.served ≡ 0) }
+    fn go_down(&mut self) -> Result<(), Refused>
+        ensures does { OnOk result (Does Move.Down self.old self.new) }
         ensures not_ready { IsErrOf result Refused.NotReady → may_go_down self.old.tables ≡ false }
-        ensures settings { self.new.settings ≡ self.old.settings }
         ensures err { OnErr result (self.new ≡ self.old) }
     {
-        move_down(&mut self.tables, &mut self.log)
+        moves::go_down(&mut self.tables, &mut self.log)
     }
+}
+
+/// The queues of the settings are made, where they aren't there.
+fn ready_queues(queues: &mut Option<QueueTree>, t: &Tables) -> Result<(), NoMemory>
+    requires rules { KeepsRules t.now.settings }
+    requires are { QueuesAre queues.old t.now }
+    ensures ok { OnOk result (queues.new ≡ Some t.now.settings) }
+    ensures err { OnErr result (queues.new ≡ queues.old) }
+{
+    if queues.is_some() {
+        return Ok(());
+    }
+    *queues = Some(QueueTree::new(t.alloc, &t.settings)?);
+    Ok(())
 }
 
 fn is_kept_entry(entry: &Entry) -> bool

@@ -1,36 +1,41 @@
-ghost use Rattle.std.specs.Prelude.{◌≡◌, ◌≢◌, ◌+◌, ◌<◌, ◌≤◌, ◌^◌, [], ◌∷◌, ◌++◌, OnOk, OnErr, IsErrOf, Err, Some, None, true, false};
+ghost use Rattle.std.specs.Prelude.{◌≡◌, ◌≢◌, ◌+◌, ◌<◌, ◌≤◌, ◌^◌, List, [], ◌∷◌, ◌++◌, length, IfOk, OnOk, OnErr, IsErrOf, Err, true, false};
 ghost use Rattle.rm_types.specs.declared.entries.Entry.{Entry};
-ghost use Rattle.rm_types.specs.declared.messages.Lane.{Lane};
-ghost use Rattle.rm_types.specs.declared.operations.Op.{Op};
-ghost use Rattle.rm_core.specs.Ready.{is_ready, may_go_down};
 ghost use Rattle.rm_types.specs.declared.ids.AppId.{AppId};
-ghost use Rattle.rm_model.specs.Facts.{kept_attempts};
+ghost use Rattle.rm_types.specs.declared.messages.ClientAsk.{ClientAsk};
+ghost use Rattle.rm_types.specs.declared.messages.Lane.{Lane};
+ghost use Rattle.rm_types.specs.declared.messages.Message.{Message};
+ghost use Rattle.rm_types.specs.declared.messages.Sender.{Sender};
+ghost use Rattle.rm_types.specs.declared.operations.Op.{Op};
+ghost use Rattle.rm_types.specs.declared.replies.Reply.{Reply};
+ghost use Rattle.rm_types.specs.Records.{fits_records};
+ghost use Rattle.rm_model.specs.ClientReplies.{client_reply};
+ghost use Rattle.rm_model.specs.Facts.{attempts_in};
+ghost use Rattle.rm_model.specs.State.{Scene};
+ghost use Rattle.rm_tables.specs.declared.events.MainEvent.{MainEvent};
+ghost use Rattle.rm_tables.specs.declared.events.SchedEvent.{SchedEvent};
+ghost use Rattle.rm_tables.specs.Actions.{found_in, main_worked, sched_worked};
+ghost use Rattle.rm_tables.specs.KeptOps.{kept};
+ghost use Rattle.rm_tables.specs.Lives.{begun, gone_down, handed_out, is_ready, may_go_down};
+ghost use Rattle.rm_tables.specs.MainEvents.{main_step};
+ghost use Rattle.rm_tables.specs.SchedEvents.{sched_step};
+ghost use Rattle.rm_client.specs.Answers.{after_client};
+ghost use Rattle.rm_client.specs.Shows.{Shows};
 ghost use Rattle.rm_core.specs.Serving.{IsBuiltMessage, IsServed};
-ghost use Rattle.rm_core.specs.Steps.{begun, gone_down, handed_out, front_of_main, front_of_sched, front_of_awaiting};
-ghost use Rattle.rm_core.specs.Told.{scene_in, no_history};
 
-use crate::clients::serve;
-use crate::dispatch::front_main;
-use crate::events::Refused;
-use crate::keeping::{keep_app, keep_epoch};
-use crate::scheduler::front_sched;
-use crate::tables::{Tables, begin, go_down, hand, is_ready, may_go_down};
+use rm_client::serve;
+use rm_queues::QueueTree;
+use rm_tables::{Refused, Tables};
 use rm_tree::Tree;
 use rm_types::{
-    Boxed, Duplicate, Entry, Items, Lane, Message, NoMemory, Op, Reply, Sender, Settings,
+    Boxed, ClientAsk, Duplicate, Entry, Items, Lane, Message, NoMemory, Reply, Sender, Text,
 };
 
-// Each move takes the room for its entry first, so that the tables and the log change together or not at
-// all. The entry that takes the room is replaced by the move's own.
+// Each move takes the room for its entry first, so that the tables and the log change together or not at all. The entry
+// that takes the room is replaced by the move's own.
 
 /// A life begins over what is recorded.
-pub fn move_begin(
-    t: &mut Tables,
-    log: &mut Items<Entry>,
-    tree: &Tree,
-    stamp: u64,
-) -> Result<(), Refused>
-    ensures ok { OnOk result ((t.new ≡ begun tree.now stamp t.old) × (log.new ≡ log.old ++ Entry.Opened 0 tree.now.next_epoch stamp ∷ [])) }
+pub fn begin(t: &mut Tables, log: &mut Items<Entry>, tree: Tree, stamp: u64) -> Result<(), Refused>
+    ensures ok { OnOk result ((t.new ≡ begun tree stamp t.old) × (log.new ≡ log.old ++ Entry.Opened 0 tree.next_epoch stamp ∷ [])) }
     ensures ready { result ≢ Err Refused.NotReady }
     ensures err { OnErr result ((t.new ≡ t.old) × (log.new ≡ log.old)) }
 {
@@ -40,9 +45,9 @@ pub fn move_begin(
         epoch,
         stamp,
     })?;
-    match begin(t, tree, stamp) {
+    match t.begin(tree, stamp) {
         Ok(()) => Ok(()),
-        Err(_) => {
+        Err(NoMemory) => {
             log.drop_last();
             Err(Refused::Memory)
         }
@@ -50,14 +55,36 @@ pub fn move_begin(
 }
 
 /// The first event of the main queue is worked off.
-pub fn move_main(t: &mut Tables, log: &mut Items<Entry>) -> Result<(), Refused>
-    requires { t.old.epoch < 2 ^ 24 }
-    ensures ok { OnOk result ((e : Entry) × (front_of_main t.old t.old.main ≡ Some (e, t.new)) × (log.new ≡ log.old ++ e ∷ [])) }
+pub fn main(t: &mut Tables, log: &mut Items<Entry>) -> Result<(), Refused>
+    requires epoch { t.old.epoch + 1 < 2 ^ 32 }
+    requires few { (id : AppId) → length (attempts_in (found_in t.old id)) + 1 < 2 ^ 32 }
+    ensures ok { OnOk result ((event : MainEvent) (rest : List MainEvent) → t.old.main ≡ event ∷ rest → (t.new ≡ (main_worked (main_step event t.old)).1) × (log.new ≡ log.old ++ (main_worked (main_step event t.old)).0 ∷ [])) }
+    ensures some { OnOk result (t.old.main ≢ []) }
     ensures not_ready { IsErrOf result Refused.NotReady → is_ready t.old Lane.Main ≡ false }
     ensures err { OnErr result ((t.new ≡ t.old) × (log.new ≡ log.old)) }
 {
     log.push(Entry::Settled)?;
-    match front_main(t) {
+    match rm_dispatch::front(t) {
+        Ok(entry) => {
+            log.set_last(entry);
+            Ok(())
+        }
+        Err(refused) => {
+            log.drop_last();
+            Err(refused)
+        }
+    }
+}
+
+/// The first event of the scheduler's queue is worked off.
+pub fn sched(t: &mut Tables, log: &mut Items<Entry>) -> Result<(), Refused>
+    ensures ok { OnOk result ((event : SchedEvent) (rest : List SchedEvent) → t.old.sched ≡ event ∷ rest → (t.new ≡ (sched_worked (sched_step event t.old)).1) × (log.new ≡ log.old ++ (sched_worked (sched_step event t.old)).0 ∷ [])) }
+    ensures some { OnOk result (t.old.sched ≢ []) }
+    ensures not_ready { IsErrOf result Refused.NotReady → is_ready t.old Lane.Sched ≡ false }
+    ensures err { OnErr result ((t.new ≡ t.old) × (log.new ≡ log.old)) }
+{
+    log.push(Entry::Settled)?;
+    match rm_sched::front(t) {
         Ok(entry) => {
             log.set_last(entry);
             Ok(())
@@ -70,28 +97,34 @@ pub fn move_main(t: &mut Tables, log: &mut Items<Entry>) -> Result<(), Refused>
 }
 
 /// The first awaiting operation is handed to the store.
-pub fn move_hand(t: &mut Tables, log: &mut Items<Entry>) -> Result<(), Refused>
+pub fn hand(t: &mut Tables, log: &mut Items<Entry>) -> Result<(), Refused>
     ensures ok { OnOk result ((t.new ≡ handed_out t.old) × (log.new ≡ log.old ++ Entry.Handed ∷ [])) }
     ensures ready { OnOk result (is_ready t.old Lane.Hand ≡ true) }
     ensures not_ready { IsErrOf result Refused.NotReady → is_ready t.old Lane.Hand ≡ false }
     ensures err { OnErr result ((t.new ≡ t.old) × (log.new ≡ log.old)) }
 {
-    if !is_ready(t, Lane::Hand) {
+    if !t.is_ready(Lane::Hand) {
         return Err(Refused::NotReady);
     }
     log.push(Entry::Handed)?;
-    hand(t);
+    t.hand();
     Ok(())
 }
 
-/// The first event of the scheduler's queue is worked off.
-pub fn move_sched(t: &mut Tables, log: &mut Items<Entry>) -> Result<(), Refused>
-    ensures ok { OnOk result ((e : Entry) × (front_of_sched t.old t.old.sched ≡ Some (e, t.new)) × (log.new ≡ log.old ++ e ∷ [])) }
-    ensures not_ready { IsErrOf result Refused.NotReady → is_ready t.old Lane.Sched ≡ false }
+/// The operation that was handed to the store is kept.
+pub fn keep(t: &mut Tables, log: &mut Items<Entry>) -> Result<(), Refused>
+    requires fits { is_ready t.old Lane.Write ≡ true → (op : Op) (rest : List Op) → t.old.awaiting ≡ op ∷ rest → fits_records t.old.tree op ≡ true }
+    requires awaits { is_ready t.old Lane.Write ≡ true → t.old.awaiting ≢ [] }
+    ensures ok { OnOk result ((op : Op) (rest : List Op) → t.old.awaiting ≡ op ∷ rest → (t.new ≡ kept op t.old) × (log.new ≡ log.old ++ Entry.Kept op ∷ [])) }
+    ensures ready { OnOk result (is_ready t.old Lane.Write ≡ true) }
+    ensures not_ready { IsErrOf result Refused.NotReady → is_ready t.old Lane.Write ≡ false }
     ensures err { OnErr result ((t.new ≡ t.old) × (log.new ≡ log.old)) }
 {
+    if !t.is_ready(Lane::Write) {
+        return Err(Refused::NotReady);
+    }
     log.push(Entry::Settled)?;
-    match front_sched(t) {
+    match t.keep() {
         Ok(entry) => {
             log.set_last(entry);
             Ok(())
@@ -103,55 +136,14 @@ pub fn move_sched(t: &mut Tables, log: &mut Items<Entry>) -> Result<(), Refused>
     }
 }
 
-/// The operation that is with the store is kept by the tables. Only Epoch and App are issued so far.
-fn keep(t: &mut Tables, op: Op) -> Result<(), Refused>
-    ensures ok { OnOk result (front_of_awaiting t.old (op ∷ []) ≡ Some (Entry.Kept op, t.new)) }
-    ensures not_ready { IsErrOf result Refused.NotReady → front_of_awaiting t.old (op ∷ []) ≡ None }
-    ensures err { OnErr result (t.new ≡ t.old) }
-{
-    match op {
-        Op::Epoch { next, stamp } => Ok(keep_epoch(t, next, stamp)?),
-        Op::App { id, submission } => Ok(keep_app(t, id, submission)?),
-        Op::Attempt { .. } => Err(Refused::NotReady),
-        Op::AttemptEnd { .. } => Err(Refused::NotReady),
-        Op::AppEnd { .. } => Err(Refused::NotReady),
-        Op::Remove { .. } => Err(Refused::NotReady),
-    }
-}
-
-/// The operation that was handed to the store is kept.
-pub fn move_kept(t: &mut Tables, log: &mut Items<Entry>) -> Result<(), Refused>
-    ensures ok { OnOk result ((e : Entry) × (front_of_awaiting t.old t.old.awaiting ≡ Some (e, t.new)) × (log.new ≡ log.old ++ e ∷ [])) }
-    ensures ready { OnOk result (is_ready t.old Lane.Write ≡ true) }
-    ensures not_ready { IsErrOf result Refused.NotReady → is_ready t.old Lane.Write ≡ true → front_of_awaiting t.old t.old.awaiting ≡ None }
-    ensures err { OnErr result ((t.new ≡ t.old) × (log.new ≡ log.old)) }
-{
-    if !is_ready(t, Lane::Write) {
-        return Err(Refused::NotReady);
-    }
-    let Some(first) = t.awaiting.first() else {
-        return Err(Refused::NotReady);
-    };
-    let op = first.copy()?;
-    let logged = Boxed::new(t.alloc, first.copy()?)?;
-    log.push(Entry::Kept { op: logged })?;
-    match keep(t, op) {
-        Ok(()) => Ok(()),
-        Err(refused) => {
-            log.drop_last();
-            Err(refused)
-        }
-    }
-}
-
 /// The segment settles: nothing is left to do.
-pub fn move_settle(t: &Tables, log: &mut Items<Entry>) -> Result<(), Refused>
+pub fn settle(t: &Tables, log: &mut Items<Entry>) -> Result<(), Refused>
     ensures ok { OnOk result (log.new ≡ log.old ++ Entry.Settled ∷ []) }
     ensures ready { OnOk result (is_ready t.now Lane.End ≡ true) }
     ensures not_ready { IsErrOf result Refused.NotReady → is_ready t.now Lane.End ≡ false }
     ensures err { OnErr result (log.new ≡ log.old) }
 {
-    if !is_ready(t, Lane::End) {
+    if !t.is_ready(Lane::End) {
         return Err(Refused::NotReady);
     }
     log.push(Entry::Settled)?;
@@ -159,50 +151,72 @@ pub fn move_settle(t: &Tables, log: &mut Items<Entry>) -> Result<(), Refused>
 }
 
 /// The life goes down.
-pub fn move_down(t: &mut Tables, log: &mut Items<Entry>) -> Result<(), Refused>
+pub fn go_down(t: &mut Tables, log: &mut Items<Entry>) -> Result<(), Refused>
     ensures ok { OnOk result ((t.new ≡ gone_down t.old) × (log.new ≡ log.old ++ Entry.Down ∷ [])) }
     ensures ready { OnOk result (may_go_down t.old ≡ true) }
     ensures not_ready { IsErrOf result Refused.NotReady → may_go_down t.old ≡ false }
     ensures err { OnErr result ((t.new ≡ t.old) × (log.new ≡ log.old)) }
 {
-    if !may_go_down(t) {
+    if !t.may_go_down() {
         return Err(Refused::NotReady);
     }
     log.push(Entry::Down)?;
-    go_down(t);
+    t.go_down();
     Ok(())
 }
 
+/// A client is answered, and its message is counted.
+fn answer(
+    queues: &QueueTree,
+    t: &mut Tables,
+    user: &Text,
+    ask: &ClientAsk,
+) -> Result<Reply, NoMemory>
+    requires settings { queues.now ≡ t.old.settings }
+    requires served { t.old.served + 1 < 2 ^ 32 }
+    requires ids { t.old.given + 1 < 2 ^ 32 }
+    requires attempts { (id : AppId) → length (attempts_in (found_in t.old id)) < 2 ^ 32 }
+    ensures reply { (m : Scene) → Shows m t.old → IfOk result (λ reply. reply ≡ client_reply t.old.settings m user.now ask.now) }
+    ensures changed { IfOk result (λ reply. t.new ≡ record (after_client ask.now reply t.old) { served = t.old.served + 1 }) }
+    ensures err { OnErr result (t.new ≡ t.old) }
+{
+    if t.going == usize::MAX {
+        return Err(NoMemory);
+    }
+    let served = t.served + 1;
+    let reply = serve(queues, t, user, ask)?;
+    t.served = served;
+    Ok(reply)
+}
+
 /// A message is answered. Only clients are served so far, and not their kills.
-pub fn move_serve(
-    settings: &Settings,
+pub fn answer_message(
+    queues: &QueueTree,
     t: &mut Tables,
     log: &mut Items<Entry>,
     message: Message,
 ) -> Result<(), Refused>
-    requires rights { settings.now.acl_enable ≡ false }
+    requires settings { queues.now ≡ t.old.settings }
     requires built { IsBuiltMessage message }
     requires few { t.old.served < 100000 }
     requires given { t.old.given ≤ t.old.served }
-    requires plain { t.old.alive ≡ true → t.old.is_open ≡ true → (id : AppId) → kept_attempts (scene_in no_history t.old) id ≡ [] }
-    ensures ok { OnOk result (IsServed settings.now t.old t.new log.old log.new message) }
+    requires attempts { (id : AppId) → length (attempts_in (found_in t.old id)) < 2 ^ 32 }
+    ensures ok { OnOk result (IsServed t.old t.new log.old log.new message) }
     ensures ready { OnOk result (is_ready t.old Lane.Client ≡ true) }
     ensures not_ready { IsErrOf result Refused.NotReady → is_ready t.old Lane.Client ≡ false }
     ensures err { OnErr result ((t.new ≡ t.old) × (log.new ≡ log.old)) }
 {
-    if !is_ready(t, Lane::Client) {
+    if !t.is_ready(Lane::Client) {
         return Err(Refused::NotReady);
     }
-    let served = t.served + 1;
     let message = Boxed::new(t.alloc, message)?;
     let mut reply = Boxed::new(t.alloc, Reply::NotOpen)?;
-    let Message::Client(_, ask) = message.get() else {
+    let Message::Client(user, ask) = message.get() else {
         unreachable!()
     };
     log.push(Entry::Settled)?;
-    match serve(settings, t, ask) {
+    match answer(queues, t, user, ask) {
         Ok(answer) => {
-            t.served = served;
             reply.set(answer);
             log.set_last(Entry::Served {
                 sender: Sender::Client,

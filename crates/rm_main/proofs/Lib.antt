@@ -1,3 +1,4 @@
 pub mod Scripts
 pub mod Outcomes
 pub mod Completing
+mod Rooted

@@ -19,7 +19,8 @@ use Rattle.rm_core.specs.Serving.{IsBuiltAsk as IsServedAsk, IsBuiltMessage as I
 use Rattle.rm_script.specs.Scripts.{IsScript, IsRead, IsBuiltAsk, IsClientAsk, IsSubmission, EachButLast}
 use Rattle.rm_script.specs.Values.{Settles, EndInCrash, IsToldLife, IsToldScript}
 use Rattle.rm_script.proofs.Values.{told_values}
-use Rattle.rm_plain.specs.Along.{CanRun, AllServed, Closes, CanFollow, SettlesFirst, EndsInCrash, CanLive, AllLive}
+use Rattle.rm_desk.specs.Scripts.{AllServed, Closes, CanFollow, EndsInCrash, CanLive, AllLive}
+use Rattle.rm_plain.specs.Along.{CanRun, AllBare, AllSettle, IsBare, SettlesFirst}
 
 -- what is submitted without a `modify` can be kept
 framed : (user : List ℕ) (submission : Submission) → IsText Name user → IsSubmission user submission → submission.modify ≡ [] → IsFramedSubmission submission
@@ -53,14 +54,14 @@ all_served (message ∷ more) h = (message_served message h.0, all_served more h
 abbrev AreRead : Segment → Type 0
 AreRead segment = All IsRead segment.messages
 
-closes : (messages : List Message) (more : List Segment) (close : Close) → close ≡ Settle → Closes messages more close
-closes messages more Settle h = tt
-closes messages more (Crash calls image) h = absurd (cc)
+closes : (more : List Segment) (close : Close) → close ≡ Settle → Closes close more
+closes more Settle h = tt
+closes more (Crash calls image) h = absurd (cc)
 
 -- segments that settle, with such a one before those that can follow
 settling_follows : (segment : Segment) (more : List Segment) → AreRead segment → Settles segment → CanFollow more → CanFollow (segment ∷ more)
 settling_follows segment more read settles follows =
-    (all_served segment.messages (recursion_from_All IsRead segment.messages read), closes segment.messages more segment.close settles, follows)
+    (all_served segment.messages (recursion_from_All IsRead segment.messages read), closes more segment.close settles, follows)
 
 settled_follow : (segments : List Segment) → AllByRecursion AreRead segments → AllByRecursion Settles segments → CanFollow segments
 settled_follow [] read settle = tt
@@ -70,7 +71,7 @@ abbrev crash_of : ℕ → ℕ → Segment
 crash_of calls image = record { messages = []; close = Crash calls image }
 
 crashed_follow : (before : List Segment) (calls image : ℕ) → AllByRecursion AreRead (before ++ crash_of calls image ∷ []) → AllByRecursion Settles before → CanFollow (before ++ crash_of calls image ∷ [])
-crashed_follow [] calls image read settle = (tt, (refl, refl), tt)
+crashed_follow [] calls image read settle = (tt, refl, tt)
 crashed_follow (segment ∷ before) calls image read settle =
     settling_follows segment (before ++ crash_of calls image ∷ []) read.0 settle.0 (crashed_follow before calls image read.1 settle.1)
 
@@ -106,13 +107,31 @@ first segments h =
       | inr crash ↦ subst SettlesFirst (sym crash.apart) (crashed_first crash.before crash.calls crash.image crash.some (recursion_from_All Settles crash.before crash.settle))
     ]
 
+-- a segment that settles may have messages, and the crash has none
+bare : (segment : Segment) → Settles segment → IsBare segment.close segment.messages
+bare segment settles = rw settles tt
+
+settled_bare : (segments : List Segment) → AllByRecursion Settles segments → AllBare segments
+settled_bare [] settle = tt
+settled_bare (segment ∷ more) settle = (bare segment settle.0, settled_bare more settle.1)
+
+crashed_bare : (before : List Segment) (calls image : ℕ) → AllByRecursion Settles before → AllBare (before ++ crash_of calls image ∷ [])
+crashed_bare [] calls image settle = (refl, tt)
+crashed_bare (segment ∷ before) calls image settle = (bare segment settle.0, crashed_bare before calls image settle.1)
+
+all_bare : (segments : List Segment) → All Settles segments ⊎ EndInCrash segments → AllBare segments
+all_bare segments h =
+    elim h [
+      | inl settle ↦ settled_bare segments (recursion_from_All Settles segments settle)
+      | inr crash ↦ subst AllBare (sym crash.apart) (crashed_bare crash.before crash.calls crash.image (recursion_from_All Settles crash.before crash.settle))
+    ]
+
 can_live : (life : Life) → IsToldLife life → CanLive life
 can_live life h =
     record {
       low = omega (arith, h.stamp);
       high = omega (arith, h.stamp);
       segments = follow life.segments (recursion_from_All AreRead life.segments h.messages) h.closes;
-      first = first life.segments h.closes;
       few = h.few;
     }
 
@@ -124,7 +143,12 @@ all_live [] each crash = tt
 all_live (life ∷ []) each crash = (can_live life each.0, λ more. absurd (more refl), tt)
 all_live (life ∷ next ∷ lives) each crash = (can_live life each.0, λ more. ends life.segments crash.0, all_live (next ∷ lives) each.1 crash.1)
 
+all_settle : (lives : List Life) → AllByRecursion IsToldLife lives → AllSettle lives
+all_settle [] each = tt
+all_settle (life ∷ lives) each = (all_bare life.segments each.0.closes, first life.segments each.0.closes, all_settle lives each.1)
+
 pub can_run : (bytes : List ℕ) (script : Script) → IsScript bytes script → CanRun script
 can_run bytes script h =
     let told : IsToldScript script = told_values bytes script h in
-    record { lives = all_live script.lives (recursion_from_All IsToldLife script.lives told.each) told.crash }
+    let each = recursion_from_All IsToldLife script.lives told.each in
+    record { goes = record { lives = all_live script.lives each told.crash }; settle = all_settle script.lives each }

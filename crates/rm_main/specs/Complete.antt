@@ -11,7 +11,7 @@ use Rattle.rm_model.specs.Lawful.{state_after}
 use Rattle.rm_outside.specs.Shelves.{bytes_read}
 use Rattle.rm_cluster.specs.Clusters.{IsCluster}
 use Rattle.rm_script.specs.Scripts.{IsScript}
-use Rattle.rm_core.specs.InFlight.{AllPlain}
+use Rattle.rm_facts.specs.Submissions.{AllPlain}
 use Rattle.rm_store.specs.Store.{needed_for, room_behind, seen}
 use Rattle.rm_plain.specs.Stops.{NoneLeft}
 use Rattle.rm_main.specs.Runs.{Made, Told}

@@ -1,5 +1,6 @@
-ghost use Rattle.std.specs.Prelude.{◌≡◌, ◌≤◌, IfOk, IfErr, OnOk, Err, Some, false};
+ghost use Rattle.std.specs.Prelude.{◌≡◌, ◌≤◌, IfOk, IfErr, OnOk, Err, Some};
 ghost use Rattle.rm_types.specs.Counts.{Rose};
+ghost use Rattle.rm_queues.specs.Rules.{KeepsRules};
 ghost use Rattle.rm_plain.specs.Along.{CanRun};
 ghost use Rattle.rm_main.specs.Runs.{AreRead, AreSettings, IsScriptOf};
 ghost use Rattle.rm_main.specs.Words.{Run};
@@ -14,7 +15,7 @@ use std::alloc::Global;
 /// Reads the settings of a file. A refusal is the outcome that it makes.
 fn read_settings<F: Shelf>(alloc: Global, shelf: &mut F, name: &str) -> Result<Settings, Outcome>
     ensures read { IfOk result (λ settings. AreSettings (F.bytes_of shelf.old name.now) settings) }
-    ensures rights { IfOk result (λ settings. settings.acl_enable ≡ false) }
+    ensures queues { IfOk result KeepsRules }
     ensures refused { IfErr result (StopsAtCluster (F.bytes_of shelf.old name.now)) }
     ensures told { F.bytes_of shelf.new ≡ F.bytes_of shelf.old }
     ensures one { F.reads name.now shelf.old shelf.new }
@@ -62,7 +63,7 @@ pub fn read_inputs<F: Shelf>(
     script: &str,
 ) -> Result<(Settings, Script), Outcome>
     ensures settings { IfOk result (λ inputs. AreSettings (F.bytes_of shelf.old cluster.now) inputs.0) }
-    ensures rights { IfOk result (λ inputs. inputs.0.acl_enable ≡ false) }
+    ensures queues { IfOk result (λ inputs. KeepsRules inputs.0) }
     ensures script { IfOk result (λ inputs. IsScriptOf (F.bytes_of shelf.old script.now) inputs.1) }
     ensures can_run { IfOk result (λ inputs. CanRun inputs.1) }
     ensures refused { IfErr result (StopsEarly (F.bytes_of shelf.old) cluster.now script.now) }

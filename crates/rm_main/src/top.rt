@@ -9,7 +9,8 @@ ghost use Rattle.rm_types.specs.Counts.{Rose};
 ghost use Rattle.rm_plain.specs.Along.{CanRun};
 ghost use Rattle.rm_plain.specs.Falls.{falls_of};
 ghost use Rattle.rm_types.specs.Records.{records};
-ghost use Rattle.rm_core.specs.InFlight.{AllPlain};
+ghost use Rattle.rm_queues.specs.Rules.{KeepsRules};
+ghost use Rattle.rm_facts.specs.Submissions.{AllPlain};
 ghost use Rattle.rm_plain.specs.Starts.{DiskStays, IsAtEase};
 ghost use Rattle.rm_plain.specs.Stops.{IsDue};
 ghost use Rattle.rm_plain.specs.Survives.{SurvivesAll, SurvivesNow};
@@ -91,7 +92,7 @@ fn run<K: Sink, D: Disk>(
     disk: Fuse<D>,
 ) -> Ended<D>
     requires script { CanRun script }
-    requires rights { settings.acl_enable ≡ false }
+    requires queues { KeepsRules settings }
     requires unarmed { disk.armed ≡ None }
     ensures lawful { Lawful settings script result.opening result.log }
     ensures done { result.outcome ≡ Outcome.Done → IsDone settings script result.opening result.log }

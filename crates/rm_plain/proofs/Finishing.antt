@@ -1,42 +1,48 @@
 -- All lives of a script, from the first one on, and what a run over them shows.
-use Rattle.std.proofs.Common.{◌≡◌, ◌≢◌, ◌⊎◌, ℕ, List, [], ◌++◌, false, None, Ok, Err, Result, refl, sym, ◌∙◌, ap, subst, inl, inr, ⊎_elim, arith}
+use Rattle.std.proofs.Common.{◌≡◌, ◌≢◌, ◌⊎◌, ℕ, List, [], ◌∷◌, ◌++◌, true, false, not, ◌&&◌, None, Ok, Err, Result, refl, sym, ◌∙◌, ap, subst, inl, inr, ⊎_elim, arith}
 use Rattle.std.specs.Prelude.{IfErr, IsOk, OnOk}
-use Rattle.std.specs.declared.alloc.Global.{Global}
 use Rattle.std.proofs.lemmas.List.{append-nil, append_assoc}
 use Rattle.rm_types.specs.declared.operations.Op.{Op}
 use Rattle.rm_types.specs.declared.entries.Entry.{Entry}
+use Rattle.rm_types.specs.declared.messages.Lane.TheVariants.{Begin}
+use Rattle.rm_types.specs.declared.scripts.Life.{Life}
 use Rattle.rm_types.specs.declared.scripts.Script.{Script}
 use Rattle.rm_types.specs.declared.settings.Settings.{Settings}
+use Rattle.rm_types.specs.Lists.{is_nil}
 use Rattle.rm_disk.specs.declared.fallen.Fallen.{Fallen}
 use Rattle.rm_disk.specs.Disk.{DiskView}
 use Rattle.rm_disk.specs.Fuse.{Fused}
 use Rattle.rm_disk.proofs.Views.{leaves_of, leaves_same, leaves_trans, quiet_same}
 use Rattle.rm_model.specs.Downs.{AllGoDownAtRest}
-use Rattle.rm_model.specs.Lawful.{AllAllowed, IsAtRest, IsDone, Lawful, state_after}
-use Rattle.rm_model.specs.Place.{Place}
+use Rattle.rm_model.specs.Lawful.{IsAtRest, IsDone, Lawful, state_after}
+use Rattle.rm_model.specs.Place.{Place, beginning, close_left}
 use Rattle.rm_model.specs.State.{Manager, opening_state}
 use Rattle.rm_plain.specs.Survives.{HoldsWithin, SurvivesAll, SurvivesNow}
 use Rattle.rm_store.specs.Store.{seen}
-use Rattle.rm_core.specs.Seen.{Seen, StandsFor}
-use Rattle.rm_plain.specs.declared.desk.Desk.{Desk}
+use Rattle.rm_core.specs.Seen.{StandsFor}
+use Rattle.rm_core.specs.Words.{stands}
+use Rattle.rm_desk.specs.View.{DeskView}
+use Rattle.rm_desk.specs.Does.{IsHanded}
 use Rattle.rm_plain.specs.declared.halts.Stop.{Stop}
 use Rattle.rm_plain.specs.declared.halts.Stop.TheVariants.{DiskFault, Damaged, Full, EpochsSpent, Memory}
-use Rattle.rm_plain.specs.Along.{CanRun, IsSound, first_desk, place_of}
+use Rattle.rm_desk.specs.Lanes.{is_ready_at}
+use Rattle.rm_desk.specs.Runs.{IsRun as GoesAlong, IsSound as IsDeskSound, Tells}
+use Rattle.rm_plain.specs.Along.{CanRun, IsSound}
 use Rattle.rm_plain.specs.Falls.{falls_of}
 use Rattle.rm_plain.specs.Goes.{IsOver, IsRun}
-use Rattle.rm_plain.specs.Keeping.{IsFull, IsHanded, IsKeptOn, LeftOver}
+use Rattle.rm_plain.specs.Keeping.{IsFull, IsKeptOn, LeftOver}
 use Rattle.rm_plain.specs.Later.{FirstLived, FirstStopped, IsDueAt, IsLaterStop, LaterTo}
 use Rattle.rm_plain.specs.Stops.{IsDue, IsStoppedBy, IsTold}
 use Rattle.rm_plain.specs.Whole.{AllLived, Ends}
 use Rattle.rm_plain.proofs.Ending.{goes_trans}
 use Rattle.rm_plain.proofs.Halting.{after_within, full_known, goes_any, keeps_leaves}
-use Rattle.rm_plain.proofs.Moving.{goes_same}
+use Rattle.rm_plain.proofs.Moving.{both, goes_same, is_not, not_nil}
 use Rattle.rm_plain.proofs.Onward.{stays_same, stays_trans}
 use Rattle.rm_plain.proofs.Stored.{within_longer}
 
 module _ {D : Type 0} (view : D → DiskView) (opening : List Op) where
   -- a script without lives
-  pub none_lived : (d : Desk) (disk : Fused D) → IsSound d → d.core.tables.alive ≡ false → d.core.log ≡ [] → d.lives ≡ [] → disk.armed ≡ None → opening ≡ [] → AllLived view opening d d disk disk (Ok tt)
+  pub none_lived : (d : DeskView) (disk : Fused D) → IsSound d → stands d.core ≡ false → d.core.log ≡ [] → d.place.lives ≡ [] → disk.armed ≡ None → opening ≡ [] → AllLived view opening d d disk disk (Ok tt)
   none_lived d disk h dead empty none unarmed nothing =
       record {
         fallen = [];
@@ -58,7 +64,7 @@ module _ {D : Type 0} (view : D → DiskView) (opening : List Op) where
       }
 
   -- the first life stopped the run
-  pub first_stops : (a b : Desk) (disk now : Fused D) (stop : Stop) → a.lives ≢ [] → FirstStopped view opening a b disk now stop → AllLived view opening a b disk now (Err stop)
+  pub first_stops : (a b : DeskView) (disk now : Fused D) (stop : Stop) → a.place.lives ≢ [] → FirstStopped view opening a b disk now stop → AllLived view opening a b disk now (Err stop)
   first_stops a b disk now stop lives h =
       record {
         fallen = [];
@@ -79,7 +85,7 @@ module _ {D : Type 0} (view : D → DiskView) (opening : List Op) where
       }
 
   -- the first life was lived, and others behind it
-  module _ (a b c : Desk) (first second third : Fused D) (lives : a.lives ≢ []) (ab : FirstLived view opening a b first second) where
+  module _ (a b c : DeskView) (first second third : Fused D) (lives : a.place.lives ≢ []) (ab : FirstLived view opening a b first second) where
     held : IsTold (seen view first) → StandsFor opening a.core → IsKeptOn opening b.core.log (seen view second)
     held told k = (ab.kept told.0 told.1 k).kept
 
@@ -112,7 +118,7 @@ module _ {D : Type 0} (view : D → DiskView) (opening : List Op) where
     all_images_now : StandsFor opening a.core → LeftOver (λ ops. Unit {0}) b c (seen view second) (seen view third) → SurvivesNow opening c.core.log (seen view first) (seen view third)
     all_images_now k left = λ some bytes told. (left opening tt (ab.goes.lawful opening refl k) (ab.kept bytes told k).kept).now
 
-    pub all_lived : (r : Result (Unit {0}) Stop) → LaterTo view b c second third r → OnOk r (c.lives ≡ []) → AllLived view opening a c first third r
+    pub all_lived : (r : Result (Unit {0}) Stop) → LaterTo view b c second third r → OnOk r (c.place.lives ≡ []) → AllLived view opening a c first third r
     all_lived (Ok x) bc none =
         let left : LeftOver (λ ops. Unit {0}) b c (seen view second) (seen view third) =
         λ ops is k has. keeps_leaves ops b.core.log c.core.log (seen view second) (seen view third) (bc.kept ops is k has) in
@@ -152,26 +158,36 @@ module _ {D : Type 0} (view : D → DiskView) (opening : List Op) where
           stopped = λ k. later_stop k (bc.goes.some ab.some) stop (bc.why opening (ab.goes.lawful opening refl k));
         }
 
+-- whether a life is left, where none stands
+pub none_left : (d : DeskView) → stands d.core ≡ false → is_ready_at d Begin ≡ false → d.place.lives ≡ []
+none_left d dead h = by d.place.lives refl
+  where
+    by : (lives : List Life) → d.place.lives ≡ lives → d.place.lives ≡ []
+    by [] e = e
+    by (life ∷ more) e = let x = rw (dead, e) at h in cc
+
+pub some_left : (d : DeskView) → is_ready_at d Begin ≡ true → d.place.lives ≢ []
+some_left d h = not_nil d.place.lives (both (not (stands d.core)) (not (is_nil d.place.lives)) h).1
+
+pub none_stands : (d : DeskView) → is_ready_at d Begin ≡ true → stands d.core ≡ false
+none_stands d h = is_not (stands d.core) (both (not (stands d.core)) (not (is_nil d.place.lives)) h).0
+
+-- after the last life none is left
+pub none_after : (d : DeskView) → (stands d.core ≡ false) ⊎ IsOver d → is_ready_at d Begin ≡ false → d.place.lives ≡ []
+none_after d ends h = ⊎_elim (λ dead. none_left d dead h) (λ (o : IsOver d). o.lives) ends
+
 -- the desk before the first life is sound
-pub first_sound : (alloc : Global) (core : Seen) (script : Script) → CanRun script → core.tables.alive ≡ false → IsSound (first_desk alloc core script)
-first_sound alloc core script can dead =
+pub first_sound : (d : DeskView) (script : Script) → CanRun script → d.place ≡ beginning script → IsSound d
+first_sound d script can place =
     record {
-      lives = can.lives;
-      segments = tt;
-      entered = λ h. refl;
-      fed = λ h. refl;
-      between = λ h. refl;
-      ends = λ h. let no = sym dead ∙ h in cc;
-      served = λ h. let no = sym dead ∙ h in cc;
-      crashing = λ calls image h. cc;
+      bare = rw place tt;
+      lives = rw place can.settle;
+      crashing = λ calls image c. let x = sym (ap (λ (p : Place). close_left p.segments) place) ∙ c in cc;
     }
 
 -- where no life stands nothing awaits or is owed
 at_rest : (settings : Settings) (s : Manager) → s.life ≡ None → IsAtRest settings s s.life
 at_rest settings s h = rw h tt
-
-life_none : (opening : List Op) (core : Seen) → StandsFor opening core → core.tables.alive ≡ false → (state_after opening core.log).life ≡ None
-life_none opening core k dead = ap (λ (m : Manager). m.life) k.same ∙ rw dead refl
 
 -- what follows for an error, where the error was told
 if_err : {A E : Type 0} {P Q : E → Type 0} (r : Result A E) → ((e : E) → P e → Q e) → IfErr r P → IfErr r Q
@@ -188,52 +204,46 @@ due_is view opening log disk now one other by EpochsSpent why = (by why.0, why.1
 due_is view opening log disk now one other by Memory why = tt
 
 -- a run from before the first life
-module _ {D : Type 0} (view : D → DiskView) (opening : List Op) (settings : Settings) (alloc : Global) (core : Seen) (script : Script) (new : Desk) (disk now : Fused D) (ended : Result (Unit {0}) Stop)
-    (all : AllLived view opening (first_desk alloc core script) new disk now ended) (same : core.settings ≡ settings) (empty : core.log ≡ []) (k : StandsFor opening core) where
-  pub stands_on : StandsFor opening new.core
-  stands_on = all.goes.lawful opening refl k
-
-  pub settings_on : new.core.settings ≡ settings
-  settings_on = all.goes.settings ∙ same
-
+module _ {D : Type 0} (view : D → DiskView) (opening : List Op) (script : Script) (first new : DeskView) (disk now : Fused D) (ended : Result (Unit {0}) Stop)
+    (all : AllLived view opening first new disk now ended) (empty : first.core.log ≡ []) (along : GoesAlong opening script first)
+    (sound : IsDeskSound new) (tells : (ops : List Op) → StandsFor ops new.core → Tells ops new) where
   pub whole_run : IsRun opening script all.fallen new
-  whole_run = all.goes.run opening script [] refl (record { stands = k; along = rw empty (record { along = tt; at = refl }); downs = rw empty tt; falls = rw empty refl })
+  whole_run = all.goes.run opening script [] refl (record { goes = along; downs = rw empty tt; falls = rw empty refl })
 
-  rest_on : (new.core.tables.alive ≡ false) ⊎ IsOver new → IsAtRest new.core.settings (state_after opening new.core.log) (state_after opening new.core.log).life
+  told : Tells opening new
+  told = tells opening whole_run.goes.stands
+
+  rest_on : (stands new.core ≡ false) ⊎ IsOver new → IsAtRest new.core.settings (state_after opening new.core.log) (state_after opening new.core.log).life
   rest_on over =
-      ⊎_elim (λ dead. at_rest new.core.settings (state_after opening new.core.log) (life_none opening new.core stands_on dead))
-      (λ (o : IsOver new). o.rest opening stands_on) over
+      ⊎_elim (λ dead. at_rest new.core.settings (state_after opening new.core.log) (told.none dead)) (λ (o : IsOver new). o.rest opening whole_run.goes.stands) over
 
-  ends_at : Ends new → (place_of new).segments ≡ []
-  ends_at ends = ⊎_elim (λ dead. all.goes.sound.between dead) (λ (o : IsOver new). o.segments) ends.over
+  ends_at : Ends new → new.place.segments ≡ []
+  ends_at ends = ⊎_elim (λ dead. sound.between dead) (λ (o : IsOver new). o.segments) ends.over
 
   -- where a life was due by the desk, one is due in the script
   pub due_on : IsDueAt new → IsDue script opening new.core.log
-  due_on due =
-      record {
-        dead = life_none opening new.core stands_on due.dead;
-        lives = λ none. due.lives (sym (ap (λ (p : Place). p.lives) whole_run.along.at) ∙ none);
-      }
+  due_on due = record { dead = told.none due.dead; lives = λ none. due.lives (sym (ap (λ (p : Place). p.lives) whole_run.goes.along.at) ∙ none) }
 
   pub stopped_on : IfErr ended (IsStoppedBy view (IsDue script opening new.core.log) disk now opening new.core.log)
-  stopped_on = if_err ended (λ stop why. due_is view opening new.core.log disk now (IsDueAt new) (IsDue script opening new.core.log) due_on stop why) (all.stopped k)
+  stopped_on =
+      if_err ended (λ stop why. due_is view opening new.core.log disk now (IsDueAt new) (IsDue script opening new.core.log) due_on stop why) (all.stopped along.stands)
 
-  pub is_done : Ends new → IsDone settings script opening new.core.log
-  is_done ends =
-      record {
-        place = record { lives = ap (λ (p : Place). p.lives) whole_run.along.at ∙ ends.lives; segments = ap (λ (p : Place). p.segments) whole_run.along.at ∙ ends_at ends };
-        rest = subst (λ (s : Settings). IsAtRest s (state_after opening new.core.log) (state_after opening new.core.log).life) settings_on (rest_on ends.over);
-      }
+  module _ (settings : Settings) (same : first.core.settings ≡ settings) where
+    settings_on : new.core.settings ≡ settings
+    settings_on = all.goes.settings ∙ same
 
-  pub downs_on : AllGoDownAtRest settings (opening_state opening) new.core.log
-  downs_on = subst (λ (s : Settings). AllGoDownAtRest s (opening_state opening) new.core.log) settings_on whole_run.downs
+    pub is_done : Ends new → IsDone settings script opening new.core.log
+    is_done ends =
+        record {
+          place = record { lives = ap (λ (p : Place). p.lives) whole_run.goes.along.at ∙ ends.lives; segments = ap (λ (p : Place). p.segments) whole_run.goes.along.at ∙ ends_at ends };
+          rest = subst (λ (s : Settings). IsAtRest s (state_after opening new.core.log) (state_after opening new.core.log).life) settings_on (rest_on ends.over);
+        }
 
-  pub lawful_on : AllAllowed new.core.settings (opening_state opening) new.core.log → Lawful settings script opening new.core.log
-  lawful_on allowed =
-      record {
-        allowed = subst (λ (s : Settings). AllAllowed s (opening_state opening) new.core.log) settings_on allowed;
-        along = whole_run.along.along;
-      }
+    pub downs_on : AllGoDownAtRest settings (opening_state opening) new.core.log
+    downs_on = subst (λ (s : Settings). AllGoDownAtRest s (opening_state opening) new.core.log) settings_on whole_run.downs
+
+    pub lawful_on : Lawful new.core.settings script opening new.core.log → Lawful settings script opening new.core.log
+    lawful_on lawful = subst (λ (s : Settings). Lawful s script opening new.core.log) settings_on lawful
 
   pub falls_on : now.falls ≡ disk.falls ++ falls_of script opening new.core.log
   falls_on = all.falls ∙ ap (λ (xs : List Fallen). disk.falls ++ xs) (sym whole_run.falls)

@@ -13,22 +13,22 @@ use Rattle.rm_disk.specs.Fuse.{Fused, KeepsFuse}
 use Rattle.rm_disk.proofs.Views.{leaves_trans, leaves_of}
 use Rattle.rm_formats.specs.Device.{Holds}
 use Rattle.rm_model.specs.Lawful.{state_after}
-use Rattle.rm_model.specs.State.{Manager, LifeState}
+use Rattle.rm_model.specs.Place.{close_left}
 use Rattle.rm_plain.specs.Survives.{HoldsAfter, HoldsWithin}
 use Rattle.rm_store.specs.declared.fault.StoreError.{StoreError}
 use Rattle.rm_store.specs.declared.fault.StoreError.TheVariants as store
 use Rattle.rm_store.specs.Store.{Has, LeavesOps, needed_for, room_behind, seen}
 use Rattle.rm_core.specs.Adds.{AmountsTo}
 use Rattle.rm_core.specs.Seen.{Seen, StandsFor, IsToBeKept}
-use Rattle.rm_core.specs.Told.{life_in}
-use Rattle.rm_core.proofs.Standing.{stands}
-use Rattle.rm_plain.specs.declared.desk.Desk.{Desk}
+use Rattle.rm_core.specs.Words.{has_rest}
+use Rattle.rm_desk.specs.Does.{IsHanded}
+use Rattle.rm_desk.specs.View.{DeskView}
 use Rattle.rm_plain.specs.declared.halts.Halt.{Halt}
 use Rattle.rm_plain.specs.declared.halts.Halt.TheVariants.{DiskFault, Full, Memory}
 use Rattle.rm_plain.specs.Along.{IsSound}
 use Rattle.rm_plain.specs.Goes.{Goes, GoesOver}
 use Rattle.rm_plain.specs.Halted.{halt_of}
-use Rattle.rm_plain.specs.Keeping.{HasHanded, HaltsBy, HaltsOver, IsBegun, IsFull, IsHaltedBy, IsHanded, IsKeptOn, IsUnkept, KeepsOn, LeavesOn, LeftOver, armed_by}
+use Rattle.rm_plain.specs.Keeping.{HaltsBy, HaltsOver, IsBegun, IsFull, IsHaltedBy, IsKeptOn, IsUnkept, KeepsOn, LeavesOn, LeftOver, armed_by}
 use Rattle.rm_plain.proofs.Ending.{goes_trans}
 use Rattle.rm_plain.proofs.Moving.{goes_same}
 use Rattle.rm_plain.proofs.Stored.{unkept_stores, within_longer}
@@ -71,25 +71,19 @@ op_leaves opening core op old new to_keep leaves has =
     either image (inl before) = inl before
     either image (inr after) = inr (op, to_keep.first, after)
 
--- where the tables say that an operation is with the store, so does the state
-has_handed : (opening : List Op) (core : Seen) → StandsFor opening core → core.tables.alive ≡ true → core.tables.handed ≡ true → HasHanded (state_after opening core.log).life
-has_handed opening core k alive handed =
-    let life : (state_after opening core.log).life ≡ Some (life_in k.history core.tables) = ap (λ (m : Manager). m.life) (stands core.settings opening core.log core.tables k alive) in
-    subst HasHanded (sym life) handed
-
 -- the fuse isn't armed while an operation is with the store, so it doesn't blow
-pub stays_unblown : {D : Type 0} (keeps : D → D → Type 0) (succeeds : Bool) (d : Desk) (old new : Fused D) → IsSound d → d.core.tables.handed ≡ true → old.armed ≡ armed_by d.close → old.blown ≡ false
+pub stays_unblown : {D : Type 0} (keeps : D → D → Type 0) (succeeds : Bool) (d : DeskView) (old new : Fused D) → IsSound d → (has_rest d.core → ⊥) → old.armed ≡ armed_by (close_left d.place.segments) → old.blown ≡ false
     → KeepsFuse keeps succeeds old new → new.blown ≡ false
-stays_unblown keeps succeeds d old new h handed armed unblown kept = by new.blown refl
+stays_unblown keeps succeeds d old new h busy armed unblown kept = by new.blown refl
   where
-    never : (close : Option Close) → d.close ≡ close → new.armed ≡ Some new.passed → ⊥
+    never : (close : Option Close) → close_left d.place.segments ≡ close → new.armed ≡ Some new.passed → ⊥
     never None e is = let none = sym (ap armed_by e) ∙ (sym armed ∙ (sym kept.armed ∙ is)) in cc
     never (Some Settle) e is = let none = sym (ap armed_by e) ∙ (sym armed ∙ (sym kept.armed ∙ is)) in cc
-    never (Some (Crash calls image)) e is = let idle = h.crashing calls image e in let no = sym handed ∙ idle.handed in cc
+    never (Some (Crash calls image)) e is = busy (h.crashing calls image e)
 
     by : (b : Bool) → new.blown ≡ b → new.blown ≡ false
     by false e = e
-    by true e = absurd (never d.close refl (kept.blew unblown e))
+    by true e = absurd (never (close_left d.place.segments) refl (kept.blew unblown e))
 
 -- an error that is want of memory
 pub if_memory : {A : Type 0} (P : Halt → Type 0) (r : Result A Halt) → P Memory → IfErr r (λ halt. halt ≡ Memory) → IfErr r P
@@ -102,7 +96,7 @@ full_known known less opening log size needed room by full =
     record { op = full.op; handed = full.handed; needs = full.needs; less = full.less; behind = λ is. full.behind (by is) }
 
 -- a part of a run over some opening lists alone
-pub goes_any : (over : List Op → Type 0) (a b : Desk) → Goes [] a b → GoesOver over [] a b
+pub goes_any : (over : List Op → Type 0) (a b : DeskView) → Goes [] a b → GoesOver over [] a b
 goes_any over a b g =
     record {
       sound = g.sound;
@@ -113,12 +107,12 @@ goes_any over a b g =
       run = λ opening script fallen is run. g.run opening script fallen tt run;
     }
 
-pub unkept_same : (d : Desk) → IsUnkept d d
+pub unkept_same : (d : DeskView) → IsUnkept d d
 unkept_same d = record { kept = λ opening k. refl; more = []; grows = sym (append-nil d.core.log) }
 
 module _ {D : Type 0} (view : D → DiskView) where
   -- memory ran out where nothing was kept
-  pub halts_unkept : (d next : Desk) (disk now : Fused D) → Goes [] d next → IsUnkept d next → now.inner ≡ disk.inner → now.refused ≡ disk.refused → HaltsBy view d next disk now Memory
+  pub halts_unkept : (d next : DeskView) (disk now : Fused D) → Goes [] d next → IsUnkept d next → now.inner ≡ disk.inner → now.refused ≡ disk.refused → HaltsBy view d next disk now Memory
   halts_unkept d next disk now goes same inner refused =
       record {
         goes = goes;
@@ -129,7 +123,7 @@ module _ {D : Type 0} (view : D → DiskView) where
       }
 
   -- and where nothing was done at all
-  pub halts_same : (over : List Op → Type 0) (d : Desk) (disk : Fused D) → IsSound d → HaltsOver view over d d disk disk Memory
+  pub halts_same : (over : List Op → Type 0) (d : DeskView) (disk : Fused D) → IsSound d → HaltsOver view over d d disk disk Memory
   halts_same over d disk h =
       record {
         goes = goes_any over d d (goes_same d h);
@@ -140,23 +134,20 @@ module _ {D : Type 0} (view : D → DiskView) where
 
   -- an append was refused by a whole store
   pub append_halts : (faulted : D → D → Type 0) → ((x y : D) → faulted x y → Rose (view x).faults (view y).faults)
-      → (d : Desk) (disk now : Fused D) (op : Op) → IsSound d → d.core.tables.alive ≡ true → d.core.tables.handed ≡ true
-      → ((opening : List Op) → StandsFor opening d.core → IsToBeKept opening d.core op)
+      → (d : DeskView) (disk now : Fused D) (op : Op) → IsSound d → ((opening : List Op) → StandsFor opening d.core → IsToBeKept opening d.core op)
+      → ((opening : List Op) → StandsFor opening d.core → IsHanded opening d.core.log op)
       → ((ops : List Op) → Has (seen view disk) ops → fits_records (records ops) op ≡ true → LeavesOps (seen view disk) (seen view now) ops op)
       → (view now.inner).size ≡ (view disk.inner).size
       → (error : StoreError) → (error ≡ store.DiskFault → faulted disk.inner now.inner)
       → ((needed room : ℕ) → error ≡ store.Full needed room → (room < needed) × (needed ≡ needed_for op) × ((ops : List Op) → Has (seen view disk) ops → room ≡ room_behind (view disk.inner).size ops))
       → HaltsBy view d d disk now (halt_of error)
-  append_halts faulted counts d disk now op h alive handed next leaves size error fault full =
+  append_halts faulted counts d disk now op h next is_handed leaves size error fault full =
       record {
         goes = goes_same d h;
         why = by error fault full;
         left = λ opening is k has. op_leaves opening d.core op (seen view disk) (seen view now) (next opening k) leaves has;
       }
     where
-      is_handed : (opening : List Op) → StandsFor opening d.core → IsHanded opening d.core.log op
-      is_handed opening k = record { first = (next opening k).first; handed = has_handed opening d.core k alive handed }
-
       by : (error : StoreError) → (error ≡ store.DiskFault → faulted disk.inner now.inner)
           → ((needed room : ℕ) → error ≡ store.Full needed room → (room < needed) × (needed ≡ needed_for op) × ((ops : List Op) → Has (seen view disk) ops → room ≡ room_behind (view disk.inner).size ops))
           → IsHaltedBy view (λ opening. Unit {0}) d d disk now (halt_of error)
@@ -178,7 +169,7 @@ module _ {D : Type 0} (view : D → DiskView) where
       by store.Memory fault full = tt
 
   -- the store has the operation, and the manager found no memory to learn so
-  pub unlearned_halts : (d : Desk) (disk now : Fused D) (op : Op) → IsSound d
+  pub unlearned_halts : (d : DeskView) (disk now : Fused D) (op : Op) → IsSound d
       → ((opening : List Op) → StandsFor opening d.core → IsToBeKept opening d.core op)
       → ((ops : List Op) → Has (seen view disk) ops → fits_records (records ops) op ≡ true → LeavesOps (seen view disk) (seen view now) ops op)
       → HaltsBy view d d disk now Memory
@@ -190,7 +181,7 @@ module _ {D : Type 0} (view : D → DiskView) where
       }
 
   -- a part of a run, and one after it that halted
-  module _ (over : List Op → Type 0) (a b c : Desk) (first second third : Fused D) (goes : GoesOver over [] a b)
+  module _ (over : List Op → Type 0) (a b c : DeskView) (first second third : Fused D) (goes : GoesOver over [] a b)
       (kept : (opening : List Op) → over opening → StandsFor opening a.core → IsKeptOn opening a.core.log (seen view first) → KeepsOn opening a.core.log b.core.log (seen view first) (seen view second))
       (faults : (view first.inner).faults ≤ (view second.inner).faults) where
     pub halts_on : (halt : Halt) → HaltsBy view b c second third halt → HaltsOver view over a c first third halt

@@ -5,7 +5,9 @@ use Rattle.std.proofs.lemmas.List.{append-nil, append_assoc}
 use Rattle.std.proofs.lemmas.List.Sums.{fold_push}
 use Rattle.rm_types.specs.declared.entries.Entry.{Entry}
 use Rattle.rm_types.specs.declared.entries.Entry.TheVariants.{Opened, Issued, Handed, Kept as KeptEntry, Blown, Served, Accepted, Queued, Absorbed, Pass, Ordered, Ended, Settled, Down, Quiet}
+use Rattle.rm_types.specs.declared.messages.Lane.TheVariants as lanes
 use Rattle.rm_types.specs.declared.operations.Op.{Op}
+use Rattle.rm_types.specs.Lanes.{lane_of_entry}
 use Rattle.rm_types.specs.declared.scripts.Close.{Close}
 use Rattle.rm_types.specs.declared.scripts.Script.{Script}
 use Rattle.rm_types.specs.declared.settings.Settings.{Settings}
@@ -13,20 +15,15 @@ use Rattle.rm_disk.specs.declared.fallen.Fallen.{Fallen}
 use Rattle.rm_model.specs.State.{Manager, LifeState, opening_state}
 use Rattle.rm_model.specs.Changes.{after, after_all, after_where}
 use Rattle.rm_model.specs.Downs.{AllGoDownAtRest, GoesDownAtRest}
-use Rattle.rm_model.specs.Lawful.{Follows, place_after, state_after}
-use Rattle.rm_model.specs.Place.{Place, IsNext, beginning, close_left, moved}
-use Rattle.rm_core.specs.Adds.{IsOfMain, IsOfSched}
-use Rattle.rm_core.specs.Seen.{StandsFor}
-use Rattle.rm_plain.specs.declared.desk.Desk.{Desk}
-use Rattle.rm_plain.specs.Along.{GoesTo, place_of}
+use Rattle.rm_model.specs.Lawful.{place_after, state_after}
+use Rattle.rm_model.specs.Place.{Place, beginning, close_left, moved}
+use Rattle.rm_desk.specs.View.{DeskView}
+use Rattle.rm_desk.specs.Runs.{IsRun as GoesAlong}
+use Rattle.rm_desk.proofs.Longer.{IsOwn, own_silent}
 use Rattle.rm_plain.specs.Falls.{falls_at, falls_from}
 use Rattle.rm_plain.specs.Goes.{IsRun}
 
--- an entry that is next may be added
-Follows-push : (s : Manager) (p : Place) (log : List Entry) (e : Entry) → Follows s p log → IsNext (after_all s log) (fold moved p log) e → Follows s p (log ++ e ∷ [])
-Follows-push s p [] e h n = (n, tt)
-Follows-push s p (x ∷ log) e h n = (h.0, Follows-push (after s x) (moved p x) log e h.1 n)
-
+-- a life that goes down at rest may be added
 downs-push : (settings : Settings) (s : Manager) (log : List Entry) (e : Entry) → AllGoDownAtRest settings s log → GoesDownAtRest settings (after_all s log) (after_all s log).life e
     → AllGoDownAtRest settings s (log ++ e ∷ [])
 downs-push settings s [] e h a = (a, tt)
@@ -39,33 +36,20 @@ falls-push s p (x ∷ log) e =
     ap (λ (l : List Fallen). falls_at x s.life (close_left p.segments) ++ l) (falls-push (after s x) (moved p x) log e)
     ∙ sym (append_assoc (falls_at x s.life (close_left p.segments)) (falls_from (after s x) (moved p x) log) (falls_at e (after_all (after s x) log).life (close_left (fold moved (moved p x) log).segments)))
 
-goes_push : (opening : List Op) (script : Script) (log : List Entry) (place : Place) (e : Entry) → IsNext (state_after opening log) place e → GoesTo opening script log place
-    → GoesTo opening script (log ++ e ∷ []) (moved place e)
-goes_push opening script log place e n g =
-    record {
-      along = Follows-push (opening_state opening) (beginning script) log e g.along (rw g.at n);
-      at = fold_push moved (beginning script) log e ∙ ap (λ (p : Place). moved p e) g.at;
-    }
-
 -- the run with one more entry, at which so much falls
-pub one_more : (opening : List Op) (script : Script) (fallen more : List Fallen) (d next : Desk) (e : Entry) → IsRun opening script fallen d
-    → next.core.settings ≡ d.core.settings → StandsFor opening next.core → next.core.log ≡ d.core.log ++ e ∷ [] → place_of next ≡ moved (place_of d) e
-    → IsNext (state_after opening d.core.log) (place_of d) e
+pub one_more : (opening : List Op) (script : Script) (fallen more : List Fallen) (d next : DeskView) (e : Entry) → IsRun opening script fallen d → GoesAlong opening script next
+    → next.core.settings ≡ d.core.settings → next.core.log ≡ d.core.log ++ e ∷ []
     → GoesDownAtRest d.core.settings (state_after opening d.core.log) (state_after opening d.core.log).life e
-    → falls_at e (state_after opening d.core.log).life (close_left (place_of d).segments) ≡ more
-    → IsRun opening script (fallen ++ more) next
-one_more opening script fallen more d next e run settings stands added place is_next down falls =
+    → falls_at e (state_after opening d.core.log).life (close_left d.place.segments) ≡ more → IsRun opening script (fallen ++ more) next
+one_more opening script fallen more d next e run goes settings added down falls =
     let log = d.core.log in
-    let at : place_after script log ≡ place_of d = run.along.at in
     let fell : falls_from (opening_state opening) (beginning script) (log ++ e ∷ []) ≡ fallen ++ more =
     falls-push (opening_state opening) (beginning script) log e
     ∙ ap (λ (l : List Fallen). l ++ falls_at e (state_after opening log).life (close_left (place_after script log).segments)) run.falls
-    ∙ ap (λ (p : Place). fallen ++ falls_at e (state_after opening log).life (close_left p.segments)) at
+    ∙ ap (λ (p : Place). fallen ++ falls_at e (state_after opening log).life (close_left p.segments)) run.goes.along.at
     ∙ ap (λ (l : List Fallen). fallen ++ l) falls in
     record {
-      stands = stands;
-      along = subst (λ (l : List Entry). GoesTo opening script l (place_of next)) (sym added)
-          (subst (λ (p : Place). GoesTo opening script (log ++ e ∷ []) p) (sym place) (goes_push opening script log (place_of d) e is_next run.along));
+      goes = goes;
       downs = rw (settings, added) (downs-push d.core.settings (opening_state opening) log e run.downs down);
       falls = subst (λ (l : List Entry). falls_from (opening_state opening) (beginning script) l ≡ fallen ++ more) (sym added) fell;
     }
@@ -157,46 +141,40 @@ pub kept_stays : (opening : List Op) (log : List Entry) (e : Entry) → is_plain
 kept_stays opening log e h =
     ap (λ (s : Manager). s.kept) (fold_push after (opening_state opening) log e) ∙ kept_where e (state_after opening log) (state_after opening log).life h
 
--- the script says nothing of the entry
-pub record IsSilent (e : Entry) : Type 0 where
-  pub next : (s : Manager) (p : Place) → IsNext s p e
-  pub stays : (p : Place) → moved p e ≡ p
+-- of the manager's own entries no life begins or goes down, and nothing is kept
+own_plain : (e : Entry) → IsOwn (lane_of_entry e) → is_plain e ≡ true
+own_plain (Issued op) h = refl
+own_plain Handed h = refl
+own_plain (Accepted app) h = refl
+own_plain (Queued attempt) h = refl
+own_plain (Absorbed node taken ended) h = refl
+own_plain (Pass node grants) h = refl
+own_plain (Ordered container node) h = refl
+own_plain (Ended cause list) h = refl
+own_plain (Quiet lane) h = refl
+own_plain (Opened landed epoch stamp) h = absurd h
+own_plain (KeptEntry op) h = absurd h
+own_plain (Blown passed) h = refl
+own_plain (Served sender message reply) h = refl
+own_plain Settled h = refl
+own_plain Down h = absurd h
+
+pub plain_stands : (e : Entry) → is_plain e ≡ true → e ≢ Down
+plain_stands e h = λ is. let no = ap is_plain is in let x = sym h ∙ no in cc
+
+-- what a lane's move adds where neither the store nor the script has a part in it
+pub record IsQuiet (e : Entry) : Type 0 where
   pub plain : is_plain e ≡ true
-  pub no_end : e ≢ Down
+  pub stays : (p : Place) → moved p e ≡ p
 
-pub main_silent : (e : Entry) → IsOfMain e → IsSilent e
-main_silent (Issued op) h = record { next = λ s p. tt; stays = λ p. refl; plain = refl; no_end = λ is. cc }
-main_silent (Quiet lane) h = record { next = λ s p. tt; stays = λ p. refl; plain = refl; no_end = λ is. cc }
-main_silent (Accepted app) h = record { next = λ s p. tt; stays = λ p. refl; plain = refl; no_end = λ is. cc }
-main_silent (Opened landed epoch stamp) h = absurd h
-main_silent Handed h = absurd h
-main_silent (KeptEntry op) h = absurd h
-main_silent (Blown passed) h = absurd h
-main_silent (Served sender message reply) h = absurd h
-main_silent (Queued attempt) h = absurd h
-main_silent (Absorbed node taken ended) h = absurd h
-main_silent (Pass node grants) h = absurd h
-main_silent (Ordered container node) h = absurd h
-main_silent (Ended cause list) h = absurd h
-main_silent Settled h = absurd h
-main_silent Down h = absurd h
+own_quiet : (e : Entry) → IsOwn (lane_of_entry e) → IsQuiet e
+own_quiet e own = record { plain = own_plain e own; stays = (own_silent e own).stays }
 
-pub sched_silent : (e : Entry) → IsOfSched e → IsSilent e
-sched_silent (Queued attempt) h = record { next = λ s p. tt; stays = λ p. refl; plain = refl; no_end = λ is. cc }
-sched_silent (Quiet lane) h = record { next = λ s p. tt; stays = λ p. refl; plain = refl; no_end = λ is. cc }
-sched_silent (Opened landed epoch stamp) h = absurd h
-sched_silent (Issued op) h = absurd h
-sched_silent Handed h = absurd h
-sched_silent (KeptEntry op) h = absurd h
-sched_silent (Blown passed) h = absurd h
-sched_silent (Served sender message reply) h = absurd h
-sched_silent (Accepted app) h = absurd h
-sched_silent (Absorbed node taken ended) h = absurd h
-sched_silent (Pass node grants) h = absurd h
-sched_silent (Ordered container node) h = absurd h
-sched_silent (Ended cause list) h = absurd h
-sched_silent Settled h = absurd h
-sched_silent Down h = absurd h
+pub main_quiet : (e : Entry) → lane_of_entry e ≡ lanes.Main → IsQuiet e
+main_quiet e is = own_quiet e (subst IsOwn (sym is) tt)
 
-pub hand_silent : IsSilent Handed
-hand_silent = record { next = λ s p. tt; stays = λ p. refl; plain = refl; no_end = λ is. cc }
+pub sched_quiet : (e : Entry) → lane_of_entry e ≡ lanes.Sched → IsQuiet e
+sched_quiet e is = own_quiet e (subst IsOwn (sym is) tt)
+
+pub hand_quiet : (e : Entry) → e ≡ Handed → IsQuiet e
+hand_quiet e is = subst IsQuiet (sym is) (own_quiet Handed tt)

@@ -1,13 +1,13 @@
--- The moves of a desk, each a longer run, with less left.
-use Rattle.std.proofs.Common.{◌≡◌, ◌≢◌, ℕ, ◌+◌, ◌*◌, ◌<◌, ◌≤◌, max, List, [], ◌∷◌, ◌++◌, Bool, true, false, not, ◌&&◌, Some, None, Option, Ok, Err, Result, length, refl, sym, ◌∙◌, ap, subst, arith, drop}
-use Rattle.std.specs.Prelude.{OnOk, OnErr, is_ok, slice_get}
-use Rattle.std.specs.List.{sum_by}
+-- The moves of a desk, each a longer run.
+use Rattle.std.proofs.Common.{◌≡◌, ◌≢◌, ℕ, ◌<◌, ◌≤◌, List, [], ◌∷◌, ◌++◌, Bool, true, false, not, ◌&&◌, Some, None, Option, Ok, Err, Result, length, refl, sym, ◌∙◌, ap, subst, arith}
+use Rattle.std.specs.Prelude.{OnErr, OnOk, is_ok, slice_get}
 use Rattle.std.proofs.lemmas.List.{append-nil}
-use Rattle.std.proofs.lemmas.List.Sums.{fold_push, sum_by-cons}
+use Rattle.std.proofs.lemmas.List.Sums.{fold_push}
 use Rattle.rm_types.specs.declared.entries.Entry.{Entry}
 use Rattle.rm_types.specs.declared.entries.Entry.TheVariants.{Opened, Kept as KeptEntry, Served, Settled, Down}
+use Rattle.rm_types.specs.declared.messages.Lane.{Lane}
+use Rattle.rm_types.specs.declared.messages.Lane.TheVariants.{Client, Master, Node, Clock, Main, Sched, Hand, Write, End, Begin}
 use Rattle.rm_types.specs.declared.messages.Message.{Message}
-use Rattle.rm_types.specs.declared.messages.Message.TheVariants.{Client as FromClient, Master as FromMaster, Node as FromNode, Clock as FromClock}
 use Rattle.rm_types.specs.declared.messages.Sender.{Sender}
 use Rattle.rm_types.specs.declared.operations.Op.{Op}
 use Rattle.rm_types.specs.declared.replies.Reply.{Reply}
@@ -16,35 +16,32 @@ use Rattle.rm_types.specs.declared.scripts.Close.TheVariants.{Settle, Crash}
 use Rattle.rm_types.specs.declared.scripts.Life.{Life}
 use Rattle.rm_types.specs.declared.scripts.Segment.{Segment}
 use Rattle.rm_types.specs.declared.settings.Settings.{Settings}
+use Rattle.rm_types.specs.Lanes.{sender_of}
 use Rattle.rm_types.specs.Lists.{is_nil}
-use Rattle.rm_types.specs.Records.{Records, records}
+use Rattle.rm_types.specs.Records.{Records}
 use Rattle.rm_disk.specs.declared.fallen.Fallen.{Fallen}
-use Rattle.rm_model.specs.State.{Manager, LifeState, opening_state}
-use Rattle.rm_model.specs.Changes.{after, after_where, kept_after_landing}
+use Rattle.rm_model.specs.State.{LifeState, Manager, opening_state}
+use Rattle.rm_model.specs.Changes.{after, after_where}
 use Rattle.rm_model.specs.Downs.{GoesDownAtRest}
 use Rattle.rm_model.specs.Lawful.{IsAtRest, state_after}
-use Rattle.rm_model.specs.Place.{Place, IsNext, Begins, Settles, Crashes, moved, begun, rest_of, messages_left, close_left, is_from, first_from, segments_without, without_first}
-use Rattle.rm_types.specs.Lanes.{sender_of}
-use Rattle.rm_core.specs.Adds.{Adds, AmountsTo, GoesOnFrom, IsOf}
-use Rattle.rm_core.specs.declared.events.Refused.{Refused}
-use Rattle.rm_core.specs.declared.manager.Move.{Move}
-use Rattle.rm_types.specs.declared.messages.Lane.TheVariants.{End}
-use Rattle.rm_core.specs.Ready.{is_ready}
-use Rattle.rm_core.specs.Seen.{Seen, StandsFor, Rests}
-use Rattle.rm_core.specs.Serving.{IsBuiltMessage}
-use Rattle.rm_core.specs.Told.{life_in}
-use Rattle.rm_core.specs.Weights.{weight}
-use Rattle.rm_core.proofs.Standing.{stands, not_empty}
-use Rattle.rm_plain.specs.declared.desk.Desk.{Desk}
-use Rattle.rm_plain.specs.Along.{place_of, current_in, at_segments, IsSound, IsIdle, AllLive, CanFollow, SettlesFirst, EndsInCrash, Closes, segment_cost, messages_in, left}
+use Rattle.rm_model.specs.Place.{Place, begun, close_left, messages_left, moved, rest_of, segments_without, without_first}
+use Rattle.rm_core.specs.Adds.{AmountsTo}
+use Rattle.rm_core.specs.Seen.{StandsFor}
+use Rattle.rm_core.specs.Words.{has_rest, stands}
+use Rattle.rm_desk.specs.View.{DeskView}
+use Rattle.rm_desk.specs.Lanes.{IsStep, IsWork, stands_after}
+use Rattle.rm_desk.specs.Runs.{IsUnblown, Tells}
+use Rattle.rm_desk.specs.Does.{Begins, Does, IsEntryOf}
+use Rattle.rm_desk.proofs.Longer.{not_empty}
+use Rattle.rm_plain.specs.Along.{AllBare, AllSettle, IsBare, IsSound, SettlesFirst}
 use Rattle.rm_plain.specs.Falls.{fall, falls_at}
-use Rattle.rm_plain.specs.Goes.{GoesOver, Goes, IsRun}
-use Rattle.rm_plain.specs.Keeping.{IsUnkept, IsBegun}
-use Rattle.rm_plain.proofs.Longer.{one_more, falls_none, no_down, kept_stays, IsSilent}
+use Rattle.rm_plain.specs.Goes.{Goes, GoesOver, IsRun}
+use Rattle.rm_plain.specs.Keeping.{IsBegun, IsUnkept}
+use Rattle.rm_plain.proofs.Longer.{IsQuiet, falls_none, hand_quiet, is_plain, kept_stays, main_quiet, no_down, one_more, plain_stands, sched_quiet}
 
 -- the current segment is no crash
-abbrev pub NoCrash : Desk → Type 0
-NoCrash d = (calls image : ℕ) → d.close ≡ Some (Crash calls image) → ⊥
+abbrev pub NoCrash : DeskView → Type 0
+NoCrash d = (calls image : ℕ) → close_left d.place.segments ≡ Some (Crash calls image) → ⊥
 
 pub is_not : (b : Bool) → not b ≡ true → b ≡ false
 is_not true h = cc
@@ -53,10 +50,6 @@ is_not false h = refl
 pub both : (a b : Bool) → (a && b) ≡ true → (a ≡ true) × (b ≡ true)
 both true b h = (refl, h)
 both false b h = cc
-
-pub nil_is : {X : Type 0} (xs : List X) → is_nil xs ≡ true → xs ≡ []
-nil_is [] h = refl
-nil_is (x ∷ xs) h = cc
 
 pub not_nil : {X : Type 0} (xs : List X) → not (is_nil xs) ≡ true → xs ≢ []
 not_nil [] h = cc
@@ -79,395 +72,287 @@ pub no_err : {A E : Type 0} {P : Type 0} (r : Result A E) → ((e : E) → r ≡
 no_err (Ok x) none p = p
 no_err (Err x) none p = absurd (none x refl)
 
--- what a desk with another core does
-pub record Moves (d next : Desk) : Type 0 where
-  pub goes : Goes [] d next
-  pub less : left next < left d
-  pub same : IsUnkept d next
+pub on_ok : {A E : Type 0} {P : Type 0} (r : Result A E) → P → OnOk r P
+on_ok (Ok x) p = p
+on_ok (Err x) p = tt
+
+pub ok_map : {X E A B : Type 0} (r : Result X E) → (A → B) → OnOk r A → OnOk r B
+ok_map (Ok x) f a = f a
+ok_map (Err e) f a = tt
 
 -- nothing is a part of a run, and nothing falls in it
-pub goes_same : (d : Desk) → IsSound d → Goes [] d d
+pub goes_same : (d : DeskView) → IsSound d → Goes [] d d
 goes_same d h =
     record { sound = h; settings = refl; lives = omega arith; some = λ was. was; lawful = λ opening over k. k; run = λ opening script fallen over run. subst (λ (l : List Fallen). IsRun opening script l d) (sym (append-nil fallen)) run }
 
--- an entry that the script doesn't name leaves the desk's place
-pub stay_goes : (d : Desk) (core : Seen) (e : Entry) → IsSound d → ((s : Manager) (p : Place) → IsNext s p e) → ((p : Place) → moved p e ≡ p) → e ≢ Down
-    → NoCrash d → core.log ≡ d.core.log ++ e ∷ [] → (d.core.tables.alive ≡ true) × (core.tables.alive ≡ true) → core.tables.served ≡ d.core.tables.served
-    → core.settings ≡ d.core.settings → ((opening : List Op) → StandsFor opening d.core → StandsFor opening core) → Goes [] d (record d { core = core })
-stay_goes d core e h next stays no_end calm added stands count same lawful =
+-- the lives that are left, where none began
+fewer : (before after : List Life) → after ≡ before → length after ≤ length before
+fewer before after e = let same = ap (λ (xs : List Life). length xs) e in omega arith
+
+-- what a lane's move does to a run, by which so much falls
+module _ (lane : Lane) (d next : DeskView) (does : Does lane d next) (sound : IsSound next) (lives : next.place.lives ≡ d.place.lives) (more : List Fallen)
+    (down : (opening : List Op) → StandsFor opening d.core → GoesDownAtRest d.core.settings (state_after opening d.core.log) (state_after opening d.core.log).life does.adds.entry)
+    (falls : (opening : List Op) → StandsFor opening d.core → falls_at does.adds.entry (state_after opening d.core.log).life (close_left d.place.segments) ≡ more) where
+  falling_goes : Goes more d next
+  falling_goes =
+      record {
+        sound = sound;
+        settings = does.goes.settings;
+        lives = fewer d.place.lives next.place.lives lives;
+        some = λ was. rw does.adds.added (not_empty d.core.log does.adds.entry);
+        lawful = λ opening over k. does.goes.lawful opening over k;
+        run = λ opening script fallen over run.
+            one_more opening script fallen more d next does.adds.entry run (does.goes.run opening script over run.goes) does.goes.settings does.adds.added (down opening run.goes.stands) (falls opening run.goes.stands);
+      }
+
+-- a move by which no life goes down
+step_goes : (lane : Lane) (d next : DeskView) (does : Does lane d next) → does.adds.entry ≢ Down → IsSound next → next.place.lives ≡ d.place.lives → Goes [] d next
+step_goes lane d next does no_end sound lives =
+    falling_goes lane d next does sound lives []
+    (λ opening k. no_down does.adds.entry d.core.settings (state_after opening d.core.log) (state_after opening d.core.log).life no_end)
+    (λ opening k. falls_none does.adds.entry (state_after opening d.core.log).life (close_left d.place.segments) no_end)
+
+-- and nothing is kept
+step_unkept : (lane : Lane) (d next : DeskView) (does : Does lane d next) → is_plain does.adds.entry ≡ true → IsUnkept d next
+step_unkept lane d next does plain =
+    record { kept = λ opening k. rw does.adds.added (kept_stays opening d.core.log does.adds.entry plain); more = does.adds.entry ∷ []; grows = does.adds.added }
+
+-- what a move does that touches neither the store nor the end of a segment
+pub record Works (d next : DeskView) : Type 0 where
+  pub goes : Goes [] d next
+  pub same : IsUnkept d next
+  pub close : close_left next.place.segments ≡ close_left d.place.segments
+
+-- where a lane of the manager's work moves, the current segment is no crash
+work_sound : (lane : Lane) (d next : DeskView) → Does lane d next → IsWork lane → IsSound d → next.place ≡ d.place → IsSound next
+work_sound lane d next does work h place =
     record {
-      sound = record {
-        lives = h.lives;
-        segments = h.segments;
-        entered = h.entered;
-        fed = h.fed;
-        between = λ a. let x = stands.1 in cc;
-        ends = λ a more. h.ends stands.0 more;
-        served = λ a. rw count (h.served stands.0);
-        crashing = λ calls image c. absurd (calm calls image c);
-      };
-      settings = same;
-      lives = omega arith;
-      some = λ was. rw added (not_empty d.core.log e);
-      lawful = λ opening over k. lawful opening k;
-      run = λ opening script fallen over run.
-          one_more opening script fallen [] d (record d { core = core }) e run same (lawful opening run.stands) added (sym (stays (place_of d)))
-          (next (state_after opening d.core.log) (place_of d))
-          (no_down e d.core.settings (state_after opening d.core.log) (state_after opening d.core.log).life no_end)
-          (falls_none e (state_after opening d.core.log).life (close_left (place_of d).segments) no_end);
+      bare = rw place h.bare;
+      lives = rw place h.lives;
+      crashing = λ calls image c. absurd (does.busy work (h.crashing calls image (sym (ap (λ (p : Place). close_left p.segments) place) ∙ c)));
     }
+
+-- so its other entries leave the place as it is
+quiet_works : (lane : Lane) (d next : DeskView) (does : Does lane d next) → IsWork lane → IsSound d → IsQuiet does.adds.entry → Works d next
+quiet_works lane d next does work h quiet =
+    let place : next.place ≡ d.place = does.adds.place ∙ quiet.stays d.place in
+    record {
+      goes = step_goes lane d next does (plain_stands does.adds.entry quiet.plain) (work_sound lane d next does work h place) (ap (λ (p : Place). p.lives) place);
+      same = step_unkept lane d next does quiet.plain;
+      close = ap (λ (p : Place). close_left p.segments) place;
+    }
+
+-- the first segment has one message less
+bare_without : (sender : Sender) (segments : List Segment) → ((calls image : ℕ) → close_left segments ≡ Some (Crash calls image) → ⊥) → AllBare segments → AllBare (segments_without sender segments)
+bare_without sender [] calm h = tt
+bare_without sender (segment ∷ more) calm h = (by segment.close refl, h.1)
+  where
+    by : (close : Close) → segment.close ≡ close → IsBare segment.close (without_first sender segment.messages)
+    by Settle e = rw e tt
+    by (Crash calls image) e = absurd (calm calls image (ap (λ (c : Close). Some c) e))
+
+close_without : (sender : Sender) (segments : List Segment) → close_left (segments_without sender segments) ≡ close_left segments
+close_without sender [] = refl
+close_without sender (segment ∷ more) = refl
+
+-- a crash has no message left
+fed_calm : (segments : List Segment) (m : Message) → AllBare segments → slice_get (messages_left segments) 0 ≡ Some m → (calls image : ℕ) → close_left segments ≡ Some (Crash calls image) → ⊥
+fed_calm [] m h first calls image c = cc
+fed_calm (segment ∷ more) m h first calls image c =
+    let close : segment.close ≡ Crash calls image = some_same segment.close (Crash calls image) c in
+    let none : segment.messages ≡ [] = rw close at h.0 in
+    let x = rw none at first in
+    cc
+
+-- a message is answered
+serve_works : (d next : DeskView) (does : Does Client d next) → IsSound d → Works d next
+serve_works d next does h =
+    let m = does.adds.of_kind.0 in
+    let is = does.adds.of_kind.3 in
+    let calm = fed_calm d.place.segments m h.bare does.adds.of_kind.2 in
+    let place : next.place ≡ record { lives = d.place.lives; segments = segments_without (sender_of m) d.place.segments } =
+    does.adds.place ∙ ap (λ (e : Entry). moved d.place e) is in
+    let segments : next.place.segments ≡ segments_without (sender_of m) d.place.segments = ap (λ (p : Place). p.segments) place in
+    let lives : next.place.lives ≡ d.place.lives = ap (λ (p : Place). p.lives) place in
+    let close : close_left next.place.segments ≡ close_left d.place.segments = ap close_left segments ∙ close_without (sender_of m) d.place.segments in
+    let plain : is_plain does.adds.entry ≡ true = ap is_plain is in
+    record {
+      goes = step_goes Client d next does (plain_stands does.adds.entry plain)
+          (record {
+            bare = subst AllBare (sym segments) (bare_without (sender_of m) d.place.segments calm h.bare);
+            lives = subst AllSettle (sym lives) h.lives;
+            crashing = λ calls image c. absurd (calm calls image (sym close ∙ c));
+          })
+          lives;
+      same = step_unkept Client d next does plain;
+      close = close;
+    }
+
+pub works : (lane : Lane) (d next : DeskView) → Does lane d next → IsStep lane → lane ≢ End → IsSound d → Works d next
+works Client d next does step goes h = serve_works d next does h
+works Main d next does step goes h = quiet_works Main d next does tt h (main_quiet does.adds.entry does.adds.of_kind)
+works Sched d next does step goes h = quiet_works Sched d next does tt h (sched_quiet does.adds.entry does.adds.of_kind)
+works Hand d next does step goes h = quiet_works Hand d next does tt h (hand_quiet does.adds.entry does.adds.of_kind)
+works Master d next does step goes h = absurd does.adds.of_kind
+works Node d next does step goes h = absurd does.adds.of_kind
+works Clock d next does step goes h = absurd does.adds.of_kind
+works End d next does step goes h = absurd (goes refl)
+works Write d next does step goes h = absurd step
+works Begin d next does step goes h = absurd step
 
 -- the operation that is with the store is kept
-pub kept_goes : (d : Desk) (core : Seen) (op : Op) → IsSound d → NoCrash d → core.log ≡ d.core.log ++ KeptEntry op ∷ []
-    → (d.core.tables.alive ≡ true) × (core.tables.alive ≡ true) → core.tables.served ≡ d.core.tables.served
-    → core.settings ≡ d.core.settings → ((opening : List Op) → StandsFor opening d.core → StandsFor opening core) → Goes [] d (record d { core = core })
-kept_goes d core op h calm added stands count same lawful = stay_goes d core (KeptEntry op) h (λ s p. tt) (λ p. refl) (λ is. cc) calm added stands count same lawful
+pub kept_goes : (d next : DeskView) → Does Write d next → IsSound d → Goes [] d next
+kept_goes d next does h =
+    let is = does.adds.of_kind.2 in
+    let place : next.place ≡ d.place = does.adds.place ∙ ap (λ (e : Entry). moved d.place e) is in
+    step_goes Write d next does (λ down. let x = sym is ∙ down in cc) (work_sound Write d next does tt h place) (ap (λ (p : Place). p.lives) place)
 
--- a message that is served is a client's, and is its own sender's
-is_from_own : (m : Message) → IsBuiltMessage m → is_from (sender_of m) m ≡ true
-is_from_own (FromClient user ask) h = refl
-is_from_own (FromMaster attempt ask) h = absurd h
-is_from_own (FromNode node ask) h = absurd h
-is_from_own (FromClock ask) h = absurd h
+pub kept_close : (d next : DeskView) → Does Write d next → close_left next.place.segments ≡ close_left d.place.segments
+kept_close d next does = ap (λ (p : Place). close_left p.segments) (does.adds.place ∙ ap (λ (e : Entry). moved d.place e) does.adds.of_kind.2)
 
--- the first of a sender's messages is taken
-without_own : (sender : Sender) (m : Message) (more : List Message) → is_from sender m ≡ true → without_first sender (m ∷ more) ≡ more
-without_own sender m more h = rw (h, without_first) refl
+-- the segments behind the current one
+bare_rest : (segments : List Segment) → AllBare segments → AllBare (rest_of segments)
+bare_rest [] h = tt
+bare_rest (segment ∷ more) h = h.1
 
--- where a message is left in the feed the current segment is no crash
-pub fed_calm : (d : Desk) → IsSound d → d.feed ≢ [] → NoCrash d
-fed_calm d h some = λ calls image c.
-    let old : (place_of d).segments ≡ record { messages = d.feed; close = Crash calls image } ∷ d.segments = rw c refl in
-    let sound : CanFollow (record { messages = d.feed; close = Crash calls image } ∷ d.segments) = subst CanFollow old h.segments in
-    some sound.1.0
+-- the entry with which a segment closes
+settled_is : (d next : DeskView) (does : Does End d next) → close_left d.place.segments ≡ Some Settle → does.adds.entry ≡ Settled
+settled_is d next does c = rw c at does.adds.of_kind
 
--- the first message of the feed can be served
-pub first_served : (d : Desk) → IsSound d → d.core.tables.alive ≡ true → (close : Option Close) → d.close ≡ close → (feed : List Message) → d.feed ≡ feed
-    → (m : Message) → slice_get feed 0 ≡ Some m → IsBuiltMessage m × (d.core.tables.served < 100000)
-first_served d h alive close ec [] e m at = cc
-first_served d h alive None ec (first ∷ more) e m at = absurd (let x = h.fed ec in cc)
-first_served d h alive (Some close) ec (first ∷ more) e m at =
-    let same : first ≡ m = cc in
-    let old : (place_of d).segments ≡ record { messages = m ∷ more; close = close } ∷ d.segments = rw (ec, e, same) refl in
-    let sound : CanFollow (record { messages = m ∷ more; close = close } ∷ d.segments) = subst CanFollow old h.segments in
-    let were : messages_in (place_of d).segments ≡ length more + 1 + messages_in d.segments =
-    ap messages_in old ∙ sum_by-cons (λ (x : Segment). length x.messages) (record { messages = m ∷ more; close = close }) d.segments ∙ omega arith in
-    (sound.0.0, let n = h.served alive in omega (arith, n, were))
+down_is : (d next : DeskView) (does : Does End d next) (calls image : ℕ) → close_left d.place.segments ≡ Some (Crash calls image) → does.adds.entry ≡ Down
+down_is d next does calls image c = rw c at does.adds.of_kind
 
--- a segment that has a message left still settles once it is served
-closes_on : (m : Message) (more : List Message) (after : List Segment) (close : Close) → Closes (m ∷ more) after close → Closes more after close
-closes_on m more after Settle h = tt
-closes_on m more after (Crash calls image) h = absurd (let x = h.0 in cc)
-
--- segments end in a crash whatever messages are left of the first
-ends_on : (m : Message) (more : List Message) (close : Close) (after : List Segment) → EndsInCrash (record { messages = m ∷ more; close = close } ∷ after)
-    → EndsInCrash (record { messages = more; close = close } ∷ after)
-ends_on m more close [] h = h
-ends_on m more close (next ∷ after) h = h
-
-module _ (d next : Desk) (h : IsSound d) (settings : next.core.settings ≡ d.core.settings)
-    (lawful : (opening : List Op) → StandsFor opening d.core → StandsFor opening next.core) where
-  -- the first message of the feed is answered
-  pub serve_moves : (close : Option Close) → d.close ≡ close → (feed : List Message) → d.feed ≡ feed → (m : Message) → slice_get feed 0 ≡ Some m → (reply : Reply)
-      → next.core.log ≡ d.core.log ++ Served (sender_of m) m reply ∷ [] → weight next.core.tables ≤ weight d.core.tables + 20
-      → (d.core.tables.alive ≡ true) × (next.core.tables.alive ≡ true) → next.lives ≡ d.lives → next.close ≡ d.close → next.segments ≡ d.segments → next.feed ≡ drop 1 feed
-      → next.core.tables.served ≡ d.core.tables.served + 1 → Moves d next
-  serve_moves close ec [] e m at reply added less stands l c s f count = cc
-  serve_moves None ec (first ∷ more) e m at reply added less stands l c s f count = absurd (let x = h.fed ec in cc)
-  serve_moves (Some close) ec (first ∷ more) e m at reply added less stands l c s f count =
-      let same : first ≡ m = cc in
-      let old : (place_of d).segments ≡ record { messages = m ∷ more; close = close } ∷ d.segments = rw (ec, e, same) refl in
-      let new : (place_of next).segments ≡ record { messages = more; close = close } ∷ d.segments = rw (c, ec, f, s) refl in
-      let sound : CanFollow (record { messages = m ∷ more; close = close } ∷ d.segments) = subst CanFollow old h.segments in
-      let own = is_from_own m sound.0.0 in
-      let isnext : first_from (sender_of m) (messages_left (place_of d).segments) ≡ Some m = rw (old, own) refl in
-      let entry = Served (sender_of m) m reply in
-      let taken : segments_without (sender_of m) (place_of d).segments ≡ record { messages = more; close = close } ∷ d.segments =
-      ap (segments_without (sender_of m)) old
-      ∙ ap (λ (x : List Message). record { messages = x; close = close } ∷ d.segments) (without_own (sender_of m) m more own) in
-      let place : place_of next ≡ moved (place_of d) entry = rw l (ap (λ (x : List Segment). at_segments d.lives x) (new ∙ sym taken)) in
-      let before : sum_by segment_cost (place_of d).segments ≡ 1 + 21 * (length more + 1) + sum_by segment_cost d.segments =
-      ap (λ (x : List Segment). sum_by segment_cost x) old ∙ sum_by-cons segment_cost (record { messages = m ∷ more; close = close }) d.segments ∙ omega arith in
-      let after : sum_by segment_cost (place_of next).segments ≡ 1 + 21 * length more + sum_by segment_cost d.segments =
-      ap (λ (x : List Segment). sum_by segment_cost x) new ∙ sum_by-cons segment_cost (record { messages = more; close = close }) d.segments in
-      let were : messages_in (place_of d).segments ≡ length more + 1 + messages_in d.segments =
-      ap messages_in old ∙ sum_by-cons (λ (x : Segment). length x.messages) (record { messages = m ∷ more; close = close }) d.segments ∙ omega arith in
-      let are : messages_in (place_of next).segments ≡ length more + messages_in d.segments =
-      ap messages_in new ∙ sum_by-cons (λ (x : Segment). length x.messages) (record { messages = more; close = close }) d.segments in
-      let some : d.feed ≢ [] = λ none. let x = sym e ∙ none in cc in
-      let calm = fed_calm d h some in
-      record {
-        goes = record {
-          sound = record {
-            lives = rw l h.lives;
-            segments = subst CanFollow (sym new) (sound.0.1, closes_on m more d.segments close sound.1, sound.2);
-            entered = λ n. s ∙ h.entered (sym c ∙ n);
-            fed = λ n. absurd (let x = sym c ∙ n in cc);
-            between = λ a. let x = stands.1 in cc;
-            ends = λ a others. subst EndsInCrash (sym new) (ends_on m more close d.segments (subst EndsInCrash old (h.ends stands.0 (rw (← l) others))));
-            served = λ a. let n = h.served stands.0 in omega (arith, n, were, are, count);
-            crashing = λ calls image is. absurd (calm calls image (sym c ∙ is));
-          };
-          settings = settings;
-          lives = (let same_lives = ap (λ (xs : List Life). length xs) l in omega arith);
-          some = λ was. rw added (not_empty d.core.log entry);
-          lawful = λ opening over k. lawful opening k;
-          run = λ opening script fallen over run.
-              one_more opening script fallen [] d next entry run settings (lawful opening run.stands) added place isnext
-              (no_down entry d.core.settings (state_after opening d.core.log) (state_after opening d.core.log).life (λ is. cc))
-              (falls_none entry (state_after opening d.core.log).life (close_left (place_of d).segments) (λ is. cc));
-        };
-        less = omega (arith, less, before, after);
-        same = record { kept = λ opening k. rw added (kept_stays opening d.core.log entry refl); more = entry ∷ []; grows = added };
-      }
-
-  -- the current segment settles
-  pub settle_moves : d.close ≡ Some Settle → d.feed ≡ []
-      → next.core.log ≡ d.core.log ++ Settled ∷ [] → weight next.core.tables ≤ weight d.core.tables
-      → (d.core.tables.alive ≡ true) × (next.core.tables.alive ≡ true) → place_of next ≡ at_segments d.lives d.segments
-      → (next.close ≡ None → next.segments ≡ []) → (next.close ≡ None → next.feed ≡ []) → next.core.tables.served ≡ d.core.tables.served
-      → IsIdle next.core.tables → Moves d next
-  settle_moves c none added less stands p entered fed count idle =
-      let old : (place_of d).segments ≡ record { messages = []; close = Settle } ∷ d.segments = rw (c, none) refl in
-      let follows : CanFollow (record { messages = []; close = Settle } ∷ d.segments) = subst CanFollow old h.segments in
-      let isnext : Settles (place_of d) = record { none_left = ap messages_left old; closes = ap close_left old } in
-      let place : place_of next ≡ moved (place_of d) Settled = p ∙ ap (λ (s : List Segment). at_segments d.lives (rest_of s)) (sym old) in
-      let segments : (place_of next).segments ≡ d.segments = ap (λ (q : Place). q.segments) p in
-      let fewer : sum_by segment_cost (place_of next).segments ≡ sum_by segment_cost d.segments = ap (λ (q : Place). sum_by segment_cost q.segments) p in
-      let more : sum_by segment_cost (place_of d).segments ≡ 1 + sum_by segment_cost d.segments =
-      ap (λ (s : List Segment). sum_by segment_cost s) old ∙ sum_by-cons segment_cost (record { messages = []; close = Settle }) d.segments in
-      let had : messages_in (place_of d).segments ≡ messages_in d.segments =
-      ap messages_in old ∙ sum_by-cons (λ (s : Segment). length s.messages) (record { messages = []; close = Settle }) d.segments ∙ omega arith in
-      let has : messages_in (place_of next).segments ≡ messages_in d.segments = ap (λ (q : Place). messages_in q.segments) p in
-      let lives : next.lives ≡ d.lives = ap (λ (q : Place). q.lives) p in
-      record {
-        goes = record {
-          sound = record {
-            lives = subst AllLive (sym lives) h.lives;
-            segments = subst CanFollow (sym segments) follows.2;
-            entered = entered;
-            fed = fed;
-            between = λ a. let x = stands.1 in cc;
-            ends = λ a others. subst EndsInCrash (sym segments) (ends_after d.segments (subst EndsInCrash old (h.ends stands.0 (rw (← lives) others))));
-            served = λ a. let n = h.served stands.0 in omega (arith, n, had, has, count);
-            crashing = λ calls image is. idle;
-          };
-          settings = settings;
-          lives = (let same_lives = ap (λ (xs : List Life). length xs) lives in omega arith);
-          some = λ was. rw added (not_empty d.core.log Settled);
-          lawful = λ opening over k. lawful opening k;
-          run = λ opening script fallen over run.
-              one_more opening script fallen [] d next Settled run settings (lawful opening run.stands) added place isnext
-              (no_down Settled d.core.settings (state_after opening d.core.log) (state_after opening d.core.log).life (λ is. cc))
-              (falls_none Settled (state_after opening d.core.log).life (close_left (place_of d).segments) (λ is. cc));
-        };
-        less = omega (arith, less, fewer, more);
-        same = record { kept = λ opening k. rw added (kept_stays opening d.core.log Settled refl); more = Settled ∷ []; grows = added };
-      }
-    where
-      ends_after : (after : List Segment) → EndsInCrash (record { messages = []; close = Settle } ∷ after) → EndsInCrash after
-      ends_after [] e = absurd e
-      ends_after (one ∷ after) e = e
-
--- what settled has nothing left to do
-pub idle_after : (d : Desk) (core : Seen) → core.tables ≡ d.core.tables → is_ready d.core.tables End ≡ true → Rests core → IsIdle core.tables
-idle_after d core same ready rests =
-    let t = d.core.tables in
-    let parts = both (t.alive && is_nil t.main && is_nil t.sched) (is_nil t.awaiting) ready in
-    let queues = both (t.alive && is_nil t.main) (is_nil t.sched) parts.0 in
-    let front = both t.alive (is_nil t.main) queues.0 in
-    let main : core.tables.main ≡ [] = rw same (nil_is t.main front.1) in
-    let sched : core.tables.sched ≡ [] = rw same (nil_is t.sched queues.1) in
-    let awaiting : core.tables.awaiting ≡ [] = rw same (nil_is t.awaiting parts.1) in
-    let alive : core.tables.alive ≡ true = rw same front.0 in
-    record { main = main; sched = sched; awaiting = awaiting; handed = (rests main sched (λ a. awaiting)).none_handed alive }
+-- the current segment settles
+pub settle_goes : (d next : DeskView) → Does End d next → IsSound d → close_left d.place.segments ≡ Some Settle → Goes [] d next × IsUnkept d next
+settle_goes d next does h c =
+    let is = settled_is d next does c in
+    let place : next.place ≡ record { lives = d.place.lives; segments = rest_of d.place.segments } = does.adds.place ∙ ap (λ (e : Entry). moved d.place e) is in
+    let segments : next.place.segments ≡ rest_of d.place.segments = ap (λ (p : Place). p.segments) place in
+    let lives : next.place.lives ≡ d.place.lives = ap (λ (p : Place). p.lives) place in
+    let plain : is_plain does.adds.entry ≡ true = ap is_plain is in (
+      step_goes End d next does (plain_stands does.adds.entry plain)
+          (record {
+            bare = subst AllBare (sym segments) (bare_rest d.place.segments h.bare);
+            lives = subst AllSettle (sym lives) h.lives;
+            crashing = λ calls image crash. does.settled refl c;
+          })
+          lives,
+      step_unkept End d next does plain,
+    )
 
 -- a life that rests may go down
-rest_down : (settings : Settings) (s : Manager) (life : Option LifeState) → IsAtRest settings s life → GoesDownAtRest settings s life Down
-rest_down settings s None rest = tt
-rest_down settings s (Some life) rest = λ unblown. rest
+at_rest_down : (settings : Settings) (s : Manager) (life : Option LifeState) → IsAtRest settings s life → GoesDownAtRest settings s life Down
+at_rest_down settings s None rest = tt
+at_rest_down settings s (Some life) rest = λ unblown. rest
 
--- where no segment is left none is current
-none_current : (close : Option Close) (feed : List Message) (segments : List Segment) → current_in close feed ++ segments ≡ [] → close ≡ None
-none_current None feed segments e = refl
-none_current (Some close) feed segments e = cc
+-- and the device falls as its crash says
+falls_down : (life : Option LifeState) (calls image : ℕ) → IsUnblown life → falls_at Down life (Some (Crash calls image)) ≡ fall calls image ∷ []
+falls_down None calls image h = absurd h
+falls_down (Some life) calls image h = rw h refl
 
--- the life goes down, and the device is to fall as its crash says
-pub down_goes : (d next : Desk) (h : IsSound d) → next.core.settings ≡ d.core.settings → ((opening : List Op) → StandsFor opening d.core → StandsFor opening next.core)
-    → (calls image : ℕ) → d.close ≡ Some (Crash calls image) → d.feed ≡ [] → Rests d.core → next.core.log ≡ d.core.log ++ Down ∷ []
-    → (d.core.tables.alive ≡ true) × (next.core.tables.alive ≡ false) → place_of next ≡ at_segments d.lives d.segments
-    → (next.close ≡ None → next.segments ≡ []) → (next.close ≡ None → next.feed ≡ []) → Goes (fall calls image ∷ []) d next
-down_goes d next h settings lawful calls image c none rests added stands_now p entered fed =
-    let idle = h.crashing calls image c in
-    let old : (place_of d).segments ≡ record { messages = []; close = Crash calls image } ∷ d.segments = rw (c, none) refl in
-    let follows : CanFollow (record { messages = []; close = Crash calls image } ∷ d.segments) = subst CanFollow old h.segments in
-    let isnext : Crashes (place_of d) = record { none_left = ap messages_left old; calls = calls; image = image; closes = ap close_left old } in
-    let place : place_of next ≡ moved (place_of d) Down = p ∙ ap (λ (s : List Segment). at_segments d.lives (rest_of s)) (sym old) in
-    let over : (place_of next).segments ≡ [] = ap (λ (q : Place). q.segments) p ∙ follows.1.1 in
-    let lives : next.lives ≡ d.lives = ap (λ (q : Place). q.lives) p in
-    record {
-      sound = record {
-        lives = subst AllLive (sym lives) h.lives;
-        segments = subst CanFollow (sym over) tt;
-        entered = entered;
-        fed = fed;
-        between = λ a. over;
-        ends = λ a others. let x = stands_now.1 in cc;
-        served = λ a. let x = stands_now.1 in cc;
-        crashing = λ one other is. let x = none_current next.close next.feed next.segments over in cc;
-      };
-      settings = settings;
-      lives = (let same_lives = ap (λ (xs : List Life). length xs) lives in omega arith);
-      some = λ was. rw added (not_empty d.core.log Down);
-      lawful = λ opening over k. lawful opening k;
-      run = λ opening script fallen over_it run.
-          let k = run.stands in
-          let life : (state_after opening d.core.log).life ≡ Some (life_in k.history d.core.tables) =
-          ap (λ (s : Manager). s.life) (stands d.core.settings opening d.core.log d.core.tables k stands_now.0) in
-          let fell : falls_at Down (state_after opening d.core.log).life (close_left (place_of d).segments) ≡ fall calls image ∷ [] =
-          ap (λ (s : List Segment). falls_at Down (state_after opening d.core.log).life (close_left s)) old
-          ∙ ap (λ (l : Option LifeState). falls_at Down l (Some (Crash calls image))) life in
-          one_more opening script fallen (fall calls image ∷ []) d next Down run settings (lawful opening k) added place isnext
-          (rest_down d.core.settings (state_after opening d.core.log) (state_after opening d.core.log).life ((rests idle.main idle.sched (λ a. idle.awaiting)).at_rest opening k))
-          fell;
-    }
-
--- what is kept stays when a life goes down
+-- what is kept stays
 down_kept : (s : Manager) (life : Option LifeState) → (after_where s life Down).kept ≡ s.kept
 down_kept s None = refl
 down_kept s (Some life) = refl
 
-pub down_unkept : (d next : Desk) → next.core.log ≡ d.core.log ++ Down ∷ [] → IsUnkept d next
-down_unkept d next added =
-    record {
-      kept = λ opening k.
-          rw added (ap (λ (s : Manager). s.kept) (fold_push after (opening_state opening) d.core.log Down) ∙ down_kept (state_after opening d.core.log) (state_after opening d.core.log).life);
-      more = Down ∷ [];
-      grows = added;
-    }
+-- the life goes down
+pub down_goes : (d next : DeskView) → Does End d next → IsSound d → ((opening : List Op) → StandsFor opening d.core → Tells opening d) → (calls image : ℕ)
+    → close_left d.place.segments ≡ Some (Crash calls image) → Goes (fall calls image ∷ []) d next × IsUnkept d next
+down_goes d next does h tells calls image c =
+    let rest = h.crashing calls image c in
+    let is = down_is d next does calls image c in
+    let place : next.place ≡ record { lives = d.place.lives; segments = rest_of d.place.segments } = does.adds.place ∙ ap (λ (e : Entry). moved d.place e) is in
+    let dead : stands next.core ≡ false = does.standing ∙ ap (stands_after End) c in
+    let over : next.place.segments ≡ [] = does.goes.sound.between dead in
+    let lives : next.place.lives ≡ d.place.lives = ap (λ (p : Place). p.lives) place in (
+      falling_goes End d next does
+          (record {
+            bare = subst AllBare (sym over) tt;
+            lives = subst AllSettle (sym lives) h.lives;
+            crashing = λ one other crash. let x = sym (ap close_left over) ∙ crash in cc;
+          })
+          lives (fall calls image ∷ [])
+          (λ opening k. subst (GoesDownAtRest d.core.settings (state_after opening d.core.log) (state_after opening d.core.log).life) (sym is)
+          (at_rest_down d.core.settings (state_after opening d.core.log) (state_after opening d.core.log).life ((tells opening k).at_rest rest)))
+          (λ opening k. ap (λ (e : Entry). falls_at e (state_after opening d.core.log).life (close_left d.place.segments)) is
+          ∙ ap (λ (close : Option Close). falls_at Down (state_after opening d.core.log).life close) c
+          ∙ falls_down (state_after opening d.core.log).life calls image ((tells opening k).life does.stood)),
+      record {
+        kept = λ opening k.
+            ap (λ (l : List Entry). (state_after opening l).kept) (does.adds.added ∙ ap (λ (e : Entry). d.core.log ++ e ∷ []) is)
+            ∙ (ap (λ (s : Manager). s.kept) (fold_push after (opening_state opening) d.core.log Down) ∙ down_kept (state_after opening d.core.log) (state_after opening d.core.log).life);
+        more = does.adds.entry ∷ [];
+        grows = does.adds.added;
+      },
+    )
 
--- the first of the segments of a life settles
-first_settles : (segments : List Segment) (close : Option Close) (feed : List Message) (rest : List Segment) → current_in close feed ++ rest ≡ segments → SettlesFirst segments
-    → (calls image : ℕ) → close ≡ Some (Crash calls image) → ⊥
-first_settles [] None feed rest e h calls image c = cc
-first_settles [] (Some close) feed rest e h calls image c = cc
-first_settles (segment ∷ more) None feed rest e h calls image c = cc
-first_settles (segment ∷ more) (Some close) feed rest e h calls image c =
-    let same : close ≡ segment.close = ap (λ (s : List Segment). head_close close s) e in
-    let x = sym c ∙ ap (λ (y : Close). Some y) (same ∙ h) in
-    cc
-  where
-    head_close : Close → List Segment → Close
-    head_close other [] = other
-    head_close other (one ∷ others) = one.close
+-- the first segment of a life settles
+first_settles : (segments : List Segment) → SettlesFirst segments → (calls image : ℕ) → close_left segments ≡ Some (Crash calls image) → ⊥
+first_settles [] h calls image c = cc
+first_settles (segment ∷ more) h calls image c = let x = sym (some_same segment.close (Crash calls image) c) ∙ h in cc
+
+-- the first of a list
+first_of : {X : Type 0} (xs : List X) (x : X) → slice_get xs 0 ≡ Some x → (more : List X) × (xs ≡ x ∷ more)
+first_of [] x h = cc
+first_of (one ∷ more) x h = let same : one ≡ x = cc in (more, ap (λ y. y ∷ more) same)
 
 -- a life begins over what is kept
-module _ (d next : Desk) (h : IsSound d) (tree : Records) (settings : next.core.settings ≡ d.core.settings)
-    (lawful : (opening : List Op) → StandsFor opening d.core → AmountsTo tree opening d.core → StandsFor opening next.core)
-    (dead : d.core.tables.alive ≡ false) (lives_now : next.core.tables.alive ≡ true) (life : Life) (epoch : ℕ)
-    (added : next.core.log ≡ d.core.log ++ Opened 0 epoch (max life.stamp (tree.stamp + 1)) ∷ []) where
-  between_lives : (opening : List Op) → StandsFor opening d.core → (state_after opening d.core.log).life ≡ None
-  between_lives opening k = ap (λ (s : Manager). s.life) k.same ∙ rw dead refl
+module _ (tree : Records) (d next : DeskView) (begins : Begins tree d next) (h : IsSound d) where
+  abbrev life : Life
+  life = begins.adds.of_kind.0
 
-  landed : (s : Manager) (stood : Option LifeState) → stood ≡ None → (after_where s stood (Opened 0 epoch (max life.stamp (tree.stamp + 1)))).kept ≡ s.kept
-  landed s None e = append-nil s.kept
-  landed s (Some one) e = cc
+  abbrev more : List Life
+  more = (first_of d.place.lives life begins.adds.of_kind.1).0
 
-  pub begin_kept : IsBegun tree d next
-  begin_kept =
-      record {
-        kept = λ opening k amounts.
-            rw added (ap (λ (s : Manager). s.kept) (fold_push after (opening_state opening) d.core.log (Opened 0 epoch (max life.stamp (tree.stamp + 1))))
-            ∙ landed (state_after opening d.core.log) (state_after opening d.core.log).life (between_lives opening k));
-        more = Opened 0 epoch (max life.stamp (tree.stamp + 1)) ∷ [];
-        grows = added;
-        some = rw added (not_empty d.core.log (Opened 0 epoch (max life.stamp (tree.stamp + 1))));
-      }
+  whole : d.place.lives ≡ life ∷ more
+  whole = (first_of d.place.lives life begins.adds.of_kind.1).1
 
-  pub begin_goes : (lives : List Life) → d.lives ≡ lives → slice_get lives 0 ≡ Some life → place_of next ≡ begun lives (place_of d)
-      → (next.close ≡ None → next.segments ≡ []) → (next.close ≡ None → next.feed ≡ []) → next.core.tables.served ≡ 0
-      → GoesOver (λ opening. AmountsTo tree opening d.core) [] d next
-  begin_goes [] e at p entered fed count = cc
-  begin_goes (one ∷ more) e at p entered fed count =
-      let same : one ≡ life = cc in
-      let whole : d.lives ≡ life ∷ more = e ∙ ap (λ (x : Life). x ∷ more) same in
-      let can : AllLive (life ∷ more) = subst AllLive whole h.lives in
-      let entry = Opened 0 epoch (max life.stamp (tree.stamp + 1)) in
-      let q : place_of next ≡ at_segments more life.segments = p ∙ ap (λ (x : Life). at_segments more x.segments) same in
-      let place : place_of next ≡ moved (place_of d) entry = q ∙ rw whole refl in
-      let lives : next.lives ≡ more = ap (λ (x : Place). x.lives) q in
-      let segments : (place_of next).segments ≡ life.segments = ap (λ (x : Place). x.segments) q in
-      let has : messages_in (place_of next).segments ≡ messages_in life.segments = ap messages_in segments in
+  settling : AllSettle (life ∷ more)
+  settling = subst AllSettle whole h.lives
+
+  place : next.place ≡ record { lives = more; segments = life.segments }
+  place = begins.adds.place ∙ ap (λ (e : Entry). moved d.place e) begins.adds.of_kind.2 ∙ ap (λ (xs : List Life). begun xs d.place) whole
+
+  pub begin_settles : NoCrash next
+  begin_settles = λ calls image c. first_settles life.segments settling.1 calls image (sym (ap (λ (p : Place). close_left p.segments) place) ∙ c)
+
+  pub begin_fewer : length next.place.lives < length d.place.lives
+  begin_fewer = let now = ap (λ (p : Place). length p.lives) place in let were = ap (λ (xs : List Life). length xs) whole in omega (arith, now, were)
+
+  not_down : begins.adds.entry ≢ Down
+  not_down = λ down. let x = sym begins.adds.of_kind.2 ∙ down in cc
+
+  pub begin_goes : GoesOver (λ opening. AmountsTo tree opening d.core) [] d next
+  begin_goes =
       record {
         sound = record {
-          lives = subst AllLive (sym lives) can.2;
-          segments = subst CanFollow (sym segments) can.0.segments;
-          entered = entered;
-          fed = fed;
-          between = λ a. let x = lives_now in cc;
-          ends = λ a others. subst EndsInCrash (sym segments) (can.1 (rw (← lives) others));
-          served = λ a. let n = can.0.few in omega (arith, n, has, count);
-          crashing = λ calls image is. absurd (first_settles life.segments next.close next.feed next.segments segments can.0.first calls image is);
+          bare = subst AllBare (sym (ap (λ (p : Place). p.segments) place)) settling.0;
+          lives = subst AllSettle (sym (ap (λ (p : Place). p.lives) place)) settling.2;
+          crashing = λ calls image c. absurd (begin_settles calls image c);
         };
-        settings = settings;
-        lives = (let fewer = ap (λ (xs : List Life). length xs) lives in let were = ap (λ (xs : List Life). length xs) whole in omega arith);
-        some = λ was. rw added (not_empty d.core.log entry);
-        lawful = λ opening amounts k. lawful opening k amounts;
-        run = λ opening script fallen amounts run.
-            let s = state_after opening d.core.log in
-            let kept : kept_after_landing s 0 ≡ s.kept = append-nil s.kept in
-            let stamp : max life.stamp (tree.stamp + 1) ≡ max life.stamp ((records (kept_after_landing s 0)).stamp + 1) =
-            ap (λ (n : ℕ). max life.stamp (n + 1)) (amounts.stamp ∙ sym (ap (λ (ops : List Op). (records ops).stamp) kept)) in
-            let isnext : Begins s (place_of d) 0 (max life.stamp (tree.stamp + 1)) = record { life = life; more = more; next = whole; at_end = h.between dead; stamped = stamp } in
-            one_more opening script fallen [] d next entry run settings (lawful opening run.stands amounts) added place isnext
-            (no_down entry d.core.settings s s.life (λ is. cc))
-            (falls_none entry s.life (close_left (place_of d).segments) (λ is. cc));
+        settings = begins.goes.settings;
+        lives = let less = begin_fewer in omega (arith, less);
+        some = λ was. rw begins.adds.added (not_empty d.core.log begins.adds.entry);
+        lawful = λ opening over k. begins.goes.lawful opening over k;
+        run = λ opening script fallen over run.
+            one_more opening script fallen [] d next begins.adds.entry run (begins.goes.run opening script over run.goes) begins.goes.settings begins.adds.added
+            (no_down begins.adds.entry d.core.settings (state_after opening d.core.log) (state_after opening d.core.log).life not_down)
+            (falls_none begins.adds.entry (state_after opening d.core.log).life (close_left d.place.segments) not_down);
       }
 
-  pub begin_fewer : (lives : List Life) → d.lives ≡ lives → slice_get lives 0 ≡ Some life → place_of next ≡ begun lives (place_of d) → length next.lives < length d.lives
-  begin_fewer [] e at p = cc
-  begin_fewer (one ∷ more) e at p =
-      let fewer : length next.lives ≡ length more = ap (λ (x : Place). length x.lives) p in
-      let were : length d.lives ≡ length (one ∷ more) = ap (λ (xs : List Life). length xs) e in
-      omega arith
+  landed : (s : Manager) (stood : Option LifeState) (epoch stamp : ℕ) → stood ≡ None → (after_where s stood (Opened 0 epoch stamp)).kept ≡ s.kept
+  landed s None epoch stamp e = append-nil s.kept
+  landed s (Some one) epoch stamp e = cc
 
-  pub begin_settles : (lives : List Life) → d.lives ≡ lives → slice_get lives 0 ≡ Some life → place_of next ≡ begun lives (place_of d) → NoCrash next
-  begin_settles [] e at p = cc
-  begin_settles (one ∷ more) e at p =
-      let same : one ≡ life = cc in
-      let whole : d.lives ≡ life ∷ more = e ∙ ap (λ (x : Life). x ∷ more) same in
-      let can : AllLive (life ∷ more) = subst AllLive whole h.lives in
-      let segments : (place_of next).segments ≡ life.segments = ap (λ (x : Place). x.segments) (p ∙ ap (λ (x : Life). at_segments more x.segments) same) in
-      first_settles life.segments next.close next.feed next.segments segments can.0.first
-
--- the first life can begin: its stamp is in its range
-pub first_start : (d : Desk) → IsSound d → (lives : List Life) → d.lives ≡ lives → (life : Life) → slice_get lives 0 ≡ Some life → (1 ≤ life.stamp) × (life.stamp ≤ 1000000000000000)
-first_start d h [] e life at = cc
-first_start d h (one ∷ more) e life at =
-    let same : one ≡ life = cc in
-    let can : AllLive (life ∷ more) = subst (λ (x : Life). AllLive (x ∷ more)) same (subst AllLive e h.lives) in
-    (can.0.low, can.0.high)
-
--- where a queue, the feed or the store has something to do the current segment is no crash
-pub main_calm : (d : Desk) → IsSound d → d.core.tables.main ≢ [] → NoCrash d
-main_calm d h some = λ calls image c. some (h.crashing calls image c).main
-
-pub sched_calm : (d : Desk) → IsSound d → d.core.tables.sched ≢ [] → NoCrash d
-sched_calm d h some = λ calls image c. some (h.crashing calls image c).sched
-
-pub hand_calm : (d : Desk) → IsSound d → d.core.tables.awaiting ≢ [] → NoCrash d
-hand_calm d h some = λ calls image c. some (h.crashing calls image c).awaiting
-
-pub write_calm : (d : Desk) → IsSound d → d.core.tables.handed ≡ true → NoCrash d
-write_calm d h handed = λ calls image c. let x = (h.crashing calls image c).handed in cc
-
--- a silent move, made or refused
-module _ (d : Desk) (core : Seen) (h : IsSound d) (same : core.settings ≡ d.core.settings) (m : Move) (silent : (e : Entry) → IsOf m d.core.tables e → IsSilent e)
-    (from : (opening : List Op) → GoesOnFrom m opening d.core) where
-  pub silent_goes : (r : Result (Unit {0}) Refused) → NoCrash d → OnOk r (Adds m d.core.tables d.core.log core.log)
-      → OnOk r ((d.core.tables.alive ≡ true) × (core.tables.alive ≡ true)) → OnOk r (core.tables.served ≡ d.core.tables.served)
-      → OnOk r ((opening : List Op) → StandsFor opening d.core → GoesOnFrom m opening d.core → StandsFor opening core) → OnOk r (Goes [] d (record d { core = core }))
-  silent_goes (Err e) calm adds stands count lawful = tt
-  silent_goes (Ok x) calm adds stands count lawful =
-      let quiet = silent adds.entry adds.of_move in
-      stay_goes d core adds.entry h quiet.next quiet.stays quiet.no_end calm adds.added stands count same (λ opening k. lawful opening k (from opening))
+  pub begin_kept : ((opening : List Op) → StandsFor opening d.core → Tells opening d) → IsBegun tree d next
+  begin_kept tells =
+      record {
+        kept = λ opening k amounts.
+            ap (λ (l : List Entry). (state_after opening l).kept) begins.adds.added
+            ∙ (ap (λ (s : Manager). s.kept) (fold_push after (opening_state opening) d.core.log begins.adds.entry)
+            ∙ (ap (λ (e : Entry). (after_where (state_after opening d.core.log) (state_after opening d.core.log).life e).kept) begins.adds.of_kind.2
+            ∙ landed (state_after opening d.core.log) (state_after opening d.core.log).life tree.next_epoch _ ((tells opening k).none begins.stood)));
+        more = begins.adds.entry ∷ [];
+        grows = begins.adds.added;
+        some = rw begins.adds.added (not_empty d.core.log begins.adds.entry);
+      }

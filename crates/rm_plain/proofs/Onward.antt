@@ -15,9 +15,11 @@ use Rattle.rm_plain.specs.Survives.{HoldsWithin, SurvivesAll, SurvivesNow}
 use Rattle.rm_store.specs.Store.{StoreState, seen}
 use Rattle.rm_store.proofs.Faultless.{one_list, never_damaged, never_stray}
 use Rattle.rm_core.specs.Adds.{AmountsTo}
-use Rattle.rm_core.specs.InFlight.{AllPlain}
+use Rattle.rm_facts.specs.Submissions.{AllPlain}
 use Rattle.rm_core.specs.Seen.{Seen, StandsFor}
-use Rattle.rm_plain.specs.declared.desk.Desk.{Desk}
+use Rattle.rm_core.specs.Words.{stands}
+use Rattle.rm_desk.specs.View.{DeskView}
+use Rattle.rm_desk.specs.Does.{IsHanded}
 use Rattle.rm_plain.specs.declared.halts.Halt.{Halt}
 use Rattle.rm_plain.specs.declared.halts.Halt.TheVariants as halts
 use Rattle.rm_plain.specs.declared.halts.Stop.{Stop}
@@ -25,7 +27,7 @@ use Rattle.rm_plain.specs.declared.halts.Stop.TheVariants.{DiskFault, Damaged, F
 use Rattle.rm_plain.specs.Along.{IsSound}
 use Rattle.rm_plain.specs.Goes.{GoesOver, IsOver}
 use Rattle.rm_plain.specs.Halted.{stop_of}
-use Rattle.rm_plain.specs.Keeping.{HaltsOver, IsHaltedBy, IsHanded, IsKeptOn}
+use Rattle.rm_plain.specs.Keeping.{HaltsOver, IsHaltedBy, IsKeptOn}
 use Rattle.rm_plain.specs.Later.{FirstStopped, FirstTo, IsAgain, IsDueAt, IsFirst, IsLaterStop, IsReady, IsUnfounded, IsUnready, LaterTo, StopsLater}
 use Rattle.rm_plain.specs.Starts.{DiskStays, Halts, IsAtEase, IsGivenBack, IsOpened, IsRefusedBy, IsUnopenedBy, Lives, LivesTo}
 use Rattle.rm_plain.specs.Stops.{CannotGoOn, IsNoStore, IsStoppedBy, IsTold, NoneLeft}
@@ -41,10 +43,6 @@ no_store_not bytes ops offset holds why = ⊎_elim (λ damaged. never_damaged by
 -- before the first life nothing is with the store
 never_handed : (opening : List Op) (op : Op) → IsHanded opening [] op → ⊥
 never_handed opening op h = let never = h.first in cc
-
--- records that have the same next epoch, stamp and applications differ by how many operations they count at most
-amounts_same : (a b : Records) → a.next_epoch ≡ b.next_epoch → a.stamp ≡ b.stamp → a.apps ≡ b.apps → a ≡ record b { applied = a.applied }
-amounts_same a b epoch stamp apps = λ i. record { next_epoch = epoch i; stamp = stamp i; apps = apps i; applied = a.applied }
 
 module _ {D : Type 0} (view : D → DiskView) where
   pub stays_trans : (a b c : Fused D) → DiskStays view a b → DiskStays view b c → DiskStays view a c
@@ -76,8 +74,7 @@ module _ {D : Type 0} (view : D → DiskView) where
 
     pub amounts_kept : (opening : List Op) (core : Seen) → IsKeptOn opening core.log (seen view disk) → AmountsTo tree opening core
     amounts_kept opening core has =
-        let same : tree ≡ records (state_after opening core.log).kept = o.read.amounts ∙ ap records (same_ops opening core.log has) in
-        record { next_epoch = ap (λ (r : Records). r.next_epoch) same; stamp = ap (λ (r : Records). r.stamp) same; apps = ap (λ (r : Records). r.apps) same }
+        o.read.amounts ∙ ap records (same_ops opening core.log has)
 
     ready : tree.next_epoch < 2 ^ 24 → tree.stamp < 2 ^ 63 - 1 → AllPlain tree.apps → IsReady view disk store tree
     ready epoch stamp plain =
@@ -105,10 +102,9 @@ module _ {D : Type 0} (view : D → DiskView) where
 
     -- or for those that are kept
     pub refused_again : (opening : List Op) (core : Seen) → AmountsTo tree opening core → (stop : Stop) → IsRefusedBy tree stop → IsUnready view opening core.log disk store.disk stop
-    refused_again opening core amounts (Damaged offset) h = λ has. (h.0, λ all. h.1 (subst (λ (l : List AppRecord). AllPlain l) (sym amounts.apps) all))
+    refused_again opening core amounts (Damaged offset) h = λ has. (h.0, λ all. h.1 (subst (λ (l : List AppRecord). AllPlain l) (sym (ap (λ (r : Records). r.apps) amounts)) all))
     refused_again opening core amounts EpochsSpent h =
-        let is : tree ≡ record (records (state_after opening core.log).kept) { applied = tree.applied } = amounts_same tree (records (state_after opening core.log).kept) amounts.next_epoch amounts.stamp amounts.apps in
-        subst (λ (r : Records). AllPlain r.apps × ((2 ^ 24 ≤ r.next_epoch) ⊎ (2 ^ 63 - 1 ≤ r.stamp))) is h
+        subst (λ (r : Records). AllPlain r.apps × ((2 ^ 24 ≤ r.next_epoch) ⊎ (2 ^ 63 - 1 ≤ r.stamp))) amounts h
     refused_again opening core amounts DiskFault h = absurd h
     refused_again opening core amounts (Full needed room) h = absurd h
     refused_again opening core amounts Memory h = absurd h
@@ -145,7 +141,7 @@ module _ {D : Type 0} (view : D → DiskView) where
         }
 
   -- a part of a run over fewer opening lists
-  pub goes_over : (P Q : List Op → Type 0) (more : List Fallen) (a b : Desk) → ((opening : List Op) → Q opening → StandsFor opening a.core → P opening) → GoesOver P more a b → GoesOver Q more a b
+  pub goes_over : (P Q : List Op → Type 0) (more : List Fallen) (a b : DeskView) → ((opening : List Op) → Q opening → StandsFor opening a.core → P opening) → GoesOver P more a b → GoesOver Q more a b
   goes_over P Q more a b from g =
       record {
         sound = g.sound;
@@ -153,11 +149,11 @@ module _ {D : Type 0} (view : D → DiskView) where
         lives = g.lives;
         some = g.some;
         lawful = λ opening q k. g.lawful opening (from opening q k) k;
-        run = λ opening script fallen q run. g.run opening script fallen (from opening q run.stands) run;
+        run = λ opening script fallen q run. g.run opening script fallen (from opening q run.goes.stands) run;
       }
 
   -- a life after an earlier one
-  module _ (d new : Desk) (disk now : Fused D) (store : StoreState D) (tree : Records) (again : IsAgain view d.core disk store tree) where
+  module _ (d new : DeskView) (disk now : Fused D) (store : StoreState D) (tree : Records) (again : IsAgain view d.core disk store tree) where
     halted_later : (stop : Stop) → Halts view (λ opening. AmountsTo tree opening d.core) d new store.disk now stop → (halt : Halt)
         → IsHaltedBy view (λ opening. AmountsTo tree opening d.core) d new store.disk now halt
         → (opening : List Op) → StandsFor opening d.core → IsLaterStop view opening d new disk now (stop_of halt)
@@ -196,7 +192,7 @@ module _ {D : Type 0} (view : D → DiskView) where
         }
 
   -- a later life that had no store to begin over
-  pub stopped_before : (d : Desk) (disk now : Fused D) (stop : Stop) → IsSound d → d.core.tables.alive ≡ false → d.lives ≢ [] → IsGivenBack view disk now
+  pub stopped_before : (d : DeskView) (disk now : Fused D) (stop : Stop) → IsSound d → stands d.core ≡ false → d.place.lives ≢ [] → IsGivenBack view disk now
       → ((opening : List Op) → StandsFor opening d.core → IsUnready view opening d.core.log disk now stop) → StopsLater view d d disk now stop
   stopped_before d disk now stop h dead lives back why =
       record {
@@ -226,7 +222,7 @@ module _ {D : Type 0} (view : D → DiskView) where
       by opening Memory why = tt
 
   -- no life was lived yet
-  pub lives_same : (d : Desk) (disk : Fused D) → IsSound d → IsAtEase disk → (d.core.tables.alive ≡ false) ⊎ IsOver d → d.core.log ≢ [] → Lives view (λ opening. Unit {0}) d d disk disk
+  pub lives_same : (d : DeskView) (disk : Fused D) → IsSound d → IsAtEase disk → (stands d.core ≡ false) ⊎ IsOver d → d.core.log ≢ [] → Lives view (λ opening. Unit {0}) d d disk disk
   lives_same d disk h at_ease ends some =
       record {
         fallen = [];
@@ -240,7 +236,7 @@ module _ {D : Type 0} (view : D → DiskView) where
             record { kept = has; time = leaves_same (seen view disk) (HoldsWithin opening d.core.log); more = []; grows = sym (append-nil d.core.log) };
       }
 
-  module _ (a b c : Desk) (first second third : Fused D) (ab : Lives view (λ opening. Unit {0}) a b first second) where
+  module _ (a b c : DeskView) (first second third : Fused D) (ab : Lives view (λ opening. Unit {0}) a b first second) where
     pub lives_trans : Lives view (λ opening. Unit {0}) b c second third → Lives view (λ opening. Unit {0}) a c first third
     lives_trans bc =
         record {
@@ -280,12 +276,11 @@ module _ {D : Type 0} (view : D → DiskView) where
         }
 
   -- the first life
-  module _ (d new : Desk) (disk now : Fused D) (store : StoreState D) (tree : Records) (opening : List Op) (first : IsFirst view disk store tree opening) (empty : d.core.log ≡ []) where
+  module _ (d new : DeskView) (disk now : Fused D) (store : StoreState D) (tree : Records) (opening : List Op) (first : IsFirst view disk store tree opening) (empty : d.core.log ≡ []) where
     amounts_first : (ops : List Op) → ops ≡ opening → AmountsTo tree ops d.core
     amounts_first ops same =
         let kept : (state_after ops d.core.log).kept ≡ opening = ap (λ (l : List Entry). (state_after ops l).kept) empty ∙ same in
-        let is : tree ≡ records (state_after ops d.core.log).kept = first.amounts ∙ sym (ap records kept) in
-        record { next_epoch = ap (λ (r : Records). r.next_epoch) is; stamp = ap (λ (r : Records). r.stamp) is; apps = ap (λ (r : Records). r.apps) is }
+        first.amounts ∙ sym (ap records kept)
 
     kept_first : (bytes : List ℕ) → (seen view disk).told ≡ Some bytes → IsKeptOn opening d.core.log (seen view store.disk)
     kept_first bytes told = rw empty (first.kept bytes told).1
@@ -359,7 +354,7 @@ module _ {D : Type 0} (view : D → DiskView) where
         }
 
   -- the first life had no store to begin over
-  pub unfounded_stops : (d : Desk) (disk now : Fused D) (opening : List Op) (stop : Stop) → IsSound d → d.core.tables.alive ≡ false → d.lives ≢ [] → d.core.log ≡ [] → IsGivenBack view disk now
+  pub unfounded_stops : (d : DeskView) (disk now : Fused D) (opening : List Op) (stop : Stop) → IsSound d → stands d.core ≡ false → d.place.lives ≢ [] → d.core.log ≡ [] → IsGivenBack view disk now
       → (opening ≡ []) ⊎ Tells (seen view disk) (λ bytes. Holds bytes opening) → IsUnfounded view opening disk now stop → FirstStopped view opening d d disk now stop
   unfounded_stops d disk now opening stop h dead lives empty back found why =
       record {

@@ -15,9 +15,11 @@ use Rattle.rm_model.specs.Lawful.{state_after}
 use Rattle.rm_plain.specs.Survives.{HoldsWithin}
 use Rattle.rm_store.specs.Store.{StoreState, AreRead, IsSound as IsStoreSound, seen}
 use Rattle.rm_core.specs.Adds.{AmountsTo}
-use Rattle.rm_core.specs.InFlight.{AllPlain}
-use Rattle.rm_core.proofs.Listed.{take_got}
-use Rattle.rm_plain.specs.declared.desk.Desk.{Desk}
+use Rattle.rm_facts.specs.Submissions.{AllPlain}
+use Rattle.std.proofs.lemmas.List.{take_more}
+use Rattle.std.proofs.lemmas.Option.{slice_get_within, get_or_from_slice_get}
+use Rattle.rm_core.specs.Words.{stands}
+use Rattle.rm_desk.specs.View.{DeskView}
 use Rattle.rm_plain.specs.declared.halts.Halt.{Halt}
 use Rattle.rm_plain.specs.declared.halts.Halt.TheVariants as halts
 use Rattle.rm_plain.specs.declared.halts.Stop.{Stop}
@@ -39,7 +41,7 @@ AllPlain-push [] app h p = (p.0, p.1, tt)
 AllPlain-push (one ∷ apps) app h p = (h.0, h.1, AllPlain-push apps app h.2 p)
 
 pub plain_more : (apps : List AppRecord) (i : ℕ) (app : AppRecord) → slice_get apps i ≡ Some app → AllPlain (take i apps) → (app.attempts ≡ []) × (app.ending ≡ None) → AllPlain (take (i + 1) apps)
-plain_more apps i app e h p = rw (take_got apps i app e) (AllPlain-push (take i apps) app h p)
+plain_more apps i app e h p = rw (take_more apps i app (slice_get_within apps i app e) ∙ ap (λ y. take i apps ++ y ∷ []) (get_or_from_slice_get apps i app app e)) (AllPlain-push (take i apps) app h p)
 
 pub plain_at : (apps : List AppRecord) (i : ℕ) (app : AppRecord) → slice_get apps i ≡ Some app → AllPlain apps → (app.attempts ≡ []) × (app.ending ≡ None)
 plain_at [] i app e h = cc
@@ -47,10 +49,6 @@ plain_at (one ∷ apps) zero app e h =
     let same : one ≡ app = cc in
     subst (λ (x : AppRecord). (x.attempts ≡ []) × (x.ending ≡ None)) same (h.0, h.1)
 plain_at (one ∷ apps) (suc i) app e h = plain_at apps i app e h.2
-
-pub ok_map : {X E A B : Type 0} (r : Result X E) → (A → B) → OnOk r A → OnOk r B
-ok_map (Ok x) f a = f a
-ok_map (Err e) f a = tt
 
 module _ {D : Type 0} (view : D → DiskView) where
   -- a store that was opened on a disarmed fuse
@@ -83,7 +81,7 @@ module _ {D : Type 0} (view : D → DiskView) where
       })
 
   -- a life began, and its store serves it
-  pub begins : (d mid : Desk) (store now : StoreState D) (tree : Records) → IsBegun tree d mid → mid.core.tables.alive ≡ true → now.disk.inner ≡ store.disk.inner → now.disk.refused ≡ store.disk.refused
+  pub begins : (d mid : DeskView) (store now : StoreState D) (tree : Records) → IsBegun tree d mid → stands mid.core ≡ true → now.disk.inner ≡ store.disk.inner → now.disk.refused ≡ store.disk.refused
       → Serves view mid now → Begins view (λ opening. AmountsTo tree opening d.core) d mid store now
   begins d mid store now tree begun alive inner refused serves =
       record {
@@ -123,7 +121,7 @@ module _ {D : Type 0} (view : D → DiskView) where
       }
 
   -- disarming a fuse changes nothing of what is told of a halt
-  disarmed_halts : (over : List Op → Type 0) (d new : Desk) (disk now : Fused D) (halt : Halt) → HaltsOver view over d new disk now halt → HaltsOver view over d new disk (disarmed now) halt
+  disarmed_halts : (over : List Op → Type 0) (d new : DeskView) (disk now : Fused D) (halt : Halt) → HaltsOver view over d new disk now halt → HaltsOver view over d new disk (disarmed now) halt
   disarmed_halts over d new disk now halt h = record { goes = h.goes; why = why halt h.why; left = h.left }
     where
       why : (halt : Halt) → IsHaltedBy view over d new disk now halt → IsHaltedBy view over d new disk (disarmed now) halt
@@ -131,7 +129,7 @@ module _ {D : Type 0} (view : D → DiskView) where
       why (halts.Full needed room) is = is
       why halts.Memory is = tt
 
-  module _ (over : List Op → Type 0) (d mid new : Desk) (store one two : StoreState D) (goes : GoesOver over [] d mid) (begun : Begins view over d mid store one)
+  module _ (over : List Op → Type 0) (d mid new : DeskView) (store one two : StoreState D) (goes : GoesOver over [] d mid) (begun : Begins view over d mid store one)
       (first : FuseStays view store.disk one.disk) (second : FuseStays view one.disk two.disk) where
     stays : FuseStays view store.disk two.disk
     stays = fuse_trans view store.disk one.disk two.disk first second
@@ -213,7 +211,7 @@ module _ {D : Type 0} (view : D → DiskView) where
         subst (λ (r : Result (Unit {0}) Stop). LivesTo view over d new store.disk disk r) (sym leaves.1) (halted disk halt leaves.0 why)
 
   -- a life that did not begin stopped the run
-  pub unbegun : (over : List Op → Type 0) (d new : Desk) (store two : StoreState D) (disk : Fused D) (halt : Halt) → HaltsOver view over d new store.disk two.disk halt → two.disk.inner ≡ store.disk.inner
+  pub unbegun : (over : List Op → Type 0) (d new : DeskView) (store two : StoreState D) (disk : Fused D) (halt : Halt) → HaltsOver view over d new store.disk two.disk halt → two.disk.inner ≡ store.disk.inner
       → FuseStays view store.disk two.disk → disk ≡ disarmed two.disk → Halts view over d new store.disk disk (stop_of halt)
   unbegun over d new store two disk halt h inner stays same =
       subst (λ (f : Fused D). Halts view over d new store.disk f (stop_of halt)) (sym same)
@@ -228,7 +226,7 @@ module _ {D : Type 0} (view : D → DiskView) where
       })
 
   -- memory ran out directly after a life began
-  pub begun_halts : (d mid : Desk) (disk now : Fused D) (tree : Records) → GoesOver (λ opening. AmountsTo tree opening d.core) [] d mid → IsBegun tree d mid → now.inner ≡ disk.inner → now.refused ≡ disk.refused
+  pub begun_halts : (d mid : DeskView) (disk now : Fused D) (tree : Records) → GoesOver (λ opening. AmountsTo tree opening d.core) [] d mid → IsBegun tree d mid → now.inner ≡ disk.inner → now.refused ≡ disk.refused
       → HaltsOver view (λ opening. AmountsTo tree opening d.core) d mid disk now halts.Memory
   begun_halts d mid disk now tree goes begun inner refused =
       record {

@@ -14,9 +14,8 @@ use Rattle.rm_model.specs.Lawful.{state_after}
 use Rattle.rm_plain.specs.Survives.{HoldsWithin}
 use Rattle.rm_store.specs.Store.{Has, AddsOp, LeavesOps}
 use Rattle.rm_core.specs.Seen.{Seen, StandsFor, IsToBeKept}
-use Rattle.rm_core.specs.Told.{life_in}
-use Rattle.rm_core.proofs.Standing.{stands}
-use Rattle.rm_plain.specs.declared.desk.Desk.{Desk}
+use Rattle.rm_desk.specs.Runs.{IsUnblown}
+use Rattle.rm_desk.specs.View.{DeskView}
 use Rattle.rm_plain.specs.Keeping.{IsKeptOn, KeepsOn, IsUnkept, StoresOn}
 
 -- what a part of a log left is left of it all
@@ -30,7 +29,7 @@ within_longer opening log longer more grows image h =
     }
 
 -- a store that nothing was written to
-pub unkept_stores : (opening : List Op) (old new : Desk) → IsUnkept old new → (view : DiskView) → StoresOn opening old new view view
+pub unkept_stores : (opening : List Op) (old new : DeskView) → IsUnkept old new → (view : DiskView) → StoresOn opening old new view view
 unkept_stores opening old new same view = λ k has.
     let kept = same.kept opening k in
     record {
@@ -57,22 +56,21 @@ keeps_trans opening first second third a b c ab bc =
     }
 
 -- an operation is kept in a life that stands
-kept_in : (s : Manager) (life : Option LifeState) (one : LifeState) (op : Op) → life ≡ Some one → (after_where s life (KeptEntry op)).kept ≡ s.kept ++ op ∷ []
-kept_in s None one op e = cc
-kept_in s (Some life) one op e = refl
+kept_in : (s : Manager) (life : Option LifeState) (op : Op) → IsUnblown life → (after_where s life (KeptEntry op)).kept ≡ s.kept ++ op ∷ []
+kept_in s None op h = absurd h
+kept_in s (Some life) op h = refl
 
 -- the store has one operation more, the one that was next
-pub op_stores : (opening : List Op) (seen next : Seen) (op : Op) (old new : DiskView) → seen.tables.alive ≡ true → StandsFor opening seen → IsToBeKept opening seen op
+pub op_stores : (opening : List Op) (seen next : Seen) (op : Op) (old new : DiskView) → IsUnblown (state_after opening seen.log).life → IsToBeKept opening seen op
     → next.log ≡ seen.log ++ KeptEntry op ∷ []
     → ((ops : List Op) → Has old ops → fits_records (records ops) op ≡ true → AddsOp new ops op)
     → ((ops : List Op) → Has old ops → fits_records (records ops) op ≡ true → LeavesOps old new ops op)
     → IsKeptOn opening seen.log old → KeepsOn opening seen.log next.log old new
-op_stores opening seen next op old new alive k to_keep added adds leaves has =
+op_stores opening seen next op old new stands to_keep added adds leaves has =
     let s = state_after opening seen.log in
-    let life : s.life ≡ Some (life_in k.history seen.tables) = ap (λ (m : Manager). m.life) (stands seen.settings opening seen.log seen.tables k alive) in
     let kept : (state_after opening next.log).kept ≡ s.kept ++ op ∷ [] =
     ap (λ (l : List Entry). (state_after opening l).kept) added ∙ ap (λ (m : Manager). m.kept) (fold_push after (opening_state opening) seen.log (KeptEntry op))
-    ∙ kept_in s s.life (life_in k.history seen.tables) op life in
+    ∙ kept_in s s.life op stands in
     let it : Has old s.kept = record { bytes = has.bytes; told = has.told; holds = has.holds } in
     let has_now = adds s.kept it to_keep.fits in
     let moments = leaves s.kept it to_keep.fits in

@@ -7,34 +7,34 @@ use Rattle.rm_model.specs.State.{opening_state}
 use Rattle.rm_model.specs.Downs.{AllGoDownAtRest}
 use Rattle.rm_model.specs.Lawful.{IsAtRest, state_after}
 use Rattle.rm_core.specs.Seen.{StandsFor}
-use Rattle.rm_plain.specs.declared.desk.Desk.{Desk}
-use Rattle.rm_plain.specs.Along.{IsSound, GoesTo, place_of}
+use Rattle.rm_desk.specs.View.{DeskView}
+use Rattle.rm_desk.specs.Runs.{IsRun as GoesAlong}
+use Rattle.rm_plain.specs.Along.{IsSound}
 use Rattle.rm_plain.specs.Falls.{falls_of}
 
 -- over a store that held the opening list, the log is lawful along the script, lives went down at rest, and the falls are
 -- these
-pub record IsRun (opening : List Op) (script : Script) (fallen : List Fallen) (d : Desk) : Type 0 where
-  pub stands : StandsFor opening d.core
-  pub along : GoesTo opening script d.core.log (place_of d)
+pub record IsRun (opening : List Op) (script : Script) (fallen : List Fallen) (d : DeskView) : Type 0 where
+  pub goes : GoesAlong opening script d
   pub downs : AllGoDownAtRest d.core.settings (opening_state opening) d.core.log
   pub falls : falls_of script opening d.core.log ≡ fallen
 
 -- a part of a run, with these falls: whatever the run before it was, with it there is a longer one, over each opening list
 -- for which this holds; the desk stays sound
-pub record GoesOver (over : List Op → Type 0) (more : List Fallen) (old new : Desk) : Type 0 where
+pub record GoesOver (over : List Op → Type 0) (more : List Fallen) (old new : DeskView) : Type 0 where
   pub sound : IsSound new
   pub settings : new.core.settings ≡ old.core.settings
-  pub lives : length new.lives ≤ length old.lives
+  pub lives : length new.place.lives ≤ length old.place.lives
   pub some : old.core.log ≢ [] → new.core.log ≢ []
   pub lawful : (opening : List Op) → over opening → StandsFor opening old.core → StandsFor opening new.core
   pub run : (opening : List Op) (script : Script) (fallen : List Fallen) → over opening → IsRun opening script fallen old → IsRun opening script (fallen ++ more) new
 
 -- the same over each opening list
-abbrev pub Goes : List Fallen → Desk → Desk → Type 0
+abbrev pub Goes : List Fallen → DeskView → DeskView → Type 0
 Goes more old new = GoesOver (λ opening. Unit {0}) more old new
 
 -- the run is at its end: nothing is left of the script, and where a life stands nothing awaits and nothing is owed
-pub record IsOver (d : Desk) : Type 0 where
-  pub lives : d.lives ≡ []
-  pub segments : (place_of d).segments ≡ []
+pub record IsOver (d : DeskView) : Type 0 where
+  pub lives : d.place.lives ≡ []
+  pub segments : d.place.segments ≡ []
   pub rest : (opening : List Op) → StandsFor opening d.core → IsAtRest d.core.settings (state_after opening d.core.log) (state_after opening d.core.log).life

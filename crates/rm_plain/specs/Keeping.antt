@@ -9,14 +9,15 @@ use Rattle.rm_disk.specs.Disk.{DiskView, EachImage, Leaves}
 use Rattle.rm_disk.specs.Fuse.{Fused}
 use Rattle.rm_formats.specs.Device.{Holds}
 use Rattle.rm_model.specs.Lawful.{state_after}
-use Rattle.rm_model.specs.State.{LifeState}
+use Rattle.rm_model.specs.Place.{close_left}
 use Rattle.rm_plain.specs.Goes.{GoesOver}
 use Rattle.rm_plain.specs.Survives.{HoldsAfter, HoldsWithin}
 use Rattle.rm_store.specs.Store.{StoreState, IsSound, seen, needed_for, room_behind}
 use Rattle.rm_types.specs.Records.{Records}
 use Rattle.rm_core.specs.Adds.{AmountsTo}
 use Rattle.rm_core.specs.Seen.{StandsFor}
-use Rattle.rm_plain.specs.declared.desk.Desk.{Desk}
+use Rattle.rm_desk.specs.Does.{IsHanded}
+use Rattle.rm_desk.specs.View.{DeskView}
 use Rattle.rm_plain.specs.declared.halts.Halt.{Halt}
 use Rattle.rm_plain.specs.declared.halts.Halt.TheVariants.{DiskFault, Full, Memory}
 
@@ -36,17 +37,17 @@ pub record KeepsOn (opening : List Op) (log longer : List Entry) (old new : Disk
   pub grows : longer ≡ log ++ more
 
 -- what was there before, if it was, is there now
-abbrev pub StoresOn : List Op → Desk → Desk → DiskView → DiskView → Type 0
+abbrev pub StoresOn : List Op → DeskView → DeskView → DiskView → DiskView → Type 0
 StoresOn opening old new before now = StandsFor opening old.core → IsKeptOn opening old.core.log before → KeepsOn opening old.core.log new.core.log before now
 
 -- a part of a run in which nothing was kept
-pub record IsUnkept (old new : Desk) : Type 0 where
+pub record IsUnkept (old new : DeskView) : Type 0 where
   pub kept : (opening : List Op) → StandsFor opening old.core → (state_after opening new.core.log).kept ≡ (state_after opening old.core.log).kept
   pub more : List Entry
   pub grows : new.core.log ≡ old.core.log ++ more
 
 -- a life began over a tree, and nothing else happened
-pub record IsBegun (tree : Records) (old new : Desk) : Type 0 where
+pub record IsBegun (tree : Records) (old new : DeskView) : Type 0 where
   pub kept : (opening : List Op) → StandsFor opening old.core → AmountsTo tree opening old.core → (state_after opening new.core.log).kept ≡ (state_after opening old.core.log).kept
   pub more : List Entry
   pub grows : new.core.log ≡ old.core.log ++ more
@@ -59,10 +60,10 @@ armed_by _ = None
 
 -- the store serves the desk: nothing but the store changed its disk, no append failed, and the fuse is armed as the
 -- current segment says, and not blown
-pub record Serves {D : Type 0} (view : D → DiskView) (d : Desk) (store : StoreState D) : Type 0 where
+pub record Serves {D : Type 0} (view : D → DiskView) (d : DeskView) (store : StoreState D) : Type 0 where
   pub sound : IsSound view store
   pub unbroken : store.is_broken ≡ false
-  pub armed : store.disk.armed ≡ armed_by d.close
+  pub armed : store.disk.armed ≡ armed_by (close_left d.place.segments)
   pub unblown : store.disk.blown ≡ false
 
 -- a fuse after some of a run: it refused nothing and showed no fall, and its disk has its size and no fewer faults
@@ -83,19 +84,9 @@ pub record LeavesOn (opening : List Op) (log longer : List Entry) (old new : Dis
   pub grows : longer ≡ log ++ more
 
 -- the same, where what was kept before is there, over each opening list for which something holds
-abbrev pub LeftOver : (List Op → Type 0) → Desk → Desk → DiskView → DiskView → Type 0
+abbrev pub LeftOver : (List Op → Type 0) → DeskView → DeskView → DiskView → DiskView → Type 0
 LeftOver over old new before now =
     (opening : List Op) → over opening → StandsFor opening old.core → IsKeptOn opening old.core.log before → LeavesOn opening old.core.log new.core.log before now
-
--- an operation is with the store in a life
-abbrev pub HasHanded : Option LifeState → Type 0
-HasHanded None = ⊥
-HasHanded (Some life) = life.handed ≡ true
-
--- the operation is with the store: it is the first that awaits, and was handed
-pub record IsHanded (opening : List Op) (log : List Entry) (op : Op) : Type 0 where
-  pub first : slice_get (state_after opening log).awaiting 0 ≡ Some op
-  pub handed : HasHanded (state_after opening log).life
 
 -- the operation that is with the store needs so much, and a disk of so many bytes has less room; where the disk is known,
 -- the room is that behind what is kept
@@ -107,7 +98,7 @@ pub record IsFull (known : Type 0) (opening : List Op) (log : List Entry) (size 
   pub behind : known → room ≡ room_behind size (state_after opening log).kept
 
 -- why a part of a run halted: the disk inside the fuse counted a fault, while an operation was with the store; or it was full
-abbrev pub IsHaltedBy : {D : Type 0} → (D → DiskView) → (List Op → Type 0) → Desk → Desk → Fused D → Fused D → Halt → Type 0
+abbrev pub IsHaltedBy : {D : Type 0} → (D → DiskView) → (List Op → Type 0) → DeskView → DeskView → Fused D → Fused D → Halt → Type 0
 IsHaltedBy view over old new disk now DiskFault =
     Rose (view disk.inner).faults (view now.inner).faults × ((opening : List Op) → over opening → StandsFor opening old.core → (op : Op) × IsHanded opening new.core.log op)
 IsHaltedBy view over old new disk now (Full needed room) =
@@ -116,11 +107,11 @@ IsHaltedBy view over old new disk now (Full needed room) =
 IsHaltedBy view over old new disk now Memory = Unit {0}
 
 -- a part of a run halted: what was run, why, and what is left on the disk
-pub record HaltsOver {D : Type 0} (view : D → DiskView) (over : List Op → Type 0) (old new : Desk) (disk now : Fused D) (halt : Halt) : Type 0 where
+pub record HaltsOver {D : Type 0} (view : D → DiskView) (over : List Op → Type 0) (old new : DeskView) (disk now : Fused D) (halt : Halt) : Type 0 where
   pub goes : GoesOver over [] old new
   pub why : IsHaltedBy view over old new disk now halt
   pub left : LeftOver over old new (seen view disk) (seen view now)
 
 -- the same over each opening list
-abbrev pub HaltsBy : {D : Type 0} → (D → DiskView) → Desk → Desk → Fused D → Fused D → Halt → Type 0
+abbrev pub HaltsBy : {D : Type 0} → (D → DiskView) → DeskView → DeskView → Fused D → Fused D → Halt → Type 0
 HaltsBy view old new disk now halt = HaltsOver view (λ opening. Unit {0}) old new disk now halt

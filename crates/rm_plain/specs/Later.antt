@@ -9,15 +9,17 @@ use Rattle.rm_disk.specs.Disk.{DiskView, IsQuiet, Leaves, Tells}
 use Rattle.rm_disk.specs.Fuse.{Fused}
 use Rattle.rm_formats.specs.Device.{Holds}
 use Rattle.rm_plain.specs.Survives.{HoldsWithin, SurvivesAll, SurvivesNow}
+use Rattle.rm_desk.specs.Does.{IsHanded}
 use Rattle.rm_store.specs.Store.{StoreState, IsSound, seen}
 use Rattle.rm_core.specs.Adds.{AmountsTo, CanBeginOver}
-use Rattle.rm_core.specs.InFlight.{AllPlain}
+use Rattle.rm_facts.specs.Submissions.{AllPlain}
 use Rattle.rm_core.specs.Seen.{Seen, StandsFor}
-use Rattle.rm_plain.specs.declared.desk.Desk.{Desk}
+use Rattle.rm_core.specs.Words.{stands}
+use Rattle.rm_desk.specs.View.{DeskView}
 use Rattle.rm_plain.specs.declared.halts.Stop.{Stop}
 use Rattle.rm_plain.specs.declared.halts.Stop.TheVariants.{DiskFault, Damaged, Full, EpochsSpent, Memory}
 use Rattle.rm_plain.specs.Goes.{GoesOver, IsOver}
-use Rattle.rm_plain.specs.Keeping.{IsFull, IsHanded, IsKeptOn, KeepsOn, LeftOver}
+use Rattle.rm_plain.specs.Keeping.{IsFull, IsKeptOn, KeepsOn, LeftOver}
 use Rattle.rm_plain.specs.Starts.{DiskStays, IsAtEase, Lives}
 use Rattle.rm_plain.specs.Stops.{CannotGoOn, IsNoStore, IsSpent, IsStoppedBy, NoneLeft}
 
@@ -45,9 +47,9 @@ pub record IsAgain {D : Type 0} (view : D → DiskView) (core : Seen) (disk : Fu
   pub kept : (opening : List Op) → StandsFor opening core → IsKeptOn opening core.log (seen view disk) → KeepsOn opening core.log core.log (seen view disk) (seen view store.disk)
 
 -- no life stands, and one is left in the script
-pub record IsDueAt (d : Desk) : Type 0 where
-  pub dead : d.core.tables.alive ≡ false
-  pub lives : d.lives ≢ []
+pub record IsDueAt (d : DeskView) : Type 0 where
+  pub dead : stands d.core ≡ false
+  pub lives : d.place.lives ≢ []
 
 -- why a later life has no store that it can begin over
 abbrev pub IsUnready : {D : Type 0} → (D → DiskView) → List Op → List Entry → Fused D → Fused D → Stop → Type 0
@@ -58,7 +60,7 @@ IsUnready view opening log disk now EpochsSpent = NoneLeft opening log
 IsUnready view opening log disk now Memory = Unit {0}
 
 -- why a later life stopped the run, over a disk that held what was kept
-abbrev pub IsLaterStop : {D : Type 0} → (D → DiskView) → List Op → Desk → Desk → Fused D → Fused D → Stop → Type 0
+abbrev pub IsLaterStop : {D : Type 0} → (D → DiskView) → List Op → DeskView → DeskView → Fused D → Fused D → Stop → Type 0
 IsLaterStop view opening old new disk now DiskFault =
     Rose (view disk.inner).faults (view now.inner).faults × (IsDueAt new ⊎ ((op : Op) × IsHanded opening new.core.log op))
 IsLaterStop view opening old new disk now (Damaged offset) =
@@ -69,7 +71,7 @@ IsLaterStop view opening old new disk now EpochsSpent = IsDueAt new × NoneLeft 
 IsLaterStop view opening old new disk now Memory = Unit {0}
 
 -- some lives were lived, and one stopped the run
-pub record StopsLater {D : Type 0} (view : D → DiskView) (old new : Desk) (disk now : Fused D) (stop : Stop) : Type 0 where
+pub record StopsLater {D : Type 0} (view : D → DiskView) (old new : DeskView) (disk now : Fused D) (stop : Stop) : Type 0 where
   pub fallen : List Fallen
   pub goes : GoesOver (λ opening. Unit {0}) fallen old new
   pub falls : now.falls ≡ disk.falls ++ fallen
@@ -79,31 +81,31 @@ pub record StopsLater {D : Type 0} (view : D → DiskView) (old new : Desk) (dis
   pub left : LeftOver (λ opening. Unit {0}) old new (seen view disk) (seen view now)
 
 -- how later lives went
-abbrev pub LaterTo : {D : Type 0} → (D → DiskView) → Desk → Desk → Fused D → Fused D → Result (Unit {0}) Stop → Type 0
+abbrev pub LaterTo : {D : Type 0} → (D → DiskView) → DeskView → DeskView → Fused D → Fused D → Result (Unit {0}) Stop → Type 0
 LaterTo view old new disk now (Ok _) = Lives view (λ opening. Unit {0}) old new disk now
 LaterTo view old new disk now (Err stop) = StopsLater view old new disk now stop
 
 -- what the disk held at first, holds now, and could be left of it between
-pub record HeldFirst {D : Type 0} (view : D → DiskView) (opening : List Op) (new : Desk) (disk now : Fused D) (bytes : List ℕ) : Type 0 where
+pub record HeldFirst {D : Type 0} (view : D → DiskView) (opening : List Op) (new : DeskView) (disk now : Fused D) (bytes : List ℕ) : Type 0 where
   pub opened : Holds bytes opening
   pub kept : IsKeptOn opening new.core.log (seen view now)
   pub time : Leaves (seen view disk) (seen view now) (λ image. (seen view disk).images image ⊎ HoldsWithin opening new.core.log image)
 
 -- the first life was lived
-pub record FirstLived {D : Type 0} (view : D → DiskView) (opening : List Op) (old new : Desk) (disk now : Fused D) : Type 0 where
+pub record FirstLived {D : Type 0} (view : D → DiskView) (opening : List Op) (old new : DeskView) (disk now : Fused D) : Type 0 where
   pub fallen : List Fallen
   pub goes : GoesOver (λ ops. ops ≡ opening) fallen old new
   pub falls : now.falls ≡ disk.falls ++ fallen
   pub at_ease : IsAtEase now
   pub stays : DiskStays view disk now
-  pub ends : (new.core.tables.alive ≡ false) ⊎ IsOver new
+  pub ends : (stands new.core ≡ false) ⊎ IsOver new
   pub some : new.core.log ≢ []
   pub plain : AllPlain (records opening).apps
   pub opened : Tells (seen view disk) (λ bytes. Holds bytes opening)
   pub kept : (bytes : List ℕ) → (seen view disk).told ≡ Some bytes → StandsFor opening old.core → HeldFirst view opening new disk now bytes
 
 -- the first life stopped the run; where nothing was logged, its disk was left alone
-pub record FirstStopped {D : Type 0} (view : D → DiskView) (opening : List Op) (old new : Desk) (disk now : Fused D) (stop : Stop) : Type 0 where
+pub record FirstStopped {D : Type 0} (view : D → DiskView) (opening : List Op) (old new : DeskView) (disk now : Fused D) (stop : Stop) : Type 0 where
   pub goes : GoesOver (λ ops. ops ≡ opening) [] old new
   pub falls : now.falls ≡ disk.falls
   pub stays : DiskStays view disk now
@@ -115,7 +117,7 @@ pub record FirstStopped {D : Type 0} (view : D → DiskView) (opening : List Op)
   pub why : StandsFor opening old.core → IsStoppedBy view (IsDueAt new) disk now opening new.core.log stop
 
 -- how the first life went
-abbrev pub FirstTo : {D : Type 0} → (D → DiskView) → List Op → Desk → Desk → Fused D → Fused D → Result (Unit {0}) Stop → Type 0
+abbrev pub FirstTo : {D : Type 0} → (D → DiskView) → List Op → DeskView → DeskView → Fused D → Fused D → Result (Unit {0}) Stop → Type 0
 FirstTo view opening old new disk now (Ok _) = FirstLived view opening old new disk now
 FirstTo view opening old new disk now (Err stop) = FirstStopped view opening old new disk now stop
 

@@ -11,17 +11,18 @@ pub use Rattle.rm_model.specs.Owed
 pub use Rattle.rm_model.specs.Rules
 pub use Rattle.rm_model.specs.Place
 pub use Rattle.rm_model.specs.Lawful
-pub use Rattle.rm_core.specs.Steps
-pub use Rattle.rm_core.specs.Ready
-pub use Rattle.rm_core.specs.Told
 pub use Rattle.rm_core.specs.Keeps
-pub use Rattle.rm_core.specs.Weights
 pub use Rattle.rm_core.specs.Adds
 pub use Rattle.rm_core.specs.Seen
+pub use Rattle.rm_core.specs.Words
+pub use Rattle.rm_desk.specs.View
+pub use Rattle.rm_desk.specs.Scripts
+pub use Rattle.rm_desk.specs.Lanes as DeskLanes
+pub use Rattle.rm_desk.specs.Runs
+pub use Rattle.rm_desk.specs.Does
 pub mod Halted
 pub mod Policy
 pub mod Along
-pub mod Lanes
 pub mod Falls
 pub mod Survives
 pub mod Keeping

@@ -3,31 +3,32 @@ use Rattle.std.specs.Prelude.{◌≡◌, ℕ, ◌<◌, List, [], ◌∷◌, true
 use Rattle.rm_types.specs.declared.operations.Op.{Op}
 use Rattle.rm_disk.specs.Disk.{DiskView}
 use Rattle.rm_store.specs.Store.{StoreState, IsSound, seen}
-use Rattle.rm_plain.specs.declared.desk.Desk.{Desk}
+use Rattle.rm_core.specs.Words.{stands}
+use Rattle.rm_desk.specs.View.{DeskView}
 use Rattle.rm_plain.specs.declared.lives.LifeEnd.{LifeEnd}
 use Rattle.rm_plain.specs.declared.lives.LifeEnd.TheVariants.{Rest, Down}
 use Rattle.rm_plain.specs.declared.lives.Moved.{Moved}
 use Rattle.rm_plain.specs.declared.lives.Moved.TheVariants as moved
-use Rattle.rm_plain.specs.Along.{left}
+use Rattle.rm_desk.specs.Runs.{left}
 use Rattle.rm_plain.specs.Falls.{fall}
 use Rattle.rm_plain.specs.Goes.{Goes, IsOver}
 use Rattle.rm_plain.specs.Keeping.{Serves, StoresOn}
 
 -- the store after a part of a run has what is kept, and is whole
-pub record Stores {D : Type 0} (view : D → DiskView) (old new : Desk) (store now : StoreState D) : Type 0 where
+pub record Stores {D : Type 0} (view : D → DiskView) (old new : DeskView) (store now : StoreState D) : Type 0 where
   pub sound : IsSound view now
   pub kept : (opening : List Op) → StoresOn opening old new (seen view store.disk) (seen view now.disk)
 
 -- the life goes on: a lane moved, and less is left
-pub record GoesOn {D : Type 0} (view : D → DiskView) (old new : Desk) (store now : StoreState D) : Type 0 where
+pub record GoesOn {D : Type 0} (view : D → DiskView) (old new : DeskView) (store now : StoreState D) : Type 0 where
   pub goes : Goes [] old new
   pub less : left new < left old
-  pub stands : new.core.tables.alive ≡ true
+  pub stands : stands new.core ≡ true
   pub serves : Serves view new now
   pub stores : Stores view old new store now
 
 -- the run is at its end: no lane can move
-pub record ComesToRest {D : Type 0} (view : D → DiskView) (old new : Desk) (store now : StoreState D) : Type 0 where
+pub record ComesToRest {D : Type 0} (view : D → DiskView) (old new : DeskView) (store now : StoreState D) : Type 0 where
   pub goes : Goes [] old new
   pub over : IsOver new
   pub unarmed : now.disk.armed ≡ None
@@ -35,21 +36,21 @@ pub record ComesToRest {D : Type 0} (view : D → DiskView) (old new : Desk) (st
   pub stores : Stores view old new store now
 
 -- the life went down, and the device is to fall to the image
-pub record WentDown {D : Type 0} (view : D → DiskView) (old new : Desk) (store now : StoreState D) (image : ℕ) : Type 0 where
+pub record WentDown {D : Type 0} (view : D → DiskView) (old new : DeskView) (store now : StoreState D) (image : ℕ) : Type 0 where
   pub calls : ℕ
   pub armed : now.disk.armed ≡ Some calls
   pub unblown : now.disk.blown ≡ false
   pub goes : Goes (fall calls image ∷ []) old new
-  pub down : new.core.tables.alive ≡ false
+  pub down : stands new.core ≡ false
   pub stores : Stores view old new store now
 
 -- what a move does
-abbrev pub MovesTo : {D : Type 0} → (D → DiskView) → Desk → Desk → StoreState D → StoreState D → Moved → Type 0
+abbrev pub MovesTo : {D : Type 0} → (D → DiskView) → DeskView → DeskView → StoreState D → StoreState D → Moved → Type 0
 MovesTo view old new store now moved.On = GoesOn view old new store now
 MovesTo view old new store now moved.Rest = ComesToRest view old new store now
 MovesTo view old new store now (moved.Down image) = WentDown view old new store now image
 
 -- how a life ends
-abbrev pub EndsBy : {D : Type 0} → (D → DiskView) → Desk → Desk → StoreState D → StoreState D → LifeEnd → Type 0
+abbrev pub EndsBy : {D : Type 0} → (D → DiskView) → DeskView → DeskView → StoreState D → StoreState D → LifeEnd → Type 0
 EndsBy view old new store now Rest = ComesToRest view old new store now
 EndsBy view old new store now (Down image) = WentDown view old new store now image

@@ -8,9 +8,10 @@ use Rattle.rm_disk.specs.Disk.{DiskView, EachImage, Falls, IsQuiet, Tells}
 use Rattle.rm_disk.specs.Fuse.{Fused, FallsThrough}
 use Rattle.rm_formats.specs.Device.{Holds}
 use Rattle.rm_store.specs.Store.{StoreState, AreRead, IsSound, seen}
-use Rattle.rm_core.specs.InFlight.{AllPlain}
+use Rattle.rm_facts.specs.Submissions.{AllPlain}
 use Rattle.rm_core.specs.Seen.{StandsFor}
-use Rattle.rm_plain.specs.declared.desk.Desk.{Desk}
+use Rattle.rm_core.specs.Words.{stands}
+use Rattle.rm_desk.specs.View.{DeskView}
 use Rattle.rm_plain.specs.declared.halts.Halt.{Halt}
 use Rattle.rm_plain.specs.declared.halts.Stop.{Stop}
 use Rattle.rm_plain.specs.declared.halts.Stop.TheVariants.{DiskFault, Damaged, EpochsSpent, Memory}
@@ -67,23 +68,23 @@ IsRefusedBy tree EpochsSpent = AllPlain tree.apps × ((2 ^ 24 ≤ tree.next_epoc
 IsRefusedBy tree _ = ⊥
 
 -- where a life began over what is kept, and what was kept before it was on its disk, what is kept after it is there
-abbrev pub KeepsOver : (List Op → Type 0) → Desk → Desk → DiskView → DiskView → Type 0
+abbrev pub KeepsOver : (List Op → Type 0) → DeskView → DeskView → DiskView → DiskView → Type 0
 KeepsOver over old new before now =
     (opening : List Op) → over opening → StandsFor opening old.core → IsKeptOn opening old.core.log before → KeepsOn opening old.core.log new.core.log before now
 
 -- lives were lived to their ends: the device fell so often, and the last life went down, or the run is over
-pub record Lives {D : Type 0} (view : D → DiskView) (over : List Op → Type 0) (old new : Desk) (disk now : Fused D) : Type 0 where
+pub record Lives {D : Type 0} (view : D → DiskView) (over : List Op → Type 0) (old new : DeskView) (disk now : Fused D) : Type 0 where
   pub fallen : List Fallen
   pub goes : GoesOver over fallen old new
   pub falls : now.falls ≡ disk.falls ++ fallen
   pub at_ease : IsAtEase now
   pub disk_stays : DiskStays view disk now
-  pub ends : (new.core.tables.alive ≡ false) ⊎ IsOver new
+  pub ends : (stands new.core ≡ false) ⊎ IsOver new
   pub some : new.core.log ≢ []
   pub kept : KeepsOver over old new (seen view disk) (seen view now)
 
 -- a life halted, and stopped the run; where nothing was logged, its disk was left alone
-pub record Halts {D : Type 0} (view : D → DiskView) (over : List Op → Type 0) (old new : Desk) (disk now : Fused D) (stop : Stop) : Type 0 where
+pub record Halts {D : Type 0} (view : D → DiskView) (over : List Op → Type 0) (old new : DeskView) (disk now : Fused D) (stop : Stop) : Type 0 where
   pub falls : now.falls ≡ disk.falls
   pub at_ease : IsAtEase now
   pub disk_stays : DiskStays view disk now
@@ -93,13 +94,13 @@ pub record Halts {D : Type 0} (view : D → DiskView) (over : List Op → Type 0
   pub quiet : new.core.log ≡ [] → IsQuiet (seen view disk) (seen view now)
 
 -- how a life that began over a tree went
-abbrev pub LivesTo : {D : Type 0} → (D → DiskView) → (List Op → Type 0) → Desk → Desk → Fused D → Fused D → Result (Unit {0}) Stop → Type 0
+abbrev pub LivesTo : {D : Type 0} → (D → DiskView) → (List Op → Type 0) → DeskView → DeskView → Fused D → Fused D → Result (Unit {0}) Stop → Type 0
 LivesTo view over old new disk now (Ok _) = Lives view over old new disk now
 LivesTo view over old new disk now (Err stop) = Halts view over old new disk now stop
 
 -- a life begins, and its store serves it
-pub record Begins {D : Type 0} (view : D → DiskView) (over : List Op → Type 0) (old new : Desk) (store now : StoreState D) : Type 0 where
-  pub stands : new.core.tables.alive ≡ true
+pub record Begins {D : Type 0} (view : D → DiskView) (over : List Op → Type 0) (old new : DeskView) (store now : StoreState D) : Type 0 where
+  pub stands : stands new.core ≡ true
   pub some : new.core.log ≢ []
   pub serves : Serves view new now
   pub kept : KeepsOver over old new (seen view store.disk) (seen view now.disk)

@@ -11,9 +11,10 @@ use Rattle.rm_formats.specs.Device.{Holds}
 use Rattle.rm_model.specs.Lawful.{place_after, state_after}
 use Rattle.rm_store.specs.Causes.{IsWhy}
 use Rattle.rm_store.specs.declared.fault.StoreError.TheVariants as store
-use Rattle.rm_core.specs.InFlight.{AllPlain}
+use Rattle.rm_facts.specs.Submissions.{AllPlain}
+use Rattle.rm_desk.specs.Does.{IsHanded}
 use Rattle.rm_store.specs.Store.{seen}
-use Rattle.rm_plain.specs.Keeping.{IsFull, IsHanded}
+use Rattle.rm_plain.specs.Keeping.{IsFull}
 use Rattle.rm_plain.specs.declared.halts.Stop.{Stop}
 use Rattle.rm_plain.specs.declared.halts.Stop.TheVariants.{DiskFault, Damaged, Full, EpochsSpent, Memory}
 

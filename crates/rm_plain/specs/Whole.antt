@@ -6,25 +6,26 @@ use Rattle.rm_types.specs.Records.{records}
 use Rattle.rm_disk.specs.Disk.{DiskView, IsQuiet, Tells}
 use Rattle.rm_disk.specs.Fuse.{Fused}
 use Rattle.rm_formats.specs.Device.{Holds}
-use Rattle.rm_core.specs.InFlight.{AllPlain}
+use Rattle.rm_facts.specs.Submissions.{AllPlain}
 use Rattle.rm_plain.specs.Later.{IsDueAt}
 use Rattle.rm_plain.specs.Survives.{SurvivesAll, SurvivesNow}
 use Rattle.rm_store.specs.Store.{seen}
 use Rattle.rm_core.specs.Seen.{StandsFor}
-use Rattle.rm_plain.specs.declared.desk.Desk.{Desk}
+use Rattle.rm_core.specs.Words.{stands}
+use Rattle.rm_desk.specs.View.{DeskView}
 use Rattle.rm_plain.specs.declared.halts.Stop.{Stop}
 use Rattle.rm_plain.specs.Goes.{GoesOver, IsOver}
 use Rattle.rm_plain.specs.Starts.{DiskStays}
 use Rattle.rm_plain.specs.Stops.{IsStoppedBy}
 
 -- the script came to its end: no life is left, and the last one went down or is at rest
-pub record Ends (d : Desk) : Type 0 where
-  pub lives : d.lives ≡ []
-  pub over : (d.core.tables.alive ≡ false) ⊎ IsOver d
+pub record Ends (d : DeskView) : Type 0 where
+  pub lives : d.place.lives ≡ []
+  pub over : (stands d.core ≡ false) ⊎ IsOver d
 
 -- the lives were lived, or one of them stopped the run; where nothing was logged, the disk was left alone, and so it was where
 -- there was no life
-pub record AllLived {D : Type 0} (view : D → DiskView) (opening : List Op) (old new : Desk) (disk now : Fused D) (ended : Result (Unit {0}) Stop) : Type 0 where
+pub record AllLived {D : Type 0} (view : D → DiskView) (opening : List Op) (old new : DeskView) (disk now : Fused D) (ended : Result (Unit {0}) Stop) : Type 0 where
   pub fallen : List Fallen
   pub goes : GoesOver (λ ops. ops ≡ opening) fallen old new
   pub falls : now.falls ≡ disk.falls ++ fallen
@@ -35,8 +36,8 @@ pub record AllLived {D : Type 0} (view : D → DiskView) (opening : List Op) (ol
   pub found : (opening ≡ []) ⊎ Tells (seen view disk) (λ bytes. Holds bytes opening)
   pub ends : OnOk ended (Ends new)
   pub quiet : new.core.log ≡ [] → IsQuiet (seen view disk) (seen view now)
-  pub idle : old.lives ≡ [] → (new.core.log ≡ []) × (now ≡ disk) × IsOk ended
-  pub begun : old.lives ≢ [] → OnOk ended (new.core.log ≢ [])
+  pub idle : old.place.lives ≡ [] → (new.core.log ≡ []) × (now ≡ disk) × IsOk ended
+  pub begun : old.place.lives ≢ [] → OnOk ended (new.core.log ≢ [])
   pub images : StandsFor opening old.core → SurvivesAll opening new.core.log (seen view disk) (seen view now)
   pub images_now : StandsFor opening old.core → SurvivesNow opening new.core.log (seen view disk) (seen view now)
   pub stopped : StandsFor opening old.core → IfErr ended (IsStoppedBy view (IsDueAt new) disk now opening new.core.log)

@@ -1,19 +1,21 @@
 ghost use Rattle.std.specs.Prelude.{◌≡◌, ◌≢◌, ◌<◌, [], find, OnOk, OnErr, IfOk, IfErr, None, Some, true, false};
 ghost use Rattle.rm_store.specs.Store.{IsSound as IsStoreSound, seen};
+ghost use Rattle.rm_model.specs.Place.{close_left};
+ghost use Rattle.rm_core.specs.Words.{stands};
+ghost use Rattle.rm_desk.specs.Lanes.{IsStep, is_ready_at};
 ghost use Rattle.rm_plain.specs.Along.{IsSound};
 ghost use Rattle.rm_plain.specs.Goes.{Goes};
 ghost use Rattle.rm_plain.specs.Keeping.{FuseStays, HaltsBy, Serves};
 ghost use Rattle.rm_types.specs.declared.messages.Lane.{Lane};
 ghost use Rattle.rm_types.specs.declared.scripts.Close.{Close};
 ghost use Rattle.rm_plain.specs.declared.halts.Halt.{Halt};
-ghost use Rattle.rm_plain.specs.Lanes.{IsManagers, is_ready_at};
 ghost use Rattle.rm_plain.specs.Lives.{EndsBy, GoesOn, MovesTo};
 
-use crate::desk::Desk;
 use crate::halts::Halt;
-use crate::moves::{go_down, settle, work};
+use crate::policy::first_ready;
 use crate::refusals::memory_only;
 use crate::storing::{arm, keep};
+use rm_desk::Desk;
 use rm_disk::Disk;
 use rm_store::Store;
 use rm_types::{Close, Lane};
@@ -42,13 +44,13 @@ pub enum LifeEnd {
 fn settle_on<D: Disk>(d: &mut Desk, store: &mut Store<D>) -> Result<(), Halt>
     requires sound { IsSound d.old }
     requires ready { is_ready_at d.old Lane.End ≡ true }
-    requires settles { d.old.close ≡ Some Close.Settle }
+    requires settles { close_left d.old.place.segments ≡ Some Close.Settle }
     requires serves { Serves D.view d.old store.old }
     ensures on { OnOk result (GoesOn D.view d.old d.new store.old store.new) }
     ensures fuse { FuseStays D.view store.old.disk store.new.disk }
     ensures halts { IfErr result (HaltsBy D.view d.old d.new store.old.disk store.new.disk) }
 {
-    memory_only(settle(d))?;
+    memory_only(d.step(Lane::End))?;
     arm(d, store)
 }
 
@@ -56,13 +58,14 @@ fn settle_on<D: Disk>(d: &mut Desk, store: &mut Store<D>) -> Result<(), Halt>
 fn work_on<D: Disk>(d: &mut Desk, store: &Store<D>, lane: Lane) -> Result<(), Halt>
     requires sound { IsSound d.old }
     requires ready { is_ready_at d.old lane ≡ true }
-    requires own { IsManagers lane }
+    requires step { IsStep lane }
+    requires goes { lane ≢ Lane.End }
     requires serves { Serves D.view d.old store.now }
     ensures on { OnOk result (GoesOn D.view d.old d.new store.now store.now) }
     ensures halts { IfErr result (HaltsBy D.view d.old d.new store.now.disk store.now.disk) }
 {
     let _ = store;
-    memory_only(work(d, lane))?;
+    memory_only(d.step(lane))?;
     Ok(())
 }
 
@@ -75,9 +78,10 @@ fn close<D: Disk>(d: &mut Desk, store: &mut Store<D>) -> Result<Moved, Halt>
     ensures fuse { FuseStays D.view store.old.disk store.new.disk }
     ensures halts { IfErr result (HaltsBy D.view d.old d.new store.old.disk store.new.disk) }
 {
-    match d.close {
+    match d.close_of() {
         Some(Close::Crash { image, .. }) => {
-            memory_only(go_down(d))?;
+            d.law();
+            memory_only(d.step(Lane::End))?;
             Ok(Moved::Down { image })
         }
         Some(Close::Settle) => {
@@ -92,7 +96,7 @@ fn close<D: Disk>(d: &mut Desk, store: &mut Store<D>) -> Result<Moved, Halt>
 fn advance<D: Disk>(d: &mut Desk, store: &mut Store<D>, lane: Lane) -> Result<Moved, Halt>
     requires sound { IsSound d.old }
     requires ready { is_ready_at d.old lane ≡ true }
-    requires stands { d.old.core.tables.alive ≡ true }
+    requires stands { stands d.old.core ≡ true }
     requires serves { Serves D.view d.old store.old }
     ensures moves { IfOk result (MovesTo D.view d.old d.new store.old store.new) }
     ensures fuse { FuseStays D.view store.old.disk store.new.disk }
@@ -115,16 +119,18 @@ fn advance<D: Disk>(d: &mut Desk, store: &mut Store<D>, lane: Lane) -> Result<Mo
 /// The first lane that is ready moves, in the policy's order.
 pub(crate) fn tick<D: Disk>(d: &mut Desk, store: &mut Store<D>) -> Result<Moved, Halt>
     requires sound { IsSound d.old }
-    requires stands { d.old.core.tables.alive ≡ true }
+    requires stands { stands d.old.core ≡ true }
     requires serves { Serves D.view d.old store.old }
     ensures moves { IfOk result (MovesTo D.view d.old d.new store.old store.new) }
     ensures fuse { FuseStays D.view store.old.disk store.new.disk }
     ensures halts { IfErr result (HaltsBy D.view d.old d.new store.old.disk store.new.disk) }
 {
-    match d.first_ready() {
+    match first_ready(d) {
         Some(lane) => advance(d, store, lane),
         None => {
-            d.core.rest();
+            d.law();
+            let end = d.is_at_end();
+            prove!(end);
             Ok(Moved::Rest)
         }
     }
@@ -135,7 +141,7 @@ pub(crate) fn tick<D: Disk>(d: &mut Desk, store: &mut Store<D>) -> Result<Moved,
 /// moves made so far left it.
 pub fn run_life<D: Disk>(d: &mut Desk, store: &mut Store<D>) -> Result<LifeEnd, Halt>
     requires sound { IsSound d.old }
-    requires stands { d.old.core.tables.alive ≡ true }
+    requires stands { stands d.old.core ≡ true }
     requires serves { Serves D.view d.old store.old }
     ensures ends { IfOk result (EndsBy D.view d.old d.new store.old store.new) }
     ensures fuse { FuseStays D.view store.old.disk store.new.disk }

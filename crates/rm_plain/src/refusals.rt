@@ -1,5 +1,5 @@
 ghost use Rattle.std.specs.Prelude.{◌≡◌, ◌≢◌, Err, is_ok};
-ghost use Rattle.rm_core.specs.declared.events.Refused.{Refused};
+ghost use Rattle.rm_tables.specs.declared.events.Refused.{Refused};
 
 use rm_core::Refused;
 use rm_types::NoMemory;

@@ -1,27 +1,28 @@
 ghost use Rattle.std.specs.Prelude.{◌≡◌, ◌≢◌, ◌⊎◌, ◌++◌, ◌<◌, [], length, IsOk, IfErr, OnOk, None, false};
 ghost use Rattle.rm_disk.specs.Disk.{IsQuiet, Tells};
 ghost use Rattle.rm_formats.specs.Device.{Holds};
+ghost use Rattle.rm_queues.specs.Rules.{KeepsRules};
 ghost use Rattle.rm_model.specs.Downs.{AllGoDownAtRest};
 ghost use Rattle.rm_model.specs.Lawful.{Lawful, IsDone};
 ghost use Rattle.rm_model.specs.State.{opening_state};
-ghost use Rattle.rm_core.specs.InFlight.{AllPlain};
+ghost use Rattle.rm_facts.specs.Submissions.{AllPlain};
+ghost use Rattle.rm_core.specs.Words.{stands};
+ghost use Rattle.rm_plain.specs.Goes.{IsOver};
 ghost use Rattle.rm_types.specs.Records.{records};
 ghost use Rattle.rm_plain.specs.Survives.{SurvivesAll, SurvivesNow};
 ghost use Rattle.rm_store.specs.Store.{seen};
 ghost use Rattle.rm_plain.specs.Along.{CanRun, IsSound};
-ghost use Rattle.rm_plain.specs.Goes.{IsOver};
 ghost use Rattle.rm_plain.specs.Falls.{falls_of};
 ghost use Rattle.rm_plain.specs.Later.{FirstTo, LaterTo};
 ghost use Rattle.rm_plain.specs.Starts.{DiskStays, IsAtEase};
 ghost use Rattle.rm_plain.specs.Stops.{IsDue, IsStoppedBy};
 ghost use Rattle.rm_plain.specs.Whole.{AllLived};
 
-use crate::desk::{Desk, new_desk};
 use crate::halts::Stop;
 use crate::starts::{Lived, Unfounded, Unopened, live, open_again, open_first};
-use rm_core::Core;
+use rm_desk::Desk;
 use rm_disk::{Disk, Fuse};
-use rm_types::{Entry, Items, Op, Script, Settings};
+use rm_types::{Entry, Items, Lane, Op, Script, Settings};
 use std::alloc::Global;
 
 /// A run of a script: what the disk held when it was first opened, the log, the disk as it was left, and
@@ -45,8 +46,8 @@ struct First<D: Disk> {
 /// The first life of a script, over whatever its disk holds.
 fn first_life<D: Disk>(alloc: Global, d: &mut Desk, disk: Fuse<D>) -> First<D>
     requires sound { IsSound d.old }
-    requires dead { d.old.core.tables.alive ≡ false }
-    requires lives { d.old.lives ≢ [] }
+    requires dead { stands d.old.core ≡ false }
+    requires lives { d.old.place.lives ≢ [] }
     requires empty { d.old.core.log ≡ [] }
     requires unarmed { disk.armed ≡ None }
     ensures first { FirstTo D.view result.opening d.old d.new disk result.disk result.ended }
@@ -71,14 +72,14 @@ fn first_life<D: Disk>(alloc: Global, d: &mut Desk, disk: Fuse<D>) -> First<D>
 /// A later life of a script, over what was kept.
 fn next_life<D: Disk>(alloc: Global, d: &mut Desk, disk: Fuse<D>) -> Lived<D>
     requires sound { IsSound d.old }
-    requires dead { d.old.core.tables.alive ≡ false }
-    requires lives { d.old.lives ≢ [] }
+    requires dead { stands d.old.core ≡ false }
+    requires lives { d.old.place.lives ≢ [] }
     requires some { d.old.core.log ≢ [] }
     requires unarmed { disk.armed ≡ None }
     ensures later { LaterTo D.view d.old d.new disk result.disk result.ended }
-    ensures fewer { OnOk result.ended (length d.new.lives < length d.old.lives) }
+    ensures fewer { OnOk result.ended (length d.new.place.lives < length d.old.place.lives) }
 {
-    match open_again(alloc, &d.core, disk) {
+    match open_again(alloc, d, disk) {
         Ok((store, tree)) => live(d, store, tree),
         Err(Unopened { why, disk }) => Lived {
             disk,
@@ -90,14 +91,14 @@ fn next_life<D: Disk>(alloc: Global, d: &mut Desk, disk: Fuse<D>) -> Lived<D>
 /// The lives that are left of a script, after one that ended.
 fn later_lives<D: Disk>(alloc: Global, d: &mut Desk, disk: Fuse<D>) -> Lived<D>
     requires sound { IsSound d.old }
-    requires ends { (d.old.core.tables.alive ≡ false) ⊎ IsOver d.old }
+    requires ends { (stands d.old.core ≡ false) ⊎ IsOver d.old }
     requires some { d.old.core.log ≢ [] }
     requires at_ease { IsAtEase disk }
     ensures later { LaterTo D.view d.old d.new disk result.disk result.ended }
-    ensures over { OnOk result.ended (d.new.lives ≡ []) }
+    ensures over { OnOk result.ended (d.new.place.lives ≡ []) }
 {
     let mut disk = disk;
-    'lives: while !d.lives.is_empty() {
+    'lives: while d.ready(Lane::Begin) {
         let lived = next_life(alloc, d, disk);
         disk = lived.disk;
         if let Err(stop) = lived.ended {
@@ -116,12 +117,12 @@ fn later_lives<D: Disk>(alloc: Global, d: &mut Desk, disk: Fuse<D>) -> Lived<D>
 /// All lives of a script, over whatever its disk holds. A script without lives leaves its disk as it is.
 fn all_lives<D: Disk>(alloc: Global, d: &mut Desk, disk: Fuse<D>) -> First<D>
     requires sound { IsSound d.old }
-    requires dead { d.old.core.tables.alive ≡ false }
+    requires dead { stands d.old.core ≡ false }
     requires empty { d.old.core.log ≡ [] }
     requires unarmed { disk.armed ≡ None }
     ensures all { AllLived D.view result.opening d.old d.new disk result.disk result.ended }
 {
-    if d.lives.is_empty() {
+    if !d.ready(Lane::Begin) {
         return First {
             opening: Items::new(alloc),
             disk,
@@ -175,7 +176,7 @@ pub fn run_script<D: Disk>(
     disk: Fuse<D>,
 ) -> Run<D>
     requires script { CanRun script }
-    requires rights { settings.acl_enable ≡ false }
+    requires queues { KeepsRules settings }
     requires unarmed { disk.armed ≡ None }
     ensures lawful { Lawful settings script result.opening result.log }
     ensures done { IsOk result.ended → IsDone settings script result.opening result.log }
@@ -193,16 +194,16 @@ pub fn run_script<D: Disk>(
     ensures images_now { SurvivesNow result.opening result.log (seen D.view disk) (seen D.view result.disk) }
     ensures stopped { IfErr result.ended (IsStoppedBy D.view (IsDue script result.opening result.log) disk result.disk result.opening result.log) }
 {
-    let Ok(core) = Core::new(alloc, settings) else {
+    let Ok(mut d) = Desk::new(alloc, settings, script) else {
         unreachable!()
     };
-    let mut d = new_desk(alloc, core, script);
     let First {
         opening,
         disk,
         ended,
     } = all_lives(alloc, &mut d, disk);
-    let log = d.core.into_log();
+    d.law();
+    let log = d.into_log();
     Run {
         opening,
         log,

@@ -5,7 +5,8 @@ ghost use Rattle.rm_formats.specs.Device.{Holds};
 ghost use Rattle.rm_store.specs.Errors.{IsOpenError};
 ghost use Rattle.rm_store.specs.Store.{IsSound as IsStoreSound, seen};
 ghost use Rattle.rm_core.specs.Adds.{AmountsTo, CanBeginOver};
-ghost use Rattle.rm_core.specs.InFlight.{AllPlain};
+ghost use Rattle.rm_facts.specs.Submissions.{AllPlain};
+ghost use Rattle.rm_core.specs.Words.{stands};
 ghost use Rattle.rm_types.specs.declared.operations.Op.{Op as AnyOp};
 ghost use Rattle.rm_core.specs.Seen.{StandsFor};
 ghost use Rattle.rm_plain.specs.Along.{IsSound};
@@ -16,13 +17,11 @@ ghost use Rattle.rm_plain.specs.Halted.{stop_at_open};
 ghost use Rattle.rm_plain.specs.Keeping.{FuseStays, HaltsOver};
 ghost use Rattle.rm_plain.specs.Starts.{Begins, FallsBy, IsGivenBack, IsOpened, IsRefusedBy, IsUnopenedBy, Leaves, LivesTo};
 
-use crate::desk::Desk;
 use crate::halts::{Halt, Stop};
 use crate::lives::{LifeEnd, run_life};
-use crate::moves::begin;
 use crate::refusals::memory_only;
 use crate::storing::arm;
-use rm_core::Core;
+use rm_desk::Desk;
 use rm_disk::{Disk, Fuse};
 use rm_store::{OpenFail, Store, StoreError};
 use rm_tree::Tree;
@@ -122,8 +121,8 @@ pub(crate) fn can_begin(tree: &Tree) -> Result<(), Stop>
 /// A life begins over what the store holds, and the fuse is armed where its first segment is to crash.
 fn begin_life<D: Disk>(d: &mut Desk, store: &mut Store<D>, tree: Tree) -> Result<(), Halt>
     requires sound { IsSound d.old }
-    requires dead { d.old.core.tables.alive ≡ false }
-    requires lives { d.old.lives ≢ [] }
+    requires dead { stands d.old.core ≡ false }
+    requires lives { d.old.place.lives ≢ [] }
     requires over { CanBeginOver tree }
     requires store { IsStoreSound D.view store.old }
     requires unbroken { store.old.is_broken ≡ false }
@@ -132,11 +131,12 @@ fn begin_life<D: Disk>(d: &mut Desk, store: &mut Store<D>, tree: Tree) -> Result
     ensures goes { GoesOver (λ opening. AmountsTo tree opening d.old.core) [] d.old d.new }
     ensures begun { OnOk result (Begins D.view (λ opening. AmountsTo tree opening d.old.core) d.old d.new store.old store.new) }
     ensures fuse { FuseStays D.view store.old.disk store.new.disk }
-    ensures fewer { OnOk result (length d.new.lives < length d.old.lives) }
+    ensures fewer { OnOk result (length d.new.place.lives < length d.old.place.lives) }
     ensures inner { store.new.disk.inner ≡ store.old.disk.inner }
     ensures halts { IfErr result (HaltsOver D.view (λ opening. AmountsTo tree opening d.old.core) d.old d.new store.old.disk store.new.disk) }
 {
-    memory_only(begin(d, tree))?;
+    d.law();
+    memory_only(d.begin(tree))?;
     arm(d, store)
 }
 
@@ -174,15 +174,15 @@ fn leave<D: Disk>(store: Store<D>, ended: Result<LifeEnd, Halt>) -> Lived<D>
 /// A life begins over what the store holds, and lives to its end; where it went down, its device has fallen.
 pub(crate) fn live<D: Disk>(d: &mut Desk, store: Store<D>, tree: Tree) -> Lived<D>
     requires sound { IsSound d.old }
-    requires dead { d.old.core.tables.alive ≡ false }
-    requires lives { d.old.lives ≢ [] }
+    requires dead { stands d.old.core ≡ false }
+    requires lives { d.old.place.lives ≢ [] }
     requires over { CanBeginOver tree }
     requires store { IsStoreSound D.view store }
     requires unbroken { store.is_broken ≡ false }
     requires unarmed { store.disk.armed ≡ None }
     requires unblown { store.disk.blown ≡ false }
     ensures lived { LivesTo D.view (λ opening. AmountsTo tree opening d.old.core) d.old d.new store.disk result.disk result.ended }
-    ensures fewer { OnOk result.ended (length d.new.lives < length d.old.lives) }
+    ensures fewer { OnOk result.ended (length d.new.place.lives < length d.old.place.lives) }
 {
     let mut store = store;
     match begin_life(d, &mut store, tree) {
@@ -237,20 +237,20 @@ pub(crate) fn open_first<D: Disk>(
 /// that tells its bytes never holds anything else.
 pub(crate) fn open_again<D: Disk>(
     alloc: Global,
-    core: &Core,
+    d: &Desk,
     disk: Fuse<D>,
 ) -> Result<(Store<D>, Tree), Unopened<D>>
     requires unarmed { disk.armed ≡ None }
-    requires some { core.now.log ≢ [] }
-    ensures again { IfOk result (λ again. IsAgain D.view core.now disk again.0 again.1) }
-    ensures why { IfErr result (λ none. (opening : List AnyOp) → StandsFor opening core.now → IsUnready D.view opening core.now.log disk none.disk none.why) }
+    requires some { d.now.core.log ≢ [] }
+    ensures again { IfOk result (λ again. IsAgain D.view d.now.core disk again.0 again.1) }
+    ensures why { IfErr result (λ none. (opening : List AnyOp) → StandsFor opening d.now.core → IsUnready D.view opening d.now.core.log disk none.disk none.why) }
     ensures given_back { IfErr result (λ none. IsGivenBack D.view disk none.disk) }
 {
     let (store, tree) = match open(alloc, disk) {
         Ok((store, tree, _)) => (store, tree),
         Err(unopened) => return Err(unopened),
     };
-    if !core.is_known(&tree) {
+    if !d.is_known(&tree) {
         return Err(Unopened {
             why: Stop::Damaged { offset: 0 },
             disk: store.close(),

@@ -2,16 +2,17 @@ ghost use Rattle.std.specs.Prelude.{◌≡◌, ◌<◌, List, [], OnOk, OnErr, I
 ghost use Rattle.rm_types.specs.declared.messages.Lane.{Lane};
 ghost use Rattle.rm_types.specs.declared.operations.Op.{Op as AnyOp};
 ghost use Rattle.rm_store.specs.Store.{IsSound as IsStoreSound, seen};
-ghost use Rattle.rm_plain.specs.Along.{IsSound, left};
+ghost use Rattle.rm_core.specs.Words.{stands};
+ghost use Rattle.rm_desk.specs.Lanes.{is_ready_at};
+ghost use Rattle.rm_desk.specs.Runs.{left};
+ghost use Rattle.rm_plain.specs.Along.{IsSound};
 ghost use Rattle.rm_plain.specs.Goes.{Goes};
 ghost use Rattle.rm_plain.specs.Halted.{halt_of};
 ghost use Rattle.rm_plain.specs.Keeping.{FuseStays, HaltsBy, Serves, StoresOn};
-ghost use Rattle.rm_plain.specs.Lanes.{is_ready_at};
 
-use crate::desk::Desk;
 use crate::halts::Halt;
 use crate::refusals::memory_only;
-use rm_core::Move;
+use rm_desk::Desk;
 use rm_disk::Disk;
 use rm_store::{Store, StoreError};
 use rm_types::Close;
@@ -34,19 +35,18 @@ pub(crate) fn keep<D: Disk>(d: &mut Desk, store: &mut Store<D>) -> Result<(), Ha
     requires serves { Serves D.view d.old store.old }
     ensures goes { Goes [] d.old d.new }
     ensures less { OnOk result (left d.new < left d.old) }
-    ensures stands { OnOk result (d.new.core.tables.alive ≡ true) }
+    ensures stands { OnOk result (stands d.new.core ≡ true) }
     ensures serves { OnOk result (Serves D.view d.new store.new) }
     ensures stores { OnOk result ((opening : List AnyOp) → StoresOn opening d.old d.new (seen D.view store.old.disk) (seen D.view store.new.disk)) }
     ensures fuse { FuseStays D.view store.old.disk store.new.disk }
     ensures halts { IfErr result (HaltsBy D.view d.old d.new store.old.disk store.new.disk) }
 {
-    let Some(op) = d.core.handed() else {
-        unreachable!()
-    };
+    d.law();
+    let Some(op) = d.handed() else { unreachable!() };
     if let Err(error) = store.append(op) {
         return Err(halt_of(error));
     }
-    memory_only(d.core.step(Move::Kept))?;
+    memory_only(d.kept())?;
     Ok(())
 }
 
@@ -61,7 +61,7 @@ pub(crate) fn arm<D: Disk>(d: &Desk, store: &mut Store<D>) -> Result<(), Halt>
     ensures fuse { FuseStays D.view store.old.disk store.new.disk }
     ensures halts { IfErr result (λ halt. halt ≡ Halt.Memory) }
 {
-    if let Some(Close::Crash { calls, .. }) = d.close {
+    if let Some(Close::Crash { calls, .. }) = d.close_of() {
         store.fuse().arm(calls)?;
     }
     Ok(())

@@ -1,3 +1,4 @@
+use Rattle.rm_main.proofs.Rooted.{rooted}
 use Rattle.rm_main.proofs.inputs.read_settings.Goals as goal
 
 pub returns-in-Ok-read_cluster-clause-read : goal.returns-in-Ok-read_cluster-clause-read
@@ -8,3 +9,6 @@ pub returns-in-Err-Refused-clause-refused : goal.returns-in-Err-Refused-clause-r
 returns-in-Err-Refused-clause-refused g c =
     let refused = rw (c.in-Err-Refused.field-0-is, c.as_slice.ensures.value) at c.in-Err-Refused.ensures.refused in
     record { bytes = c.in-Ok.bytes.items; read = c.in-Ok.ensures.bytes; none = refused }
+
+pub returns-in-Ok-read_cluster-clause-queues : goal.returns-in-Ok-read_cluster-clause-queues
+returns-in-Ok-read_cluster-clause-queues g c = rooted _ c.in-Ok-read_cluster.ensures.in_range

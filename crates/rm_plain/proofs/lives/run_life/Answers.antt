@@ -20,7 +20,7 @@ moves-preserved g c =
     let on = rw c.in-On.is at c.in_ok-tick.ensures.moves in
     record {
       sound = on.goes.sound;
-      stands = on.stands;
+      standing = on.stands;
       serves = on.serves;
       goes = goes_trans (λ ops. Unit {0}) [] [] c.args.d.now c.moves.d c.tick.new.d m.goes on.goes;
       stores = λ ops. stores_trans ops c.args.d.now c.moves.d c.tick.new.d (seen g.D.Disk.view c.args.store.now.disk) (seen g.D.Disk.view c.moves.store.disk) (seen g.D.Disk.view c.tick.new.store.disk)

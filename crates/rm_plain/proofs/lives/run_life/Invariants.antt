@@ -1,7 +1,9 @@
 use Rattle.std.proofs.Common.{◌≡◌, [], true, List}
 use Rattle.rm_types.specs.declared.operations.Op.{Op}
 use Rattle.rm_store.specs.Store.{seen}
-use Rattle.rm_plain.specs.Along.{IsSound, left}
+use Rattle.rm_core.specs.Words.{stands}
+use Rattle.rm_desk.specs.Runs.{left}
+use Rattle.rm_plain.specs.Along.{IsSound}
 use Rattle.rm_plain.specs.Goes.{Goes}
 use Rattle.rm_plain.specs.Keeping.{FuseStays, Serves, StoresOn}
 use Rattle.rm_plain.proofs.lives.run_life.Given as goal
@@ -9,7 +11,7 @@ use Rattle.rm_plain.proofs.lives.run_life.Given as goal
 abbrev pub invariant-moves : goal.invariant-moves
 invariant-moves g l = record {
   sound : IsSound l.d;
-  stands : l.d.core.tables.alive ≡ true;
+  standing : stands l.d.core ≡ true;
   serves : Serves g.D.Disk.view l.d l.store;
   goes : Goes [] l.fn.d l.d;
   stores : (opening : List Op) → StoresOn opening l.fn.d l.d (seen g.D.Disk.view l.fn.store.disk) (seen g.D.Disk.view l.store.disk);

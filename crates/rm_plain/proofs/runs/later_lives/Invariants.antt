@@ -12,4 +12,4 @@ invariant-lives g l = record {
 }
 
 abbrev pub decreases-lives : goal.decreases-lives
-decreases-lives g l = length l.d.lives
+decreases-lives g l = length l.d.place.lives

@@ -1,20 +1,18 @@
-use Rattle.rm_core.proofs.Moving.{begin_does}
+use Rattle.std.proofs.Common.{refl}
+use Rattle.rm_core.specs.declared.manager.Move.TheVariants.{Begin}
+use Rattle.rm_core.proofs.Moving.{Done, begin_done, begun_sound}
 use Rattle.rm_core.proofs.manager.Core.begin.Goals as goal
 
+done : (c : goal.After-begin) → Done (Begin c.args.tree c.args.handed) c.self.inside.tables c.begin.new.t c.self.inside.log c.begin.new.log c.begin.result
+done c = begin_done c.self.inside.tables c.self.inside.log c.self.invariant.sound c.args.tree c.args.handed c.if-self.false c.requires.over c.requires.high c.begin.new.t c.begin.new.log c.begin.result (rw (c.max-stamp.ensures, c.stamp.ensures) at c.begin.ensures.ok) c.begin.ensures.err
+
 pub invariant_of-self : goal.invariant_of-self
-invariant_of-self c = (begin_does c.self.inside.settings c.self.inside.log c.move_begin.new.log c.self.inside.tables c.move_begin.new.t c.self.invariant c.args.tree c.args.handed c.if-self.false c.requires.over c.requires.high c.move_begin.result (rw (c.max-stamp.ensures, c.stamp.ensures) at c.move_begin.ensures.ok) c.move_begin.ensures.err).sound
+invariant_of-self c = rw c.in_err-ready_queues.ensures.err c.self.invariant
 
-pub returns-clause-added : goal.returns-clause-added
-returns-clause-added c = rw (← c.self.view_is) (begin_does c.self.inside.settings c.self.inside.log c.move_begin.new.log c.self.inside.tables c.move_begin.new.t c.self.invariant c.args.tree c.args.handed c.if-self.false c.requires.over c.requires.high c.move_begin.result (rw (c.max-stamp.ensures, c.stamp.ensures) at c.move_begin.ensures.ok) c.move_begin.ensures.err).adds
+pub invariant_of-self-2 : goal.invariant_of-self-2
+invariant_of-self-2 c =
+    rw c.in_ok-ready_queues.ensures.ok
+    (begun_sound c.self.inside.tables.settings (Begin c.args.tree c.args.handed) c.self.inside.tables c.begin.new.t c.self.inside.log c.begin.new.log c.begin.result c.self.invariant.rules refl (done c))
 
-pub returns-clause-weighs : goal.returns-clause-weighs
-returns-clause-weighs c = (begin_does c.self.inside.settings c.self.inside.log c.move_begin.new.log c.self.inside.tables c.move_begin.new.t c.self.invariant c.args.tree c.args.handed c.if-self.false c.requires.over c.requires.high c.move_begin.result (rw (c.max-stamp.ensures, c.stamp.ensures) at c.move_begin.ensures.ok) c.move_begin.ensures.err).weighs
-
-pub returns-clause-stands : goal.returns-clause-stands
-returns-clause-stands c = rw (← c.self.view_is) (begin_does c.self.inside.settings c.self.inside.log c.move_begin.new.log c.self.inside.tables c.move_begin.new.t c.self.invariant c.args.tree c.args.handed c.if-self.false c.requires.over c.requires.high c.move_begin.result (rw (c.max-stamp.ensures, c.stamp.ensures) at c.move_begin.ensures.ok) c.move_begin.ensures.err).stands
-
-pub returns-clause-served : goal.returns-clause-served
-returns-clause-served c = (begin_does c.self.inside.settings c.self.inside.log c.move_begin.new.log c.self.inside.tables c.move_begin.new.t c.self.invariant c.args.tree c.args.handed c.if-self.false c.requires.over c.requires.high c.move_begin.result (rw (c.max-stamp.ensures, c.stamp.ensures) at c.move_begin.ensures.ok) c.move_begin.ensures.err).served
-
-pub returns-clause-lawful : goal.returns-clause-lawful
-returns-clause-lawful c = rw (← c.self.view_is) (begin_does c.self.inside.settings c.self.inside.log c.move_begin.new.log c.self.inside.tables c.move_begin.new.t c.self.invariant c.args.tree c.args.handed c.if-self.false c.requires.over c.requires.high c.move_begin.result (rw (c.max-stamp.ensures, c.stamp.ensures) at c.move_begin.ensures.ok) c.move_begin.ensures.err).lawful
+pub returns-clause-does : goal.returns-clause-does
+returns-clause-does c = rw (← c.self.view_is) (done c).does

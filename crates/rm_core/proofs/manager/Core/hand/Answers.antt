@@ -1,24 +1,13 @@
+use Rattle.std.proofs.Common.{sym, ◌∙◌, arith}
 use Rattle.rm_core.specs.declared.manager.Move.TheVariants.{Hand}
-use Rattle.rm_core.proofs.Moving.{Does, hand_does, lawful_move}
+use Rattle.rm_core.proofs.Moving.{Done, core_sound, hand_done}
 use Rattle.rm_core.proofs.manager.Core.hand.Goals as goal
 
-does : (c : goal.After-move_hand) → Does Hand c.self.inside.settings c.self.inside.log c.move_hand.new.log c.self.inside.tables c.move_hand.new.t c.move_hand.result
-does c = hand_does c.self.inside.settings c.self.inside.log c.move_hand.new.log c.self.inside.tables c.move_hand.new.t c.self.invariant c.move_hand.result c.move_hand.ensures.ok c.move_hand.ensures.ready c.move_hand.ensures.err
+done : (c : goal.After-hand) → Done Hand c.self.inside.tables c.hand.new.t c.self.inside.log c.hand.new.log c.hand.result
+done c = hand_done c.self.inside.tables c.self.inside.log c.self.invariant.sound c.hand.new.t c.hand.new.log c.hand.result c.hand.ensures.ok c.hand.ensures.ready c.hand.ensures.err
 
 pub invariant_of-self : goal.invariant_of-self
-invariant_of-self c = (does c).sound
+invariant_of-self c = core_sound c.self.inside.queues Hand c.self.inside.tables c.hand.new.t c.self.inside.log c.hand.new.log c.hand.result c.self.invariant c.hand.ensures.err (λ lives. lives.0) (done c)
 
-pub returns-clause-added : goal.returns-clause-added
-returns-clause-added c = rw (← c.self.view_is) (does c).adds
-
-pub returns-clause-weighs : goal.returns-clause-weighs
-returns-clause-weighs c = rw (← c.self.view_is) (does c).weighs
-
-pub returns-clause-stands : goal.returns-clause-stands
-returns-clause-stands c = rw (← c.self.view_is) (does c).stands
-
-pub returns-clause-served : goal.returns-clause-served
-returns-clause-served c = rw (← c.self.view_is) (does c).served
-
-pub returns-clause-lawful : goal.returns-clause-lawful
-returns-clause-lawful c = rw (← c.self.view_is) (lawful_move Hand c.self.inside.settings c.self.inside.log c.move_hand.new.log c.self.inside.tables c.move_hand.new.t c.move_hand.result (λ ops. tt) (does c))
+pub returns-clause-does : goal.returns-clause-does
+returns-clause-does c = rw (← c.self.view_is) (done c).does

@@ -1,24 +1,17 @@
+use Rattle.std.proofs.Common.{sym, ◌∙◌, arith}
 use Rattle.rm_core.specs.declared.manager.Move.TheVariants.{Main}
-use Rattle.rm_core.proofs.Moving.{Does, main_does, lawful_move}
+use Rattle.rm_core.proofs.Moving.{Done, core_sound, main_done}
+use Rattle.rm_core.proofs.Phases.{no_attempts}
 use Rattle.rm_core.proofs.manager.Core.main.Goals as goal
 
-does : (c : goal.After-move_main) → Does Main c.self.inside.settings c.self.inside.log c.move_main.new.log c.self.inside.tables c.move_main.new.t c.move_main.result
-does c = main_does c.self.inside.settings c.self.inside.log c.move_main.new.log c.self.inside.tables c.move_main.new.t c.self.invariant c.move_main.result c.move_main.ensures.ok c.move_main.ensures.err
+pub main-requires-clause-few : goal.main-requires-clause-few
+main-requires-clause-few c = λ id. let none = no_attempts c.self.invariant.sound.history c.self.inside.tables c.self.invariant.sound.phase id in rw none (omega arith)
+
+done : (c : goal.After-main) → Done Main c.self.inside.tables c.main.new.t c.self.inside.log c.main.new.log c.main.result
+done c = main_done c.self.inside.tables c.self.inside.log c.self.invariant.sound c.main.new.t c.main.new.log c.main.result c.main.ensures.ok c.main.ensures.some c.main.ensures.err
 
 pub invariant_of-self : goal.invariant_of-self
-invariant_of-self c = (does c).sound
+invariant_of-self c = core_sound c.self.inside.queues Main c.self.inside.tables c.main.new.t c.self.inside.log c.main.new.log c.main.result c.self.invariant c.main.ensures.err (λ lives. lives.0) (done c)
 
-pub returns-clause-added : goal.returns-clause-added
-returns-clause-added c = rw (← c.self.view_is) (does c).adds
-
-pub returns-clause-weighs : goal.returns-clause-weighs
-returns-clause-weighs c = rw (← c.self.view_is) (does c).weighs
-
-pub returns-clause-stands : goal.returns-clause-stands
-returns-clause-stands c = rw (← c.self.view_is) (does c).stands
-
-pub returns-clause-served : goal.returns-clause-served
-returns-clause-served c = rw (← c.self.view_is) (does c).served
-
-pub returns-clause-lawful : goal.returns-clause-lawful
-returns-clause-lawful c = rw (← c.self.view_is) (lawful_move Main c.self.inside.settings c.self.inside.log c.move_main.new.log c.self.inside.tables c.move_main.new.t c.move_main.result (λ ops. tt) (does c))
+pub returns-clause-does : goal.returns-clause-does
+returns-clause-does c = rw (← c.self.view_is) (done c).does

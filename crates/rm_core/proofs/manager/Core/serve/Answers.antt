@@ -1,28 +1,17 @@
+use Rattle.std.proofs.Common.{sym, ◌∙◌, arith}
 use Rattle.rm_core.specs.declared.manager.Move.TheVariants.{Serve}
-use Rattle.rm_core.specs.Told.{no_history}
-use Rattle.rm_core.proofs.Moving.{Does, serve_does, no_attempts, lawful_move}
+use Rattle.rm_core.proofs.Moving.{Done, core_sound, serve_done}
+use Rattle.rm_core.proofs.Phases.{no_attempts}
 use Rattle.rm_core.proofs.manager.Core.serve.Goals as goal
 
-pub move_serve-requires-clause-plain : goal.move_serve-requires-clause-plain
-move_serve-requires-clause-plain c = λ a o id. no_attempts no_history c.self.inside.tables c.self.invariant.stage a o id
+pub answer_message-requires-clause-attempts : goal.answer_message-requires-clause-attempts
+answer_message-requires-clause-attempts c = λ id. let none = no_attempts c.self.invariant.sound.history c.self.inside.tables c.self.invariant.sound.phase id in rw none (omega arith)
 
-does : (c : goal.After-move_serve) → Does (Serve c.args.message) c.self.inside.settings c.self.inside.log c.move_serve.new.log c.self.inside.tables c.move_serve.new.t c.move_serve.result
-does c = serve_does c.self.inside.settings c.self.inside.log c.move_serve.new.log c.self.inside.tables c.move_serve.new.t c.self.invariant c.args.message c.requires.built c.move_serve.result c.move_serve.ensures.ok c.move_serve.ensures.ready c.move_serve.ensures.err
+done : (c : goal.After-answer_message) → Done (Serve c.args.message) c.self.inside.tables c.answer_message.new.t c.self.inside.log c.answer_message.new.log c.answer_message.result
+done c = serve_done c.self.inside.tables c.self.inside.log c.self.invariant.sound c.args.message c.requires.built c.answer_message.new.t c.answer_message.new.log c.answer_message.result c.answer_message.ensures.ok c.answer_message.ensures.ready c.answer_message.ensures.err
 
 pub invariant_of-self : goal.invariant_of-self
-invariant_of-self c = (does c).sound
+invariant_of-self c = core_sound c.self.inside.queues (Serve c.args.message) c.self.inside.tables c.answer_message.new.t c.self.inside.log c.answer_message.new.log c.answer_message.result c.self.invariant c.answer_message.ensures.err (λ lives. lives.0) (done c)
 
-pub returns-clause-added : goal.returns-clause-added
-returns-clause-added c = rw (← c.self.view_is) (does c).adds
-
-pub returns-clause-weighs : goal.returns-clause-weighs
-returns-clause-weighs c = rw (← c.self.view_is) (does c).weighs
-
-pub returns-clause-stands : goal.returns-clause-stands
-returns-clause-stands c = rw (← c.self.view_is) (does c).stands
-
-pub returns-clause-served : goal.returns-clause-served
-returns-clause-served c = rw (← c.self.view_is) (does c).served
-
-pub returns-clause-lawful : goal.returns-clause-lawful
-returns-clause-lawful c = rw (← c.self.view_is) (lawful_move (Serve c.args.message) c.self.inside.settings c.self.inside.log c.move_serve.new.log c.self.inside.tables c.move_serve.new.t c.move_serve.result (λ ops. tt) (does c))
+pub returns-clause-does : goal.returns-clause-does
+returns-clause-does c = rw (← c.self.view_is) (done c).does

@@ -1,24 +1,10 @@
+use Rattle.std.proofs.Common.{sym, ◌∙◌}
 use Rattle.rm_core.specs.declared.manager.Move.TheVariants.{Settle}
-use Rattle.rm_core.proofs.Moving.{Does, settle_does, lawful_move}
+use Rattle.rm_core.proofs.Moving.{Done, settle_done}
 use Rattle.rm_core.proofs.manager.Core.settle.Goals as goal
 
-does : (c : goal.After-move_settle) → Does Settle c.self.inside.settings c.self.inside.log c.move_settle.new.log c.self.inside.tables c.self.inside.tables c.move_settle.result
-does c = settle_does c.self.inside.settings c.self.inside.log c.move_settle.new.log c.self.inside.tables c.self.invariant c.move_settle.result c.move_settle.ensures.ok c.move_settle.ensures.ready c.move_settle.ensures.err
+done : (c : goal.After-settle) → Done Settle c.self.inside.tables c.self.inside.tables c.self.inside.log c.settle.new.log c.settle.result
+done c = settle_done c.self.inside.tables c.self.inside.log c.self.invariant.sound c.settle.new.log c.settle.result c.settle.ensures.ok c.settle.ensures.ready c.settle.ensures.err
 
-pub invariant_of-self : goal.invariant_of-self
-invariant_of-self c = (does c).sound
-
-pub returns-clause-added : goal.returns-clause-added
-returns-clause-added c = rw (← c.self.view_is) (does c).adds
-
-pub returns-clause-weighs : goal.returns-clause-weighs
-returns-clause-weighs c = rw (← c.self.view_is) (does c).weighs
-
-pub returns-clause-stands : goal.returns-clause-stands
-returns-clause-stands c = rw (← c.self.view_is) (does c).stands
-
-pub returns-clause-served : goal.returns-clause-served
-returns-clause-served c = rw (← c.self.view_is) (does c).served
-
-pub returns-clause-lawful : goal.returns-clause-lawful
-returns-clause-lawful c = rw (← c.self.view_is) (lawful_move Settle c.self.inside.settings c.self.inside.log c.move_settle.new.log c.self.inside.tables c.self.inside.tables c.move_settle.result (λ ops. tt) (does c))
+pub returns-clause-does : goal.returns-clause-does
+returns-clause-does c = rw (← c.self.view_is) (done c).does

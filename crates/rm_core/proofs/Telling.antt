@@ -1,0 +1,31 @@
+-- What the state after a log tells of the life that stands in it.
+use Rattle.std.proofs.Common.{◌≡◌, List, true, false, None, Some, refl, ◌∙◌, ap}
+use Rattle.rm_types.specs.declared.operations.Op.{Op}
+use Rattle.rm_model.specs.State.{LifeState, Manager}
+use Rattle.rm_model.specs.Lawful.{state_after}
+use Rattle.rm_facts.specs.Told.{life_in}
+use Rattle.rm_core.specs.Seen.{Seen, StandsFor}
+use Rattle.rm_core.specs.Words.{is_handed, stands}
+use Rattle.rm_core.proofs.Phases.{unblown_of}
+use Rattle.rm_core.proofs.Standing.{told_standing}
+
+-- a life stands after the log; it was not blown, and an operation is with the store where the manager has handed one
+pub record LifeTold (opening : List Op) (s : Seen) : Type 0 where
+  pub life : LifeState
+  pub is : (state_after opening s.log).life ≡ Some life
+  pub unblown : life.blown ≡ false
+  pub handed : life.handed ≡ is_handed s
+
+module _ (s : Seen) (opening : List Op) (k : StandsFor opening s) where
+  pub told_life : stands s ≡ true → LifeTold opening s
+  told_life alive =
+      record {
+        life = life_in k.history s.tables;
+        is = ap (λ (m : Manager). m.life) (k.same ∙ told_standing k.history s.tables alive);
+        unblown = unblown_of k.history s.tables k.phase alive;
+        handed = refl;
+      }
+
+  -- where none stands, none does there
+  pub told_none : stands s ≡ false → (state_after opening s.log).life ≡ None
+  told_none dead = ap (λ (m : Manager). m.life) k.same ∙ rw dead refl

@@ -1,0 +1,69 @@
+-- The manager's tables after a log: its own way, entry by entry, of which the judge knows nothing. A log tells which queue each of its
+-- entries came from, so that the two queues after it can be read off it.
+use Rattle.std.specs.Prelude.{ℕ, ◌+◌, List, [], ◌∷◌, fold}
+use Rattle.std.specs.declared.alloc.Global.{Global}
+use Rattle.rm_types.specs.declared.entries.Entry.{Entry}
+use Rattle.rm_types.specs.declared.entries.Entry.TheVariants.{Absorbed, Accepted, Blown, Down, Ended, Handed, Issued, Kept, Opened, Ordered, Pass, Queued, Quiet, Served, Settled}
+use Rattle.rm_types.specs.declared.messages.Lane.{Lane}
+use Rattle.rm_types.specs.declared.messages.Lane.TheVariants.{Main, Sched}
+use Rattle.rm_types.specs.declared.messages.Message.{Message}
+use Rattle.rm_types.specs.declared.messages.Message.TheVariants.{Client as FromClient}
+use Rattle.rm_types.specs.declared.operations.Op.{Op}
+use Rattle.rm_types.specs.declared.replies.Reply.{Reply}
+use Rattle.rm_types.specs.declared.settings.Settings.{Settings}
+use Rattle.rm_types.specs.Records.{records}
+use Rattle.rm_tables.specs.declared.events.MainEvent.{MainEvent}
+use Rattle.rm_tables.specs.declared.events.SchedEvent.{SchedEvent}
+use Rattle.rm_tables.specs.declared.tables.Tables.{Tables}
+use Rattle.rm_tables.specs.Actions.{main_worked, sched_worked}
+use Rattle.rm_tables.specs.KeptOps.{kept}
+use Rattle.rm_tables.specs.Lives.{begun, gone_down, handed_out, no_life, refused}
+use Rattle.rm_tables.specs.MainEvents.{main_step}
+use Rattle.rm_tables.specs.SchedEvents.{sched_step}
+use Rattle.rm_client.specs.Answers.{after_client}
+
+-- before the first life, over a store that holds these operations
+abbrev pub unopened : Global → Settings → List Op → Tables
+unopened alloc settings opening = record (no_life alloc settings) { tree = records opening }
+
+-- the first event of the main queue is worked off, and of the scheduler's, where there is one
+abbrev pub main_moved : List MainEvent → Tables → Tables
+main_moved [] t = t
+main_moved (event ∷ rest) t = (main_worked (main_step event t)).1
+
+abbrev pub sched_moved : List SchedEvent → Tables → Tables
+sched_moved [] t = t
+sched_moved (event ∷ rest) t = (sched_worked (sched_step event t)).1
+
+-- an event of a queue had nothing to do
+abbrev pub quiet_moved : Lane → Tables → Tables
+quiet_moved Main t = main_moved t.main t
+quiet_moved Sched t = sched_moved t.sched t
+quiet_moved _ t = t
+
+-- a message was answered, and is counted; those of others than clients come in later
+abbrev pub served_moved : Message → Reply → Tables → Tables
+served_moved (FromClient user ask) reply t = record (after_client ask reply t) { served = t.served + 1 }
+served_moved _ reply t = t
+
+-- the tables after one more entry
+abbrev pub tables_moved : Tables → Entry → Tables
+tables_moved t (Opened landed epoch stamp) = begun t.tree stamp t
+tables_moved t (Issued op) = main_moved t.main t
+tables_moved t Handed = handed_out t
+tables_moved t (Kept op) = kept op t
+tables_moved t (Blown passed) = refused t
+tables_moved t (Served sender message reply) = served_moved message reply t
+tables_moved t (Accepted app) = main_moved t.main t
+tables_moved t (Queued attempt) = sched_moved t.sched t
+tables_moved t (Absorbed node taken ended) = sched_moved t.sched t
+tables_moved t (Pass node grants) = sched_moved t.sched t
+tables_moved t (Ordered container node) = main_moved t.main t
+tables_moved t (Ended cause list) = sched_moved t.sched t
+tables_moved t Settled = t
+tables_moved t Down = gone_down t
+tables_moved t (Quiet lane) = quiet_moved lane t
+
+-- the tables after a log over a store that held the opening list
+abbrev pub tables_after : Global → Settings → List Op → List Entry → Tables
+tables_after alloc settings opening log = fold tables_moved (unopened alloc settings opening) log

@@ -1,0 +1,53 @@
+-- The words in which a layer above speaks of a manager, whatever its tables are.
+use Rattle.std.specs.Prelude.{◌≡◌, ℕ, [], Bool, false, Option}
+use Rattle.rm_types.specs.declared.messages.Lane.{Lane}
+use Rattle.rm_types.specs.declared.messages.Message.{Message}
+use Rattle.rm_types.specs.declared.operations.Op.{Op}
+use Rattle.rm_tables.specs.Lives.{is_ready, may_go_down}
+use Rattle.rm_facts.specs.Weights.{weight}
+use Rattle.rm_core.specs.Seen.{Seen, handed_op}
+use Rattle.rm_core.specs.Serving.{IsBuiltMessage}
+
+-- a life stands
+abbrev pub stands : Seen → Bool
+stands seen = seen.tables.alive
+
+-- an operation is with the store
+abbrev pub is_handed : Seen → Bool
+is_handed seen = seen.tables.handed
+
+-- so many messages were served in the life that stands
+abbrev pub served_in : Seen → ℕ
+served_in seen = seen.tables.served
+
+-- at most so many messages are served in a life
+abbrev pub most_served : ℕ
+most_served = 100000
+
+-- the message is of a kind that is served so far, and its parts are in their ranges
+abbrev pub IsServable : Message → Type 0
+IsServable message = IsBuiltMessage message
+
+-- the manager has something to do in this lane
+abbrev pub ready_at : Seen → Lane → Bool
+ready_at seen lane = is_ready seen.tables lane
+
+-- the life that stands may go down
+abbrev pub can_go_down : Seen → Bool
+can_go_down seen = may_go_down seen.tables
+
+-- nothing is left to do in either queue, nothing awaits, and nothing is with the store
+abbrev pub has_rest : Seen → Type 0
+has_rest seen = (seen.tables.main ≡ []) × (seen.tables.sched ≡ []) × (seen.tables.awaiting ≡ []) × (seen.tables.handed ≡ false)
+
+-- how much is left to do before all is at rest
+abbrev pub weight_of : Seen → ℕ
+weight_of seen = weight seen.tables
+
+-- a message that is served adds so much to it at most
+abbrev pub message_weight : ℕ
+message_weight = 20
+
+-- the operation that is with the store, where one is
+abbrev pub handed_of : Seen → Option Op
+handed_of seen = handed_op seen.tables

@@ -1,0 +1,68 @@
+-- A life of the script begins.
+use Rattle.std.proofs.Common.{◌≡◌, ◌≢◌, ℕ, ◌+◌, ◌≤◌, max, List, [], ◌∷◌, ◌++◌, true, false, Some, None, Option, refl, sym, ◌∙◌, ap, subst, arith}
+use Rattle.std.specs.Prelude.{slice_get}
+use Rattle.std.proofs.lemmas.List.{append-nil}
+use Rattle.rm_types.specs.declared.entries.Entry.{Entry}
+use Rattle.rm_types.specs.declared.entries.Entry.TheVariants.{Opened}
+use Rattle.rm_types.specs.declared.operations.Op.{Op}
+use Rattle.rm_types.specs.declared.scripts.Life.{Life}
+use Rattle.rm_types.specs.declared.scripts.Segment.{Segment}
+use Rattle.rm_types.specs.Records.{Records, records}
+use Rattle.rm_model.specs.Changes.{kept_after_landing}
+use Rattle.rm_model.specs.Lawful.{state_after}
+use Rattle.rm_model.specs.Place.{Begins as BeginsAt, Place, begun, moved, stamp_of}
+use Rattle.rm_core.specs.Adds.{AmountsTo}
+use Rattle.rm_core.specs.Seen.{Seen, StandsFor}
+use Rattle.rm_core.specs.Words.{most_served, served_in, stands}
+use Rattle.rm_desk.specs.View.{DeskView}
+use Rattle.rm_desk.specs.Scripts.{AllLive, CanFollow, EndsInCrash, messages_in}
+use Rattle.rm_desk.specs.Runs.{IsSound}
+use Rattle.rm_desk.specs.Does.{Begins}
+use Rattle.rm_desk.proofs.Longer.{one_more}
+
+-- the next life can begin: its stamp is in its range
+pub next_stamp : (d : DeskView) → IsSound d → (lives : List Life) → d.place.lives ≡ lives → (life : Life) → slice_get lives 0 ≡ Some life → (1 ≤ life.stamp) × (life.stamp ≤ 1000000000000000)
+next_stamp d h [] e life first = cc
+next_stamp d h (one ∷ more) e life first =
+    let same : one ≡ life = cc in
+    let can : AllLive (life ∷ more) = subst (λ (x : Life). AllLive (x ∷ more)) same (subst AllLive e h.lives) in
+    (can.0.low, can.0.high)
+
+module _ (d : DeskView) (new : Seen) (place : Place) (h : IsSound d) (tree : Records) (settings : new.settings ≡ d.core.settings)
+    (lawful : (opening : List Op) → StandsFor opening d.core → AmountsTo tree opening d.core → StandsFor opening new)
+    (stood : stands d.core ≡ false) (standing : stands new ≡ true) (count : served_in new ≡ 0) (life : Life)
+    (added : new.log ≡ d.core.log ++ Opened 0 tree.next_epoch (stamp_of life tree.stamp) ∷ []) where
+  -- it begins over what is kept
+  pub begin_does : (more : List Life) → d.place.lives ≡ life ∷ more → place ≡ begun d.place.lives d.place → Begins tree d (record { core = new; place = place })
+  begin_does more whole p =
+      let can : AllLive (life ∷ more) = subst AllLive whole h.lives in
+      let q : place ≡ record { lives = more; segments = life.segments } = p ∙ ap (λ (xs : List Life). begun xs d.place) whole in
+      let lives : place.lives ≡ more = ap (λ (x : Place). x.lives) q in
+      let segments : place.segments ≡ life.segments = ap (λ (x : Place). x.segments) q in
+      let has : messages_in place.segments ≡ messages_in life.segments = ap messages_in segments in
+      let total : served_in new + messages_in place.segments ≡ messages_in life.segments = omega (arith, has, count) in
+      let head : slice_get d.place.lives 0 ≡ Some life = ap (λ (xs : List Life). slice_get xs 0) whole in
+      let entry = Opened 0 tree.next_epoch (stamp_of life tree.stamp) in
+      record {
+        adds = record { entry = entry; of_kind = (life, head, refl); added = added; place = p };
+        goes = record {
+          sound = record {
+            lives = subst AllLive (sym lives) can.2;
+            segments = subst CanFollow (sym segments) can.0.segments;
+            between = λ a. let x = standing in cc;
+            ends = λ a others. subst EndsInCrash (sym segments) (can.1 (rw (← lives) others));
+            served = λ a. rw total can.0.few;
+          };
+          settings = settings;
+          lawful = λ opening amounts k. lawful opening k amounts;
+          run = λ opening script amounts run.
+              let s = state_after opening d.core.log in
+              let kept : kept_after_landing s 0 ≡ s.kept = append-nil s.kept in
+              let stamp : stamp_of life tree.stamp ≡ stamp_of life (records (kept_after_landing s 0)).stamp =
+              ap (λ (n : ℕ). stamp_of life n) (ap (λ (r : Records). r.stamp) amounts ∙ sym (ap (λ (ops : List Op). (records ops).stamp) kept)) in
+              let isnext : BeginsAt s d.place 0 (stamp_of life tree.stamp) = record { life = life; more = more; next = whole; at_end = h.between stood; stamped = stamp } in
+              one_more opening script d (record { core = new; place = place }) entry run (lawful opening run.stands amounts) added p isnext;
+        };
+        stood = stood;
+        standing = standing;
+      }

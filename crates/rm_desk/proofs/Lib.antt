@@ -1,0 +1,5 @@
+pub mod Words
+pub mod Longer
+pub mod Moving
+pub mod Beginning
+pub mod Resting

@@ -1,0 +1,275 @@
+-- The moves of a desk, each a longer run, with less left.
+use Rattle.std.proofs.Common.{◌≡◌, ◌≢◌, ℕ, ◌+◌, ◌*◌, ◌<◌, ◌≤◌, List, [], ◌∷◌, ◌++◌, Bool, true, false, ◌&&◌, Some, None, Option, Ok, Err, Result, length, refl, sym, ◌∙◌, ap, subst, arith, drop}
+use Rattle.std.specs.Prelude.{OnOk, slice_get}
+use Rattle.std.specs.List.{sum_by}
+use Rattle.std.proofs.lemmas.List.Sums.{sum_by-cons}
+use Rattle.rm_types.specs.declared.entries.Entry.{Entry}
+use Rattle.rm_types.specs.declared.entries.Entry.TheVariants.{Handed, Kept, Served, Settled, Down}
+use Rattle.rm_types.specs.declared.messages.Lane.{Lane}
+use Rattle.rm_types.specs.declared.messages.Lane.TheVariants as lanes
+use Rattle.rm_types.specs.declared.messages.Message.{Message}
+use Rattle.rm_types.specs.declared.messages.Message.TheVariants.{Client as FromClient, Master as FromMaster, Node as FromNode, Clock as FromClock}
+use Rattle.rm_types.specs.declared.messages.Sender.{Sender}
+use Rattle.rm_types.specs.declared.operations.Op.{Op}
+use Rattle.rm_types.specs.declared.replies.Reply.{Reply}
+use Rattle.rm_types.specs.declared.scripts.Close.{Close}
+use Rattle.rm_types.specs.declared.scripts.Close.TheVariants.{Settle, Crash}
+use Rattle.rm_types.specs.declared.scripts.Life.{Life}
+use Rattle.rm_types.specs.declared.scripts.Segment.{Segment}
+use Rattle.rm_types.specs.Lanes.{sender_of}
+use Rattle.rm_types.specs.Lists.{is_nil}
+use Rattle.rm_model.specs.State.{Manager}
+use Rattle.rm_model.specs.Lawful.{state_after}
+use Rattle.rm_model.specs.Place.{Crashes, IsNext, Place, Settles, close_left, first_from, is_from, messages_left, moved, rest_of, segments_without, without_first}
+use Rattle.rm_core.specs.Adds.{Does as CoreDoes, GoesOnFrom, IsOf, IsOfMain, IsOfSched, Stands, Weighs, served_after}
+use Rattle.rm_tables.specs.declared.events.Refused.{Refused}
+use Rattle.rm_core.specs.declared.manager.Move.{Move}
+use Rattle.rm_core.specs.Seen.{Seen, StandsFor}
+use Rattle.rm_core.specs.Words.{IsServable, can_go_down, handed_of, has_rest, message_weight, most_served, ready_at, served_in, stands, weight_of}
+use Rattle.rm_desk.specs.declared.feeds.Feeds.{Feeds}
+use Rattle.rm_desk.specs.View.{DeskView}
+use Rattle.rm_desk.specs.Scripts.{AllLive, CanFollow, Closes, EndsInCrash, messages_in}
+use Rattle.rm_desk.specs.Lanes.{IsWork, may_close, stands_after}
+use Rattle.rm_desk.specs.Feeds.{IsEntered, at, current_in, place_of}
+use Rattle.rm_desk.specs.Runs.{IsRun, IsSound, left, segment_cost}
+use Rattle.rm_desk.specs.Does.{AddsOne, Does, GoesOver, IsEntryOf}
+use Rattle.rm_desk.proofs.Longer.{IsOwn, IsSilent, kept_silent, main_lane, one_more, own_silent, sched_lane}
+use Rattle.rm_desk.proofs.Words.{both, nil_is, rest_idle}
+
+-- the place where the current segment is left behind
+abbrev pub behind : Feeds → Place
+behind f = record { lives = f.lives; segments = f.segments }
+
+-- where no segment is left none is current
+none_current : (close : Option Close) (feed : List Message) (segments : List Segment) → current_in close feed ++ segments ≡ [] → close ≡ None
+none_current None feed segments e = refl
+none_current (Some close) feed segments e = cc
+
+-- how the feeds show the current segment
+pub feed_is : (f : Feeds) → IsEntered f → (close : Option Close) → f.close ≡ close → messages_left (place_of f).segments ≡ f.feed
+feed_is f entered None e = let none = entered e in rw (e, none.0, none.1) refl
+feed_is f entered (Some close) e = rw e refl
+
+pub close_is : (f : Feeds) → IsEntered f → (close : Option Close) → f.close ≡ close → close_left (place_of f).segments ≡ close
+close_is f entered None e = let none = entered e in rw (e, none.0) refl
+close_is f entered (Some close) e = rw e refl
+
+-- a move of which the script says nothing, made or refused
+module _ (lane : Lane) (old new : Seen) (place : Place) (h : IsSound (record { core = old; place = place })) (m : Move)
+    (silent : (e : Entry) → IsOf m old.tables e → IsSilent e × IsEntryOf lane (record { core = old; place = place }) e) (from : (opening : List Op) → GoesOnFrom m opening old) where
+  pub silent_does : (r : Result (Unit {0}) Refused) → IsWork lane → stands_after lane (close_left place.segments) ≡ true → ready_at old lane ≡ true
+      → OnOk r (CoreDoes m old new) → (Weighs m (weight_of old) (weight_of new) → weight_of new < weight_of old) → (Stands m (stands old) (stands new) → (stands old ≡ true) × (stands new ≡ true))
+      → served_after m (served_in old) ≡ served_in old → OnOk r (Does lane (record { core = old; place = place }) (record { core = new; place = place }))
+  silent_does (Err e) work behind ready does less lives same = tt
+  silent_does (Ok x) work behind ready does less lives same =
+      let adds = does.added in
+      let quiet = silent adds.entry adds.of_move in
+      let alive = lives does.stands in
+      let weighs = less does.weighs in
+      let count = does.served ∙ same in
+      record {
+        adds = record { entry = adds.entry; of_kind = quiet.1; added = adds.added; place = sym (quiet.0.stays place) };
+        goes = record {
+          sound = record {
+            lives = h.lives;
+            segments = h.segments;
+            between = λ a. let x = alive.1 in cc;
+            ends = λ a more. h.ends alive.0 more;
+            served = λ a. rw count (h.served alive.0);
+          };
+          settings = does.settings;
+          lawful = λ opening over k. does.lawful opening k (from opening);
+          run = λ opening script over run.
+              one_more opening script (record { core = old; place = place }) (record { core = new; place = place }) adds.entry run (does.lawful opening run.stands (from opening)) adds.added
+              (sym (quiet.0.stays place)) (quiet.0.next (state_after opening old.log) place);
+        };
+        less = omega (arith, weighs);
+        stood = alive.0;
+        standing = alive.1 ∙ sym behind;
+        busy = λ w rest. rest_idle old rest lane work ready;
+        settled = λ is. absurd (subst IsWork is work);
+      }
+
+-- the entries of which it says nothing
+pub main_entry : (d : DeskView) (e : Entry) → IsOfMain e → IsSilent e × IsEntryOf lanes.Main d e
+main_entry d e is = let lane = main_lane e is in (own_silent e (subst IsOwn (sym lane) tt), lane)
+
+pub sched_entry : (d : DeskView) (e : Entry) → IsOfSched e → IsSilent e × IsEntryOf lanes.Sched d e
+sched_entry d e is = let lane = sched_lane e is in (own_silent e (subst IsOwn (sym lane) tt), lane)
+
+pub hand_entry : (d : DeskView) (e : Entry) → e ≡ Handed → IsSilent e × IsEntryOf lanes.Hand d e
+hand_entry d e is = (subst IsSilent (sym is) (own_silent Handed tt), is)
+
+pub kept_entry : (d : DeskView) (e : Entry) → (op : Op) × (handed_of d.core ≡ Some op) × (e ≡ Kept op) → IsSilent e × IsEntryOf lanes.Write d e
+kept_entry d e is = (subst IsSilent (sym is.2) (kept_silent is.0), is)
+
+-- a message that is served is a client's, and is its own sender's
+is_from_own : (m : Message) → IsServable m → is_from (sender_of m) m ≡ true
+is_from_own (FromClient user ask) h = refl
+is_from_own (FromMaster attempt ask) h = absurd h
+is_from_own (FromNode node ask) h = absurd h
+is_from_own (FromClock ask) h = absurd h
+
+-- the first of a sender's messages is taken
+without_own : (sender : Sender) (m : Message) (more : List Message) → is_from sender m ≡ true → without_first sender (m ∷ more) ≡ more
+without_own sender m more h = rw (h, without_first) refl
+
+-- the first of a list
+pub first_of : {X : Type 0} (xs : List X) (x : X) → slice_get xs 0 ≡ Some x → (more : List X) × (xs ≡ x ∷ more)
+first_of [] x h = cc
+first_of (one ∷ more) x h = let same : one ≡ x = cc in (more, ap (λ y. y ∷ more) same)
+
+-- a segment is current where its feed has a message
+pub fed_in : (f : Feeds) → IsEntered f → (m : Message) (more : List Message) → f.feed ≡ m ∷ more → (close : Option Close) → f.close ≡ close → (is : Close) × (f.close ≡ Some is)
+fed_in f entered m more e None c = absurd (let x = sym e ∙ (entered c).1 in cc)
+fed_in f entered m more e (Some close) c = (close, c)
+
+module _ (f : Feeds) (close : Close) (c : f.close ≡ Some close) (m : Message) (more : List Message) (e : f.feed ≡ m ∷ more) where
+  fed : (place_of f).segments ≡ record { messages = m ∷ more; close = close } ∷ f.segments
+  fed = rw (c, e) refl
+
+  fed_messages : messages_in (place_of f).segments ≡ length more + 1 + messages_in f.segments
+  fed_messages = ap messages_in fed ∙ sum_by-cons (λ (x : Segment). length x.messages) (record { messages = m ∷ more; close = close }) f.segments ∙ omega arith
+
+  -- the first message of the feed can be served
+  pub first_served : (core : Seen) → IsSound (at core f) → stands core ≡ true → IsServable m × (served_in core < most_served)
+  first_served core h alive =
+      let sound : CanFollow (record { messages = m ∷ more; close = close } ∷ f.segments) = subst CanFollow fed h.segments in
+      (sound.0.0, let n = h.served alive in let were = fed_messages in omega (arith, n, were))
+
+-- segments end in a crash whatever messages are left of the first
+ends_on : (m : Message) (more : List Message) (close : Close) (after : List Segment) → EndsInCrash (record { messages = m ∷ more; close = close } ∷ after)
+    → EndsInCrash (record { messages = more; close = close } ∷ after)
+ends_on m more close [] h = h
+ends_on m more close (next ∷ after) h = h
+
+ends_after : (after : List Segment) → EndsInCrash (record { messages = []; close = Settle } ∷ after) → EndsInCrash after
+ends_after [] e = absurd e
+ends_after (one ∷ after) e = e
+
+module _ (old new : Seen) (f : Feeds) (h : IsSound (at old f)) (entered : IsEntered f) (settings : new.settings ≡ old.settings)
+    (lawful : (opening : List Op) → StandsFor opening old → StandsFor opening new) where
+  -- the first message of the feed is answered
+  pub serve_does : (close : Close) → f.close ≡ Some close → (m : Message) (more : List Message) → f.feed ≡ m ∷ more → (reply : Reply)
+      → new.log ≡ old.log ++ Served (sender_of m) m reply ∷ [] → weight_of new ≤ weight_of old + message_weight → (stands old ≡ true) × (stands new ≡ true)
+      → served_in new ≡ served_in old + 1 → (rest : List Message) → rest ≡ more → Does lanes.Client (at old f) (at new (record f { feed = rest }))
+  serve_does close c m more e reply added weighs alive count rest is =
+      let d = at old f in
+      let next = at new (record f { feed = rest }) in
+      let before : d.place.segments ≡ record { messages = m ∷ more; close = close } ∷ f.segments = fed f close c m more e in
+      let after : next.place.segments ≡ record { messages = more; close = close } ∷ f.segments = rw (c, is) refl in
+      let sound : CanFollow (record { messages = m ∷ more; close = close } ∷ f.segments) = subst CanFollow before h.segments in
+      let own = is_from_own m sound.0.0 in
+      let isnext : first_from (sender_of m) (messages_left d.place.segments) ≡ Some m = rw (before, own) refl in
+      let head : slice_get (messages_left d.place.segments) 0 ≡ Some m = ap (λ (x : List Segment). slice_get (messages_left x) 0) before in
+      let entry = Served (sender_of m) m reply in
+      let taken : segments_without (sender_of m) d.place.segments ≡ record { messages = more; close = close } ∷ f.segments =
+      ap (segments_without (sender_of m)) before
+      ∙ ap (λ (x : List Message). record { messages = x; close = close } ∷ f.segments) (without_own (sender_of m) m more own) in
+      let place : next.place ≡ moved d.place entry = ap (λ (x : List Segment). record { lives = f.lives; segments = x }) (after ∙ sym taken) in
+      let cost : sum_by segment_cost d.place.segments ≡ 1 + (message_weight + 1) * (length more + 1) + sum_by segment_cost f.segments =
+      ap (λ (x : List Segment). sum_by segment_cost x) before ∙ sum_by-cons segment_cost (record { messages = m ∷ more; close = close }) f.segments ∙ omega arith in
+      let costs : sum_by segment_cost next.place.segments ≡ 1 + (message_weight + 1) * length more + sum_by segment_cost f.segments =
+      ap (λ (x : List Segment). sum_by segment_cost x) after ∙ sum_by-cons segment_cost (record { messages = more; close = close }) f.segments in
+      let were = fed_messages f close c m more e in
+      let are : messages_in next.place.segments ≡ length more + messages_in f.segments =
+      ap messages_in after ∙ sum_by-cons (λ (x : Segment). length x.messages) (record { messages = more; close = close }) f.segments in
+      record {
+        adds = record { entry = entry; of_kind = (m, reply, head, refl); added = added; place = place };
+        goes = record {
+          sound = record {
+            lives = h.lives;
+            segments = subst CanFollow (sym after) (sound.0.1, sound.1, sound.2);
+            between = λ a. let x = alive.1 in cc;
+            ends = λ a others. subst EndsInCrash (sym after) (ends_on m more close f.segments (subst EndsInCrash before (h.ends alive.0 others)));
+            served = λ a. let n = h.served alive.0 in omega (arith, n, were, are, count);
+          };
+          settings = settings;
+          lawful = λ opening over k. lawful opening k;
+          run = λ opening script over run. one_more opening script d next entry run (lawful opening run.stands) added place isnext;
+        };
+        less = omega (arith, weighs, cost, costs);
+        stood = alive.0;
+        standing = alive.1;
+        busy = λ work. absurd work;
+        settled = λ no. cc;
+      }
+
+  -- the current segment settles
+  pub settle_does : (g : Feeds) → f.close ≡ Some Settle → f.feed ≡ [] → new.log ≡ old.log ++ Settled ∷ [] → weight_of new ≤ weight_of old
+      → (stands old ≡ true) × (stands new ≡ true) → served_in new ≡ served_in old → place_of g ≡ behind f → has_rest new → Does lanes.End (at old f) (at new g)
+  settle_does g c none added weighs alive count p rest =
+      let d = at old f in
+      let next = at new g in
+      let before : d.place.segments ≡ record { messages = []; close = Settle } ∷ f.segments = rw (c, none) refl in
+      let follows : CanFollow (record { messages = []; close = Settle } ∷ f.segments) = subst CanFollow before h.segments in
+      let isnext : Settles d.place = record { none_left = ap messages_left before; closes = ap close_left before } in
+      let place : next.place ≡ moved d.place Settled = p ∙ ap (λ (s : List Segment). record { lives = f.lives; segments = rest_of s }) (sym before) in
+      let segments : next.place.segments ≡ f.segments = ap (λ (q : Place). q.segments) p in
+      let lives : next.place.lives ≡ f.lives = ap (λ (q : Place). q.lives) p in
+      let cost : sum_by segment_cost d.place.segments ≡ 1 + sum_by segment_cost f.segments =
+      ap (λ (s : List Segment). sum_by segment_cost s) before ∙ sum_by-cons segment_cost (record { messages = []; close = Settle }) f.segments in
+      let costs : sum_by segment_cost next.place.segments ≡ sum_by segment_cost f.segments = ap (λ (q : Place). sum_by segment_cost q.segments) p in
+      let were : messages_in d.place.segments ≡ messages_in f.segments =
+      ap messages_in before ∙ sum_by-cons (λ (s : Segment). length s.messages) (record { messages = []; close = Settle }) f.segments ∙ omega arith in
+      let are : messages_in next.place.segments ≡ messages_in f.segments = ap messages_in segments in
+      record {
+        adds = record { entry = Settled; of_kind = rw before refl; added = added; place = place };
+        goes = record {
+          sound = record {
+            lives = subst AllLive (sym lives) h.lives;
+            segments = subst CanFollow (sym segments) follows.2;
+            between = λ a. let x = alive.1 in cc;
+            ends = λ a others. subst EndsInCrash (sym segments) (ends_after f.segments (subst EndsInCrash before (h.ends alive.0 (rw (← lives) others))));
+            served = λ a. let n = h.served alive.0 in omega (arith, n, were, are, count);
+          };
+          settings = settings;
+          lawful = λ opening over k. lawful opening k;
+          run = λ opening script over run. one_more opening script d next Settled run (lawful opening run.stands) added place isnext;
+        };
+        less = omega (arith, weighs, cost, costs);
+        stood = alive.0;
+        standing = rw before alive.1;
+        busy = λ work. absurd work;
+        settled = λ end settles. rest;
+      }
+
+  -- the life goes down
+  pub down_does : (g : Feeds) (close : Option Close) → f.close ≡ close → close ≢ Some Settle → may_close (at old f) (close_left (place_of f).segments) ≡ true
+      → new.log ≡ old.log ++ Down ∷ [] → weight_of new ≤ weight_of old → (stands old ≡ true) × (stands new ≡ false) → place_of g ≡ behind f → Does lanes.End (at old f) (at new g)
+  down_does g None c unsettled ready added weighs alive p = let none = close_is f entered None c in absurd (let x = rw none at ready in cc)
+  down_does g (Some Settle) c unsettled ready added weighs alive p = absurd (unsettled refl)
+  down_does g (Some (Crash calls image)) c unsettled ready added weighs alive p =
+      let open_is : (can_go_down old && is_nil f.feed) ≡ true = rw c at ready in
+      let none = nil_is f.feed (both (can_go_down old) (is_nil f.feed) open_is).1 in
+      let d = at old f in
+      let next = at new g in
+      let before : d.place.segments ≡ record { messages = []; close = Crash calls image } ∷ f.segments = rw (c, none) refl in
+      let follows : CanFollow (record { messages = []; close = Crash calls image } ∷ f.segments) = subst CanFollow before h.segments in
+      let isnext : Crashes d.place = record { none_left = ap messages_left before; calls = calls; image = image; closes = ap close_left before } in
+      let place : next.place ≡ moved d.place Down = p ∙ ap (λ (s : List Segment). record { lives = f.lives; segments = rest_of s }) (sym before) in
+      let over : next.place.segments ≡ [] = ap (λ (q : Place). q.segments) p ∙ follows.1 in
+      let lives : next.place.lives ≡ f.lives = ap (λ (q : Place). q.lives) p in
+      let cost : sum_by segment_cost d.place.segments ≡ 1 + sum_by segment_cost f.segments =
+      ap (λ (s : List Segment). sum_by segment_cost s) before ∙ sum_by-cons segment_cost (record { messages = []; close = Crash calls image }) f.segments in
+      let costs : sum_by segment_cost next.place.segments ≡ sum_by segment_cost f.segments = ap (λ (q : Place). sum_by segment_cost q.segments) p in
+      record {
+        adds = record { entry = Down; of_kind = rw before refl; added = added; place = place };
+        goes = record {
+          sound = record {
+            lives = subst AllLive (sym lives) h.lives;
+            segments = subst CanFollow (sym over) tt;
+            between = λ a. over;
+            ends = λ a others. let x = alive.1 in cc;
+            served = λ a. let x = alive.1 in cc;
+          };
+          settings = settings;
+          lawful = λ opening over_it k. lawful opening k;
+          run = λ opening script over_it run. one_more opening script d next Down run (lawful opening run.stands) added place isnext;
+        };
+        less = omega (arith, weighs, cost, costs);
+        stood = alive.0;
+        standing = rw before alive.1;
+        busy = λ work. absurd work;
+        settled = λ end settles. let no = sym (ap close_left before) ∙ settles in cc;
+      }

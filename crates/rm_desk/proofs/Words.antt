@@ -1,0 +1,140 @@
+-- What a desk uses of a manager beside the clauses of its calls, said in the words of the manager.
+use Rattle.std.proofs.Common.{◌≡◌, List, [], ◌∷◌, Bool, true, false, not, ◌&&◌, ◌||◌, None, Some, Option, if◌then◌else◌, refl, sym, ◌∙◌, ap, subst}
+use Rattle.rm_types.specs.declared.entries.Entry.{Entry}
+use Rattle.rm_types.specs.declared.messages.Lane.{Lane}
+use Rattle.rm_types.specs.declared.messages.Lane.TheVariants.{Client, Master, Node, Clock, Main, Sched, Hand, Write, End, Begin}
+use Rattle.rm_types.specs.declared.operations.Op.{Op}
+use Rattle.rm_types.specs.Lists.{is_nil}
+use Rattle.rm_model.specs.State.{LifeState, Manager}
+use Rattle.rm_model.specs.Lawful.{IsAtRest, state_after}
+use Rattle.rm_core.specs.Seen.{Rests, Seen, StandsFor, handed_op}
+use Rattle.rm_core.specs.Words.{can_go_down, handed_of, has_rest, ready_at, stands}
+use Rattle.rm_core.proofs.Telling.{told_life, told_none}
+use Rattle.rm_desk.specs.Does.{HasHanded}
+use Rattle.rm_desk.specs.Lanes.{IsWork}
+use Rattle.rm_desk.specs.Runs.{IsUnblown}
+
+pub is_not : (b : Bool) → not b ≡ true → b ≡ false
+is_not true h = cc
+is_not false h = refl
+
+pub if_not : (b : Bool) → not b ≡ false → b ≡ true
+if_not true h = refl
+if_not false h = cc
+
+pub both : (a b : Bool) → (a && b) ≡ true → (a ≡ true) × (b ≡ true)
+both true b h = (refl, h)
+both false b h = cc
+
+pub nil_is : {X : Type 0} (xs : List X) → is_nil xs ≡ true → xs ≡ []
+nil_is [] h = refl
+nil_is (x ∷ xs) h = cc
+
+nil_unless : {X : Type 0} (xs : List X) → not (is_nil xs) ≡ false → xs ≡ []
+nil_unless [] h = refl
+nil_unless (x ∷ xs) h = cc
+
+some_if : {X : Type 0} (b : Bool) (x : Option X) (y : X) → (if b then x else None) ≡ Some y → b ≡ true
+some_if true x y h = refl
+some_if false x y h = cc
+
+module _ (s : Seen) where
+  -- a life stands where a message may be served, and where an operation is with the store
+  pub client_stands : ready_at s Client ≡ true → stands s ≡ true
+  client_stands h = (both s.tables.alive (s.tables.is_open || s.tables.blown) h).0
+
+  pub write_stands : ready_at s Write ≡ true → stands s ≡ true
+  write_stands h = (both s.tables.alive s.tables.handed h).0
+
+  -- a life may begin where none stands
+  pub begin_down : ready_at s Begin ≡ not (stands s)
+  begin_down = refl
+
+  -- an operation is with the store where the lane of the store is ready
+  pub handed_ready : (op : Op) → handed_of s ≡ Some op → ready_at s Write ≡ true
+  handed_ready op h = some_if (s.tables.alive && s.tables.handed) _ op h
+
+  -- a segment may settle where nothing is left to do
+  pub end_rests : ready_at s End ≡ true → Rests s → has_rest s
+  end_rests ready rests =
+      let t = s.tables in
+      let parts = both t.alive (is_nil t.main && (is_nil t.sched && is_nil t.awaiting)) ready in
+      let queues = both (is_nil t.main) (is_nil t.sched && is_nil t.awaiting) parts.1 in
+      let lists = both (is_nil t.sched) (is_nil t.awaiting) queues.1 in
+      let main = nil_is t.main queues.0 in
+      let sched = nil_is t.sched lists.0 in
+      let awaiting = nil_is t.awaiting lists.1 in
+      (main, sched, awaiting, (rests.left main sched (λ a. awaiting)).none_handed parts.0)
+
+  -- where both may be, nothing is left to do in a life that stands
+  pub both_rest : ready_at s End ≡ true → can_go_down s ≡ true → (stands s ≡ true) × has_rest s
+  both_rest ready down =
+      let t = s.tables in
+      let parts = both t.alive (is_nil t.main && (is_nil t.sched && is_nil t.awaiting)) ready in
+      let queues = both (is_nil t.main) (is_nil t.sched && is_nil t.awaiting) parts.1 in
+      let lists = both (is_nil t.sched) (is_nil t.awaiting) queues.1 in
+      (parts.0, (nil_is t.main queues.0, nil_is t.sched lists.0, nil_is t.awaiting lists.1, is_not t.handed (both t.alive (not t.handed) down).1))
+
+  -- where nothing is left to do in a life that stands, it may settle or go down, and it is open
+  pub rest_ends : stands s ≡ true → has_rest s → ready_at s End ≡ true
+  rest_ends alive h = rw (alive, h.0, h.1, h.2) refl
+
+  pub rest_down : stands s ≡ true → has_rest s → can_go_down s ≡ true
+  rest_down alive h = rw (alive, h.3) refl
+
+  pub rest_open : stands s ≡ true → has_rest s → Rests s → ready_at s Client ≡ true
+  rest_open alive h rests = rw (alive, (rests.left h.0 h.1 (λ a. h.2)).is_open alive) refl
+
+  -- and none of the lanes of its work is ready
+  pub rest_idle : has_rest s → (lane : Lane) → IsWork lane → ready_at s lane ≡ true → ⊥
+  rest_idle h Main work ready = let none = h.0 in let x = rw none at ready in cc
+  rest_idle h Sched work ready = let none = h.1 in let x = rw none at ready in cc
+  rest_idle h Hand work ready =
+      let t = s.tables in
+      let none = h.2 in
+      let some = (both (not (is_nil t.awaiting)) (not t.handed && not t.blown) (both t.alive (not (is_nil t.awaiting) && (not t.handed && not t.blown)) ready).1).0 in
+      let x = rw none at some in
+      cc
+  rest_idle h Write work ready = let handed = (both s.tables.alive s.tables.handed ready).1 in let none = h.3 in cc
+  rest_idle h Client work ready = absurd work
+  rest_idle h Master work ready = absurd work
+  rest_idle h Node work ready = absurd work
+  rest_idle h Clock work ready = absurd work
+  rest_idle h End work ready = absurd work
+  rest_idle h Begin work ready = absurd work
+
+  -- where none of them is ready in a life that stands, nothing is left to do
+  pub idle_rests : stands s ≡ true → Rests s → ready_at s Main ≡ false → ready_at s Sched ≡ false → ready_at s Hand ≡ false → ready_at s Write ≡ false → has_rest s
+  idle_rests alive rests main sched hand write =
+      let t = s.tables in
+      let handed : t.handed ≡ false = rw alive at write in
+      let awaits : not (is_nil t.awaiting) ≡ false = by (not (is_nil t.awaiting)) refl (let unblown = rests.unblown alive in rw (alive, handed, unblown) at hand) in
+      (nil_unless t.main main, nil_unless t.sched sched, nil_unless t.awaiting awaits, handed)
+    where
+      by : (b : Bool) → not (is_nil s.tables.awaiting) ≡ b → (b && true) ≡ false → not (is_nil s.tables.awaiting) ≡ false
+      by true e h = cc
+      by false e h = e
+
+  -- nothing is owed there
+  pub rest_owes : has_rest s → Rests s → (opening : List Op) → StandsFor opening s → IsAtRest s.settings (state_after opening s.log) (state_after opening s.log).life
+  rest_owes h rests = (rests.left h.0 h.1 (λ a. h.2)).at_rest
+
+  module _ (opening : List Op) (k : StandsFor opening s) where
+    -- a life that stands does so in the state after the log, and wasn't blown
+    pub life_stands : stands s ≡ true → IsUnblown (state_after opening s.log).life
+    life_stands alive = let told = told_life s opening k alive in subst IsUnblown (sym told.is) told.unblown
+
+    -- an operation that is with the store is so there
+    pub life_handed : ready_at s Write ≡ true → HasHanded (state_after opening s.log).life
+    life_handed ready =
+        let parts = both s.tables.alive s.tables.handed ready in
+        let told = told_life s opening k parts.0 in
+        subst HasHanded (sym told.is) (told.handed ∙ parts.1)
+
+    -- and where none stands, none does there
+    pub life_none : stands s ≡ false → (state_after opening s.log).life ≡ None
+    life_none dead = told_none s opening k dead
+
+-- what stays as it was has nothing left to do
+pub rest_stays : (old new : Seen) → new.tables ≡ old.tables → has_rest old → has_rest new
+rest_stays old new same h = rw same h

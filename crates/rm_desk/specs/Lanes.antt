@@ -1,0 +1,50 @@
+-- Which lanes of a desk are ready.
+use Rattle.std.specs.Prelude.{Bool, true, false, ◌&&◌, not, Option, None, Some}
+use Rattle.rm_types.specs.declared.messages.Lane.{Lane}
+use Rattle.rm_types.specs.declared.messages.Lane.TheVariants.{Client, Master, Node, Clock, Main, Sched, Hand, Write, End, Begin}
+use Rattle.rm_types.specs.declared.scripts.Close.{Close}
+use Rattle.rm_types.specs.declared.scripts.Close.TheVariants.{Settle, Crash}
+use Rattle.rm_types.specs.Lists.{is_nil}
+use Rattle.rm_model.specs.Place.{close_left, messages_left}
+use Rattle.rm_core.specs.Words.{can_go_down, ready_at, stands}
+use Rattle.rm_desk.specs.View.{DeskView}
+
+-- the current segment may close, where its feed is empty: it settles where nothing is left to do, and crashes where no
+-- operation is with the store
+abbrev pub may_close : DeskView → Option Close → Bool
+may_close d None = false
+may_close d (Some Settle) = ready_at d.core End && is_nil (messages_left d.place.segments)
+may_close d (Some (Crash calls image)) = can_go_down d.core && is_nil (messages_left d.place.segments)
+
+-- the manager is ready there, and the script is at it: a message is served where one is left in the feed, a segment closes
+-- where it may, and a life begins where one is left; the messages are those of clients so far
+abbrev pub is_ready_at : DeskView → Lane → Bool
+is_ready_at d Client = ready_at d.core Client && not (is_nil (messages_left d.place.segments))
+is_ready_at d Master = false
+is_ready_at d Node = false
+is_ready_at d Clock = false
+is_ready_at d Main = ready_at d.core Main
+is_ready_at d Sched = ready_at d.core Sched
+is_ready_at d Hand = ready_at d.core Hand
+is_ready_at d Write = ready_at d.core Write
+is_ready_at d End = may_close d (close_left d.place.segments)
+is_ready_at d Begin = not (stands d.core) && not (is_nil d.place.lives)
+
+-- the lanes that a desk moves by itself: not the store's, nor that in which a life begins over a store
+abbrev pub IsStep : Lane → Type 0
+IsStep Write = ⊥
+IsStep Begin = ⊥
+IsStep _ = Unit {0}
+
+-- the lanes of what the manager has left to do
+abbrev pub IsWork : Lane → Type 0
+IsWork Main = Unit {0}
+IsWork Sched = Unit {0}
+IsWork Hand = Unit {0}
+IsWork Write = Unit {0}
+IsWork _ = ⊥
+
+-- a life stands behind a lane's move, unless its segment crashed
+abbrev pub stands_after : Lane → Option Close → Bool
+stands_after End (Some (Crash calls image)) = false
+stands_after _ _ = true

@@ -1,0 +1,60 @@
+-- What holds of a desk between its moves.
+use Rattle.std.specs.Prelude.{◌≡◌, ◌≢◌, ℕ, ◌+◌, ◌*◌, ◌≤◌, List, [], true, false, Option, None, Some, length}
+use Rattle.std.specs.List.{sum_by}
+use Rattle.rm_types.specs.declared.entries.Entry.{Entry}
+use Rattle.rm_types.specs.declared.operations.Op.{Op}
+use Rattle.rm_types.specs.declared.scripts.Script.{Script}
+use Rattle.rm_types.specs.declared.scripts.Segment.{Segment}
+use Rattle.rm_model.specs.State.{LifeState, opening_state}
+use Rattle.rm_model.specs.Place.{Place, beginning}
+use Rattle.rm_model.specs.Lawful.{Follows, IsAtRest, place_after, state_after}
+use Rattle.rm_core.specs.Seen.{StandsFor}
+use Rattle.rm_core.specs.Words.{has_rest, message_weight, most_served, served_in, stands, weight_of}
+use Rattle.rm_desk.specs.View.{DeskView}
+use Rattle.rm_desk.specs.Scripts.{AllLive, CanFollow, EndsInCrash, messages_in}
+
+-- what is left of the script can be gone along: no segment is left between two lives, a life crashes where another follows
+-- it, and no more messages are left in it than may still be served
+pub record IsSound (d : DeskView) : Type 0 where
+  pub lives : AllLive d.place.lives
+  pub segments : CanFollow d.place.segments
+  pub between : stands d.core ≡ false → d.place.segments ≡ []
+  pub ends : stands d.core ≡ true → d.place.lives ≢ [] → EndsInCrash d.place.segments
+  pub served : stands d.core ≡ true → served_in d.core + messages_in d.place.segments ≤ most_served
+
+-- the log goes along the script, up to this place
+pub record GoesTo (opening : List Op) (script : Script) (log : List Entry) (place : Place) : Type 0 where
+  pub along : Follows (opening_state opening) (beginning script) log
+  pub at : place_after script log ≡ place
+
+-- over a store that held the opening list the log is one that a manager could have made, and it goes along the script up to
+-- the desk's place
+pub record IsRun (opening : List Op) (script : Script) (d : DeskView) : Type 0 where
+  pub stands : StandsFor opening d.core
+  pub along : GoesTo opening script d.core.log d.place
+
+-- the script is at its end, and where a life stands nothing is left to do
+pub record IsOver (d : DeskView) : Type 0 where
+  pub lives : d.place.lives ≡ []
+  pub segments : d.place.segments ≡ []
+  pub rest : stands d.core ≡ true → has_rest d.core
+
+-- a message costs at most its own move and those that it adds, and a segment one more
+abbrev pub segment_cost : Segment → ℕ
+segment_cost segment = 1 + (message_weight + 1) * length segment.messages
+
+-- at most so many moves are left in a life
+abbrev pub left : DeskView → ℕ
+left d = weight_of d.core + sum_by segment_cost d.place.segments
+
+-- a life that was not blown
+abbrev pub IsUnblown : Option LifeState → Type 0
+IsUnblown None = ⊥
+IsUnblown (Some life) = life.blown ≡ false
+
+-- what a desk tells of the state after its log: whether a life stands there, and that nothing is owed where nothing is left
+-- to do
+pub record Tells (opening : List Op) (d : DeskView) : Type 0 where
+  pub life : stands d.core ≡ true → IsUnblown (state_after opening d.core.log).life
+  pub none : stands d.core ≡ false → (state_after opening d.core.log).life ≡ None
+  pub at_rest : has_rest d.core → IsAtRest d.core.settings (state_after opening d.core.log) (state_after opening d.core.log).life

@@ -1,0 +1,222 @@
+ghost use Rattle.std.specs.Prelude.{◌≡◌, ◌↔◌, List, [], OnOk, OnErr, IsOk, IfOk, IfNone, IfSome, IsErrOf, IsTrue, true, false, not};
+ghost use Rattle.std.specs.Option.{option_copied};
+ghost use Rattle.rm_types.specs.declared.messages.Lane.{Lane};
+ghost use Rattle.rm_types.specs.declared.operations.Op.{Op as AnyOp};
+ghost use Rattle.rm_types.specs.declared.scripts.Script.{Script as AnyScript};
+ghost use Rattle.rm_types.specs.Ranges.{IsOperation};
+ghost use Rattle.rm_model.specs.Lawful.{IsDone, Lawful};
+ghost use Rattle.rm_model.specs.Place.{beginning, close_left};
+ghost use Rattle.rm_tables.specs.declared.events.Refused.{Refused};
+ghost use Rattle.rm_queues.specs.Rules.{KeepsRules};
+ghost use Rattle.rm_core.specs.Adds.{AmountsTo, CanBeginOver};
+ghost use Rattle.rm_core.specs.Seen.{IsToBeKept, StandsFor};
+ghost use Rattle.rm_core.specs.Words.{handed_of, has_rest, stands};
+ghost use Rattle.rm_desk.specs.Does.{Begins, Does, IsHanded};
+ghost use Rattle.rm_desk.specs.Lanes.{IsStep, is_ready_at};
+ghost use Rattle.rm_desk.specs.Runs.{IsOver, IsRun, IsSound, Tells};
+ghost use Rattle.rm_desk.specs.Scripts.{CanGoAlong};
+
+use crate::feeds::Feeds;
+use crate::moves::{advance, begin, kept};
+use rm_core::{Core, Refused};
+use rm_tree::Tree;
+use rm_types::{Close, Entry, Items, Lane, NoMemory, Op, Script, Settings};
+use std::alloc::Global;
+use std::marker::Model;
+
+/// The manager with its log, and what is left of its script.
+#[derive(Drop)]
+pub struct Desk {
+    core: Core,
+    feeds: Feeds,
+}
+
+impl Model for Desk {
+    ghost use Rattle.rm_desk.specs.View.{DeskView};
+
+    ghost Value = { DeskView };
+
+    ghost use Rattle.rm_desk.specs.Feeds.{IsEntered, at};
+    ghost use Rattle.rm_desk.specs.Runs.{IsSound};
+
+    ghost view = { λ a. at a.core a.feeds };
+
+    ghost invariant = { λ a. IsSound (at a.core a.feeds) × IsEntered a.feeds };
+}
+
+impl Desk {
+    /// A manager before the first life of a script. An empty log goes along each script, whatever the store
+    /// holds.
+    /// The first queue of the settings is the root.
+    pub fn new(alloc: Global, settings: Settings, script: Script) -> Result<Desk, NoMemory>
+        requires queues { KeepsRules settings }
+        requires script { CanGoAlong script }
+        ensures made { IsOk result }
+        ensures settings { IfOk result (λ desk. desk.core.settings ≡ settings) }
+        ensures log { IfOk result (λ desk. desk.core.log ≡ []) }
+        ensures place { IfOk result (λ desk. desk.place ≡ beginning script) }
+        ensures down { IfOk result (λ desk. stands desk.core ≡ false) }
+        ensures run { IfOk result (λ desk. (opening : List AnyOp) → IsRun opening script desk) }
+    {
+        let core = Core::new(alloc, settings)?;
+        Ok(Desk {
+            core,
+            feeds: Feeds::new(alloc, script),
+        })
+    }
+
+    /// Whether a lane may move: the manager has something to do there, and the script is at it. Messages are
+    /// those of clients so far, so the feeds of masters, nodes and the clock are never ready.
+    pub fn ready(&self, lane: Lane) -> bool
+        ensures { result ≡ is_ready_at self.now lane }
+    {
+        match lane {
+            Lane::Client => self.core.is_ready(lane) && !self.feeds.feed.is_empty(),
+            Lane::Master | Lane::Node | Lane::Clock => false,
+            Lane::Main | Lane::Sched | Lane::Hand | Lane::Write => self.core.is_ready(lane),
+            Lane::End => self.may_close(),
+            Lane::Begin => self.core.is_ready(lane) && !self.feeds.lives.is_empty(),
+        }
+    }
+
+    /// Whether the current segment may close: its feed is empty, and nothing is left to do where it settles,
+    /// or no operation is with the store where it crashes.
+    fn may_close(&self) -> bool
+        ensures { result ≡ is_ready_at self.now Lane.End }
+    {
+        match self.feeds.close {
+            Some(Close::Settle) => self.core.is_ready(Lane::End) && self.feeds.feed.is_empty(),
+            Some(Close::Crash { .. }) => self.core.may_go_down() && self.feeds.feed.is_empty(),
+            None => false,
+        }
+    }
+
+    /// Makes the move of a lane: the log has one more entry, of this lane, and less is left of the life.
+    /// `NotReady` comes exactly where the lane isn't ready, and `Memory` where no memory was found; then
+    /// nothing has changed.
+    ///
+    /// The store's lane moves by `kept`, and a life begins by `begin`.
+    pub fn step(&mut self, lane: Lane) -> Result<(), Refused>
+        requires { IsStep lane }
+        ensures does { OnOk result (Does lane self.old self.new) }
+        ensures ready { OnOk result (is_ready_at self.old lane ≡ true) }
+        ensures not_ready { IsErrOf result Refused.NotReady ↔ (is_ready_at self.old lane ≡ false) }
+        ensures err { OnErr result (self.new ≡ self.old) }
+    {
+        if !self.ready(lane) {
+            return Err(Refused::NotReady);
+        }
+        advance(&mut self.core, &mut self.feeds, lane)
+    }
+
+    /// The store has kept the operation that was handed to it: the log has one more entry that says so.
+    /// `NotReady` comes exactly where none is with the store, and `Memory` where no memory was found; then
+    /// nothing has changed.
+    pub fn kept(&mut self) -> Result<(), Refused>
+        ensures does { OnOk result (Does Lane.Write self.old self.new) }
+        ensures ready { OnOk result (is_ready_at self.old Lane.Write ≡ true) }
+        ensures not_ready { IsErrOf result Refused.NotReady ↔ (is_ready_at self.old Lane.Write ≡ false) }
+        ensures err { OnErr result (self.new ≡ self.old) }
+    {
+        if !self.ready(Lane::Write) {
+            return Err(Refused::NotReady);
+        }
+        kept(&mut self.core, &self.feeds)
+    }
+
+    /// The script's next life begins over what the store holds, of which `tree` is what it amounts to.
+    /// `NotReady` comes exactly where a life stands or none is left in the script, and `Memory` where no
+    /// memory was found; then nothing has changed.
+    pub fn begin(&mut self, tree: Tree) -> Result<(), Refused>
+        requires { CanBeginOver tree }
+        ensures begins { OnOk result (Begins tree self.old self.new) }
+        ensures ready { OnOk result (is_ready_at self.old Lane.Begin ≡ true) }
+        ensures not_ready { IsErrOf result Refused.NotReady ↔ (is_ready_at self.old Lane.Begin ≡ false) }
+        ensures err { OnErr result (self.new ≡ self.old) }
+    {
+        if !self.ready(Lane::Begin) {
+            return Err(Refused::NotReady);
+        }
+        begin(&mut self.core, &mut self.feeds, tree)
+    }
+
+    /// The operation that was handed to the store and isn't kept yet: `None` exactly where none is. It can
+    /// be framed, fits what is kept, and is the first that awaits.
+    pub fn handed(&self) -> Option<&Op>
+        ensures op { option_copied result ≡ handed_of self.now.core }
+        ensures none { IfNone result (is_ready_at self.now Lane.Write ≡ false) }
+        ensures some { IfSome result (λ _. is_ready_at self.now Lane.Write ≡ true) }
+        ensures framed { IfSome result (λ op. IsOperation op.now) }
+        ensures next { IfSome result (λ op. (opening : List AnyOp) → StandsFor opening self.now.core → IsToBeKept opening self.now.core op.now) }
+        ensures handed { IfSome result (λ op. (opening : List AnyOp) → StandsFor opening self.now.core → IsHanded opening self.now.core.log op.now) }
+        ensures busy { IfSome result (λ _. has_rest self.now.core → ⊥) }
+    {
+        self.core.handed()
+    }
+
+    /// How the current segment closes: `None` exactly where no life stands or none is left of its segments.
+    pub fn close_of(&self) -> Option<Close>
+        ensures { result ≡ close_left self.now.place.segments }
+    {
+        self.feeds.close
+    }
+
+    /// Whether a tree is what the store holds by all that the manager was told, from the first life on.
+    pub fn is_known(&self, tree: &Tree) -> bool
+        ensures { (opening : List AnyOp) → StandsFor opening self.now.core → (self.now.core.log ≡ [] → ⊥) → IsTrue result ↔ AmountsTo tree.now opening self.now.core }
+    {
+        self.core.is_known(tree)
+    }
+
+    /// Whether no life stands.
+    pub fn is_down(&self) -> bool
+        ensures { result ≡ not (stands self.now.core) }
+    {
+        self.core.is_ready(Lane::Begin)
+    }
+
+    /// Whether a life stands in which nothing is left to do: it may go down with nothing undone.
+    pub fn is_idle(&self) -> bool
+        ensures { IsTrue result ↔ ((stands self.now.core ≡ true) × has_rest self.now.core) }
+    {
+        self.core.is_ready(Lane::End) && self.core.may_go_down()
+    }
+
+    /// Whether the run is done: the script is at its end, and where a life stands nothing is left to do.
+    /// Unless it is so, some lane is ready.
+    pub fn is_at_end(&self) -> bool
+        ensures over { IsTrue result ↔ IsOver self.now }
+        ensures done { IsTrue result → (opening : List AnyOp) (script : AnyScript) → IsRun opening script self.now → IsDone self.now.core.settings script opening self.now.core.log }
+        ensures lane { result ≡ false → (lane : Lane) × (is_ready_at self.now lane ≡ true) }
+    {
+        self.core.rest();
+        self.feeds.is_at_end() && (self.is_down() || self.is_idle())
+    }
+
+    /// What holds of a desk at every moment, and what it tells of the state after its log.
+    pub fn law(&self)
+        ensures sound { IsSound self.now }
+        ensures tells { (opening : List AnyOp) → StandsFor opening self.now.core → Tells opening self.now }
+    {
+        let _ = &self.feeds;
+        self.core.rest();
+    }
+
+    /// The log so far. It goes along the script.
+    pub fn log(&self) -> &Items<Entry>
+        ensures log { result.now ≡ self.now.core.log }
+        ensures lawful { (opening : List AnyOp) (script : AnyScript) → IsRun opening script self.now → Lawful self.now.core.settings script opening self.now.core.log }
+    {
+        self.core.log()
+    }
+
+    /// The log, handed out. It takes no memory.
+    pub fn into_log(self) -> Items<Entry>
+        ensures log { result ≡ self.core.log }
+        ensures lawful { (opening : List AnyOp) (script : AnyScript) → IsRun opening script self → Lawful self.core.settings script opening self.core.log }
+    {
+        let Desk { core, feeds } = self;
+        let _ = feeds;
+        core.into_log()
+    }
+}
