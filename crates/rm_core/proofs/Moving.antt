@@ -40,9 +40,14 @@ use Rattle.rm_core.proofs.Phases.{first_fits, first_framed, hand_moves, handed_a
 use Rattle.rm_core.proofs.Settling.{settle_moves}
 use Rattle.rm_core.proofs.Showing.{shows}
 use Rattle.rm_core.proofs.Standing.{Moves, Own, keeps_more, sound_own}
+use Rattle.rm_core.specs.Words.{as_new, new_manager}
 
 abbrev pub seen_of : Tables → List Entry → Seen
 seen_of t log = record { settings = t.settings; tables = t; log = log }
+
+-- the manager before its first life is the same after a move
+began_on : {h : History} {t next : Tables} {e : Entry} → Moves h t e next → new_manager next.alloc next.settings ≡ new_manager t.alloc t.settings
+began_on moves = rw (moves.alloc, moves.settings) refl
 
 -- what a move comes to, made or refused
 pub record Done (m : Move) (t next : Tables) (log longer : List Entry) (r : Result (Unit {0}) Refused) : Type 0 where
@@ -102,6 +107,7 @@ module _ (t : Tables) (log : List Entry) (s : IsSound t) where
           served = own.served;
           tables = tt;
           settings = own.moves.settings;
+          began = began_on own.moves;
         };
       }
 
@@ -132,6 +138,7 @@ module _ (t : Tables) (log : List Entry) (s : IsSound t) where
           served = own.served;
           tables = tt;
           settings = own.moves.settings;
+          began = began_on own.moves;
         };
       }
 
@@ -167,6 +174,7 @@ module _ (t : Tables) (log : List Entry) (s : IsSound t) where
           served = refl;
           tables = tt;
           settings = refl;
+          began = refl;
         };
       })
 
@@ -190,6 +198,7 @@ module _ (t : Tables) (log : List Entry) (s : IsSound t) where
           served = own.served;
           tables = tt;
           settings = own.moves.settings;
+          began = began_on own.moves;
         };
       }
 
@@ -232,6 +241,7 @@ module _ (t : Tables) (log : List Entry) (s : IsSound t) where
           served = refl;
           tables = refl;
           settings = refl;
+          began = refl;
         };
       })
 
@@ -255,6 +265,7 @@ module _ (t : Tables) (log : List Entry) (s : IsSound t) where
           served = refl;
           tables = tt;
           settings = refl;
+          began = refl;
         };
       })
 
@@ -279,6 +290,7 @@ module _ (t : Tables) (log : List Entry) (s : IsSound t) where
           served = refl;
           tables = tt;
           settings = refl;
+          began = refl;
         };
       })
 
@@ -311,6 +323,7 @@ module _ (t : Tables) (log : List Entry) (s : IsSound t) where
           served = answered.served;
           tables = tt;
           settings = moves.settings;
+          began = began_on moves;
         };
       })
   serve_made (FromMaster attempt ask) built ready next longer is x = absurd is

@@ -89,6 +89,13 @@ module _ (t : Tables) (log : List Entry) where
       record { is_open = λ x. r.runs.keeps.is_open; none_handed = λ x. none_handed s.history r (w a) t.handed refl; at_rest = λ opening k. open_rests opening k a m n (w a) }
   rests_where s m n w false a = record { is_open = λ h. cc; none_handed = λ h. cc; at_rest = λ opening k. between_rests opening k a }
 
+  -- between lives the queues are empty
+  none_queued : (h : History) → Phase h t → t.alive ≡ false → (t.main ≡ []) × (t.sched ≡ [])
+  none_queued h (none n) dead = (n.main, n.sched)
+  none_queued h (starting b) dead = absurd (let x = sym b.begins.alive ∙ dead in cc)
+  none_queued h (saving b) dead = absurd (let x = sym b.begins.alive ∙ dead in cc)
+  none_queued h (running r) dead = absurd (let x = sym r.alive ∙ dead in cc)
+
   -- where nothing is left to do, nothing is owed
   pub sound_rests : IsSound t → Rests (record { settings = t.settings; tables = t; log = log })
-  sound_rests s = record { unblown = unblown_of s.history t s.phase; left = λ m n w. rests_where s m n w t.alive refl }
+  sound_rests s = record { idle = λ dead. none_queued s.history s.phase dead; unblown = unblown_of s.history t s.phase; left = λ m n w. rests_where s m n w t.alive refl }

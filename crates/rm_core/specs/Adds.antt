@@ -11,6 +11,7 @@ use Rattle.rm_model.specs.Lawful.{state_after}
 use Rattle.rm_types.specs.Lanes.{feed_lane, sender_of}
 use Rattle.rm_core.specs.Seen.{Seen, StandsFor, handed_op}
 use Rattle.rm_core.specs.Serving.{IsBuiltMessage}
+use Rattle.rm_core.specs.Words.{as_new}
 use Rattle.rm_tables.specs.declared.tables.Tables.{Tables}
 use Rattle.rm_tables.specs.Lives.{is_ready, may_go_down}
 use Rattle.rm_facts.specs.Submissions.{AllPlain, IsOfLane}
@@ -126,3 +127,4 @@ pub record Does (next : Move) (old new : Seen) : Type 0 where
   pub served : new.tables.served ≡ served_after next old.tables.served
   pub tables : TablesStay next old.tables new.tables
   pub settings : new.settings ≡ old.settings
+  pub began : as_new new ≡ as_new old

@@ -1,10 +1,15 @@
 -- The words in which a layer above speaks of a manager, whatever its tables are.
-use Rattle.std.specs.Prelude.{◌≡◌, ℕ, [], Bool, false, Option}
+use Rattle.std.specs.Prelude.{◌≡◌, ℕ, List, [], Bool, false, Option, fold}
+use Rattle.std.specs.declared.alloc.Global.{Global}
+use Rattle.rm_types.specs.declared.entries.Entry.{Entry}
 use Rattle.rm_types.specs.declared.messages.Lane.{Lane}
 use Rattle.rm_types.specs.declared.messages.Message.{Message}
 use Rattle.rm_types.specs.declared.operations.Op.{Op}
-use Rattle.rm_tables.specs.Lives.{is_ready, may_go_down}
+use Rattle.rm_types.specs.declared.settings.Settings.{Settings}
+use Rattle.rm_types.specs.Records.{records}
+use Rattle.rm_tables.specs.Lives.{is_ready, may_go_down, no_life}
 use Rattle.rm_facts.specs.Weights.{weight}
+use Rattle.rm_core.specs.Queues.{tables_moved}
 use Rattle.rm_core.specs.Seen.{Seen, handed_op}
 use Rattle.rm_core.specs.Serving.{IsBuiltMessage}
 
@@ -51,3 +56,16 @@ message_weight = 20
 -- the operation that is with the store, where one is
 abbrev pub handed_of : Seen → Option Op
 handed_of seen = handed_op seen.tables
+
+-- a manager before its first life
+abbrev pub new_manager : Global → Settings → Seen
+new_manager alloc settings = record { settings = settings; tables = no_life alloc settings; log = [] }
+
+-- the same manager before its first life
+abbrev pub as_new : Seen → Seen
+as_new seen = new_manager seen.tables.alloc seen.tables.settings
+
+-- a new manager after a log over a store that held the opening list: its own way, entry by entry
+abbrev pub manager_after : Seen → List Op → List Entry → Seen
+manager_after new opening log =
+    record { settings = new.settings; tables = fold tables_moved (record new.tables { tree = records opening }) log; log = log }

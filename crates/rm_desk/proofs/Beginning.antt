@@ -13,7 +13,7 @@ use Rattle.rm_model.specs.Lawful.{state_after}
 use Rattle.rm_model.specs.Place.{Begins as BeginsAt, Place, begun, moved, stamp_of}
 use Rattle.rm_core.specs.Adds.{AmountsTo}
 use Rattle.rm_core.specs.Seen.{Seen, StandsFor}
-use Rattle.rm_core.specs.Words.{most_served, served_in, stands}
+use Rattle.rm_core.specs.Words.{as_new, most_served, served_in, stands}
 use Rattle.rm_desk.specs.View.{DeskView}
 use Rattle.rm_desk.specs.Scripts.{AllLive, CanFollow, EndsInCrash, messages_in}
 use Rattle.rm_desk.specs.Runs.{IsSound}
@@ -28,7 +28,7 @@ next_stamp d h (one ∷ more) e life first =
     let can : AllLive (life ∷ more) = subst (λ (x : Life). AllLive (x ∷ more)) same (subst AllLive e h.lives) in
     (can.0.low, can.0.high)
 
-module _ (d : DeskView) (new : Seen) (place : Place) (h : IsSound d) (tree : Records) (settings : new.settings ≡ d.core.settings)
+module _ (d : DeskView) (new : Seen) (place : Place) (h : IsSound d) (tree : Records) (settings : new.settings ≡ d.core.settings) (began : as_new new ≡ as_new d.core)
     (lawful : (opening : List Op) → StandsFor opening d.core → AmountsTo tree opening d.core → StandsFor opening new)
     (stood : stands d.core ≡ false) (standing : stands new ≡ true) (count : served_in new ≡ 0) (life : Life)
     (added : new.log ≡ d.core.log ++ Opened 0 tree.next_epoch (stamp_of life tree.stamp) ∷ []) where
@@ -54,6 +54,7 @@ module _ (d : DeskView) (new : Seen) (place : Place) (h : IsSound d) (tree : Rec
             served = λ a. rw total can.0.few;
           };
           settings = settings;
+          began = began;
           lawful = λ opening amounts k. lawful opening k amounts;
           run = λ opening script amounts run.
               let s = state_after opening d.core.log in

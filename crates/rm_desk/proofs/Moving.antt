@@ -16,7 +16,7 @@ use Rattle.rm_types.specs.declared.scripts.Close.{Close}
 use Rattle.rm_types.specs.declared.scripts.Close.TheVariants.{Settle, Crash}
 use Rattle.rm_types.specs.declared.scripts.Life.{Life}
 use Rattle.rm_types.specs.declared.scripts.Segment.{Segment}
-use Rattle.rm_types.specs.Lanes.{sender_of}
+use Rattle.rm_types.specs.Lanes.{lane_of_entry, sender_of}
 use Rattle.rm_types.specs.Lists.{is_nil}
 use Rattle.rm_model.specs.State.{Manager}
 use Rattle.rm_model.specs.Lawful.{state_after}
@@ -25,7 +25,7 @@ use Rattle.rm_core.specs.Adds.{Does as CoreDoes, GoesOnFrom, IsOf, IsOfMain, IsO
 use Rattle.rm_tables.specs.declared.events.Refused.{Refused}
 use Rattle.rm_core.specs.declared.manager.Move.{Move}
 use Rattle.rm_core.specs.Seen.{Seen, StandsFor}
-use Rattle.rm_core.specs.Words.{IsServable, can_go_down, handed_of, has_rest, message_weight, most_served, ready_at, served_in, stands, weight_of}
+use Rattle.rm_core.specs.Words.{IsServable, as_new, can_go_down, handed_of, has_rest, message_weight, most_served, ready_at, served_in, stands, weight_of}
 use Rattle.rm_desk.specs.declared.feeds.Feeds.{Feeds}
 use Rattle.rm_desk.specs.View.{DeskView}
 use Rattle.rm_desk.specs.Scripts.{AllLive, CanFollow, Closes, EndsInCrash, messages_in}
@@ -54,6 +54,19 @@ pub close_is : (f : Feeds) → IsEntered f → (close : Option Close) → f.clos
 close_is f entered None e = let none = entered e in rw (e, none.0) refl
 close_is f entered (Some close) e = rw e refl
 
+-- the entry of a lane of the manager's work is of this lane
+work_lane : (lane : Lane) (d : DeskView) (e : Entry) → IsWork lane → IsEntryOf lane d e → lane_of_entry e ≡ lane
+work_lane lanes.Main d e work is = is
+work_lane lanes.Sched d e work is = is
+work_lane lanes.Hand d e work is = ap lane_of_entry is
+work_lane lanes.Write d e work is = ap lane_of_entry is.2
+work_lane lanes.Client d e work is = absurd work
+work_lane lanes.Master d e work is = absurd work
+work_lane lanes.Node d e work is = absurd work
+work_lane lanes.Clock d e work is = absurd work
+work_lane lanes.End d e work is = absurd work
+work_lane lanes.Begin d e work is = absurd work
+
 -- a move of which the script says nothing, made or refused
 module _ (lane : Lane) (old new : Seen) (place : Place) (h : IsSound (record { core = old; place = place })) (m : Move)
     (silent : (e : Entry) → IsOf m old.tables e → IsSilent e × IsEntryOf lane (record { core = old; place = place }) e) (from : (opening : List Op) → GoesOnFrom m opening old) where
@@ -69,6 +82,7 @@ module _ (lane : Lane) (old new : Seen) (place : Place) (h : IsSound (record { c
       let count = does.served ∙ same in
       record {
         adds = record { entry = adds.entry; of_kind = quiet.1; added = adds.added; place = sym (quiet.0.stays place) };
+        of_lane = work_lane lane (record { core = old; place = place }) adds.entry work quiet.1;
         goes = record {
           sound = record {
             lives = h.lives;
@@ -78,6 +92,7 @@ module _ (lane : Lane) (old new : Seen) (place : Place) (h : IsSound (record { c
             served = λ a. rw count (h.served alive.0);
           };
           settings = does.settings;
+          began = does.began;
           lawful = λ opening over k. does.lawful opening k (from opening);
           run = λ opening script over run.
               one_more opening script (record { core = old; place = place }) (record { core = new; place = place }) adds.entry run (does.lawful opening run.stands (from opening)) adds.added
@@ -109,6 +124,13 @@ is_from_own (FromClient user ask) h = refl
 is_from_own (FromMaster attempt ask) h = absurd h
 is_from_own (FromNode node ask) h = absurd h
 is_from_own (FromClock ask) h = absurd h
+
+-- and its answer is of the clients' lane
+served_lane : (m : Message) (reply : Reply) → IsServable m → lane_of_entry (Served (sender_of m) m reply) ≡ lanes.Client
+served_lane (FromClient user ask) reply h = refl
+served_lane (FromMaster attempt ask) reply h = absurd h
+served_lane (FromNode node ask) reply h = absurd h
+served_lane (FromClock ask) reply h = absurd h
 
 -- the first of a sender's messages is taken
 without_own : (sender : Sender) (m : Message) (more : List Message) → is_from sender m ≡ true → without_first sender (m ∷ more) ≡ more
@@ -147,7 +169,7 @@ ends_after : (after : List Segment) → EndsInCrash (record { messages = []; clo
 ends_after [] e = absurd e
 ends_after (one ∷ after) e = e
 
-module _ (old new : Seen) (f : Feeds) (h : IsSound (at old f)) (entered : IsEntered f) (settings : new.settings ≡ old.settings)
+module _ (old new : Seen) (f : Feeds) (h : IsSound (at old f)) (entered : IsEntered f) (settings : new.settings ≡ old.settings) (began : as_new new ≡ as_new old)
     (lawful : (opening : List Op) → StandsFor opening old → StandsFor opening new) where
   -- the first message of the feed is answered
   pub serve_does : (close : Close) → f.close ≡ Some close → (m : Message) (more : List Message) → f.feed ≡ m ∷ more → (reply : Reply)
@@ -176,6 +198,7 @@ module _ (old new : Seen) (f : Feeds) (h : IsSound (at old f)) (entered : IsEnte
       ap messages_in after ∙ sum_by-cons (λ (x : Segment). length x.messages) (record { messages = more; close = close }) f.segments in
       record {
         adds = record { entry = entry; of_kind = (m, reply, head, refl); added = added; place = place };
+        of_lane = served_lane m reply sound.0.0;
         goes = record {
           sound = record {
             lives = h.lives;
@@ -185,6 +208,7 @@ module _ (old new : Seen) (f : Feeds) (h : IsSound (at old f)) (entered : IsEnte
             served = λ a. let n = h.served alive.0 in omega (arith, n, were, are, count);
           };
           settings = settings;
+          began = began;
           lawful = λ opening over k. lawful opening k;
           run = λ opening script over run. one_more opening script d next entry run (lawful opening run.stands) added place isnext;
         };
@@ -215,6 +239,7 @@ module _ (old new : Seen) (f : Feeds) (h : IsSound (at old f)) (entered : IsEnte
       let are : messages_in next.place.segments ≡ messages_in f.segments = ap messages_in segments in
       record {
         adds = record { entry = Settled; of_kind = rw before refl; added = added; place = place };
+        of_lane = refl;
         goes = record {
           sound = record {
             lives = subst AllLive (sym lives) h.lives;
@@ -224,6 +249,7 @@ module _ (old new : Seen) (f : Feeds) (h : IsSound (at old f)) (entered : IsEnte
             served = λ a. let n = h.served alive.0 in omega (arith, n, were, are, count);
           };
           settings = settings;
+          began = began;
           lawful = λ opening over k. lawful opening k;
           run = λ opening script over run. one_more opening script d next Settled run (lawful opening run.stands) added place isnext;
         };
@@ -255,6 +281,7 @@ module _ (old new : Seen) (f : Feeds) (h : IsSound (at old f)) (entered : IsEnte
       let costs : sum_by segment_cost next.place.segments ≡ sum_by segment_cost f.segments = ap (λ (q : Place). sum_by segment_cost q.segments) p in
       record {
         adds = record { entry = Down; of_kind = rw before refl; added = added; place = place };
+        of_lane = refl;
         goes = record {
           sound = record {
             lives = subst AllLive (sym lives) h.lives;
@@ -264,6 +291,7 @@ module _ (old new : Seen) (f : Feeds) (h : IsSound (at old f)) (entered : IsEnte
             served = λ a. let x = alive.1 in cc;
           };
           settings = settings;
+          began = began;
           lawful = λ opening over_it k. lawful opening k;
           run = λ opening script over_it run. one_more opening script d next Down run (lawful opening run.stands) added place isnext;
         };

@@ -1,7 +1,7 @@
 -- Where nothing is left to do, a lane of the script is ready, or the run is done.
 use Rattle.std.proofs.Common.{◌≡◌, ◌≢◌, ◌⊎◌, inl, inr, ⊎_elim, List, [], ◌∷◌, Bool, true, false, not, ◌&&◌, Some, None, Option, refl, sym, ◌∙◌, ap, subst}
 use Rattle.rm_types.specs.declared.messages.Lane.{Lane}
-use Rattle.rm_types.specs.declared.messages.Lane.TheVariants.{Client, Main, Sched, Hand, Write, End, Begin}
+use Rattle.rm_types.specs.declared.messages.Lane.TheVariants.{Client, Master, Node, Clock, Main, Sched, Hand, Write, End, Begin}
 use Rattle.rm_types.specs.declared.messages.Message.{Message}
 use Rattle.rm_types.specs.declared.operations.Op.{Op}
 use Rattle.rm_types.specs.declared.scripts.Close.{Close}
@@ -10,6 +10,7 @@ use Rattle.rm_types.specs.declared.scripts.Life.{Life}
 use Rattle.rm_types.specs.declared.scripts.Script.{Script}
 use Rattle.rm_types.specs.declared.scripts.Segment.{Segment}
 use Rattle.rm_types.specs.declared.settings.Settings.{Settings}
+use Rattle.rm_types.specs.Lists.{is_nil}
 use Rattle.rm_model.specs.State.{Manager}
 use Rattle.rm_model.specs.Lawful.{IsAtRest, IsDone, Lawful, state_after}
 use Rattle.rm_model.specs.Place.{IsAtEnd, Place, close_left, messages_left}
@@ -19,7 +20,7 @@ use Rattle.rm_desk.specs.View.{DeskView}
 use Rattle.rm_desk.specs.Lanes.{is_ready_at, may_close}
 use Rattle.rm_desk.specs.Runs.{IsOver, IsRun, IsSound, Tells}
 use Rattle.rm_desk.specs.Scripts.{EndsInCrash}
-use Rattle.rm_desk.proofs.Words.{idle_rests, life_none, life_stands, rest_down, rest_ends, rest_open, rest_owes}
+use Rattle.rm_desk.proofs.Words.{both, dead_idle, idle_rests, life_none, life_stands, rest_down, rest_ends, rest_open, rest_owes}
 
 -- what a desk tells of the state after its log
 pub tells : (d : DeskView) → Rests d.core → (opening : List Op) → StandsFor opening d.core → Tells opening d
@@ -88,3 +89,16 @@ over_or_ready d h rests = by (stands d.core) refl
 -- so where it isn't over, some lane is ready
 pub ready_unless : (d : DeskView) → IsSound d → Rests d.core → (IsOver d → ⊥) → SomeReady d
 ready_unless d h rests unless = ⊎_elim (λ over. absurd (unless over)) (λ some. some) (over_or_ready d h rests)
+
+-- where no life stands, no lane is ready but that in which a life begins
+pub dead_ready : (d : DeskView) → IsSound d → Rests d.core → stands d.core ≡ false → (lane : Lane) → is_ready_at d lane ≡ true → lane ≡ Begin
+dead_ready d h rests dead Client ready = dead_idle d.core dead rests Client (both (ready_at d.core Client) (not (is_nil (messages_left d.place.segments))) ready).0
+dead_ready d h rests dead Master ready = cc
+dead_ready d h rests dead Node ready = cc
+dead_ready d h rests dead Clock ready = cc
+dead_ready d h rests dead Main ready = dead_idle d.core dead rests Main ready
+dead_ready d h rests dead Sched ready = dead_idle d.core dead rests Sched ready
+dead_ready d h rests dead Hand ready = dead_idle d.core dead rests Hand ready
+dead_ready d h rests dead Write ready = dead_idle d.core dead rests Write ready
+dead_ready d h rests dead End ready = absurd (let x = rw (h.between dead) at ready in cc)
+dead_ready d h rests dead Begin ready = refl

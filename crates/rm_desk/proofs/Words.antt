@@ -50,6 +50,19 @@ module _ (s : Seen) where
   pub begin_down : ready_at s Begin ≡ not (stands s)
   begin_down = refl
 
+  -- where no life stands, only a life may begin
+  pub dead_idle : stands s ≡ false → Rests s → (lane : Lane) → ready_at s lane ≡ true → lane ≡ Begin
+  dead_idle dead rests Client h = absurd (let x = rw dead at h in cc)
+  dead_idle dead rests Master h = absurd (let x = rw dead at h in cc)
+  dead_idle dead rests Node h = absurd (let x = rw dead at h in cc)
+  dead_idle dead rests Clock h = absurd (let x = rw dead at h in cc)
+  dead_idle dead rests Main h = absurd (let x = rw (rests.idle dead).0 at h in cc)
+  dead_idle dead rests Sched h = absurd (let x = rw (rests.idle dead).1 at h in cc)
+  dead_idle dead rests Hand h = absurd (let x = rw dead at h in cc)
+  dead_idle dead rests Write h = absurd (let x = rw dead at h in cc)
+  dead_idle dead rests End h = absurd (let x = rw dead at h in cc)
+  dead_idle dead rests Begin h = refl
+
   -- an operation is with the store where the lane of the store is ready
   pub handed_ready : (op : Op) → handed_of s ≡ Some op → ready_at s Write ≡ true
   handed_ready op h = some_if (s.tables.alive && s.tables.handed) _ op h

@@ -18,7 +18,7 @@ use Rattle.rm_model.specs.Lawful.{state_after}
 use Rattle.rm_model.specs.Place.{close_left, messages_left, moved, stamp_of}
 use Rattle.rm_core.specs.Adds.{AmountsTo}
 use Rattle.rm_core.specs.Seen.{StandsFor}
-use Rattle.rm_core.specs.Words.{handed_of, has_rest, stands}
+use Rattle.rm_core.specs.Words.{as_new, handed_of, has_rest, stands}
 use Rattle.rm_desk.specs.View.{DeskView}
 use Rattle.rm_desk.specs.Lanes.{IsWork, stands_after}
 use Rattle.rm_desk.specs.Runs.{IsRun, IsSound, left}
@@ -56,13 +56,15 @@ pub record AddsOne (kind : Entry → Type 0) (old new : DeskView) : Type 0 where
 pub record GoesOver (over : List Op → Type 0) (old new : DeskView) : Type 0 where
   pub sound : IsSound new
   pub settings : new.core.settings ≡ old.core.settings
+  pub began : as_new new.core ≡ as_new old.core
   pub lawful : (opening : List Op) → over opening → StandsFor opening old.core → StandsFor opening new.core
   pub run : (opening : List Op) (script : Script) → over opening → IsRun opening script old → IsRun opening script new
 
--- a lane's move: what it adds, that less is left, whether a life stands behind it, that a lane of the manager's own work
+-- a lane's move: what it adds, an entry of this lane, that less is left, whether a life stands behind it, that a lane of the manager's own work
 -- moves only where something is left to do, and that nothing is left where a segment settled
 pub record Does (lane : Lane) (old new : DeskView) : Type 0 where
   pub adds : AddsOne (IsEntryOf lane old) old new
+  pub of_lane : lane_of_entry adds.entry ≡ lane
   pub goes : GoesOver (λ opening. Unit {0}) old new
   pub less : left new < left old
   pub stood : stands old.core ≡ true

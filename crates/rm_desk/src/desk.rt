@@ -10,7 +10,7 @@ ghost use Rattle.rm_tables.specs.declared.events.Refused.{Refused};
 ghost use Rattle.rm_queues.specs.Rules.{KeepsRules};
 ghost use Rattle.rm_core.specs.Adds.{AmountsTo, CanBeginOver};
 ghost use Rattle.rm_core.specs.Seen.{IsToBeKept, StandsFor};
-ghost use Rattle.rm_core.specs.Words.{handed_of, has_rest, stands};
+ghost use Rattle.rm_core.specs.Words.{as_new, handed_of, has_rest, new_manager, stands};
 ghost use Rattle.rm_desk.specs.Does.{Begins, Does, IsHanded};
 ghost use Rattle.rm_desk.specs.Lanes.{IsStep, is_ready_at};
 ghost use Rattle.rm_desk.specs.Runs.{IsOver, IsRun, IsSound, Tells};
@@ -56,6 +56,7 @@ impl Desk {
         ensures log { IfOk result (λ desk. desk.core.log ≡ []) }
         ensures place { IfOk result (λ desk. desk.place ≡ beginning script) }
         ensures down { IfOk result (λ desk. stands desk.core ≡ false) }
+        ensures began { IfOk result (λ desk. as_new desk.core ≡ new_manager alloc settings) }
         ensures run { IfOk result (λ desk. (opening : List AnyOp) → IsRun opening script desk) }
     {
         let core = Core::new(alloc, settings)?;
@@ -193,9 +194,11 @@ impl Desk {
         self.feeds.is_at_end() && (self.is_down() || self.is_idle())
     }
 
-    /// What holds of a desk at every moment, and what it tells of the state after its log.
+    /// What holds of a desk at every moment, and what it tells of the state after its log. Where no life stands, no lane is ready
+    /// but that in which one begins.
     pub fn law(&self)
         ensures sound { IsSound self.now }
+        ensures dead { stands self.now.core ≡ false → (lane : Lane) → is_ready_at self.now lane ≡ true → lane ≡ Lane.Begin }
         ensures tells { (opening : List AnyOp) → StandsFor opening self.now.core → Tells opening self.now }
     {
         let _ = &self.feeds;

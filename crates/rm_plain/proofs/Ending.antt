@@ -36,6 +36,7 @@ goes_trans over some more a b c ab bc =
     record {
       sound = bc.sound;
       settings = bc.settings ∙ ab.settings;
+      began = bc.began ∙ ab.began;
       lives = omega (arith, ab.lives, bc.lives);
       some = λ was. bc.some (ab.some was);
       lawful = λ opening is k. bc.lawful opening tt (ab.lawful opening is k);
@@ -118,10 +119,10 @@ module _ {D : Type 0} (view : D → DiskView) where
       }
 
   -- a life went down
-  pub goes_down_on : (d next : DeskView) (store : StoreState D) → Does End d next → IsSound d → ((opening : List Op) → StandsFor opening d.core → Tells opening d) → (calls image : ℕ)
+  pub goes_down_on : (d next : DeskView) (store : StoreState D) → Does End d next → find (is_ready_at d) policy ≡ Some End → IsSound d → ((opening : List Op) → StandsFor opening d.core → Tells opening d) → (calls image : ℕ)
       → close_left d.place.segments ≡ Some (Crash calls image) → Serves view d store → WentDown view d next store store image
-  goes_down_on d next store does h tells calls image crash serves =
-      let down = down_goes d next does h tells calls image crash in
+  goes_down_on d next store does chosen h tells calls image crash serves =
+      let down = down_goes d next does chosen h tells calls image crash in
       record {
         calls = calls;
         armed = serves.armed ∙ ap armed_by crash;

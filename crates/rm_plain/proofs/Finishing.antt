@@ -19,8 +19,8 @@ use Rattle.rm_model.specs.Place.{Place, beginning, close_left}
 use Rattle.rm_model.specs.State.{Manager, opening_state}
 use Rattle.rm_plain.specs.Survives.{HoldsWithin, SurvivesAll, SurvivesNow}
 use Rattle.rm_store.specs.Store.{seen}
-use Rattle.rm_core.specs.Seen.{StandsFor}
-use Rattle.rm_core.specs.Words.{stands}
+use Rattle.rm_core.specs.Seen.{Seen, StandsFor}
+use Rattle.rm_core.specs.Words.{as_new, stands}
 use Rattle.rm_desk.specs.View.{DeskView}
 use Rattle.rm_desk.specs.Does.{IsHanded}
 use Rattle.rm_plain.specs.declared.halts.Stop.{Stop}
@@ -30,10 +30,12 @@ use Rattle.rm_desk.specs.Runs.{IsRun as GoesAlong, IsSound as IsDeskSound, Tells
 use Rattle.rm_plain.specs.Along.{CanRun, IsSound}
 use Rattle.rm_plain.specs.Falls.{falls_of}
 use Rattle.rm_plain.specs.Goes.{IsOver, IsRun}
+use Rattle.rm_plain.specs.Policy.{MovesByPolicy}
 use Rattle.rm_plain.specs.Keeping.{IsFull, IsKeptOn, LeftOver}
 use Rattle.rm_plain.specs.Later.{FirstLived, FirstStopped, IsDueAt, IsLaterStop, LaterTo}
 use Rattle.rm_plain.specs.Stops.{IsDue, IsStoppedBy, IsTold}
 use Rattle.rm_plain.specs.Whole.{AllLived, Ends}
+use Rattle.rm_plain.proofs.Choosing.{none_split}
 use Rattle.rm_plain.proofs.Ending.{goes_trans}
 use Rattle.rm_plain.proofs.Halting.{after_within, full_known, goes_any, keeps_leaves}
 use Rattle.rm_plain.proofs.Moving.{both, goes_same, is_not, not_nil}
@@ -208,7 +210,7 @@ module _ {D : Type 0} (view : D → DiskView) (opening : List Op) (script : Scri
     (all : AllLived view opening first new disk now ended) (empty : first.core.log ≡ []) (along : GoesAlong opening script first)
     (sound : IsDeskSound new) (tells : (ops : List Op) → StandsFor ops new.core → Tells ops new) where
   pub whole_run : IsRun opening script all.fallen new
-  whole_run = all.goes.run opening script [] refl (record { goes = along; downs = rw empty tt; falls = rw empty refl })
+  whole_run = all.goes.run opening script [] refl (record { goes = along; downs = rw empty tt; falls = rw empty refl; policy = rw empty (λ past e more h. absurd (none_split past e more h)) })
 
   told : Tells opening new
   told = tells opening whole_run.goes.stands
@@ -227,6 +229,10 @@ module _ {D : Type 0} (view : D → DiskView) (opening : List Op) (script : Scri
   pub stopped_on : IfErr ended (IsStoppedBy view (IsDue script opening new.core.log) disk now opening new.core.log)
   stopped_on =
       if_err ended (λ stop why. due_is view opening new.core.log disk now (IsDueAt new) (IsDue script opening new.core.log) due_on stop why) (all.stopped along.stands)
+
+  -- the lanes moved by the policy, from the new manager on
+  pub policy_on : (made : Seen) → as_new first.core ≡ made → MovesByPolicy made script opening new.core.log
+  policy_on made is = subst (λ (s : Seen). MovesByPolicy s script opening new.core.log) (all.goes.began ∙ is) whole_run.policy
 
   module _ (settings : Settings) (same : first.core.settings ≡ settings) where
     settings_on : new.core.settings ≡ settings

@@ -101,6 +101,7 @@ goes_any over a b g =
     record {
       sound = g.sound;
       settings = g.settings;
+      began = g.began;
       lives = g.lives;
       some = g.some;
       lawful = λ opening is k. g.lawful opening tt k;

@@ -1,3 +1,4 @@
+pub mod Choosing
 pub mod Longer
 pub mod Moving
 pub mod Stored

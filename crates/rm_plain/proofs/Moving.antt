@@ -1,6 +1,6 @@
 -- The moves of a desk, each a longer run.
 use Rattle.std.proofs.Common.{◌≡◌, ◌≢◌, ℕ, ◌<◌, ◌≤◌, List, [], ◌∷◌, ◌++◌, Bool, true, false, not, ◌&&◌, Some, None, Option, Ok, Err, Result, length, refl, sym, ◌∙◌, ap, subst, arith}
-use Rattle.std.specs.Prelude.{OnErr, OnOk, is_ok, slice_get}
+use Rattle.std.specs.Prelude.{OnErr, OnOk, find, is_ok, slice_get}
 use Rattle.std.proofs.lemmas.List.{append-nil}
 use Rattle.std.proofs.lemmas.List.Sums.{fold_push}
 use Rattle.rm_types.specs.declared.entries.Entry.{Entry}
@@ -16,7 +16,7 @@ use Rattle.rm_types.specs.declared.scripts.Close.TheVariants.{Settle, Crash}
 use Rattle.rm_types.specs.declared.scripts.Life.{Life}
 use Rattle.rm_types.specs.declared.scripts.Segment.{Segment}
 use Rattle.rm_types.specs.declared.settings.Settings.{Settings}
-use Rattle.rm_types.specs.Lanes.{sender_of}
+use Rattle.rm_types.specs.Lanes.{lane_of_entry, sender_of}
 use Rattle.rm_types.specs.Lists.{is_nil}
 use Rattle.rm_types.specs.Records.{Records}
 use Rattle.rm_disk.specs.declared.fallen.Fallen.{Fallen}
@@ -29,7 +29,7 @@ use Rattle.rm_core.specs.Adds.{AmountsTo}
 use Rattle.rm_core.specs.Seen.{StandsFor}
 use Rattle.rm_core.specs.Words.{has_rest, stands}
 use Rattle.rm_desk.specs.View.{DeskView}
-use Rattle.rm_desk.specs.Lanes.{IsStep, IsWork, stands_after}
+use Rattle.rm_desk.specs.Lanes.{IsStep, IsWork, is_ready_at, stands_after}
 use Rattle.rm_desk.specs.Runs.{IsUnblown, Tells}
 use Rattle.rm_desk.specs.Does.{Begins, Does, IsEntryOf}
 use Rattle.rm_desk.proofs.Longer.{not_empty}
@@ -37,6 +37,7 @@ use Rattle.rm_plain.specs.Along.{AllBare, AllSettle, IsBare, IsSound, SettlesFir
 use Rattle.rm_plain.specs.Falls.{fall, falls_at}
 use Rattle.rm_plain.specs.Goes.{Goes, GoesOver, IsRun}
 use Rattle.rm_plain.specs.Keeping.{IsBegun, IsUnkept}
+use Rattle.rm_plain.specs.Policy.{policy}
 use Rattle.rm_plain.proofs.Longer.{IsQuiet, falls_none, hand_quiet, is_plain, kept_stays, main_quiet, no_down, one_more, plain_stands, sched_quiet}
 
 -- the current segment is no crash
@@ -83,14 +84,14 @@ ok_map (Err e) f a = tt
 -- nothing is a part of a run, and nothing falls in it
 pub goes_same : (d : DeskView) → IsSound d → Goes [] d d
 goes_same d h =
-    record { sound = h; settings = refl; lives = omega arith; some = λ was. was; lawful = λ opening over k. k; run = λ opening script fallen over run. subst (λ (l : List Fallen). IsRun opening script l d) (sym (append-nil fallen)) run }
+    record { sound = h; settings = refl; began = refl; lives = omega arith; some = λ was. was; lawful = λ opening over k. k; run = λ opening script fallen over run. subst (λ (l : List Fallen). IsRun opening script l d) (sym (append-nil fallen)) run }
 
 -- the lives that are left, where none began
 fewer : (before after : List Life) → after ≡ before → length after ≤ length before
 fewer before after e = let same = ap (λ (xs : List Life). length xs) e in omega arith
 
 -- what a lane's move does to a run, by which so much falls
-module _ (lane : Lane) (d next : DeskView) (does : Does lane d next) (sound : IsSound next) (lives : next.place.lives ≡ d.place.lives) (more : List Fallen)
+module _ (lane : Lane) (d next : DeskView) (does : Does lane d next) (chosen : find (is_ready_at d) policy ≡ Some lane) (sound : IsSound next) (lives : next.place.lives ≡ d.place.lives) (more : List Fallen)
     (down : (opening : List Op) → StandsFor opening d.core → GoesDownAtRest d.core.settings (state_after opening d.core.log) (state_after opening d.core.log).life does.adds.entry)
     (falls : (opening : List Op) → StandsFor opening d.core → falls_at does.adds.entry (state_after opening d.core.log).life (close_left d.place.segments) ≡ more) where
   falling_goes : Goes more d next
@@ -98,17 +99,18 @@ module _ (lane : Lane) (d next : DeskView) (does : Does lane d next) (sound : Is
       record {
         sound = sound;
         settings = does.goes.settings;
+        began = does.goes.began;
         lives = fewer d.place.lives next.place.lives lives;
         some = λ was. rw does.adds.added (not_empty d.core.log does.adds.entry);
         lawful = λ opening over k. does.goes.lawful opening over k;
         run = λ opening script fallen over run.
-            one_more opening script fallen more d next does.adds.entry run (does.goes.run opening script over run.goes) does.goes.settings does.adds.added (down opening run.goes.stands) (falls opening run.goes.stands);
+            one_more opening script fallen more d next does.adds.entry run (does.goes.run opening script over run.goes) does.goes.settings does.goes.began (chosen ∙ ap (λ (l : Lane). Some l) (sym does.of_lane)) does.adds.added (down opening run.goes.stands) (falls opening run.goes.stands);
       }
 
 -- a move by which no life goes down
-step_goes : (lane : Lane) (d next : DeskView) (does : Does lane d next) → does.adds.entry ≢ Down → IsSound next → next.place.lives ≡ d.place.lives → Goes [] d next
-step_goes lane d next does no_end sound lives =
-    falling_goes lane d next does sound lives []
+step_goes : (lane : Lane) (d next : DeskView) (does : Does lane d next) → find (is_ready_at d) policy ≡ Some lane → does.adds.entry ≢ Down → IsSound next → next.place.lives ≡ d.place.lives → Goes [] d next
+step_goes lane d next does chosen no_end sound lives =
+    falling_goes lane d next does chosen sound lives []
     (λ opening k. no_down does.adds.entry d.core.settings (state_after opening d.core.log) (state_after opening d.core.log).life no_end)
     (λ opening k. falls_none does.adds.entry (state_after opening d.core.log).life (close_left d.place.segments) no_end)
 
@@ -133,11 +135,11 @@ work_sound lane d next does work h place =
     }
 
 -- so its other entries leave the place as it is
-quiet_works : (lane : Lane) (d next : DeskView) (does : Does lane d next) → IsWork lane → IsSound d → IsQuiet does.adds.entry → Works d next
-quiet_works lane d next does work h quiet =
+quiet_works : (lane : Lane) (d next : DeskView) (does : Does lane d next) → find (is_ready_at d) policy ≡ Some lane → IsWork lane → IsSound d → IsQuiet does.adds.entry → Works d next
+quiet_works lane d next does chosen work h quiet =
     let place : next.place ≡ d.place = does.adds.place ∙ quiet.stays d.place in
     record {
-      goes = step_goes lane d next does (plain_stands does.adds.entry quiet.plain) (work_sound lane d next does work h place) (ap (λ (p : Place). p.lives) place);
+      goes = step_goes lane d next does chosen (plain_stands does.adds.entry quiet.plain) (work_sound lane d next does work h place) (ap (λ (p : Place). p.lives) place);
       same = step_unkept lane d next does quiet.plain;
       close = ap (λ (p : Place). close_left p.segments) place;
     }
@@ -165,8 +167,8 @@ fed_calm (segment ∷ more) m h first calls image c =
     cc
 
 -- a message is answered
-serve_works : (d next : DeskView) (does : Does Client d next) → IsSound d → Works d next
-serve_works d next does h =
+serve_works : (d next : DeskView) (does : Does Client d next) → find (is_ready_at d) policy ≡ Some Client → IsSound d → Works d next
+serve_works d next does chosen h =
     let m = does.adds.of_kind.0 in
     let is = does.adds.of_kind.3 in
     let calm = fed_calm d.place.segments m h.bare does.adds.of_kind.2 in
@@ -177,7 +179,7 @@ serve_works d next does h =
     let close : close_left next.place.segments ≡ close_left d.place.segments = ap close_left segments ∙ close_without (sender_of m) d.place.segments in
     let plain : is_plain does.adds.entry ≡ true = ap is_plain is in
     record {
-      goes = step_goes Client d next does (plain_stands does.adds.entry plain)
+      goes = step_goes Client d next does chosen (plain_stands does.adds.entry plain)
           (record {
             bare = subst AllBare (sym segments) (bare_without (sender_of m) d.place.segments calm h.bare);
             lives = subst AllSettle (sym lives) h.lives;
@@ -188,24 +190,24 @@ serve_works d next does h =
       close = close;
     }
 
-pub works : (lane : Lane) (d next : DeskView) → Does lane d next → IsStep lane → lane ≢ End → IsSound d → Works d next
-works Client d next does step goes h = serve_works d next does h
-works Main d next does step goes h = quiet_works Main d next does tt h (main_quiet does.adds.entry does.adds.of_kind)
-works Sched d next does step goes h = quiet_works Sched d next does tt h (sched_quiet does.adds.entry does.adds.of_kind)
-works Hand d next does step goes h = quiet_works Hand d next does tt h (hand_quiet does.adds.entry does.adds.of_kind)
-works Master d next does step goes h = absurd does.adds.of_kind
-works Node d next does step goes h = absurd does.adds.of_kind
-works Clock d next does step goes h = absurd does.adds.of_kind
-works End d next does step goes h = absurd (goes refl)
-works Write d next does step goes h = absurd step
-works Begin d next does step goes h = absurd step
+pub works : (lane : Lane) (d next : DeskView) → Does lane d next → find (is_ready_at d) policy ≡ Some lane → IsStep lane → lane ≢ End → IsSound d → Works d next
+works Client d next does chosen step goes h = serve_works d next does chosen h
+works Main d next does chosen step goes h = quiet_works Main d next does chosen tt h (main_quiet does.adds.entry does.adds.of_kind)
+works Sched d next does chosen step goes h = quiet_works Sched d next does chosen tt h (sched_quiet does.adds.entry does.adds.of_kind)
+works Hand d next does chosen step goes h = quiet_works Hand d next does chosen tt h (hand_quiet does.adds.entry does.adds.of_kind)
+works Master d next does chosen step goes h = absurd does.adds.of_kind
+works Node d next does chosen step goes h = absurd does.adds.of_kind
+works Clock d next does chosen step goes h = absurd does.adds.of_kind
+works End d next does chosen step goes h = absurd (goes refl)
+works Write d next does chosen step goes h = absurd step
+works Begin d next does chosen step goes h = absurd step
 
 -- the operation that is with the store is kept
-pub kept_goes : (d next : DeskView) → Does Write d next → IsSound d → Goes [] d next
-kept_goes d next does h =
+pub kept_goes : (d next : DeskView) → Does Write d next → find (is_ready_at d) policy ≡ Some Write → IsSound d → Goes [] d next
+kept_goes d next does chosen h =
     let is = does.adds.of_kind.2 in
     let place : next.place ≡ d.place = does.adds.place ∙ ap (λ (e : Entry). moved d.place e) is in
-    step_goes Write d next does (λ down. let x = sym is ∙ down in cc) (work_sound Write d next does tt h place) (ap (λ (p : Place). p.lives) place)
+    step_goes Write d next does chosen (λ down. let x = sym is ∙ down in cc) (work_sound Write d next does tt h place) (ap (λ (p : Place). p.lives) place)
 
 pub kept_close : (d next : DeskView) → Does Write d next → close_left next.place.segments ≡ close_left d.place.segments
 kept_close d next does = ap (λ (p : Place). close_left p.segments) (does.adds.place ∙ ap (λ (e : Entry). moved d.place e) does.adds.of_kind.2)
@@ -223,14 +225,14 @@ down_is : (d next : DeskView) (does : Does End d next) (calls image : ℕ) → c
 down_is d next does calls image c = rw c at does.adds.of_kind
 
 -- the current segment settles
-pub settle_goes : (d next : DeskView) → Does End d next → IsSound d → close_left d.place.segments ≡ Some Settle → Goes [] d next × IsUnkept d next
-settle_goes d next does h c =
+pub settle_goes : (d next : DeskView) → Does End d next → find (is_ready_at d) policy ≡ Some End → IsSound d → close_left d.place.segments ≡ Some Settle → Goes [] d next × IsUnkept d next
+settle_goes d next does chosen h c =
     let is = settled_is d next does c in
     let place : next.place ≡ record { lives = d.place.lives; segments = rest_of d.place.segments } = does.adds.place ∙ ap (λ (e : Entry). moved d.place e) is in
     let segments : next.place.segments ≡ rest_of d.place.segments = ap (λ (p : Place). p.segments) place in
     let lives : next.place.lives ≡ d.place.lives = ap (λ (p : Place). p.lives) place in
     let plain : is_plain does.adds.entry ≡ true = ap is_plain is in (
-      step_goes End d next does (plain_stands does.adds.entry plain)
+      step_goes End d next does chosen (plain_stands does.adds.entry plain)
           (record {
             bare = subst AllBare (sym segments) (bare_rest d.place.segments h.bare);
             lives = subst AllSettle (sym lives) h.lives;
@@ -256,16 +258,16 @@ down_kept s None = refl
 down_kept s (Some life) = refl
 
 -- the life goes down
-pub down_goes : (d next : DeskView) → Does End d next → IsSound d → ((opening : List Op) → StandsFor opening d.core → Tells opening d) → (calls image : ℕ)
+pub down_goes : (d next : DeskView) → Does End d next → find (is_ready_at d) policy ≡ Some End → IsSound d → ((opening : List Op) → StandsFor opening d.core → Tells opening d) → (calls image : ℕ)
     → close_left d.place.segments ≡ Some (Crash calls image) → Goes (fall calls image ∷ []) d next × IsUnkept d next
-down_goes d next does h tells calls image c =
+down_goes d next does chosen h tells calls image c =
     let rest = h.crashing calls image c in
     let is = down_is d next does calls image c in
     let place : next.place ≡ record { lives = d.place.lives; segments = rest_of d.place.segments } = does.adds.place ∙ ap (λ (e : Entry). moved d.place e) is in
     let dead : stands next.core ≡ false = does.standing ∙ ap (stands_after End) c in
     let over : next.place.segments ≡ [] = does.goes.sound.between dead in
     let lives : next.place.lives ≡ d.place.lives = ap (λ (p : Place). p.lives) place in (
-      falling_goes End d next does
+      falling_goes End d next does chosen
           (record {
             bare = subst AllBare (sym over) tt;
             lives = subst AllSettle (sym lives) h.lives;
@@ -322,8 +324,8 @@ module _ (tree : Records) (d next : DeskView) (begins : Begins tree d next) (h :
   not_down : begins.adds.entry ≢ Down
   not_down = λ down. let x = sym begins.adds.of_kind.2 ∙ down in cc
 
-  pub begin_goes : GoesOver (λ opening. AmountsTo tree opening d.core) [] d next
-  begin_goes =
+  pub begin_goes : find (is_ready_at d) policy ≡ Some Begin → GoesOver (λ opening. AmountsTo tree opening d.core) [] d next
+  begin_goes chosen =
       record {
         sound = record {
           bare = subst AllBare (sym (ap (λ (p : Place). p.segments) place)) settling.0;
@@ -331,11 +333,12 @@ module _ (tree : Records) (d next : DeskView) (begins : Begins tree d next) (h :
           crashing = λ calls image c. absurd (begin_settles calls image c);
         };
         settings = begins.goes.settings;
+        began = begins.goes.began;
         lives = let less = begin_fewer in omega (arith, less);
         some = λ was. rw begins.adds.added (not_empty d.core.log begins.adds.entry);
         lawful = λ opening over k. begins.goes.lawful opening over k;
         run = λ opening script fallen over run.
-            one_more opening script fallen [] d next begins.adds.entry run (begins.goes.run opening script over run.goes) begins.goes.settings begins.adds.added
+            one_more opening script fallen [] d next begins.adds.entry run (begins.goes.run opening script over run.goes) begins.goes.settings begins.goes.began (chosen ∙ ap (λ (l : Lane). Some l) (sym (ap lane_of_entry begins.adds.of_kind.2))) begins.adds.added
             (no_down begins.adds.entry d.core.settings (state_after opening d.core.log) (state_after opening d.core.log).life not_down)
             (falls_none begins.adds.entry (state_after opening d.core.log).life (close_left d.place.segments) not_down);
       }

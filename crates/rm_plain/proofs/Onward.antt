@@ -146,6 +146,7 @@ module _ {D : Type 0} (view : D → DiskView) where
       record {
         sound = g.sound;
         settings = g.settings;
+        began = g.began;
         lives = g.lives;
         some = g.some;
         lawful = λ opening q k. g.lawful opening (from opening q k) k;

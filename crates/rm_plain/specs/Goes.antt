@@ -7,23 +7,27 @@ use Rattle.rm_model.specs.State.{opening_state}
 use Rattle.rm_model.specs.Downs.{AllGoDownAtRest}
 use Rattle.rm_model.specs.Lawful.{IsAtRest, state_after}
 use Rattle.rm_core.specs.Seen.{StandsFor}
+use Rattle.rm_core.specs.Words.{as_new}
 use Rattle.rm_desk.specs.View.{DeskView}
 use Rattle.rm_desk.specs.Runs.{IsRun as GoesAlong}
 use Rattle.rm_plain.specs.Along.{IsSound}
 use Rattle.rm_plain.specs.Falls.{falls_of}
+use Rattle.rm_plain.specs.Policy.{MovesByPolicy}
 
--- over a store that held the opening list, the log is lawful along the script, lives went down at rest, and the falls are
--- these
+-- over a store that held the opening list, the log is lawful along the script, lives went down at rest, the falls are these, and
+-- the lanes moved by the policy
 pub record IsRun (opening : List Op) (script : Script) (fallen : List Fallen) (d : DeskView) : Type 0 where
   pub goes : GoesAlong opening script d
   pub downs : AllGoDownAtRest d.core.settings (opening_state opening) d.core.log
   pub falls : falls_of script opening d.core.log ≡ fallen
+  pub policy : MovesByPolicy (as_new d.core) script opening d.core.log
 
 -- a part of a run, with these falls: whatever the run before it was, with it there is a longer one, over each opening list
 -- for which this holds; the desk stays sound
 pub record GoesOver (over : List Op → Type 0) (more : List Fallen) (old new : DeskView) : Type 0 where
   pub sound : IsSound new
   pub settings : new.core.settings ≡ old.core.settings
+  pub began : as_new new.core ≡ as_new old.core
   pub lives : length new.place.lives ≤ length old.place.lives
   pub some : old.core.log ≢ [] → new.core.log ≢ []
   pub lawful : (opening : List Op) → over opening → StandsFor opening old.core → StandsFor opening new.core

@@ -10,6 +10,7 @@ ghost use Rattle.rm_types.specs.declared.messages.Lane.{Lane};
 ghost use Rattle.rm_types.specs.declared.scripts.Close.{Close};
 ghost use Rattle.rm_plain.specs.declared.halts.Halt.{Halt};
 ghost use Rattle.rm_plain.specs.Lives.{EndsBy, GoesOn, MovesTo};
+ghost use Rattle.rm_plain.specs.Policy.{policy};
 
 use crate::halts::Halt;
 use crate::policy::first_ready;
@@ -44,6 +45,7 @@ pub enum LifeEnd {
 fn settle_on<D: Disk>(d: &mut Desk, store: &mut Store<D>) -> Result<(), Halt>
     requires sound { IsSound d.old }
     requires ready { is_ready_at d.old Lane.End ≡ true }
+    requires chosen { find (is_ready_at d.old) policy ≡ Some Lane.End }
     requires settles { close_left d.old.place.segments ≡ Some Close.Settle }
     requires serves { Serves D.view d.old store.old }
     ensures on { OnOk result (GoesOn D.view d.old d.new store.old store.new) }
@@ -58,6 +60,7 @@ fn settle_on<D: Disk>(d: &mut Desk, store: &mut Store<D>) -> Result<(), Halt>
 fn work_on<D: Disk>(d: &mut Desk, store: &Store<D>, lane: Lane) -> Result<(), Halt>
     requires sound { IsSound d.old }
     requires ready { is_ready_at d.old lane ≡ true }
+    requires chosen { find (is_ready_at d.old) policy ≡ Some lane }
     requires step { IsStep lane }
     requires goes { lane ≢ Lane.End }
     requires serves { Serves D.view d.old store.now }
@@ -73,6 +76,7 @@ fn work_on<D: Disk>(d: &mut Desk, store: &Store<D>, lane: Lane) -> Result<(), Ha
 fn close<D: Disk>(d: &mut Desk, store: &mut Store<D>) -> Result<Moved, Halt>
     requires sound { IsSound d.old }
     requires ready { is_ready_at d.old Lane.End ≡ true }
+    requires chosen { find (is_ready_at d.old) policy ≡ Some Lane.End }
     requires serves { Serves D.view d.old store.old }
     ensures moves { IfOk result (MovesTo D.view d.old d.new store.old store.new) }
     ensures fuse { FuseStays D.view store.old.disk store.new.disk }
@@ -96,6 +100,7 @@ fn close<D: Disk>(d: &mut Desk, store: &mut Store<D>) -> Result<Moved, Halt>
 fn advance<D: Disk>(d: &mut Desk, store: &mut Store<D>, lane: Lane) -> Result<Moved, Halt>
     requires sound { IsSound d.old }
     requires ready { is_ready_at d.old lane ≡ true }
+    requires chosen { find (is_ready_at d.old) policy ≡ Some lane }
     requires stands { stands d.old.core ≡ true }
     requires serves { Serves D.view d.old store.old }
     ensures moves { IfOk result (MovesTo D.view d.old d.new store.old store.new) }

@@ -6,7 +6,7 @@ ghost use Rattle.rm_model.specs.Downs.{AllGoDownAtRest};
 ghost use Rattle.rm_model.specs.Lawful.{Lawful, IsDone};
 ghost use Rattle.rm_model.specs.State.{opening_state};
 ghost use Rattle.rm_facts.specs.Submissions.{AllPlain};
-ghost use Rattle.rm_core.specs.Words.{stands};
+ghost use Rattle.rm_core.specs.Words.{new_manager, stands};
 ghost use Rattle.rm_plain.specs.Goes.{IsOver};
 ghost use Rattle.rm_types.specs.Records.{records};
 ghost use Rattle.rm_plain.specs.Survives.{SurvivesAll, SurvivesNow};
@@ -14,6 +14,7 @@ ghost use Rattle.rm_store.specs.Store.{seen};
 ghost use Rattle.rm_plain.specs.Along.{CanRun, IsSound};
 ghost use Rattle.rm_plain.specs.Falls.{falls_of};
 ghost use Rattle.rm_plain.specs.Later.{FirstTo, LaterTo};
+ghost use Rattle.rm_plain.specs.Policy.{MovesByPolicy};
 ghost use Rattle.rm_plain.specs.Starts.{DiskStays, IsAtEase};
 ghost use Rattle.rm_plain.specs.Stops.{IsDue, IsStoppedBy};
 ghost use Rattle.rm_plain.specs.Whole.{AllLived};
@@ -153,6 +154,8 @@ fn all_lives<D: Disk>(alloc: Global, d: &mut Desk, disk: Fuse<D>) -> First<D>
 
 /// Runs a script on one thread, over the store on the handed disk, with its fuse.
 ///
+/// Each entry of the log is of the lane that comes first in the policy's order, of those that were ready then.
+///
 /// The log is lawful whatever the disk does, and so it is where the run stops before its script's end:
 /// - `DiskFault`: the disk inside the fuse counted a fault;
 /// - `Damaged`: the disk held no store, with the offset at which it is damaged, or, with the largest offset,
@@ -180,6 +183,7 @@ pub fn run_script<D: Disk>(
     requires unarmed { disk.armed ≡ None }
     ensures lawful { Lawful settings script result.opening result.log }
     ensures done { IsOk result.ended → IsDone settings script result.opening result.log }
+    ensures policy { MovesByPolicy (new_manager alloc settings) script result.opening result.log }
     ensures downs { AllGoDownAtRest settings (opening_state result.opening) result.log }
     ensures falls { result.disk.falls ≡ disk.falls ++ falls_of script result.opening result.log }
     ensures stays { DiskStays D.view disk result.disk }

@@ -1,4 +1,4 @@
-ghost use Rattle.std.specs.Prelude.{◌≡◌, ◌<◌, List, [], OnOk, OnErr, IfErr, None, true, false};
+ghost use Rattle.std.specs.Prelude.{◌≡◌, ◌<◌, List, [], find, OnOk, OnErr, IfErr, None, Some, true, false};
 ghost use Rattle.rm_types.specs.declared.messages.Lane.{Lane};
 ghost use Rattle.rm_types.specs.declared.operations.Op.{Op as AnyOp};
 ghost use Rattle.rm_store.specs.Store.{IsSound as IsStoreSound, seen};
@@ -9,6 +9,7 @@ ghost use Rattle.rm_plain.specs.Along.{IsSound};
 ghost use Rattle.rm_plain.specs.Goes.{Goes};
 ghost use Rattle.rm_plain.specs.Halted.{halt_of};
 ghost use Rattle.rm_plain.specs.Keeping.{FuseStays, HaltsBy, Serves, StoresOn};
+ghost use Rattle.rm_plain.specs.Policy.{policy};
 
 use crate::halts::Halt;
 use crate::refusals::memory_only;
@@ -32,6 +33,7 @@ fn halt_of(error: StoreError) -> Halt
 pub(crate) fn keep<D: Disk>(d: &mut Desk, store: &mut Store<D>) -> Result<(), Halt>
     requires sound { IsSound d.old }
     requires ready { is_ready_at d.old Lane.Write ≡ true }
+    requires chosen { find (is_ready_at d.old) policy ≡ Some Lane.Write }
     requires serves { Serves D.view d.old store.old }
     ensures goes { Goes [] d.old d.new }
     ensures less { OnOk result (left d.new < left d.old) }

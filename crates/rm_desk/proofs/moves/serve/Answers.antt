@@ -29,6 +29,6 @@ returns-clause-does c =
     let first = first_of f.feed m (rw c.in_ok-message.ensures (sym c.in-Some.ensures.first)) in
     let close = fed_in f c.requires.entered m first.0 first.1 f.close refl in
     let step = c.in_ok-step.ensures.does in
-    serve_does core c.step.new.self f c.requires.sound c.requires.entered step.settings (λ ops k. step.lawful ops k tt) close.0 close.1 m first.0 first.1
+    serve_does core c.step.new.self f c.requires.sound c.requires.entered step.settings step.began (λ ops k. step.lawful ops k tt) close.0 close.1 m first.0 first.1
     step.added.of_move.0 (step.added.added ∙ ap (λ (e : Entry). core.log ++ e ∷ []) step.added.of_move.1) step.weighs step.stands step.served
     c.take_first.new.self (c.take_first.ensures.rest ∙ ap (λ (xs : List Message). drop 1 xs) first.1)

@@ -7,6 +7,9 @@ use Rattle.rm_plain.proofs.lives.tick.Goals as goal
 pub advance-requires-clause-ready : goal.advance-requires-clause-ready
 advance-requires-clause-ready g c = found_passes (is_ready_at c.args.d.now) policy c.in-Some.lane (sym c.first_ready.ensures ∙ c.in-Some.is)
 
+pub advance-requires-clause-chosen : goal.advance-requires-clause-chosen
+advance-requires-clause-chosen g c = sym c.first_ready.ensures ∙ c.in-Some.is
+
 pub prove-unreachable-requires : goal.prove-unreachable-requires
 prove-unreachable-requires g c =
     let end = at_end c.args.d.now (sym c.first_ready.ensures ∙ c.in-None.is) c.is_at_end-end.result c.is_at_end-end.ensures.lane in

@@ -8,5 +8,5 @@ pub returns-clause-on : goal.returns-clause-on
 returns-clause-on g c =
     let made : is_ok c.step.result ≡ true = sym c.memory_only.ensures ∙ rw c.in_ok-memory_only.was refl in
     let does = ok_holds c.step.result made c.step.ensures.does in
-    works_on g.D.Disk.view c.args.lane c.args.d.now c.step.new.self c.args.store.now does (works c.args.lane c.args.d.now c.step.new.self does c.requires.step c.requires.goes c.requires.sound)
+    works_on g.D.Disk.view c.args.lane c.args.d.now c.step.new.self c.args.store.now does (works c.args.lane c.args.d.now c.step.new.self does c.requires.chosen c.requires.step c.requires.goes c.requires.sound)
     c.requires.step c.requires.goes c.requires.serves

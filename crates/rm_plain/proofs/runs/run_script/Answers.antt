@@ -1,4 +1,5 @@
-use Rattle.rm_plain.proofs.Finishing.{downs_on, falls_on, first_sound, is_done, lawful_on, ok_of, stopped_on, whole_run}
+use Rattle.rm_core.specs.Words.{new_manager}
+use Rattle.rm_plain.proofs.Finishing.{downs_on, falls_on, first_sound, is_done, lawful_on, ok_of, policy_on, stopped_on, whole_run}
 use Rattle.rm_plain.proofs.runs.run_script.Goals as goal
 
 pub all_lives-opening-requires-clause-sound : goal.all_lives-opening-requires-clause-sound
@@ -45,3 +46,10 @@ returns-clause-stopped g c =
     rw c.into_log-log.ensures.log
     (stopped_on g.D.Disk.view c.all_lives-opening.result.opening c.args.script c.in-Ok.d c.all_lives-opening.new.d c.args.disk c.all_lives-opening.result.disk c.all_lives-opening.result.ended
     c.all_lives-opening.ensures.all c.in-Ok.ensures.log (c.in-Ok.ensures.run c.all_lives-opening.result.opening) c.law.ensures.sound c.law.ensures.tells)
+
+pub returns-clause-policy : goal.returns-clause-policy
+returns-clause-policy g c =
+    rw c.into_log-log.ensures.log
+    (policy_on g.D.Disk.view c.all_lives-opening.result.opening c.args.script c.in-Ok.d c.all_lives-opening.new.d c.args.disk c.all_lives-opening.result.disk c.all_lives-opening.result.ended
+    c.all_lives-opening.ensures.all c.in-Ok.ensures.log (c.in-Ok.ensures.run c.all_lives-opening.result.opening) c.law.ensures.sound c.law.ensures.tells (new_manager c.args.alloc c.args.settings)
+    c.in-Ok.ensures.began)

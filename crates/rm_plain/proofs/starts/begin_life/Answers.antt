@@ -5,6 +5,7 @@ use Rattle.rm_types.specs.declared.operations.Op.{Op}
 use Rattle.rm_core.specs.Adds.{AmountsTo}
 use Rattle.rm_plain.specs.declared.halts.Halt.{Halt}
 use Rattle.rm_plain.specs.Keeping.{HaltsOver}
+use Rattle.rm_plain.proofs.Choosing.{begin_chosen}
 use Rattle.rm_plain.proofs.Halting.{goes_any, halts_same, if_memory}
 use Rattle.rm_plain.proofs.Moving.{begin_fewer, begin_goes, begin_kept, err_holds, goes_same, ok_holds, ok_map, on_ok}
 use Rattle.rm_plain.proofs.Starting.{begins, begun_halts}
@@ -27,7 +28,7 @@ returns-clause-halts g c =
     let over : List Op → Type 0 = λ ops. AmountsTo c.args.tree ops d.core in
     let P : Halt → Type 0 = λ halt. HaltsOver g.D.Disk.view over d mid c.args.store.now.disk c.arm.new.store.disk halt in
     if_memory P c.arm.result
-    (begun_halts g.D.Disk.view d mid c.args.store.now.disk c.arm.new.store.disk c.args.tree (begin_goes c.args.tree d mid begun c.requires.sound) (begin_kept c.args.tree d mid begun c.requires.sound c.law.ensures.tells)
+    (begun_halts g.D.Disk.view d mid c.args.store.now.disk c.arm.new.store.disk c.args.tree (begin_goes c.args.tree d mid begun c.requires.sound (begin_chosen d c.requires.dead c.requires.lives (c.law.ensures.dead c.requires.dead))) (begin_kept c.args.tree d mid begun c.requires.sound c.law.ensures.tells)
     c.arm.ensures.inner c.arm.ensures.fuse.refused)
     c.arm.ensures.halts
 
@@ -44,6 +45,7 @@ pub returns-clause-goes : goal.returns-clause-goes
 returns-clause-goes g c =
     let made : is_ok c.begin.result ≡ true = sym c.memory_only.ensures ∙ rw c.in_ok-memory_only.was refl in
     begin_goes c.args.tree c.args.d.now c.begin.new.self (ok_holds c.begin.result made c.begin.ensures.begins) c.requires.sound
+    (begin_chosen c.args.d.now c.requires.dead c.requires.lives (c.law.ensures.dead c.requires.dead))
 
 pub returns-in_err-memory_only-clause-goes : goal.returns-in_err-memory_only-clause-goes
 returns-in_err-memory_only-clause-goes g c =

@@ -45,7 +45,7 @@ returns-in_err-memory_only-clause-goes g c =
 pub returns-clause-goes : goal.returns-clause-goes
 returns-clause-goes g c =
     let made : is_ok c.kept.result ≡ true = sym c.memory_only.ensures ∙ rw c.in_ok-memory_only.was refl in
-    kept_goes c.args.d.now c.kept.new.self (ok_holds c.kept.result made c.kept.ensures.does) c.requires.sound
+    kept_goes c.args.d.now c.kept.new.self (ok_holds c.kept.result made c.kept.ensures.does) c.requires.chosen c.requires.sound
 
 pub returns-clause-less : goal.returns-clause-less
 returns-clause-less g c =
