@@ -2,10 +2,10 @@
 use Rattle.std.proofs.Common.{◌≡◌, ◌≤◌, ◌&&◌, ℕ, List, [], ◌∷◌, Bool, true, false, cond, leb, Option, Some, None, refl, ap, subst, arith, lit≤}
 use Rattle.std.proofs.lemmas.Bool.Decides.{nat_tests}
 use Rattle.std.proofs.lemmas.List.Elements.{All-nil, All-cons}
-use Rattle.std.specs.Prelude.{All, is_some, option_map, option_and_then}
+use Rattle.std.specs.Prelude.{All, codes, is_some, length, option_map, option_and_then}
 use Rattle.std.specs.Option.{option_map_or}
 use Rattle.serde_json.specs.Data.{Data, Items, no_items, item, Members, no_members, member}
-use Rattle.serde_json.specs.Find.{as_bool, as_number, as_str, as_array, as_object, as_u64}
+use Rattle.serde_json.specs.Find.{get, as_number, as_str, as_array, as_object, as_u64}
 use Rattle.rm_types.specs.Ranges.{IsText}
 use Rattle.rm_types.specs.Ranges.{IsWithin}
 use Rattle.rm_types.specs.Texts.{fault_of}
@@ -13,11 +13,12 @@ use Rattle.rm_types.specs.declared.settings.QueueSpec.{QueueSpec}
 use Rattle.rm_types.specs.declared.settings.Settings.{Settings}
 use Rattle.rm_types.specs.declared.settings.UserGroups.{UserGroups}
 use Rattle.rm_types.specs.declared.texts.TextKind.{TextKind}
-use Rattle.rm_types.specs.declared.texts.TextKind.TheVariants.{Name, AclText}
-use Rattle.rm_cluster.specs.Limits.{longest_wait_ms, most_apps, most_attempts, most_completed, most_memory_mb, most_vcores}
+use Rattle.rm_types.specs.declared.texts.TextKind.TheVariants.{Name, AclText, Queue}
+use Rattle.rm_cluster.specs.Limits.{longest_wait_ms, most_apps, most_attempts, most_completed, most_memory_mb, most_queues, most_vcores}
 use Rattle.rm_cluster.specs.Readings.{number_within, text_of, string_of, names_of, name_list_of, user_of, users_of, user_groups_of}
-use Rattle.rm_cluster.specs.Rules.{max_attempts_of, max_completed_of, max_apps_of, wait_ms_of, acl_enable_of, admin_acl_of, max_memory_of, max_vcores_of, groups_of, queues_of, default_queues, IsSettingsOf}
-use Rattle.rm_cluster.specs.Ranges.{HasNames, IsInRange}
+use Rattle.rm_cluster.specs.Rules.{max_attempts_of, max_completed_of, max_apps_of, wait_ms_of, admin_acl_of, max_memory_of, max_vcores_of, groups_of, queues_of, bare_queue, default_queues, IsSettingsOf}
+use Rattle.rm_cluster.specs.Queues.{has_queue_keys, is_tree, list_at, name_of, queue_list_of, queue_of, queue_tree_of, queue_with, some_list_of}
+use Rattle.rm_cluster.specs.Ranges.{AreQueues, HasNames, HasTexts, IsInRange, IsList}
 
 -- what holds of each value that a reading gives, and of the value for an absent key, holds of what stands at the key
 kept_at_key : {A : Type 0} (P : A → Type 0) (reading : Data → Option A) (absent : A) (found : Option Data) (a : A)
@@ -112,31 +113,101 @@ groups_are : (value : Data) (users : List UserGroups) → user_groups_of value �
 unfolding user_groups_of
 groups_are value users e = groups_found (as_object value) users e
 
--- ---- rights
-
-off_found : (found : Option Bool) (enabled : Bool) → option_and_then (λ on. cond on None (Some on)) found ≡ Some enabled → enabled ≡ false
-off_found None enabled e = absurd cc
-off_found (Some true) enabled e = absurd cc
-off_found (Some false) enabled e = cc
-
 -- ---- queues
 
-nothing : (queues : List QueueSpec) → None ≡ Some queues → queues ≡ default_queues
-nothing queues e = absurd cc
+list_found : (found : Option (List ℕ)) (list : Option (List ℕ)) → ((text : List ℕ) → found ≡ Some text → IsText AclText text) → option_map (λ text. Some text) found ≡ Some list → IsList list
+list_found None list is e = absurd cc
+list_found (Some text) list is e = let same : Some text ≡ list = cc in subst IsList same (is text refl)
+
+list_is : (value : Data) (list : Option (List ℕ)) → some_list_of value ≡ Some list → IsList list
+unfolding some_list_of
+list_is value list e = list_found (string_of AclText value) list (string_is AclText value) e
+
+list_at_is : (key : List ℕ) (value : Data) (list : Option (List ℕ)) → list_at key value ≡ Some list → IsList list
+unfolding list_at
+list_at_is key value list e = kept_at_key IsList _ _ _ _ list_is tt e
+
+of_queue : (name : Option (List ℕ)) (submit admin : Option (Option (List ℕ))) (queue : QueueSpec) → option_and_then (λ one. queue_with one submit admin) name ≡ Some queue
+    → (name ≡ Some queue.name) × (submit ≡ Some queue.submit) × (admin ≡ Some queue.admin)
+of_queue None submit admin queue e = absurd cc
+of_queue (Some one) None admin queue e = absurd cc
+of_queue (Some one) (Some submit) None queue e = absurd cc
+of_queue (Some one) (Some submit) (Some admin) queue e =
+    let same : record { name = one; submit = submit; admin = admin } ≡ queue = cc in
+    (ap (λ q. Some q.name) same, ap (λ q. Some q.submit) same, ap (λ q. Some q.admin) same)
+
+name_found : (found : Option Data) (name : List ℕ) → option_and_then (string_of Queue) found ≡ Some name → IsText Queue name
+name_found None name e = absurd cc
+name_found (Some value) name e = string_is Queue value name e
+
+name_is : (value : Data) (name : List ℕ) → name_of value ≡ Some name → IsText Queue name
+unfolding name_of
+name_is value name e = name_found (get (codes "name") value) name e
+
+queue_found : (passes : Bool) (name : Option (List ℕ)) (submit admin : Option (Option (List ℕ))) (queue : QueueSpec)
+    → cond passes (option_and_then (λ one. queue_with one submit admin) name) None ≡ Some queue → option_and_then (λ one. queue_with one submit admin) name ≡ Some queue
+queue_found true name submit admin queue e = e
+queue_found false name submit admin queue e = absurd cc
+
+queue_is : (value : Data) (queue : QueueSpec) → queue_of value ≡ Some queue → HasTexts queue
+unfolding queue_of
+queue_is value queue e =
+    let parts = of_queue (name_of value) (list_at (codes "submit") value) (list_at (codes "admin") value) queue
+    (queue_found (has_queue_keys value) (name_of value) (list_at (codes "submit") value) (list_at (codes "admin") value) queue e) in
+    record {
+      name = name_is value queue.name parts.0;
+      submit = list_at_is (codes "submit") value queue.submit parts.1;
+      admin = list_at_is (codes "admin") value queue.admin parts.2;
+    }
+
+queues_are : (values : Items) (queues : List QueueSpec) → queue_list_of values ≡ Some queues → All HasTexts queues
+queues_are no_items queues e = let same : [] ≡ queues = cc in subst (All HasTexts) same (All-nil HasTexts)
+queues_are (item value values) queues e =
+    let parts = of_cons (queue_of value) (queue_list_of values) queues e in
+    subst (All HasTexts) parts.4 (All-cons HasTexts parts.0 parts.1 (queue_is value parts.0 parts.2) (queues_are values parts.1 parts.3))
+
+list_of_queues : (found : Option Items) (queues : List QueueSpec) → option_and_then queue_list_of found ≡ Some queues → All HasTexts queues
+list_of_queues None queues e = absurd cc
+list_of_queues (Some values) queues e = queues_are values queues e
+
+of_tree : (test : Bool) (queues tree : List QueueSpec) → cond test (Some queues) None ≡ Some tree → (test ≡ true) × (queues ≡ tree)
+of_tree true queues tree e = (refl, cc)
+of_tree false queues tree e = absurd cc
+
+tree_found : (found : Option (List QueueSpec)) (tree : List QueueSpec) → ((queues : List QueueSpec) → found ≡ Some queues → All HasTexts queues)
+    → option_and_then (λ queues. cond (leb (length queues) most_queues && is_tree queues) (Some queues) None) found ≡ Some tree → AreQueues tree
+tree_found None tree texts e = absurd cc
+tree_found (Some queues) tree texts e =
+    let both = of_tree (leb (length queues) most_queues && is_tree queues) queues tree e in
+    let few : leb (length queues) most_queues ≡ true = grind arith in
+    let tested : is_tree queues ≡ true = grind arith in
+    let within : length queues ≤ most_queues = grind (arith, nat_tests) in
+    subst AreQueues both.1 (record { few = within; texts = texts queues refl; tree = tested })
+
+tree_is : (value : Data) (queues : List QueueSpec) → queue_tree_of value ≡ Some queues → AreQueues queues
+unfolding queue_tree_of
+tree_is value queues e = tree_found (option_and_then queue_list_of (as_array value)) queues (list_of_queues (as_array value)) e
+
+default_are : AreQueues default_queues
+default_are = record {
+  few = lit≤ tt;
+  texts = All-cons HasTexts (bare_queue (codes "root")) (bare_queue (codes "root.default") ∷ []) (record { name = refl; submit = tt; admin = tt })
+      (All-cons HasTexts (bare_queue (codes "root.default")) [] (record { name = refl; submit = tt; admin = tt }) (All-nil HasTexts));
+  tree = refl;
+}
 
 -- ---- the settings
 
 pub in_range : (file : Data) (settings : Settings) → IsSettingsOf file settings → IsInRange settings
-unfolding max_attempts_of max_completed_of max_apps_of wait_ms_of acl_enable_of admin_acl_of max_memory_of max_vcores_of groups_of queues_of
+unfolding max_attempts_of max_completed_of max_apps_of wait_ms_of admin_acl_of max_memory_of max_vcores_of groups_of queues_of
 in_range file settings kept = record {
   max_attempts = kept_at_key (IsWithin 1 most_attempts) _ _ _ _ (within 1 most_attempts) (lit≤ tt, lit≤ tt) kept.max_attempts;
   max_completed = kept_at_key (IsWithin 0 most_completed) _ _ _ _ (within 0 most_completed) (lit≤ tt, lit≤ tt) kept.max_completed;
   max_apps = kept_at_key (IsWithin 1 most_apps) _ _ _ _ (within 1 most_apps) (lit≤ tt, lit≤ tt) kept.max_apps;
   wait_ms = kept_at_key (IsWithin 0 longest_wait_ms) _ _ _ _ (within 0 longest_wait_ms) (lit≤ tt, lit≤ tt) kept.wait_ms;
-  acl_enable = kept_at_key (λ enabled. enabled ≡ false) _ _ _ _ (λ value enabled e. off_found (as_bool value) enabled e) refl kept.acl_enable;
   admin_acl = kept_at_key (IsText AclText) _ _ _ _ (string_is AclText) refl kept.admin_acl;
   max_memory = kept_at_key (IsWithin 1 most_memory_mb) _ _ _ _ (within 1 most_memory_mb) (lit≤ tt, lit≤ tt) kept.max_memory;
   max_vcores = kept_at_key (IsWithin 1 most_vcores) _ _ _ _ (within 1 most_vcores) (lit≤ tt, lit≤ tt) kept.max_vcores;
   groups = kept_at_key (All HasNames) _ _ _ _ groups_are (All-nil HasNames) kept.groups;
-  queues = kept_at_key (λ queues. queues ≡ default_queues) _ _ _ _ (λ value. nothing) refl kept.queues;
+  queues = kept_at_key AreQueues _ _ _ _ tree_is default_are kept.queues;
 }

@@ -24,3 +24,11 @@ most_memory_mb = 16777216
 -- its virtual cores
 abbrev pub most_vcores : ℕ
 most_vcores = 256
+
+-- how many queues a tree may have
+abbrev pub most_queues : ℕ
+most_queues = 256
+
+-- how many dots the name of a queue may have: its parts are one more
+abbrev pub most_dots : ℕ
+most_dots = 7

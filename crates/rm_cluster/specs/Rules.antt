@@ -10,6 +10,7 @@ use Rattle.rm_types.specs.declared.settings.Settings.{Settings}
 use Rattle.rm_types.specs.declared.settings.UserGroups.{UserGroups}
 use Rattle.rm_types.specs.declared.texts.TextKind.TheVariants.{AclText}
 use Rattle.rm_cluster.specs.Limits.{longest_wait_ms, most_apps, most_attempts, most_completed, most_memory_mb, most_vcores}
+use Rattle.rm_cluster.specs.Queues.{queue_tree_of}
 use Rattle.rm_cluster.specs.Readings.{at_key, number_within, string_of, user_groups_of, has_only}
 
 -- the keys that may stand in the file
@@ -42,9 +43,9 @@ max_apps_of = at_key (codes "max_apps") (number_within 1 most_apps) 10000
 unfoldable pub wait_ms_of : Data → Option ℕ
 wait_ms_of = at_key (codes "wait_ms") (number_within 0 longest_wait_ms) 10000
 
--- whether rights are checked, which so far may only be false: false where the key is absent
+-- whether rights are checked: false where the key is absent
 unfoldable pub acl_enable_of : Data → Option Bool
-acl_enable_of = at_key (codes "acl_enable") (λ value. option_and_then (λ enabled. if enabled then None else Some enabled) (as_bool value)) false
+acl_enable_of = at_key (codes "acl_enable") as_bool false
 
 -- who administers all: an access control list, and `*` where the key is absent
 unfoldable pub admin_acl_of : Data → Option (List ℕ)
@@ -70,9 +71,9 @@ bare_queue name = record { name = name; submit = None; admin = None }
 abbrev pub default_queues : List QueueSpec
 default_queues = bare_queue (codes "root") ∷ bare_queue (codes "root.default") ∷ []
 
--- the queues, which so far may not be set: `root` and `root.default` where the key is absent
+-- the queues: `root` and `root.default` where the key is absent
 unfoldable pub queues_of : Data → Option (List QueueSpec)
-queues_of = at_key (codes "queues") (λ value. None) default_queues
+queues_of = at_key (codes "queues") queue_tree_of default_queues
 
 -- each place from 2 on in the order of the table, and whether the file keeps its rule
 abbrev pub rules : Data → List (ℕ × Bool)

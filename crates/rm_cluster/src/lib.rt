@@ -11,6 +11,7 @@
 mod clusters;
 mod groups;
 mod laws;
+mod queues;
 mod readings;
 mod rules;
 #[cfg(test)]

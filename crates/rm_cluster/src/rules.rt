@@ -5,6 +5,7 @@ ghost use Rattle.serde_json.specs.View.{view};
 ghost use Rattle.rm_cluster.specs.Rules.{is_known, has_known_keys, max_attempts_of, max_completed_of, max_apps_of, wait_ms_of, acl_enable_of, admin_acl_of, max_memory_of, max_vcores_of, groups_of, queues_of, bare_queue, default_queues};
 
 use crate::groups::user_groups_of;
+use crate::queues::queue_tree_of;
 use crate::readings::{number_at, string_of};
 use rm_types::{Items, NoMemory, QueueSpec, Text, TextKind, UserGroups};
 use serde_json::{Map, Value};
@@ -78,13 +79,13 @@ pub(crate) fn wait_ms_of(file: &Value) -> Option<u32>
     number_at(file, "wait_ms", 0, 1_000_000_000, 10_000)
 }
 
-/// Whether rights are checked. They can't be yet, so `true` is refused.
+/// Whether rights are checked.
 #[tactic(auto, unfolding(crate::specs::Rules::acl_enable_of))]
 pub(crate) fn acl_enable_of(file: &Value) -> Option<bool>
     ensures { result ≡ acl_enable_of (view file.now) }
 {
     match file.get("acl_enable") {
-        Some(value) => value.as_bool().filter(|enabled| !*enabled),
+        Some(value) => value.as_bool(),
         None => Some(false),
     }
 }
@@ -127,13 +128,13 @@ pub(crate) fn groups_of(alloc: Global, file: &Value) -> Result<Option<Items<User
     }
 }
 
-/// The queues. They can't be set yet, so the key is refused.
+/// The queues.
 #[tactic(auto, unfolding(crate::specs::Rules::queues_of))]
 pub(crate) fn queues_of(alloc: Global, file: &Value) -> Result<Option<Items<QueueSpec>>, NoMemory>
     ensures { IfOk result (λ queues. queues ≡ queues_of (view file.now)) }
 {
     match file.get("queues") {
-        Some(_) => Ok(None),
+        Some(value) => queue_tree_of(alloc, value),
         None => Ok(Some(default_queues(alloc)?)),
     }
 }

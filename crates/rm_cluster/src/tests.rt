@@ -83,7 +83,7 @@ fn each_rule_has_its_place(rt: HostRuntime) -> Result<(), Fail> {
         ("{\"max_apps\":-5}", 5),
         ("{\"wait_ms\":1.5}", 6),
         ("{\"wait_ms\":18446744073709551616}", 6),
-        ("{\"acl_enable\":true}", 7),
+        ("{\"acl_enable\":\"true\"}", 7),
         ("{\"acl_enable\":0}", 7),
         ("{\"admin_acl\":[]}", 8),
         ("{\"admin_acl\":\"a\\nb\"}", 8),
@@ -98,6 +98,33 @@ fn each_rule_has_its_place(rt: HostRuntime) -> Result<(), Fail> {
         ("{\"groups\":{\"ann\":[\"staff\",1]}}", 11),
         ("{\"queues\":[]}", 12),
         ("{\"queues\":null}", 12),
+        ("{\"queues\":{\"name\":\"root\"}}", 12),
+        ("{\"queues\":[{}]}", 12),
+        ("{\"queues\":[{\"name\":\"top\"}]}", 12),
+        ("{\"queues\":[{\"name\":\"root\",\"lists\":1}]}", 12),
+        ("{\"queues\":[{\"name\":\"root\",\"submit\":1}]}", 12),
+        ("{\"queues\":[{\"name\":\"root\",\"admin\":\"a\\nb\"}]}", 12),
+        ("{\"queues\":[{\"name\":\"root\"},{\"name\":\"root\"}]}", 12),
+        (
+            "{\"queues\":[{\"name\":\"root\"},{\"name\":\"root.a.b\"}]}",
+            12,
+        ),
+        (
+            "{\"queues\":[{\"name\":\"root.a\"},{\"name\":\"root\"}]}",
+            12,
+        ),
+        (
+            "{\"queues\":[{\"name\":\"root\"},{\"name\":\"root.\"}]}",
+            12,
+        ),
+        (
+            "{\"queues\":[{\"name\":\"root\"},{\"name\":\"rootA\"}]}",
+            12,
+        ),
+        (
+            "{\"queues\":[{\"name\":\"root\"},{\"name\":\"root.A\"}]}",
+            12,
+        ),
         // Of several rules that are broken the first counts, wherever its key stands.
         (
             "{\"queues\":[],\"groups\":[],\"max_vcores\":0,\"wait_ms\":-1}",
@@ -137,6 +164,40 @@ fn each_key_sets_its_own_part(rt: HostRuntime) -> Result<(), Fail> {
         shown.as_str(),
         "Items { list: [UserGroups { user: Text { list: [97, 110, 110] }, groups: Items { list: [Text { list: [115, 116, 97, 102, 102] }, Text { list: [111, 112, 115, 45, 49] }, Text { list: [115, 116, 97, 102, 102] }] } }, UserGroups { user: Text { list: [98, 111, 98] }, groups: Items { list: [] } }] }"
     );
+    Ok(())
+}
+
+/// A chain of queues, each below the one before it, so many deep.
+fn chain(alloc: Global, queues: usize) -> Result<Vec<u8>, Fail> {
+    let mut file = Vec::from_slice(alloc, b"{\"queues\":[{\"name\":\"root\"}".as_slice())?;
+    let mut name = Vec::from_slice(alloc, b"root".as_slice())?;
+    for _queue in 1..queues {
+        name.extend_from_slice(b".a")?;
+        file.extend_from_slice(b",{\"name\":\"")?;
+        file.extend_from_slice(&name)?;
+        file.extend_from_slice(b"\"}")?;
+    }
+    file.extend_from_slice(b"]}")?;
+    Ok(file)
+}
+
+#[test]
+fn queues_have_their_lists(rt: HostRuntime) -> Result<(), Fail> {
+    let alloc = rt.alloc();
+    let file =
+        b"{\"acl_enable\":true,\"queues\":[{\"name\":\"root\",\"submit\":\"dave\",\"admin\":\" \"},{\"admin\":\"*\",\"name\":\"root.b\"}]}";
+    let settings = read_cluster(alloc, file.as_slice())?;
+    assert!(rt; settings.acl_enable);
+    let queues = &settings.queues;
+    let shown = format!(in alloc; "{queues:?}")?;
+    assert_eq!(rt;
+        shown.as_str(),
+        "Items { list: [QueueSpec { name: Text { list: [114, 111, 111, 116] }, submit: Some(Text { list: [100, 97, 118, 101] }), admin: Some(Text { list: [32] }) }, QueueSpec { name: Text { list: [114, 111, 111, 116, 46, 98] }, submit: None, admin: Some(Text { list: [42] }) }] }"
+    );
+    for (queues, place) in [(8, None), (9, Some(12))] {
+        let file = chain(alloc, queues)?;
+        assert_eq!(rt; place_of(alloc, file.as_slice())?, place);
+    }
     Ok(())
 }
 

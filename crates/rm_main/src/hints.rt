@@ -10,12 +10,13 @@ pub fn cluster_hint(place: u32) -> &'static str {
         4 => "max_completed: a whole number from 0 to 10000",
         5 => "max_apps: a whole number from 1 to 100000",
         6 => "wait_ms: a whole number from 0 to 1000000000",
-        7 => "acl_enable: false; true is not read yet",
+        7 => "acl_enable: true or false",
         8 => "admin_acl: a string of at most 512 printable bytes",
         9 => "max_memory_mb: a whole number from 1 to 16777216",
         10 => "max_vcores: a whole number from 1 to 256",
         11 => "groups: an object of names, each with a list of names",
-        12 => "queues: this key is not read yet",
+        12 =>
+            "queues: a list of objects with a `name` and maybe `submit` and `admin`; the first is `root`, and each other one is a part below one before it",
         _ => "docs/FORMATS.md lists what may stand there",
     }
 }
