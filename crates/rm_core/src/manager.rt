@@ -152,8 +152,8 @@ impl Core {
         let _ = &self.log;
     }
 
-    /// Makes one move: the log has one more entry, or the move is refused and nothing has changed. `NotReady` comes exactly where the
-    /// move's lane isn't ready. Where the log was lawful over a store that held an opening list, and a life begins over what is
+    /// Makes one move: the log has one more entry, or the move is refused and nothing has changed. `NotReady` comes only where the
+    /// move's lane isn't ready, where `Memory` may come too. Where the log was lawful over a store that held an opening list, and a life begins over what is
     /// kept by then, it is lawful after the move too.
     pub fn step(&mut self, next: Move) -> Result<(), Refused>
         requires { CanMake self.old.tables next }
