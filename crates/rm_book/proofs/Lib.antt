@@ -8,3 +8,4 @@ pub mod Numbered
 pub mod Rows
 pub mod Splits
 pub mod Viewed
+pub mod Taken

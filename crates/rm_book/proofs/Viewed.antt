@@ -1,5 +1,5 @@
 -- What attempts ask for, as contracts see it, after each change of their lines.
-use Rattle.std.proofs.Common.{◌≡◌, ℕ, ◌+◌, List, [], ◌∷◌, Bool, true, false, not, ◌==◌, nat_lt, map, filter, None, Some, refl, sym, ◌∙◌, ap}
+use Rattle.std.proofs.Common.{◌≡◌, ℕ, ◌+◌, List, [], ◌∷◌, Bool, true, false, not, ◌==◌, nat_lt, map, filter, if◌then◌else◌, None, Some, refl, sym, ◌∙◌, ap}
 use Rattle.std.specs.List.{list_any}
 use Rattle.std.proofs.lemmas.List.{map-append}
 use Rattle.rm_types.specs.declared.containers.Ask.{Ask}
@@ -10,8 +10,8 @@ use Rattle.rm_types.specs.Ids.{is_attempt}
 use Rattle.rm_types.specs.Lists.{is_nil}
 use Rattle.rm_types.specs.Passes.{by_priority}
 use Rattle.rm_book.specs.declared.lines.AttemptAsks.{AttemptAsks}
-use Rattle.rm_book.specs.AskTables.{AskNow, asks_of, asks_set, asks_granted, is_for, one_less, renewed, some_asks}
-use Rattle.rm_book.specs.AskLines.{AreLines, IsAskTable, ask_of, asks_in, asks_of_entry, by_order, in_line, is_line_for, lines_in, lines_set, lines_granted}
+use Rattle.rm_book.specs.AskTables.{AskNow, AsksOf, asks_of, asks_set, asks_granted, granted_in, is_for, one_less, renewed, some_asks, with_asks_of, without_asks_of}
+use Rattle.rm_book.specs.AskLines.{AreLines, IsAskTable, ask_of, asks_in, asks_of_entry, by_order, in_line, is_line_for, lines_in, lines_set, lines_granted, with_lines}
 use Rattle.rm_book.proofs.Entries.{Changed, lawful_lines}
 use Rattle.rm_book.proofs.Lists.{any_view, filter_view, map_view}
 use Rattle.rm_book.proofs.Numbered.{any_by_order, placed_last, by_order_changed, by_order_filter, kept_in_order}
@@ -78,3 +78,45 @@ some_view asked entries attempt lines h is some =
     not_nil : (lines : List AskLine) → is_nil lines ≡ false → Some (map ask_of lines) ≡ some_asks (map ask_of lines)
     not_nil [] e = cc
     not_nil (line ∷ lines) e = refl
+
+-- the whole table after a change of an attempt's lines, and without them
+pub lines_view : (attempt : AttemptId) (lines : List AskLine) (entries : List AttemptAsks)
+    → map asks_of_entry (with_lines attempt lines entries) ≡ with_asks_of attempt (asks_in lines) (map asks_of_entry entries)
+lines_view attempt lines [] = refl
+lines_view attempt lines (entry ∷ entries) = by (is_attempt entry.attempt attempt) refl (lines_view attempt lines entries)
+  where
+    by : (b : Bool) → is_attempt entry.attempt attempt ≡ b → map asks_of_entry (with_lines attempt lines entries) ≡ with_asks_of attempt (asks_in lines) (map asks_of_entry entries)
+        → map asks_of_entry (with_lines attempt lines (entry ∷ entries)) ≡ with_asks_of attempt (asks_in lines) (map asks_of_entry (entry ∷ entries))
+    by true e rest = rw e refl
+    by false e rest = rw e (ap (λ (more : List AsksOf). asks_of_entry entry ∷ more) rest)
+
+pub without_view : (attempt : AttemptId) (entries : List AttemptAsks)
+    → map asks_of_entry (filter (λ entry. not (is_attempt entry.attempt attempt)) entries) ≡ without_asks_of attempt (map asks_of_entry entries)
+without_view attempt entries = filter_view asks_of_entry (λ one. not (is_attempt one.attempt attempt)) entries
+
+-- the table after an ask was set, and after one was granted
+pub set_table : (asked : ℕ) (ask : Ask) (attempt : AttemptId) (entries : List AttemptAsks) → IsAskTable asked entries
+    → map asks_of_entry (with_lines attempt (lines_set ask (asked + 1) (lines_in entries attempt)) entries)
+    ≡ with_asks_of attempt (asks_set ask (asks_of (map asks_of_entry entries) attempt)) (map asks_of_entry entries)
+set_table asked ask attempt entries h =
+    lines_view attempt (lines_set ask (asked + 1) (lines_in entries attempt)) entries
+    ∙ ap (λ (asks : List Ask). with_asks_of attempt asks (map asks_of_entry entries))
+    (set_view asked ask (lines_in entries attempt) (lawful_lines asked entries attempt h) ∙ ap (asks_set ask) (sym (view_of entries attempt)))
+
+pub granted_table : (priority : ℕ) (size : Resource) (attempt : AttemptId) (entries : List AttemptAsks)
+    → map asks_of_entry (if list_any (λ entry. is_attempt entry.attempt attempt) entries then with_lines attempt (lines_granted priority size (lines_in entries attempt)) entries else entries)
+    ≡ granted_in attempt priority size (map asks_of_entry entries)
+granted_table priority size attempt entries =
+    by (list_any (λ entry. is_attempt entry.attempt attempt) entries) refl (any_view asks_of_entry (λ one. is_attempt one.attempt attempt) entries)
+  where
+    by : (b : Bool) → list_any (λ entry. is_attempt entry.attempt attempt) entries ≡ b
+        → list_any (λ entry. is_attempt entry.attempt attempt) entries ≡ list_any (λ one. is_attempt one.attempt attempt) (map asks_of_entry entries)
+        → map asks_of_entry (if list_any (λ entry. is_attempt entry.attempt attempt) entries then with_lines attempt (lines_granted priority size (lines_in entries attempt)) entries else entries)
+        ≡ granted_in attempt priority size (map asks_of_entry entries)
+    by true e v =
+        let f = sym v ∙ e in
+        rw (e, f)
+        (lines_view attempt (lines_granted priority size (lines_in entries attempt)) entries
+        ∙ ap (λ (asks : List Ask). with_asks_of attempt asks (map asks_of_entry entries))
+        (granted_view priority size (lines_in entries attempt) ∙ ap (asks_granted priority size) (sym (view_of entries attempt))))
+    by false e v = let f = sym v ∙ e in rw (e, f) refl

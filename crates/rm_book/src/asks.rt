@@ -2,7 +2,7 @@ ghost use Rattle.std.specs.Prelude.{◌≡◌, [], OnOk, OnErr, map, option_map}
 ghost use Rattle.std.specs.List.{list_any};
 ghost use Rattle.std.specs.Option.{option_copied};
 ghost use Rattle.rm_types.specs.Passes.{by_priority};
-ghost use Rattle.rm_book.specs.AskTables.{AskNow, asks_of, asks_set, asks_granted, is_for, some_asks};
+ghost use Rattle.rm_book.specs.AskTables.{AskNow, asks_of, asks_set, asks_granted, granted_in, is_for, some_asks, with_asks_of, without_asks_of};
 
 use crate::lines::{AttemptAsks, grant_entry, place_of_attempt, set_entry};
 use rm_types::{Ask, AskLine, AttemptId, Items, NoMemory, Resource};
@@ -44,6 +44,7 @@ impl Asks {
     /// priority. `NoMemory`, which also comes where no number is left to order asks by, changes nothing.
     pub fn set(&mut self, attempt: AttemptId, ask: Ask) -> Result<(), NoMemory>
         ensures ok { OnOk result (AskNow self.old self.new attempt (asks_set ask (asks_of self.old attempt))) }
+        ensures table { OnOk result (self.new ≡ with_asks_of attempt (asks_set ask (asks_of self.old attempt)) self.old) }
         ensures err { OnErr result (self.new ≡ self.old) }
     {
         let Some(order) = self.asked.checked_add(1) else {
@@ -66,7 +67,8 @@ impl Asks {
 
     /// Takes all asks of an attempt away.
     pub fn clear(&mut self, attempt: AttemptId)
-        ensures { AskNow self.old self.new attempt [] }
+        ensures asks { AskNow self.old self.new attempt [] }
+        ensures table { self.new ≡ without_asks_of attempt self.old }
     {
         self.entries.retain(|entry| entry.attempt != attempt);
     }
@@ -76,6 +78,7 @@ impl Asks {
     pub fn granted(&mut self, attempt: AttemptId, priority: u32, size: Resource) -> bool
         ensures found { result ≡ list_any (is_for priority size) (asks_of self.old attempt) }
         ensures asks { AskNow self.old self.new attempt (asks_granted priority size (asks_of self.old attempt)) }
+        ensures table { self.new ≡ granted_in attempt priority size self.old }
     {
         grant_entry(&mut self.entries, attempt, priority, size)
     }

@@ -1,9 +1,9 @@
-use Rattle.std.proofs.Common.{sym, ◌∙◌, ap}
+use Rattle.std.proofs.Common.{sym, ◌∙◌, ap, map}
 use Rattle.std.specs.List.{list_any}
-use Rattle.rm_book.specs.AskLines.{lines_in}
+use Rattle.rm_book.specs.AskLines.{asks_of_entry, lines_in}
 use Rattle.rm_book.specs.AskTables.{asks_granted, is_for}
 use Rattle.rm_book.proofs.Entries.{granted_leaves}
-use Rattle.rm_book.proofs.Viewed.{any_same, changed_view, granted_view, view_of}
+use Rattle.rm_book.proofs.Viewed.{any_same, changed_view, granted_table, granted_view, view_of}
 use Rattle.rm_book.proofs.asks.Asks.granted.Goals as goal
 
 pub invariant_of-self : goal.invariant_of-self
@@ -22,3 +22,8 @@ returns-clause-asks c =
     (changed_view c.self.inside.asked _ _ c.args.attempt _ (asks_granted c.args.priority c.args.size)
     (granted_leaves c.self.inside.asked c.self.inside.entries.items c.grant_entry.new.entries.items c.args.attempt c.args.priority c.args.size c.grant_entry.ensures.entries c.self.invariant)
     (granted_view c.args.priority c.args.size (lines_in c.self.inside.entries.items c.args.attempt)))
+
+pub returns-clause-table : goal.returns-clause-table
+returns-clause-table c =
+    rw (← c.self.view_is)
+    (ap (map asks_of_entry) c.grant_entry.ensures.entries ∙ granted_table c.args.priority c.args.size c.args.attempt c.self.inside.entries.items)

@@ -1,7 +1,8 @@
-use Rattle.rm_book.specs.AskLines.{lines_in}
+use Rattle.std.proofs.Common.{◌∙◌, ap, map}
+use Rattle.rm_book.specs.AskLines.{asks_of_entry, lines_in}
 use Rattle.rm_book.specs.AskTables.{asks_set}
 use Rattle.rm_book.proofs.Entries.{set_leaves, lawful_lines}
-use Rattle.rm_book.proofs.Viewed.{changed_view, set_view}
+use Rattle.rm_book.proofs.Viewed.{changed_view, set_table, set_view}
 use Rattle.rm_book.proofs.asks.Asks.set.Goals as goal
 
 pub invariant_of-self-2 : goal.invariant_of-self-2
@@ -16,3 +17,9 @@ returns-clause-ok c =
     (set_leaves c.self.inside.asked c.in-Some.order c.self.inside.entries.items c.set_entry.new.entries.items c.args.attempt c.args.ask c.in-Some.ensures.1
     c.in_ok-set_entry.ensures.ok c.self.invariant)
     (set_view c.self.inside.asked c.args.ask (lines_in c.self.inside.entries.items c.args.attempt) (lawful_lines c.self.inside.asked c.self.inside.entries.items c.args.attempt c.self.invariant)))
+
+pub returns-clause-table : goal.returns-clause-table
+returns-clause-table c =
+    rw (← c.self.view_is)
+    (ap (map asks_of_entry) c.in_ok-set_entry.ensures.ok
+    ∙ rw c.in-Some.ensures.1 (set_table c.self.inside.asked c.args.ask c.args.attempt c.self.inside.entries.items c.self.invariant))

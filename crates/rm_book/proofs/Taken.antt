@@ -1,0 +1,196 @@
+-- The book after an absorption is a book.
+use Rattle.std.proofs.Common.{◌≡◌, ℕ, ◌+◌, ◌<◌, Bool, true, false, not, ◌||◌, cond, List, [], ◌∷◌, ◌++◌, length, map, filter, take, drop, get_or, set, Some, refl, sym, ◌∙◌, ap, subst, append_assoc, append-nil, arith}
+use Rattle.std.specs.List.{list_any, sum_by}
+use Rattle.std.specs.Str.{bytes_eq}
+use Rattle.std.proofs.lemmas.Bool.{or_parts, or_from}
+use Rattle.std.proofs.lemmas.List.{map-append, get_or_default, length-map}
+use Rattle.std.proofs.lemmas.List.Edits.{map_over_more}
+use Rattle.std.proofs.lemmas.List.Folds.{list_any-append}
+use Rattle.rm_types.specs.declared.containers.BookRow.{BookRow}
+use Rattle.rm_types.specs.declared.containers.ContainerState.TheVariants.{Running}
+use Rattle.rm_types.specs.declared.containers.Held.{Held}
+use Rattle.rm_types.specs.declared.ids.ContainerId.{ContainerId}
+use Rattle.rm_types.specs.declared.resources.Resource.{Resource}
+use Rattle.rm_types.specs.Ids.{is_container}
+use Rattle.rm_types.specs.Resources.{Fits}
+use Rattle.rm_book.specs.Books.{AreApart, AreOnce, BookOf, IsBook, TellUpTo, capability_or_none, entering, is_held, is_of, row_taken, sizes_on, taken_rows, total_on, with_capability, with_taken}
+use Rattle.rm_book.proofs.Asked.{whole}
+use Rattle.rm_book.proofs.Changes.{book_left}
+use Rattle.rm_book.proofs.Ids.{container_back}
+use Rattle.rm_book.proofs.Lists.{any_filter}
+use Rattle.rm_book.proofs.Nodes.{AllFit, capability_in-with_capability, fit_set, same_text}
+use Rattle.rm_book.proofs.Rows.{apart_push, sum_joined, told_push}
+
+-- the row of a container that was taken
+abbrev row_of_held : ℕ → List ℕ → Held → BookRow
+row_of_held told node held = record { id = held.id; node = node; size = held.size; state = Running; told = told }
+
+-- rows that run already stay as they are
+same_row : (b : Bool) (row : BookRow) → row.state ≡ Running → cond b (record row { state = Running }) row ≡ row
+same_row true row e = rw e refl
+same_row false row e = refl
+
+pub running_stay : (taken : List Held) (added : ℕ) (node : List ℕ) (list : List Held) → map (row_taken taken) (taken_rows added node list) ≡ taken_rows added node list
+running_stay taken added node [] = refl
+running_stay taken added node (held ∷ list) = rw (same_row (is_held taken held.id) (row_of_held (added + 1) node held) refl, running_stay taken (added + 1) node list) refl
+
+-- a step of a loop over rows
+pub changed_rows : (f : BookRow → BookRow) (xs ys zs : List BookRow) (i : ℕ) (y d : BookRow) → i < length xs → length ys ≡ length xs → ys ≡ map f (take i xs) ++ drop i xs
+    → zs ≡ set ys i y → f (get_or ys i d) ≡ y → zs ≡ map f (take (i + 1) xs) ++ drop (i + 1) xs
+changed_rows f xs ys zs i y d within long so_far new is =
+    new ∙ ap (set ys i) (sym is)
+    ∙ map_over_more f xs ys i (get_or ys i d) within so_far (get_or_default ys i d (get_or ys i d) (omega (arith, long)))
+
+-- a row that runs from now on stands as it did
+module _ (taken : List Held) where
+  id_stays : (row : BookRow) → (row_taken taken row).id ≡ row.id
+  id_stays row = by (is_held taken row.id)
+    where
+      by : (b : Bool) → (cond b (record row { state = Running }) row).id ≡ row.id
+      by true = refl
+      by false = refl
+
+  told_stays : (row : BookRow) → (row_taken taken row).told ≡ row.told
+  told_stays row = by (is_held taken row.id)
+    where
+      by : (b : Bool) → (cond b (record row { state = Running }) row).told ≡ row.told
+      by true = refl
+      by false = refl
+
+  node_stays : (row : BookRow) → (row_taken taken row).node ≡ row.node
+  node_stays row = by (is_held taken row.id)
+    where
+      by : (b : Bool) → (cond b (record row { state = Running }) row).node ≡ row.node
+      by true = refl
+      by false = refl
+
+  size_stays : (row : BookRow) → (row_taken taken row).size ≡ row.size
+  size_stays row = by (is_held taken row.id)
+    where
+      by : (b : Bool) → (cond b (record row { state = Running }) row).size ≡ row.size
+      by true = refl
+      by false = refl
+
+  any_stays : (id : ContainerId) (rows : List BookRow) → list_any (is_of id) (map (row_taken taken) rows) ≡ list_any (is_of id) rows
+  any_stays id [] = refl
+  any_stays id (row ∷ rows) = rw (id_stays row, any_stays id rows) refl
+
+  apart_stays : (rows : List BookRow) → AreApart rows → AreApart (map (row_taken taken) rows)
+  apart_stays [] h = tt
+  apart_stays (row ∷ rows) h = (rw (id_stays row, any_stays row.id rows) h.0, apart_stays rows h.1)
+
+  told_order : (least added : ℕ) (rows : List BookRow) → TellUpTo least added rows → TellUpTo least added (map (row_taken taken) rows)
+  told_order least added [] h = h
+  told_order least added (row ∷ rows) h = (rw (told_stays row) h.0, rw (told_stays row) (told_order row.told added rows h.1))
+
+  sizes_stay : (node : List ℕ) (rows : List BookRow) → sizes_on node (map (row_taken taken) rows) ≡ sizes_on node rows
+  sizes_stay node [] = refl
+  sizes_stay node (row ∷ rows) = by (bytes_eq row.node node) refl (sizes_stay node rows)
+    where
+      by : (b : Bool) → bytes_eq row.node node ≡ b → sizes_on node (map (row_taken taken) rows) ≡ sizes_on node rows
+          → sizes_on node (map (row_taken taken) (row ∷ rows)) ≡ sizes_on node (row ∷ rows)
+      by true e rest = rw (node_stays row, e, size_stays row, rest) refl
+      by false e rest = rw (node_stays row, e) rest
+
+-- these enter: none has a row, and no two are of one container
+abbrev AreFresh : List BookRow → List Held → Type 0
+AreFresh rows [] = Unit {0}
+AreFresh rows (held ∷ list) = (list_any (is_of held.id) rows ≡ false) × (is_held list held.id ≡ false) × AreFresh rows list
+
+held_filter : (test : Held → Bool) (list : List Held) (id : ContainerId) → is_held list id ≡ false → is_held (filter test list) id ≡ false
+held_filter test [] id h = refl
+held_filter test (held ∷ list) id h =
+    let parts = or_parts (is_container held.id id) (is_held list id) h in
+    by (test held) refl parts.0 (held_filter test list id parts.1)
+  where
+    by : (b : Bool) → test held ≡ b → is_container held.id id ≡ false → is_held (filter test list) id ≡ false → is_held (filter test (held ∷ list)) id ≡ false
+    by true e first rest = rw e (or_from (is_container held.id id) (is_held (filter test list) id) first rest)
+    by false e first rest = rw e rest
+
+-- of what is taken once, that which has no row among more
+fresh_of : (rows more : List BookRow) (list : List Held) → ((id : ContainerId) → list_any (is_of id) rows ≡ false → list_any (is_of id) more ≡ false) → AreOnce list
+    → AreFresh more (filter (λ held. not (list_any (is_of held.id) rows)) list)
+fresh_of rows more [] less once = tt
+fresh_of rows more (held ∷ list) less once = by (list_any (is_of held.id) rows) refl (fresh_of rows more list less once.1)
+  where
+    by : (b : Bool) → list_any (is_of held.id) rows ≡ b → AreFresh more (filter (λ one. not (list_any (is_of one.id) rows)) list)
+        → AreFresh more (filter (λ one. not (list_any (is_of one.id) rows)) (held ∷ list))
+    by true e rest = rw e rest
+    by false e rest = rw e (less held.id e, held_filter (λ one. not (list_any (is_of one.id) rows)) list held.id once.0, rest)
+
+-- those that come after a first one are new where its row stands too
+fresh_after : (rows : List BookRow) (one : BookRow) (held : Held) (list : List Held) → one.id ≡ held.id → is_held list held.id ≡ false → AreFresh rows list → AreFresh (rows ++ one ∷ []) list
+fresh_after rows one held [] is apart new = tt
+fresh_after rows one held (other ∷ list) is apart new =
+    let parts = or_parts (is_container other.id held.id) (is_held list held.id) apart in
+    let last : is_of other.id one ≡ false = rw is (container_back held.id other.id ∙ parts.0) in (
+      list_any-append (is_of other.id) rows (one ∷ []) ∙ or_from (list_any (is_of other.id) rows) _ new.0 (or_from (is_of other.id one) false last refl),
+      new.1,
+      fresh_after rows one held list is parts.1 new.2,
+    )
+
+apart_joined : (rows : List BookRow) (added : ℕ) (node : List ℕ) (list : List Held) → AreApart rows → AreFresh rows list → AreApart (rows ++ taken_rows added node list)
+apart_joined rows added node [] apart new = rw (append-nil rows) apart
+apart_joined rows added node (held ∷ list) apart new =
+    let one : BookRow = row_of_held (added + 1) node held in
+    let rest = apart_joined (rows ++ one ∷ []) (added + 1) node list (apart_push rows one apart new.0) (fresh_after rows one held list refl new.1 new.2) in
+    rw (append_assoc rows (one ∷ []) (taken_rows (added + 1) node list)) at rest
+
+told_joined : (rows : List BookRow) (added : ℕ) (node : List ℕ) (list : List Held) → TellUpTo 0 added rows → TellUpTo 0 (added + length list) (rows ++ taken_rows added node list)
+told_joined rows added node [] told = let none : added + 0 ≡ added = omega arith in rw (append-nil rows, none) told
+told_joined rows added node (held ∷ list) told =
+    let one : BookRow = row_of_held (added + 1) node held in
+    let rest = told_joined (rows ++ one ∷ []) (added + 1) node list (told_push 0 added rows one refl told) in
+    let count : added + 1 + length list ≡ added + length (held ∷ list) = omega arith in
+    rw (append_assoc rows (one ∷ []) (taken_rows (added + 1) node list), count) at rest
+
+none_elsewhere : (other node : List ℕ) (added : ℕ) (list : List Held) → bytes_eq node other ≡ false → sizes_on other (taken_rows added node list) ≡ []
+none_elsewhere other node added [] apart = refl
+none_elsewhere other node added (held ∷ list) apart = rw apart (none_elsewhere other node (added + 1) list apart)
+
+-- what stands on another node is no more than before
+module _ (book : BookOf) (node : List ℕ) (capability : Resource) (taken : List Held) (ended : List ContainerId) (lawful : IsBook book) (once : AreOnce taken) where
+  abbrev after : BookOf
+  after = with_taken book node capability taken ended
+
+  abbrev left : List BookRow
+  left = filter (λ row. not (list_any (λ id. is_container id row.id) ended)) book.rows
+
+  left_lawful : IsBook (record book { rows = left })
+  left_lawful = book_left book (λ row. not (list_any (λ id. is_container id row.id) ended)) lawful
+
+  part_elsewhere : (part : Resource → ℕ) (other : List ℕ) → bytes_eq node other ≡ false → sum_by part (sizes_on other after.rows) ≡ sum_by part (sizes_on other left)
+  part_elsewhere part other apart =
+      sum_joined part other (map (row_taken taken) left) (taken_rows book.added node (entering book taken))
+      ∙ rw (sizes_stay taken other left, none_elsewhere other node book.added (entering book taken) apart) (omega arith)
+
+  fit_elsewhere : Fits (total_on node after.rows) capability → AllFit after.rows after.nodes
+  fit_elsewhere fits other = by (bytes_eq node other) refl
+    where
+      by : (b : Bool) → bytes_eq node other ≡ b → Fits (total_on other after.rows) (capability_or_none (with_capability node capability book.nodes) other)
+      by true e = rw (capability_in-with_capability node other capability book.nodes, e) (subst (λ (name : List ℕ). Fits (total_on name after.rows) capability) (same_text node other e) fits)
+      by false e =
+          let m = part_elsewhere (λ size. size.memory_mb) other e in
+          let c = part_elsewhere (λ size. size.vcores) other e in
+          let h = left_lawful.fit other in
+          rw (capability_in-with_capability node other capability book.nodes, e) (omega (arith, m, h.0), omega (arith, c, h.1))
+
+  fewer : (id : ContainerId) → list_any (is_of id) book.rows ≡ false → list_any (is_of id) (map (row_taken taken) left) ≡ false
+  fewer id none =
+      any_stays taken id left ∙ any_filter (is_of id) (λ row. not (list_any (λ one. is_container one row.id) ended)) book.rows none
+
+  pub taken_lawful : Fits (total_on node after.rows) capability → IsBook after
+  taken_lawful fits = record {
+    apart = apart_joined (map (row_taken taken) left) book.added node (entering book taken) (apart_stays taken left left_lawful.apart) (fresh_of book.rows (map (row_taken taken) left) taken fewer once);
+    told = told_joined (map (row_taken taken) left) book.added node (entering book taken) (told_order taken 0 book.added left left_lawful.told);
+    fit = fit_elsewhere fits;
+  }
+
+-- the rows after a call on all of them, where some left and others entered before it
+pub absorbed_rows : (book : BookOf) (node : List ℕ) (capability : Resource) (taken : List Held) (ended : List ContainerId) (left entered joined run : List BookRow) (n : ℕ)
+    → left ≡ filter (λ row. not (list_any (λ id. is_container id row.id) ended)) book.rows → entered ≡ taken_rows book.added node (entering book taken) → joined ≡ left ++ entered
+    → run ≡ map (row_taken taken) joined → length joined ≡ n → take n (run ++ drop (length run) joined) ≡ (with_taken book node capability taken ended).rows
+absorbed_rows book node capability taken ended left entered joined run n is_left is_entered is_joined is_run long =
+    whole n run joined long (ap length is_run ∙ length-map joined (row_taken taken) ∙ long)
+    ∙ is_run ∙ ap (map (row_taken taken)) is_joined ∙ map-append (row_taken taken) left entered
+    ∙ rw (is_left, is_entered, running_stay taken book.added node (entering book taken)) refl
