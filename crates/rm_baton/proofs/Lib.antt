@@ -1,0 +1,3 @@
+pub mod Growing
+mod Parts
+mod Steps
