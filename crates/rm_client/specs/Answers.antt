@@ -23,7 +23,8 @@ report_with state submission attempts text =
 
 -- the row of an application that was submitted just now
 abbrev pub new_row : Submission → AppRow
-new_row submission = record { state = apps.New; wish = false; pending = Some submission; current = None }
+new_row submission =
+    record { state = apps.New; wish = false; pending = Some submission; current = None; first = 0; dialogue = None; closings = [] }
 
 -- a submission joins: its application has a row, goes on, and is to be issued
 abbrev pub joined : AppId → Submission → Tables → Tables

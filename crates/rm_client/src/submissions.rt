@@ -10,7 +10,7 @@ ghost use Rattle.rm_client.specs.Shows.{Shows};
 use rm_app::AppState;
 use rm_queues::QueueTree;
 use rm_tables::{AppRow, MainEvent, Tables};
-use rm_types::{AclOp, AppId, Duplicate, NoMemory, Reply, Submission};
+use rm_types::{AclOp, AppId, Duplicate, Items, NoMemory, Reply, Submission};
 
 /// Whether this life or one before it may have given an id.
 fn is_given(t: &Tables, id: AppId) -> bool
@@ -58,6 +58,9 @@ fn join(t: &mut Tables, id: AppId, submission: &Submission) -> Result<(), NoMemo
         wish: false,
         pending: Some(pending),
         current: None,
+        first: 0,
+        dialogue: None,
+        closings: Items::new(t.alloc),
     };
     t.main.push(MainEvent::AppStart(id))?;
     match t.rows.add(id, row) {

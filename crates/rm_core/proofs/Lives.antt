@@ -46,7 +46,6 @@ module _ (t : Tables) (tree : Records) (stamp : ℕ) (over : CanBeginOver tree) 
         plain = over.plain;
         going = refl;
         ended = refl;
-        asks = refl;
         sched = refl;
         epoch = refl;
         rises = low;

@@ -4,6 +4,7 @@ use Rattle.std.specs.Prelude.{OnOk, OnErr, slice_get}
 use Rattle.rm_types.specs.declared.entries.Entry.{Entry}
 use Rattle.rm_types.specs.declared.entries.Entry.TheVariants.{Down as DownEntry, Handed, Kept as KeptEntry, Opened, Served, Settled}
 use Rattle.rm_types.specs.declared.ids.AppId.{AppId}
+use Rattle.rm_types.specs.declared.ids.ContainerId.{ContainerId}
 use Rattle.rm_types.specs.declared.messages.Lane.TheVariants.{Client, End, Hand as HandLane, Main as MainLane, Sched as SchedLane, Write}
 use Rattle.rm_types.specs.declared.messages.Message.{Message}
 use Rattle.rm_types.specs.declared.messages.Message.TheVariants.{Client as FromClient, Clock as FromClock, Master as FromMaster, Node as FromNode}
@@ -24,7 +25,7 @@ use Rattle.rm_tables.specs.Actions.{main_worked, sched_worked}
 use Rattle.rm_tables.specs.KeptOps.{kept}
 use Rattle.rm_tables.specs.Lives.{begun, gone_down, handed_out, is_ready, may_go_down}
 use Rattle.rm_tables.specs.MainEvents.{main_step}
-use Rattle.rm_tables.specs.SchedEvents.{sched_step}
+use Rattle.rm_tables.specs.SchedEvents.{EndsBy, sched_step}
 use Rattle.rm_facts.specs.Told.{History, scene_in, told}
 use Rattle.rm_facts.specs.Weights.{weight}
 use Rattle.rm_facts.proofs.Weighing.{begin_weighs, down_weighs}
@@ -122,16 +123,16 @@ module _ (t : Tables) (log : List Entry) (s : IsSound t) where
       by (event ∷ rest) front = let is = ok event rest front in rw (is.0, is.1) (main_made event rest front x)
 
   -- the first event of the scheduler's queue
-  sched_made : (event : SchedEvent) (rest : List SchedEvent) → t.sched ≡ event ∷ rest → (x : Unit {0}) → Done Sched t (sched_worked (sched_step event t)).1 log (log ++ (sched_worked (sched_step event t)).0 ∷ []) (Ok x)
-  sched_made event rest front x =
-      let moves = sched_moves s.history t event rest s.phase front in
+  sched_made : (event : SchedEvent) (list : List ContainerId) (rest : List SchedEvent) → t.sched ≡ event ∷ rest → (x : Unit {0}) → Done Sched t (sched_worked (sched_step event list t)).1 log (log ++ (sched_worked (sched_step event list t)).0 ∷ []) (Ok x)
+  sched_made event list rest front x =
+      let moves = sched_moves s.history t event list rest s.phase front in
       let own = moves.own in
       record {
-        sound = sound_own t (sched_worked (sched_step event t)).1 (sched_worked (sched_step event t)).0 s own;
+        sound = sound_own t (sched_worked (sched_step event list t)).1 (sched_worked (sched_step event list t)).0 s own;
         settings = own.moves.settings;
         does = record {
-          added = record { entry = (sched_worked (sched_step event t)).0; of_move = moves.of_lane; added = refl };
-          lawful = λ opening k from. keeps_more opening log t (sched_worked (sched_step event t)).1 (sched_worked (sched_step event t)).0 k own.stood (sched_moves k.history t event rest k.phase front).own.moves;
+          added = record { entry = (sched_worked (sched_step event list t)).0; of_move = moves.of_lane; added = refl };
+          lawful = λ opening k from. keeps_more opening log t (sched_worked (sched_step event list t)).1 (sched_worked (sched_step event list t)).0 k own.stood (sched_moves k.history t event list rest k.phase front).own.moves;
           ready = rw front refl;
           weighs = own.lighter;
           stands = (own.stood, own.stands);
@@ -143,14 +144,14 @@ module _ (t : Tables) (log : List Entry) (s : IsSound t) where
       }
 
   pub sched_done : (next : Tables) (longer : List Entry) (r : Result (Unit {0}) Refused)
-      → OnOk r ((event : SchedEvent) (rest : List SchedEvent) → t.sched ≡ event ∷ rest → (next ≡ (sched_worked (sched_step event t)).1) × (longer ≡ log ++ (sched_worked (sched_step event t)).0 ∷ []))
+      → OnOk r ((event : SchedEvent) (rest : List SchedEvent) → t.sched ≡ event ∷ rest → (list : List ContainerId) × EndsBy event t list × (next ≡ (sched_worked (sched_step event list t)).1) × (longer ≡ log ++ (sched_worked (sched_step event list t)).0 ∷ []))
       → OnOk r (t.sched ≢ []) → OnErr r ((next ≡ t) × (longer ≡ log)) → Done Sched t next log longer r
   sched_done next longer (Err e) ok some err = refused Sched t next log longer e s err.0
   sched_done next longer (Ok x) ok some err = by t.sched refl
     where
       by : (sched : List SchedEvent) → t.sched ≡ sched → Done Sched t next log longer (Ok x)
       by [] front = absurd (some front)
-      by (event ∷ rest) front = let is = ok event rest front in rw (is.0, is.1) (sched_made event rest front x)
+      by (event ∷ rest) front = let is = ok event rest front in rw (is.2, is.3) (sched_made event is.0 rest front x)
 
   -- the first awaiting operation is handed
   pub hand_done : (next : Tables) (longer : List Entry) (r : Result (Unit {0}) Refused) → OnOk r ((next ≡ handed_out t) × (longer ≡ log ++ Handed ∷ [])) → OnOk r (is_ready t HandLane ≡ true)

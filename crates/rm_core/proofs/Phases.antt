@@ -6,6 +6,7 @@ use Rattle.std.proofs.lemmas.Bool.Decides.{nat_tests}
 use Rattle.rm_types.specs.declared.entries.Entry.{Entry}
 use Rattle.rm_types.specs.declared.entries.Entry.TheVariants.{Accepted, Handed, Issued, Kept as KeptEntry, Queued, Quiet}
 use Rattle.rm_types.specs.declared.ids.AppId.{AppId}
+use Rattle.rm_types.specs.declared.ids.ContainerId.{ContainerId}
 use Rattle.rm_types.specs.declared.messages.Lane.{Lane}
 use Rattle.rm_types.specs.declared.messages.Lane.TheVariants.{Main as MainLane, Sched as SchedLane}
 use Rattle.rm_types.specs.declared.operations.Op.{Op}
@@ -53,7 +54,7 @@ main_told t (Accepted app) kind = refl
 main_told t (Quiet lane) kind = ap (λ (l : Lane). quiet_moved l t) kind
 main_told t _ kind = absurd kind
 
-sched_told : (t : Tables) (e : Entry) → IsOfLane SchedLane e → tables_moved t e ≡ sched_moved t.sched t
+sched_told : (t : Tables) (e : Entry) → IsOfLane SchedLane e → tables_moved t e ≡ sched_moved t.sched [] t
 sched_told t (Queued attempt) kind = refl
 sched_told t (Quiet lane) kind = ap (λ (l : Lane). quiet_moved l t) kind
 sched_told t _ kind = absurd kind
@@ -61,14 +62,14 @@ sched_told t _ kind = absurd kind
 dispatched : (h : History) (t next : Tables) (e : Entry) → IsRunning h t → Works MainLane h t e next → next ≡ main_moved t.main t → Dispatches (IsOfLane MainLane e) h t e next
 dispatched h t next e r works own = record { of_lane = works.kind; own = running_own h t next e r works.runs_on (own ∙ sym (main_told t e works.kind)) }
 
-scheduled : (h : History) (t next : Tables) (e : Entry) → IsRunning h t → Works SchedLane h t e next → next ≡ sched_moved t.sched t → Dispatches (IsOfLane SchedLane e) h t e next
+scheduled : (h : History) (t next : Tables) (e : Entry) → IsRunning h t → Works SchedLane h t e next → next ≡ sched_moved t.sched [] t → Dispatches (IsOfLane SchedLane e) h t e next
 scheduled h t next e r works own = record { of_lane = works.kind; own = running_own h t next e r works.runs_on (own ∙ sym (sched_told t e works.kind)) }
 
 -- a life that is beginning still is, after a change that leaves its parts
 still_begins : (h : History) (t next : Tables) → IsBeginning h t → next ≡ record t { main = next.main; awaiting = next.awaiting; handed = next.handed } → IsBeginning h next
 still_begins h t next b is =
     subst (IsBeginning h) (sym is)
-    (record { alive = b.alive; is_open = b.is_open; unblown = b.unblown; new = b.new; recorded = b.recorded; rows = b.rows; once = b.once; plain = b.plain; going = b.going; ended = b.ended; asks = b.asks; sched = b.sched; epoch = b.epoch; rises = b.rises; fits = b.fits })
+    (record { alive = b.alive; is_open = b.is_open; unblown = b.unblown; new = b.new; recorded = b.recorded; rows = b.rows; once = b.once; plain = b.plain; going = b.going; ended = b.ended; sched = b.sched; epoch = b.epoch; rises = b.rises; fits = b.fits })
 
 -- the life's first event: its Epoch is issued
 start_own : (h : History) (t : Tables) (rest : List MainEvent) → IsStarting h t → t.main ≡ mains.EpochStart ∷ rest
@@ -122,19 +123,32 @@ main_moves h t event rest (saving s) front = absurd (let e = sym s.main ∙ fron
 main_moves h t event rest (running r) front = running_main h t event rest r front (subst AllOfApps front r.runs.only.main)
 
 -- the first event of the scheduler's queue, whichever it is
-abbrev pub SchedMoves : History → Tables → SchedEvent → Type 0
-SchedMoves h t event = Dispatches (IsOfLane SchedLane (sched_worked (sched_step event t)).0) h t (sched_worked (sched_step event t)).0 (sched_worked (sched_step event t)).1
+abbrev pub SchedMoves : History → Tables → SchedEvent → List ContainerId → Type 0
+SchedMoves h t event list = Dispatches (IsOfLane SchedLane (sched_worked (sched_step event list t)).0) h t (sched_worked (sched_step event list t)).0 (sched_worked (sched_step event list t)).1
 
-running_sched : (h : History) (t : Tables) (event : SchedEvent) (rest : List SchedEvent) → IsRunning h t → t.sched ≡ event ∷ rest → AllQueueings (event ∷ rest) → SchedMoves h t event
-running_sched h t (scheds.AppAdded id) rest r front all = scheduled h t _ _ r (added_runs h t r.runs id rest front) (rw front refl)
-running_sched h t (scheds.AttemptAdded id) rest r front all = scheduled h t _ _ r (queued_runs h t r.runs id rest front) (rw front refl)
-running_sched h t _ rest r front all = absurd all
+running_sched : (h : History) (t : Tables) (event : SchedEvent) (list : List ContainerId) (rest : List SchedEvent) → IsRunning h t → t.sched ≡ event ∷ rest → AllQueueings (event ∷ rest) → SchedMoves h t event list
+running_sched h t (scheds.AppAdded id) list rest r front all = scheduled h t _ _ r (added_runs h t r.runs id rest front) (rw front refl)
+running_sched h t (scheds.AttemptAdded id) list rest r front all = scheduled h t _ _ r (queued_runs h t r.runs id rest front) (rw front refl)
+running_sched h t _ list rest r front all = absurd all
 
-pub sched_moves : (h : History) (t : Tables) (event : SchedEvent) (rest : List SchedEvent) → Phase h t → t.sched ≡ event ∷ rest → SchedMoves h t event
-sched_moves h t event rest (none n) front = absurd (let e = sym n.sched ∙ front in cc)
-sched_moves h t event rest (starting s) front = absurd (let e = sym s.begins.sched ∙ front in cc)
-sched_moves h t event rest (saving s) front = absurd (let e = sym s.begins.sched ∙ front in cc)
-sched_moves h t event rest (running r) front = running_sched h t event rest r front (subst AllQueueings front r.runs.only.sched)
+-- no event of a node waits as long as there are none
+pub no_update : (h : History) (t : Tables) (name : List ℕ) (rest : List SchedEvent) → Phase h t → t.sched ≡ scheds.NodeUpdate name ∷ rest → ⊥
+no_update h t name rest (none n) front = let e = sym n.sched ∙ front in cc
+no_update h t name rest (starting s) front = let e = sym s.begins.sched ∙ front in cc
+no_update h t name rest (saving s) front = let e = sym s.begins.sched ∙ front in cc
+no_update h t name rest (running r) front = subst AllQueueings front r.runs.only.sched
+
+pub no_registration : (h : History) (t : Tables) (name : List ℕ) (turn : ℕ) (rest : List SchedEvent) → Phase h t → t.sched ≡ scheds.NodeAdded name turn ∷ rest → ⊥
+no_registration h t name turn rest (none n) front = let e = sym n.sched ∙ front in cc
+no_registration h t name turn rest (starting s) front = let e = sym s.begins.sched ∙ front in cc
+no_registration h t name turn rest (saving s) front = let e = sym s.begins.sched ∙ front in cc
+no_registration h t name turn rest (running r) front = subst AllQueueings front r.runs.only.sched
+
+pub sched_moves : (h : History) (t : Tables) (event : SchedEvent) (list : List ContainerId) (rest : List SchedEvent) → Phase h t → t.sched ≡ event ∷ rest → SchedMoves h t event list
+sched_moves h t event list rest (none n) front = absurd (let e = sym n.sched ∙ front in cc)
+sched_moves h t event list rest (starting s) front = absurd (let e = sym s.begins.sched ∙ front in cc)
+sched_moves h t event list rest (saving s) front = absurd (let e = sym s.begins.sched ∙ front in cc)
+sched_moves h t event list rest (running r) front = running_sched h t event list rest r front (subst AllQueueings front r.runs.only.sched)
 
 -- the first awaiting operation is handed
 hand_phase : (h : History) (t : Tables) → Phase h t → t.alive ≡ true → t.awaiting ≢ [] → Phase h (handed_out t)
@@ -193,7 +207,7 @@ module _ (h : History) (t : Tables) (s : IsSaving h t) (next stamp : ℕ) (rest 
   alone = let e = sym s.awaiting ∙ front in cc
 
   abbrev opened : History
-  opened = record h { kept = h.kept ++ ops.Epoch next stamp ∷ []; now = 0 }
+  opened = record h { kept = h.kept ++ ops.Epoch next stamp ∷ [] }
 
   recovered : IsRecovered h t
   recovered =
@@ -207,7 +221,6 @@ module _ (h : History) (t : Tables) (s : IsSaving h t) (next stamp : ℕ) (rest 
         ended = λ id. let none = none_over (record_of t.tree.apps id) (plain_found t.tree.apps id b.plain).no_end in rw (b.ended, none) refl;
         main = s.main;
         sched = b.sched;
-        asks = b.asks;
       }
 
   open_step : Step t.settings h t (KeptEntry (ops.Epoch next stamp)) opened (kept (ops.Epoch next stamp) t)

@@ -38,7 +38,6 @@ pub record IsBeginning (h : History) (t : Tables) : Type 0 where
   pub plain : AllPlain t.tree.apps
   pub going : t.going ≡ going_in t.tree.apps
   pub ended : t.ended ≡ []
-  pub asks : t.asks ≡ []
   pub sched : t.sched ≡ []
   pub epoch : t.epoch ≡ t.tree.next_epoch
   pub rises : t.tree.stamp < t.stamp

@@ -4,6 +4,7 @@ use Rattle.std.specs.Prelude.{ℕ, ◌+◌, List, [], ◌∷◌, fold}
 use Rattle.std.specs.declared.alloc.Global.{Global}
 use Rattle.rm_types.specs.declared.entries.Entry.{Entry}
 use Rattle.rm_types.specs.declared.entries.Entry.TheVariants.{Absorbed, Accepted, Blown, Down, Ended, Handed, Issued, Kept, Opened, Ordered, Pass, Queued, Quiet, Served, Settled}
+use Rattle.rm_types.specs.declared.ids.ContainerId.{ContainerId}
 use Rattle.rm_types.specs.declared.messages.Lane.{Lane}
 use Rattle.rm_types.specs.declared.messages.Lane.TheVariants.{Main, Sched}
 use Rattle.rm_types.specs.declared.messages.Message.{Message}
@@ -26,19 +27,19 @@ use Rattle.rm_client.specs.Answers.{after_client}
 abbrev pub unopened : Global → Settings → List Op → Tables
 unopened alloc settings opening = record (no_life alloc settings) { tree = records opening }
 
--- the first event of the main queue is worked off, and of the scheduler's, where there is one
+-- the first event of the main queue is worked off, and of the scheduler's, where there is one; these containers end by it
 abbrev pub main_moved : List MainEvent → Tables → Tables
 main_moved [] t = t
 main_moved (event ∷ rest) t = (main_worked (main_step event t)).1
 
-abbrev pub sched_moved : List SchedEvent → Tables → Tables
-sched_moved [] t = t
-sched_moved (event ∷ rest) t = (sched_worked (sched_step event t)).1
+abbrev pub sched_moved : List SchedEvent → List ContainerId → Tables → Tables
+sched_moved [] list t = t
+sched_moved (event ∷ rest) list t = (sched_worked (sched_step event list t)).1
 
 -- an event of a queue had nothing to do
 abbrev pub quiet_moved : Lane → Tables → Tables
 quiet_moved Main t = main_moved t.main t
-quiet_moved Sched t = sched_moved t.sched t
+quiet_moved Sched t = sched_moved t.sched [] t
 quiet_moved _ t = t
 
 -- a message was answered, and is counted; those of others than clients come in later
@@ -55,11 +56,11 @@ tables_moved t (Kept op) = kept op t
 tables_moved t (Blown passed) = refused t
 tables_moved t (Served sender message reply) = served_moved message reply t
 tables_moved t (Accepted app) = main_moved t.main t
-tables_moved t (Queued attempt) = sched_moved t.sched t
-tables_moved t (Absorbed node taken ended) = sched_moved t.sched t
-tables_moved t (Pass node grants) = sched_moved t.sched t
+tables_moved t (Queued attempt) = sched_moved t.sched [] t
+tables_moved t (Absorbed node taken ended) = sched_moved t.sched ended t
+tables_moved t (Pass node grants) = sched_moved t.sched [] t
 tables_moved t (Ordered container node) = main_moved t.main t
-tables_moved t (Ended cause list) = sched_moved t.sched t
+tables_moved t (Ended cause list) = sched_moved t.sched list t
 tables_moved t Settled = t
 tables_moved t Down = gone_down t
 tables_moved t (Quiet lane) = quiet_moved lane t

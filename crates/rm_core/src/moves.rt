@@ -1,6 +1,7 @@
-ghost use Rattle.std.specs.Prelude.{◌≡◌, ◌≢◌, ◌+◌, ◌<◌, ◌≤◌, ◌^◌, List, [], ◌∷◌, ◌++◌, length, IfOk, OnOk, OnErr, IsErrOf, Err, true, false};
+ghost use Rattle.std.specs.Prelude.{◌≡◌, ℕ, ◌≢◌, ◌+◌, ◌<◌, ◌≤◌, ◌^◌, List, [], ◌∷◌, ◌++◌, length, IfOk, OnOk, OnErr, IsErrOf, Err, true, false};
 ghost use Rattle.rm_types.specs.declared.entries.Entry.{Entry};
 ghost use Rattle.rm_types.specs.declared.ids.AppId.{AppId};
+ghost use Rattle.rm_types.specs.declared.ids.ContainerId.{ContainerId};
 ghost use Rattle.rm_types.specs.declared.messages.ClientAsk.{ClientAsk};
 ghost use Rattle.rm_types.specs.declared.messages.Lane.{Lane};
 ghost use Rattle.rm_types.specs.declared.messages.Message.{Message};
@@ -17,7 +18,8 @@ ghost use Rattle.rm_tables.specs.Actions.{found_in, main_worked, sched_worked};
 ghost use Rattle.rm_tables.specs.KeptOps.{kept};
 ghost use Rattle.rm_tables.specs.Lives.{begun, gone_down, handed_out, is_ready, may_go_down};
 ghost use Rattle.rm_tables.specs.MainEvents.{main_step};
-ghost use Rattle.rm_tables.specs.SchedEvents.{sched_step};
+ghost use Rattle.rm_tables.specs.SchedEvents.{EndsBy, sched_step};
+ghost use Rattle.rm_sched.specs.CanWork.{AreFew, CanAbsorb, CanPass};
 ghost use Rattle.rm_client.specs.Answers.{after_client};
 ghost use Rattle.rm_client.specs.Shows.{Shows};
 ghost use Rattle.rm_core.specs.Serving.{IsBuiltMessage, IsServed};
@@ -78,7 +80,9 @@ pub fn main(t: &mut Tables, log: &mut Items<Entry>) -> Result<(), Refused>
 
 /// The first event of the scheduler's queue is worked off.
 pub fn sched(t: &mut Tables, log: &mut Items<Entry>) -> Result<(), Refused>
-    ensures ok { OnOk result ((event : SchedEvent) (rest : List SchedEvent) → t.old.sched ≡ event ∷ rest → (t.new ≡ (sched_worked (sched_step event t.old)).1) × (log.new ≡ log.old ++ (sched_worked (sched_step event t.old)).0 ∷ [])) }
+    requires pass { (name : List ℕ) (rest : List SchedEvent) → t.old.sched ≡ SchedEvent.NodeUpdate name ∷ rest → AreFew t.old × CanPass t.old }
+    requires absorb { (name : List ℕ) (turn : ℕ) (rest : List SchedEvent) → t.old.sched ≡ SchedEvent.NodeAdded name turn ∷ rest → CanAbsorb t.old }
+    ensures ok { OnOk result ((event : SchedEvent) (rest : List SchedEvent) → t.old.sched ≡ event ∷ rest → (list : List ContainerId) × EndsBy event t.old list × (t.new ≡ (sched_worked (sched_step event list t.old)).1) × (log.new ≡ log.old ++ (sched_worked (sched_step event list t.old)).0 ∷ [])) }
     ensures some { OnOk result (t.old.sched ≢ []) }
     ensures not_ready { IsErrOf result Refused.NotReady → is_ready t.old Lane.Sched ≡ false }
     ensures err { OnErr result ((t.new ≡ t.old) × (log.new ≡ log.old)) }

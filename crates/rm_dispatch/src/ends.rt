@@ -1,10 +1,10 @@
 ghost use Rattle.std.specs.Prelude.{◌≡◌, ◌+◌, ◌<◌, ◌^◌, length, IfOk, OnOk, OnErr};
 ghost use Rattle.rm_model.specs.Facts.{attempts_in};
 ghost use Rattle.rm_model.specs.Issuing.{killed_text};
-ghost use Rattle.rm_tables.specs.Actions.{ends_app, found_in, next_in, schedules};
-ghost use Rattle.rm_tables.specs.MainEvents.{kills_attempt};
+ghost use Rattle.rm_tables.specs.Actions.{ends_app, ends_attempt, found_in, next_in, schedules};
+ghost use Rattle.rm_tables.specs.MainEvents.{kills_attempt, requeued};
 
-use rm_tables::{RowChange, SchedEvent, Tables, clear_asks};
+use rm_tables::{AttemptChange, RowChange, SchedEvent, Tables};
 use rm_types::{AppId, AttemptId, Boxed, Duplicate, Entry, How, NoMemory, Op, Text};
 
 /// The text with which a client's kill ends an application.
@@ -47,7 +47,7 @@ pub fn end_app(t: &mut Tables, id: AppId, how: How, text: Text) -> Result<Entry,
     )?;
     t.awaiting.push(Op::AppEnd { id, how, text })?;
     t.rows.change(id, RowChange::End);
-    clear_asks(&mut t.asks, next);
+    t.asks.clear(next);
     Ok(Entry::Issued { op })
 }
 
@@ -70,6 +70,37 @@ pub fn kill_attempt(t: &mut Tables, id: AttemptId) -> Result<Entry, NoMemory>
     t.awaiting.push(Op::AttemptEnd { id, how, text })?;
     t.rows.change(id.app, RowChange::Kill);
     Ok(Entry::Issued { op })
+}
+
+/// The end of an attempt is issued.
+pub fn end_attempt(t: &mut Tables, id: AttemptId, how: How, text: Text) -> Result<Entry, NoMemory>
+    ensures ok { IfOk result (λ e. (e, t.new) ≡ ends_attempt id how text t.old) }
+    ensures err { OnErr result (t.new ≡ t.old) }
+{
+    let logged = text.copy()?;
+    let op = Boxed::new(
+        t.alloc,
+        Op::AttemptEnd {
+            id,
+            how,
+            text: logged,
+        },
+    )?;
+    t.awaiting.push(Op::AttemptEnd { id, how, text })?;
+    let change = AttemptChange::End { how };
+    t.rows.change(id.app, RowChange::OfAttempt { change });
+    Ok(Entry::Issued { op })
+}
+
+/// An attempt waits for another container for its master.
+pub fn requeue(t: &mut Tables, id: AttemptId) -> Result<(), NoMemory>
+    ensures ok { OnOk result (t.new ≡ requeued id t.old) }
+    ensures err { OnErr result (t.new ≡ t.old) }
+{
+    t.sched.push(SchedEvent::AttemptAdded(id))?;
+    let change = AttemptChange::Requeue;
+    t.rows.change(id.app, RowChange::OfAttempt { change });
+    Ok(())
 }
 
 /// An attempt is scheduled: it goes to the scheduler, to ask for its master's container.

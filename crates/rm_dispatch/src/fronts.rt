@@ -6,7 +6,8 @@ ghost use Rattle.rm_tables.specs.Actions.{found_in, main_worked};
 ghost use Rattle.rm_tables.specs.MainEvents.{main_step};
 
 use crate::deciding::done;
-use crate::events::{accepted, kill, quiet, retire, saved, start, start_epoch};
+use crate::events::{accepted, kill, retire, saved, start, start_epoch};
+use crate::masters;
 use rm_tables::{MainEvent, Refused, Tables};
 use rm_types::{Entry, NoMemory};
 
@@ -25,11 +26,11 @@ fn work_off(t: &mut Tables, event: MainEvent) -> Result<Entry, NoMemory>
         MainEvent::AppKill(id) => kill(t, id),
         MainEvent::AttemptDone(id) => done(t, id.app),
         MainEvent::Retire => retire(t),
-        MainEvent::MasterGranted(_) => Ok(quiet()),
-        MainEvent::AttemptSaved(_) => Ok(quiet()),
-        MainEvent::MasterLost(_) => Ok(quiet()),
-        MainEvent::AttemptExpired(_) => Ok(quiet()),
-        MainEvent::AttemptFinish(_) => Ok(quiet()),
+        MainEvent::MasterGranted(container) => masters::granted(t, container),
+        MainEvent::AttemptSaved(id) => masters::saved(t, id),
+        MainEvent::MasterLost(container) => masters::lost(t, container),
+        MainEvent::AttemptExpired(id) => masters::expired(t, id),
+        MainEvent::AttemptFinish(id) => masters::finished(t, id),
     }
 }
 

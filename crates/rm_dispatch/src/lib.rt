@@ -11,5 +11,6 @@ mod deciding;
 mod ends;
 mod events;
 mod fronts;
+mod masters;
 
 pub use fronts::front;

@@ -123,7 +123,7 @@ module _ (settings : Settings) (h : History) (t : Tables) (k : Keeps settings h 
         (λ q v. accept_more v) (λ q v. record v { accepted = true; count = record v.count { queueings = one_if (1 == q.number) v.count.queueings } })
         (accept_lawful h t id row k.is_open (submitted_says settings (at id) row (view h t (at id)) is (rw found at (k.all (at id))))) refl k.recorded k.is_open found
         (λ q. row_changed (changed (of_app.Schedule 1)) id q t.rows) (λ q. main_taken h t q (mains.AppAccepted id) rest front)
-        (λ q. rw (sched_end (record (main_popped t) { rows = with_row (changed (of_app.Schedule 1)) id t.rows }) q (scheds.AttemptAdded first), has_end h.apps.accepted id q.app) refl)
+        (λ q. rw (sched_end h (record (main_popped t) { rows = with_row (changed (of_app.Schedule 1)) id t.rows }) q (scheds.AttemptAdded first), has_end h.apps.accepted id q.app) refl)
         (λ q v other. rw other refl) (λ q v other. rw other refl) (λ q v same. rw same refl) (λ q v same. rw same refl)
         (λ q same says. accept_submitted settings q row (view h (main_popped t) q) is (1 == q.number) refl says)
 

@@ -293,31 +293,31 @@ module _ (settings : Settings) (q : AttemptId) where
   stopped_says : (one : AppRecord) (last : AttemptRecord) → one.ending ≡ None → is_some last.ending ≡ true → all_ended one.attempts ≡ true → last.id.number ≡ length one.attempts → 1 ≤ last.id.number
       → ActiveSays settings q (Some (recovered_attempt last)) false (opening_with (Some one) false true false)
   stopped_says one last unended e all number some =
-      subst (λ (b : Bool). ActiveSays settings q (Some (record { number = last.id.number; state = if b then attempts.Ended else attempts.Live; master = Some last.master; registered = false; lost = false })) false (opening_with (Some one) false true false)) (sym e)
+      subst (λ (b : Bool). ActiveSays settings q (Some (record { number = last.id.number; state = if b then attempts.Ended else attempts.Live; master = Some last.master; registered = false; lost = false; granted = 0; finished = false })) false (opening_with (Some one) false true false)) (sym e)
       (((refl, unended, all), number, some, refl, omega arith), at_ended q.number (last.id.number == q.number) (opening_with (Some one) false true false) refl refl)
 
   lives_says : (one : AppRecord) (last : AttemptRecord) → is_some last.ending ≡ false → GoesOn (Some one) (record { app = q.app; number = last.id.number })
       → ActiveSays settings q (Some (recovered_attempt last)) false (opening_with (Some one) false false false)
   lives_says one last e goes =
-      subst (λ (b : Bool). ActiveSays settings q (Some (record { number = last.id.number; state = if b then attempts.Ended else attempts.Live; master = Some last.master; registered = false; lost = false })) false (opening_with (Some one) false false false)) (sym e)
+      subst (λ (b : Bool). ActiveSays settings q (Some (record { number = last.id.number; state = if b then attempts.Ended else attempts.Live; master = Some last.master; registered = false; lost = false; granted = 0; finished = false })) false (opening_with (Some one) false false false)) (sym e)
       ((goes, refl), at_live q.number (last.id.number == q.number) (opening_with (Some one) false false false) refl refl)
 
   opening_none : RowSays settings q None (opening_view None)
   opening_none = grind arith
 
-  abbrev row_with : AppState → Option Current → AppRow
-  row_with s c = record { state = s; wish = false; pending = None; current = c }
+  abbrev row_with : ℕ → AppState → Option Current → AppRow
+  row_with first s c = record { state = s; wish = false; pending = None; current = c; first = first; dialogue = None; closings = [] }
 
-  known_with : (found : Option AppRecord) (s : AppState) (c : Option Current) (a b e : Bool) → IsKnown (row_with s c) (opening_with found a b e)
-  known_with found s c a b e = record { wish = refl; pending = refl; stays = refl; one_kill = omega arith; killed = λ n. absurd (omega (arith, n)) }
+  known_with : (first : ℕ) (found : Option AppRecord) (s : AppState) (c : Option Current) (a b e : Bool) → IsKnown (row_with first s c) (opening_with found a b e)
+  known_with first found s c a b e = record { wish = refl; pending = refl; stays = refl; one_kill = omega arith; killed = λ n. absurd (omega (arith, n)) }
 
   case_says : (one : AppRecord) (s : AppState) (c : Option Current) (a b e : Bool) → recovered_state one.ending (last_attempt one.attempts) ≡ s → option_map recovered_attempt (last_attempt one.attempts) ≡ c
-      → is_fresh one ≡ a → is_stopped one ≡ b → has_ended one ≡ e → StateSays settings q s (row_with s c) (opening_with (Some one) a b e)
+      → is_fresh one ≡ a → is_stopped one ≡ b → has_ended one ≡ e → StateSays settings q s (row_with (length one.attempts) s c) (opening_with (Some one) a b e)
       → RowSays settings q (Some (recovered_row one)) (opening_view (Some one))
-  case_says one s c a b e state current f g h says = rw (f, g, h, state, current) (known_with (Some one) s c a b e, says)
+  case_says one s c a b e state current f g h says = rw (f, g, h, state, current) (known_with (length one.attempts) (Some one) s c a b e, says)
 
   ended_says : (one : AppRecord) (how : How) (c : Option Current) → option_map (λ e. e.0) one.ending ≡ Some how → OverSays c (opening_with (Some one) false false true)
-      → StateSays settings q (state_of how) (row_with (state_of how) c) (opening_with (Some one) false false true)
+      → StateSays settings q (state_of how) (row_with (length one.attempts) (state_of how) c) (opening_with (Some one) false false true)
   ended_says one ways.Finished c is o = (is, refl, refl, refl, refl, o)
   ended_says one ways.Failed c is o = (is, refl, refl, refl, refl, o)
   ended_says one ways.Killed c is o = (is, refl, refl, refl, refl, o)
@@ -347,7 +347,7 @@ module _ (settings : Settings) (q : AttemptId) where
 -- what is seen of an attempt once the Epoch is kept, and what holds of it
 module _ (h : History) (t : Tables) (next stamp : ℕ) (r : IsRecovered h t) (front : t.awaiting ≡ ops.Epoch next stamp ∷ []) where
   abbrev opening : History
-  opening = record h { kept = h.kept ++ ops.Epoch next stamp ∷ []; now = 0 }
+  opening = record h { kept = h.kept ++ ops.Epoch next stamp ∷ [] }
 
   open_counts : (q : AttemptId) → view opening (kept (ops.Epoch next stamp) t) q ≡ opening_view (record_of t.tree.apps q.app)
   open_counts q =
@@ -356,6 +356,7 @@ module _ (h : History) (t : Tables) (next stamp : ℕ) (r : IsRecovered h t) (fr
       let accepted : h.apps.accepted ≡ [] = ap (λ (g : History). g.apps.accepted) r.new in
       let retired : h.apps.retired ≡ [] = ap (λ (g : History). g.apps.retired) r.new in
       let book : h.book ≡ [] = ap (λ (g : History). g.book) r.new in
+      let asks : h.asks ≡ [] = ap (λ (g : History). g.asks) r.new in
       rw (
         quiet_main t.tree.apps (is_start q.app) refl (λ id. refl) (λ a. refl),
         saves_main t.tree.apps q.app (r.once q.app),
@@ -366,7 +367,7 @@ module _ (h : History) (t : Tables) (next stamp : ℕ) (r : IsRecovered h t) (fr
         quiet_main t.tree.apps (is_grant q) refl (λ id. refl) (λ a. refl),
         quiet_main t.tree.apps (is_launch q) refl (λ id. refl) (λ a. refl),
         quiet_sched t.tree.apps (is_queueing q) (λ a. refl),
-        r.asks,
+        asks,
         r.ended q.app,
         front,
         submitted,
@@ -388,7 +389,7 @@ module _ (h : History) (t : Tables) (next stamp : ℕ) (r : IsRecovered h t) (fr
 
 -- the tables after the Epoch is kept: the life opens over recovered tables, and all that holds of an open life holds
 pub opening_step : (settings : Settings) (h : History) (t : Tables) (next stamp : ℕ) (rest : List Op) → IsRecovered h t → t.awaiting ≡ ops.Epoch next stamp ∷ rest → rest ≡ [] → t.handed ≡ true
-    → Step settings h t (KeptEntry (ops.Epoch next stamp)) (record h { kept = h.kept ++ ops.Epoch next stamp ∷ []; now = 0 }) (kept (ops.Epoch next stamp) t)
+    → Step settings h t (KeptEntry (ops.Epoch next stamp)) (record h { kept = h.kept ++ ops.Epoch next stamp ∷ [] }) (kept (ops.Epoch next stamp) t)
 opening_step settings h t next stamp rest r front alone handed =
     record {
       lawful = record { handed = handed; first = rw front refl };

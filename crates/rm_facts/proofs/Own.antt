@@ -102,7 +102,7 @@ module _ (settings : Settings) (q : AttemptId) (v : View) where
   accepted_unknown good = grind arith
 
   -- a submission is taken
-  pub submitted_new : (s : Submission) (row : AppRow) → row ≡ record { state = apps.New; wish = false; pending = Some s; current = None } → v.retired ≡ false → RowSays settings q None v
+  pub submitted_new : (s : Submission) (row : AppRow) → row ≡ record { state = apps.New; wish = false; pending = Some s; current = None; first = 0; dialogue = None; closings = [] } → v.retired ≡ false → RowSays settings q None v
       → RowSays settings q (Some row) (record v { waiting = Some s; count = record v.count { starts = suc v.count.starts } })
   submitted_new s row is r good =
       let never = rw r at good.never in

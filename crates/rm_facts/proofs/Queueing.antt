@@ -14,6 +14,7 @@ use Rattle.rm_types.specs.declared.records.AppRecord.{AppRecord}
 use Rattle.rm_types.specs.declared.settings.Settings.{Settings}
 use Rattle.rm_types.specs.Ids.{is_app, is_attempt}
 use Rattle.rm_types.specs.Records.{record_of}
+use Rattle.rm_book.specs.AskTables.{AsksOf}
 use Rattle.rm_model.specs.Changes.{master_ask}
 use Rattle.rm_model.specs.Facts.{is_app_end_op, is_attempt_op}
 use Rattle.rm_model.specs.Rules.{MayQueue}
@@ -28,7 +29,7 @@ use Rattle.rm_tables.specs.declared.rows.Current.{Current}
 use Rattle.rm_tables.specs.declared.tables.Tables.{Tables}
 use Rattle.rm_tables.specs.Actions.{found_in, sched_popped, sched_worked}
 use Rattle.rm_tables.specs.Rows.{row_of}
-use Rattle.rm_tables.specs.SchedEvents.{added_by, queued_at, queued_with, queued_by}
+use Rattle.rm_tables.specs.SchedEvents.{added_by, master_asked, queued_at, queued_with, queued_by}
 use Rattle.rm_facts.specs.Told.{History, scene_in}
 use Rattle.rm_facts.specs.View.{View, view, counts, main_view, sched_view, one_if, is_ask, is_attempt_op_of}
 use Rattle.rm_facts.specs.Says.{RowSays, StateSays, ActiveSays, HasStopped, Follows, is_active, ops_of}
@@ -138,7 +139,7 @@ queue_lawful settings h t id open_ may =
       no_end = rw (ended, stopped.1) refl;
       ended = stopped.2;
       not_issued = none_under (is_attempt_op_of id.app) (is_attempt_op id) (under_app id) t.awaiting (omega (arith, none));
-      not_asked = none_under (is_ask id) (is_ask id) (λ one e. e) t.asks may.none_ask;
+      not_asked = none_under (is_ask id) (is_ask id) (λ one e. e) h.asks may.none_ask;
       not_granted = may.not_held;
       follows = may.follows.1;
     }
@@ -173,13 +174,14 @@ module _ (settings : Settings) (h : History) (t : Tables) (k : Keeps settings h 
 
   -- what the event does: nothing but the asks changes
   pub record QueuedStep (done : Entry × Tables) : Type 0 where
-    pub asks : List AskOf
+    pub asks : List AsksOf
+    pub asked : List AskOf
     pub kind : IsOfLane SchedLane done.0
     pub is : done.1 ≡ record t { asks = asks }
-    pub step : Step settings h t done.0 h (sched_popped done.1)
+    pub step : Step settings h t done.0 (record h { asks = asked }) (sched_popped done.1)
 
   idle_step : Step settings h t (Quiet SchedLane) h gone → QueuedStep (Quiet SchedLane, t)
-  idle_step step = record { asks = t.asks; kind = refl; is = refl; step = step }
+  idle_step step = record { asks = t.asks; asked = h.asks; kind = refl; is = refl; step = step }
 
   with_queueing_is : (q : AttemptId) (v : View) → is_app id.app q.app ≡ true → sched_view q (scheds.AttemptAdded id) v ≡ with_queueing id q v
   with_queueing_is q v same = rw same refl
@@ -198,24 +200,25 @@ module _ (settings : Settings) (h : History) (t : Tables) (k : Keeps settings h 
       (λ q same says. quiet_row settings q id (view h gone q) (Some row) (λ one e. let is : row ≡ one = cc in subst (λ (r : AppRow). IsNotIt settings q id (view h gone q) r.current) is (not q)) (id.number == q.number) refl says))
 
   queued_now : (row : AppRow) → row_of t.rows id.app ≡ Some row → (current : Current) → row.current ≡ Some current → current.state ≡ attempts.Scheduled → (current.number == id.number) ≡ true
-      → QueuedStep (Queued id, record t { asks = t.asks ++ master_ask id (option_map (λ one. one.submission) (found_in t id.app)) })
+      → QueuedStep (Queued id, record t { asks = master_asked id (found_in t id.app) t.asks })
   queued_now row found current is s n =
       let here : RowSays settings id (Some row) (view h t id) = rw found at (k.all id) in
-      let self : sched_view id (scheds.AttemptAdded id) (view h gone id) ≡ record (view h gone id) { count = record (counts gone id) { queueings = suc (counts gone id).queueings } } = rw (is_app-refl id.app, same_number id.number) refl in
+      let self : sched_view id (scheds.AttemptAdded id) (view h gone id) ≡ record (view h gone id) { count = record (counts h gone id) { queueings = suc (counts h gone id).queueings } } = rw (is_app-refl id.app, same_number id.number) refl in
       let good = subst (λ (v : View). RowSays settings id (Some row) v) (sched_taken h t id (scheds.AttemptAdded id) rest front ∙ self) here in
       let facts = queued_facts settings id (view h gone id) row current is s n good in
       let some = found_some (record_of t.tree.apps id.app) facts.1.stopped.0 in
       let number : current.number ≡ id.number = grind (arith, nat_tests) in
-      asking_step (t.asks ++ master_ask id (option_map (λ one. one.submission) (found_in t id.app)))
-      (step_own settings h h t (record gone { asks = t.asks ++ master_ask id (option_map (λ one. one.submission) (found_in t id.app)) }) k (Queued id) id.app (Some row) (λ r. r) (view h gone)
+      asking_step (master_asked id (found_in t id.app) t.asks) (h.asks ++ master_ask id (option_map (λ one. one.submission) (found_in t id.app)))
+      (step_own settings h (record h { asks = h.asks ++ master_ask id (option_map (λ one. one.submission) (found_in t id.app)) }) t (record gone { asks = master_asked id (found_in t id.app) t.asks }) k (Queued id) id.app (Some row) (λ r. r) (view h gone)
       (λ q v. sched_view q (scheds.AttemptAdded id) v) (λ q v. record v { count = record v.count { asks = one_if (is_attempt id q && true) v.count.asks } }) (λ q v. with_queueing id q v) (λ q v. record v { count = record v.count { asks = one_if (id.number == q.number) v.count.asks } })
       (queue_lawful settings h gone id k.is_open facts.1) (rw (k.recorded, some.1) refl) k.recorded k.is_open found (unchanged t.rows id.app) (λ q. sched_taken h t q (scheds.AttemptAdded id) rest front)
-      (λ q. rw some.1 (rw (at_end (is_ask q) t.asks (record { attempt = id; ask = record { priority = 0; count = 1; size = some.0.submission.master } })) refl))
+      (λ q. rw some.1 (rw (at_end (is_ask q) h.asks (record { attempt = id; ask = record { priority = 0; count = 1; size = some.0.submission.master } })) refl))
       (λ q v other. rw other refl) (λ q v other. rw other refl) with_queueing_is (λ q v same. rw (same, and_true (id.number == q.number)) refl)
       (λ q same says. queued_says settings q id (view h gone q) row current is facts.0 s number (id.number == q.number) refl says))
     where
-      asking_step : (asks : List AskOf) → Step settings h t (Queued id) h (record gone { asks = asks }) → QueuedStep (Queued id, record t { asks = asks })
-      asking_step asks step = record { asks = asks; kind = tt; is = refl; step = step }
+      asking_step : (asks : List AsksOf) (asked : List AskOf) → Step settings h t (Queued id) (record h { asks = asked }) (record gone { asks = asks })
+          → QueuedStep (Queued id, record t { asks = asks })
+      asking_step asks asked step = record { asks = asks; asked = asked; kind = tt; is = refl; step = step }
 
       same_number : (n : ℕ) → (n == n) ≡ true
       same_number n = grind (arith, nat_tests)

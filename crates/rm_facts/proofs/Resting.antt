@@ -119,7 +119,7 @@ pub data RestsAt (settings : Settings) (h : History) (t : Tables) (id : AppId) :
 pub rests_at : (settings : Settings) (h : History) (t : Tables) → Keeps settings h t → t.main ≡ [] → t.sched ≡ [] → t.awaiting ≡ [] → (id : AppId) → RestsAt settings h t id
 rests_at settings h t k main sched awaiting id = by (row_of t.rows id) refl
   where
-    still : (number : ℕ) → IsStill (counts t (numbered id number))
+    still : (number : ℕ) → IsStill (counts h t (numbered id number))
     still number =
         record {
           starts = rw main refl;
@@ -212,7 +212,7 @@ module _ (settings : Settings) (h : History) (t : Tables) (id : AppId) (rests : 
       by : RestsAt settings h t id → has_master_ask here (next_attempt here id) ≡ true
       by (unknown none waits) = never none waits known
       by (resting number (over kept e)) = absurd (let x = rw unended at e in cc)
-      by (resting number (asks stopped follows free some)) = let n = follows.0 in rw (← n) (some_passes (is_ask (numbered id number)) t.asks some)
+      by (resting number (asks stopped follows free some)) = let n = follows.0 in rw (← n) (some_passes (is_ask (numbered id number)) h.asks some)
       by (resting number (lives goes free)) = absurd (let x = going_open (numbered id number) (kept_attempts here id) goes.2 in cc)
 
   undecided : is_known here id ≡ true → kept_end here id ≡ None → kept_attempts here id ≢ [] → all_ended (kept_attempts here id) ≡ true

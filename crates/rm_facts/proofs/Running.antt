@@ -287,7 +287,7 @@ module _ (h : History) (t : Tables) (r : Runs h t) (id : AppId) (rest : List Mai
 -- the events of the scheduler's queue
 module _ (h : History) (t : Tables) (r : Runs h t) where
   -- AppAdded
-  pub added_runs : (id : AppId) (rest : List SchedEvent) → t.sched ≡ scheds.AppAdded id ∷ rest → Works SchedLane h t (sched_worked (sched_step (scheds.AppAdded id) t)).0 (sched_worked (sched_step (scheds.AppAdded id) t)).1
+  pub added_runs : (id : AppId) (rest : List SchedEvent) → t.sched ≡ scheds.AppAdded id ∷ rest → Works SchedLane h t (sched_worked (sched_step (scheds.AppAdded id) [] t)).0 (sched_worked (sched_step (scheds.AppAdded id) [] t)).1
   added_runs id rest front =
       let step = added_steps t.settings h t r.keeps id rest front in
       let all = subst AllQueueings front r.only.sched in
@@ -305,21 +305,21 @@ module _ (h : History) (t : Tables) (r : Runs h t) where
       })
 
   -- AttemptAdded
-  pub queued_runs : (id : AttemptId) (rest : List SchedEvent) → t.sched ≡ scheds.AttemptAdded id ∷ rest → Works SchedLane h t (sched_worked (sched_step (scheds.AttemptAdded id) t)).0 (sched_worked (sched_step (scheds.AttemptAdded id) t)).1
+  pub queued_runs : (id : AttemptId) (rest : List SchedEvent) → t.sched ≡ scheds.AttemptAdded id ∷ rest → Works SchedLane h t (sched_worked (sched_step (scheds.AttemptAdded id) [] t)).0 (sched_worked (sched_step (scheds.AttemptAdded id) [] t)).1
   queued_runs id rest front =
       let queued = queued_steps t.settings h t r.keeps id rest front (row_of t.rows id.app) refl in
       let all = subst AllQueueings front r.only.sched in
       works queued.kind (record {
-        history = h;
+        history = record h { asks = queued.asked };
         lawful = queued.step.lawful;
         same = queued.step.same;
         stays = subst (λ (n : Tables). Stays t (sched_popped n)) (sym queued.is) (record { settings = refl; alloc = refl; alive = refl; epoch = refl; given = refl; served = refl; handed = λ f e. f e });
         lighter = subst (λ (n : Tables). weight (sched_popped n) < weight t) (sym queued.is) (asked_lighter t (scheds.AttemptAdded id) rest front queued.asks (omega arith));
         runs = record {
-          keeps = subst (λ (s : Settings). Keeps s h (sched_popped (queued_by (row_of t.rows id.app) id t).1)) (sym (ap (λ (n : Tables). n.settings) queued.is)) queued.step.keeps;
-          lists = subst (λ (n : Tables). Lists h (sched_popped n)) (sym queued.is) (record { order = r.lists.order; going = r.lists.going });
-          only = subst (λ (n : Tables). OnlySubmits h (sched_popped n)) (sym queued.is)
-              (record { bare = r.only.bare; rows = r.only.rows; main = r.only.main; sched = rw front all; awaiting = r.only.awaiting; savable = r.only.savable; plain = r.only.plain; ended = r.only.ended; unblown = r.only.unblown });
+          keeps = subst (λ (s : Settings). Keeps s (record h { asks = queued.asked }) (sched_popped (queued_by (row_of t.rows id.app) id t).1)) (sym (ap (λ (n : Tables). n.settings) queued.is)) queued.step.keeps;
+          lists = subst (λ (n : Tables). Lists (record h { asks = queued.asked }) (sched_popped n)) (sym queued.is) (record { order = r.lists.order; going = r.lists.going });
+          only = subst (λ (n : Tables). OnlySubmits (record h { asks = queued.asked }) (sched_popped n)) (sym queued.is)
+              (record { bare = record { wishes = r.only.bare.wishes; retired = r.only.bare.retired; masters = r.only.bare.masters; book = r.only.bare.book; left = r.only.bare.left; nodes = r.only.bare.nodes }; rows = r.only.rows; main = r.only.main; sched = rw front all; awaiting = r.only.awaiting; savable = r.only.savable; plain = r.only.plain; ended = r.only.ended; unblown = r.only.unblown });
         };
       })
 

@@ -78,13 +78,13 @@ module _ (settings : Settings) (h : History) (t : Tables) (k : Keeps settings h 
       (λ q v. app_more v) (λ q v. record v { found = put_if true (new_record id s) v.found; waiting = None; count = record v.count { saves = suc v.count.saves } })
       (record { handed = handed; first = rw front refl }) refl (recorded_more settings h t k (ops.App id s)) k.is_open awaits.is (λ q. row_changed (changed of_app.Keep) id q t.rows)
       (λ q. op_taken h t q (ops.App id s) rest front)
-      (λ q. rw (main_end taken q (mains.AppSaved id), record_put (new_record id s) q.app t.tree.apps, waiting_gone id q.app h.apps.submitted) refl)
+      (λ q. rw (main_end h taken q (mains.AppSaved id), record_put (new_record id s) q.app t.tree.apps, waiting_gone id q.app h.apps.submitted) refl)
       (λ q v other. rw other refl) (λ q v other. rw other refl) (λ q v same. rw same refl) (λ q v same. rw same refl)
       (λ q same says. app_saved settings q awaits.one (view h taken q) (new_record id s) refl refl awaits.state says)
 
 -- the row of a submission that was taken just now
 abbrev pub row_new : Submission → AppRow
-row_new s = record { state = apps.New; wish = false; pending = Some s; current = None }
+row_new s = record { state = apps.New; wish = false; pending = Some s; current = None; first = 0; dialogue = None; closings = [] }
 
 -- A submission is taken of an application that isn't known and was not removed
 module _ (settings : Settings) (h : History) (t : Tables) (all : AllSay settings h t) (id : AppId) (s : Submission) where
@@ -95,7 +95,7 @@ module _ (settings : Settings) (h : History) (t : Tables) (all : AllSay settings
   joining = record t { rows = t.rows ++ (id, Some (row_new s)) ∷ []; going = t.going + 1; main = t.main ++ mains.AppStart id ∷ [] }
 
   seen : (q : AttemptId) → view submitting joining q ≡ record (main_view q (mains.AppStart id) (view h t q)) { waiting = put_if (is_app id q.app) s (waiting_submission h.apps.submitted q.app) }
-  seen q = rw (main_end t q (mains.AppStart id), waiting_put id q.app s h.apps.submitted) refl
+  seen q = rw (main_end h t q (mains.AppStart id), waiting_put id q.app s h.apps.submitted) refl
 
   pub joined_says : row_of t.rows id ≡ None → is_retired t.rows id ≡ false → ((q : AttemptId) → is_app id q.app ≡ true → (view h t q).retired ≡ false) → AllSay settings submitting joining
   joined_says found fresh stays = λ q. rw (row_put id q.app (row_new s) t.rows fresh) (by q (is_app id q.app) refl)
@@ -106,7 +106,7 @@ module _ (settings : Settings) (h : History) (t : Tables) (all : AllSay settings
           let none : row_of t.rows q.app ≡ None = rw (← same) found in
           let old : RowSays settings q None (view h t q) = rw none at (all q) in
           let waits : waiting_submission h.apps.submitted q.app ≡ None = old.none_waits in
-          let now : view submitting joining q ≡ record (view h t q) { waiting = Some s; count = record (counts t q) { starts = suc (counts t q).starts } } = seen q ∙ rw (e, waits) refl in
+          let now : view submitting joining q ≡ record (view h t q) { waiting = Some s; count = record (counts h t q) { starts = suc (counts h t q).starts } } = seen q ∙ rw (e, waits) refl in
           rw none (subst (λ (v : View). RowSays settings q (Some (row_new s)) v) (sym now) (submitted_new settings q (view h t q) s (row_new s) refl (stays q e) old))
       by q false e =
           let now : view submitting joining q ≡ view h t q = seen q ∙ rw e refl in

@@ -3,7 +3,7 @@ use Rattle.std.proofs.Common.{◌≡◌, ℕ, ◌+◌, ◌*◌, ◌<◌, ◌≤�
 use Rattle.std.specs.List.{flat_map, sum_by}
 use Rattle.std.proofs.lemmas.List.Sums.{sum_by-cons, sum_by-append}
 use Rattle.std.proofs.lemmas.List.{length-append}
-use Rattle.rm_types.specs.declared.containers.AskOf.{AskOf}
+use Rattle.rm_book.specs.AskTables.{AsksOf}
 use Rattle.rm_types.specs.declared.ids.AppId.{AppId}
 use Rattle.rm_types.specs.declared.operations.Op.{Op}
 use Rattle.rm_types.specs.declared.operations.Op.TheVariants as ops
@@ -51,7 +51,7 @@ module _ (t : Tables) (e : SchedEvent) (rest : List SchedEvent) (front : t.sched
   sched_front = rw front (sum_by-cons sched_weight e rest)
 
   -- an event of the scheduler's queue that posts nothing, and may change the asks
-  pub asked_lighter : (asks : List AskOf) → 1 ≤ sched_weight e → weight (record (sched_popped t) { asks = asks }) < weight t
+  pub asked_lighter : (asks : List AsksOf) → 1 ≤ sched_weight e → weight (record (sched_popped t) { asks = asks }) < weight t
   asked_lighter asks one = let f = sched_front in omega (arith, f, one)
 
   -- one that posts an event to the main queue

@@ -37,4 +37,3 @@ pub record IsRecovered (h : History) (t : Tables) : Type 0 where
   pub ended : (id : AppId) → count_by (λ one. is_app one id) t.ended ≡ one_if (is_some_and has_ended (record_of t.tree.apps id)) 0
   pub main : t.main ≡ []
   pub sched : t.sched ≡ []
-  pub asks : t.asks ≡ []

@@ -1,5 +1,6 @@
 -- The state of the judge's manager that the tables stand for.
 use Rattle.std.specs.Prelude.{ℕ, List, [], Bool, true, false, Option, None, Some}
+use Rattle.rm_types.specs.declared.containers.AskOf.{AskOf}
 use Rattle.rm_types.specs.declared.ids.ContainerId.{ContainerId}
 use Rattle.rm_types.specs.declared.operations.Op.{Op}
 use Rattle.rm_types.specs.Records.{Records, records}
@@ -7,14 +8,14 @@ use Rattle.rm_model.specs.State.{Applications, Endings, LifeState, Manager, Mast
 use Rattle.rm_tables.specs.declared.tables.Tables.{Tables}
 
 -- what the judge remembers and the tables do not, or not as a list: the kept operations, what was recorded when the life began, and
--- of the life its clock, its applications' lists, its masters, its book and its nodes
+-- of the life its applications' lists, its masters, what is asked for, its book and its nodes
 pub record History : Type 0 where
   pub kept : List Op
   pub first : Records
-  pub now : ℕ
   pub granted : List ContainerId
   pub apps : Applications
   pub masters : Masters
+  pub asks : List AskOf
   pub book : List Row
   pub endings : Endings
   pub nodes : List NodeState
@@ -25,10 +26,10 @@ new_history kept =
     record {
       kept = kept;
       first = records kept;
-      now = 0;
       granted = [];
       apps = record { submitted = []; wishes = []; accepted = []; retired = [] };
       masters = record { registered = []; expired = []; ordered = [] };
+      asks = [];
       book = [];
       endings = record { outbox = []; left = []; releases = [] };
       nodes = [];
@@ -44,12 +45,12 @@ life_in h t =
       is_open = t.is_open;
       handed = t.handed;
       blown = t.blown;
-      now = h.now;
+      now = t.clock;
       given = t.given;
       granted = h.granted;
       apps = h.apps;
       masters = h.masters;
-      asks = t.asks;
+      asks = h.asks;
       book = h.book;
       endings = h.endings;
       nodes = h.nodes;

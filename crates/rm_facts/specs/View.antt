@@ -109,9 +109,9 @@ is_attempt_end_op_of q _ = false
 abbrev pub is_own_op : AttemptId → Op → Bool
 is_own_op q op = is_attempt_op q op || is_attempt_end_op q op
 
--- what the tables count
-abbrev pub counts : Tables → AttemptId → Counts
-counts t q =
+-- what the tables and the history count
+abbrev pub counts : History → Tables → AttemptId → Counts
+counts h t q =
     record {
       starts = count_by (is_start q.app) t.main;
       saves = count_by (is_save q.app) t.main;
@@ -122,7 +122,7 @@ counts t q =
       grants = count_by (is_grant q) t.main;
       launches = count_by (is_launch q) t.main;
       queueings = count_by (is_queueing q) t.sched;
-      asks = count_by (is_ask q) t.asks;
+      asks = count_by (is_ask q) h.asks;
       own_ops = count_by (is_own_op q) t.awaiting;
       apps = count_by (is_app_op q.app) t.awaiting;
       attempts = count_by (is_attempt_op_of q.app) t.awaiting;
@@ -137,7 +137,7 @@ abbrev pub view : History → Tables → AttemptId → View
 view h t q =
     record {
       found = record_of t.tree.apps q.app;
-      count = counts t q;
+      count = counts h t q;
       waiting = waiting_submission h.apps.submitted q.app;
       wished = has_app h.apps.wishes q.app;
       accepted = has_app h.apps.accepted q.app;

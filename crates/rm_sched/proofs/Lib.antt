@@ -1,0 +1,3 @@
+pub mod Reopened
+pub mod Granting
+pub mod Fronted

@@ -1,11 +1,18 @@
 //! The scheduler's dispatcher: it works off the first event of the scheduler's queue.
 //!
-//! `front` does with the first event what `SchedEvents` in `rm_tables` says of it: the entry that it logs, and the tables
-//! after it. It takes its memory first, and leaves all as it was where there is none.
+//! `front` does with the first event what `SchedEvents` in `rm_tables` says of it: the entry that it logs, and the tables after it.
+//! Attempts ask for their masters' containers, reports of nodes are absorbed, passes grant what fits first, and containers end. It takes its memory
+//! first, and leaves all as it was where there is none.
 //!
-//! It stands on `rm_tables`, whose asks and queues it changes.
+//! It stands on `rm_tables`, whose book, asks, nodes and queues it changes, and on `rm_fit` for what a pass grants.
 #![tactic(auto)]
 
+mod absorbing;
+mod asking;
+mod ending;
 mod fronts;
+mod leaving;
+mod passing;
+mod records;
 
 pub use fronts::front;

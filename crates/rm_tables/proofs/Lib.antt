@@ -1,2 +1,4 @@
 pub mod FirstOp
 pub mod Placed
+pub mod Stays
+pub mod Once

@@ -10,7 +10,7 @@ use Rattle.rm_types.specs.declared.operations.How.{How}
 use Rattle.rm_types.specs.declared.operations.Op.TheVariants as ops
 use Rattle.rm_types.specs.declared.records.AppRecord.{AppRecord}
 use Rattle.rm_types.specs.Records.{record_of}
-use Rattle.rm_model.specs.Changes.{asks_without}
+use Rattle.rm_book.specs.AskTables.{without_asks_of}
 use Rattle.rm_model.specs.Facts.{attempts_in}
 use Rattle.rm_tables.specs.declared.changes.AttemptChange.TheVariants as of_attempt
 use Rattle.rm_tables.specs.declared.changes.RowChange.{RowChange}
@@ -58,7 +58,7 @@ abbrev pub app_ends : AppId → How → List ℕ → Tables → Tables
 app_ends id how text t =
     record t {
       rows = with_row (changed of_app.End) id t.rows;
-      asks = asks_without (next_in t id) t.asks;
+      asks = without_asks_of (next_in t id) t.asks;
       awaiting = t.awaiting ++ ops.AppEnd id how text ∷ [];
     }
 
@@ -69,7 +69,7 @@ ends_app id how text t = (Issued (ops.AppEnd id how text), app_ends id how text 
 abbrev pub attempt_ends : AttemptId → How → List ℕ → Tables → Tables
 attempt_ends id how text t =
     record t {
-      rows = with_row (changed (of_app.OfAttempt of_attempt.End)) id.app t.rows;
+      rows = with_row (changed (of_app.OfAttempt (of_attempt.End how))) id.app t.rows;
       awaiting = t.awaiting ++ ops.AttemptEnd id how text ∷ [];
     }
 

@@ -1,16 +1,19 @@
 -- How the row of an application changes, for each thing that happens to it. The states are those of the tables of transitions of
 -- applications and attempts.
 use Rattle.std.specs.Prelude.{ℕ, Bool, true, false, Option, None, Some}
+use Rattle.rm_types.specs.declared.ids.ContainerId.{ContainerId}
 use Rattle.rm_types.specs.declared.operations.How.{How}
 use Rattle.rm_types.specs.declared.operations.How.TheVariants as ways
 use Rattle.rm_types.specs.declared.operations.Submission.{Submission}
 use Rattle.rm_app.specs.declared.states.AppState.{AppState}
 use Rattle.rm_app.specs.declared.states.AppState.TheVariants as apps
 use Rattle.rm_app.specs.Table.{state_of}
+use Rattle.rm_model.specs.Attempts.{is_finished}
 use Rattle.rm_attempt.specs.declared.states.AttemptState.{AttemptState}
 use Rattle.rm_attempt.specs.declared.states.AttemptState.TheVariants as attempts
 use Rattle.rm_tables.specs.declared.rows.AppRow.{AppRow}
 use Rattle.rm_tables.specs.declared.rows.Current.{Current}
+use Rattle.rm_tables.specs.declared.rows.Dialogue.{Dialogue}
 use Rattle.rm_tables.specs.declared.changes.RowChange.{RowChange}
 use Rattle.rm_tables.specs.declared.changes.RowChange.TheVariants.{Issue, Keep, Wish, Kill, Schedule, Register, End, KeepEnd, OfAttempt}
 use Rattle.rm_tables.specs.declared.changes.AttemptChange.{AttemptChange}
@@ -50,17 +53,27 @@ pending_after _ pending = pending
 
 -- an attempt of this number that waits for its master's container
 abbrev pub scheduled : ℕ → Current
-scheduled number = record { number = number; state = attempts.Scheduled; master = None; registered = false; lost = false }
+scheduled number =
+    record { number = number; state = attempts.Scheduled; master = None; registered = false; lost = false; granted = 0; finished = false }
+
+-- an attempt after a grant: of its master's container, where it waits for that one
+abbrev pub granted_at : AttemptState → ContainerId → Current → Current
+granted_at attempts.Scheduled container current =
+    record current { state = attempts.Granted; master = Some container; lost = false; granted = container.seq }
+granted_at _ container current = record current { granted = container.seq }
+
+abbrev pub granted : ContainerId → Current → Current
+granted container current = granted_at current.state container current
 
 -- an attempt after something happened to it
 abbrev pub attempt_after : AttemptChange → Current → Current
-attempt_after (of_attempt.Grant master) current = record current { state = attempts.Granted; master = Some master; lost = false }
-attempt_after of_attempt.Requeue current = scheduled current.number
+attempt_after (of_attempt.Grant container) current = granted container current
+attempt_after of_attempt.Requeue current = record (scheduled current.number) { granted = current.granted }
 attempt_after of_attempt.Issue current = record current { state = attempts.Saving; lost = false }
 attempt_after of_attempt.Lose current = record current { lost = true }
 attempt_after of_attempt.Keep current = record current { state = attempts.Live }
 attempt_after of_attempt.Finish current = record current { state = attempts.Finishing }
-attempt_after of_attempt.End current = record current { state = attempts.Ending }
+attempt_after (of_attempt.End how) current = record current { state = attempts.Ending; finished = is_finished how }
 attempt_after (of_attempt.KeepEnd how) current = record current { state = attempts.Ended }
 
 -- an attempt whose application ends: dropped where it isn't issued
@@ -101,6 +114,11 @@ current_after (Schedule number) current = Some (scheduled number)
 current_after change None = None
 current_after change (Some current) = Some (current_with change current)
 
+-- the dialogue with the master after a change: the next attempt has one of its own
+abbrev pub dialogue_after : RowChange → Option Dialogue → Option Dialogue
+dialogue_after (Schedule number) dialogue = None
+dialogue_after _ dialogue = dialogue
+
 -- the row after a change
 abbrev pub changed : RowChange → AppRow → AppRow
 changed change row =
@@ -109,4 +127,7 @@ changed change row =
       wish = wish_after change row.wish;
       pending = pending_after change row.pending;
       current = current_after change row.current;
+      first = row.first;
+      dialogue = dialogue_after change row.dialogue;
+      closings = row.closings;
     }

@@ -7,7 +7,7 @@ use Rattle.rm_types.specs.declared.operations.How.{How}
 use Rattle.rm_types.specs.declared.operations.Op.{Op}
 use Rattle.rm_types.specs.declared.operations.Op.TheVariants as ops
 use Rattle.rm_types.specs.Records.{recorded}
-use Rattle.rm_model.specs.Changes.{asks_without}
+use Rattle.rm_book.specs.AskTables.{without_asks_of}
 use Rattle.rm_attempt.specs.declared.states.AttemptState.{AttemptState}
 use Rattle.rm_attempt.specs.declared.states.AttemptState.TheVariants as attempts
 use Rattle.rm_tables.specs.declared.changes.AttemptChange.TheVariants as of_attempt
@@ -28,7 +28,7 @@ taken_up op t = record t { tree = recorded t.tree op; awaiting = drop 1 t.awaiti
 
 -- Epoch: the life opens over what is recorded
 abbrev pub epoch_kept : Tables → Tables
-epoch_kept t = record t { is_open = true; main = opening_main t.tree.apps; sched = opening_sched t.tree.apps }
+epoch_kept t = record t { is_open = true; clock = 0; main = opening_main t.tree.apps; sched = opening_sched t.tree.apps }
 
 -- App: the application is saved
 abbrev pub app_kept : AppId → Tables → Tables
@@ -47,7 +47,7 @@ abbrev pub attempt_end_kept : AttemptId → How → Tables → Tables
 attempt_end_kept id how t =
     record (attempt_end_posted id t) {
       rows = with_row (changed (of_app.OfAttempt (of_attempt.KeepEnd how))) id.app t.rows;
-      asks = asks_without id t.asks;
+      asks = without_asks_of id t.asks;
     }
 
 -- the attempt of an application that ends, where it was dropped

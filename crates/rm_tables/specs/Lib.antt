@@ -1,7 +1,11 @@
 pub mod Rows
 pub mod Changes
+pub mod Nodes
 pub mod Actions
 pub mod MainEvents
+pub mod Leaving
+pub mod Absorbing
+pub mod Passing
 pub mod SchedEvents
 pub mod KeptOps
 pub mod Opening

@@ -1,9 +1,10 @@
 -- How the tables change where a life begins, opens and goes down, and which lanes have something to do. This project's own.
-use Rattle.std.specs.Prelude.{ℕ, List, [], ◌∷◌, Bool, true, false, ◌&&◌, ◌||◌, not}
+use Rattle.std.specs.Prelude.{ℕ, List, [], ◌∷◌, Bool, true, false, ◌&&◌, ◌||◌, not, nat_lt}
 use Rattle.std.specs.declared.alloc.Global.{Global}
 use Rattle.rm_types.specs.declared.messages.Lane.{Lane}
 use Rattle.rm_types.specs.declared.messages.Lane.TheVariants as lanes
 use Rattle.rm_types.specs.Lists.{is_nil}
+use Rattle.rm_book.specs.Books.{empty_book}
 use Rattle.rm_types.specs.declared.settings.Settings.{Settings}
 use Rattle.rm_types.specs.Records.{Records, no_records}
 use Rattle.rm_tables.specs.declared.events.MainEvent.TheVariants as mains
@@ -29,7 +30,11 @@ no_life alloc settings =
       rows = [];
       going = 0;
       ended = [];
+      clock = 0;
+      waits = false;
       asks = [];
+      book = empty_book;
+      nodes = [];
       main = [];
       sched = [];
     }
@@ -46,7 +51,11 @@ cleared t =
       rows = [];
       going = 0;
       ended = [];
+      clock = 0;
+      waits = false;
       asks = [];
+      book = empty_book;
+      nodes = [];
       main = [];
       sched = [];
     }
@@ -62,6 +71,7 @@ begun tree stamp t =
       stamp = stamp;
       rows = recovered_rows tree.apps;
       going = going_in tree.apps;
+      waits = nat_lt 0 (going_in tree.apps);
       main = mains.EpochStart ∷ [];
     }
 

@@ -1,6 +1,6 @@
 -- The tables of a life that begins over recorded applications, and with which events it opens. That a manager recovers its
 -- applications and their attempts from its store is after YARN's page on ResourceManager Restart; the events are this project's own.
-use Rattle.std.specs.Prelude.{ℕ, ◌+◌, List, [], ◌∷◌, ◌++◌, true, false, Option, None, Some, is_some, is_none, option_map, map, count_by, if◌then◌else◌}
+use Rattle.std.specs.Prelude.{ℕ, ◌+◌, List, [], ◌∷◌, ◌++◌, true, false, Option, None, Some, is_some, is_none, option_map, map, count_by, length, if◌then◌else◌}
 use Rattle.std.specs.List.{flat_map}
 use Rattle.rm_types.specs.declared.ids.AppId.{AppId}
 use Rattle.rm_types.specs.declared.operations.How.{How}
@@ -27,6 +27,8 @@ recovered_attempt one =
       master = Some one.master;
       registered = false;
       lost = false;
+      granted = 0;
+      finished = false;
     }
 
 -- the state of a recorded application: that of its end; accepted where it has attempts; submitted
@@ -43,6 +45,9 @@ recovered_row one =
       wish = false;
       pending = None;
       current = option_map recovered_attempt (last_attempt one.attempts);
+      first = length one.attempts;
+      dialogue = None;
+      closings = [];
     }
 
 -- the rows of the recorded applications

@@ -1,22 +1,39 @@
--- What each event of the scheduler's queue does that is of applications and attempts alone: the entry that it logs, and the tables
--- after it. It is still the first of its queue, and is taken when it is done. This project's own.
-use Rattle.std.specs.Prelude.{List, [], ◌∷◌, ◌++◌, Bool, true, ◌==◌, Option, None, Some, option_map}
-use Rattle.rm_types.specs.declared.containers.AskOf.{AskOf}
+-- What each event of the scheduler's queue does: the entry that it logs, and the tables after it. It is still the first of its queue, and
+-- is taken when it is done. After the scheduler of YARN's ResourceManager; the events and their rows are this project's own.
+use Rattle.std.specs.Prelude.{◌≡◌, ℕ, List, [], ◌∷◌, ◌++◌, Bool, true, false, not, ◌&&◌, ◌==◌, Option, None, Some, filter}
+use Rattle.std.specs.List.{list_any}
+use Rattle.std.specs.Str.{bytes_eq}
+use Rattle.rm_types.specs.declared.containers.Ask.{Ask}
+use Rattle.rm_types.specs.declared.containers.BookRow.{BookRow}
+use Rattle.rm_types.specs.declared.containers.Cause.{Cause}
+use Rattle.rm_types.specs.declared.containers.Cause.TheVariants as causes
 use Rattle.rm_types.specs.declared.entries.Entry.{Entry}
 use Rattle.rm_types.specs.declared.entries.Entry.TheVariants.{Queued, Quiet}
 use Rattle.rm_types.specs.declared.ids.AppId.{AppId}
 use Rattle.rm_types.specs.declared.ids.AttemptId.{AttemptId}
+use Rattle.rm_types.specs.declared.ids.ContainerId.{ContainerId}
 use Rattle.rm_types.specs.declared.messages.Lane.TheVariants as lanes
-use Rattle.rm_model.specs.Changes.{master_ask}
+use Rattle.rm_types.specs.declared.operations.Submission.{Submission}
+use Rattle.rm_types.specs.declared.records.AppRecord.{AppRecord}
+use Rattle.rm_types.specs.Ids.{is_attempt}
+use Rattle.rm_types.specs.Order.{Ascend}
+use Rattle.rm_book.specs.AskTables.{AsksOf, asks_of, asks_set, with_asks_of}
+use Rattle.rm_book.specs.Books.{has_row, ids_of, ids_on, row_of as book_row_of}
+use Rattle.rm_model.specs.Containers.{once}
 use Rattle.rm_attempt.specs.declared.states.AttemptState.{AttemptState}
 use Rattle.rm_attempt.specs.declared.states.AttemptState.TheVariants as attempts
 use Rattle.rm_tables.specs.declared.events.MainEvent.TheVariants as mains
+use Rattle.rm_tables.specs.declared.events.SchedEvent.{SchedEvent}
+use Rattle.rm_tables.specs.declared.events.SchedEvent.TheVariants as scheds
+use Rattle.rm_tables.specs.declared.nodes.NodeRow.{NodeRow}
 use Rattle.rm_tables.specs.declared.rows.AppRow.{AppRow}
 use Rattle.rm_tables.specs.declared.rows.Current.{Current}
 use Rattle.rm_tables.specs.declared.tables.Tables.{Tables}
-use Rattle.rm_tables.specs.declared.events.SchedEvent.{SchedEvent}
-use Rattle.rm_tables.specs.declared.events.SchedEvent.TheVariants as scheds
+use Rattle.rm_tables.specs.Absorbing.{absorbed_by, not_taken, taken_in}
 use Rattle.rm_tables.specs.Actions.{found_in, sched_quiet}
+use Rattle.rm_tables.specs.Leaving.{ended_by, is_masters_in}
+use Rattle.rm_tables.specs.Nodes.{is_waiting, node_of}
+use Rattle.rm_tables.specs.Passing.{updated_by}
 use Rattle.rm_tables.specs.Rows.{row_of}
 
 -- AppAdded: the application is to be accepted
@@ -24,9 +41,13 @@ abbrev pub added_by : AppId → Tables → Entry × Tables
 added_by id t = (Quiet lanes.Sched, record t { main = t.main ++ mains.AppAccepted id ∷ [] })
 
 -- AttemptAdded: an attempt that is scheduled asks for its master's container
+abbrev pub master_asked : AttemptId → Option AppRecord → List AsksOf → List AsksOf
+master_asked id None asks = asks
+master_asked id (Some app) asks =
+    with_asks_of id (asks_set (record { priority = 0; count = 1; size = app.submission.master }) (asks_of asks id)) asks
+
 abbrev pub queued_at : AttemptState → Bool → AttemptId → Tables → Entry × Tables
-queued_at attempts.Scheduled true id t =
-    (Queued id, record t { asks = t.asks ++ master_ask id (option_map (λ one. one.submission) (found_in t id.app)) })
+queued_at attempts.Scheduled true id t = (Queued id, record t { asks = master_asked id (found_in t id.app) t.asks })
 queued_at _ current id t = sched_quiet t
 
 abbrev pub queued_with : Option Current → AttemptId → Tables → Entry × Tables
@@ -37,15 +58,52 @@ abbrev pub queued_by : Option AppRow → AttemptId → Tables → Entry × Table
 queued_by None id t = sched_quiet t
 queued_by (Some row) id t = queued_with row.current id t
 
--- what an event of the scheduler's queue logs, and the tables after it. An attempt that lives needs nothing when it is recovered; the
--- events of containers and nodes are posted by nothing yet, and have nothing to do
-abbrev pub sched_step : SchedEvent → Tables → Entry × Tables
-sched_step (scheds.AppAdded id) t = added_by id t
-sched_step (scheds.AttemptRecovered id) t = sched_quiet t
-sched_step (scheds.AttemptAdded id) t = queued_by (row_of t.rows id.app) id t
-sched_step (scheds.AttemptRemoved id) t = sched_quiet t
-sched_step (scheds.Release attempt list) t = sched_quiet t
-sched_step (scheds.NodeAdded node turn) t = sched_quiet t
-sched_step (scheds.NodeDone node list) t = sched_quiet t
-sched_step (scheds.NodeUpdate node) t = sched_quiet t
-sched_step (scheds.NodeLost node) t = sched_quiet t
+-- the row is on this node
+abbrev pub is_on : List ℕ → Option BookRow → Bool
+is_on name None = false
+is_on name (Some row) = bytes_eq row.node name
+
+-- Release: the containers that a master released end which live, are of its attempt and are no master's, in the order of its list, each
+-- once
+abbrev pub is_released : AttemptId → Tables → ContainerId → Bool
+is_released attempt t id = has_row t.book id && (is_attempt id.attempt attempt && not (is_masters_in t.tree.apps id))
+
+abbrev pub released_by : AttemptId → List ContainerId → Tables → Entry × Tables
+released_by attempt list t = ended_by causes.Released (once (filter (is_released attempt t) list)) t
+
+-- NodeDone: the containers that a node reported as done end which live on it, in the order of its list, each once
+abbrev pub done_by : List ℕ → List ContainerId → Tables → Entry × Tables
+done_by name list t = ended_by causes.Done (once (filter (λ id. is_on name (book_row_of t.book id)) list)) t
+
+-- which containers end by an event whose list is in ascending order: those of an attempt that is over, those that stand on a node that is
+-- lost, and those that stand on a node that is absorbed and aren't taken
+abbrev pub EndsIf : Bool → List ℕ → NodeRow → Tables → List ContainerId → Type 0
+EndsIf true name row t list = Ascend (not_taken t.book name (taken_in t name row)) list
+EndsIf false name row t list = Unit {0}
+
+abbrev pub EndsAbsorbed : Option NodeRow → List ℕ → ℕ → Tables → List ContainerId → Type 0
+EndsAbsorbed None name turn t list = Unit {0}
+EndsAbsorbed (Some row) name turn t list = EndsIf (is_waiting row.state && (row.turn == turn)) name row t list
+
+abbrev pub EndsBy : SchedEvent → Tables → List ContainerId → Type 0
+EndsBy (scheds.AttemptRemoved id) t list = Ascend (ids_of t.book id) list
+EndsBy (scheds.NodeLost node) t list = Ascend (ids_on t.book node) list
+EndsBy (scheds.NodeAdded node turn) t list = EndsAbsorbed (node_of t.nodes node) node turn t list
+EndsBy _ t list = Unit {0}
+
+-- what an event of the scheduler's queue logs, and the tables after it, where these containers end. An attempt that lives needs nothing
+-- when it is recovered
+abbrev pub sched_step : SchedEvent → List ContainerId → Tables → Entry × Tables
+sched_step (scheds.AppAdded id) list t = added_by id t
+sched_step (scheds.AttemptRecovered id) list t = sched_quiet t
+sched_step (scheds.AttemptAdded id) list t = queued_by (row_of t.rows id.app) id t
+sched_step (scheds.AttemptRemoved id) list t = ended_by causes.Attempt list t
+sched_step (scheds.Release attempt released) list t = released_by attempt released t
+sched_step (scheds.NodeAdded node turn) list t = absorbed_by (node_of t.nodes node) node turn list t
+sched_step (scheds.NodeDone node done) list t = done_by node done t
+sched_step (scheds.NodeUpdate node) list t = updated_by (node_of t.nodes node) node t
+sched_step (scheds.NodeLost node) list t = ended_by causes.Node list t
+
+-- what an event does
+abbrev pub SchedDoes : SchedEvent → Tables → Entry × Tables → Type 0
+SchedDoes event t done = (list : List ContainerId) × EndsBy event t list × (done ≡ sched_step event list t)

@@ -1,6 +1,6 @@
 ghost use Rattle.std.specs.Prelude.{◌≡◌};
 ghost use Rattle.rm_app.specs.Table.{state_of};
-ghost use Rattle.rm_tables.specs.Changes.{after_failure, state_with, state_after, scheduled, attempt_after, dropped_state, killed_state, current_with, current_after, changed};
+ghost use Rattle.rm_tables.specs.Changes.{after_failure, state_with, state_after, scheduled, granted, attempt_after, dropped_state, killed_state, current_with, current_after, changed};
 
 use crate::rows::{AppRow, Current};
 use rm_app::AppState;
@@ -33,8 +33,8 @@ pub enum RowChange {
 /// What happens to the current attempt of an application.
 #[derive(Clone, Copy, Debug, PartialEq, Eq)]
 pub enum AttemptChange {
-    /// A pass granted its master's container.
-    Grant { master: ContainerId },
+    /// A pass granted it a container: its master's, where it waits for that one.
+    Grant { container: ContainerId },
     /// Its master's container left the book before the attempt was issued: it waits for another.
     Requeue,
     /// Its Attempt is issued.
@@ -46,7 +46,7 @@ pub enum AttemptChange {
     /// Its master finished.
     Finish,
     /// Its AttemptEnd is issued.
-    End,
+    End { how: How },
     /// Its AttemptEnd is kept.
     KeepEnd { how: How },
 }
@@ -106,6 +106,26 @@ fn scheduled(number: u32) -> Current
         master: None,
         registered: false,
         lost: false,
+        granted: 0,
+        finished: false,
+    }
+}
+
+fn granted(container: ContainerId, current: Current) -> Current
+    ensures { result ≡ granted container current }
+{
+    match current.state {
+        AttemptState::Scheduled => Current {
+            state: AttemptState::Granted,
+            master: Some(container),
+            lost: false,
+            granted: container.seq,
+            ..current
+        },
+        _ => Current {
+            granted: container.seq,
+            ..current
+        },
     }
 }
 
@@ -113,13 +133,11 @@ fn attempt_after(change: AttemptChange, current: Current) -> Current
     ensures { result ≡ attempt_after change current }
 {
     match change {
-        AttemptChange::Grant { master } => Current {
-            state: AttemptState::Granted,
-            master: Some(master),
-            lost: false,
-            ..current
+        AttemptChange::Grant { container } => granted(container, current),
+        AttemptChange::Requeue => Current {
+            granted: current.granted,
+            ..scheduled(current.number)
         },
-        AttemptChange::Requeue => scheduled(current.number),
         AttemptChange::Issue => Current {
             state: AttemptState::Saving,
             lost: false,
@@ -131,7 +149,11 @@ fn attempt_after(change: AttemptChange, current: Current) -> Current
         },
         AttemptChange::Keep => in_state(AttemptState::Live, current),
         AttemptChange::Finish => in_state(AttemptState::Finishing, current),
-        AttemptChange::End => in_state(AttemptState::Ending, current),
+        AttemptChange::End { how } => Current {
+            state: AttemptState::Ending,
+            finished: how == How::Finished,
+            ..current
+        },
         AttemptChange::KeepEnd { .. } => in_state(AttemptState::Ended, current),
     }
 }
@@ -198,6 +220,7 @@ impl AppRow {
         match change {
             RowChange::Wish => self.wish = true,
             RowChange::Keep => self.pending = None,
+            RowChange::Schedule { .. } => self.dialogue = None,
             _ => {}
         }
     }

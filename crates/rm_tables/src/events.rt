@@ -1,7 +1,7 @@
-ghost use Rattle.std.specs.Prelude.{◌≡◌};
+ghost use Rattle.std.specs.Prelude.{◌≡◌, IfOk};
 ghost use Rattle.rm_tables.specs.declared.events.Refused.TheVariants.{Memory};
 
-use rm_types::{AppId, AttemptId, ContainerId, Items, NoMemory, Text};
+use rm_types::{AppId, AttemptId, ContainerId, Duplicate, Items, NoMemory, Text};
 
 /// What the main queue holds. The queue is first in, first out, as that of YARN's dispatcher.
 #[derive(Clone, Copy, Debug, PartialEq, Eq)]
@@ -62,6 +62,32 @@ pub enum SchedEvent {
     NodeUpdate(Text),
     /// A node's lease ran out.
     NodeLost(Text),
+}
+
+impl Duplicate for SchedEvent {
+    fn copy(&self) -> Result<SchedEvent, NoMemory> {
+        match self {
+            SchedEvent::AppAdded(id) => Ok(SchedEvent::AppAdded(*id)),
+            SchedEvent::AttemptRecovered(id) => Ok(SchedEvent::AttemptRecovered(*id)),
+            SchedEvent::AttemptAdded(id) => Ok(SchedEvent::AttemptAdded(*id)),
+            SchedEvent::AttemptRemoved(id) => Ok(SchedEvent::AttemptRemoved(*id)),
+            SchedEvent::Release { attempt, list } => Ok(SchedEvent::Release {
+                attempt: *attempt,
+                list: list.copy()?,
+            }),
+            SchedEvent::NodeAdded { node, turn } => Ok(SchedEvent::NodeAdded {
+                node: node.copy()?,
+                turn: *turn,
+            }),
+            SchedEvent::NodeDone { node, list } => {
+                let node = node.copy()?;
+                let list = list.copy()?;
+                Ok(SchedEvent::NodeDone { node, list })
+            }
+            SchedEvent::NodeUpdate(node) => Ok(SchedEvent::NodeUpdate(node.copy()?)),
+            SchedEvent::NodeLost(node) => Ok(SchedEvent::NodeLost(node.copy()?)),
+        }
+    }
 }
 
 /// Why a move was not made. Nothing has changed then.

@@ -1,6 +1,4 @@
-ghost use Rattle.std.specs.Prelude.{◌≡◌, ℕ, List, ◌∷◌, [], true, not, IfOk, OnOk, OnErr, IsErrOf, IfSome, IfNone, Err};
-ghost use Rattle.rm_types.specs.Ids.{is_attempt};
-ghost use Rattle.rm_model.specs.Changes.{asks_without};
+ghost use Rattle.std.specs.Prelude.{◌≡◌, ℕ, List, ◌∷◌, [], true, IfOk, OnOk, OnErr, IsErrOf, IfSome, IfNone, Err};
 ghost use Rattle.rm_tables.specs.Rows.{row_of};
 ghost use Rattle.rm_types.specs.declared.ids.AttemptId.{AttemptId};
 ghost use Rattle.rm_types.specs.declared.ids.ContainerId.{ContainerId};
@@ -15,7 +13,7 @@ use crate::events::{MainEvent, Refused, SchedEvent};
 use crate::opening::{opening_main, opening_sched};
 use crate::tables::Tables;
 use rm_attempt::AttemptState;
-use rm_types::{AppId, AskOf, AttemptId, Boxed, Entry, How, Items, NoMemory, Op};
+use rm_types::{AppId, AttemptId, Boxed, Entry, How, NoMemory, Op};
 
 /// The first awaiting operation, of which this much is known, is recorded and handed on as it is.
 fn take_up(t: &mut Tables) -> Result<Op, NoMemory>
@@ -85,6 +83,7 @@ fn keep_epoch(t: &mut Tables, next: u32, stamp: u64) -> Result<Entry, NoMemory>
     let sched = opening_sched(t.alloc, &t.tree)?;
     let entry = take_into(t, room)?;
     t.is_open = true;
+    t.clock = 0;
     t.main = main;
     t.sched = sched;
     Ok(entry)
@@ -146,7 +145,7 @@ fn keep_attempt_end(t: &mut Tables, id: AttemptId, how: How) -> Result<Entry, No
         Ok(entry) => {
             let change = AttemptChange::KeepEnd { how };
             t.rows.change(id.app, RowChange::OfAttempt { change });
-            clear_asks(&mut t.asks, id);
+            t.asks.clear(id);
             Ok(entry)
         }
         Err(refused) => {
@@ -166,17 +165,6 @@ fn keep_remove(t: &mut Tables, id: AppId) -> Result<Entry, NoMemory>
     let entry = take_into(t, room)?;
     t.rows.remove(id);
     Ok(entry)
-}
-
-/// Takes the asks of an attempt away. It takes no memory.
-pub fn clear_asks(asks: &mut Items<AskOf>, attempt: AttemptId)
-    ensures { asks.new ≡ asks_without attempt asks.old }
-{
-    asks.retain(
-        |one: &AskOf| -> bool
-            ensures { result ≡ not (is_attempt one.now.attempt attempt) }
-        { one.attempt != attempt },
-    )
 }
 
 /// The attempt of an application that ends, where it was dropped.

@@ -17,6 +17,7 @@ mod changes;
 mod events;
 mod keeping;
 mod lives;
+mod nodes;
 mod opening;
 mod rows;
 mod tables;
@@ -25,7 +26,7 @@ mod tests;
 
 pub use changes::{AttemptChange, RowChange};
 pub use events::{MainEvent, Refused, SchedEvent};
-pub use keeping::clear_asks;
+pub use nodes::{NodeChange, NodeRow, Nodes, Registration};
 pub use opening::last_attempt;
-pub use rows::{AppRow, Current, Rows};
+pub use rows::{AppRow, Current, Dialogue, Rows};
 pub use tables::Tables;

@@ -2,11 +2,13 @@ ghost use Rattle.std.specs.Prelude.{◌≡◌, OnOk, OnErr};
 ghost use Rattle.rm_tables.specs.Lives.{no_life, cleared, begun, gone_down, handed_out, refused, is_ready, may_go_down};
 
 use crate::events::MainEvent;
+use crate::nodes::Nodes;
 use crate::opening::{going_in, recovered_rows};
 use crate::rows::Rows;
 use crate::tables::Tables;
+use rm_book::{Asks, Book};
 use rm_tree::Tree;
-use rm_types::{Items, Lane, NoMemory, Queue, Settings};
+use rm_types::{Lane, NoMemory, Queue, Settings};
 use std::alloc::Global;
 
 impl Tables {
@@ -30,7 +32,11 @@ impl Tables {
             rows: Rows::new(alloc),
             going: 0,
             ended: Queue::new(alloc),
-            asks: Items::new(alloc),
+            clock: 0,
+            waits: false,
+            asks: Asks::new(alloc),
+            book: Book::new(alloc),
+            nodes: Nodes::new(alloc),
             main: Queue::new(alloc),
             sched: Queue::new(alloc),
         }
@@ -47,6 +53,7 @@ impl Tables {
         let rows = recovered_rows(self.alloc, &tree)?;
         self.clear();
         self.going = going_in(&tree);
+        self.waits = self.going > 0;
         self.rows = rows;
         self.epoch = tree.next_epoch();
         self.stamp = stamp;
@@ -77,7 +84,11 @@ impl Tables {
         self.rows = Rows::new(self.alloc);
         self.going = 0;
         self.ended = Queue::new(self.alloc);
-        self.asks = Items::new(self.alloc);
+        self.clock = 0;
+        self.waits = false;
+        self.asks = Asks::new(self.alloc);
+        self.book = Book::new(self.alloc);
+        self.nodes = Nodes::new(self.alloc);
         self.main = Queue::new(self.alloc);
         self.sched = Queue::new(self.alloc);
     }

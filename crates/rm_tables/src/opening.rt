@@ -10,7 +10,7 @@ use crate::rows::{AppRow, Current, Rows};
 use rm_app::AppState;
 use rm_attempt::AttemptState;
 use rm_tree::Tree;
-use rm_types::{AppRecord, AttemptId, AttemptRecord, NoMemory, Queue};
+use rm_types::{AppRecord, AttemptId, AttemptRecord, Items, NoMemory, Queue};
 use std::alloc::Global;
 
 /// The last kept attempt of an application, if it has one.
@@ -34,10 +34,12 @@ fn recovered_attempt(one: &AttemptRecord) -> Current
         master: Some(one.master),
         registered: false,
         lost: false,
+        granted: 0,
+        finished: false,
     }
 }
 
-fn recovered_row(app: &AppRecord) -> AppRow
+fn recovered_row(alloc: Global, app: &AppRecord) -> AppRow
     ensures { result ≡ recovered_row app.now }
 {
     let last = last_attempt(app);
@@ -55,6 +57,9 @@ fn recovered_row(app: &AppRecord) -> AppRow
         wish: false,
         pending: None,
         current,
+        first: app.attempts.len(),
+        dialogue: None,
+        closings: Items::new(alloc),
     }
 }
 
@@ -66,7 +71,7 @@ pub fn recovered_rows(alloc: Global, tree: &Tree) -> Result<Rows, NoMemory>
     let count = tree.len();
     'records: for place in 0..count {
         let app = tree.at(place);
-        rows.add(app.id, recovered_row(app))?;
+        rows.add(app.id, recovered_row(alloc, app))?;
     }
     Ok(rows)
 }

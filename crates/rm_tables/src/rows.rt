@@ -1,13 +1,16 @@
-ghost use Rattle.std.specs.Prelude.{◌≡◌, ◌∷◌, [], ◌++◌, Some, None, OnOk, OnErr, option_map};
+ghost use Rattle.std.specs.Prelude.{◌≡◌, ◌∷◌, [], ◌++◌, Some, None, IfOk, OnOk, OnErr, option_map};
 ghost use Rattle.std.specs.Option.{option_copied};
 ghost use Rattle.rm_tables.specs.Rows.{slot_of, row_of, is_retired, with_row, without_row};
 ghost use Rattle.rm_tables.specs.Changes.{changed};
+ghost use Rattle.rm_tables.specs.Leaving.{closed_one, telling};
 
 use crate::changes::RowChange;
 use indexmap::IndexMap;
 use rm_app::AppState;
 use rm_attempt::AttemptState;
-use rm_types::{AppId, ContainerId, NoMemory, Submission};
+use rm_types::{
+    AppId, Boxed, Closing, ContainerId, Duplicate, Items, NoMemory, Reply, Submission, Text,
+};
 use std::alloc::Global;
 use std::marker::Model;
 
@@ -22,6 +25,20 @@ pub struct Current {
     pub registered: bool,
     /// Its master's container was lost before the attempt was saved.
     pub lost: bool,
+    /// How many containers this life granted to it: the sequence of the last one.
+    pub granted: u64,
+    /// Its end was issued as FINISHED.
+    pub finished: bool,
+}
+
+/// The dialogue with a master that registered in this life.
+#[derive(Debug, Drop)]
+pub struct Dialogue {
+    /// The last response id that it was answered, and what it was answered then.
+    pub last_id: u32,
+    pub last_reply: Boxed<Reply>,
+    /// What it said when it finished, once it did.
+    pub finishing: Option<Text>,
 }
 
 /// What a life knows of an application beside what is recorded of it.
@@ -33,6 +50,23 @@ pub struct AppRow {
     /// What was submitted, until it is kept.
     pub pending: Option<Submission>,
     pub current: Option<Current>,
+    /// How many of its attempts were kept when the life began.
+    pub first: usize,
+    /// The dialogue with the master of its current attempt.
+    pub dialogue: Option<Dialogue>,
+    /// The endings of its attempts' containers that their masters were not told yet.
+    pub closings: Items<Closing>,
+}
+
+impl AppRow {
+    /// What its masters are to be told, and one more ending.
+    fn with_closing(&self, closing: Closing) -> Result<Items<Closing>, NoMemory>
+        ensures { IfOk result (λ closings. closings ≡ self.now.closings ++ closing ∷ []) }
+    {
+        let mut closings = self.closings.copy()?;
+        closings.push(closing)?;
+        Ok(closings)
+    }
 }
 
 /// The rows of the applications that a life knows, each found by its id without a walk. A removed application
@@ -102,6 +136,30 @@ impl Rows {
         }
     }
 
+    /// The master of a container's attempt is to be told of its end, where the life knows the application. `NoMemory`
+    /// changes nothing.
+    pub fn close(&mut self, closing: Closing) -> Result<(), NoMemory>
+        ensures ok { OnOk result (self.new ≡ closed_one self.old closing) }
+        ensures err { OnErr result (self.new ≡ self.old) }
+    {
+        let id = closing.id.attempt.app;
+        let Some(row) = self.find(id) else {
+            return Ok(());
+        };
+        let closings = row.with_closing(closing)?;
+        self.set_closings(id, closings);
+        Ok(())
+    }
+
+    /// What masters of an application's attempts are to be told is this, where the life knows the application. It takes no memory.
+    pub fn set_closings(&mut self, id: AppId, closings: Items<Closing>)
+        ensures { self.new ≡ with_row (telling closings) id self.old }
+    {
+        if let Some(slot) = self.map.get_mut(&id) {
+            set_slot(slot, closings);
+        }
+    }
+
     /// Removes an application, whose id is retired from then on.
     pub fn remove(&mut self, id: AppId)
         ensures { self.new ≡ without_row id self.old }
@@ -117,6 +175,14 @@ fn change_slot(slot: &mut Option<AppRow>, change: RowChange)
 {
     if let Some(row) = slot {
         row.change(change);
+    }
+}
+
+fn set_slot(slot: &mut Option<AppRow>, closings: Items<Closing>)
+    ensures { slot.new ≡ option_map (telling closings) slot.old }
+{
+    if let Some(row) = slot {
+        row.closings = closings;
     }
 }
 

@@ -1,7 +1,9 @@
 use crate::events::{MainEvent, SchedEvent};
+use crate::nodes::Nodes;
 use crate::rows::Rows;
+use rm_book::{Asks, Book};
 use rm_tree::Tree;
-use rm_types::{AppId, AskOf, Items, Op, Queue, Settings};
+use rm_types::{AppId, Op, Queue, Settings};
 use std::alloc::Global;
 
 /// What the manager holds between its moves: what is recorded, the operations that await, and the life that
@@ -34,8 +36,16 @@ pub struct Tables {
     pub going: usize,
     /// The applications with a kept end of which no Remove is issued, in the order of their ends.
     pub ended: Queue<AppId>,
-    /// What attempts ask for, in the order of first asking.
-    pub asks: Items<AskOf>,
+    /// The life's clock: milliseconds since it opened.
+    pub clock: u64,
+    /// The store held an application without an end when the life began, so that nothing is granted at first.
+    pub waits: bool,
+    /// What attempts ask for.
+    pub asks: Asks,
+    /// The living containers.
+    pub book: Book,
+    /// The nodes that registered in this life.
+    pub nodes: Nodes,
     pub main: Queue<MainEvent>,
     pub sched: Queue<SchedEvent>,
 }

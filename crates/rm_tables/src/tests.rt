@@ -55,6 +55,9 @@ fn a_row_is_found_until_it_is_retired(rt: HostRuntime) -> Result<(), Fail> {
         wish: false,
         pending: None,
         current: None,
+        first: 0,
+        dialogue: None,
+        closings: Items::new(alloc),
     };
     rows.add(id, row)?;
     rows.change(id, RowChange::Schedule { number: 1 });

@@ -7,4 +7,4 @@ pub returns-in-Ok-clause-ok : goal.returns-in-Ok-clause-ok
 returns-in-Ok-clause-ok c = λ x rest e.
     let posted = c.in_ok-post_attempt_end.ensures.ok in
     let h = c.in-Ok.ensures.ok (AttemptEnd c.args.id c.args.how x) rest (ap (λ (t : Tables). t.awaiting) posted ∙ e) in
-    (h.0, rw (c.clear_asks.ensures, c.change.ensures, h.1, posted) refl)
+    (h.0, rw (c.clear.ensures.table, c.change.ensures, h.1, posted) refl)

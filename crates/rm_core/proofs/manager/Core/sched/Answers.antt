@@ -1,6 +1,7 @@
 use Rattle.std.proofs.Common.{sym, ◌∙◌, arith}
 use Rattle.rm_core.specs.declared.manager.Move.TheVariants.{Sched}
 use Rattle.rm_core.proofs.Moving.{Done, core_sound, sched_done}
+use Rattle.rm_core.proofs.Phases.{no_registration, no_update}
 use Rattle.rm_core.proofs.manager.Core.sched.Goals as goal
 
 done : (c : goal.After-sched) → Done Sched c.self.inside.tables c.sched.new.t c.self.inside.log c.sched.new.log c.sched.result
@@ -11,3 +12,9 @@ invariant_of-self c = core_sound c.self.inside.queues Sched c.self.inside.tables
 
 pub returns-clause-does : goal.returns-clause-does
 returns-clause-does c = rw (← c.self.view_is) (done c).does
+
+pub sched-requires-clause-pass : goal.sched-requires-clause-pass
+sched-requires-clause-pass c = λ name rest front. absurd (no_update c.self.invariant.sound.history c.self.inside.tables name rest c.self.invariant.sound.phase front)
+
+pub sched-requires-clause-absorb : goal.sched-requires-clause-absorb
+sched-requires-clause-absorb c = λ name turn rest front. absurd (no_registration c.self.invariant.sound.history c.self.inside.tables name turn rest c.self.invariant.sound.phase front)
