@@ -60,7 +60,7 @@ accept_lawful h t id row o says =
 
 module _ (settings : Settings) (h : History) (t : Tables) (k : Keeps settings h t) (id : AppId) (rest : List MainEvent) where
   -- an event of the application has nothing to do
-  quiet : (e : MainEvent) (more : View → View) → t.main ≡ e ∷ rest → (row : Option AppRow) → row_of t.rows id ≡ row
+  pub quiet : (e : MainEvent) (more : View → View) → t.main ≡ e ∷ rest → (row : Option AppRow) → row_of t.rows id ≡ row
       → ((q : AttemptId) (v : View) → is_app id q.app ≡ false → main_view q e v ≡ v) → ((q : AttemptId) (v : View) → is_app id q.app ≡ true → main_view q e v ≡ more v)
       → ((q : AttemptId) → RowSays settings q row (more (view h (main_popped t) q)) → RowSays settings q row (view h (main_popped t) q)) → Step settings h t (Quiet MainLane) h (main_popped t)
   quiet e more front None found other mine own =

@@ -24,11 +24,11 @@ is_app_same a b h = grind (arith, nat_tests)
 pub same_test : (a b q : AppId) → is_app a b ≡ true → is_app a q ≡ is_app b q
 same_test a b q h = grind (arith, nat_tests)
 
-ids_alike : IsEquivalence is_app
+pub ids_alike : IsEquivalence is_app
 ids_alike = record { refl = is_app-refl; symm = λ x y. grind (arith, nat_tests); congr = same_test }
 
 -- a row
-some_is : {X : Type 0} (o : Option X) (x : X) → o ≡ Some x → IsSome o
+pub some_is : {X : Type 0} (o : Option X) (x : X) → o ≡ Some x → IsSome o
 some_is o x e = rw e refl
 
 slot_more : (change : AppRow → AppRow) (id q : AppId) (rows : List (AppId × Option AppRow)) (slot : Option AppRow) → slot_of rows id ≡ Some slot → (b : Bool) → is_app id q ≡ b
