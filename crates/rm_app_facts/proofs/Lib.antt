@@ -6,3 +6,4 @@ pub mod Ending
 pub mod Recorded
 pub mod KeptEnds
 pub mod Removing
+pub mod Retiring

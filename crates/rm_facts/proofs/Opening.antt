@@ -39,7 +39,7 @@ use Rattle.rm_facts.specs.Recovered.{Recoverable, IsRecovered, has_ended, fresh,
 use Rattle.rm_facts.specs.Submissions.{AllPlain, AllOfApps, IsPlainRow, starting, is_registered}
 use Rattle.rm_facts.proofs.Counts.{at_front, at_end, count_append, none_among}
 
-abbrev AtMostOnce : AppId → List AppRecord → Type 0
+abbrev pub AtMostOnce : AppId → List AppRecord → Type 0
 AtMostOnce q apps = count_by (λ app. is_app app.id q) apps ≤ 1
 
 -- events that an application posts once where its record passes a test: none are there without it, and one where it is found and passes
@@ -60,7 +60,7 @@ module _ {X : Type 0} (events : AppRecord → List X) (p : X → Bool) (q : AppI
           let all = count_append p (events app) (flat_map events apps) in
           omega (arith, none, left, all)
 
-  posted : (apps : List AppRecord) → AtMostOnce q apps → count_by p (flat_map events apps) ≡ one_if (is_some_and test (record_of apps q)) 0
+  pub posted : (apps : List AppRecord) → AtMostOnce q apps → count_by p (flat_map events apps) ≡ one_if (is_some_and test (record_of apps q)) 0
   posted [] n = refl
   posted (app ∷ apps) n = by (is_app app.id q) refl (posted apps)
     where

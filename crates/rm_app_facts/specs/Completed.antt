@@ -1,0 +1,30 @@
+-- What holds of the completed applications of the tables: they stand in the order in which their ends were kept. This project's own.
+use Rattle.std.specs.Prelude.{◌≤◌, ℕ, List, [], ◌∷◌, Option, None, Some, count_by}
+use Rattle.rm_types.specs.declared.ids.AppId.{AppId}
+use Rattle.rm_types.specs.declared.records.AppRecord.{AppRecord}
+use Rattle.rm_types.specs.Ids.{is_app}
+use Rattle.rm_types.specs.Records.{record_of}
+use Rattle.rm_tables.specs.declared.tables.Tables.{Tables}
+
+-- when the end of an application was kept, as a place among the operations
+abbrev pub order_in : Option AppRecord → ℕ
+order_in None = 0
+order_in (Some one) = one.end_order
+
+abbrev pub order_of : List AppRecord → AppId → ℕ
+order_of apps id = order_in (record_of apps id)
+
+-- the end of each of these was kept no earlier
+abbrev pub AllLater : List AppRecord → ℕ → List AppId → Type 0
+AllLater apps n [] = Unit {0}
+AllLater apps n (id ∷ more) = (n ≤ order_of apps id) × AllLater apps n more
+
+-- the end of each of these was kept no later than those of the ones after it
+abbrev pub InOrder : List AppRecord → List AppId → Type 0
+InOrder apps [] = Unit {0}
+InOrder apps (id ∷ more) = AllLater apps (order_of apps id) more × InOrder apps more
+
+-- no two records are of one application, and the completed stand in order
+pub record Completes (t : Tables) : Type 0 where
+  pub once : (id : AppId) → count_by (λ app. is_app app.id id) t.tree.apps ≤ 1
+  pub in_order : InOrder t.tree.apps t.ended
