@@ -13,7 +13,7 @@ use Rattle.rm_types.specs.declared.scripts.Life.{Life}
 use Rattle.rm_types.specs.declared.scripts.Segment.{Segment}
 use Rattle.rm_types.specs.declared.scripts.Script.{Script}
 use Rattle.rm_types.specs.declared.operations.Submission.{Submission}
-use Rattle.rm_types.specs.declared.texts.TextKind.TheVariants.{Name, AclText}
+use Rattle.rm_types.specs.declared.texts.TextKind.TheVariants.{Name}
 use Rattle.rm_types.specs.Ranges.{IsText, IsSubmission as IsFramedSubmission}
 use Rattle.rm_core.specs.Serving.{IsBuiltAsk as IsServedAsk, IsBuiltMessage as IsServedMessage}
 use Rattle.rm_script.specs.Scripts.{IsScript, IsRead, IsBuiltAsk, IsClientAsk, IsSubmission, EachButLast}
@@ -22,9 +22,9 @@ use Rattle.rm_script.proofs.Values.{told_values}
 use Rattle.rm_desk.specs.Scripts.{AllServed, Closes, CanFollow, EndsInCrash, CanLive, AllLive}
 use Rattle.rm_plain.specs.Along.{CanRun, AllBare, AllSettle, IsBare, SettlesFirst}
 
--- what is submitted without a `modify` can be kept
-framed : (user : List ℕ) (submission : Submission) → IsText Name user → IsSubmission user submission → submission.modify ≡ [] → IsFramedSubmission submission
-framed user submission name h empty =
+-- what is submitted can be kept
+framed : (user : List ℕ) (submission : Submission) → IsText Name user → IsSubmission user submission → IsFramedSubmission submission
+framed user submission name h =
     record {
       user = subst (IsText Name) (sym h.by_user) name;
       queue = h.queue;
@@ -32,12 +32,12 @@ framed user submission name h empty =
       memory_mb = h.memory;
       vcores = h.vcores;
       attempts = h.attempts;
-      modify = subst (IsText AclText) (sym empty) refl;
+      modify = h.modify;
     }
 
 ask_served : (user : List ℕ) (ask : ClientAsk) → IsText Name user → IsClientAsk user ask → IsBuiltAsk ask → IsServedAsk ask
 ask_served user New name values built = tt
-ask_served user (Submit id submission) name values built = (values.0, framed user submission name values.1 built)
+ask_served user (Submit id submission) name values built = (values.0, framed user submission name values.1)
 ask_served user (Report id) name values built = tt
 ask_served user (Kill id) name values built = absurd built
 

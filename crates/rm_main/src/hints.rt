@@ -27,10 +27,8 @@ fn line_hint(line: &str) -> &'static str {
         "the messages of masters, nodes and the clock are not read yet"
     } else if line.starts_with("client ") && line.contains(" kill ") {
         "`kill` is not read yet"
-    } else if line.starts_with("client ") && line.contains(" modify=") {
-        "`modify=` is not read yet"
     } else if line.starts_with("client ") || line.starts_with("lose ") {
-        "a message stands inside a life, as `client USER new`, `client USER submit APP queue=QUEUE name=NAME memory=MB vcores=CORES attempts=N` or `client USER report APP`"
+        "a message stands inside a life, as `client USER new`, `client USER submit APP queue=QUEUE name=NAME memory=MB vcores=CORES attempts=N[ modify=ACL]` or `client USER report APP`"
     } else if line.starts_with("crash") {
         "a crash is `crash CALLS IMAGE`, directly after a `settle` of its life"
     } else if line.starts_with("settle") {

@@ -2,16 +2,13 @@
 use Rattle.std.proofs.Common.{◌≡◌, ℕ, zero, suc, ◌+◌, ◌-◌, ◌*◌, ◌^◌, ◌<◌, ◌≤◌, Bool, true, false, cond, ◌&&◌, ◌||◌, ltb, leb, List, [], ◌∷◌, length, get_or, Option, Some, None, refl, sym, ap, subst, ◌∙◌, arith, rules}
 use Rattle.std.specs.Fmt.{decimal}
 use Rattle.rm_types.specs.Ranges.{IsWithin}
-use Rattle.std.proofs.lemmas.Bool.{ltb-true, lt-ltb, leb-true, le-leb, eqb-false, ne_eqb, and_parts, and_from, true≢false}
+use Rattle.std.proofs.lemmas.Bool.{ltb-true, lt-ltb, leb-true, le-leb, eqb-false, ne_eqb, and_parts, and_from}
 use Rattle.std.proofs.lemmas.Option.{cond_some, same_Some}
 use Rattle.std.proofs.lemmas.Str.Parse.{IsNumeralModel, numerals_by_fold}
 use Rattle.std.proofs.lemmas.Fmt.{digits_decimal, digits_value-decimal, decimal-digits_value, decimal_nonempty, first_decimal, decimal_digit}
-use Rattle.std.specs.List.{AllByRecursion}
-use Rattle.std.proofs.lemmas.List.Elements.{All-from_recursion}
 use Rattle.rm_types.specs.Texts.{is_digit}
-use Rattle.rm_script.specs.Results.{◌>>=◌}
-use Rattle.rm_script.specs.Fields.{number_after, leads_with_zero, is_empty, number_of, number_in}
-use Rattle.rm_script.proofs.Words.{IsOther, Lacks, IsClear}
+use Rattle.rm_script.specs.Results.{IsOf, ◌>>=◌}
+use Rattle.rm_script.specs.Numbers.{number_after, leads_with_zero, is_empty, number_of, number_in}
 
 -- each byte is a digit
 abbrev pub all_digits : List ℕ → Bool
@@ -105,24 +102,6 @@ number_of_is text number e =
     let same : decimal (value text) ≡ text = decimal-digits_value own text read.0 some (λ zero. only_zero text parts.1 zero some) (omega (arith, read.1, read.2)) in
     (sym same ∙ ap decimal read.1, read.2)
 
--- ---- its bytes
-
-digit_is_other : (byte one : ℕ) → is_digit byte ≡ false → is_digit one ≡ true → IsOther byte one
-digit_is_other byte one not_digit digit = ne_eqb one byte (λ e. absurd (true≢false (sym digit ∙ ap is_digit e ∙ not_digit)))
-
-digits_lack : (byte : ℕ) (digits : List ℕ) → is_digit byte ≡ false → AreDigits digits → AllByRecursion (IsOther byte) digits
-digits_lack byte [] not_digit all = tt
-digits_lack byte (digit ∷ digits) not_digit all =
-    let parts = and_parts (is_digit digit) (all_digits digits) all in
-    (digit_is_other byte digit not_digit parts.0, digits_lack byte digits not_digit parts.1)
-
--- the text of a number has digits alone
-pub Lacks-decimal : (byte number : ℕ) → number < 2 ^ 64 → is_digit byte ≡ false → Lacks byte (decimal number)
-Lacks-decimal byte number fits not_digit = All-from_recursion (IsOther byte) (decimal number) (digits_lack byte (decimal number) not_digit (digits_decimal own number fits))
-
-pub IsClear-decimal : (number : ℕ) → number < 2 ^ 64 → IsClear (decimal number)
-IsClear-decimal number fits = record { no_space = Lacks-decimal 32 number fits refl; no_feed = Lacks-decimal 10 number fits refl }
-
 -- ---- within bounds
 
 pub number_in-decimal : (least greatest number : ℕ) → greatest < 2 ^ 64 → IsWithin least greatest number → number_in least greatest (decimal number) ≡ Some number
@@ -140,3 +119,15 @@ pub number_in_is : (least greatest : ℕ) (text : List ℕ) (number : ℕ) → n
 number_in_is least greatest text number e =
     let parts = bounded least greatest (number_of text) number e in
     ((number_of_is text number parts.0).0, parts.1)
+
+-- what is read is the number that the word is
+pub number_read : (least greatest : ℕ) (word : List ℕ) (number : ℕ) → number_in least greatest word ≡ Some number → IsOf decimal (IsWithin least greatest) word number
+number_read least greatest word number e =
+    let read = number_in_is least greatest word number e in
+    record { same = read.0; fits = read.1 }
+
+-- and where none is read the word is none
+pub number_none : (least greatest : ℕ) (word : List ℕ) → greatest < 2 ^ 64 → number_in least greatest word ≡ None → (number : ℕ) → IsOf decimal (IsWithin least greatest) word number → ⊥
+number_none least greatest word small e number is =
+    let none : None ≡ Some number = sym e ∙ ap (number_in least greatest) is.same ∙ number_in-decimal least greatest number small is.fits in
+    cc

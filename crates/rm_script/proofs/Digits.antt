@@ -2,7 +2,7 @@
 use Rattle.std.proofs.Common.{◌≡◌, ℕ, ◌+◌, ◌<◌, ◌≤◌, List, length, get_or, drop, Option, Some, None, sym, ap, ◌∙◌}
 use Rattle.std.proofs.lemmas.List.{at_drop_more, at_drop_all}
 use Rattle.rm_script.specs.Results.{◌>>=◌}
-use Rattle.rm_script.specs.Fields.{digit_after, number_after}
+use Rattle.rm_script.specs.Numbers.{digit_after, number_after}
 
 -- one digit on
 number_after-drop : (number : ℕ) (digits : List ℕ) (place : ℕ) → place < length digits

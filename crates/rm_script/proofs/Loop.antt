@@ -4,7 +4,7 @@ use Rattle.std.specs.Prelude.{◌⊎◌, min, All}
 use Rattle.std.specs.List.{flat_map, AllByRecursion}
 use Rattle.std.proofs.lemmas.List.{append-nil, map-append, length-append, length-drop}
 use Rattle.std.proofs.lemmas.List.Concat.{flat_map-append}
-use Rattle.std.proofs.lemmas.List.Elements.{All-nil, All-push, filter-append, recursion_from_All}
+use Rattle.std.proofs.lemmas.List.Elements.{All-push, filter-append, recursion_from_All}
 use Rattle.std.proofs.lemmas.Option.{same_Some}
 use Rattle.rm_types.specs.declared.scripts.Script.{Script}
 use Rattle.rm_script.specs.declared.errors.LineError.{LineError}
@@ -17,7 +17,7 @@ use Rattle.rm_script.specs.Limits.{most_bytes, most_lines}
 use Rattle.rm_script.specs.Lines.{lines_of, ended, size_of_first, is_skipped, kept_lines, IsLineText}
 use Rattle.rm_script.specs.Results.{◌>>=◌, Fails, FindsNone, at_line}
 use Rattle.rm_script.specs.Reading.{line_text, with_line, with_lines, no_lines, script_of_draft, IsMark, IsMarkText, Takes, Reads, Tells}
-use Rattle.rm_script.proofs.Asks.{heads}
+use Rattle.rm_script.proofs.Parts.{heads}
 use Rattle.rm_script.proofs.Labels.{bound}
 use Rattle.rm_script.proofs.OneLine.{is_told, mark_said, none_said, says}
 use Rattle.rm_script.proofs.Running.{with_lines-append, one_lines}
@@ -37,14 +37,6 @@ pub record IsAt (count : ℕ) (bytes rest : List ℕ) (draft : Draft) : Type 0 w
   pub within : count ≤ length (lines_of bytes)
   pub left : lines_of rest ≡ drop count (lines_of bytes)
   pub size : size_of_first count bytes + length rest ≡ length bytes
-
-pub at_start : (bytes : List ℕ) → IsAt 0 bytes bytes no_lines
-at_start bytes = record {
-  reads = record { few = omega arith; size = omega arith; each = All-nil IsLineText; lines = []; marks = All-nil IsMark; texts = refl; draft_is = refl };
-  within = omega arith;
-  left = refl;
-  size = omega arith;
-}
 
 -- the one line more is this, and this is left after it
 pub record IsNext (count : ℕ) (bytes text after : List ℕ) : Type 0 where
@@ -208,7 +200,7 @@ took count bytes rest draft next text after is line reads = by (is_skipped text)
         sym (filter-append (λ one. not (is_skipped one)) (take count (lines_of bytes)) (text ∷ []) ∙ ap (λ (b : Bool). kept_lines (take count (lines_of bytes)) ++ cond (not b) (text ∷ []) []) e)
         ∙ ap kept_lines (sym line.taken) ∙ reads.texts in
         let ends = end_with (kept_lines (take count (lines_of bytes))) text reads.lines whole in
-        let marks : AllByRecursion IsMark (ends.before ++ ends.last ∷ []) = subst (AllByRecursion IsMark) ends.apart (recursion_from_All IsMark reads.lines reads.marks) in
+        let marks : AllByRecursion IsMark (ends.before ++ ends.last ∷ []) = subst (AllByRecursion IsMark) {y = ends.before ++ ends.last ∷ []} ends.apart (recursion_from_All IsMark reads.lines reads.marks) in
         let before : ends.before ≡ is.reads.lines =
         one_lines ends.before is.reads.lines (recursion_front IsMark ends.before ends.last marks) (recursion_from_All IsMark is.reads.lines is.reads.marks) (sym ends.front_is ∙ is.reads.texts) in
         let run : (with_lines no_lines ends.before >>= λ d. with_lines d (ends.last ∷ [])) ≡ Some next =

@@ -15,6 +15,7 @@ use Rattle.rm_types.specs.declared.scripts.Segment.{Segment}
 use Rattle.rm_types.specs.declared.scripts.Script.{Script}
 use Rattle.rm_script.specs.declared.lines.Line.{Line}
 use Rattle.rm_script.specs.declared.drafts.Draft.{Draft}
+use Rattle.rm_script.specs.Built.{names_in, Once}
 use Rattle.rm_script.specs.Lines.{lines_of, ended, is_skipped, kept_lines, IsLineText}
 use Rattle.rm_script.specs.Written.{Sent, WrittenLife, settled_segment, life_of, script_of_lives}
 use Rattle.rm_script.specs.Spelling.{start_text, life_lines, script_lines}
@@ -25,6 +26,7 @@ use Rattle.rm_script.specs.Limits.{greatest_stamp}
 use Rattle.rm_script.specs.Reading.{told_life, line_text, with_lines, no_lines, script_of_draft, IsMark, Reads, ReadsAll}
 use Rattle.rm_script.proofs.Labels.{bound, not_chosen}
 use Rattle.rm_script.proofs.Drafting.{Written, Between, Going, living_of, draft_of, written_lines, AreCrashed, Fits, Grown, nothing_sent, settled_text, lines_of-push, with_lines_are}
+use Rattle.rm_script.proofs.Registered.{given, names_in-settled, once_front}
 use Rattle.rm_script.proofs.Running.{script_marks, texts-lives, marks-lives, with_lines-append, one_lines, script_runs}
 
 -- ---- lives at the end of others
@@ -47,10 +49,11 @@ abbrev open_life : ℕ → List (List Sent) → WrittenLife
 open_life stamp done = record { stamp = stamp; settled = done; crash = None }
 
 with_open_life : (lives : List WrittenLife) (stamp : ℕ) (done : List (List Sent)) → AreCrashed lives → IsWithin 1 greatest_stamp stamp → All (All IsSent) done
-    → AreLives (lives ++ open_life stamp done ∷ [])
-with_open_life lives stamp done fit stamp_fits done_fit =
+    → Once (names_in (map settled_segment done)) → AreLives (lives ++ open_life stamp done ∷ [])
+with_open_life lives stamp done fit stamp_fits done_fit once =
     let life : WrittenLife = open_life stamp done in
-    let is : IsLife life = record { stamp = stamp_fits; settled = done_fit; crash = tt } in
+    let told : Once (names_in (life_of life).segments) = subst (λ (ss : List Segment). Once (names_in ss)) (sym (append-nil (map settled_segment done))) once in
+    let is : IsLife life = record { stamp = stamp_fits; settled = done_fit; crash = tt; once = told } in
     record { each = All-push IsLife lives life fit.each is; crash = last_apart lives life (recursion_from_All Crashes lives fit.crash) }
 
 -- ---- a draft can be finished
@@ -73,7 +76,8 @@ finish (Going lives stamp done sent) lines fits same =
       script = script_of_lives (lives ++ life ∷ []);
       spelled = record {
         lives = lives ++ life ∷ [];
-        fit = with_open_life lives stamp (done ++ sent ∷ []) fits.lives_fit fits.stamp_fits (All-push (All IsSent) done sent fits.done_fit fits.sent_fit);
+        fit = with_open_life lives stamp (done ++ sent ∷ []) fits.lives_fit fits.stamp_fits (All-push (All IsSent) done sent fits.done_fit fits.sent_fit)
+            (subst Once (sym (names_in-settled done sent)) fits.once);
         text = kept ∙ added ∙ sym whole;
         same = refl;
       };
@@ -119,7 +123,7 @@ done_spells (Going lives stamp done sent) lines script fits same e =
     ap (λ (s : List Sent). written_lines (Going lives stamp done s)) (nothing_sent sent parts.0) in
     record {
       lives = lives ++ life ∷ [];
-      fit = with_open_life lives stamp done fits.lives_fit fits.stamp_fits fits.done_fit;
+      fit = with_open_life lives stamp done fits.lives_fit fits.stamp_fits fits.done_fit (once_front (names_in (map settled_segment done)) (given sent) fits.once);
       text = sym same ∙ open_lines ∙ sym (lines_of-push lives life);
       same = sym (same_Some made script parts.1) ∙ one ∙ all;
     }

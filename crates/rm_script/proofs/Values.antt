@@ -1,19 +1,24 @@
 -- What holds of each script that is read.
-use Rattle.std.proofs.Common.{◌≡◌, ℕ, ◌+◌, ◌≤◌, true, false, cond, not, List, [], ◌∷◌, ◌++◌, length, map, Option, Some, None, refl, sym, ap, subst, ◌∙◌, arith, inl, inr}
+use Rattle.std.proofs.Common.{◌≡◌, ℕ, ◌+◌, ◌<◌, ◌≤◌, Bool, true, false, cond, not, List, [], ◌∷◌, ◌++◌, length, map, Option, Some, None, refl, sym, ap, subst, ◌∙◌, arith, inl, inr}
 use Rattle.std.specs.Prelude.{All, IfSome, IsSome, ◌⊎◌}
 use Rattle.std.specs.List.{flat_map, AllByRecursion}
 use Rattle.std.proofs.lemmas.List.{length-append, length-map}
 use Rattle.std.proofs.lemmas.List.Concat.{flat_map-cons}
 use Rattle.std.proofs.lemmas.List.Elements.{All-nil, All-cons, All-append, All-from_recursion, recursion_from_All}
 use Rattle.std.proofs.lemmas.List.Sums.{sum_by-cons, sum_by-append}
+use Rattle.rm_types.specs.declared.messages.Message.{Message}
+use Rattle.rm_types.specs.declared.scripts.Close.TheVariants.{Crash}
 use Rattle.rm_types.specs.declared.scripts.Life.{Life}
 use Rattle.rm_types.specs.declared.scripts.Segment.{Segment}
 use Rattle.rm_types.specs.declared.scripts.Script.{Script}
+use Rattle.rm_script.specs.declared.kinds.Kind.TheVariants.{EachCrash}
+use Rattle.rm_script.specs.Built.{is_built, Unless}
 use Rattle.rm_script.specs.Limits.{most_lines}
 use Rattle.rm_script.specs.Lines.{lines_of, is_skipped, kept_lines}
 use Rattle.rm_script.specs.Written.{Sent, Delivered, Lost, Crashing, WrittenLife, delivered, settled_segment, crash_segments, life_of}
 use Rattle.rm_script.specs.Spelling.{sent_text, start_text, settled_lines, crash_lines, life_lines, script_lines}
-use Rattle.rm_script.specs.Scripts.{IsRead, IsSent, IsCrash, IsLife, Crashes, EachButLast, IsScript}
+use Rattle.rm_script.specs.Scripts.{IsRead, IsSent, FollowsSettle, IsCrash, IsLife, Crashes, EachButLast, IsScript}
+use Rattle.rm_script.proofs.Registered.{unless_map}
 use Rattle.rm_script.specs.Values.{Settles, EndInCrash, messages_in, IsToldLife, IsToldScript}
 
 -- ---- messages
@@ -30,9 +35,10 @@ settled_read : (done : List (List Sent)) → AllByRecursion (All IsSent) done �
 settled_read [] fit = tt
 settled_read (sent ∷ done) fit = (All-from_recursion IsRead (flat_map delivered sent) (delivered_read sent (recursion_from_All IsSent sent fit.0)), settled_read done fit.1)
 
-crash_read : (crash : Option Crashing) → All AreRead (crash_segments crash)
-crash_read None = All-nil AreRead
-crash_read (Some crash) = All-cons AreRead _ [] (All-nil IsRead) (All-nil AreRead)
+crash_read : (life : WrittenLife) (crash : Option Crashing) → IfSome crash (IsCrash life) → All AreRead (crash_segments crash)
+crash_read life None fit = All-nil AreRead
+crash_read life (Some crash) fit =
+    All-cons AreRead _ [] (All-from_recursion IsRead (flat_map delivered crash.sent) (delivered_read crash.sent (recursion_from_All IsSent crash.sent fit.sent))) (All-nil AreRead)
 
 -- ---- closes
 
@@ -40,15 +46,23 @@ all_settle : (done : List (List Sent)) → AllByRecursion Settles (map settled_s
 all_settle [] = tt
 all_settle (sent ∷ done) = (refl, all_settle done)
 
+-- the messages of the segment that crashes: none, where the crash stands directly after a `settle`
+bare : (b : Bool) (sent : List Sent) → Unless b (sent ≡ []) → flat_map delivered sent ≡ cond b (flat_map delivered sent) []
+bare true sent none = refl
+bare false sent none = ap (flat_map delivered) none
+
 ends : (life : WrittenLife) (crash : Option Crashing) → IfSome crash (IsCrash life) → IsSome crash → EndInCrash (map settled_segment life.settled ++ crash_segments crash)
 ends life None fit crashes = absurd cc
 ends life (Some crash) fit crashes = record {
   before = map settled_segment life.settled;
+  messages = flat_map delivered crash.sent;
   calls = crash.calls;
   image = crash.image;
-  apart = refl;
+  apart = ap (λ (ms : List Message). map settled_segment life.settled ++ record { messages = ms; close = Crash crash.calls crash.image } ∷ [])
+      (bare (is_built EachCrash) crash.sent (unless_map {P = FollowsSettle life.settled crash.sent} {Q = crash.sent ≡ []} (is_built EachCrash) (λ follows. follows.bare) fit.built));
   settle = All-from_recursion Settles (map settled_segment life.settled) (all_settle life.settled);
-  some = omega (arith, length-map life.settled settled_segment, fit.after_settle);
+  some = unless_map {P = FollowsSettle life.settled crash.sent} {Q = 0 < length (map settled_segment life.settled)} (is_built EachCrash)
+      (λ follows. omega (arith, length-map life.settled settled_segment, follows.after_settle)) fit.built;
   calls_fit = fit.calls;
   image_fits = fit.image;
 }
@@ -76,9 +90,13 @@ fewer_settled (sent ∷ done) =
     ap length (flat_map-cons settled_lines sent done) ∙ length-append (settled_lines sent) (flat_map settled_lines done) in
     omega (arith, count, own, lines, fewer_delivered sent, fewer_settled done)
 
-none_in_crash : (crash : Option Crashing) → messages_in (crash_segments crash) ≡ 0
-none_in_crash None = refl
-none_in_crash (Some crash) = refl
+fewer_in_crash : (crash : Option Crashing) → messages_in (crash_segments crash) ≤ length (crash_lines crash)
+fewer_in_crash None = omega arith
+fewer_in_crash (Some crash) =
+    let count : messages_in (crash_segments (Some crash)) ≡ length (flat_map delivered crash.sent) + 0 =
+    sum_by-cons (λ (segment : Segment). length segment.messages) (record { messages = flat_map delivered crash.sent; close = Crash crash.calls crash.image }) [] in
+    let lines : length (crash_lines (Some crash)) ≡ length crash.sent + 1 = length-append (map sent_text crash.sent) _ ∙ ap (λ (n : ℕ). n + 1) (length-map crash.sent sent_text) in
+    omega (arith, count, lines, fewer_delivered crash.sent)
 
 fewer_in_life : (life : WrittenLife) → messages_in (life_of life).segments ≤ length (life_lines life)
 fewer_in_life life =
@@ -87,7 +105,7 @@ fewer_in_life life =
     sum_by-append (λ (segment : Segment). length segment.messages) front (crash_segments life.crash) in
     let lines : length (life_lines life) ≡ length (start_text life.stamp ∷ flat_map settled_lines life.settled) + length (crash_lines life.crash) =
     length-append (start_text life.stamp ∷ flat_map settled_lines life.settled) (crash_lines life.crash) in
-    omega (arith, all, lines, none_in_crash life.crash, fewer_settled life.settled)
+    omega (arith, all, lines, fewer_in_crash life.crash, fewer_settled life.settled)
 
 fewer_kept : (lines : List (List ℕ)) → length (kept_lines lines) ≤ length lines
 fewer_kept [] = omega arith
@@ -103,9 +121,10 @@ told_life : (life : WrittenLife) → IsLife life → length (life_lines life) �
 told_life life fit few = record {
   stamp = fit.stamp;
   messages = All-append AreRead (map settled_segment life.settled) (crash_segments life.crash)
-      (All-from_recursion AreRead (map settled_segment life.settled) (settled_read life.settled (recursion_from_All (All IsSent) life.settled fit.settled))) (crash_read life.crash);
+      (All-from_recursion AreRead (map settled_segment life.settled) (settled_read life.settled (recursion_from_All (All IsSent) life.settled fit.settled))) (crash_read life life.crash fit.crash);
   closes = closes life life.crash fit.crash;
   few = omega (arith, fewer_in_life life);
+  once = fit.once;
 }
 
 told_lives : (lives : List WrittenLife) → AllByRecursion IsLife lives → length (script_lines lives) ≤ most_lines → AllByRecursion IsToldLife (map life_of lives)

@@ -1,11 +1,15 @@
 pub mod Limits
 pub mod Lines
+pub mod Messages
+pub mod Built
 pub mod Written
 pub mod Spelling
 pub mod Scripts
 pub mod Refusals
 pub mod Values
 pub mod Results
-pub mod Fields
-pub mod Clients
+pub mod Numbers
+pub mod Words
+pub mod Laws
+pub mod Names
 pub mod Reading

@@ -25,14 +25,38 @@ greatest_calls = 1000000
 abbrev pub greatest_image : ℕ
 greatest_image = 4294967295
 
--- the most memory, in megabytes, that a master's container is asked with
+-- the most memory, in megabytes, of a container or a node
 abbrev pub greatest_memory_mb : ℕ
 greatest_memory_mb = 16777216
 
--- the most virtual cores that it is asked with
+-- the most virtual cores
 abbrev pub greatest_vcores : ℕ
 greatest_vcores = 256
 
 -- the most attempts that are asked for
 abbrev pub greatest_attempts : ℕ
 greatest_attempts = 100
+
+-- how many items a list has at most
+abbrev pub most_listed : ℕ
+most_listed = 1000
+
+-- the greatest priority of an ask; 1 is the least
+abbrev pub greatest_priority : ℕ
+greatest_priority = 1000
+
+-- how many containers one ask is for at most
+abbrev pub greatest_count : ℕ
+greatest_count = 1000
+
+-- the greatest response id that a master or a node names
+abbrev pub greatest_response : ℕ
+greatest_response = 4294967294
+
+-- the greatest turn of a node's registration; 1 is the least
+abbrev pub greatest_turn : ℕ
+greatest_turn = 4294967295
+
+-- how many milliseconds one tick of the clock is at most; 1 is the least
+abbrev pub greatest_tick : ℕ
+greatest_tick = 1000000000

@@ -1,8 +1,8 @@
 -- What reading gives: a line by itself, and the lines put together.
-use Rattle.std.specs.Prelude.{◌≡◌, ◌⊎◌, ℕ, ◌+◌, ◌<◌, ◌≤◌, List, [], ◌∷◌, ◌++◌, length, map, take, Option, Some, None, Result, Ok, Err, true, false, ◌||◌, ◌==◌, if◌then◌else◌, All, codes}
-use Rattle.std.specs.List.{slice_split}
+use Rattle.std.specs.Prelude.{◌≡◌, ◌⊎◌, ℕ, ◌+◌, ◌<◌, ◌≤◌, List, [], ◌∷◌, ◌++◌, length, map, take, Option, Some, None, Result, Ok, Err, Bool, true, false, not, ◌&&◌, ◌||◌, if◌then◌else◌, All, codes}
+use Rattle.std.specs.List.{flat_map, list_any}
 use Rattle.std.specs.Fmt.{decimal}
-use Rattle.std.specs.Option.{option_map}
+use Rattle.std.specs.Str.{bytes_eq}
 use Rattle.rm_types.specs.Lists.{is_nil}
 use Rattle.rm_types.specs.Ranges.{IsWithin}
 use Rattle.rm_types.specs.declared.messages.Message.{Message}
@@ -12,44 +12,20 @@ use Rattle.rm_types.specs.declared.scripts.Script.{Script}
 use Rattle.rm_formats.specs.Wording.{spaced, message_words}
 use Rattle.rm_script.specs.declared.errors.ScriptError.{ScriptError}
 use Rattle.rm_script.specs.declared.errors.ScriptError.TheVariants.{Refused, Memory}
+use Rattle.rm_script.specs.declared.kinds.Kind.TheVariants.{Failures, EachCrash}
 use Rattle.rm_script.specs.declared.lines.Line.{Line}
 use Rattle.rm_script.specs.declared.lines.Line.TheVariants.{Skipped, Start, Settle, Crash, Deliver, Lose}
 use Rattle.rm_script.specs.declared.drafts.Living.{Living}
 use Rattle.rm_script.specs.declared.drafts.Draft.{Draft}
 use Rattle.rm_script.specs.declared.drafts.Draft.TheVariants as drafts
-use Rattle.rm_script.specs.Fields.{number_in}
+use Rattle.rm_script.specs.Built.{is_built, IsBuiltMessage, registering, names_in}
 use Rattle.rm_script.specs.Limits.{most_bytes, most_lines, greatest_stamp, greatest_calls, greatest_image}
 use Rattle.rm_script.specs.Lines.{lines_of, size_of_first, is_skipped, kept_lines, IsLineText}
+use Rattle.rm_script.specs.Messages.{IsMessage}
 use Rattle.rm_script.specs.Results.{◌>>=◌}
 use Rattle.rm_script.specs.Scripts.{IsRead}
 
 -- ---- a line by itself
-
--- the words of a line, with one space between each two
-abbrev pub words_of : List ℕ → List (List ℕ)
-words_of line = slice_split (λ byte. byte == 32) line
-
--- the words after `start`
-abbrev pub start_line : List (List ℕ) → Option Line
-start_line (stamp ∷ []) = option_map Start (number_in 1 greatest_stamp stamp)
-start_line words = None
-
--- the words after `settle`
-abbrev pub settle_line : List (List ℕ) → Option Line
-settle_line [] = Some Settle
-settle_line words = None
-
--- the two numbers after `crash`
-abbrev pub crash_of : List ℕ → List ℕ → Option Line
-crash_of calls image = do
-  calls_are ← number_in 0 greatest_calls calls
-  image_is ← number_in 0 greatest_image image
-  Some (Crash calls_are image_is)
-
--- the words after `crash`
-abbrev pub crash_line : List (List ℕ) → Option Line
-crash_line (calls ∷ image ∷ []) = crash_of calls image
-crash_line words = None
 
 -- the words of a line that says something
 abbrev pub line_words : Line → List (List ℕ)
@@ -69,19 +45,26 @@ pub record IsCrashLine (calls image : ℕ) : Type 0 where
   pub calls_fit : IsWithin 0 greatest_calls calls
   pub image_fits : IsWithin 0 greatest_image image
 
--- the line says something, its values are in their ranges, and it is of a kind that is read
+-- the line says something, and its values are in their ranges
+abbrev pub IsLine : Line → Type 0
+IsLine Skipped = ⊥
+IsLine (Start stamp) = IsWithin 1 greatest_stamp stamp
+IsLine Settle = Unit {0}
+IsLine (Crash calls image) = IsCrashLine calls image
+IsLine (Deliver message) = IsMessage message
+IsLine (Lose message) = IsMessage message
+
+-- the line is of a kind that is read so far
+abbrev pub IsBuiltLine : Line → Type 0
+IsBuiltLine (Deliver message) = IsBuiltMessage message
+IsBuiltLine (Lose message) = IsBuiltMessage message
+IsBuiltLine line = Unit {0}
+
+-- the line says something, its values are in their ranges, and it is of a kind that is read so far
 abbrev pub IsMark : Line → Type 0
-IsMark Skipped = ⊥
-IsMark (Start stamp) = IsWithin 1 greatest_stamp stamp
-IsMark Settle = Unit {0}
-IsMark (Crash calls image) = IsCrashLine calls image
 IsMark (Deliver message) = IsRead message
 IsMark (Lose message) = IsRead message
-
--- the words say the line
-pub record Spells (words : List (List ℕ)) (line : Line) : Type 0 where
-  pub same : words ≡ line_words line
-  pub mark : IsMark line
+IsMark line = IsLine line
 
 -- the text is that of a line that says something
 pub record IsMarkText (text : List ℕ) (line : Line) : Type 0 where
@@ -122,11 +105,15 @@ with_settle (drafts.Living lives living) = Some (drafts.Living lives (settled li
 -- a life that ends with this crash
 abbrev pub crashed : Living → ℕ → ℕ → Life
 crashed living calls image =
-    record { stamp = living.stamp; segments = living.segments ++ record { messages = []; close = closes.Crash calls image } ∷ [] }
+    record { stamp = living.stamp; segments = living.segments ++ record { messages = living.messages; close = closes.Crash calls image } ∷ [] }
 
--- the life that ends so, directly after a segment that settled
+-- a crash may not stand there yet: not directly after a segment that settled
+abbrev pub is_early : Living → Bool
+is_early living = not (is_built EachCrash) && (living.is_sending || is_nil living.segments)
+
+-- the life that ends so
 abbrev pub crash_life : Living → ℕ → ℕ → Option Life
-crash_life living calls image = if living.is_sending || is_nil living.segments then None else Some (crashed living calls image)
+crash_life living calls image = if is_early living then None else Some (crashed living calls image)
 
 -- a draft whose life crashes
 abbrev pub with_crash : Draft → ℕ → ℕ → Option Draft
@@ -135,11 +122,26 @@ with_crash (drafts.Living lives living) calls image = do
   life ← crash_life living calls image
   Some (drafts.Between (lives ++ life ∷ []))
 
+-- the names of the nodes that registered in a life so far
+abbrev pub names_of : Living → List (List ℕ)
+names_of living = names_in living.segments ++ flat_map registering living.messages
+
+-- the name is among these
+abbrev pub is_among : List (List ℕ) → List ℕ → Bool
+is_among names name = list_any (λ one. bytes_eq one name) names
+
+-- the message registers a node a second time, and may not stand there yet
+abbrev pub is_again : Living → Message → Bool
+is_again living message = not (is_built Failures) && list_any (is_among (names_of living)) (registering message)
+
+-- a life that was told this message
+abbrev pub told : Living → Message → Living
+told living message = record living { messages = living.messages ++ message ∷ []; is_sending = true }
+
 -- a draft whose life is sent this message
 abbrev pub with_message : Draft → Message → Option Draft
 with_message (drafts.Between lives) message = None
-with_message (drafts.Living lives living) message =
-    Some (drafts.Living lives (record living { messages = living.messages ++ message ∷ []; is_sending = true }))
+with_message (drafts.Living lives living) message = if is_again living message then None else Some (drafts.Living lives (told living message))
 
 -- a draft whose life is sent a message that is lost
 abbrev pub with_loss : Draft → Option Draft

@@ -6,6 +6,11 @@ use Rattle.rm_script.specs.declared.errors.LineError.TheVariants.{Refused, Memor
 use Rattle.rm_script.specs.declared.errors.ScriptError.{ScriptError}
 use Rattle.rm_script.specs.declared.errors.ScriptError.TheVariants as scripts
 
+-- what is given, as a word or words, is what the value is written as, and the value fits
+pub record IsOf {X Y : Type 0} (written : X → Y) (Fits : X → Type 0) (given : Y) (value : X) : Type 0 where
+  pub same : given ≡ written value
+  pub fits : Fits value
+
 -- the error says that there is no value of which this holds, or that memory ran out
 abbrev pub FindsNone : {X : Type 0} → LineError → (X → Type 0) → Type 0
 FindsNone {X} Refused Is = (value : X) → Is value → ⊥

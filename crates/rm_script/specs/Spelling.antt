@@ -22,12 +22,12 @@ crash_text crash = spaced (codes "crash" ∷ decimal crash.calls ∷ decimal cra
 abbrev pub settled_lines : List Sent → List (List ℕ)
 settled_lines sent = map sent_text sent ++ codes "settle" ∷ []
 
--- the line of the crash, where there is one
+-- the lines of the segment that crashes, where there is one: what is sent, and then the crash
 abbrev pub crash_lines : Option Crashing → List (List ℕ)
 crash_lines None = []
-crash_lines (Some crash) = crash_text crash ∷ []
+crash_lines (Some crash) = map sent_text crash.sent ++ crash_text crash ∷ []
 
--- the lines of a life: its start, those of its segments, and that of the crash
+-- the lines of a life: its start, those of its segments that settle, and those of the one that crashes
 abbrev pub life_lines : WrittenLife → List (List ℕ)
 life_lines life = (start_text life.stamp ∷ flat_map settled_lines life.settled) ++ crash_lines life.crash
 

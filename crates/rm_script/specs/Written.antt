@@ -12,8 +12,10 @@ pub data Sent : Type 0 where
   Delivered : (message : Message) → Sent
   Lost : (message : Message) → Sent
 
--- the crash that ends a life: how many device calls pass, and the image that the device falls to
+-- the crash that ends a life: what is sent in the segment that it closes, how many device calls pass, and the image that the
+-- device falls to
 pub record Crashing : Type 0 where
+  pub sent : List Sent
   pub calls : ℕ
   pub image : ℕ
 
@@ -40,7 +42,7 @@ settled_segment sent = record { messages = flat_map delivered sent; close = Sett
 -- the segment that ends with the crash, where there is one
 abbrev pub crash_segments : Option Crashing → List Segment
 crash_segments None = []
-crash_segments (Some crash) = record { messages = []; close = Crash crash.calls crash.image } ∷ []
+crash_segments (Some crash) = record { messages = flat_map delivered crash.sent; close = Crash crash.calls crash.image } ∷ []
 
 -- the life that the manager is told
 abbrev pub life_of : WrittenLife → Life

@@ -1,9 +1,12 @@
-ghost use Rattle.std.specs.Prelude.{Some};
+ghost use Rattle.std.specs.Prelude.{Some, IfOk};
+ghost use Rattle.rm_script.specs.Names.{Knows};
 ghost use Rattle.rm_script.specs.Results.{Finds, Gives};
 ghost use Rattle.rm_script.specs.Reading.{settled, with_start, with_settle, crash_life, with_crash, with_message, with_loss, with_line, script_of_draft, Takes};
 
 use crate::errors::LineError;
+use crate::kinds::{Kind, is_built};
 use crate::lines::{Line, line_of};
+use crate::names::Names;
 use rm_types::{Close, Items, Life, Message, Script, Segment};
 use std::alloc::Global;
 
@@ -37,16 +40,17 @@ impl Living {
         })
     }
 
-    /// The life when it crashes. `Refused` comes where no segment settled, or a message was sent since.
-    fn crash(self, alloc: Global, calls: u32, image: u32) -> Result<Life, LineError>
+    /// The life when it crashes. As long as a crash stands directly after a `settle` alone, `Refused` comes
+    /// where no segment settled, or a message was sent since.
+    fn crash(self, calls: u32, image: u32) -> Result<Life, LineError>
         ensures { Gives result (crash_life self calls image) }
     {
-        if self.is_sending || self.segments.is_empty() {
+        if !is_built(Kind::EachCrash) && (self.is_sending || self.segments.is_empty()) {
             return Err(LineError::Refused);
         }
         let mut segments = self.segments;
         segments.push(Segment {
-            messages: Items::new(alloc),
+            messages: self.messages,
             close: Close::Crash { calls, image },
         })?;
         Ok(Life {
@@ -68,33 +72,44 @@ pub enum Draft {
 impl Draft {
     /// The draft with the line of this text more. `Refused` comes where the text is no line, or the line
     /// may not stand there.
-    pub(crate) fn with_text(self, alloc: Global, text: &[u8]) -> Result<Draft, LineError>
-        ensures { Finds result (Takes self text.now) }
+    pub(crate) fn with_text(
+        self,
+        alloc: Global,
+        text: &[u8],
+        names: &mut Names,
+    ) -> Result<Draft, LineError>
+        requires { Knows names.old self }
+        ensures takes { Finds result (Takes self text.now) }
+        ensures knows { IfOk result (Knows names.new) }
     {
         let line = line_of(alloc, text)?;
-        self.with_line(alloc, line)
+        self.with_line(alloc, line, names)
     }
 
     /// The draft with one line more. `Refused` comes where the line may not stand there.
-    fn with_line(self, alloc: Global, line: Line) -> Result<Draft, LineError>
-        ensures { Gives result (with_line self line) }
+    fn with_line(self, alloc: Global, line: Line, names: &mut Names) -> Result<Draft, LineError>
+        requires { Knows names.old self }
+        ensures line { Gives result (with_line self line) }
+        ensures knows { IfOk result (Knows names.new) }
     {
         match line {
             Line::Skipped => Ok(self),
-            Line::Start(stamp) => self.with_start(alloc, stamp),
+            Line::Start(stamp) => self.with_start(alloc, stamp, names),
             Line::Settle => self.with_settle(alloc),
-            Line::Crash { calls, image } => self.with_crash(alloc, calls, image),
-            Line::Deliver(message) => self.with_message(message),
+            Line::Crash { calls, image } => self.with_crash(calls, image),
+            Line::Deliver(message) => self.with_message(message, names),
             Line::Lose(_) => self.with_loss(),
         }
     }
 
     /// The draft in which a life starts. `Refused` comes where one goes on.
-    fn with_start(self, alloc: Global, stamp: u64) -> Result<Draft, LineError>
-        ensures { Gives result (with_start self stamp) }
+    fn with_start(self, alloc: Global, stamp: u64, names: &mut Names) -> Result<Draft, LineError>
+        ensures draft { Gives result (with_start self stamp) }
+        ensures knows { IfOk result (Knows names.new) }
     {
         match self {
             Draft::Between(lives) => {
+                names.forget();
                 let living = Living {
                     stamp,
                     segments: Items::new(alloc),
@@ -117,27 +132,32 @@ impl Draft {
         }
     }
 
-    /// The draft whose life crashes. `Refused` comes where no life goes on, or the line before isn't
-    /// `settle`.
-    fn with_crash(self, alloc: Global, calls: u32, image: u32) -> Result<Draft, LineError>
+    /// The draft whose life crashes. `Refused` comes where no life goes on, or no crash may stand there yet.
+    fn with_crash(self, calls: u32, image: u32) -> Result<Draft, LineError>
         ensures { Gives result (with_crash self calls image) }
     {
         match self {
             Draft::Between(_) => Err(LineError::Refused),
             Draft::Living(mut lives, living) => {
-                lives.push(living.crash(alloc, calls, image)?)?;
+                lives.push(living.crash(calls, image)?)?;
                 Ok(Draft::Between(lives))
             }
         }
     }
 
-    /// The draft with a message that is delivered. `Refused` comes where no life goes on.
-    fn with_message(self, message: Message) -> Result<Draft, LineError>
-        ensures { Gives result (with_message self message) }
+    /// The draft with a message that is delivered. `Refused` comes where no life goes on, or the message
+    /// registers a node again and may not yet.
+    fn with_message(self, message: Message, names: &mut Names) -> Result<Draft, LineError>
+        requires { Knows names.old self }
+        ensures draft { Gives result (with_message self message) }
+        ensures knows { IfOk result (Knows names.new) }
     {
         match self {
             Draft::Between(_) => Err(LineError::Refused),
             Draft::Living(lives, mut living) => {
+                if !names.admit(&message)? {
+                    return Err(LineError::Refused);
+                }
                 living.messages.push(message)?;
                 living.is_sending = true;
                 Ok(Draft::Living(lives, living))

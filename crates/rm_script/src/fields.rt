@@ -1,63 +1,93 @@
-ghost use Rattle.std.specs.Prelude.{◌≡◌};
-ghost use Rattle.std.specs.Option.{option_copied};
-ghost use Rattle.rm_script.specs.Clients.{IsIdText};
-ghost use Rattle.rm_script.specs.Results.{Finds, Gives};
-ghost use Rattle.rm_script.specs.Fields.{after_label, number_field, text_in, text_field};
+ghost use Rattle.std.specs.Prelude.{◌++◌, ◌∷◌, [], codes};
+ghost use Rattle.std.specs.Fmt.{decimal};
+ghost use Rattle.rm_types.specs.Ranges.{IsText, IsAppId, IsAttemptId, IsContainerId};
+ghost use Rattle.rm_formats.specs.IdTexts.{app_text, attempt_text, container_text};
+ghost use Rattle.rm_script.specs.Messages.{IsSize};
+ghost use Rattle.rm_script.specs.Results.{Finds, IsOf};
 
 use crate::errors::LineError;
-use crate::numbers::number_in;
-use rm_ids::read_app;
-use rm_types::{AppId, Text, TextError, TextKind};
+use crate::numbers::{number, number_field};
+use crate::words::after_label;
+use rm_ids::{read_app, read_attempt, read_container};
+use rm_types::{AppId, AttemptId, ContainerId, Resource, Text, TextError, TextKind};
 use std::alloc::Global;
 
-/// What stands after the label that the word begins with.
-fn after_label<'a>(word: &'a [u8], label: &str) -> Option<&'a [u8]>
-    ensures { option_copied result ≡ after_label label.now word.now }
-{
-    word.strip_prefix(label.as_bytes())
-}
+/// The most memory, in megabytes, of a container or a node.
+const GREATEST_MEMORY_MB: u32 = 16_777_216;
 
-/// The number after a label, where it is neither below the least nor above the greatest.
-pub(crate) fn number_field(word: &[u8], label: &str, least: u32, greatest: u32) -> Option<u32>
-    ensures { result ≡ number_field label.now least greatest word.now }
-{
-    let text = after_label(word, label)?;
-    let number = number_in(text, u64::from(least), u64::from(greatest))?;
-    u32::try_from(number).ok()
-}
+/// The most virtual cores.
+const GREATEST_VCORES: u32 = 256;
 
-/// The text that the bytes are, of this kind.
-pub(crate) fn text_in(alloc: Global, bytes: &[u8], kind: TextKind) -> Result<Text, LineError>
-    ensures { Gives result (text_in kind bytes.now) }
+/// The text of this kind that the word is.
+pub(crate) fn text(alloc: Global, word: &[u8], kind: TextKind) -> Result<Text, LineError>
+    ensures { Finds result (IsOf (λ text. text) (IsText kind) word.now) }
 {
-    match Text::read(alloc, bytes, kind) {
+    match Text::read(alloc, word, kind) {
         Ok(text) => Ok(text),
         Err(TextError::NotText { .. }) => Err(LineError::Refused),
         Err(TextError::Memory) => Err(LineError::Memory),
     }
 }
 
-/// The text after a label, of this kind.
+/// The text of this kind after a label.
 pub(crate) fn text_field(
     alloc: Global,
     word: &[u8],
     label: &str,
     kind: TextKind,
 ) -> Result<Text, LineError>
-    ensures { Gives result (text_field label.now kind word.now) }
+    ensures { Finds result (IsOf (λ text. label.now ++ text) (IsText kind) word.now) }
 {
     match after_label(word, label) {
-        Some(text) => text_in(alloc, text, kind),
+        Some(bytes) => text(alloc, bytes, kind),
         None => Err(LineError::Refused),
     }
 }
 
 /// The application's id whose text the word is.
 pub(crate) fn app_id(word: &[u8]) -> Result<AppId, LineError>
-    ensures { Finds result (IsIdText word.now) }
+    ensures { Finds result (IsOf app_text IsAppId word.now) }
 {
     match read_app(word) {
         Ok(id) => Ok(id),
         Err(_) => Err(LineError::Refused),
     }
+}
+
+/// The attempt's id whose text the word is.
+pub(crate) fn attempt_id(word: &[u8]) -> Result<AttemptId, LineError>
+    ensures { Finds result (IsOf attempt_text IsAttemptId word.now) }
+{
+    match read_attempt(word) {
+        Ok(id) => Ok(id),
+        Err(_) => Err(LineError::Refused),
+    }
+}
+
+/// The container's id whose text the word is.
+pub(crate) fn container_id(word: &[u8]) -> Result<ContainerId, LineError>
+    ensures { Finds result (IsOf container_text IsContainerId word.now) }
+{
+    match read_container(word) {
+        Ok(id) => Ok(id),
+        Err(_) => Err(LineError::Refused),
+    }
+}
+
+/// The size that two words are.
+pub(crate) fn size(memory: &[u8], vcores: &[u8]) -> Result<Resource, LineError>
+    ensures { Finds result (IsOf (λ size. decimal size.memory_mb ∷ decimal size.vcores ∷ []) IsSize (memory.now ∷ vcores.now ∷ [])) }
+{
+    let memory_mb = number(memory, 1, GREATEST_MEMORY_MB)?;
+    let vcores = number(vcores, 1, GREATEST_VCORES)?;
+    Ok(Resource { memory_mb, vcores })
+}
+
+/// The size that two fields are.
+pub(crate) fn size_fields(memory: &[u8], vcores: &[u8]) -> Result<Resource, LineError>
+    ensures { Finds result (IsOf (λ size. (codes "memory=" ++ decimal size.memory_mb) ∷ (codes "vcores=" ++ decimal size.vcores) ∷ []) IsSize (memory.now ∷ vcores.now ∷ [])) }
+{
+    let memory_mb = number_field(memory, "memory=", 1, GREATEST_MEMORY_MB)?;
+    let vcores = number_field(vcores, "vcores=", 1, GREATEST_VCORES)?;
+    Ok(Resource { memory_mb, vcores })
 }

@@ -1,14 +1,20 @@
-ghost use Rattle.std.specs.Prelude.{◌≡◌, ◌+◌, ◌<◌, ◌∷◌, ◌==◌, ◌⊎◌, length, map, position, IfOk, IfErr, codes};
+ghost use Rattle.std.specs.Prelude.{◌≡◌, ◌+◌, ◌<◌, ◌∷◌, ◌==◌, ◌⊎◌, [], length, map, position, MatchBool, MatchResult, codes};
 ghost use Rattle.std.specs.List.{list_all};
 ghost use Rattle.rm_types.specs.Texts.{is_printable};
+ghost use Rattle.rm_formats.specs.Wording.{message_words};
 ghost use Rattle.rm_script.specs.Lines.{lines_of, is_skipped};
-ghost use Rattle.rm_script.specs.Clients.{IsMessageText};
-ghost use Rattle.rm_script.specs.Results.{Finds};
-ghost use Rattle.rm_script.specs.Reading.{words_of, start_line, settle_line, crash_of, crash_line, Spells, IsLineAs};
+ghost use Rattle.rm_script.specs.Messages.{IsMessage};
+ghost use Rattle.rm_script.specs.Results.{Finds, IsOf};
+ghost use Rattle.rm_script.specs.Reading.{line_words, IsLine, IsBuiltLine, IsLineAs};
 
 use crate::clients::client_message;
+use crate::clocks::clock_message;
 use crate::errors::LineError;
-use crate::numbers::number_in;
+use crate::kinds::is_built_message;
+use crate::masters::master_message;
+use crate::nodes::node_message;
+use crate::numbers::{long_number, number};
+use crate::words::words_of;
 use rm_types::Message;
 use std::alloc::Global;
 
@@ -19,10 +25,10 @@ const MOST_LINE_BYTES: usize = 65536;
 const GREATEST_STAMP: u64 = 1_000_000_000_000_000;
 
 /// How many device calls a crash lets pass at most.
-const GREATEST_CALLS: u64 = 1_000_000;
+const GREATEST_CALLS: u32 = 1_000_000;
 
 /// The greatest number of an image that the device falls to.
-const GREATEST_IMAGE: u64 = 4_294_967_295;
+const GREATEST_IMAGE: u32 = 4_294_967_295;
 
 /// A line of a script by itself.
 #[derive(Debug, Drop)]
@@ -62,63 +68,68 @@ pub(crate) fn cut_line(bytes: &[u8]) -> (&[u8], &[u8])
     }
 }
 
-/// The words of a line, between which one space stands each.
-fn words_of(alloc: Global, line: &[u8]) -> Result<Vec<&[u8]>, LineError>
-    ensures words { IfOk result (λ words. map (λ word. word.now) words.items ≡ words_of line.now) }
-    ensures memory { IfErr result (λ error. error ≡ LineError.Memory) }
-{
-    let words = line.split(|byte| *byte == b' ').collect(alloc)?;
-    Ok(words)
-}
-
 /// A line that starts a life, by the words after `start`.
-fn start_line(words: &[&[u8]]) -> Option<Line>
-    ensures { result ≡ start_line (map (λ word. word.now) words.now) }
+fn start_line(words: &[&[u8]]) -> Result<Line, LineError>
+    ensures { Finds result (IsOf line_words IsLine (codes "start" ∷ map (λ word. word.now) words.now)) }
 {
     match words {
-        [stamp] => number_in(stamp, 1, GREATEST_STAMP).map(Line::Start),
-        _ => None,
+        [stamp] => start_at(stamp),
+        _ => Err(LineError::Refused),
     }
 }
 
+/// A line that starts a life, by its stamp.
+fn start_at(stamp: &[u8]) -> Result<Line, LineError>
+    ensures { Finds result (IsOf line_words IsLine (codes "start" ∷ stamp.now ∷ [])) }
+{
+    Ok(Line::Start(long_number(stamp, 1, GREATEST_STAMP)?))
+}
+
 /// A line that settles a segment, by the words after `settle`: there are none.
-fn settle_line(words: &[&[u8]]) -> Option<Line>
-    ensures { result ≡ settle_line (map (λ word. word.now) words.now) }
+fn settle_line(words: &[&[u8]]) -> Result<Line, LineError>
+    ensures { Finds result (IsOf line_words IsLine (codes "settle" ∷ map (λ word. word.now) words.now)) }
 {
     match words {
-        [] => Some(Line::Settle),
-        _ => None,
+        [] => Ok(Line::Settle),
+        _ => Err(LineError::Refused),
     }
 }
 
 /// A line that crashes a life, by its two numbers.
-fn crash_of(calls: &[u8], image: &[u8]) -> Option<Line>
-    ensures { result ≡ crash_of calls.now image.now }
+fn crash_at(calls: &[u8], image: &[u8]) -> Result<Line, LineError>
+    ensures { Finds result (IsOf line_words IsLine (codes "crash" ∷ calls.now ∷ image.now ∷ [])) }
 {
-    let calls = number_in(calls, 0, GREATEST_CALLS)?;
-    let image = number_in(image, 0, GREATEST_IMAGE)?;
-    Some(Line::Crash {
-        calls: u32::try_from(calls).ok()?,
-        image: u32::try_from(image).ok()?,
-    })
+    let calls = number(calls, 0, GREATEST_CALLS)?;
+    let image = number(image, 0, GREATEST_IMAGE)?;
+    Ok(Line::Crash { calls, image })
 }
 
 /// A line that crashes a life, by the words after `crash`.
-fn crash_line(words: &[&[u8]]) -> Option<Line>
-    ensures { result ≡ crash_line (map (λ word. word.now) words.now) }
+fn crash_line(words: &[&[u8]]) -> Result<Line, LineError>
+    ensures { Finds result (IsOf line_words IsLine (codes "crash" ∷ map (λ word. word.now) words.now)) }
 {
     match words {
-        [calls, image] => crash_of(calls, image),
-        _ => None,
+        [calls, image] => crash_at(calls, image),
+        _ => Err(LineError::Refused),
     }
 }
 
 /// The message of a sender, by the words after it.
-fn message_from(alloc: Global, sender: &[u8], words: &[&[u8]]) -> Result<Message, LineError>
-    ensures { Finds result (IsMessageText (sender.now ∷ map (λ word. word.now) words.now)) }
+pub(crate) fn message_from(
+    alloc: Global,
+    sender: &[u8],
+    words: &[&[u8]],
+) -> Result<Message, LineError>
+    ensures { Finds result (IsOf message_words IsMessage (sender.now ∷ map (λ word. word.now) words.now)) }
 {
     if sender == "client".as_bytes() {
         client_message(alloc, words)
+    } else if sender == "master".as_bytes() {
+        master_message(alloc, words)
+    } else if sender == "node".as_bytes() {
+        node_message(alloc, words)
+    } else if sender == "clock".as_bytes() {
+        clock_message(alloc, words)
     } else {
         Err(LineError::Refused)
     }
@@ -126,7 +137,7 @@ fn message_from(alloc: Global, sender: &[u8], words: &[&[u8]]) -> Result<Message
 
 /// A line with a message that is lost, by the words after `lose`.
 fn lose_line(alloc: Global, words: &[&[u8]]) -> Result<Line, LineError>
-    ensures { Finds result (Spells (codes "lose" ∷ map (λ word. word.now) words.now)) }
+    ensures { Finds result (IsOf line_words IsLine (codes "lose" ∷ map (λ word. word.now) words.now)) }
 {
     match words {
         [sender, more @ ..] => Ok(Line::Lose(message_from(alloc, sender, more)?)),
@@ -136,14 +147,14 @@ fn lose_line(alloc: Global, words: &[&[u8]]) -> Result<Line, LineError>
 
 /// A line by its first word and the words after that.
 fn line_from(alloc: Global, word: &[u8], more: &[&[u8]]) -> Result<Line, LineError>
-    ensures { Finds result (Spells (word.now ∷ map (λ one. one.now) more.now)) }
+    ensures { Finds result (IsOf line_words IsLine (word.now ∷ map (λ one. one.now) more.now)) }
 {
     if word == "start".as_bytes() {
-        start_line(more).ok_or(LineError::Refused)
+        start_line(more)
     } else if word == "settle".as_bytes() {
-        settle_line(more).ok_or(LineError::Refused)
+        settle_line(more)
     } else if word == "crash".as_bytes() {
-        crash_line(more).ok_or(LineError::Refused)
+        crash_line(more)
     } else if word == "lose".as_bytes() {
         lose_line(alloc, more)
     } else {
@@ -153,11 +164,21 @@ fn line_from(alloc: Global, word: &[u8], more: &[&[u8]]) -> Result<Line, LineErr
 
 /// A line by its words.
 fn line_of_words(alloc: Global, words: &[&[u8]]) -> Result<Line, LineError>
-    ensures { Finds result (Spells (map (λ word. word.now) words.now)) }
+    ensures { Finds result (IsOf line_words IsLine (map (λ word. word.now) words.now)) }
 {
     match words {
         [word, more @ ..] => line_from(alloc, word, more),
         [] => Err(LineError::Refused),
+    }
+}
+
+/// Whether a line is of a kind that is read.
+fn is_built_line(line: &Line) -> bool
+    ensures { MatchBool result (IsBuiltLine line.now) (¬ IsBuiltLine line.now) }
+{
+    match line {
+        Line::Deliver(message) | Line::Lose(message) => is_built_message(message),
+        Line::Skipped | Line::Start(_) | Line::Settle | Line::Crash { .. } => true,
     }
 }
 
@@ -178,6 +199,17 @@ fn all_printable(text: &[u8]) -> bool
     text.iter().all(|byte| *byte >= 0x20 && *byte <= 0x7e)
 }
 
+/// The line, where it is of a kind that is read. Else it is refused as one that breaks the grammar.
+fn if_built(line: Line) -> Result<Line, LineError>
+    ensures { MatchResult result (λ built. (built ≡ line) × IsBuiltLine line) (λ error. (error ≡ LineError.Refused) × ¬ IsBuiltLine line) }
+{
+    if is_built_line(&line) {
+        Ok(line)
+    } else {
+        Err(LineError::Refused)
+    }
+}
+
 /// A line by itself.
 pub(crate) fn line_of(alloc: Global, text: &[u8]) -> Result<Line, LineError>
     ensures { Finds result (IsLineAs text.now) }
@@ -189,5 +221,6 @@ pub(crate) fn line_of(alloc: Global, text: &[u8]) -> Result<Line, LineError>
         return Ok(Line::Skipped);
     }
     let words = words_of(alloc, text)?;
-    line_of_words(alloc, words.as_slice())
+    let line = line_of_words(alloc, words.as_slice())?;
+    if_built(line)
 }

@@ -1,5 +1,11 @@
-ghost use Rattle.std.specs.Prelude.{◌≡◌};
-ghost use Rattle.rm_script.specs.Fields.{digit_after, number_after, number_of, number_within, number_in};
+ghost use Rattle.std.specs.Prelude.{◌≡◌, ◌++◌};
+ghost use Rattle.std.specs.Fmt.{decimal};
+ghost use Rattle.rm_types.specs.Ranges.{IsWithin};
+ghost use Rattle.rm_script.specs.Numbers.{digit_after, number_after, number_of, number_within, number_in};
+ghost use Rattle.rm_script.specs.Results.{Finds, IsOf};
+
+use crate::errors::LineError;
+use crate::words::after_label;
 
 /// The number that decimal digits write: at least one, with no zero before them. `None` where the text is
 /// no such digits, or they write 2^64 or more.
@@ -47,9 +53,42 @@ fn number_within(number: u64, least: u64, greatest: u64) -> Option<u64>
 }
 
 /// The number that the text writes, where it is neither below the least nor above the greatest.
-pub(crate) fn number_in(text: &[u8], least: u64, greatest: u64) -> Option<u64>
+fn number_in(text: &[u8], least: u64, greatest: u64) -> Option<u64>
     ensures { result ≡ number_in least greatest text.now }
 {
     let number = number_of(text)?;
     number_within(number, least, greatest)
+}
+
+/// The number that the word is, neither below the least nor above the greatest.
+pub(crate) fn long_number(word: &[u8], least: u64, greatest: u64) -> Result<u64, LineError>
+    ensures { Finds result (IsOf decimal (IsWithin least greatest) word.now) }
+{
+    match number_in(word, least, greatest) {
+        Some(number) => Ok(number),
+        None => Err(LineError::Refused),
+    }
+}
+
+/// The same of a number of 32 bits.
+pub(crate) fn number(word: &[u8], least: u32, greatest: u32) -> Result<u32, LineError>
+    ensures { Finds result (IsOf decimal (IsWithin least greatest) word.now) }
+{
+    let number = long_number(word, u64::from(least), u64::from(greatest))?;
+    Ok(number as u32)
+}
+
+/// The same after a label.
+pub(crate) fn number_field(
+    word: &[u8],
+    label: &str,
+    least: u32,
+    greatest: u32,
+) -> Result<u32, LineError>
+    ensures { Finds result (IsOf (λ number. label.now ++ decimal number) (IsWithin least greatest) word.now) }
+{
+    match after_label(word, label) {
+        Some(text) => number(text, least, greatest),
+        None => Err(LineError::Refused),
+    }
 }

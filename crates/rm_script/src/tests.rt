@@ -1,343 +1,227 @@
-use super::*;
-use rm_types::{AppId, ClientAsk, Close, Life, Message, Script, Segment, Submission, Text};
+//! What no clause says: that calls succeed, and whether the grammar is the one that is meant. The expected values are
+//! worked out by hand.
+use crate::errors::LineError;
+use crate::lines::message_from;
+use crate::words::{pieces, words_of};
+use crate::{ScriptError, read_script};
+use rm_types::Message;
 use std::alloc::Global;
-use std::test::*;
+use std::test::Fail;
 
-/// A segment as the number of its messages and its close.
-fn show_segment(shown: &mut String, segment: &Segment) -> Result<(), Fail> {
-    match segment.close {
-        Close::Settle => write!(shown, "+{}s", segment.messages.len())?,
-        Close::Crash { calls, image } => {
-            write!(shown, "+{}c{calls}.{image}", segment.messages.len())?
-        }
-    }
-    Ok(())
-}
-
-/// A life as its stamp and its segments.
-fn show_life(shown: &mut String, life: &Life) -> Result<(), Fail> {
-    write!(shown, "{}", life.stamp)?;
-    for segment in life.segments.as_slice() {
-        show_segment(shown, segment)?;
-    }
-    write!(shown, ";")?;
-    Ok(())
-}
-
-fn shown_script(alloc: Global, script: &Script) -> Result<String, Fail> {
-    let mut shown = String::new(alloc);
-    for life in script.lives.as_slice() {
-        show_life(&mut shown, life)?;
-    }
-    Ok(shown)
-}
-
-/// What is read of a text: the script, or the line that is refused.
-fn shown_reading(alloc: Global, text: &[u8]) -> Result<String, Fail> {
+/// The first refused line of a text, or 0 where it is a script.
+fn refused_line(alloc: Global, text: &[u8]) -> u32 {
     match read_script(alloc, text) {
-        Ok(script) => shown_script(alloc, &script),
-        Err(ScriptError::Refused { line }) => Ok(format!(in alloc; "refused at {line}")?),
-        Err(ScriptError::Memory) => Ok(format!(in alloc; "no memory")?),
+        Ok(_) => 0,
+        Err(ScriptError::Refused { line }) => line,
+        Err(ScriptError::Memory) => u32::MAX,
     }
 }
 
-/// Texts, and what is read of them.
-const READINGS: [(&str, &str); 39] = [
-    ("", ""),
-    ("\n# no life\n\n", ""),
-    ("start 1", "1;"),
-    ("start 1410901177871\nsettle\n", "1410901177871+0s;"),
-    ("start 1410901177871\nsettle", "1410901177871+0s;"),
+/// Texts, and their first refused lines: 0 where they are scripts.
+const SCRIPTS: [(&str, u32); 44] = [
+    ("", 0),
+    ("\n# no life\n\n", 0),
+    ("start 1", 0),
+    ("start 1000000000000000\nsettle\n", 0),
+    ("start 1410901177871\nsettle", 0),
     (
         "start 1410901177871\nlose client alice new\nclient alice new\nsettle",
-        "1410901177871+1s;",
+        0,
     ),
     (
-        "#\nstart 1000000000000000\n\nclient a new\n# b\nclient c new\nsettle\nsettle",
-        "1000000000000000+2s+0s;",
+        "#\nstart 1\n\nclient a new\n# b\nclient c new\nsettle\nsettle",
+        0,
     ),
-    (
-        "start 1410901177871\nsettle\ncrash 0 0\nstart 1410901177871\nsettle",
-        "1410901177871+0s+0c0.0;1410901177871+0s;",
-    ),
+    ("start 7\nsettle\ncrash 0 0\nstart 7\nsettle", 0),
     (
         "start 7\nsettle\n# a comment\ncrash 1000000 4294967295\n\n",
-        "7+0s+0c1000000.4294967295;",
+        0,
     ),
-    ("start 7\nsettle\ncrash 0 1\nstart 8", "7+0s+0c0.1;8;"),
+    ("start 7\nsettle\ncrash 0 1\nstart 8", 0),
+    ("start 1\nlose settle\nclient alice new\nsettle", 2),
+    ("start 1\nclient alice new\nclient alice", 3),
+    ("start 1\nclient alice new", 3),
+    ("start 1\nlose client alice new\n", 3),
+    ("start 1\n\n#\n\nclient alice old\n", 5),
+    ("settle", 1),
+    ("client alice new", 1),
+    ("lose client alice new", 1),
+    ("crash 0 0", 1),
+    ("\nstart 1\nstart 2\n", 3),
+    ("start 1\nsettle\nstart 2\n", 3),
+    ("start 1\nlose", 2),
+    ("start 1\nlose lose client alice new", 2),
+    ("start  1", 1),
+    (" start 1", 1),
+    ("start 1 ", 1),
+    ("start 01", 1),
+    ("start 0", 1),
+    ("start 1000000000000001", 1),
+    ("start 18446744073709551617", 1),
+    ("start 1\r\nsettle\r\n", 1),
+    ("start 1\n#\r\nsettle\n", 2),
+    ("start 1\nsettle \n", 2),
+    ("start 1\ncrash 0 0", 2),
+    ("start 1\nsettle\nclient alice new\ncrash 0 0", 4),
+    ("start 1\nsettle\nlose client alice new\ncrash 0 0", 4),
+    ("start 1\nsettle\ncrash 0 0\nsettle", 4),
+    ("start 1\nsettle\ncrash 1000001 0", 3),
+    ("start 1\nsettle\ncrash 0 4294967296", 3),
+    ("start 1\nclient alice kill application_1_0001\nsettle", 2),
     (
-        "start 1410901177871\nlose settle\nclient alice new\nsettle",
-        "refused at 2",
-    ),
-    (
-        "start 1410901177871\nclient alice new\nclient alice",
-        "refused at 3",
-    ),
-    ("start 1410901177871\nclient alice new", "refused at 3"),
-    (
-        "start 1410901177871\nlose client alice new\n",
-        "refused at 3",
-    ),
-    ("start 1\n\n#\n\nclient alice old\n", "refused at 5"),
-    ("settle", "refused at 1"),
-    ("client alice new", "refused at 1"),
-    ("lose client alice new", "refused at 1"),
-    ("crash 0 0", "refused at 1"),
-    ("\nstart 1\nstart 2\n", "refused at 3"),
-    ("start 1\nsettle\nstart 2\n", "refused at 3"),
-    ("start 1\nlose", "refused at 2"),
-    ("start 1\nlose lose client alice new", "refused at 2"),
-    ("start  1", "refused at 1"),
-    (" start 1", "refused at 1"),
-    ("start 1 ", "refused at 1"),
-    ("start 01", "refused at 1"),
-    ("start 0", "refused at 1"),
-    ("start 1000000000000001", "refused at 1"),
-    ("start 18446744073709551617", "refused at 1"),
-    ("start 1\r\nsettle\r\n", "refused at 1"),
-    ("start 1\n#\r\nsettle\n", "refused at 2"),
-    ("start 1\nsettle \n", "refused at 2"),
-    ("start 1410901177871\ncrash 0 0", "refused at 2"),
-    (
-        "start 1\nsettle\nclient alice new\ncrash 0 0",
-        "refused at 4",
+        "start 1\nclient alice submit application_1_0001 queue=q name=n memory=1 vcores=1 attempts=0 modify=*\nsettle",
+        0,
     ),
     (
-        "start 1\nsettle\nlose client alice new\ncrash 0 0",
-        "refused at 4",
+        "start 1\nsettle\nnode n1 register 1 memory=8192 vcores=8\nsettle",
+        3,
     ),
-    ("start 1\nsettle\ncrash 0 0\nsettle", "refused at 4"),
-    ("start 1\nsettle\ncrash 1000001 0", "refused at 3"),
-    ("start 1\nsettle\ncrash 0 4294967296", "refused at 3"),
+    (
+        "start 1\nlose master appattempt_1_0001_000001 register\nsettle",
+        2,
+    ),
+    ("start 1\nclock tick 1\nsettle", 2),
 ];
 
 #[test]
-fn readings(rt: HostRuntime) -> Result<(), Fail> {
-    for (text, want) in READINGS {
-        let shown = shown_reading(rt.alloc(), text.as_bytes())?;
-        assert_eq!(rt; shown.as_str(), want, "at {text}");
+fn scripts(rt: HostRuntime) {
+    for (text, line) in SCRIPTS {
+        assert_eq!(rt;
+            refused_line(rt.alloc(), text.as_bytes()),
+            line,
+            "at {text}"
+        );
     }
-    Ok(())
-}
-
-/// A text so many times.
-fn repeated(alloc: Global, text: &str, count: u32) -> Result<String, Fail> {
-    let mut all = String::new(alloc);
-    for _ in 0..count {
-        all.push_str(text)?;
-    }
-    Ok(all)
 }
 
 #[test]
-fn many_lines(rt: HostRuntime) -> Result<(), Fail> {
-    let text = repeated(rt.alloc(), "#\n", 100_000)?;
-    assert_eq!(rt;
-        shown_reading(rt.alloc(), text.as_str().as_bytes())?.as_str(),
-        ""
-    );
-    let text = repeated(rt.alloc(), "#\n", 100_001)?;
-    assert_eq!(rt;
-        shown_reading(rt.alloc(), text.as_str().as_bytes())?.as_str(),
-        "refused at 100001"
-    );
+fn limits(rt: HostRuntime) -> Result<(), Fail> {
+    let mut text = Vec::new(rt.alloc());
+    for _ in 0..100_001 {
+        text.extend_from_slice(b"#\n")?;
+    }
+    assert_eq!(rt; refused_line(rt.alloc(), text.as_slice()), 100_001);
+    text.truncate(200_000);
+    assert_eq!(rt; refused_line(rt.alloc(), text.as_slice()), 0);
+    let line = vec![in rt.alloc(); b'#'; 65_537]?;
+    assert_eq!(rt; refused_line(rt.alloc(), line.as_slice()), 1);
+    assert_eq!(rt; refused_line(rt.alloc(), &line.as_slice()[1..]), 0);
     Ok(())
 }
 
-#[test]
-fn long_lines(rt: HostRuntime) -> Result<(), Fail> {
-    let text = repeated(rt.alloc(), "#", 65_536)?;
-    assert_eq!(rt;
-        shown_reading(rt.alloc(), text.as_str().as_bytes())?.as_str(),
-        ""
-    );
-    let text = repeated(rt.alloc(), "#", 65_537)?;
-    assert_eq!(rt;
-        shown_reading(rt.alloc(), text.as_str().as_bytes())?.as_str(),
-        "refused at 1"
-    );
-    Ok(())
-}
-
-#[test]
-fn many_bytes(rt: HostRuntime) -> Result<(), Fail> {
-    let mut line = repeated(rt.alloc(), "#", 65_535)?;
-    line.push_str("\n")?;
-    let mut text = repeated(rt.alloc(), line.as_str(), 256)?;
-    assert_eq!(rt;
-        shown_reading(rt.alloc(), text.as_str().as_bytes())?.as_str(),
-        ""
-    );
-    text.push_str("\n")?;
-    assert_eq!(rt;
-        shown_reading(rt.alloc(), text.as_str().as_bytes())?.as_str(),
-        "refused at 257"
-    );
-    Ok(())
-}
-
-/// The one message of a script of one life and one settled segment.
-fn only_message(script: &Script) -> Option<&Message> {
-    match script.lives.as_slice() {
-        [life] => match life.segments.as_slice() {
-            [segment] => match segment.messages.as_slice() {
-                [message] if segment.close == Close::Settle => Some(message),
-                _ => None,
-            },
-            _ => None,
-        },
-        _ => None,
+/// The message that a line is by the grammar, of a kind that is read or not.
+fn message_of(alloc: Global, line: &[u8]) -> Result<Message, LineError> {
+    let words = words_of(alloc, line)?;
+    match words.as_slice() {
+        [sender, more @ ..] => message_from(alloc, sender, more),
+        [] => Err(LineError::Refused),
     }
 }
 
-/// The user of a client's message, and what it asks.
-fn client_parts(message: &Message) -> Option<(&Text, &ClientAsk)> {
-    match message {
-        Message::Client(user, ask) => Some((user, ask)),
-        _ => None,
-    }
-}
+/// Lines of messages.
+const MESSAGES: &[u8] = b"\
+client 9_.-Z new\n\
+client alice submit application_1_0001 queue=q name=A_b-1.c memory=16777216 vcores=256 attempts=100\n\
+client alice submit application_1_0001 queue=q name=n memory=1 vcores=1 attempts=0 modify= \n\
+client alice submit application_1_0001 queue=q name=n memory=1 vcores=1 attempts=0 modify=bob,carol  ops modify=*\n\
+client bob report application_9223372036854775807_2147483647\n\
+client bob kill application_7_10000\n\
+master appattempt_1_0001_000001 register\n\
+master appattempt_1_0001_000001 allocate 0\n\
+master appattempt_1_0001_000001 allocate 4294967294 ask=1:0:1:1,1000:1000:16777216:256\n\
+master appattempt_1_0001_000001 allocate 1 release=container_1_0001_01_000002,container_e01_1_0001_01_000003\n\
+master appattempt_1_0001_000001 allocate 1 ask=1:4:2048:2 release=container_1_0001_01_000002\n\
+master appattempt_1_0001_000001 finish done\n\
+master appattempt_1_0001_000001 finish  all is done \n\
+node n1 register 1 memory=8192 vcores=8\n\
+node host:8041 register 4294967295 memory=16777216 vcores=256 running=container_1_0001_01_000001:1024:1,container_1_0001_01_000002:2048:2\n\
+node n1 beat 0\n\
+node n1 beat 2 running=container_1_0001_01_000001:1024:1\n\
+node n1 beat 2 done=container_1_0001_01_000001\n\
+node n1 beat 2 running=container_1_0001_01_000001:1024:1 done=container_1_0001_01_000002\n\
+clock tick 1\n\
+clock tick 1000000000\n\
+clock expire node n1\n\
+clock expire master appattempt_1_0001_000001\n\
+client u report application_1000000_0001\n\
+client node new\n\
+node lose beat 3\n\
+node client register 1 memory=1 vcores=1\n\
+master appattempt_1_0001_000001 finish finish\n\
+client submit submit application_1_0001 queue=q name=n memory=1 vcores=1 attempts=0\n\
+clock expire node master\n\
+clock expire node node";
 
-fn shown_text(alloc: Global, text: &Text) -> Result<String, Fail> {
-    let shown = str::from_utf8(text.bytes()).ok().ok_or("a text")?;
-    Ok(format!(in alloc; "{shown}")?)
-}
+/// Lines that are no messages.
+const NO_MESSAGES: &[u8] = b"\
+client\n\
+client alice\n\
+client  new\n\
+client alice  new\n\
+client alice new \n\
+client alice new new\n\
+client al:ice new\n\
+Client alice new\n\
+client alice report\n\
+client alice report application_0_0001\n\
+client alice report application_1_001\n\
+client alice report application_1_0001 \n\
+client alice kill\n\
+client alice submit application_1_0001\n\
+client alice submit application_1_0001 queue=q name=n memory=1 vcores=1\n\
+client alice submit application_1_0001 queue=q name=n memory=0 vcores=1 attempts=0\n\
+client alice submit application_1_0001 queue=q name=n memory=16777217 vcores=1 attempts=0\n\
+client alice submit application_1_0001 queue=q name=n memory=1 vcores=257 attempts=0\n\
+client alice submit application_1_0001 queue=q name=n memory=1 vcores=1 attempts=101\n\
+client alice submit application_1_0001 queue=q name=n memory=01 vcores=1 attempts=0\n\
+client alice submit application_1_0001 queue=Q name=n memory=1 vcores=1 attempts=0\n\
+client alice submit application_1_0001 name=n queue=q memory=1 vcores=1 attempts=0\n\
+client alice submit application_1_0001 queue=q name=n memory=1 vcores=1 attempts=0 modify=\n\
+client alice submit application_1_0001 queue=q name=n memory=1 vcores=1 attempts=0 *\n\
+client alice submit application_1_0001 queue=q name=n memory=1 vcores=1 attempts=0 \n\
+master\n\
+master appattempt_1_0001_000001\n\
+master application_1_0001 register\n\
+master appattempt_1_0001_000001 register \n\
+master appattempt_1_0001_000001 finish\n\
+master appattempt_1_0001_000001 finish \n\
+master appattempt_1_0001_000001 allocate\n\
+master appattempt_1_0001_000001 allocate 4294967295\n\
+master appattempt_1_0001_000001 allocate 0 ask=\n\
+master appattempt_1_0001_000001 allocate 0 ask=0:1:1:1\n\
+master appattempt_1_0001_000001 allocate 0 ask=1:1001:1:1\n\
+master appattempt_1_0001_000001 allocate 0 ask=1:1:1\n\
+master appattempt_1_0001_000001 allocate 0 ask=1:1:1:1,\n\
+master appattempt_1_0001_000001 allocate 0 ask=1:1:1:1 ask=1:1:1:1\n\
+master appattempt_1_0001_000001 allocate 0 release=container_1_0001_01_000002 ask=1:1:1:1\n\
+master appattempt_1_0001_000001 allocate 0 release=container_1_0001_01_000000\n\
+node\n\
+node n1\n\
+node n/1 beat 0\n\
+node n1 register 0 memory=1 vcores=1\n\
+node n1 register 4294967296 memory=1 vcores=1\n\
+node n1 register 1 memory=0 vcores=1\n\
+node n1 register 1 memory=1\n\
+node n1 register 1 memory=1 vcores=1 done=container_1_0001_01_000001\n\
+node n1 register 1 memory=1 vcores=1 running=container_1_0001_01_000001\n\
+node n1 beat 0 done=container_1_0001_01_000002 running=container_1_0001_01_000001:1024:1\n\
+node n1 beat 0 running=container_1_0001_01_000001:1024:1:1\n\
+node n1 beat 0 running=container_1_0001_01_000001:1024:0\n\
+node n1 beat 00\n\
+clock tick 0\n\
+clock tick 1000000001\n\
+clock tick\n\
+clock expire n1\n\
+clock expire master n1\n\
+clock expire node n1 n2";
 
-fn shown_submission(alloc: Global, submission: &Submission) -> Result<String, Fail> {
-    let user = shown_text(alloc, &submission.user)?;
-    let queue = shown_text(alloc, &submission.queue)?;
-    let name = shown_text(alloc, &submission.name)?;
-    let modify = shown_text(alloc, &submission.modify)?;
-    let memory = submission.master.memory_mb;
-    let vcores = submission.master.vcores;
-    let attempts = submission.attempts;
-    Ok(format!(in alloc; "{user} {queue} {name} {memory} {vcores} {attempts} {modify}.")?)
-}
-
-fn shown_ask(alloc: Global, ask: &ClientAsk) -> Result<String, Fail> {
-    match ask {
-        ClientAsk::New => Ok(format!(in alloc; "new")?),
-        ClientAsk::Report(AppId { stamp, number }) => {
-            Ok(format!(in alloc; "report {stamp} {number}")?)
+#[test]
+fn messages(rt: HostRuntime) -> Result<(), LineError> {
+    for (lines, expected) in [(MESSAGES, true), (NO_MESSAGES, false)] {
+        for (place, line) in pieces(rt.alloc(), lines, b'\n')?.iter().enumerate() {
+            let found = message_of(rt.alloc(), line);
+            assert_eq!(rt; found.is_ok(), expected, "line {place}");
         }
-        ClientAsk::Kill(AppId { stamp, number }) => Ok(format!(in alloc; "kill {stamp} {number}")?),
-        ClientAsk::Submit(AppId { stamp, number }, submission) => {
-            let shown = shown_submission(alloc, submission)?;
-            Ok(format!(in alloc; "submit {stamp} {number} {shown}")?)
-        }
-    }
-}
-
-/// The user and the ask of the message that this line writes.
-fn asked(alloc: Global, line: &str) -> Result<(String, String), Fail> {
-    let text = format!(in alloc; "start 1\n{line}\nsettle\n")?;
-    let script = read_script(alloc, text.as_str().as_bytes())
-        .ok()
-        .ok_or("a script")?;
-    let message = only_message(&script).ok_or("one message")?;
-    let (user, ask) = client_parts(message).ok_or("a client's message")?;
-    Ok((shown_text(alloc, user)?, shown_ask(alloc, ask)?))
-}
-
-/// A line, its user, and what it asks.
-const MESSAGES: [(&str, &str, &str); 8] = [
-    ("client alice new", "alice", "new"),
-    ("client 9_.-Z new", "9_.-Z", "new"),
-    ("client bob report application_1_0001", "bob", "report 1 1"),
-    (
-        "client bob report application_1410901177871_9999",
-        "bob",
-        "report 1410901177871 9999",
-    ),
-    (
-        "client bob report application_9223372036854775807_2147483647",
-        "bob",
-        "report 9223372036854775807 2147483647",
-    ),
-    (
-        "client bob report application_7_10000",
-        "bob",
-        "report 7 10000",
-    ),
-    (
-        "client alice submit application_1_0001 queue=root.default name=job memory=1 vcores=1 attempts=0",
-        "alice",
-        "submit 1 1 alice root.default job 1 1 0 .",
-    ),
-    (
-        "client alice submit application_1_0120 queue=q name=A_b-1.c memory=16777216 vcores=256 attempts=100",
-        "alice",
-        "submit 1 120 alice q A_b-1.c 16777216 256 100 .",
-    ),
-];
-
-#[test]
-fn messages(rt: HostRuntime) -> Result<(), Fail> {
-    for (line, user, ask) in MESSAGES {
-        let (sender, shown) = asked(rt.alloc(), line)?;
-        assert_eq!(rt; sender.as_str(), user, "at {line}");
-        assert_eq!(rt; shown.as_str(), ask, "at {line}");
     }
     Ok(())
-}
-
-/// Lines that are no message.
-const NO_MESSAGES: [&str; 36] = [
-    "client",
-    "client alice",
-    "client alice ",
-    "client  new",
-    "client alice  new",
-    "client alice new ",
-    "client alice new new",
-    "client al:ice new",
-    "client alice old",
-    "Client alice new",
-    "client alice report",
-    "client alice report application_0_0001",
-    "client alice report application_9223372036854775808_0001",
-    "client alice report application_1_0000",
-    "client alice report application_1_001",
-    "client alice report application_1_00001",
-    "client alice report application_1_2147483648",
-    "client alice report application_01_0001",
-    "client alice report application_1_0001_1",
-    "client alice report application_1",
-    "client alice report app_1_0001",
-    "client alice report application_1_0001 ",
-    "client alice kill application_1_0001",
-    "client alice submit application_1_0001",
-    "client alice submit application_1_0001 queue=q name=n memory=1 vcores=1",
-    "client alice submit application_1_0001 queue=q name=n memory=0 vcores=1 attempts=0",
-    "client alice submit application_1_0001 queue=q name=n memory=16777217 vcores=1 attempts=0",
-    "client alice submit application_1_0001 queue=q name=n memory=1 vcores=0 attempts=0",
-    "client alice submit application_1_0001 queue=q name=n memory=1 vcores=257 attempts=0",
-    "client alice submit application_1_0001 queue=q name=n memory=1 vcores=1 attempts=101",
-    "client alice submit application_1_0001 queue=q name=n memory=01 vcores=1 attempts=0",
-    "client alice submit application_1_0001 queue=Q name=n memory=1 vcores=1 attempts=0",
-    "client alice submit application_1_0001 queue= name=n memory=1 vcores=1 attempts=0",
-    "client alice submit application_1_0001 name=n queue=q memory=1 vcores=1 attempts=0",
-    "client alice submit application_1_0001 queue=q name=n memory=1 vcores=1 attempts=0 modify=*",
-    "client alice submit application_1_0001 queue=q name=n memory=1 vcores=1 attempts=0 modify=",
-];
-
-#[test]
-fn refused_messages(rt: HostRuntime) -> Result<(), Fail> {
-    for line in NO_MESSAGES {
-        let text = format!(in rt.alloc(); "start 1\n{line}\nsettle\n")?;
-        let shown = shown_reading(rt.alloc(), text.as_str().as_bytes())?;
-        assert_eq!(rt; shown.as_str(), "refused at 2", "at {line}");
-    }
-    Ok(())
-}
-
-/// Where no memory is found for a part of a script, it isn't refused.
-#[test]
-fn want_of_memory(rt: HostRuntime) {
-    let text =
-        "start 1\nclient alice submit application_1_0001 queue=q name=n memory=1 vcores=1 attempts=0\nsettle";
-    match read_script(rt.alloc(), text.as_bytes()) {
-        Ok(script) => assert!(rt; only_message(&script).is_some()),
-        Err(error) => assert_eq!(rt; error, ScriptError::Memory),
-    }
 }

@@ -1,5 +1,5 @@
 use Rattle.std.proofs.Common.{◌≡◌, drop}
-use Rattle.rm_script.specs.Fields.{number_after}
+use Rattle.rm_script.specs.Numbers.{number_after}
 use Rattle.rm_script.proofs.numbers.digits_value.Given as goal
 
 -- the rest of the digits give the number that all of them do

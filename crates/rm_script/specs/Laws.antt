@@ -1,0 +1,41 @@
+-- The law that items of lists keep: no comma stands in their texts. The proofs stand here, since the items' own code names them.
+use Rattle.std.proofs.Common.{◌≡◌, ℕ, List, true, refl, arith}
+use Rattle.rm_types.specs.Ranges.{IsContainerId}
+use Rattle.rm_types.specs.Resources.{IsInRange}
+use Rattle.rm_types.specs.declared.containers.Ask.{Ask}
+use Rattle.rm_types.specs.declared.containers.Held.{Held}
+use Rattle.rm_types.specs.declared.ids.ContainerId.{ContainerId}
+use Rattle.rm_types.specs.declared.resources.Resource.{Resource}
+use Rattle.rm_formats.specs.IdTexts.{container_text}
+use Rattle.rm_formats.specs.Wording.{held_text, ask_text}
+use Rattle.rm_page.specs.Ranges.{IsHeld as IsShownHeld, IsAsk as IsShownAsk}
+use Rattle.rm_page.proofs.Bytes.{lacks}
+use Rattle.rm_page.proofs.ReadIds.{container_lacks}
+use Rattle.rm_page.proofs.ReadLists.{held_comes_back, ask_comes_back}
+use Rattle.rm_script.specs.Messages.{IsSize, IsHeld, IsAsk}
+
+-- no comma (44) stands in the text
+abbrev pub HasNoComma : List ℕ → Type 0
+HasNoComma text = lacks 44 text ≡ true
+
+-- what a line may say is in the ranges of a page
+
+pub shown_size : (size : Resource) → IsSize size → IsInRange size
+shown_size size is = (omega (arith, is.memory.1), omega (arith, is.vcores.1))
+
+pub shown_held : (held : Held) → IsHeld held → IsShownHeld held
+shown_held held is = record { id = is.id; size = shown_size held.size is.size }
+
+pub shown_ask : (ask : Ask) → IsAsk ask → IsShownAsk ask
+shown_ask ask is = record { priority = omega (arith, is.priority.1); count = omega (arith, is.count.1); size = shown_size ask.size is.size }
+
+-- no comma stands in an item
+
+pub container_lacks_comma : (id : ContainerId) → IsContainerId id → HasNoComma (container_text id)
+container_lacks_comma id is = container_lacks 44 id refl is
+
+pub held_lacks_comma : (held : Held) → IsHeld held → HasNoComma (held_text held)
+held_lacks_comma held is = (held_comes_back held (shown_held held is)).no_comma
+
+pub ask_lacks_comma : (ask : Ask) → IsAsk ask → HasNoComma (ask_text ask)
+ask_lacks_comma ask is = (ask_comes_back ask (shown_ask ask is)).no_comma

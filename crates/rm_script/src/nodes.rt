@@ -1,0 +1,103 @@
+ghost use Rattle.std.specs.Prelude.{◌∷◌, map, codes};
+ghost use Rattle.rm_formats.specs.Wording.{node_words, message_words};
+ghost use Rattle.rm_script.specs.Messages.{IsNodeAsk, IsMessage};
+ghost use Rattle.rm_script.specs.Results.{Finds, IsOf};
+
+use crate::errors::LineError;
+use crate::fields::{size_fields, text};
+use crate::lists::{one_list, two_lists};
+use crate::numbers::number;
+use rm_types::{Message, NodeAsk, TextKind};
+use std::alloc::Global;
+
+/// The greatest response id that a node names.
+const GREATEST_RESPONSE: u32 = 4_294_967_294;
+
+/// The greatest turn of a registration.
+const GREATEST_TURN: u32 = 4_294_967_295;
+
+/// What a node says that registers, by its turn, its capability and the words that may say what runs on it.
+fn registration(
+    alloc: Global,
+    turn: &[u8],
+    memory: &[u8],
+    vcores: &[u8],
+    lists: &[&[u8]],
+) -> Result<NodeAsk, LineError>
+    ensures { Finds result (IsOf node_words IsNodeAsk (codes "register" ∷ turn.now ∷ memory.now ∷ vcores.now ∷ map (λ word. word.now) lists.now)) }
+{
+    let turn = number(turn, 1, GREATEST_TURN)?;
+    let capability = size_fields(memory, vcores)?;
+    let running = one_list(alloc, lists, "running=")?;
+    Ok(NodeAsk::Register {
+        turn,
+        capability,
+        running,
+    })
+}
+
+/// What a node says that registers, by the words after `register`.
+fn register_ask(alloc: Global, words: &[&[u8]]) -> Result<NodeAsk, LineError>
+    ensures { Finds result (IsOf node_words IsNodeAsk (codes "register" ∷ map (λ word. word.now) words.now)) }
+{
+    match words {
+        [turn, memory, vcores, lists @ ..] => registration(alloc, turn, memory, vcores, lists),
+        _ => Err(LineError::Refused),
+    }
+}
+
+/// What a node says in a beat, by its id and the words that may say what runs on it and what is done.
+fn beat(alloc: Global, id: &[u8], lists: &[&[u8]]) -> Result<NodeAsk, LineError>
+    ensures { Finds result (IsOf node_words IsNodeAsk (codes "beat" ∷ id.now ∷ map (λ word. word.now) lists.now)) }
+{
+    let id = number(id, 0, GREATEST_RESPONSE)?;
+    let (running, done) = two_lists(alloc, lists, "running=", "done=")?;
+    Ok(NodeAsk::Beat { id, running, done })
+}
+
+/// What a node says in a beat, by the words after `beat`.
+fn beat_ask(alloc: Global, words: &[&[u8]]) -> Result<NodeAsk, LineError>
+    ensures { Finds result (IsOf node_words IsNodeAsk (codes "beat" ∷ map (λ word. word.now) words.now)) }
+{
+    match words {
+        [id, lists @ ..] => beat(alloc, id, lists),
+        [] => Err(LineError::Refused),
+    }
+}
+
+/// What a node says, by the word that says it and the words after that.
+fn node_ask(alloc: Global, verb: &[u8], words: &[&[u8]]) -> Result<NodeAsk, LineError>
+    ensures { Finds result (IsOf node_words IsNodeAsk (verb.now ∷ map (λ word. word.now) words.now)) }
+{
+    if verb == "register".as_bytes() {
+        register_ask(alloc, words)
+    } else if verb == "beat".as_bytes() {
+        beat_ask(alloc, words)
+    } else {
+        Err(LineError::Refused)
+    }
+}
+
+/// The message of a node, by its name and the words that tell what it says.
+fn message_of(
+    alloc: Global,
+    node: &[u8],
+    verb: &[u8],
+    words: &[&[u8]],
+) -> Result<Message, LineError>
+    ensures { Finds result (IsOf message_words IsMessage (codes "node" ∷ node.now ∷ verb.now ∷ map (λ word. word.now) words.now)) }
+{
+    let node = text(alloc, node, TextKind::Node)?;
+    let ask = node_ask(alloc, verb, words)?;
+    Ok(Message::Node(node, ask))
+}
+
+/// The message of a node, by the words after `node`.
+pub(crate) fn node_message(alloc: Global, words: &[&[u8]]) -> Result<Message, LineError>
+    ensures { Finds result (IsOf message_words IsMessage (codes "node" ∷ map (λ word. word.now) words.now)) }
+{
+    match words {
+        [node, verb, more @ ..] => message_of(alloc, node, verb, more),
+        _ => Err(LineError::Refused),
+    }
+}
