@@ -14,3 +14,6 @@ mod submissions;
 mod words;
 
 pub use serving::serve;
+
+#[cfg(test)]
+mod tests;
