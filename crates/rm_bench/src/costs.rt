@@ -1,5 +1,3 @@
-use rm_script::ScriptError;
-use rm_store::StoreError;
 use rm_tree::TreeError;
 use rm_types::{NoMemory, TextError};
 use std::alloc::{AllocError, AllocFailed};
@@ -41,18 +39,6 @@ impl From<TextError> for Stop {
 
 impl From<TreeError> for Stop {
     fn from(_error: TreeError) -> Stop {
-        Stop
-    }
-}
-
-impl From<StoreError> for Stop {
-    fn from(_error: StoreError) -> Stop {
-        Stop
-    }
-}
-
-impl From<ScriptError> for Stop {
-    fn from(_error: ScriptError) -> Stop {
         Stop
     }
 }

@@ -58,6 +58,11 @@ fn step_of(alloc: Global, step: u32, app: AppId) -> Result<Op, Stop> {
 /// all are removed.
 pub fn lives_of(alloc: Global, apps: u32) -> Result<Items<Op>, Stop> {
     let mut ops = Items::new(alloc);
+    put_lives(alloc, apps, &mut ops)?;
+    Ok(ops)
+}
+
+fn put_lives(alloc: Global, apps: u32, ops: &mut Items<Op>) -> Result<(), Stop> {
     for step in 0..5 {
         for number in 0..apps {
             let app = AppId {
@@ -67,5 +72,5 @@ pub fn lives_of(alloc: Global, apps: u32) -> Result<Items<Op>, Stop> {
             ops.push(step_of(alloc, step, app)?)?;
         }
     }
-    Ok(ops)
+    Ok(())
 }

@@ -30,10 +30,9 @@ fn told(alloc: Global, app: AppId) -> Result<Entry, Stop> {
     })
 }
 
-/// A pass with three grants.
-fn granted(alloc: Global, app: AppId) -> Result<Entry, Stop> {
+/// Three grants to the first attempt of an application.
+fn put_grants(alloc: Global, app: AppId, grants: &mut Items<Grant>) -> Result<(), Stop> {
     let attempt = AttemptId { app, number: 1 };
-    let mut grants = Items::new(alloc);
     for seq in 1..4 {
         grants.push(Grant {
             id: ContainerId {
@@ -48,8 +47,15 @@ fn granted(alloc: Global, app: AppId) -> Result<Entry, Stop> {
             },
         })?;
     }
-    let node = Boxed::new(alloc, text(alloc, b"n1")?)?;
+    Ok(())
+}
+
+/// A pass with three grants.
+fn granted(alloc: Global, app: AppId) -> Result<Entry, Stop> {
+    let mut grants = Items::new(alloc);
+    put_grants(alloc, app, &mut grants)?;
     let grants = Boxed::new(alloc, grants)?;
+    let node = Boxed::new(alloc, text(alloc, b"n1")?)?;
     Ok(Entry::Pass { node, grants })
 }
 
@@ -67,11 +73,16 @@ fn entry_of(alloc: Global, number: u32) -> Result<Entry, Stop> {
     })
 }
 
-fn log_of(alloc: Global, count: u32) -> Result<Items<Entry>, Stop> {
-    let mut log = Items::new(alloc);
+fn put_entries(alloc: Global, log: &mut Items<Entry>, count: u32) -> Result<(), Stop> {
     for number in 0..count {
         log.push(entry_of(alloc, number)?)?;
     }
+    Ok(())
+}
+
+fn log_of(alloc: Global, count: u32) -> Result<Items<Entry>, Stop> {
+    let mut log = Items::new(alloc);
+    put_entries(alloc, &mut log, count)?;
     Ok(log)
 }
 
@@ -85,12 +96,19 @@ fn round(rt: HostRuntime, log: &Items<Entry>) -> Result<(u64, usize), Stop> {
 /// The time of a byte of the page of so many entries in hundredths of a nanosecond, the least of some rounds.
 fn time_of(rt: HostRuntime, count: u32, rounds: u32) -> Result<u64, Stop> {
     let log = log_of(rt.alloc(), count)?;
-    let (mut least, size) = round(rt, &log)?;
+    time_with(rt, &log, rounds)
+}
+
+fn time_with(rt: HostRuntime, log: &Items<Entry>, rounds: u32) -> Result<u64, Stop> {
+    let (mut least, size) = round(rt, log)?;
     for _round in 1..rounds {
-        least = least.min(round(rt, &log)?.0);
+        least = least.min(round(rt, log)?.0);
     }
     let each = hundredths(least, size as u64);
-    println!(rt; "page: {count} entries, {size} bytes: {each} hundredths of a ns a byte")?;
+    println!(rt;
+        "page: {} entries, {size} bytes: {each} hundredths of a ns a byte",
+        log.len()
+    )?;
     Ok(each)
 }
 

@@ -8,6 +8,9 @@ const QUESTIONS: usize = 20_000;
 
 const SCANS: usize = 500;
 
+/// The queue that is asked for, at depth 8.
+const QUEUE: &[u8] = b"root.b0.q.q.q.q.q.q";
+
 /// A list of a hundred users, none of whom asks.
 fn long_list(alloc: Global) -> Result<Text, Stop> {
     let mut list = Vec::new(alloc);
@@ -83,31 +86,56 @@ fn scan(alloc: Global, settings: &Settings, user: &[u8], name: &[u8]) -> Result<
     Ok(false)
 }
 
-/// The time of a question to a tree with so many branches, and of one by a scan.
-fn times_of(rt: HostRuntime, branch_count: u32) -> Result<(u64, u64), Stop> {
-    let alloc = rt.alloc();
-    let settings = settings(alloc, branch_count)?;
-    if !starts_at_root(&settings) {
-        return Err(Stop);
-    }
-    let tree = QueueTree::new(alloc, &settings)?;
-    let name = b"root.b0.q.q.q.q.q.q";
+/// The time of a question to a tree, and how many were admitted.
+fn ask(rt: HostRuntime, tree: &QueueTree) -> Result<(u64, u64), Stop> {
     let mut admitted = 0u64;
     let since = Instant::now(&rt)?;
     for _question in 0..QUESTIONS {
-        admitted = admitted.saturating_add(u64::from(tree.may_submit(b"nobody", name)));
+        admitted = admitted.saturating_add(u64::from(tree.may_submit(b"nobody", QUEUE)));
     }
-    let asked = nanos_each(rt, since, QUESTIONS)?;
+    Ok((nanos_each(rt, since, QUESTIONS)?, admitted))
+}
+
+/// The time of a question by a scan, and how many were admitted.
+fn ask_by_scan(rt: HostRuntime, settings: &Settings) -> Result<(u64, u64), Stop> {
+    let mut admitted = 0u64;
     let since = Instant::now(&rt)?;
     for _question in 0..SCANS {
-        admitted = admitted.saturating_add(u64::from(scan(alloc, &settings, b"nobody", name)?));
+        let is_admitted = scan(rt.alloc(), settings, b"nobody", QUEUE)?;
+        admitted = admitted.saturating_add(u64::from(is_admitted));
     }
-    let scanned = nanos_each(rt, since, SCANS)?;
+    Ok((nanos_each(rt, since, SCANS)?, admitted))
+}
+
+/// The time of a question to the tree of these settings, and of one by a scan.
+fn times_with(
+    rt: HostRuntime,
+    settings: &Settings,
+    tree: &QueueTree,
+) -> Result<(u64, u64), Stop> {
+    let (asked, by_tree) = ask(rt, tree)?;
+    let (scanned, by_scan) = ask_by_scan(rt, settings)?;
     println!(rt;
-        "rights: {} queues: {asked} ns a question, {scanned} ns by a scan, {admitted} admitted",
+        "rights: {} queues: {asked} ns a question, {scanned} ns by a scan, {by_tree} and {by_scan} admitted",
         settings.queues.len()
     )?;
     Ok((asked, scanned))
+}
+
+fn times_among(rt: HostRuntime, settings: &Settings) -> Result<(u64, u64), Stop> {
+    if !starts_at_root(settings) {
+        return Err(Stop);
+    }
+    match QueueTree::new(rt.alloc(), settings) {
+        Ok(tree) => times_with(rt, settings, &tree),
+        Err(_) => Err(Stop),
+    }
+}
+
+/// These times among the queues of so many branches.
+fn times_of(rt: HostRuntime, branch_count: u32) -> Result<(u64, u64), Stop> {
+    let settings = settings(rt.alloc(), branch_count)?;
+    times_among(rt, &settings)
 }
 
 /// A question at depth 8 among few queues and among 253, with lists of a hundred users: the ratio of their times

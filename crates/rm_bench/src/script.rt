@@ -16,19 +16,28 @@ fn script_of(alloc: Global, mebibytes: usize) -> Result<String, Stop>
     requires { mebibytes ≤ 16 }
 {
     let mut text = String::new(alloc);
+    put_script(&mut text, mebibytes)?;
+    Ok(text)
+}
+
+fn put_script(text: &mut String, mebibytes: usize) -> Result<(), Stop>
+    requires { mebibytes ≤ 16 }
+{
     text.push_str("start 1410901177871\n")?;
     for _line in 0..mebibytes * MEBIBYTE / LINE.len() {
         text.push_str(LINE)?;
     }
     text.push_str("settle\n")?;
-    Ok(text)
+    Ok(())
 }
 
 /// The time of each mebibyte when this script is read.
 fn round(rt: HostRuntime, text: &str, mebibytes: usize) -> Result<u64, Stop> {
     let since = Instant::now(&rt)?;
-    let _script = read_script(rt.alloc(), text.as_bytes())?;
-    nanos_each(rt, since, mebibytes)
+    match read_script(rt.alloc(), text.as_bytes()) {
+        Ok(_script) => nanos_each(rt, since, mebibytes),
+        Err(_refused) => Err(Stop),
+    }
 }
 
 /// The time of each mebibyte of a script of so many, the least of some rounds.
@@ -36,9 +45,13 @@ fn time_of(rt: HostRuntime, mebibytes: usize) -> Result<u64, Stop>
     requires { mebibytes ≤ 16 }
 {
     let text = script_of(rt.alloc(), mebibytes)?;
-    let mut least = round(rt, text.as_str(), mebibytes)?;
+    time_with(rt, text.as_str(), mebibytes)
+}
+
+fn time_with(rt: HostRuntime, text: &str, mebibytes: usize) -> Result<u64, Stop> {
+    let mut least = round(rt, text, mebibytes)?;
     for _round in 0..4 {
-        least = least.min(round(rt, text.as_str(), mebibytes)?);
+        least = least.min(round(rt, text, mebibytes)?);
     }
     println!(rt;
         "script: {mebibytes} MiB, {} bytes: {least} ns a MiB",

@@ -2,6 +2,7 @@ use crate::costs::{Stop, hundredths, nanos_each};
 use rm_disk::{Fuse, MemDisk};
 use rm_store::Store;
 use rm_types::Items;
+use std::io;
 use std::time::Instant;
 
 /// Puts the record of a payload behind others.
@@ -23,23 +24,45 @@ fn epoch_frame(rt: HostRuntime, next: u32) -> Result<Vec<u8>, Stop> {
     Ok(frame)
 }
 
-/// The time of each operation when a store of so many is opened.
-fn time_of(rt: HostRuntime, count: u32) -> Result<u64, Stop> {
-    let alloc = rt.alloc();
-    let mut bytes = Vec::new(alloc);
+/// Puts the records of so many operations into these bytes.
+fn put_records(rt: HostRuntime, bytes: &mut Vec<u8>, count: u32) -> Result<(), Stop> {
     for number in 0..count {
-        put_record(&mut bytes, &epoch_frame(rt, number.saturating_add(1))?)?;
+        put_record(bytes, &epoch_frame(rt, number.saturating_add(1))?)?;
     }
     bytes.push(0)?;
-    let disk = MemDisk::of(alloc, Items::from_vec(bytes), Items::new(alloc))?;
-    let fuse = Fuse::new(alloc, disk);
-    let since = Instant::now(&rt)?;
-    let Ok((_store, _tree, ops)) = Store::open(alloc, fuse) else {
-        return Err(Stop);
-    };
-    let each = nanos_each(rt, since, ops.len())?;
-    println!(rt; "store: {} operations opened: {each} ns each", ops.len())?;
+    Ok(())
+}
+
+/// A disk with so many operations.
+fn disk_of(rt: HostRuntime, count: u32) -> Result<MemDisk, Stop> {
+    let mut bytes = Vec::new(rt.alloc());
+    put_records(rt, &mut bytes, count)?;
+    Ok(MemDisk::of(
+        rt.alloc(),
+        Items::from_vec(bytes),
+        Items::new(rt.alloc()),
+    )?)
+}
+
+/// The time of each operation when a store is opened.
+fn time_on(rt: HostRuntime, disk: MemDisk) -> Result<u64, Stop> {
+    let since = Instant::now(&rt);
+    match Store::open(rt.alloc(), Fuse::new(rt.alloc(), disk)) {
+        Ok((_store, _tree, ops)) => tell_time(rt, since, ops.len()),
+        Err(_refused) => Err(Stop),
+    }
+}
+
+fn tell_time(rt: HostRuntime, since: io::Result<Instant>, many: usize) -> Result<u64, Stop> {
+    let each = nanos_each(rt, since?, many)?;
+    println!(rt; "store: {many} operations opened: {each} ns each")?;
     Ok(each)
+}
+
+/// The time of each operation when a store of so many is opened.
+fn time_of(rt: HostRuntime, count: u32) -> Result<u64, Stop> {
+    let disk = disk_of(rt, count)?;
+    time_on(rt, disk)
 }
 
 /// Stores of 10,000 and of 100,000 operations: the ratio of their times stays near 1.

@@ -3,4 +3,5 @@ pub mod Puts
 pub mod Records
 pub mod Renewed
 pub mod Views
+pub mod Windows
 pub mod Written

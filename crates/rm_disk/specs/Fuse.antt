@@ -1,5 +1,5 @@
 -- A fuse over a disk, as contracts see it.
-use Rattle.std.specs.Prelude.{◌≡◌, ◌≤◌, ◌+◌, ◌-◌, ◌^◌, ℕ, min, nat_le, Bool, true, false, List, [], ◌∷◌, ◌++◌, Option, None, Some, option_map, Result, Err, if◌then◌else◌}
+use Rattle.std.specs.Prelude.{◌≡◌, ◌≤◌, ◌+◌, ℕ, nat_le, Bool, true, false, List, [], ◌∷◌, ◌++◌, Option, None, Some, option_map, Result, Err, if◌then◌else◌}
 use Rattle.rm_types.specs.Counts.{risen, Rose}
 use Rattle.rm_disk.specs.Disk.{DiskView}
 use Rattle.rm_disk.specs.declared.device.DiskError.{DiskError}

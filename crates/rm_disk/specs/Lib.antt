@@ -6,3 +6,4 @@ pub mod FuseLaws
 pub mod Images
 pub mod MemDisk
 pub mod Memory
+pub mod Window

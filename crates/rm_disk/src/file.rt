@@ -3,27 +3,25 @@ ghost use Rattle.rm_disk.specs.Disk.{put, IsAsBefore, IsDurable, IsQuiet, MayWri
 ghost use Rattle.rm_types.specs.Counts.{Rose};
 
 use crate::device::{Disk, DiskError};
-use std::fs::{Files, OpenFile, OpenOptions};
-use std::io;
-use std::io::{ErrorKind, Read, Seek, SeekFrom, Write};
+use crate::held::{FILE_SIZE, FileFault, HeldFile, open_or_make, sync_bytes};
+use std::alloc::Alloc;
+use std::fs::Files;
 use std::marker::Model;
-
-const FILE_SIZE: u64 = 4_194_304;
-
-// How often an interrupted call is tried again before it counts as failed.
-const MOST_TRIES: u32 = 1_000_000;
+use std::os::unix::fs::FileExt;
 
 /// A disk of 4,194,304 bytes in a file.
 ///
-/// It tells no bytes: no proof says what a file holds. A sync is the system's `fdatasync`; where it makes the
-/// file it syncs the folder too. A call that the system says was interrupted is tried again. Contracts see of
-/// it how often it failed.
+/// It tells no bytes: no proof says what a file holds. Each read and each write is one call of the system at an
+/// offset, and a sync is the system's `fdatasync`; none of them takes memory. A call that the system says was
+/// interrupted is tried again. While the file is open no other disk opens it. Contracts see of a disk in a file how
+/// often it failed.
 pub struct FileDisk<'a, R: Files> {
     runtime: &'a R,
     name: &'a str,
     file: Option<R::File>,
     lost: bool,
     faults: u64,
+    last_fault: Option<FileFault>,
 }
 
 impl<R: Files> Drop for FileDisk<'_, R> {
@@ -34,11 +32,15 @@ impl<R: Files> Drop for FileDisk<'_, R> {
             file: _,
             lost: _,
             faults: _,
+            last_fault: _,
         } = self;
     }
 }
 
-impl<'a, R: Files> FileDisk<'a, R> {
+impl<'a, R: Files + Alloc> FileDisk<'a, R>
+where
+    R::File: HeldFile,
+{
     /// The disk in the file of that name. The file is opened, or made with all bytes 0, at the first read,
     /// write or sync; a failure there, or a file of another length, is a fault of that call.
     pub fn new(runtime: &'a R, name: &'a str) -> FileDisk<'a, R>
@@ -50,11 +52,17 @@ impl<'a, R: Files> FileDisk<'a, R> {
             file: None,
             lost: false,
             faults: 0,
+            last_fault: None,
         }
     }
 
+    /// Why the last call that failed did so.
+    pub fn last_fault(&self) -> Option<&FileFault> {
+        self.last_fault.as_ref()
+    }
+
     // Opens or makes the file, if that was not done yet.
-    fn open(&mut self) -> io::Result<()>
+    fn open(&mut self) -> Result<(), FileFault>
         ensures same { self.new.faults ≡ self.old.faults }
         ensures opened { OnOk result (IsSome self.new.file) }
     {
@@ -64,53 +72,58 @@ impl<'a, R: Files> FileDisk<'a, R> {
         Ok(())
     }
 
-    fn try_read(&mut self, at: u64, into: &mut [u8]) -> io::Result<()>
+    fn try_read(&mut self, at: u64, into: &mut [u8]) -> Result<(), FileFault>
         ensures { self.new.faults ≡ self.old.faults }
     {
         self.open()?;
-        let file = self.file.as_mut().unwrap();
-        file.seek(SeekFrom::Start(at))?;
-        file.read_exact(into)
+        self.file.as_ref().unwrap().read_exact_at(into, at)?;
+        Ok(())
     }
 
-    fn try_write(&mut self, at: u64, bytes: &[u8]) -> io::Result<()>
+    fn try_write(&mut self, at: u64, bytes: &[u8]) -> Result<(), FileFault>
         ensures { self.new.faults ≡ self.old.faults }
     {
         self.open()?;
-        let file = self.file.as_mut().unwrap();
-        file.seek(SeekFrom::Start(at))?;
-        file.write_all(bytes)
+        self.file.as_ref().unwrap().write_all_at(bytes, at)?;
+        Ok(())
     }
 
     // After a sync that failed the system may have forgotten what it could not write, and the next one would
     // not tell: so each later one fails too.
-    fn try_sync(&mut self) -> io::Result<()>
+    fn try_sync(&mut self) -> Result<(), FileFault>
         ensures { self.new.faults ≡ self.old.faults }
     {
         self.open()?;
         if self.lost {
-            return Err(io::Error::from(ErrorKind::Other));
+            return Err(FileFault::Lost);
         }
         let outcome = sync_bytes(self.file.as_ref().unwrap());
         self.lost = outcome.is_err();
-        outcome
+        outcome?;
+        Ok(())
     }
 
-    // Counts a failure as a fault.
-    fn counted(&mut self, outcome: io::Result<()>) -> Result<(), DiskError>
+    // Counts a failure as a fault, and keeps its cause.
+    fn counted(&mut self, outcome: Result<(), FileFault>) -> Result<(), DiskError>
         ensures later { self.old.faults ≤ self.new.faults }
         ensures fault { IsErrOf result DiskError.DiskFault → Rose self.old.faults self.new.faults }
         ensures memory { IsErrOf result DiskError.Memory → ⊥ }
     {
-        if outcome.is_ok() {
-            return Ok(());
+        match outcome {
+            Ok(()) => Ok(()),
+            Err(why) => {
+                self.last_fault = Some(why);
+                self.faults = self.faults.saturating_add(1);
+                Err(DiskError::DiskFault)
+            }
         }
-        self.faults = self.faults.saturating_add(1);
-        Err(DiskError::DiskFault)
     }
 }
 
-impl<R: Files> Disk for FileDisk<'_, R> {
+impl<R: Files + Alloc> Disk for FileDisk<'_, R>
+where
+    R::File: HeldFile,
+{
     ghost use Rattle.rm_disk.specs.FileDisk.{file_view};
     ghost use Rattle.rm_disk.specs.Faults.{rose_later};
 
@@ -176,88 +189,4 @@ impl<R: Files> Disk for FileDisk<'_, R> {
 
     /// Does nothing: the file stays as it is.
     fn fall(&mut self, _image: u32) {}
-}
-
-// Opens the file of that name, or makes it where there is none.
-fn open_or_make<R: Files>(runtime: &R, name: &str) -> io::Result<R::File> {
-    let opened = OpenOptions::new()
-        .read(true)
-        .write(true)
-        .open(runtime, name);
-    let file = match opened {
-        Ok(file) => file,
-        Err(error) if error.kind() == ErrorKind::NotFound => return make(runtime, name),
-        Err(error) => return Err(error),
-    };
-    if file.metadata()?.len() != FILE_SIZE {
-        return Err(io::Error::from(ErrorKind::InvalidData));
-    }
-    Ok(file)
-}
-
-// Makes the file, and lets its size and its name last before anything is written, so that a sync of the bytes
-// alone serves.
-fn make<R: Files>(runtime: &R, name: &str) -> io::Result<R::File> {
-    let file = OpenOptions::new()
-        .read(true)
-        .write(true)
-        .create_new(true)
-        .open(runtime, name)?;
-    set_size(&file)?;
-    sync_whole(&file)?;
-    let folder = OpenOptions::new()
-        .read(true)
-        .open(runtime, folder_of(name))?;
-    sync_whole(&folder)?;
-    Ok(file)
-}
-
-// The folder in which the file of that name stands.
-fn folder_of(name: &str) -> &str {
-    match name.rsplit_once('/') {
-        Some(("", _)) => "/",
-        Some((folder, _)) => folder,
-        None => ".",
-    }
-}
-
-// Whether a call was interrupted, so that it has to be made again.
-fn was_interrupted(outcome: &io::Result<()>) -> bool {
-    match outcome {
-        Ok(()) => false,
-        Err(error) => error.kind() == ErrorKind::Interrupted,
-    }
-}
-
-fn sync_bytes<F: OpenFile>(file: &F) -> io::Result<()> {
-    let mut outcome = file.sync_data();
-    'again: for _ in 0..MOST_TRIES {
-        if !was_interrupted(&outcome) {
-            break;
-        }
-        outcome = file.sync_data();
-    }
-    outcome
-}
-
-fn sync_whole<F: OpenFile>(file: &F) -> io::Result<()> {
-    let mut outcome = file.sync_all();
-    'again: for _ in 0..MOST_TRIES {
-        if !was_interrupted(&outcome) {
-            break;
-        }
-        outcome = file.sync_all();
-    }
-    outcome
-}
-
-fn set_size<F: OpenFile>(file: &F) -> io::Result<()> {
-    let mut outcome = file.set_len(FILE_SIZE);
-    'again: for _ in 0..MOST_TRIES {
-        if !was_interrupted(&outcome) {
-            break;
-        }
-        outcome = file.set_len(FILE_SIZE);
-    }
-    outcome
 }

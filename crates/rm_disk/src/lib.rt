@@ -2,9 +2,9 @@
 //!
 //! The trait `Disk` says what a read gives, what a crash now may leave, and what a crash at some moment since
 //! a time may have left: between two syncs anything where bytes were written, after a sync what a read gives.
-//! Three disks are proved to keep it: `MemDisk`, whose calls fail by number and whose images are picked by
-//! number; `Fuse`, which cuts off the disk under it after so many writes and syncs; and `FileDisk`, which
-//! tells no bytes, since no proof says what a file holds.
+//! Four disks are proved to keep it: `MemDisk`, whose calls fail by number and whose images are picked by
+//! number; `Fuse`, which cuts off the disk under it after so many writes and syncs; `Window`, which reads ahead of
+//! the disk under it; and `FileDisk`, which tells no bytes, since no proof says what a file holds.
 //!
 //! It stands on `rm_types`, and `FileDisk` on the system's files.
 #![tactic(auto)]
@@ -14,15 +14,19 @@ mod device;
 mod fallen;
 mod file;
 mod fuse;
+mod held;
 mod memory;
 #[cfg(test)]
 mod recorded;
 #[cfg(test)]
 mod tests;
+mod window;
 
 pub use calls::Call;
 pub use device::{Disk, DiskError};
 pub use fallen::Fallen;
 pub use file::FileDisk;
 pub use fuse::Fuse;
+pub use held::{FileFault, HeldFile};
 pub use memory::MemDisk;
+pub use window::Window;

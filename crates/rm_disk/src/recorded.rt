@@ -1,13 +1,21 @@
 //! The system's files, with a record of the calls that a disk in a file makes of them.
-use std::alloc::Allocator;
+use crate::held::{FileFault, HeldFile};
+use std::alloc::{Alloc, Allocator};
 use std::cell::Cell;
 use std::fs::{Files, Metadata, OpenFile, OpenOptions};
 use std::io;
 use std::io::{ErrorKind, Read, Seek, SeekFrom, Write};
+use std::os::unix::fs::FileExt;
 
 /// What was asked of the files that were opened.
 #[derive(Drop)]
 pub struct Calls {
+    /// How many reads of a file were made.
+    pub reads: Cell<u32>,
+    /// How many bytes were written to files.
+    pub written: Cell<u64>,
+    /// How many bytes were written and how many whole syncs made when a file last got its name.
+    pub named_after: Cell<(u64, u32)>,
     /// How many syncs of a file's bytes were made.
     pub syncs: Cell<u32>,
     /// How many syncs of a whole file or folder were made.
@@ -19,6 +27,9 @@ pub struct Calls {
 impl Calls {
     pub fn new() -> Calls {
         Calls {
+            reads: Cell::new(0),
+            written: Cell::new(0),
+            named_after: Cell::new((0, 0)),
             syncs: Cell::new(0),
             whole_syncs: Cell::new(0),
             interruptions: Cell::new(0),
@@ -63,6 +74,33 @@ impl<F: Write + Drop> Write for RecordedFile<'_, F> {
 impl<F: Seek + Drop> Seek for RecordedFile<'_, F> {
     fn seek(&mut self, to: SeekFrom) -> io::Result<u64> {
         self.file.seek(to)
+    }
+}
+
+impl<F: FileExt + Drop> FileExt for RecordedFile<'_, F> {
+    fn read_at(&self, buf: &mut [u8], offset: u64) -> io::Result<usize> {
+        one_more(&self.calls.reads);
+        self.file.read_at(buf, offset)
+    }
+
+    fn write_at(&self, buf: &[u8], offset: u64) -> io::Result<usize> {
+        let written = &self.calls.written;
+        written.set(written.get().saturating_add(buf.len() as u64));
+        self.file.write_at(buf, offset)
+    }
+}
+
+impl<F: HeldFile + Drop> HeldFile for RecordedFile<'_, F> {
+    fn hold(&self) -> Result<(), FileFault> {
+        self.file.hold()
+    }
+}
+
+impl<R: Alloc> Alloc for Recorded<'_, R> {
+    type A = R::A;
+
+    fn alloc(&self) -> R::A {
+        self.files.alloc()
     }
 }
 
@@ -120,6 +158,10 @@ impl<'a, R: Files> Files for Recorded<'a, R> {
     }
 
     fn rename(&self, from: &str, to: &str) -> io::Result<()> {
+        let calls = self.calls;
+        calls
+            .named_after
+            .set((calls.written.get(), calls.whole_syncs.get()));
         self.files.rename(from, to)
     }
 

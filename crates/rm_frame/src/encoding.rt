@@ -6,27 +6,31 @@ ghost use Rattle.rm_types.specs.Ranges.{IsOperation, IsSubmission, IsText};
 use rm_types::{AppId, AttemptId, ContainerId, How, NoMemory, Op, Submission, Text, TextKind};
 use std::alloc::Global;
 
-/// Appends the frame of an operation. `NoMemory` leaves the bytes as they were. The parts of the
-/// operation must be in their ranges, and an attempt's master must be a container of that attempt.
-pub fn encode(op: &Op, out: &mut Vec<u8>) -> Result<(), NoMemory>
-    requires { IsOperation op.now }
-    ensures ok { OnOk result (out.new.items ≡ out.old.items ++ frame op.now) }
-    ensures err { OnErr result (out.new.items ≡ out.old.items) }
-{
-    let bytes = frame_of(*out.allocator(), op)?;
-    out.extend_from_slice(&bytes)?;
-    Ok(())
+/// Makes the frames of operations, one after another in one buffer, so that it takes memory only for a frame that is
+/// longer than all before it.
+#[derive(Drop)]
+pub struct Encoder {
+    buffer: Vec<u8>,
 }
 
-/// The frame of an operation, in a vector of its own: where memory fails half way, nothing has to be
-/// taken back.
-fn frame_of(alloc: Global, op: &Op) -> Result<Vec<u8>, NoMemory>
-    requires { IsOperation op.now }
-    ensures { IfOk result (λ bytes. bytes.items ≡ frame op.now) }
-{
-    let mut out = Vec::new(alloc);
-    put_op(&mut out, op)?;
-    Ok(out)
+impl Encoder {
+    /// An encoder that has made no frame. It takes no memory.
+    pub fn new(alloc: Global) -> Encoder {
+        Encoder {
+            buffer: Vec::new(alloc),
+        }
+    }
+
+    /// The frame of an operation. The parts of the operation must be in their ranges, and an attempt's master must
+    /// be a container of that attempt.
+    pub fn frame(&mut self, op: &Op) -> Result<&[u8], NoMemory>
+        requires { IsOperation op.now }
+        ensures { IfOk result (λ bytes. bytes.now ≡ frame op.now) }
+    {
+        self.buffer.clear();
+        put_op(&mut self.buffer, op)?;
+        Ok(self.buffer.as_slice())
+    }
 }
 
 fn put_op(out: &mut Vec<u8>, op: &Op) -> Result<(), NoMemory>

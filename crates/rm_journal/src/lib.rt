@@ -3,9 +3,9 @@
 //! `Journal::open` finds the records, `next` gives their payloads in order, and `append` adds one so that a
 //! crash at any moment leaves all payloads from before, and the new one whole or not at all. This is proved
 //! over every disk that keeps the trait `Disk`, anywhere on it. What bytes a journal is, and what it holds,
-//! is defined in `specs/Device.antt` of `rm_model`.
+//! is defined in `specs/Device.antt` of `rm_formats`.
 //!
-//! It stands on `rm_disk`, and on the definitions of `rm_model`.
+//! It stands on `rm_disk`, and on the definitions of `rm_formats`.
 #![tactic(auto)]
 
 mod fault;

@@ -3,9 +3,9 @@
 //! `Store::open` gives the operations that a disk holds and what they amount to, or says which one is at
 //! fault; `append` adds one, so that a crash at any moment leaves the operations from before, or these and
 //! the new one. Its contracts speak of operations alone: what bytes they are on a disk is `Holds`, in
-//! `specs/Device.antt` of `rm_model`.
+//! `specs/Device.antt` of `rm_formats`.
 //!
-//! It stands on `rm_journal`, `rm_frame` and `rm_tree`, and on the definitions of `rm_model`.
+//! It stands on `rm_disk`, `rm_journal`, `rm_frame` and `rm_tree`, and on the definitions of `rm_formats`.
 #![tactic(auto)]
 
 mod fault;

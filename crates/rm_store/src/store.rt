@@ -13,6 +13,7 @@ use crate::fault::StoreError;
 use crate::reading::{Read, read_all};
 use crate::writing::write_op;
 use rm_disk::{Disk, Fuse};
+use rm_frame::Encoder;
 use rm_journal::Journal;
 use rm_tree::Tree;
 use rm_types::{Items, Op};
@@ -24,7 +25,7 @@ use std::marker::Model;
 pub struct Store<D: Disk> {
     disk: Fuse<D>,
     journal: Journal,
-    frame: Vec<u8>,
+    encoder: Encoder,
     is_broken: bool,
 }
 
@@ -75,7 +76,7 @@ impl<D: Disk> Store<D> {
                 let store = Store {
                     disk,
                     journal,
-                    frame: Vec::new(alloc),
+                    encoder: Encoder::new(alloc),
                     is_broken: false,
                 };
                 Ok((store, tree, ops))
@@ -117,7 +118,7 @@ impl<D: Disk> Store<D> {
         if self.is_broken {
             return Err(StoreError::NeedsReopen);
         }
-        let outcome = write_op(&mut self.disk, &mut self.journal, &mut self.frame, op);
+        let outcome = write_op(&mut self.disk, &mut self.journal, &mut self.encoder, op);
         self.is_broken = breaks(&outcome);
         outcome
     }
@@ -137,7 +138,7 @@ impl<D: Disk> Store<D> {
         let Store {
             disk,
             journal: _,
-            frame: _,
+            encoder: _,
             is_broken: _,
         } = self;
         disk

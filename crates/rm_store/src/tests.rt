@@ -5,15 +5,27 @@ ghost use Rattle.rm_types.specs.Ranges.{IsOperation};
 ghost use Rattle.rm_store.specs.Store.{IsSound};
 
 use super::*;
-use rm_disk::{Disk, Fuse, MemDisk};
+use rm_disk::{Disk, FileDisk, Fuse, MemDisk, Window};
 use rm_frame::decode;
 use rm_types::{Items, Op};
 use std::alloc::Global;
+use std::fs;
 use std::test::Fail;
 
 const EPOCH: [u8; 13] = [1, 0, 0, 0, 1, 0, 0, 1, 72, 128, 67, 118, 15];
 
 const CUT: [u8; 5] = [1, 0, 0, 0, 1];
+
+const LONGER: [u8; 14] = [1, 0, 0, 0, 1, 0, 0, 1, 72, 128, 67, 118, 15, 0];
+
+// What may stand behind a record: a closed gate, an open one before no record, and a record of an Epoch.
+const END: [u8; 5] = [0, 0, 0, 0, 0];
+
+const NO_RECORD: [u8; 5] = [1, 255, 255, 255, 255];
+
+const EPOCH_AGAIN: [u8; 19] = [
+    1, 0, 0, 0, 13, 1, 0, 0, 0, 1, 0, 0, 1, 72, 128, 67, 118, 15, 0,
+];
 
 const APP: [u8; 47] = [
     2, 0, 0, 1, 72, 128, 67, 118, 15, 0, 0, 0, 1, 0, 1, b'u', 0, 12, b'r', b'o', b'o', b't', b'.',
@@ -62,32 +74,39 @@ fn zeros(alloc: Global, size: usize) -> Result<Fuse<MemDisk>, Fail> {
     disk_of(alloc, vec![in alloc; 0; size]?, &[])
 }
 
-/// Why a disk isn't opened, or how many operations it has.
-fn opened(alloc: Global, disk: Fuse<MemDisk>) -> Result<usize, StoreError> {
+/// What was found on a disk: how many operations, the epoch, the stamp and how many applications they amount to.
+type Found = (usize, u32, u64, usize);
+
+/// What a disk holds, or why it isn't opened.
+fn found<D: Disk + Drop>(alloc: Global, disk: Fuse<D>) -> Result<Found, StoreError> {
     match Store::open(alloc, disk) {
-        Ok((_store, _tree, ops)) => Ok(ops.len()),
+        Ok((_store, tree, ops)) => Ok((ops.len(), tree.next_epoch(), tree.stamp(), tree.len())),
         Err(refused) => Err(refused.why),
     }
 }
 
+/// Appends an Epoch and an App to what a disk holds.
+fn append_both<D: Disk>(alloc: Global, disk: Fuse<D>) -> (Result<(), StoreError>, Fuse<D>) {
+    match Store::open(alloc, disk) {
+        Ok((mut store, _tree, _ops)) => {
+            let outcome = append_two(alloc, &mut store);
+            (outcome, store.close())
+        }
+        Err(refused) => (Err(refused.why), refused.disk),
+    }
+}
+
+fn append_two<D: Disk>(alloc: Global, store: &mut Store<D>) -> Result<(), StoreError>
+    requires { IsSound D.view store.old }
+{
+    append(alloc, store, &EPOCH)?;
+    append(alloc, store, &APP)
+}
+
 #[test]
 fn operations_are_read_back_in_order(rt: HostRuntime) -> Result<(), Fail> {
-    let alloc = rt.alloc();
-    let Ok((mut store, tree, ops)) = Store::open(alloc, zeros(alloc, 200)?) else {
-        return Err(Fail::from("open"));
-    };
-    assert_eq!(rt; (tree.len(), ops.len()), (0, 0));
-    assert_eq!(rt; append(alloc, &mut store, &EPOCH), Ok(()));
-    assert_eq!(rt; append(alloc, &mut store, &APP), Ok(()));
-    let Ok((store, tree, ops)) = Store::open(alloc, store.close()) else {
-        return Err(Fail::from("open again"));
-    };
-    assert_eq!(rt; ops.len(), 2);
-    assert_eq!(rt;
-        (tree.next_epoch(), tree.stamp(), tree.len()),
-        (1, 1_410_901_177_871, 1)
-    );
-    let mut disk = store.close();
+    let (outcome, mut disk) = append_both(rt.alloc(), zeros(rt.alloc(), 200)?);
+    assert_eq!(rt; outcome, Ok(()));
     assert!(rt; disk.size() == 200);
     let mut first = [0; 20];
     assert_eq!(rt; disk.read(0, &mut first), Ok(()));
@@ -95,96 +114,67 @@ fn operations_are_read_back_in_order(rt: HostRuntime) -> Result<(), Fail> {
         1, 0, 0, 0, 13, 1, 0, 0, 0, 1, 0, 0, 1, 72, 128, 67, 118, 15, 1, 0,
     ];
     assert_eq!(rt; first, wanted);
+    assert_eq!(rt; found(rt.alloc(), disk), Ok((2, 1, 1_410_901_177_871, 1)));
     Ok(())
+}
+
+#[test]
+fn a_store_is_kept_in_a_file(rt: HostRuntime) -> Result<(), Fail> {
+    let (alloc, name) = (rt.alloc(), "rm_store_test.store");
+    let _ = fs::remove_file(&rt, name);
+    let file = Fuse::new(alloc, Window::new(alloc, FileDisk::new(&rt, name)));
+    assert_eq!(rt; append_both(alloc, file).0, Ok(()));
+    let file = Fuse::new(alloc, Window::new(alloc, FileDisk::new(&rt, name)));
+    assert_eq!(rt; found(alloc, file), Ok((2, 1, 1_410_901_177_871, 1)));
+    fs::remove_file(&rt, name)?;
+    Ok(())
+}
+
+/// Why a disk isn't opened that has the record of this payload, and behind it these bytes.
+fn fault_behind(alloc: Global, payload: &[u8], rest: &[u8]) -> Result<Option<StoreError>, Fail> {
+    let mut bytes = Vec::new(alloc);
+    put_record(&mut bytes, payload)?;
+    bytes.extend_from_slice(rest)?;
+    Ok(found(alloc, disk_of(alloc, bytes, &[])?).err())
 }
 
 #[test]
 fn the_first_fault_is_told(rt: HostRuntime) -> Result<(), Fail> {
-    let alloc = rt.alloc();
-    let mut longer = Vec::from_slice(alloc, &EPOCH)?;
-    longer.push(0)?;
-    let stray = StoreError::Stray {
+    let first = StoreError::Stray {
         number: 0,
         offset: 0,
     };
-    let cases = [
-        (EPOCH.as_slice(), [0, 0, 0, 0, 0], Ok(1)),
-        (REMOVE.as_slice(), [0, 0, 0, 0, 0], Err(stray)),
-        (
-            REMOVE.as_slice(),
-            [1, 255, 255, 255, 255],
-            Err(StoreError::Damaged { offset: 18 }),
-        ),
-        (
-            longer.as_slice(),
-            [0, 0, 0, 0, 0],
-            Err(StoreError::Damaged { offset: 0 }),
-        ),
-        (
-            CUT.as_slice(),
-            [0, 0, 0, 0, 0],
-            Err(StoreError::Damaged { offset: 0 }),
-        ),
-        (
-            EPOCH.as_slice(),
-            [1, 255, 255, 255, 255],
-            Err(StoreError::Damaged { offset: 18 }),
-        ),
-    ];
-    for (payload, rest, wanted) in cases {
-        let mut bytes = Vec::new(alloc);
-        put_record(&mut bytes, payload)?;
-        bytes.extend_from_slice(&rest)?;
-        assert_eq!(rt; opened(alloc, disk_of(alloc, bytes, &[])?), wanted);
-    }
-    let mut twice = Vec::new(alloc);
-    put_record(&mut twice, &EPOCH)?;
-    put_record(&mut twice, &EPOCH)?;
-    twice.push(0)?;
     let second = StoreError::Stray {
         number: 1,
         offset: 18,
     };
-    assert_eq!(rt; opened(alloc, disk_of(alloc, twice, &[])?), Err(second));
-    Ok(())
-}
-
-#[test]
-fn an_operation_needs_room_for_the_next_gate(rt: HostRuntime) -> Result<(), Fail> {
-    let alloc = rt.alloc();
-    let full = StoreError::Full {
-        needed: 19,
-        room: 18,
-    };
-    for (size, wanted) in [(18, Err(full)), (19, Ok(()))] {
-        let Ok((mut store, _tree, _ops)) = Store::open(alloc, zeros(alloc, size)?) else {
-            return Err(Fail::from("open"));
-        };
-        assert_eq!(rt; append(alloc, &mut store, &EPOCH), wanted);
+    let at_0 = StoreError::Damaged { offset: 0 };
+    let at_18 = StoreError::Damaged { offset: 18 };
+    let cases = [
+        (REMOVE.as_slice(), END.as_slice(), first),
+        (REMOVE.as_slice(), NO_RECORD.as_slice(), at_18),
+        (LONGER.as_slice(), END.as_slice(), at_0),
+        (CUT.as_slice(), END.as_slice(), at_0),
+        (EPOCH.as_slice(), NO_RECORD.as_slice(), at_18),
+        (EPOCH.as_slice(), EPOCH_AGAIN.as_slice(), second),
+    ];
+    for (payload, rest, wanted) in cases {
+        let told = fault_behind(rt.alloc(), payload, rest)?;
+        assert_eq!(rt; told, Some(wanted));
     }
     Ok(())
 }
 
-#[test]
-fn a_crash_at_each_call_leaves_all_of_an_operation_or_nothing(rt: HostRuntime) -> Result<(), Fail> {
-    let alloc = rt.alloc();
-    for calls in 0..5u32 {
-        for image in 0..3u32 {
-            let mut disk = zeros(alloc, 100)?;
-            // Opening syncs once.
-            assert!(rt; disk.arm(1 + calls).is_ok());
-            let Ok((mut store, _tree, _ops)) = Store::open(alloc, disk) else {
-                return Err(Fail::from("open"));
-            };
-            assert_eq!(rt; append(alloc, &mut store, &EPOCH).is_ok(), calls == 4);
-            assert_eq!(rt; store.fuse().blown(), calls < 4);
-            let mut disk = store.close();
-            disk.fall(image);
-            let wanted = usize::from(calls == 4 || calls == 3 && image == 1);
-            assert_eq!(rt; opened(alloc, disk), Ok(wanted), "{calls} {image}");
-        }
-    }
-    Ok(())
+/// The answers to two appends of an Epoch, and whether the fuse is blown.
+fn append_twice<D: Disk>(
+    alloc: Global,
+    store: &mut Store<D>,
+) -> (Result<(), StoreError>, Result<(), StoreError>, bool)
+    requires { IsSound D.view store.old }
+{
+    let first = append(alloc, store, &EPOCH);
+    let second = append(alloc, store, &EPOCH);
+    (first, second, store.fuse().blown())
 }
 
 #[test]
@@ -196,40 +186,25 @@ fn a_store_that_failed_has_to_be_opened_again(rt: HostRuntime) -> Result<(), Fai
     let Ok((mut store, _tree, _ops)) = Store::open(alloc, disk) else {
         return Err(Fail::from("open"));
     };
+    let failed = Err(StoreError::DiskFault);
+    let wanted = (failed, Err(StoreError::NeedsReopen), false);
+    assert_eq!(rt; append_twice(alloc, &mut store), wanted);
     assert_eq!(rt;
-        append(alloc, &mut store, &EPOCH),
-        Err(StoreError::DiskFault)
+        found(alloc, store.close()),
+        Ok((1, 1, 1_410_901_177_871, 0))
     );
-    assert_eq!(rt;
-        append(alloc, &mut store, &EPOCH),
-        Err(StoreError::NeedsReopen)
-    );
-    let Ok((mut store, _tree, ops)) = Store::open(alloc, store.close()) else {
-        return Err(Fail::from("open again"));
-    };
-    assert_eq!(rt; ops.len(), 1);
-    assert_eq!(rt; append(alloc, &mut store, &APP), Ok(()));
     Ok(())
 }
 
 #[test]
-fn ten_thousand_operations_are_opened(rt: HostRuntime) -> Result<(), Fail> {
-    let alloc = rt.alloc();
-    let mut bytes = Vec::new(alloc);
-    for number in 1..10_001u32 {
-        let mut payload = Vec::from_slice(alloc, &[1])?;
-        payload.extend_from_slice(&number.to_be_bytes())?;
-        payload.extend_from_slice(&u64::from(number).to_be_bytes())?;
-        put_record(&mut bytes, &payload)?;
-    }
-    bytes.push(0)?;
-    let Ok((_store, tree, ops)) = Store::open(alloc, disk_of(alloc, bytes, &[])?) else {
-        return Err(Fail::from("open"));
+fn an_operation_needs_room_for_the_next_gate(rt: HostRuntime) -> Result<(), Fail> {
+    let full = StoreError::Full {
+        needed: 53,
+        room: 52,
     };
-    assert_eq!(rt; ops.len(), 10_000);
-    assert_eq!(rt;
-        (tree.next_epoch(), tree.stamp(), tree.applied()),
-        (10_000, 10_000, 10_000)
-    );
+    for (size, wanted) in [(70, Err(full)), (71, Ok(()))] {
+        let disk = zeros(rt.alloc(), size)?;
+        assert_eq!(rt; append_both(rt.alloc(), disk).0, wanted);
+    }
     Ok(())
 }

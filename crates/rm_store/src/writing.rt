@@ -8,15 +8,15 @@ ghost use Rattle.rm_store.specs.Store.{IsWhole, Has, LeavesOps, AddsOp, needed_f
 
 use crate::fault::StoreError;
 use rm_disk::Disk;
-use rm_frame::encode;
+use rm_frame::Encoder;
 use rm_journal::Journal;
 use rm_types::Op;
 
-/// Writes an operation behind those that a disk holds. The buffer is for its frame.
+/// Writes an operation behind those that a disk holds.
 pub fn write_op<D: Disk>(
     disk: &mut D,
     journal: &mut Journal,
-    frame: &mut Vec<u8>,
+    encoder: &mut Encoder,
     op: &Op,
 ) -> Result<(), StoreError>
     requires whole { IsWhole (D.view disk.old) journal.old }
@@ -37,8 +37,7 @@ pub fn write_op<D: Disk>(
     ensures only_full { (needed room : ℕ) → result ≡ Err (StoreError.Full needed room) → (room < needed) × (needed ≡ needed_for op.now) × ((ops : List AnyOp) → Has (D.view disk.old) ops → room ≡ room_behind (D.view disk.old).size ops) }
     ensures fault { IsErrOf result StoreError.DiskFault → D.faulted disk.old disk.new }
 {
-    frame.clear();
-    encode(op, frame)?;
-    journal.append(disk, frame)?;
+    let bytes = encoder.frame(op)?;
+    journal.append(disk, bytes)?;
     Ok(())
 }

@@ -1,4 +1,4 @@
-use Rattle.std.proofs.Common.{◌≡◌, ℕ, ◌+◌, Result, Err, ◌++◌, length, inl, inr, sym, ap, subst, ◌∙◌, arith}
+use Rattle.std.proofs.Common.{◌≡◌, ℕ, ◌+◌, Result, Err, length, inl, inr, sym, ap, subst, ◌∙◌, arith}
 use Rattle.std.proofs.lemmas.Bool.{cases_lt}
 use Rattle.std.proofs.lemmas.Result.{err_from_is_err_and}
 use Rattle.rm_formats.specs.Frames.{frame}
@@ -24,8 +24,8 @@ full_there (JournalError.TheVariants.Full n r) needed room e =
 full_there JournalError.TheVariants.NeedsReopen needed room e = cc
 full_there JournalError.TheVariants.Memory needed room e = cc
 
-pub returns-in_err-encode-clause-any_moment : goal.returns-in_err-encode-clause-any_moment
-returns-in_err-encode-clause-any_moment g c = λ ops has fits.
+pub returns-in_err-bytes-clause-any_moment : goal.returns-in_err-bytes-clause-any_moment
+returns-in_err-bytes-clause-any_moment g c = λ ops has fits.
     still_leaves (g.D.Disk.view c.args.disk.now) c.args.journal.now ops c.args.op.now c.requires.whole c.requires.unbroken
     (λ image now. g.met.D.Disk.image_size c.args.disk.now image now) (λ bytes told. g.met.D.Disk.as_it_reads c.args.disk.now bytes told) has
 
@@ -34,7 +34,7 @@ returns-in_err-append-clause-any_moment g c = λ ops has fits.
     let v = g.D.Disk.view c.args.disk.now in
     let v' = g.D.Disk.view c.append.new.disk in
     let j = c.args.journal.now in
-    let payload : c.deref.result.now ≡ frame c.args.op.now = c.deref.ensures.value ∙ c.in_ok-encode.ensures.ok ∙ ap (λ l. l ++ frame c.args.op.now) c.clear.ensures.items in
+    let payload : c.in_ok-bytes.bytes.now ≡ frame c.args.op.now = c.in_ok-bytes.ensures in
     elim (cases_lt 0 v.size) [
       | inl some ↦
           append_leaves v v' j ops c.args.op.now c.requires.whole some (λ bytes told. g.met.D.Disk.image_size c.args.disk.now bytes (g.met.D.Disk.as_it_reads c.args.disk.now bytes told)) c.requires.op fits has
@@ -53,7 +53,7 @@ returns-clause-any_moment g c = λ ops has fits.
     let v = g.D.Disk.view c.args.disk.now in
     let v' = g.D.Disk.view c.append.new.disk in
     let j = c.args.journal.now in
-    let payload : c.deref.result.now ≡ frame c.args.op.now = c.deref.ensures.value ∙ c.in_ok-encode.ensures.ok ∙ ap (λ l. l ++ frame c.args.op.now) c.clear.ensures.items in
+    let payload : c.in_ok-bytes.bytes.now ≡ frame c.args.op.now = c.in_ok-bytes.ensures in
     elim (cases_lt 0 v.size) [
       | inl some ↦
           append_leaves v v' j ops c.args.op.now c.requires.whole some (λ bytes told. g.met.D.Disk.image_size c.args.disk.now bytes (g.met.D.Disk.as_it_reads c.args.disk.now bytes told)) c.requires.op fits has
@@ -70,7 +70,7 @@ returns-clause-added g c = λ ops has fits.
     let v = g.D.Disk.view c.args.disk.now in
     let v' = g.D.Disk.view c.append.new.disk in
     let j = c.args.journal.now in
-    let payload : c.deref.result.now ≡ frame c.args.op.now = c.deref.ensures.value ∙ c.in_ok-encode.ensures.ok ∙ ap (λ l. l ++ frame c.args.op.now) c.clear.ensures.items in
+    let payload : c.in_ok-bytes.bytes.now ≡ frame c.args.op.now = c.in_ok-bytes.ensures in
     elim (cases_lt 0 v.size) [
       | inl some ↦
           append_adds v v' j ops c.args.op.now c.requires.whole some (λ bytes told. g.met.D.Disk.image_size c.args.disk.now bytes (g.met.D.Disk.as_it_reads c.args.disk.now bytes told)) c.requires.op fits has
@@ -86,21 +86,21 @@ pub returns-in_err-append-clause-full : goal.returns-in_err-append-clause-full
 returns-in_err-append-clause-full g c = λ ops has small.
     let v = g.D.Disk.view c.args.disk.now in
     let j = c.args.journal.now in
-    let payload : c.deref.result.now ≡ frame c.args.op.now = c.deref.ensures.value ∙ c.in_ok-encode.ensures.ok ∙ ap (λ l. l ++ frame c.args.op.now) c.clear.ensures.items in
+    let payload : c.in_ok-bytes.bytes.now ≡ frame c.args.op.now = c.in_ok-bytes.ensures in
     let room = room_is v j ops c.requires.whole c.requires.unbroken (λ bytes told. g.met.D.Disk.image_size c.args.disk.now bytes (g.met.D.Disk.as_it_reads c.args.disk.now bytes told)) has in
     let long = ap length payload in
     let full = (c.append.ensures.full c.requires.unbroken).1 (omega (arith, small, room, long)) in
     let p = err_from_is_err_and c.from_residual-in_err-append.result c.from_residual-in_err-append.ensures.1 in
     let was = c.in_err-append.was in
     let error = the_error (sym was ∙ full) in
-    let needed : length c.deref.result.now + 6 ≡ needed_for c.args.op.now = omega (arith, long) in
+    let needed : length c.in_ok-bytes.bytes.now + 6 ≡ needed_for c.args.op.now = omega (arith, long) in
     inl (p.1 ∙ ap (λ (e : StoreError.StoreError). Err e) (p.2 ∙ ap of_journal error ∙ (λ i. StoreError.TheVariants.Full (needed i) (room i))))
 
 pub returns-in_err-append-clause-only_full : goal.returns-in_err-append-clause-only_full
 returns-in_err-append-clause-only_full g c = λ needed room is.
     let v = g.D.Disk.view c.args.disk.now in
     let j = c.args.journal.now in
-    let payload : c.deref.result.now ≡ frame c.args.op.now = c.deref.ensures.value ∙ c.in_ok-encode.ensures.ok ∙ ap (λ l. l ++ frame c.args.op.now) c.clear.ensures.items in
+    let payload : c.in_ok-bytes.bytes.now ≡ frame c.args.op.now = c.in_ok-bytes.ensures in
     let long = ap length payload in
     let p = err_from_is_err_and c.from_residual-in_err-append.result c.from_residual-in_err-append.ensures.1 in
     let was = c.in_err-append.was in
@@ -116,7 +116,7 @@ pub returns-clause-full : goal.returns-clause-full
 returns-clause-full g c = λ ops has small.
     let v = g.D.Disk.view c.args.disk.now in
     let j = c.args.journal.now in
-    let payload : c.deref.result.now ≡ frame c.args.op.now = c.deref.ensures.value ∙ c.in_ok-encode.ensures.ok ∙ ap (λ l. l ++ frame c.args.op.now) c.clear.ensures.items in
+    let payload : c.in_ok-bytes.bytes.now ≡ frame c.args.op.now = c.in_ok-bytes.ensures in
     let room = room_is v j ops c.requires.whole c.requires.unbroken (λ bytes told. g.met.D.Disk.image_size c.args.disk.now bytes (g.met.D.Disk.as_it_reads c.args.disk.now bytes told)) has in
     let long = ap length payload in
     let full = (c.append.ensures.full c.requires.unbroken).1 (omega (arith, small, room, long)) in

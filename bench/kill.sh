@@ -1,0 +1,71 @@
+#!/bin/bash
+# Kills a process that appends numbered operations to a store in a file, at a random moment, and looks at what it left:
+#
+#   bench/kill.sh [KILLS] [FOLDER]      1000 kills, in a new folder below the current one, if nothing is said
+#
+# The process tells each number on its standard output as soon as its append was acknowledged, and goes on from what the
+# last one left. After each kill the store is opened: its operations have to be those of the numbers from 1 on, in order, up
+# to the last number that was told, or to the one after it. Every twentieth process finds no file, and so may be killed while
+# it makes one. The last line counts what was lost; the status is 0 where that is nothing.
+#
+# It builds crates/rm_durable by `rt run`, and needs nothing else. A kill ends a process and not the system: what a loss of
+# power leaves is not tried here.
+set -euo pipefail
+
+here=$(cd "$(dirname "$0")/.." && pwd)
+kills=${1:-1000}
+folder=$(mktemp -d "${2:-$PWD}/kill.XXXXXX")
+program=$here/crates/rm_durable/out/rm_durable
+trap 'rm -rf "$folder"' EXIT
+
+(cd "$here/crates/rm_durable" && rt run > /dev/null 2>&1) || { echo "rm_durable was not built" >&2; exit 1; }
+
+file=$folder/store
+told=0      # the last number that was told, of this file
+all=0       # how many were told, of all files
+more=0      # how often the store had one more than was told
+unmade=0    # how often no file was there yet
+silent=0    # how often nothing was told by the process that was killed
+lost=0
+wrong=0
+for ((kill = 0; kill < kills; kill++)); do
+  longest=60000 # microseconds
+  if ((kill % 20 == 0)); then
+    rm -f "$file" "$file.new"
+    told=0
+    longest=15000
+  fi
+  "$program" number "$file" > "$folder/told" &
+  process=$!
+  sleep "$(printf '0.%06d' $((RANDOM * longest / 32768)))"
+  kill -9 "$process" 2> /dev/null || true
+  wait "$process" 2> /dev/null || true
+  [ -e "$file" ] || unmade=$((unmade + 1))
+  last=
+  # (a line that the kill cut off has no end, and was not told)
+  while read -r number; do last=$number; done < "$folder/told"
+  if [ -n "$last" ]; then
+    all=$((all + last - told))
+    told=$last
+  else
+    silent=$((silent + 1))
+  fi
+  if ! found=$("$program" count "$file"); then
+    wrong=$((wrong + 1))
+    echo "kill $kill: the store is not what was appended" >&2
+    continue
+  fi
+  if ((found < told)); then
+    lost=$((lost + told - found))
+    echo "kill $kill: $told were told, and $found are there" >&2
+  elif ((found == told + 1)); then
+    more=$((more + 1))
+  elif ((found > told)); then
+    wrong=$((wrong + 1))
+    echo "kill $kill: $told were told, and $found are there" >&2
+  fi
+  told=$found
+done
+echo "$kills kills: $all operations told, $more times one more was there, $silent processes told nothing, $unmade left no file"
+echo "$lost lost, $wrong stores wrong"
+((lost == 0 && wrong == 0))

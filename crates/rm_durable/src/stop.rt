@@ -1,0 +1,37 @@
+use rm_store::StoreError;
+use rm_types::NoMemory;
+use std::alloc::{AllocError, AllocFailed};
+use std::io;
+
+/// That the program gave up: memory, the clock or the output failed, or the store did, which is told.
+pub struct Stop;
+
+impl From<io::Error> for Stop {
+    fn from(_error: io::Error) -> Stop {
+        Stop
+    }
+}
+
+impl From<NoMemory> for Stop {
+    fn from(_error: NoMemory) -> Stop {
+        Stop
+    }
+}
+
+impl From<AllocError> for Stop {
+    fn from(_error: AllocError) -> Stop {
+        Stop
+    }
+}
+
+impl<T: Drop> From<AllocFailed<T>> for Stop {
+    fn from(_error: AllocFailed<T>) -> Stop {
+        Stop
+    }
+}
+
+impl From<StoreError> for Stop {
+    fn from(_error: StoreError) -> Stop {
+        Stop
+    }
+}
