@@ -1,0 +1,106 @@
+#!/bin/bash
+# Measures what a message costs at 10,000 known applications and at 100, and what the beginning of a life costs for each known
+# application, and prints the times and their ratios:
+#
+#   bench/manager.sh [FOLDER]      in a new folder below the current one, if none is said
+#
+# Each figure is a difference: of a script that makes so many applications known and then has 60,000 messages of a kind, and of
+# the same script without them; or of a script with 21 lives after them, and of one with a single one. So it counts all that the
+# program does for a message: it reads its line, serves it, and writes its line of the page. The time is the processor's,
+# outside the system, and the least of ROUNDS in the environment, in turn over all scripts.
+#
+# It builds crates/rm_main by `rt run`, and needs nothing else.
+set -euo pipefail
+
+rounds=${ROUNDS:-7}
+messages=60000
+lives=20
+here=$(cd "$(dirname "$0")/.." && pwd)
+folder=$(mktemp -d "${1:-$PWD}/manager.XXXXXX")
+trap 'rm -rf "$folder"' EXIT
+program=$here/crates/rm_main/out/rm_main
+stamp=1410901177871
+kinds=(new report unknown repeated refused)
+TIMEFORMAT=%U
+
+(cd "$here/crates/rm_main" && rt run > /dev/null 2>&1) || { echo "rm_main was not built" >&2; exit 1; }
+
+# The line of a client that submits the application of a number to a queue.
+submission() { printf 'client alice submit application_%s_%04d queue=%s name=job memory=1024 vcores=1 attempts=0\n' "$stamp" "$1" "$2"; }
+
+# A script's beginning: so many applications are known, and one more id was given.
+known() {
+  echo "start $stamp"
+  local number
+  for ((number = 1; number <= $1; number++)); do
+    echo "client alice new"
+    submission "$number" root.default
+  done
+  echo "client alice new"
+  echo settle
+}
+
+# A line of a kind, where so many applications are known.
+line() {
+  case $1 in
+    new) echo "client alice new" ;;
+    report) printf 'client alice report application_%s_%04d\n' "$stamp" "$2" ;;
+    unknown) printf 'client alice report application_%s_%04d\n' "$stamp" 99999 ;;
+    repeated) submission "$2" root.default ;;
+    refused) submission "$(($2 + 1))" root.nowhere ;;
+  esac
+}
+
+# A script of so many known applications, and behind them messages of a kind, or lives, or nothing.
+script() {
+  known "$2"
+  case $1 in
+    none) ;;
+    lives)
+      local life
+      for ((life = 1; life <= lives; life++)); do printf 'crash 0 0\nstart %s\nsettle\n' "$stamp"; done
+      ;;
+    *)
+      # (head ends the stream, which yes then can't write to)
+      yes "$(line "$1" "$2")" 2> /dev/null | head -n "$messages" || true
+      echo settle
+      ;;
+  esac
+}
+
+# Keeps the least time of a script, in seconds.
+measure() {
+  local time
+  time=$({ time "$program" plain "$folder/cluster.json" "$folder/$1" > "$folder/page"; } 2>&1)
+  echo "$time" >> "$folder/times.$1"
+}
+
+least() { sort -g "$folder/times.$1" | head -n 1; }
+
+# The nanoseconds of each of so many steps, by which a script takes longer than that without them.
+each() { echo "$(least "$1.$2") $(least "none.$2") $3" | awk '{printf "%.0f", ($1 - $2) * 1e9 / $3}'; }
+
+ratio() { echo "$1 $2" | awk '{printf "%.2f", $1 / ($2 > 0 ? $2 : 1)}'; }
+
+echo '{ "max_apps": 100000, "max_completed": 10000 }' > "$folder/cluster.json"
+sizes=(100 1000 10000)
+for size in "${sizes[@]}"; do
+  for kind in none lives "${kinds[@]}"; do script "$kind" "$size" > "$folder/$kind.$size"; done
+done
+for ((round = 0; round < rounds; round++)); do
+  for size in "${sizes[@]}"; do
+    for kind in none lives "${kinds[@]}"; do measure "$kind.$size"; done
+  done
+done
+
+echo "| message | ns at 100 known applications | ns at 10,000 | ratio |"
+echo "|---|---|---|---|"
+for kind in "${kinds[@]}"; do
+  few=$(each "$kind" 100 "$messages")
+  many=$(each "$kind" 10000 "$messages")
+  echo "| $kind | $few | $many | $(ratio "$many" "$few") |"
+done
+echo
+few=$(each lives 1000 $((lives * 1000)))
+many=$(each lives 10000 $((lives * 10000)))
+echo "A life that begins over 1,000 known applications takes $few ns for each of them, and one over 10,000 takes $many ns: $(ratio "$many" "$few")."
