@@ -108,11 +108,7 @@ fn ask_by_scan(rt: HostRuntime, settings: &Settings) -> Result<(u64, u64), Stop>
 }
 
 /// The time of a question to the tree of these settings, and of one by a scan.
-fn times_with(
-    rt: HostRuntime,
-    settings: &Settings,
-    tree: &QueueTree,
-) -> Result<(u64, u64), Stop> {
+fn times_with(rt: HostRuntime, settings: &Settings, tree: &QueueTree) -> Result<(u64, u64), Stop> {
     let (asked, by_tree) = ask(rt, tree)?;
     let (scanned, by_scan) = ask_by_scan(rt, settings)?;
     println!(rt;

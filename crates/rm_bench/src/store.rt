@@ -37,11 +37,7 @@ fn put_records(rt: HostRuntime, bytes: &mut Vec<u8>, count: u32) -> Result<(), S
 fn disk_of(rt: HostRuntime, count: u32) -> Result<MemDisk, Stop> {
     let mut bytes = Vec::new(rt.alloc());
     put_records(rt, &mut bytes, count)?;
-    Ok(MemDisk::of(
-        rt.alloc(),
-        Items::from_vec(bytes),
-        Items::new(rt.alloc()),
-    )?)
+    Ok(MemDisk::of(rt.alloc(), Items::from_vec(bytes), Items::new(rt.alloc()))?)
 }
 
 /// The time of each operation when a store is opened.
