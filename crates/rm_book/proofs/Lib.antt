@@ -6,6 +6,8 @@ pub mod Lists
 pub mod Nodes
 pub mod Numbered
 pub mod Rows
+pub mod Slots
+pub mod Sorted
 pub mod Splits
 pub mod Viewed
 pub mod Taken

@@ -1,5 +1,5 @@
 -- The book after an absorption is a book.
-use Rattle.std.proofs.Common.{◌≡◌, ℕ, ◌+◌, ◌<◌, Bool, true, false, not, ◌||◌, cond, List, [], ◌∷◌, ◌++◌, length, map, filter, take, drop, get_or, set, Some, refl, sym, ◌∙◌, ap, subst, append_assoc, append-nil, arith}
+use Rattle.std.proofs.Common.{◌≡◌, ℕ, ◌+◌, ◌<◌, Bool, true, false, not, cond, List, [], ◌∷◌, ◌++◌, length, map, filter, take, drop, get_or, set, refl, sym, ◌∙◌, ap, subst, append_assoc, append-nil, arith}
 use Rattle.std.specs.List.{list_any, sum_by}
 use Rattle.std.specs.Str.{bytes_eq}
 use Rattle.std.proofs.lemmas.Bool.{or_parts, or_from}
@@ -18,7 +18,7 @@ use Rattle.rm_book.proofs.Asked.{whole}
 use Rattle.rm_book.proofs.Changes.{book_left}
 use Rattle.rm_book.proofs.Ids.{container_back}
 use Rattle.rm_book.proofs.Lists.{any_filter}
-use Rattle.rm_book.proofs.Nodes.{AllFit, capability_in-with_capability, fit_set, same_text}
+use Rattle.rm_book.proofs.Nodes.{AllFit, capability_in-with_capability, same_text}
 use Rattle.rm_book.proofs.Rows.{apart_push, sum_joined, told_push}
 
 -- the row of a container that was taken

@@ -9,16 +9,16 @@ use Rattle.rm_types.specs.declared.resources.Resource.{Resource}
 use Rattle.rm_types.specs.Ids.{is_attempt}
 use Rattle.rm_types.specs.Lists.{is_nil}
 use Rattle.rm_types.specs.Passes.{by_priority}
-use Rattle.rm_book.specs.declared.lines.AttemptAsks.{AttemptAsks}
 use Rattle.rm_book.specs.AskTables.{AskNow, AsksOf, asks_of, asks_set, asks_granted, granted_in, is_for, one_less, renewed, some_asks, with_asks_of, without_asks_of}
-use Rattle.rm_book.specs.AskLines.{AreLines, IsAskTable, ask_of, asks_in, asks_of_entry, by_order, in_line, is_line_for, lines_in, lines_set, lines_granted, with_lines}
+use Rattle.rm_book.specs.AskLines.{AttemptAsks, AreLines, IsAskTable, ask_of, asks_in, asks_of_entry, by_order, in_line, is_line_for, lines_in, lines_set, lines_granted, order_of, with_lines}
 use Rattle.rm_book.proofs.Entries.{Changed, lawful_lines}
 use Rattle.rm_book.proofs.Lists.{any_view, filter_view, map_view}
-use Rattle.rm_book.proofs.Numbered.{any_by_order, placed_last, by_order_changed, by_order_filter, kept_in_order}
+use Rattle.rm_book.proofs.Numbered.{placed_last, by_order_changed, by_order_filter, kept_in_order}
+use Rattle.rm_book.proofs.Sorted.{any_sorted}
 
 -- an ask of a priority and size is one of a line of them
 pub any_same : (priority : ℕ) (size : Resource) (lines : List AskLine) → list_any (is_line_for priority size) lines ≡ list_any (is_for priority size) (asks_in lines)
-any_same priority size lines = sym (any_by_order (is_line_for priority size) lines) ∙ any_view ask_of (is_for priority size) (by_order lines)
+any_same priority size lines = sym (any_sorted order_of (is_line_for priority size) lines) ∙ any_view ask_of (is_for priority size) (by_order lines)
 
 -- asks that go, and asks that change
 asks_filter : (p : Ask → Bool) (lines : List AskLine) → asks_in (filter (λ line. p line.ask) lines) ≡ filter p (asks_in lines)

@@ -8,7 +8,11 @@ use Rattle.rm_types.specs.declared.ids.AttemptId.{AttemptId}
 use Rattle.rm_types.specs.declared.resources.Resource.{Resource}
 use Rattle.rm_types.specs.Ids.{is_attempt}
 use Rattle.rm_book.specs.AskTables.{AsksOf, is_for, renewed, one_less}
-use Rattle.rm_book.specs.declared.lines.AttemptAsks.{AttemptAsks}
+
+-- an attempt, and the lines of its asks
+pub record AttemptAsks : Type 0 where
+  pub attempt : AttemptId
+  pub lines : List AskLine
 
 -- the lines of an attempt: the first list that is its own
 abbrev pub lines_in : List AttemptAsks → AttemptId → List AskLine
@@ -52,15 +56,24 @@ lines_set ask order lines =
 abbrev pub lines_granted : ℕ → Resource → List AskLine → List AskLine
 lines_granted priority size lines = filter (λ line. nat_lt 0 line.ask.count) (map (in_line (one_less priority size)) lines)
 
--- lines by their numbers with one more at its place
-abbrev pub put_by_order : AskLine → List AskLine → List AskLine
-put_by_order line [] = line ∷ []
-put_by_order line (other ∷ lines) = if nat_lt other.order line.order then other ∷ put_by_order line lines else line ∷ other ∷ lines
+module _ {X : Type 0} (number : X → ℕ) where
+  -- a list by its numbers with one more at its place
+  abbrev pub put_by : X → List X → List X
+  put_by x [] = x ∷ []
+  put_by x (y ∷ ys) = if nat_lt (number y) (number x) then y ∷ put_by x ys else x ∷ y ∷ ys
+
+  -- a list by its numbers
+  abbrev pub sorted_by : List X → List X
+  sorted_by [] = []
+  sorted_by (x ∷ xs) = put_by x (sorted_by xs)
+
+-- the number of a line's first asking
+abbrev pub order_of : AskLine → ℕ
+order_of line = line.order
 
 -- lines by their numbers
 abbrev pub by_order : List AskLine → List AskLine
-by_order [] = []
-by_order (line ∷ lines) = put_by_order line (by_order lines)
+by_order lines = sorted_by order_of lines
 
 -- what lines ask for, in the order of first asking
 abbrev pub asks_in : List AskLine → List Ask

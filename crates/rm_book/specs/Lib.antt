@@ -1,3 +1,4 @@
+pub mod AskEntries
 pub mod AskLines
 pub mod AskTables
 pub mod Books

@@ -4,7 +4,7 @@ ghost use Rattle.std.specs.Option.{option_copied};
 ghost use Rattle.rm_types.specs.Passes.{by_priority};
 ghost use Rattle.rm_book.specs.AskTables.{AskNow, asks_of, asks_set, asks_granted, granted_in, is_for, some_asks, with_asks_of, without_asks_of};
 
-use crate::lines::{AttemptAsks, grant_entry, place_of_attempt, set_entry};
+use crate::attempts::Attempts;
 use rm_types::{Ask, AskLine, AttemptId, Items, NoMemory, Resource};
 use std::alloc::Global;
 use std::marker::Model;
@@ -13,7 +13,7 @@ use std::marker::Model;
 /// first asking.
 #[derive(Debug, Drop)]
 pub struct Asks {
-    entries: Vec<AttemptAsks>,
+    attempts: Attempts,
     asked: u64,
 }
 
@@ -24,9 +24,9 @@ impl Model for Asks {
 
     ghost Value = { List AsksOf };
 
-    ghost view = { λ a. map asks_of_entry a.entries.items };
+    ghost view = { λ a. map asks_of_entry a.attempts };
 
-    ghost invariant = { λ a. IsAskTable a.asked a.entries.items };
+    ghost invariant = { λ a. IsAskTable a.asked a.attempts };
 }
 
 impl Asks {
@@ -35,7 +35,7 @@ impl Asks {
         ensures { result ≡ [] }
     {
         Asks {
-            entries: Vec::new(alloc),
+            attempts: Attempts::new(alloc),
             asked: 0,
         }
     }
@@ -50,7 +50,7 @@ impl Asks {
         let Some(order) = self.asked.checked_add(1) else {
             return Err(NoMemory);
         };
-        set_entry(&mut self.entries, attempt, ask, order)?;
+        self.attempts.set(attempt, ask, order)?;
         self.asked = order;
         Ok(())
     }
@@ -60,8 +60,7 @@ impl Asks {
     pub fn of(&self, attempt: AttemptId) -> Option<&Items<AskLine>>
         ensures { option_map (map (λ line. line.ask)) (option_copied result) ≡ some_asks (by_priority (asks_of self.now attempt)) }
     {
-        let place = place_of_attempt(&self.entries, attempt)?;
-        let lines = &self.entries[place].lines;
+        let lines = self.attempts.of(attempt)?;
         if lines.is_empty() { None } else { Some(lines) }
     }
 
@@ -70,7 +69,7 @@ impl Asks {
         ensures asks { AskNow self.old self.new attempt [] }
         ensures table { self.new ≡ without_asks_of attempt self.old }
     {
-        self.entries.retain(|entry| entry.attempt != attempt);
+        self.attempts.clear(attempt);
     }
 
     /// One of an ask was granted: its number outstanding falls by one, and at 0 it goes. `false` comes exactly
@@ -80,6 +79,6 @@ impl Asks {
         ensures asks { AskNow self.old self.new attempt (asks_granted priority size (asks_of self.old attempt)) }
         ensures table { self.new ≡ granted_in attempt priority size self.old }
     {
-        grant_entry(&mut self.entries, attempt, priority, size)
+        self.attempts.grant(attempt, priority, size)
     }
 }
