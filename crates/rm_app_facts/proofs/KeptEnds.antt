@@ -35,6 +35,7 @@ use Rattle.rm_facts.specs.Told.{History}
 use Rattle.rm_facts.specs.View.{View, view, counts, changed_if, main_more, main_view, op_view, one_if}
 use Rattle.rm_facts.specs.Says.{ActiveSays, AtCurrent, CurrentSays, GoesOn, HasStopped, RowSays, StateSays, but_ended, is_active, is_going}
 use Rattle.rm_facts.specs.Step.{Keeps, Step}
+use Rattle.rm_facts.proofs.Completing.{with_end_at}
 use Rattle.rm_facts.proofs.Counts.{at_end}
 use Rattle.rm_facts.proofs.Effects.{main_end, op_taken, sched_end}
 use Rattle.rm_facts.proofs.Found.{is_app-refl, is_app_same, row_changed}
@@ -200,10 +201,7 @@ over_awaits settings q (Some row) v good = record { one = row; is = refl; state 
     kept : (s : AppState) → StateSays settings q s row (record v { count = record v.count { app_ends = suc v.count.app_ends } }) → is_some v.found ≡ true
     kept s says = grind (arith, nat_tests)
 
-abbrev with_app_end : How → List ℕ → ℕ → AppRecord → AppRecord
-with_app_end how text told_ one = record one { ending = Some (how, text); end_order = told_ }
-
-ended_so : (how : How) (text : List ℕ) (told_ : ℕ) (found : Option AppRecord) → is_some found ≡ true → option_map (λ e. e.0) (end_in (option_map (with_app_end how text told_) found)) ≡ Some how
+ended_so : (how : How) (text : List ℕ) (told_ : ℕ) (found : Option AppRecord) → is_some found ≡ true → option_map (λ e. e.0) (end_in (option_map (with_end_at how text told_) found)) ≡ Some how
 ended_so how text told_ None e = cc
 ended_so how text told_ (Some one) e = refl
 
@@ -251,21 +249,21 @@ module _ (settings : Settings) (h : History) (t : Tables) (k : Keeps settings h 
       let ended = ended_so how text t.tree.applied (record_of t.tree.apps id) awaits.kept in
       step_own settings h app_over t (kept (ops.AppEnd id how text) t) k (KeptEntry (ops.AppEnd id how text)) id (Some awaits.one) (changed (of_app.KeepEnd how)) (view h past)
       (λ q v. op_view q (ops.AppEnd id how text) v)
-      (λ q v. record (main_view q mains.Retire v) { found = changed_if (is_app id q.app) (with_app_end how text t.tree.applied) v.found; count = record v.count { completed = one_if (is_app id q.app) v.count.completed } })
+      (λ q v. record (main_view q mains.Retire v) { found = changed_if (is_app id q.app) (with_end_at how text t.tree.applied) v.found; count = record v.count { completed = one_if (is_app id q.app) v.count.completed } })
       (λ q v. record v { count = record v.count { app_ends = suc v.count.app_ends } })
-      (λ q v. record v { found = option_map (with_app_end how text t.tree.applied) v.found; count = record v.count { completed = suc v.count.completed } })
+      (λ q v. record v { found = option_map (with_end_at how text t.tree.applied) v.found; count = record v.count { completed = suc v.count.completed } })
       (record { handed = handed; first = rw front refl }) refl (recorded_more settings h t k (ops.AppEnd id how text)) k.is_open awaits.is (λ q. row_changed (changed (of_app.KeepEnd how)) id q t.rows)
       (λ q. op_taken h t q (ops.AppEnd id how text) rest front)
       (λ q.
       let dropped = dropped_counts (record past { ended = t.ended ++ id ∷ []; main = t.main ++ mains.Retire ∷ [] }) q (row_of t.rows id) in
       let posted = main_end app_over (record past { ended = t.ended ++ id ∷ [] }) q mains.Retire in
-      let found = record_changed (with_app_end how text t.tree.applied) (λ one. refl) id q.app t.tree.apps in
+      let found = record_changed (with_end_at how text t.tree.applied) (λ one. refl) id q.app t.tree.apps in
       rw (dropped ∙ posted, at_end (λ one. is_app one q.app) t.ended id, found) refl)
       (λ q v other. rw other refl) (λ q v other. rw other refl) (λ q v same. rw same refl) (λ q v same. rw same refl)
       (λ q same says.
       let here : id ≡ q.app = is_app_same id q.app same in
-      end_saved settings q awaits.one (view h past q) how (option_map (with_app_end how text t.tree.applied) (record_of t.tree.apps q.app)) (rw (← here) ended) (unchanged_attempts (record_of t.tree.apps q.app)) awaits.state says)
+      end_saved settings q awaits.one (view h past q) how (option_map (with_end_at how text t.tree.applied) (record_of t.tree.apps q.app)) (rw (← here) ended) (unchanged_attempts (record_of t.tree.apps q.app)) awaits.state says)
     where
-      unchanged_attempts : (found : Option AppRecord) → attempts_in (option_map (with_app_end how text t.tree.applied) found) ≡ attempts_in found
+      unchanged_attempts : (found : Option AppRecord) → attempts_in (option_map (with_end_at how text t.tree.applied) found) ≡ attempts_in found
       unchanged_attempts None = refl
       unchanged_attempts (Some one) = refl

@@ -29,7 +29,7 @@ slot_gone id q rows true = refl
 slot_gone id q rows false = refl
 
 -- the row of an application, after this or another one was removed
-row_gone : (id q : AppId) (rows : List (AppId × Option AppRow)) → row_of (without_row id rows) q ≡ gone_if (is_app id q) (row_of rows q)
+pub row_gone : (id q : AppId) (rows : List (AppId × Option AppRow)) → row_of (without_row id rows) q ≡ gone_if (is_app id q) (row_of rows q)
 row_gone id q rows = by (slot_of rows id) refl
   where
     none : (b : Bool) → is_app id q ≡ b → slot_of rows id ≡ None → row_of rows q ≡ gone_if b (row_of rows q)

@@ -1,7 +1,6 @@
 -- The cover: why nothing is owed in an open life where both queues and the awaiting list are empty. Of each application that is known
 -- the facts then say how it rests, and no application that rests so is owed anything.
-use Rattle.std.proofs.Common.{◌≡◌, ◌≢◌, ◌≤◌, inl, inr, ℕ, ◌==◌, ◌||◌, List, [], ◌∷◌, Bool, true, false, not, Option, None, Some, is_some, is_none, option_map, length, refl, ◌∙◌, subst, arith}
-use Rattle.std.specs.List.{list_any}
+use Rattle.std.proofs.Common.{◌≡◌, ◌≢◌, ◌≤◌, inl, inr, ℕ, ◌==◌, ◌||◌, List, [], ◌∷◌, Bool, true, false, Option, None, Some, is_some, is_none, option_map, count_by, length, refl, ◌∙◌, subst, arith}
 use Rattle.std.proofs.lemmas.Bool.Decides.{nat_tests}
 use Rattle.rm_types.specs.declared.ids.AppId.{AppId}
 use Rattle.rm_types.specs.declared.ids.AttemptId.{AttemptId}
@@ -12,7 +11,7 @@ use Rattle.rm_types.specs.declared.settings.Settings.{Settings}
 use Rattle.rm_types.specs.Ids.{is_app}
 use Rattle.rm_types.specs.Records.{all_ended, is_some_and, last_attempt, record_of}
 use Rattle.rm_model.specs.Attempts.{has_failed, has_master_ask}
-use Rattle.rm_model.specs.Facts.{end_in, is_accepted, is_kept, is_known, is_remove_op, is_submitted, is_wished, kept_attempts, kept_end, kept_record, next_attempt, reaches_bound, waiting_submission}
+use Rattle.rm_model.specs.Facts.{end_in, is_accepted, is_kept, is_known, is_submitted, is_wished, kept_attempts, kept_end, kept_record, next_attempt, reaches_bound, waiting_submission}
 use Rattle.rm_model.specs.State.{Scene}
 use Rattle.rm_model.specs.Owed.{Owed, opening, keeping, killing, accepting, deciding, asking, finishing, expiring, losing, ordering, working, leaving, retiring, ended_not_failed}
 use Rattle.rm_app.specs.declared.states.AppState.{AppState}
@@ -26,10 +25,12 @@ use Rattle.rm_tables.specs.Rows.{row_of}
 use Rattle.rm_facts.specs.Told.{History, scene_in}
 use Rattle.rm_facts.specs.View.{View, Counts, view, counts, is_ask}
 use Rattle.rm_facts.specs.Says.{RowSays, StateSays, ActiveSays, CurrentSays, AtCurrent, HasStopped, GoesOn, Follows, ops_of, way, is_going}
+use Rattle.rm_facts.specs.Completed.{is_retire}
 use Rattle.rm_facts.specs.Step.{Keeps}
-use Rattle.rm_facts.specs.Submissions.{OnlySubmits}
+use Rattle.rm_facts.specs.Submissions.{OnlyClients}
 use Rattle.rm_facts.proofs.Counts.{some_passes}
-use Rattle.rm_facts.proofs.Plain.{plain_found, no_ends}
+use Rattle.rm_app_facts.proofs.Retiring.{as_many}
+use Rattle.rm_facts.proofs.Plain.{untried_found}
 
 -- nothing of an application and its attempt is on its way
 pub record IsStill (c : Counts) : Type 0 where
@@ -227,34 +228,36 @@ module _ (settings : Settings) (h : History) (t : Tables) (id : AppId) (rests : 
       by (resting number (lives goes free)) = absurd (let x = going_open (numbered id number) (kept_attempts here id) goes.2 in cc)
 
 -- an open life in which nothing is in flight owes nothing
-pub owes_nothing : (settings : Settings) (h : History) (t : Tables) → Keeps settings h t → OnlySubmits h t → t.main ≡ [] → t.sched ≡ [] → t.awaiting ≡ []
-    → Owed settings (scene_in h t) → ⊥
-owes_nothing settings h t k only main sched awaiting (opening closed) = let o = k.is_open in cc
-owes_nothing settings h t k only main sched awaiting (keeping id known unkept) =
-    let kept = known_kept settings h t id (rests_at settings h t k main sched awaiting id) known in
+pub owes_nothing : (h : History) (t : Tables) → Keeps t.settings h t → OnlyClients h t → t.main ≡ [] → t.sched ≡ [] → t.awaiting ≡ []
+    → Owed t.settings (scene_in h t) → ⊥
+owes_nothing h t k only main sched awaiting (opening closed) = let o = k.is_open in cc
+owes_nothing h t k only main sched awaiting (keeping id known unkept) =
+    let kept = known_kept t.settings h t id (rests_at t.settings h t k main sched awaiting id) known in
     cc
-owes_nothing settings h t k only main sched awaiting (killing id goes wish) =
-    let free = no_wish settings h t id (rests_at settings h t k main sched awaiting id) goes.known goes.unended in
+owes_nothing h t k only main sched awaiting (killing id goes wish) =
+    let free = no_wish t.settings h t id (rests_at t.settings h t k main sched awaiting id) goes.known goes.unended in
     cc
-owes_nothing settings h t k only main sched awaiting (accepting id goes unaccepted untried) =
-    accepted_or_kept settings h t id (rests_at settings h t k main sched awaiting id) goes.known goes.unended unaccepted untried
-owes_nothing settings h t k only main sched awaiting (deciding id goes tried all decided) =
-    let fails = undecided settings h t id (rests_at settings h t k main sched awaiting id) goes.known goes.unended tried all in
+owes_nothing h t k only main sched awaiting (accepting id goes unaccepted untried) =
+    accepted_or_kept t.settings h t id (rests_at t.settings h t k main sched awaiting id) goes.known goes.unended unaccepted untried
+owes_nothing h t k only main sched awaiting (deciding id goes tried all decided) =
+    let fails = undecided t.settings h t id (rests_at t.settings h t k main sched awaiting id) goes.known goes.unended tried all in
     cc
-owes_nothing settings h t k only main sched awaiting (asking id goes all unasked) =
-    let asked = asks_master settings h t id (rests_at settings h t k main sched awaiting id) goes.known goes.unended all in
+owes_nothing h t k only main sched awaiting (asking id goes all unasked) =
+    let asked = asks_master t.settings h t id (rests_at t.settings h t k main sched awaiting id) goes.known goes.unended all in
     cc
-owes_nothing settings h t k only main sched awaiting (finishing attempt alive said) = absurd (let x = rw only.bare.masters at said in cc)
-owes_nothing settings h t k only main sched awaiting (expiring attempt alive ran) = absurd (let x = rw only.bare.masters at ran in cc)
-owes_nothing settings h t k only main sched awaiting (losing attempt alive left) = absurd (let x = rw only.bare.left at left in cc)
-owes_nothing settings h t k only main sched awaiting (ordering attempt alive first unordered) =
-    let among = rw (plain_found t.tree.apps attempt.id.app only.plain).no_attempt at alive.kept in
+owes_nothing h t k only main sched awaiting (finishing attempt alive said) = absurd (let x = rw only.bare.masters at said in cc)
+owes_nothing h t k only main sched awaiting (expiring attempt alive ran) = absurd (let x = rw only.bare.masters at ran in cc)
+owes_nothing h t k only main sched awaiting (losing attempt alive left) = absurd (let x = rw only.bare.left at left in cc)
+owes_nothing h t k only main sched awaiting (ordering attempt alive first unordered) =
+    let among = rw (untried_found t.tree.apps attempt.id.app only.untried) at alive.kept in
     absurd (omega (arith, among.1))
-owes_nothing settings h t k only main sched awaiting (working node there undone) =
+owes_nothing h t k only main sched awaiting (working node there undone) =
     let among = rw only.bare.nodes at there in
     absurd (omega (arith, among.1))
-owes_nothing settings h t k only main sched awaiting (leaving row there why) =
+owes_nothing h t k only main sched awaiting (leaving row there why) =
     let among = rw only.bare.book at there in
     absurd (omega (arith, among.1))
-owes_nothing settings h t k only main sched awaiting (retiring many) =
-    omega (arith, many, no_ends t.tree.apps (λ app. not (list_any (is_remove_op app.id) t.awaiting)) only.plain)
+owes_nothing h t k only main sched awaiting (retiring many) =
+    let all = as_many t.settings h t k only.completes in
+    let some = only.completes.retires (omega (arith, all, many)) in
+    absurd (let none : 1 ≤ count_by is_retire [] = rw main at some in omega (arith, none))

@@ -29,7 +29,7 @@ use Rattle.rm_facts.proofs.Effects.{main_end, main_taken, op_end}
 use Rattle.rm_facts.proofs.Found.{is_app-refl, is_app_same, same_test}
 use Rattle.rm_facts.proofs.Keeping.{in_scene}
 use Rattle.rm_facts.proofs.Opening.{posted}
-use Rattle.rm_app_facts.specs.Completed.{AllLater, Completes, order_of}
+use Rattle.rm_facts.specs.Completed.{AllLater, Completes, order_of}
 use Rattle.rm_app_facts.proofs.AtStates.{remove_issued}
 
 -- lists of ids with the same count of each have the same length
@@ -115,7 +115,7 @@ module _ (test : AppRecord → Bool) where
   pub chosen_count : (q : AppId) (apps : List AppRecord) → count_by (λ app. is_app app.id q) apps ≤ 1 → count_of q (map (λ one. one.id) (filter test apps)) ≡ one_if (is_some_and test (record_of apps q)) 0
   chosen_count q apps once = sym (ap (count_of q) (chosen_all apps)) ∙ posted chosen (λ id. is_app id q) q test (chosen_each q) apps once
 
-found_id : (apps : List AppRecord) (q : AppId) (one : AppRecord) → record_of apps q ≡ Some one → one.id ≡ q
+pub found_id : (apps : List AppRecord) (q : AppId) (one : AppRecord) → record_of apps q ≡ Some one → one.id ≡ q
 found_id [] q one e = cc
 found_id (app ∷ apps) q one e = by (is_app app.id q) refl (found_id apps q one)
   where
@@ -139,7 +139,7 @@ module _ (settings : Settings) (h : History) (t : Tables) (k : Keeps settings h 
   done = is_completed (scene_in h t)
 
   -- an application stands among the completed as often as it is completed
-  ended_is : (q : AppId) → count_of q t.ended ≡ one_if (is_some_and done (record_of t.tree.apps q)) 0
+  pub ended_is : (q : AppId) → count_of q t.ended ≡ one_if (is_some_and done (record_of t.tree.apps q)) 0
   ended_is q = here ∙ sym (by (record_of t.tree.apps q) refl)
     where
       here : count_of q t.ended ≡ one_if (is_some (end_in (record_of t.tree.apps q)) && (count_by (is_remove_op q) t.awaiting == 0)) 0
@@ -153,7 +153,7 @@ module _ (settings : Settings) (h : History) (t : Tables) (k : Keeps settings h 
           rw (e, none, same) refl
 
   -- as many are completed as stand there
-  as_many : completed (scene_in h t) ≡ length t.ended
+  pub as_many : completed (scene_in h t) ≡ length t.ended
   as_many =
       sym (same_length t.ended (map (λ one. one.id) (filter done t.tree.apps)) (λ q. ended_is q ∙ sym (chosen_count done q t.tree.apps (c.once q)))
       ∙ length-map (filter done t.tree.apps) (λ one. one.id) ∙ length-filter done t.tree.apps)

@@ -1,5 +1,5 @@
 -- A manager before its first life, and the begin and the end of a life.
-use Rattle.std.proofs.Common.{◌≡◌, ◌≢◌, ◌≤◌, ℕ, ◌<◌, ◌^◌, List, [], ◌∷◌, ◌++◌, true, false, None, take, refl, sym, ◌∙◌, ap, subst, inl, arith}
+use Rattle.std.proofs.Common.{◌≡◌, ◌≢◌, ℕ, ◌<◌, ◌^◌, List, [], ◌∷◌, ◌++◌, true, false, None, take, refl, sym, ◌∙◌, ap, subst, inl, arith}
 use Rattle.std.proofs.lemmas.List.{append-nil}
 use Rattle.std.proofs.lemmas.List.Sums.{fold_push}
 use Rattle.std.specs.declared.alloc.Global.{Global}
@@ -7,29 +7,29 @@ use Rattle.rm_types.specs.declared.entries.Entry.{Entry}
 use Rattle.rm_types.specs.declared.entries.Entry.TheVariants.{Down, Opened}
 use Rattle.rm_types.specs.declared.operations.Op.{Op}
 use Rattle.rm_types.specs.declared.settings.Settings.{Settings}
-use Rattle.rm_types.specs.Records.{Records, no_records, records}
+use Rattle.rm_types.specs.Records.{Records, records}
 use Rattle.rm_model.specs.State.{Manager, opening_state}
 use Rattle.rm_model.specs.Changes.{after}
 use Rattle.rm_model.specs.Rules.{Allowed, MayOpen}
 use Rattle.rm_model.specs.Lawful.{state_after}
 use Rattle.rm_tables.specs.declared.tables.Tables.{Tables}
 use Rattle.rm_tables.specs.Lives.{begun, gone_down, no_life}
-use Rattle.rm_facts.specs.Told.{History, new_history, told}
+use Rattle.rm_facts.specs.Told.{History, new_history}
 use Rattle.rm_core.specs.Adds.{AmountsTo, CanBeginOver}
 use Rattle.rm_core.specs.Queues.{tables_after, tables_moved, unopened}
 use Rattle.rm_core.specs.Keeps.{IsBeginning, IsSound, Keeps, Phase, none, starting}
-use Rattle.rm_core.proofs.Phases.{plain_of, recorded_of}
-use Rattle.rm_core.proofs.Recorded.{each_once}
+use Rattle.rm_core.proofs.Phases.{recorded_of, untried_of}
+use Rattle.rm_core.proofs.Recorded.{each_early, each_named, each_once}
 use Rattle.rm_core.proofs.Standing.{AllAllowed-push, Moves, not_empty}
 
 -- before the first life
 pub new_sound : (alloc : Global) (settings : Settings) → IsSound (no_life alloc settings)
 new_sound alloc settings =
-    record { history = new_history []; phase = none (record { alive = refl; main = refl; sched = refl; plain = tt }); epoch = omega arith; given = omega arith }
+    record { history = new_history []; phase = none (record { alive = refl; main = refl; sched = refl; untried = tt }); epoch = omega arith; given = omega arith }
 
 pub new_keeps : (opening : List Op) (alloc : Global) (settings : Settings) → Keeps opening [] (no_life alloc settings)
 new_keeps opening alloc settings =
-    record { allowed = tt; history = new_history opening; same = refl; recorded = λ some. absurd (some refl); phase = none (record { alive = refl; main = refl; sched = refl; plain = tt }); fresh = λ none. refl; told_by = λ some. absurd (some refl) }
+    record { allowed = tt; history = new_history opening; same = refl; recorded = λ some. absurd (some refl); phase = none (record { alive = refl; main = refl; sched = refl; untried = tt }); fresh = λ none. refl; told_by = λ some. absurd (some refl) }
 
 -- a life begins under a stamp that is above the recorded one
 module _ (t : Tables) (tree : Records) (stamp : ℕ) (over : CanBeginOver tree) (low : tree.stamp < stamp) (high : stamp < 2 ^ 63) where
@@ -43,9 +43,12 @@ module _ (t : Tables) (tree : Records) (stamp : ℕ) (over : CanBeginOver tree) 
         recorded = is;
         rows = refl;
         once = each_once tree over;
-        plain = over.plain;
+        untried = over.untried;
+        named = each_named tree over;
         going = refl;
         ended = refl;
+        early = each_early tree over;
+        book = refl;
         sched = refl;
         epoch = refl;
         rises = low;
@@ -106,7 +109,7 @@ down_moves h t phase a f b =
       lawful = rw a (record { none_handed = f });
       same = rw (a, b) refl;
       recorded = recorded_of h t phase a;
-      phase = none (record { alive = refl; main = refl; sched = refl; plain = plain_of h t phase });
+      phase = none (record { alive = refl; main = refl; sched = refl; untried = untried_of h t phase });
       settings = refl;
       alloc = refl;
       own = refl;

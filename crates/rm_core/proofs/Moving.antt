@@ -3,9 +3,8 @@ use Rattle.std.proofs.Common.{◌∙◌, ◌≡◌, ◌≢◌, ℕ, ◌+◌, ◌
 use Rattle.std.specs.Prelude.{OnOk, OnErr, slice_get}
 use Rattle.rm_types.specs.declared.entries.Entry.{Entry}
 use Rattle.rm_types.specs.declared.entries.Entry.TheVariants.{Down as DownEntry, Handed, Kept as KeptEntry, Opened, Served, Settled}
-use Rattle.rm_types.specs.declared.ids.AppId.{AppId}
 use Rattle.rm_types.specs.declared.ids.ContainerId.{ContainerId}
-use Rattle.rm_types.specs.declared.messages.Lane.TheVariants.{Client, End, Hand as HandLane, Main as MainLane, Sched as SchedLane, Write}
+use Rattle.rm_types.specs.declared.messages.Lane.TheVariants.{Client, End, Hand as HandLane, Write}
 use Rattle.rm_types.specs.declared.messages.Message.{Message}
 use Rattle.rm_types.specs.declared.messages.Message.TheVariants.{Client as FromClient, Clock as FromClock, Master as FromMaster, Node as FromNode}
 use Rattle.rm_types.specs.declared.messages.Sender.TheVariants.{Client as ClientSender}
@@ -26,13 +25,12 @@ use Rattle.rm_tables.specs.KeptOps.{kept}
 use Rattle.rm_tables.specs.Lives.{begun, gone_down, handed_out, is_ready, may_go_down}
 use Rattle.rm_tables.specs.MainEvents.{main_step}
 use Rattle.rm_tables.specs.SchedEvents.{EndsBy, sched_step}
-use Rattle.rm_facts.specs.Told.{History, scene_in, told}
-use Rattle.rm_facts.specs.Weights.{weight}
+use Rattle.rm_facts.specs.Told.{History, scene_in}
 use Rattle.rm_facts.proofs.Weighing.{begin_weighs, down_weighs}
 use Rattle.rm_core.specs.declared.manager.Move.{Move}
 use Rattle.rm_core.specs.declared.manager.Move.TheVariants.{Begin, Down, Hand, Kept, Main, Sched, Serve, Settle}
-use Rattle.rm_core.specs.Adds.{AmountsTo, CanBeginOver, Does, Stands}
-use Rattle.rm_core.specs.Keeps.{IsRunning, IsSound, IsSoundCore, Keeps, QueuesAre, Phase, none, running, saving, starting}
+use Rattle.rm_core.specs.Adds.{CanBeginOver, Does, Stands}
+use Rattle.rm_core.specs.Keeps.{IsRunning, IsSound, IsSoundCore, Keeps, Phase, none, running, saving, starting}
 use Rattle.rm_core.specs.Seen.{IsToBeKept, Seen, handed_op}
 use Rattle.rm_core.specs.Serving.{IsBuiltMessage, IsServed}
 use Rattle.rm_core.proofs.Answering.{client_answered, client_moves}
@@ -40,8 +38,8 @@ use Rattle.rm_core.proofs.Lives.{begin_keeps, begin_sound, down_moves}
 use Rattle.rm_core.proofs.Phases.{first_fits, first_framed, hand_moves, handed_awaits, keep_moves, main_moves, recorded_of, sched_moves, unblown_of}
 use Rattle.rm_core.proofs.Settling.{settle_moves}
 use Rattle.rm_core.proofs.Showing.{shows}
-use Rattle.rm_core.proofs.Standing.{Moves, Own, keeps_more, sound_own}
-use Rattle.rm_core.specs.Words.{as_new, new_manager}
+use Rattle.rm_core.proofs.Standing.{Moves, keeps_more, sound_own}
+use Rattle.rm_core.specs.Words.{new_manager}
 
 abbrev pub seen_of : Tables → List Entry → Seen
 seen_of t log = record { settings = t.settings; tables = t; log = log }
@@ -123,16 +121,16 @@ module _ (t : Tables) (log : List Entry) (s : IsSound t) where
       by (event ∷ rest) front = let is = ok event rest front in rw (is.0, is.1) (main_made event rest front x)
 
   -- the first event of the scheduler's queue
-  sched_made : (event : SchedEvent) (list : List ContainerId) (rest : List SchedEvent) → t.sched ≡ event ∷ rest → (x : Unit {0}) → Done Sched t (sched_worked (sched_step event list t)).1 log (log ++ (sched_worked (sched_step event list t)).0 ∷ []) (Ok x)
-  sched_made event list rest front x =
-      let moves = sched_moves s.history t event list rest s.phase front in
+  sched_made : (event : SchedEvent) (list : List ContainerId) (rest : List SchedEvent) → t.sched ≡ event ∷ rest → EndsBy event t list → (x : Unit {0}) → Done Sched t (sched_worked (sched_step event list t)).1 log (log ++ (sched_worked (sched_step event list t)).0 ∷ []) (Ok x)
+  sched_made event list rest front ends x =
+      let moves = sched_moves s.history t event list rest s.phase front ends in
       let own = moves.own in
       record {
         sound = sound_own t (sched_worked (sched_step event list t)).1 (sched_worked (sched_step event list t)).0 s own;
         settings = own.moves.settings;
         does = record {
           added = record { entry = (sched_worked (sched_step event list t)).0; of_move = moves.of_lane; added = refl };
-          lawful = λ opening k from. keeps_more opening log t (sched_worked (sched_step event list t)).1 (sched_worked (sched_step event list t)).0 k own.stood (sched_moves k.history t event list rest k.phase front).own.moves;
+          lawful = λ opening k from. keeps_more opening log t (sched_worked (sched_step event list t)).1 (sched_worked (sched_step event list t)).0 k own.stood (sched_moves k.history t event list rest k.phase front ends).own.moves;
           ready = rw front refl;
           weighs = own.lighter;
           stands = (own.stood, own.stands);
@@ -151,7 +149,7 @@ module _ (t : Tables) (log : List Entry) (s : IsSound t) where
     where
       by : (sched : List SchedEvent) → t.sched ≡ sched → Done Sched t next log longer (Ok x)
       by [] front = absurd (some front)
-      by (event ∷ rest) front = let is = ok event rest front in rw (is.2, is.3) (sched_made event is.0 rest front x)
+      by (event ∷ rest) front = let is = ok event rest front in rw (is.2, is.3) (sched_made event is.0 rest front is.1 x)
 
   -- the first awaiting operation is handed
   pub hand_done : (next : Tables) (longer : List Entry) (r : Result (Unit {0}) Refused) → OnOk r ((next ≡ handed_out t) × (longer ≡ log ++ Handed ∷ [])) → OnOk r (is_ready t HandLane ≡ true)

@@ -1,6 +1,8 @@
--- What a store's operations amount to has each application once.
+-- What a store's operations amount to has each application once, under a name in its range, and no end was kept after them.
 use Rattle.std.proofs.Common.{◌≡◌, ℕ, ◌+◌, ◌≤◌, List, [], ◌∷◌, ◌++◌, Bool, true, false, not, cond, fold, map, filter, find, is_none, is_some, None, Some, Option, if◌then◌else◌, count_by, refl, sym, ◌∙◌, ap, arith}
-use Rattle.std.specs.List.{list_any}
+use Rattle.std.specs.List.{AllByRecursion, list_any}
+use Rattle.std.proofs.lemmas.List.Elements.{recursion_from_All}
+use Rattle.rm_types.specs.Ranges.{IsOperation}
 use Rattle.std.proofs.lemmas.List.Sums.{sum_by-append, sum_by-cons}
 use Rattle.rm_types.specs.declared.ids.AppId.{AppId}
 use Rattle.rm_types.specs.declared.operations.Op.{Op}
@@ -11,7 +13,13 @@ use Rattle.rm_types.specs.Ids.{is_app}
 use Rattle.rm_types.specs.Records.{Records, records, recorded, no_records, new_record, record_of, fits_records, stray_from, with_record, with_end}
 use Rattle.rm_core.specs.Adds.{CanBeginOver}
 use Rattle.rm_facts.proofs.Counts.{fails_never}
-use Rattle.rm_facts.proofs.Found.{is_app_same}
+use Rattle.rm_facts.specs.Completed.{order_in, order_of}
+use Rattle.rm_facts.specs.View.{changed_if, gone_if}
+use Rattle.rm_facts.specs.Submissions.{AllNamed}
+use Rattle.rm_facts.proofs.Completing.{order_new}
+use Rattle.rm_facts.proofs.Lists.{AllNamed-changed, AllNamed-filter, AllNamed-push}
+use Rattle.rm_facts.proofs.Found.{found_gone, is_app_same}
+use Rattle.rm_app_facts.proofs.Recorded.{record_changed}
 
 -- how often an application is recorded
 abbrev kept_at : AppId → List AppRecord → ℕ
@@ -118,3 +126,79 @@ each_once tree over =
     let none : EachOnce no_records.apps = λ q. omega arith in
     let once : EachOnce (records store.ops).apps = once_from store.ops no_records none store.none_stray in
     rw store.amounts once
+
+-- no end was kept after what is recorded
+abbrev AllEarly : Records → Type 0
+AllEarly r = (q : AppId) → order_of r.apps q ≤ r.applied
+
+-- a change that keeps when an application ended
+order_stays : (change : AppRecord → AppRecord) → KeepsIds change → ((app : AppRecord) → (change app).end_order ≡ app.end_order) → (id q : AppId) (apps : List AppRecord) → order_of (with_record change id apps) q ≡ order_of apps q
+order_stays change keeps ends id q apps = ap order_in (record_changed change keeps id q apps) ∙ by (is_app id q) (record_of apps q)
+  where
+    by : (b : Bool) (o : Option AppRecord) → order_in (changed_if b change o) ≡ order_in o
+    by true None = refl
+    by true (Some one) = ends one
+    by false o = refl
+
+early_more : (r : Records) (op : Op) → AllEarly r → AllEarly (recorded r op)
+early_more r (Epoch next stamp) early = λ q. let e = early q in omega (arith, e)
+early_more r (App id s) early = λ q. let e = early q in let same = order_new r.apps id q s in omega (arith, e, same)
+early_more r (Attempt id master node) early = λ q.
+    let e = early q in
+    let same = order_stays (λ app. record app { attempts = app.attempts ++ record { id = id; master = master; node = node; ending = None } ∷ [] }) (λ app. refl) (λ app. refl) id.app q r.apps in
+    omega (arith, e, same)
+early_more r (AttemptEnd id how text) early = λ q.
+    let e = early q in
+    let same = order_stays (λ app. record app { attempts = map (with_end id how text) app.attempts }) (λ app. refl) (λ app. refl) id.app q r.apps in
+    omega (arith, e, same)
+early_more r (AppEnd id how text) early = λ q.
+    let e = early q in
+    let n = by (is_app id q) (record_of r.apps q) e in
+    let same = ap order_in (record_changed (λ app. record app { ending = Some (how, text); end_order = r.applied }) (λ app. refl) id q r.apps) in
+    omega (arith, n, same)
+  where
+    by : (b : Bool) (o : Option AppRecord) → order_in o ≤ r.applied → order_in (changed_if b (λ app. record app { ending = Some (how, text); end_order = r.applied }) o) ≤ r.applied
+    by true None l = l
+    by true (Some one) l = omega arith
+    by false o l = l
+early_more r (Remove id) early = λ q.
+    let e = early q in
+    let n = by (is_app id q) (record_of r.apps q) e in
+    let same = ap order_in (found_gone (λ (app : AppRecord). app.id) id q r.apps) in
+    omega (arith, n, same)
+  where
+    by : (b : Bool) (o : Option AppRecord) → order_in o ≤ r.applied → order_in (gone_if b o) ≤ r.applied
+    by true o l = omega arith
+    by false o l = l
+
+early_from : (ops : List Op) (r : Records) → AllEarly r → AllEarly (fold recorded r ops)
+early_from [] r early = early
+early_from (op ∷ ops) r early = early_from ops (recorded r op) (early_more r op early)
+
+-- a life begins over records of which none ended after what is recorded
+pub each_early : (tree : Records) → CanBeginOver tree → AllEarly tree
+each_early tree over =
+    let store = over.of_store in
+    let early : AllEarly (records store.ops) = early_from store.ops no_records (λ q. omega arith) in
+    rw store.amounts early
+
+-- the ids of recorded applications are in their ranges
+named_more : (r : Records) (op : Op) → IsOperation op → AllNamed r.apps → AllNamed (recorded r op).apps
+named_more r (Epoch next stamp) is named = named
+named_more r (App id s) is named = AllNamed-push r.apps id s named is.0
+named_more r (Attempt id master node) is named =
+    AllNamed-changed (λ app. record app { attempts = app.attempts ++ record { id = id; master = master; node = node; ending = None } ∷ [] }) (λ app. refl) id.app r.apps named
+named_more r (AttemptEnd id how text) is named = AllNamed-changed (λ app. record app { attempts = map (with_end id how text) app.attempts }) (λ app. refl) id.app r.apps named
+named_more r (AppEnd id how text) is named = AllNamed-changed (λ app. record app { ending = Some (how, text); end_order = r.applied }) (λ app. refl) id r.apps named
+named_more r (Remove id) is named = AllNamed-filter (λ app. not (is_app app.id id)) r.apps named
+
+named_from : (ops : List Op) (r : Records) → AllByRecursion IsOperation ops → AllNamed r.apps → AllNamed (fold recorded r ops).apps
+named_from [] r all named = named
+named_from (op ∷ ops) r all named = named_from ops (recorded r op) all.1 (named_more r op all.0 named)
+
+-- a life begins over records whose ids are in their ranges
+pub each_named : (tree : Records) → CanBeginOver tree → AllNamed tree.apps
+each_named tree over =
+    let store = over.of_store in
+    let named : AllNamed (records store.ops).apps = named_from store.ops no_records (recursion_from_All IsOperation store.ops store.framed) tt in
+    rw store.amounts named

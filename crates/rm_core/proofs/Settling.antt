@@ -1,5 +1,5 @@
 -- An open life with nothing in flight owes nothing, and may settle.
-use Rattle.std.proofs.Common.{◌≡◌, ◌≢◌, List, [], ◌∷◌, ◌++◌, Bool, true, false, None, Some, refl, sym, ◌∙◌, ap, subst}
+use Rattle.std.proofs.Common.{◌≡◌, List, [], Bool, true, false, None, refl, sym, ◌∙◌, subst}
 use Rattle.rm_types.specs.declared.entries.Entry.{Entry}
 use Rattle.rm_types.specs.declared.entries.Entry.TheVariants.{Settled}
 use Rattle.rm_types.specs.declared.operations.Op.{Op}
@@ -8,8 +8,8 @@ use Rattle.rm_model.specs.State.{Manager}
 use Rattle.rm_model.specs.Owed.{Owed}
 use Rattle.rm_model.specs.Lawful.{IsAtRest, state_after}
 use Rattle.rm_tables.specs.declared.tables.Tables.{Tables}
-use Rattle.rm_facts.specs.Told.{History, life_in, scene_in, standing, told}
-use Rattle.rm_facts.proofs.Resting.{owes_nothing}
+use Rattle.rm_facts.specs.Told.{History, life_in, standing}
+use Rattle.rm_app_facts.proofs.Resting.{owes_nothing}
 use Rattle.rm_core.specs.Keeps.{IsRunning, IsSound, Keeps, Phase, none, running, saving, starting}
 use Rattle.rm_core.specs.Seen.{Rests, RestsWhere}
 use Rattle.rm_core.proofs.Phases.{unblown_of}
@@ -26,7 +26,7 @@ at_rest h t (running r) a m w = r
 owes_none : (h : History) (t : Tables) → IsRunning h t → t.main ≡ [] → t.sched ≡ [] → t.awaiting ≡ []
     → Owed t.settings (record { records = records h.kept; awaiting = t.awaiting; life = life_in h t }) → ⊥
 owes_none h t r m n w =
-    subst (λ (x : Records). Owed t.settings (record { records = x; awaiting = t.awaiting; life = life_in h t }) → ⊥) (sym r.runs.keeps.recorded) (owes_nothing t.settings h t r.runs.keeps r.runs.only m n w)
+    subst (λ (x : Records). Owed t.settings (record { records = x; awaiting = t.awaiting; life = life_in h t }) → ⊥) (sym r.runs.keeps.recorded) (owes_nothing h t r.runs.keeps r.runs.only m n w)
 
 -- the history after a segment settled: releases are forgotten
 abbrev settled : History → History
@@ -48,14 +48,16 @@ settle_moves h t phase a m n w =
           keeps = record { is_open = r.runs.keeps.is_open; recorded = r.runs.keeps.recorded; all = r.runs.keeps.all };
           lists = record { order = r.runs.lists.order; going = r.runs.lists.going };
           only = record {
-            bare = record { wishes = b.wishes; retired = b.retired; masters = b.masters; book = b.book; left = b.left; nodes = b.nodes };
+            bare = record { masters = b.masters; book = b.book; left = b.left; nodes = b.nodes };
             rows = r.runs.only.rows;
             main = r.runs.only.main;
             sched = r.runs.only.sched;
             awaiting = r.runs.only.awaiting;
             savable = r.runs.only.savable;
-            plain = r.runs.only.plain;
-            ended = r.runs.only.ended;
+            untried = r.runs.only.untried;
+            named = r.runs.only.named;
+            book = r.runs.only.book;
+            completes = r.runs.only.completes;
             unblown = r.runs.only.unblown;
           };
         };

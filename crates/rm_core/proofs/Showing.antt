@@ -1,10 +1,8 @@
 -- The tables of an open life show the judge's scene, as far as clients are answered from it.
-use Rattle.std.proofs.Common.{◌≡◌, ℕ, ◌+◌, ◌≤◌, ◌⊎◌, inl, inr, List, [], ◌∷◌, Bool, true, false, ◌&&◌, ◌||◌, not, Option, None, Some, is_some, is_none, option_map, find, length, refl, sym, ◌∙◌, ap, subst, arith}
-use Rattle.std.specs.List.{list_any}
+use Rattle.std.proofs.Common.{◌≡◌, ℕ, ◌≤◌, ◌⊎◌, inl, inr, List, [], ◌∷◌, Bool, true, false, ◌&&◌, ◌||◌, not, Option, None, Some, is_some, option_map, length, refl, sym, ◌∙◌, ap, arith}
 use Rattle.rm_types.specs.declared.ids.AppId.{AppId}
 use Rattle.rm_types.specs.declared.ids.AttemptId.{AttemptId}
 use Rattle.rm_types.specs.declared.operations.How.{How}
-use Rattle.rm_types.specs.declared.operations.Submission.{Submission}
 use Rattle.rm_types.specs.declared.operations.Submitted.{Submitted}
 use Rattle.rm_types.specs.declared.records.AppRecord.{AppRecord}
 use Rattle.rm_types.specs.declared.records.AttemptRecord.{AttemptRecord}
@@ -14,7 +12,7 @@ use Rattle.rm_types.specs.Lists.{is_nil}
 use Rattle.rm_types.specs.Records.{is_some_and, last_attempt, record_of}
 use Rattle.rm_model.specs.Attempts.{has_failed, has_registered as is_registered_attempt}
 use Rattle.rm_model.specs.ClientReplies.{is_running}
-use Rattle.rm_model.specs.Facts.{attempts_in, awaits, end_in, has_app, is_app_op, is_known, is_submitted, kept_attempts, waiting_submission}
+use Rattle.rm_model.specs.Facts.{attempts_in, awaits, end_in, is_app_op, is_known, is_submitted, kept_attempts, waiting_submission}
 use Rattle.rm_app.specs.declared.states.AppState.{AppState}
 use Rattle.rm_app.specs.declared.states.AppState.TheVariants as apps
 use Rattle.rm_attempt.specs.declared.states.AttemptState.{AttemptState}
@@ -23,8 +21,8 @@ use Rattle.rm_tables.specs.declared.rows.AppRow.{AppRow}
 use Rattle.rm_tables.specs.declared.rows.Current.{Current}
 use Rattle.rm_tables.specs.declared.tables.Tables.{Tables}
 use Rattle.rm_tables.specs.Rows.{row_of}
-use Rattle.rm_client.specs.Shows.{RowShows, Shows, ShowsAt, is_saving, runs}
-use Rattle.rm_facts.specs.Says.{ActiveSays, CurrentSays, FinalSays, Follows, GoesOn, IsKnown as IsKnownRow, OverSays, RowSays, StateSays, has_tried, ops_of}
+use Rattle.rm_client.specs.Shows.{RowShows, Shows, ShowsAt, is_saving}
+use Rattle.rm_facts.specs.Says.{ActiveSays, CurrentSays, Follows, OverSays, RowSays, StateSays, has_tried}
 use Rattle.rm_facts.specs.Submissions.{Runs}
 use Rattle.rm_facts.specs.Told.{History, scene_in}
 use Rattle.rm_facts.specs.View.{View, view}
@@ -193,6 +191,6 @@ shows h t r =
       given = refl;
       going = sym r.lists.going;
       book = r.only.bare.book;
-      retired = λ id. let none = r.only.bare.retired in rw none (sym (r.only.rows id).stays);
+      retired = λ id. sym (r.only.rows id).stays;
       at = λ id. shows_at h t r id (row_of t.rows id) refl;
     }

@@ -1,5 +1,5 @@
 -- One more entry of a log: a move that is lawful by the tables keeps what holds of them and of the log.
-use Rattle.std.proofs.Common.{◌≡◌, ◌≢◌, ◌≤◌, ◌<◌, ◌^◌, List, [], ◌∷◌, ◌++◌, Bool, true, false, None, Some, refl, sym, ◌∙◌, ap, subst}
+use Rattle.std.proofs.Common.{◌≡◌, ◌≢◌, ◌<◌, List, [], ◌∷◌, ◌++◌, true, refl, sym, ◌∙◌, ap, subst}
 use Rattle.std.proofs.lemmas.List.Sums.{fold_push}
 use Rattle.std.specs.declared.alloc.Global.{Global}
 use Rattle.rm_types.specs.declared.entries.Entry.{Entry}
@@ -9,9 +9,9 @@ use Rattle.rm_types.specs.Records.{records}
 use Rattle.rm_model.specs.State.{Manager, opening_state}
 use Rattle.rm_model.specs.Changes.{after, after_all}
 use Rattle.rm_model.specs.Rules.{Allowed}
-use Rattle.rm_model.specs.Lawful.{AllAllowed, state_after}
+use Rattle.rm_model.specs.Lawful.{AllAllowed}
 use Rattle.rm_tables.specs.declared.tables.Tables.{Tables}
-use Rattle.rm_facts.specs.Told.{History, life_in, standing, told}
+use Rattle.rm_facts.specs.Told.{History, standing, told}
 use Rattle.rm_facts.specs.Submissions.{RunsOn}
 use Rattle.rm_facts.specs.Weights.{weight}
 use Rattle.rm_core.specs.Queues.{tables_after, tables_moved, unopened}

@@ -1,11 +1,12 @@
 -- What a move asks, and what it adds to the log.
-use Rattle.std.specs.Prelude.{◌≡◌, ℕ, ◌+◌, ◌-◌, ◌*◌, ◌^◌, ◌<◌, ◌≤◌, max, length, List, [], ◌∷◌, ◌++◌, Bool, true, false, None, Some}
+use Rattle.std.specs.Prelude.{◌≡◌, ℕ, ◌+◌, ◌-◌, ◌*◌, ◌^◌, ◌<◌, ◌≤◌, max, length, List, [], ◌∷◌, ◌++◌, All, Bool, true, false, None, Some}
 use Rattle.rm_types.specs.declared.entries.Entry.{Entry}
-use Rattle.rm_types.specs.declared.entries.Entry.TheVariants.{Opened, Issued, Handed, Kept as KeptEntry, Served, Accepted, Queued, Settled, Down as DownEntry, Quiet}
+use Rattle.rm_types.specs.declared.entries.Entry.TheVariants.{Opened, Handed, Kept as KeptEntry, Served, Settled, Down as DownEntry}
 use Rattle.rm_types.specs.declared.messages.Lane.{Lane}
 use Rattle.rm_types.specs.declared.messages.Lane.TheVariants.{Main as MainLane, Sched as SchedLane, Hand as HandLane, Write, End, Begin as BeginLane}
 use Rattle.rm_types.specs.declared.operations.Op.{Op}
 use Rattle.rm_types.specs.declared.replies.Reply.{Reply}
+use Rattle.rm_types.specs.Ranges.{IsOperation}
 use Rattle.rm_types.specs.Records.{Records, records, stray}
 use Rattle.rm_model.specs.Lawful.{state_after}
 use Rattle.rm_types.specs.Lanes.{feed_lane, sender_of}
@@ -14,24 +15,24 @@ use Rattle.rm_core.specs.Serving.{IsBuiltMessage}
 use Rattle.rm_core.specs.Words.{as_new}
 use Rattle.rm_tables.specs.declared.tables.Tables.{Tables}
 use Rattle.rm_tables.specs.Lives.{is_ready, may_go_down}
-use Rattle.rm_facts.specs.Submissions.{AllPlain, IsOfLane}
+use Rattle.rm_facts.specs.Submissions.{AllUntried, IsOfLane}
 use Rattle.rm_facts.specs.Weights.{weight}
 use Rattle.rm_core.specs.declared.manager.Move.{Move}
 use Rattle.rm_core.specs.declared.manager.Move.TheVariants.{Serve, Main, Sched, Hand, Kept, Settle, Down, Begin}
 
--- the tree is what some operations of a store amount to
+-- the tree is what some operations of a store amount to, whose parts are in their ranges
 pub record IsOfStore (tree : Records) : Type 0 where
   pub ops : List Op
+  pub framed : All IsOperation ops
   pub none_stray : stray ops ≡ None
   pub amounts : tree ≡ records ops
 
--- a life may begin over what is recorded: there is an epoch and a stamp left, and so far no application has an attempt or
--- an end
+-- a life may begin over what is recorded: there is an epoch and a stamp left, and so far no application has an attempt
 pub record CanBeginOver (tree : Records) : Type 0 where
   pub of_store : IsOfStore tree
   pub epoch : tree.next_epoch < 2 ^ 24
   pub stamp : tree.stamp < 2 ^ 63 - 1
-  pub plain : AllPlain tree.apps
+  pub untried : AllUntried tree.apps
 
 -- a move may be asked for: the number that is handed to a life is 1 to 10^15; a message is of a kind that is served, and
 -- not more than 100,000 are served in a life
@@ -92,7 +93,7 @@ GoesOnFrom _ opening seen = Unit {0}
 -- a move of the manager's own makes the weight less; a message adds 20 at most; a life begins with the weight of its first
 -- event and of what is recorded
 abbrev pub Weighs : Move → ℕ → ℕ → Type 0
-Weighs (Begin tree handed) old new = new ≤ 13 + 7 * length tree.apps
+Weighs (Begin tree handed) old new = new ≤ 5 + 11 * length tree.apps
 Weighs Settle old new = new ≤ old
 Weighs Down old new = new ≤ old
 Weighs (Serve message) old new = new ≤ old + 20

@@ -12,21 +12,24 @@ use Rattle.rm_model.specs.State.{opening_state}
 use Rattle.rm_model.specs.Lawful.{AllAllowed, state_after}
 use Rattle.rm_tables.specs.declared.events.MainEvent.TheVariants.{EpochStart}
 use Rattle.rm_tables.specs.declared.tables.Tables.{Tables}
+use Rattle.rm_tables.specs.Completed.{ended_in}
 use Rattle.rm_tables.specs.Lives.{no_life}
 use Rattle.rm_tables.specs.Opening.{going_in, recovered_rows}
-use Rattle.rm_facts.specs.Submissions.{AllPlain, Runs}
+use Rattle.rm_facts.specs.Completed.{order_of}
+use Rattle.rm_facts.specs.Submissions.{AllNamed, AllUntried, Runs}
 use Rattle.rm_facts.specs.Told.{History, new_history, told}
 use Rattle.rm_core.specs.Queues.{tables_after}
 
--- no life stands, and no recorded application has an attempt or an end so far
+-- no life stands, and no recorded application has an attempt so far
 pub record NoneStands (t : Tables) : Type 0 where
   pub alive : t.alive ≡ false
   pub main : t.main ≡ []
   pub sched : t.sched ≡ []
-  pub plain : AllPlain t.tree.apps
+  pub untried : AllUntried t.tree.apps
 
--- a life began over what is recorded, and isn't open: its rows are those of the recorded applications, none of which has an attempt or
--- an end so far, and nothing else of it is there; its epoch is the recorded next one, and its stamp is above the recorded one
+-- a life began over what is recorded, and isn't open: its rows are those of the recorded applications, none of which has an attempt so
+-- far, the completed are those that have ended, and nothing else of it is there; its epoch is the recorded next one, and its stamp is above
+-- the recorded one
 pub record IsBeginning (h : History) (t : Tables) : Type 0 where
   pub alive : t.alive ≡ true
   pub is_open : t.is_open ≡ false
@@ -35,9 +38,12 @@ pub record IsBeginning (h : History) (t : Tables) : Type 0 where
   pub recorded : records h.kept ≡ t.tree
   pub rows : t.rows ≡ recovered_rows t.tree.apps
   pub once : (id : AppId) → count_by (λ app. is_app app.id id) t.tree.apps ≤ 1
-  pub plain : AllPlain t.tree.apps
+  pub untried : AllUntried t.tree.apps
+  pub named : AllNamed t.tree.apps
   pub going : t.going ≡ going_in t.tree.apps
-  pub ended : t.ended ≡ []
+  pub ended : t.ended ≡ ended_in t.tree.apps
+  pub early : (id : AppId) → order_of t.tree.apps id ≤ t.tree.applied
+  pub book : t.book.rows ≡ []
   pub sched : t.sched ≡ []
   pub epoch : t.epoch ≡ t.tree.next_epoch
   pub rises : t.tree.stamp < t.stamp

@@ -1,6 +1,6 @@
 -- The manager's tables after a log: its own way, entry by entry, of which the judge knows nothing. A log tells which queue each of its
 -- entries came from, so that the two queues after it can be read off it.
-use Rattle.std.specs.Prelude.{ℕ, ◌+◌, List, [], ◌∷◌, fold}
+use Rattle.std.specs.Prelude.{◌+◌, List, [], ◌∷◌, fold}
 use Rattle.std.specs.declared.alloc.Global.{Global}
 use Rattle.rm_types.specs.declared.entries.Entry.{Entry}
 use Rattle.rm_types.specs.declared.entries.Entry.TheVariants.{Absorbed, Accepted, Blown, Down, Ended, Handed, Issued, Kept, Opened, Ordered, Pass, Queued, Quiet, Served, Settled}

@@ -4,7 +4,7 @@ use Rattle.rm_types.specs.declared.entries.Entry.{Entry}
 use Rattle.rm_types.specs.declared.entries.Entry.TheVariants.{Kept}
 use Rattle.rm_types.specs.declared.operations.Op.{Op}
 use Rattle.rm_types.specs.declared.settings.Settings.{Settings}
-use Rattle.rm_types.specs.Records.{Records, records, fits_records}
+use Rattle.rm_types.specs.Records.{records, fits_records}
 use Rattle.rm_model.specs.Lawful.{IsAtRest, state_after}
 use Rattle.rm_tables.specs.declared.tables.Tables.{Tables}
 use Rattle.rm_core.specs.Keeps.{Keeps}

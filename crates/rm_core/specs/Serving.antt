@@ -16,14 +16,14 @@ use Rattle.rm_tables.specs.declared.tables.Tables.{Tables}
 use Rattle.rm_client.specs.Answers.{after_client}
 use Rattle.rm_client.specs.Shows.{Shows}
 
--- the asks that are served so far: no kill; the parts of a submission are in their ranges
+-- the parts of a submission are in their ranges
 abbrev pub IsBuiltAsk : ClientAsk → Type 0
 IsBuiltAsk New = Unit {0}
 IsBuiltAsk (Submit id submission) = IsOperation (App id submission)
 IsBuiltAsk (Report id) = Unit {0}
-IsBuiltAsk (Kill id) = ⊥
+IsBuiltAsk (Kill id) = Unit {0}
 
--- the messages that are served so far: those of clients, but no kill
+-- the messages that are served so far: those of clients
 abbrev pub IsBuiltMessage : Message → Type 0
 IsBuiltMessage (FromClient user ask) = IsBuiltAsk ask
 IsBuiltMessage _ = ⊥

@@ -193,7 +193,7 @@ fn answer(
     Ok(reply)
 }
 
-/// A message is answered. Only clients are served so far, and not their kills.
+/// A message is answered. Only clients are served so far.
 pub fn answer_message(
     queues: &QueueTree,
     t: &mut Tables,

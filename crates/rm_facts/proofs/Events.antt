@@ -75,7 +75,7 @@ module _ (settings : Settings) (h : History) (t : Tables) (k : Keeps settings h 
     abbrev SavedSteps : Entry × Tables → Type 0
     SavedSteps done = Step settings h t (main_worked done).0 h (main_worked done).1
 
-    saved_idle : (row : AppRow) → row_of t.rows id ≡ Some row → row.state ≢ apps.Submitted → SavedSteps (Quiet MainLane, t)
+    pub saved_idle : (row : AppRow) → row_of t.rows id ≡ Some row → row.state ≢ apps.Submitted → SavedSteps (Quiet MainLane, t)
     saved_idle row found not = quiet (mains.AppSaved id) save_more front (Some row) found (λ q v other. rw other refl) (λ q v same. rw same refl) (λ q says. saved_quiet settings q row (view h (main_popped t) q) not says)
 
     saved_now : (row : AppRow) → row_of t.rows id ≡ Some row → row.state ≡ apps.Submitted → row.wish ≡ false

@@ -6,9 +6,10 @@ pub mod Own
 pub mod Events
 pub mod Queueing
 pub mod Saving
+pub mod Completing
+pub mod Completions
 pub mod Lists
 pub mod Weighing
 pub mod Running
 pub mod Plain
-pub mod Resting
 pub mod Opening

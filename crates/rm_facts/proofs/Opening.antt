@@ -36,7 +36,7 @@ use Rattle.rm_facts.specs.View.{View, view, one_if, is_start, is_save, is_accept
 use Rattle.rm_facts.specs.Says.{RowSays, IsKnown, StateSays, ActiveSays, AtCurrent, OverSays, GoesOn, has_tried}
 use Rattle.rm_facts.specs.Step.{Step}
 use Rattle.rm_facts.specs.Recovered.{Recoverable, IsRecovered, has_ended, fresh, stopped, lives, over, over_after}
-use Rattle.rm_facts.specs.Submissions.{AllPlain, AllOfApps, IsPlainRow, starting, is_registered}
+use Rattle.rm_facts.specs.Submissions.{AllOfApps, AllUntried, IsPlainRow, starting, is_registered}
 use Rattle.rm_facts.proofs.Counts.{at_front, at_end, count_append, none_among}
 
 abbrev pub AtMostOnce : AppId → List AppRecord → Type 0
@@ -103,7 +103,7 @@ recovered_found apps q = ap row_in (recovered_slot apps q) ∙ by (record_of app
     by (Some one) = refl
 
 -- each row of recorded applications is one that was not removed and whose master has not registered
-pub plain_rows : (apps : List AppRecord) → (id : AppId) → IsPlainRow (recovered_rows apps) id
+pub plain_rows : (apps : List AppRecord) → (id : AppId) → IsPlainRow [] (recovered_rows apps) id
 plain_rows apps id =
     record {
       stays = ap is_empty_slot (recovered_slot apps id) ∙ full (record_of apps id);
@@ -122,34 +122,44 @@ plain_rows apps id =
     of_record None = refl
     of_record (Some one) = of_last one (last_attempt one.attempts) refl
 
--- records without attempts and ends can be recovered
-pub plain_sound : (apps : List AppRecord) → AllPlain apps → (id : AppId) (one : AppRecord) → record_of apps id ≡ Some one → Recoverable id one
-plain_sound [] plain id one found = cc
-plain_sound (app ∷ apps) plain id one found = by (is_app app.id id) refl (plain_sound apps plain.2 id one)
+-- records without attempts can be recovered
+pub untried_sound : (apps : List AppRecord) → AllUntried apps → (id : AppId) (one : AppRecord) → record_of apps id ≡ Some one → Recoverable id one
+untried_sound [] untried id one found = cc
+untried_sound (app ∷ apps) untried id one found = by (is_app app.id id) refl (untried_sound apps untried.1 id one)
   where
+    at_end_ : (none : app.attempts ≡ []) (end : Option (How × List ℕ)) → app.ending ≡ end → Recoverable id app
+    at_end_ none None e = fresh e none
+    at_end_ none (Some end) e = over end e none
+
     by : (b : Bool) → is_app app.id id ≡ b → (record_of apps id ≡ Some one → Recoverable id one) → Recoverable id one
     by true e more =
         let here : ◌≡◌ {A = Option AppRecord} (Some app) (Some one) = rw e at found in
         let same : app ≡ one = cc in
-        subst (λ (app : AppRecord). Recoverable id app) same (fresh plain.1 plain.0)
+        subst (λ (app : AppRecord). Recoverable id app) same (at_end_ untried.0 app.ending refl)
     by false e more = more (rw e at found)
 
--- a plain application posts that it is saved
-saves_alone : (app : AppRecord) → app.attempts ≡ [] → app.ending ≡ None → main_of app ≡ mains.AppSaved app.id ∷ []
-saves_alone app first unended = rw (first, unended) refl
+-- an application without attempts posts that it is saved, unless it has ended
+pub saves_alone : (app : AppRecord) → app.attempts ≡ [] → (end : Option (How × List ℕ)) → app.ending ≡ end → main_of app ≡ (if is_none end then mains.AppSaved app.id ∷ [] else [])
+saves_alone app first None e = rw (first, e) refl
+saves_alone app first (Some end) e = rw (first, e) refl
 
--- each event with which a life opens over plain records is of an application that was saved, or looks for one to remove
-pub opening_of_apps : (apps : List AppRecord) → AllPlain apps → AllOfApps (opening_main apps)
-opening_of_apps [] plain = tt
-opening_of_apps (app ∷ apps) plain =
-    subst (λ (events : List MainEvent). AllOfApps ((events ++ flat_map main_of apps) ++ mains.Retire ∷ [])) (sym (saves_alone app plain.0 plain.1)) (opening_of_apps apps plain.2)
+-- each event with which a life opens over records without attempts is of an application that was saved, or looks for one to remove
+pub opening_of_apps : (apps : List AppRecord) → AllUntried apps → AllOfApps (opening_main apps)
+opening_of_apps [] untried = tt
+opening_of_apps (app ∷ apps) untried = by app.ending refl (opening_of_apps apps untried.1)
+  where
+    by : (end : Option (How × List ℕ)) → app.ending ≡ end → AllOfApps (opening_main apps) → AllOfApps (opening_main (app ∷ apps))
+    by None e more = subst (λ (events : List MainEvent). AllOfApps ((events ++ flat_map main_of apps) ++ mains.Retire ∷ [])) (sym (saves_alone app untried.0 None e)) more
+    by (Some end) e more = subst (λ (events : List MainEvent). AllOfApps ((events ++ flat_map main_of apps) ++ mains.Retire ∷ [])) (sym (saves_alone app untried.0 (Some end) e)) more
 
 -- and none is the scheduler's
-pub opening_queueings : (apps : List AppRecord) → AllPlain apps → opening_sched apps ≡ []
-opening_queueings [] plain = refl
-opening_queueings (app ∷ apps) plain =
-    let none : sched_of app ≡ [] = rw (plain.0, plain.1) refl in
-    ap (λ (events : List SchedEvent). events ++ flat_map sched_of apps) none ∙ opening_queueings apps plain.2
+pub opening_queueings : (apps : List AppRecord) → AllUntried apps → opening_sched apps ≡ []
+opening_queueings [] untried = refl
+opening_queueings (app ∷ apps) untried = ap (λ (events : List SchedEvent). events ++ flat_map sched_of apps) (by app.ending refl) ∙ opening_queueings apps untried.1
+  where
+    by : (end : Option (How × List ℕ)) → app.ending ≡ end → sched_of app ≡ []
+    by None e = let none = untried.0 in rw (none, e) refl
+    by (Some end) e = rw e refl
 
 -- no event with which a life opens is to issue an App
 pub opening_starts_none : (apps : List AppRecord) → flat_map starting (opening_main apps) ≡ []

@@ -27,37 +27,57 @@ use Rattle.rm_tables.specs.declared.events.SchedEvent.TheVariants as scheds
 use Rattle.rm_tables.specs.declared.rows.AppRow.{AppRow}
 use Rattle.rm_tables.specs.declared.rows.Current.{Current}
 use Rattle.rm_tables.specs.declared.tables.Tables.{Tables}
-use Rattle.rm_tables.specs.Actions.{main_popped, main_worked, sched_popped, sched_worked}
+use Rattle.rm_tables.specs.Actions.{main_popped, main_quiet, main_worked, sched_popped, sched_worked}
 use Rattle.rm_tables.specs.Changes.{changed}
 use Rattle.rm_tables.specs.KeptOps.{kept}
-use Rattle.rm_tables.specs.MainEvents.{accepted_by, accepted_in, main_step, retired_by, saved_by, saved_in, start_with}
+use Rattle.rm_tables.specs.MainEvents.{accepted_by, accepted_in, main_step, saved_in, start_with}
 use Rattle.rm_tables.specs.Opening.{going_in}
 use Rattle.rm_tables.specs.Rows.{row_of, with_row}
 use Rattle.rm_tables.specs.SchedEvents.{queued_by, sched_step}
+use Rattle.rm_facts.specs.Completed.{Completes, is_retire}
 use Rattle.rm_facts.specs.Told.{History, scene_in}
 use Rattle.rm_facts.specs.View.{View, changed_if, is_start, view}
 use Rattle.rm_facts.specs.Says.{RowSays, StateSays, ops_of}
 use Rattle.rm_facts.specs.Step.{Keeps, Step}
-use Rattle.rm_facts.specs.Submissions.{AllApps, AllOfApps, AllQueueings, IsPlainRow, Lists, OnlySubmits, IsOfLane, Runs, RunsOn, Stays, Works, has_registered, is_registered, saving, starting, submitted_ids}
+use Rattle.rm_facts.specs.Submissions.{AllApps, AllOfApps, AllQueueings, IsPlainRow, Lists, OnlyClients, IsOfLane, Runs, RunsOn, Stays, Works, has_registered, is_registered, saving, starting, submitted_ids}
 use Rattle.rm_facts.specs.Weights.{main_weight, weight}
+use Rattle.rm_facts.proofs.Completing.{completes_new, completes_still, retire_left, retire_still}
 use Rattle.rm_facts.proofs.Counts.{count_append, none_under}
 use Rattle.rm_facts.proofs.Effects.{main_taken}
 use Rattle.rm_facts.proofs.Events.{accepted_idle, accepted_none, accepted_now, accepting, at, retire_idle, saved_in_state, saved_none, started}
 use Rattle.rm_facts.proofs.Found.{is_app-refl, retired_changed, row_changed}
-use Rattle.rm_facts.proofs.Lists.{AllApps-push, AllOfApps-push, AllOfApps-rest, AllPlain-push, AllQueueings-push, AllSavable-filter, IsFirst, first_found, forgets_first, going_more, id_count, is_other, saving_awaits, saving_count, starting_count, submitted_count, submitted_length, waiting_savable}
+use Rattle.rm_facts.proofs.Lists.{AllApps-push, AllOfApps-push, AllOfApps-rest, AllNamed-push, AllQueueings-push, AllSavable-filter, AllUntried-push, IsFirst, first_found, forgets_first, going_more, id_count, is_other, saving_awaits, saving_count, starting_count, submitted_count, submitted_length, waiting_savable}
 use Rattle.rm_facts.proofs.Own.{start_more}
 use Rattle.rm_facts.proofs.Queueing.{added_steps, queued_steps}
-use Rattle.rm_facts.proofs.Saving.{app_kept, app_kept_steps, app_waits}
+use Rattle.rm_facts.proofs.Saving.{app_kept, app_kept_steps, app_unkept, app_waits}
 use Rattle.rm_facts.proofs.Weighing.{answered_lighter, app_lighter, asked_lighter, issued_lighter, popped_lighter, posted_lighter}
 
 -- a step of a dispatcher, by its entry
-works : {lane : Lane} {h : History} {t next : Tables} {entry : Entry} → IsOfLane lane entry → RunsOn h t entry next → Works lane h t entry next
+pub works : {lane : Lane} {h : History} {t next : Tables} {entry : Entry} → IsOfLane lane entry → RunsOn h t entry next → Works lane h t entry next
 works kind runs = record { kind = kind; runs_on = runs }
 
+-- what is said of clients alone stays where only what is with the store, and how much was given and served, changes
+pub clients_still : (h : History) (t next : Tables) → OnlyClients h t → next ≡ record t { handed = next.handed; given = next.given; served = next.served } → OnlyClients h next
+clients_still h t next o is =
+    subst (OnlyClients h) (sym is)
+    (record {
+      bare = o.bare;
+      rows = o.rows;
+      main = o.main;
+      sched = o.sched;
+      awaiting = o.awaiting;
+      savable = o.savable;
+      untried = o.untried;
+      named = o.named;
+      book = o.book;
+      completes = completes_still t (record t { handed = next.handed; given = next.given; served = next.served }) o.completes refl refl refl (λ some. some);
+      unblown = o.unblown;
+    })
+
 -- rows stay plain where one changes
-row_plain : (change : AppRow → AppRow) → ((row : AppRow) → has_registered row.current ≡ false → has_registered (change row).current ≡ false) → (id : AppId) (rows : List (AppId × Option AppRow))
-    → ((q : AppId) → IsPlainRow rows q) → (q : AppId) → IsPlainRow (with_row change id rows) q
-row_plain change keeps id rows plain q =
+pub row_plain : (retired : List AppId) (change : AppRow → AppRow) → ((row : AppRow) → has_registered row.current ≡ false → has_registered (change row).current ≡ false) → (id : AppId) (rows : List (AppId × Option AppRow))
+    → ((q : AppId) → IsPlainRow retired rows q) → (q : AppId) → IsPlainRow retired (with_row change id rows) q
+row_plain retired change keeps id rows plain q =
     record { stays = retired_changed change id q rows ∙ (plain q).stays; unregistered = ap is_registered (row_changed change id q rows) ∙ by (is_app id q) (row_of rows q) (plain q).unregistered }
   where
     by : (b : Bool) (o : Option AppRow) → is_registered o ≡ false → is_registered (changed_if b change o) ≡ false
@@ -80,27 +100,24 @@ keep_keeps row e = by row.current e
     by (Some current) e = e
 
 module _ (h : History) (t : Tables) (r : Runs h t) where
-  -- no client wished for a kill
-  no_wish : (id : AppId) (row : AppRow) → row_of t.rows id ≡ Some row → row.wish ≡ false
-  no_wish id row found =
-      let says : RowSays t.settings (at id) (Some row) (view h t (at id)) = rw found at (r.keeps.all (at id)) in
-      let none = r.only.bare.wishes in
-      sym says.0.wish ∙ rw none refl
-
   module _ (e : MainEvent) (rest : List MainEvent) (front : t.main ≡ e ∷ rest) where
     rest_of : AllOfApps rest
     rest_of = AllOfApps-rest e rest (subst AllOfApps front r.only.main)
 
-    popped_of : AllOfApps (drop 1 t.main)
+    pub popped_of : AllOfApps (drop 1 t.main)
     popped_of = rw front rest_of
 
     -- the order of submissions, where the event starts none
-    popped_order : starting e ≡ [] → submitted_ids h.apps.submitted ≡ flat_map saving t.awaiting ++ flat_map starting (drop 1 t.main)
+    pub popped_order : starting e ≡ [] → submitted_ids h.apps.submitted ≡ flat_map saving t.awaiting ++ flat_map starting (drop 1 t.main)
     popped_order none = rw front (let o = rw (front, none) at r.lists.order in o)
 
+    -- the completed, where the event looks for none of them
+    pub completes_rest : is_retire e ≡ false → Completes (main_popped t)
+    completes_rest not = completes_still t (main_popped t) r.only.completes refl refl refl (retire_left t.main e rest front not)
+
     -- an event goes that starts no submission
-    popped_runs : Step t.settings h t (Quiet MainLane) h (main_popped t) → starting e ≡ [] → 1 ≤ main_weight e → Works MainLane h t (Quiet MainLane) (main_popped t)
-    popped_runs s none one =
+    pub popped_runs : Step t.settings h t (Quiet MainLane) h (main_popped t) → starting e ≡ [] → Completes (main_popped t) → 1 ≤ main_weight e → Works MainLane h t (Quiet MainLane) (main_popped t)
+    popped_runs s none completes one =
         works refl (record {
           history = h;
           lawful = s.lawful;
@@ -110,7 +127,7 @@ module _ (h : History) (t : Tables) (r : Runs h t) where
           runs = record {
             keeps = s.keeps;
             lists = record { order = popped_order none; going = r.lists.going };
-            only = record { bare = r.only.bare; rows = r.only.rows; main = popped_of; sched = r.only.sched; awaiting = r.only.awaiting; savable = r.only.savable; plain = r.only.plain; ended = r.only.ended; unblown = r.only.unblown };
+            only = record { bare = r.only.bare; rows = r.only.rows; main = popped_of; sched = r.only.sched; awaiting = r.only.awaiting; savable = r.only.savable; untried = r.only.untried; named = r.only.named; book = r.only.book; completes = completes; unblown = r.only.unblown };
           };
         })
 
@@ -131,25 +148,25 @@ module _ (h : History) (t : Tables) (r : Runs h t) where
           runs = record {
             keeps = step.keeps;
             lists = record { order = popped_order (mains.AppSaved id) rest front refl; going = r.lists.going };
-            only = record { bare = r.only.bare; rows = r.only.rows; main = popped_of (mains.AppSaved id) rest front; sched = AllQueueings-push t.sched (scheds.AppAdded id) r.only.sched tt; awaiting = r.only.awaiting; savable = r.only.savable; plain = r.only.plain; ended = r.only.ended; unblown = r.only.unblown };
+            only = record { bare = r.only.bare; rows = r.only.rows; main = popped_of (mains.AppSaved id) rest front; sched = AllQueueings-push t.sched (scheds.AppAdded id) r.only.sched tt; awaiting = r.only.awaiting; savable = r.only.savable; untried = r.only.untried; named = r.only.named; book = r.only.book; completes = completes_still t (record (main_popped t) { sched = t.sched ++ scheds.AppAdded id ∷ [] }) r.only.completes refl refl refl (retire_left t.main (mains.AppSaved id) rest front refl); unblown = r.only.unblown };
           };
         })
-    saved_state row found wish apps.New is = popped_runs (mains.AppSaved id) rest front (saved_in_state t.settings h t r.keeps id rest front row found wish apps.New is) refl (omega arith)
-    saved_state row found wish apps.NewSaving is = popped_runs (mains.AppSaved id) rest front (saved_in_state t.settings h t r.keeps id rest front row found wish apps.NewSaving is) refl (omega arith)
-    saved_state row found wish apps.Accepted is = popped_runs (mains.AppSaved id) rest front (saved_in_state t.settings h t r.keeps id rest front row found wish apps.Accepted is) refl (omega arith)
-    saved_state row found wish apps.Running is = popped_runs (mains.AppSaved id) rest front (saved_in_state t.settings h t r.keeps id rest front row found wish apps.Running is) refl (omega arith)
-    saved_state row found wish apps.Killing is = popped_runs (mains.AppSaved id) rest front (saved_in_state t.settings h t r.keeps id rest front row found wish apps.Killing is) refl (omega arith)
-    saved_state row found wish apps.FinalSaving is = popped_runs (mains.AppSaved id) rest front (saved_in_state t.settings h t r.keeps id rest front row found wish apps.FinalSaving is) refl (omega arith)
-    saved_state row found wish apps.Finished is = popped_runs (mains.AppSaved id) rest front (saved_in_state t.settings h t r.keeps id rest front row found wish apps.Finished is) refl (omega arith)
-    saved_state row found wish apps.Failed is = popped_runs (mains.AppSaved id) rest front (saved_in_state t.settings h t r.keeps id rest front row found wish apps.Failed is) refl (omega arith)
-    saved_state row found wish apps.Killed is = popped_runs (mains.AppSaved id) rest front (saved_in_state t.settings h t r.keeps id rest front row found wish apps.Killed is) refl (omega arith)
+    saved_state row found wish apps.New is = popped_runs (mains.AppSaved id) rest front (saved_in_state t.settings h t r.keeps id rest front row found wish apps.New is) refl (completes_rest (mains.AppSaved id) rest front refl) (omega arith)
+    saved_state row found wish apps.NewSaving is = popped_runs (mains.AppSaved id) rest front (saved_in_state t.settings h t r.keeps id rest front row found wish apps.NewSaving is) refl (completes_rest (mains.AppSaved id) rest front refl) (omega arith)
+    saved_state row found wish apps.Accepted is = popped_runs (mains.AppSaved id) rest front (saved_in_state t.settings h t r.keeps id rest front row found wish apps.Accepted is) refl (completes_rest (mains.AppSaved id) rest front refl) (omega arith)
+    saved_state row found wish apps.Running is = popped_runs (mains.AppSaved id) rest front (saved_in_state t.settings h t r.keeps id rest front row found wish apps.Running is) refl (completes_rest (mains.AppSaved id) rest front refl) (omega arith)
+    saved_state row found wish apps.Killing is = popped_runs (mains.AppSaved id) rest front (saved_in_state t.settings h t r.keeps id rest front row found wish apps.Killing is) refl (completes_rest (mains.AppSaved id) rest front refl) (omega arith)
+    saved_state row found wish apps.FinalSaving is = popped_runs (mains.AppSaved id) rest front (saved_in_state t.settings h t r.keeps id rest front row found wish apps.FinalSaving is) refl (completes_rest (mains.AppSaved id) rest front refl) (omega arith)
+    saved_state row found wish apps.Finished is = popped_runs (mains.AppSaved id) rest front (saved_in_state t.settings h t r.keeps id rest front row found wish apps.Finished is) refl (completes_rest (mains.AppSaved id) rest front refl) (omega arith)
+    saved_state row found wish apps.Failed is = popped_runs (mains.AppSaved id) rest front (saved_in_state t.settings h t r.keeps id rest front row found wish apps.Failed is) refl (completes_rest (mains.AppSaved id) rest front refl) (omega arith)
+    saved_state row found wish apps.Killed is = popped_runs (mains.AppSaved id) rest front (saved_in_state t.settings h t r.keeps id rest front row found wish apps.Killed is) refl (completes_rest (mains.AppSaved id) rest front refl) (omega arith)
 
-    saved_row : (row : Option AppRow) → row_of t.rows id ≡ row → SavedRuns (saved_by row id t)
-    saved_row None found = popped_runs (mains.AppSaved id) rest front (saved_none t.settings h t r.keeps id rest front found) refl (omega arith)
-    saved_row (Some row) found = let wish = no_wish id row found in rw wish (saved_state row found wish row.state refl)
+    -- where no client wished to kill it
+    pub saved_free_runs : (row : AppRow) → row_of t.rows id ≡ Some row → row.wish ≡ false → SavedRuns (saved_in row.state false id t)
+    saved_free_runs row found wish = saved_state row found wish row.state refl
 
-    pub saved_runs : SavedRuns (main_step (mains.AppSaved id) t)
-    saved_runs = saved_row (row_of t.rows id) refl
+    pub saved_none_runs : row_of t.rows id ≡ None → SavedRuns (main_quiet t)
+    saved_none_runs found = popped_runs (mains.AppSaved id) rest front (saved_none t.settings h t r.keeps id rest front found) refl (completes_rest (mains.AppSaved id) rest front refl) (omega arith)
 
   -- AppAccepted
   module _ (id : AppId) (rest : List MainEvent) (front : t.main ≡ mains.AppAccepted id ∷ rest) where
@@ -169,43 +186,45 @@ module _ (h : History) (t : Tables) (r : Runs h t) where
             keeps = step.keeps;
             lists = record { order = popped_order (mains.AppAccepted id) rest front refl; going = r.lists.going };
             only = record {
-              bare = record { wishes = r.only.bare.wishes; retired = r.only.bare.retired; masters = r.only.bare.masters; book = r.only.bare.book; left = r.only.bare.left; nodes = r.only.bare.nodes };
-              rows = row_plain (changed (of_app.Schedule 1)) (λ row e. refl) id t.rows r.only.rows;
+              bare = record { masters = r.only.bare.masters; book = r.only.bare.book; left = r.only.bare.left; nodes = r.only.bare.nodes };
+              rows = row_plain h.apps.retired (changed (of_app.Schedule 1)) (λ row e. refl) id t.rows r.only.rows;
               main = popped_of (mains.AppAccepted id) rest front;
               sched = AllQueueings-push t.sched (scheds.AttemptAdded (record { app = id; number = 1 })) r.only.sched tt;
               awaiting = r.only.awaiting;
               savable = r.only.savable;
-              plain = r.only.plain;
-              ended = r.only.ended;
+              untried = r.only.untried;
+              named = r.only.named;
+              book = r.only.book;
+              completes = completes_still t (main_worked (accepted_in apps.Submitted id t)).1 r.only.completes refl refl refl (retire_left t.main (mains.AppAccepted id) rest front refl);
               unblown = r.only.unblown;
             };
           };
         })
-    accepted_state row found apps.New is = popped_runs (mains.AppAccepted id) rest front (accepted_idle t.settings h t r.keeps id rest front row found (rw is (λ u. cc))) refl (omega arith)
-    accepted_state row found apps.NewSaving is = popped_runs (mains.AppAccepted id) rest front (accepted_idle t.settings h t r.keeps id rest front row found (rw is (λ u. cc))) refl (omega arith)
-    accepted_state row found apps.Accepted is = popped_runs (mains.AppAccepted id) rest front (accepted_idle t.settings h t r.keeps id rest front row found (rw is (λ u. cc))) refl (omega arith)
-    accepted_state row found apps.Running is = popped_runs (mains.AppAccepted id) rest front (accepted_idle t.settings h t r.keeps id rest front row found (rw is (λ u. cc))) refl (omega arith)
-    accepted_state row found apps.Killing is = popped_runs (mains.AppAccepted id) rest front (accepted_idle t.settings h t r.keeps id rest front row found (rw is (λ u. cc))) refl (omega arith)
-    accepted_state row found apps.FinalSaving is = popped_runs (mains.AppAccepted id) rest front (accepted_idle t.settings h t r.keeps id rest front row found (rw is (λ u. cc))) refl (omega arith)
-    accepted_state row found apps.Finished is = popped_runs (mains.AppAccepted id) rest front (accepted_idle t.settings h t r.keeps id rest front row found (rw is (λ u. cc))) refl (omega arith)
-    accepted_state row found apps.Failed is = popped_runs (mains.AppAccepted id) rest front (accepted_idle t.settings h t r.keeps id rest front row found (rw is (λ u. cc))) refl (omega arith)
-    accepted_state row found apps.Killed is = popped_runs (mains.AppAccepted id) rest front (accepted_idle t.settings h t r.keeps id rest front row found (rw is (λ u. cc))) refl (omega arith)
+    accepted_state row found apps.New is = popped_runs (mains.AppAccepted id) rest front (accepted_idle t.settings h t r.keeps id rest front row found (rw is (λ u. cc))) refl (completes_rest (mains.AppAccepted id) rest front refl) (omega arith)
+    accepted_state row found apps.NewSaving is = popped_runs (mains.AppAccepted id) rest front (accepted_idle t.settings h t r.keeps id rest front row found (rw is (λ u. cc))) refl (completes_rest (mains.AppAccepted id) rest front refl) (omega arith)
+    accepted_state row found apps.Accepted is = popped_runs (mains.AppAccepted id) rest front (accepted_idle t.settings h t r.keeps id rest front row found (rw is (λ u. cc))) refl (completes_rest (mains.AppAccepted id) rest front refl) (omega arith)
+    accepted_state row found apps.Running is = popped_runs (mains.AppAccepted id) rest front (accepted_idle t.settings h t r.keeps id rest front row found (rw is (λ u. cc))) refl (completes_rest (mains.AppAccepted id) rest front refl) (omega arith)
+    accepted_state row found apps.Killing is = popped_runs (mains.AppAccepted id) rest front (accepted_idle t.settings h t r.keeps id rest front row found (rw is (λ u. cc))) refl (completes_rest (mains.AppAccepted id) rest front refl) (omega arith)
+    accepted_state row found apps.FinalSaving is = popped_runs (mains.AppAccepted id) rest front (accepted_idle t.settings h t r.keeps id rest front row found (rw is (λ u. cc))) refl (completes_rest (mains.AppAccepted id) rest front refl) (omega arith)
+    accepted_state row found apps.Finished is = popped_runs (mains.AppAccepted id) rest front (accepted_idle t.settings h t r.keeps id rest front row found (rw is (λ u. cc))) refl (completes_rest (mains.AppAccepted id) rest front refl) (omega arith)
+    accepted_state row found apps.Failed is = popped_runs (mains.AppAccepted id) rest front (accepted_idle t.settings h t r.keeps id rest front row found (rw is (λ u. cc))) refl (completes_rest (mains.AppAccepted id) rest front refl) (omega arith)
+    accepted_state row found apps.Killed is = popped_runs (mains.AppAccepted id) rest front (accepted_idle t.settings h t r.keeps id rest front row found (rw is (λ u. cc))) refl (completes_rest (mains.AppAccepted id) rest front refl) (omega arith)
 
     accepted_row : (row : Option AppRow) → row_of t.rows id ≡ row → AcceptedRuns (accepted_by row id t)
-    accepted_row None found = popped_runs (mains.AppAccepted id) rest front (accepted_none t.settings h t r.keeps id rest front found) refl (omega arith)
+    accepted_row None found = popped_runs (mains.AppAccepted id) rest front (accepted_none t.settings h t r.keeps id rest front found) refl (completes_rest (mains.AppAccepted id) rest front refl) (omega arith)
     accepted_row (Some row) found = accepted_state row found row.state refl
 
     pub accepted_runs : AcceptedRuns (main_step (mains.AppAccepted id) t)
     accepted_runs = accepted_row (row_of t.rows id) refl
 
-  -- Retire
-  pub retire_runs : (rest : List MainEvent) → t.main ≡ mains.Retire ∷ rest → Works MainLane h t (main_worked (main_step mains.Retire t)).0 (main_worked (main_step mains.Retire t)).1
-  retire_runs rest front =
-      subst (λ (ids : List AppId). Works MainLane h t (main_worked (retired_by ids t)).0 (main_worked (retired_by ids t)).1) (sym r.only.ended)
-      (popped_runs mains.Retire rest front (retire_idle t.settings h t r.keeps rest front) refl (omega arith))
+  -- Retire, where no more are completed than are remembered
+  pub retire_idle_runs : (rest : List MainEvent) → t.main ≡ mains.Retire ∷ rest → (t.settings.max_completed < length t.ended → ⊥) → Works MainLane h t (Quiet MainLane) (main_popped t)
+  retire_idle_runs rest front few =
+      let c = r.only.completes in
+      popped_runs mains.Retire rest front (retire_idle t.settings h t r.keeps rest front) refl (record { once = c.once; in_order = c.in_order; early = c.early; retires = λ many. absurd (few many) }) (omega arith)
 
 -- a list with an item at its end
-not_empty : {X : Type 0} (xs : List X) (x : X) → xs ++ x ∷ [] ≢ []
+pub not_empty : {X : Type 0} (xs : List X) (x : X) → xs ++ x ∷ [] ≢ []
 not_empty [] x = λ e. cc
 not_empty (y ∷ xs) x = λ e. cc
 
@@ -262,19 +281,21 @@ module _ (h : History) (t : Tables) (r : Runs h t) (id : AppId) (rest : List Mai
         lawful = step.lawful;
         same = step.same;
         stays = record { settings = refl; alloc = refl; alive = refl; epoch = refl; given = refl; served = refl; handed = λ f e. not_empty t.awaiting (ops.App id first.submission) };
-        lighter = issued_lighter t (mains.AppStart id) rest front (with_row (changed of_app.Issue) id t.rows) (ops.App id first.submission) (omega arith);
+        lighter = issued_lighter t (mains.AppStart id) rest front (with_row (changed of_app.Issue) id t.rows) t.asks (ops.App id first.submission) (omega arith);
         runs = record {
           keeps = step.keeps;
           lists = record { order = order_after first.submission; going = r.lists.going };
           only = record {
             bare = r.only.bare;
-            rows = row_plain (changed of_app.Issue) issue_keeps id t.rows r.only.rows;
+            rows = row_plain h.apps.retired (changed of_app.Issue) issue_keeps id t.rows r.only.rows;
             main = popped_of h t r (mains.AppStart id) rest front;
             sched = r.only.sched;
-            awaiting = AllApps-push t.awaiting id first.submission r.only.awaiting can;
+            awaiting = AllApps-push t.awaiting (ops.App id first.submission) r.only.awaiting (can, tt);
             savable = r.only.savable;
-            plain = r.only.plain;
-            ended = r.only.ended;
+            untried = r.only.untried;
+            named = r.only.named;
+            book = r.only.book;
+            completes = completes_still t (main_worked (start_with (Some first.submission) id t)).1 r.only.completes refl refl refl (retire_left t.main (mains.AppStart id) rest front refl);
             unblown = r.only.unblown;
           };
         };
@@ -300,7 +321,7 @@ module _ (h : History) (t : Tables) (r : Runs h t) where
         runs = record {
           keeps = step.keeps;
           lists = record { order = simp (flat_map-append, append-nil) r.lists.order; going = r.lists.going };
-          only = record { bare = r.only.bare; rows = r.only.rows; main = AllOfApps-push t.main (mains.AppAccepted id) r.only.main tt; sched = rw front all; awaiting = r.only.awaiting; savable = r.only.savable; plain = r.only.plain; ended = r.only.ended; unblown = r.only.unblown };
+          only = record { bare = r.only.bare; rows = r.only.rows; main = AllOfApps-push t.main (mains.AppAccepted id) r.only.main tt; sched = rw front all; awaiting = r.only.awaiting; savable = r.only.savable; untried = r.only.untried; named = r.only.named; book = r.only.book; completes = completes_still t (record (sched_popped t) { main = t.main ++ mains.AppAccepted id ∷ [] }) r.only.completes refl refl refl (retire_still t.main (mains.AppAccepted id)); unblown = r.only.unblown };
         };
       })
 
@@ -318,8 +339,8 @@ module _ (h : History) (t : Tables) (r : Runs h t) where
         runs = record {
           keeps = subst (λ (s : Settings). Keeps s (record h { asks = queued.asked }) (sched_popped (queued_by (row_of t.rows id.app) id t).1)) (sym (ap (λ (n : Tables). n.settings) queued.is)) queued.step.keeps;
           lists = subst (λ (n : Tables). Lists (record h { asks = queued.asked }) (sched_popped n)) (sym queued.is) (record { order = r.lists.order; going = r.lists.going });
-          only = subst (λ (n : Tables). OnlySubmits (record h { asks = queued.asked }) (sched_popped n)) (sym queued.is)
-              (record { bare = record { wishes = r.only.bare.wishes; retired = r.only.bare.retired; masters = r.only.bare.masters; book = r.only.bare.book; left = r.only.bare.left; nodes = r.only.bare.nodes }; rows = r.only.rows; main = r.only.main; sched = rw front all; awaiting = r.only.awaiting; savable = r.only.savable; plain = r.only.plain; ended = r.only.ended; unblown = r.only.unblown });
+          only = subst (λ (n : Tables). OnlyClients (record h { asks = queued.asked }) (sched_popped n)) (sym queued.is)
+              (record { bare = record { masters = r.only.bare.masters; book = r.only.bare.book; left = r.only.bare.left; nodes = r.only.bare.nodes }; rows = r.only.rows; main = r.only.main; sched = rw front all; awaiting = r.only.awaiting; savable = r.only.savable; untried = r.only.untried; named = r.only.named; book = r.only.book; completes = completes_still t (sched_popped (record t { asks = queued.asks })) r.only.completes refl refl refl (λ some. some); unblown = r.only.unblown });
         };
       })
 
@@ -358,14 +379,16 @@ module _ (h : History) (t : Tables) (r : Runs h t) (id : AppId) (s : Submission)
           keeps = step.keeps;
           lists = record { order = order_after; going = going_after };
           only = record {
-            bare = record { wishes = r.only.bare.wishes; retired = r.only.bare.retired; masters = r.only.bare.masters; book = r.only.bare.book; left = r.only.bare.left; nodes = r.only.bare.nodes };
-            rows = row_plain (changed of_app.Keep) keep_keeps id t.rows r.only.rows;
+            bare = record { masters = r.only.bare.masters; book = r.only.bare.book; left = r.only.bare.left; nodes = r.only.bare.nodes };
+            rows = row_plain h.apps.retired (changed of_app.Keep) keep_keeps id t.rows r.only.rows;
             main = AllOfApps-push t.main (mains.AppSaved id) r.only.main tt;
             sched = r.only.sched;
             awaiting = rw front all.1;
             savable = AllSavable-filter h.apps.submitted id r.only.savable;
-            plain = AllPlain-push t.tree.apps id s r.only.plain;
-            ended = r.only.ended;
+            untried = AllUntried-push t.tree.apps id s r.only.untried;
+            named = AllNamed-push t.tree.apps id s r.only.named all.0.0;
+            book = r.only.book;
+            completes = completes_new t (kept (ops.App id s) t) id s r.only.completes (app_unkept t.settings h t r.keeps id s rest front) refl refl refl refl (retire_still t.main (mains.AppSaved id));
             unblown = r.only.unblown;
           };
         };

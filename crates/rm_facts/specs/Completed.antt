@@ -1,9 +1,11 @@
 -- What holds of the completed applications of the tables: they stand in the order in which their ends were kept. This project's own.
-use Rattle.std.specs.Prelude.{◌≤◌, ℕ, List, [], ◌∷◌, Option, None, Some, count_by}
+use Rattle.std.specs.Prelude.{◌≤◌, ◌<◌, ℕ, List, [], ◌∷◌, Bool, true, false, Option, None, Some, count_by, length}
 use Rattle.rm_types.specs.declared.ids.AppId.{AppId}
 use Rattle.rm_types.specs.declared.records.AppRecord.{AppRecord}
 use Rattle.rm_types.specs.Ids.{is_app}
 use Rattle.rm_types.specs.Records.{record_of}
+use Rattle.rm_tables.specs.declared.events.MainEvent.{MainEvent}
+use Rattle.rm_tables.specs.declared.events.MainEvent.TheVariants as mains
 use Rattle.rm_tables.specs.declared.tables.Tables.{Tables}
 
 -- when the end of an application was kept, as a place among the operations
@@ -24,7 +26,15 @@ abbrev pub InOrder : List AppRecord → List AppId → Type 0
 InOrder apps [] = Unit {0}
 InOrder apps (id ∷ more) = AllLater apps (order_of apps id) more × InOrder apps more
 
--- no two records are of one application, and the completed stand in order
+-- the event looks for an application to remove
+abbrev pub is_retire : MainEvent → Bool
+is_retire mains.Retire = true
+is_retire _ = false
+
+-- no two records are of one application; the completed stand in order, and none ended after what is recorded; and where there are more of
+-- them than are remembered, one is still to be removed
 pub record Completes (t : Tables) : Type 0 where
   pub once : (id : AppId) → count_by (λ app. is_app app.id id) t.tree.apps ≤ 1
   pub in_order : InOrder t.tree.apps t.ended
+  pub early : (id : AppId) → order_of t.tree.apps id ≤ t.tree.applied
+  pub retires : t.settings.max_completed < length t.ended → 1 ≤ count_by is_retire t.main

@@ -3,5 +3,6 @@ pub mod View
 pub mod Says
 pub mod Step
 pub mod Weights
+pub mod Completed
 pub mod Submissions
 pub mod Recovered

@@ -1,5 +1,5 @@
 -- The state of the judge's manager that the tables stand for.
-use Rattle.std.specs.Prelude.{ℕ, List, [], Bool, true, false, Option, None, Some}
+use Rattle.std.specs.Prelude.{List, [], Bool, true, false, Option, None, Some}
 use Rattle.rm_types.specs.declared.containers.AskOf.{AskOf}
 use Rattle.rm_types.specs.declared.ids.ContainerId.{ContainerId}
 use Rattle.rm_types.specs.declared.operations.Op.{Op}

@@ -39,7 +39,7 @@ ask_served : (user : List ℕ) (ask : ClientAsk) → IsText Name user → IsClie
 ask_served user New name values built = tt
 ask_served user (Submit id submission) name values built = (values.0, framed user submission name values.1)
 ask_served user (Report id) name values built = tt
-ask_served user (Kill id) name values built = absurd built
+ask_served user (Kill id) name values built = tt
 
 message_served : (message : Message) → IsRead message → IsServedMessage message
 message_served (Client user ask) h = ask_served user ask h.values.0 h.values.1 h.built

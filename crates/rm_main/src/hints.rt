@@ -25,10 +25,8 @@ pub fn cluster_hint(place: u32) -> &'static str {
 fn line_hint(line: &str) -> &'static str {
     if line.starts_with("master ") || line.starts_with("node ") || line.starts_with("clock ") {
         "the messages of masters, nodes and the clock are not read yet"
-    } else if line.starts_with("client ") && line.contains(" kill ") {
-        "`kill` is not read yet"
     } else if line.starts_with("client ") || line.starts_with("lose ") {
-        "a message stands inside a life, as `client USER new`, `client USER submit APP queue=QUEUE name=NAME memory=MB vcores=CORES attempts=N[ modify=ACL]` or `client USER report APP`"
+        "a message stands inside a life, as `client USER new`, `client USER submit APP queue=QUEUE name=NAME memory=MB vcores=CORES attempts=N[ modify=ACL]`, `client USER report APP` or `client USER kill APP`"
     } else if line.starts_with("crash") {
         "a crash is `crash CALLS IMAGE`, directly after a `settle` of its life"
     } else if line.starts_with("settle") {

@@ -77,7 +77,7 @@ fn explain_device<R: Eprint>(rt: &R, outcome: Outcome, program: &str) {
         ),
         Outcome::DiskFault => eprintln!(rt; "{program}: the store's device failed"),
         Outcome::StoreDamaged { offset: u64::MAX } => eprintln!(rt;
-            "{program}: an application in the store has an attempt or an end, over which no life can begin yet"
+            "{program}: an application in the store has an attempt, over which no life can begin yet"
         ),
         Outcome::StoreDamaged { offset } => eprintln!(rt;
             "{program}: the device holds no store: it is damaged at offset {offset}"

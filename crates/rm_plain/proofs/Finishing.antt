@@ -131,7 +131,7 @@ module _ {D : Type 0} (view : D → DiskView) (opening : List Op) where
           stays = stays_trans view first second third ab.stays bc.disk_stays;
           unarmed = bc.at_ease.unarmed;
           unblown = λ some. bc.at_ease.unblown;
-          opened = λ some. (ab.plain, ab.opened);
+          opened = λ some. (ab.untried, ab.opened);
           found = inr ab.opened;
           ends = record { lives = none; over = bc.ends };
           quiet = λ empty. absurd (bc.some empty);
@@ -149,7 +149,7 @@ module _ {D : Type 0} (view : D → DiskView) (opening : List Op) where
           stays = stays_trans view first second third ab.stays bc.stays;
           unarmed = bc.at_ease.unarmed;
           unblown = λ some. bc.at_ease.unblown;
-          opened = λ some. (ab.plain, ab.opened);
+          opened = λ some. (ab.untried, ab.opened);
           found = inr ab.opened;
           ends = tt;
           quiet = λ empty. absurd (bc.goes.some ab.some empty);

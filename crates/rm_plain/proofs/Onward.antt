@@ -15,7 +15,7 @@ use Rattle.rm_plain.specs.Survives.{HoldsWithin, SurvivesAll, SurvivesNow}
 use Rattle.rm_store.specs.Store.{StoreState, seen}
 use Rattle.rm_store.proofs.Faultless.{one_list, never_damaged, never_stray}
 use Rattle.rm_core.specs.Adds.{AmountsTo}
-use Rattle.rm_facts.specs.Submissions.{AllPlain}
+use Rattle.rm_facts.specs.Submissions.{AllUntried}
 use Rattle.rm_core.specs.Seen.{Seen, StandsFor}
 use Rattle.rm_core.specs.Words.{stands}
 use Rattle.rm_desk.specs.View.{DeskView}
@@ -76,8 +76,8 @@ module _ {D : Type 0} (view : D → DiskView) where
     amounts_kept opening core has =
         o.read.amounts ∙ ap records (same_ops opening core.log has)
 
-    ready : tree.next_epoch < 2 ^ 24 → tree.stamp < 2 ^ 63 - 1 → AllPlain tree.apps → IsReady view disk store tree
-    ready epoch stamp plain =
+    ready : tree.next_epoch < 2 ^ 24 → tree.stamp < 2 ^ 63 - 1 → AllUntried tree.apps → IsReady view disk store tree
+    ready epoch stamp untried =
         record {
           sound = o.sound;
           unbroken = o.unbroken;
@@ -85,7 +85,7 @@ module _ {D : Type 0} (view : D → DiskView) where
           unblown = o.unblown;
           falls = o.falls;
           stays = o.disk;
-          over = record { of_store = record { ops = ops; none_stray = o.read.none_stray; amounts = o.read.amounts }; epoch = epoch; stamp = stamp; plain = plain };
+          over = record { of_store = record { ops = ops; framed = o.read.framed; none_stray = o.read.none_stray; amounts = o.read.amounts }; epoch = epoch; stamp = stamp; untried = untried };
         }
 
     -- it is given back, since no life can begin over it
@@ -94,35 +94,35 @@ module _ {D : Type 0} (view : D → DiskView) where
 
     -- for its operations
     pub refused_first : (stop : Stop) → IsRefusedBy tree stop → IsUnfounded view ops disk store.disk stop
-    refused_first (Damaged offset) h = inr (h.0, o.holds, λ all. h.1 (subst (λ (r : Records). AllPlain r.apps) (sym o.read.amounts) all))
-    refused_first EpochsSpent h = (o.holds, subst (λ (r : Records). AllPlain r.apps × ((2 ^ 24 ≤ r.next_epoch) ⊎ (2 ^ 63 - 1 ≤ r.stamp))) o.read.amounts h)
+    refused_first (Damaged offset) h = inr (h.0, o.holds, λ all. h.1 (subst (λ (r : Records). AllUntried r.apps) (sym o.read.amounts) all))
+    refused_first EpochsSpent h = (o.holds, subst (λ (r : Records). AllUntried r.apps × ((2 ^ 24 ≤ r.next_epoch) ⊎ (2 ^ 63 - 1 ≤ r.stamp))) o.read.amounts h)
     refused_first DiskFault h = absurd h
     refused_first (Full needed room) h = absurd h
     refused_first Memory h = absurd h
 
     -- or for those that are kept
     pub refused_again : (opening : List Op) (core : Seen) → AmountsTo tree opening core → (stop : Stop) → IsRefusedBy tree stop → IsUnready view opening core.log disk store.disk stop
-    refused_again opening core amounts (Damaged offset) h = λ has. (h.0, λ all. h.1 (subst (λ (l : List AppRecord). AllPlain l) (sym (ap (λ (r : Records). r.apps) amounts)) all))
+    refused_again opening core amounts (Damaged offset) h = λ has. (h.0, λ all. h.1 (subst (λ (l : List AppRecord). AllUntried l) (sym (ap (λ (r : Records). r.apps) amounts)) all))
     refused_again opening core amounts EpochsSpent h =
-        subst (λ (r : Records). AllPlain r.apps × ((2 ^ 24 ≤ r.next_epoch) ⊎ (2 ^ 63 - 1 ≤ r.stamp))) amounts h
+        subst (λ (r : Records). AllUntried r.apps × ((2 ^ 24 ≤ r.next_epoch) ⊎ (2 ^ 63 - 1 ≤ r.stamp))) amounts h
     refused_again opening core amounts DiskFault h = absurd h
     refused_again opening core amounts (Full needed room) h = absurd h
     refused_again opening core amounts Memory h = absurd h
 
-    pub is_first : tree.next_epoch < 2 ^ 24 → tree.stamp < 2 ^ 63 - 1 → AllPlain tree.apps → IsFirst view disk store tree ops
-    is_first epoch stamp plain =
+    pub is_first : tree.next_epoch < 2 ^ 24 → tree.stamp < 2 ^ 63 - 1 → AllUntried tree.apps → IsFirst view disk store tree ops
+    is_first epoch stamp untried =
         record {
-          ready = ready epoch stamp plain;
+          ready = ready epoch stamp untried;
           amounts = o.read.amounts;
           kept = λ bytes told. (o.holds bytes told, record { bytes = bytes; told = o.quiet.told ∙ told; holds = o.holds bytes told; images = o.images bytes told });
           quiet = o.quiet;
         }
 
-    pub is_again : (core : Seen) → tree.next_epoch < 2 ^ 24 → tree.stamp < 2 ^ 63 - 1 → AllPlain tree.apps → ((opening : List Op) → StandsFor opening core → AmountsTo tree opening core)
+    pub is_again : (core : Seen) → tree.next_epoch < 2 ^ 24 → tree.stamp < 2 ^ 63 - 1 → AllUntried tree.apps → ((opening : List Op) → StandsFor opening core → AmountsTo tree opening core)
         → IsAgain view core disk store tree
-    is_again core epoch stamp plain amounts =
+    is_again core epoch stamp untried amounts =
         record {
-          ready = ready epoch stamp plain;
+          ready = ready epoch stamp untried;
           amounts = amounts;
           kept = λ opening k has.
               let same = same_ops opening core.log has in
@@ -316,8 +316,8 @@ module _ {D : Type 0} (view : D → DiskView) where
       λ some bytes told. (h.left opening (amounts_first opening refl) k (kept_first bytes told)).now,
     )
 
-    plain_first : AllPlain (records opening).apps
-    plain_first = subst (λ (r : Records). AllPlain r.apps) first.amounts first.ready.over.plain
+    untried_first : AllUntried (records opening).apps
+    untried_first = subst (λ (r : Records). AllUntried r.apps) first.amounts first.ready.over.untried
 
     pub first_to : (r : Result (Unit {0}) Stop) → LivesTo view (λ ops. AmountsTo tree ops d.core) d new store.disk now r → FirstTo view opening d new disk now r
     first_to (Ok x) l =
@@ -329,7 +329,7 @@ module _ {D : Type 0} (view : D → DiskView) where
           stays = stays_trans disk store.disk now first.ready.stays l.disk_stays;
           ends = l.ends;
           some = l.some;
-          plain = plain_first;
+          untried = untried_first;
           opened = λ bytes told. (first.kept bytes told).0;
           kept = λ bytes told k.
               let on = l.kept opening (amounts_first opening refl) k (kept_first bytes told) in
@@ -347,7 +347,7 @@ module _ {D : Type 0} (view : D → DiskView) where
           falls = h.falls ∙ first.ready.falls;
           stays = stays_trans disk store.disk now first.ready.stays h.disk_stays;
           at_ease = h.at_ease;
-          held = λ some. (plain_first, λ bytes told. (first.kept bytes told).0);
+          held = λ some. (untried_first, λ bytes told. (first.kept bytes told).0);
           found = inr (λ bytes told. (first.kept bytes told).0);
           quiet = λ none. quiet_trans (seen view disk) (seen view store.disk) (seen view now) first.quiet (h.quiet none);
           left = λ k. left_first h.halt h.halted k;

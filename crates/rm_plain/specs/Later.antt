@@ -12,7 +12,7 @@ use Rattle.rm_plain.specs.Survives.{HoldsWithin, SurvivesAll, SurvivesNow}
 use Rattle.rm_desk.specs.Does.{IsHanded}
 use Rattle.rm_store.specs.Store.{StoreState, IsSound, seen}
 use Rattle.rm_core.specs.Adds.{AmountsTo, CanBeginOver}
-use Rattle.rm_facts.specs.Submissions.{AllPlain}
+use Rattle.rm_facts.specs.Submissions.{AllUntried}
 use Rattle.rm_core.specs.Seen.{Seen, StandsFor}
 use Rattle.rm_core.specs.Words.{stands}
 use Rattle.rm_desk.specs.View.{DeskView}
@@ -100,7 +100,7 @@ pub record FirstLived {D : Type 0} (view : D → DiskView) (opening : List Op) (
   pub stays : DiskStays view disk now
   pub ends : (stands new.core ≡ false) ⊎ IsOver new
   pub some : new.core.log ≢ []
-  pub plain : AllPlain (records opening).apps
+  pub untried : AllUntried (records opening).apps
   pub opened : Tells (seen view disk) (λ bytes. Holds bytes opening)
   pub kept : (bytes : List ℕ) → (seen view disk).told ≡ Some bytes → StandsFor opening old.core → HeldFirst view opening new disk now bytes
 
@@ -110,7 +110,7 @@ pub record FirstStopped {D : Type 0} (view : D → DiskView) (opening : List Op)
   pub falls : now.falls ≡ disk.falls
   pub stays : DiskStays view disk now
   pub at_ease : IsAtEase now
-  pub held : new.core.log ≢ [] → AllPlain (records opening).apps × Tells (seen view disk) (λ bytes. Holds bytes opening)
+  pub held : new.core.log ≢ [] → AllUntried (records opening).apps × Tells (seen view disk) (λ bytes. Holds bytes opening)
   pub found : (opening ≡ []) ⊎ Tells (seen view disk) (λ bytes. Holds bytes opening)
   pub quiet : new.core.log ≡ [] → IsQuiet (seen view disk) (seen view now)
   pub left : StandsFor opening old.core → SurvivesAll opening new.core.log (seen view disk) (seen view now) × SurvivesNow opening new.core.log (seen view disk) (seen view now)
@@ -126,7 +126,7 @@ abbrev pub IsUnfounded : {D : Type 0} → (D → DiskView) → List Op → Fused
 IsUnfounded view opening disk now DiskFault = (opening ≡ []) × Rose (view disk.inner).faults (view now.inner).faults
 IsUnfounded view opening disk now (Damaged offset) =
     ((opening ≡ []) × Tells (seen view disk) (IsNoStore offset))
-    ⊎ ((offset ≡ 2 ^ 64 - 1) × Tells (seen view disk) (λ bytes. Holds bytes opening) × (AllPlain (records opening).apps → ⊥))
+    ⊎ ((offset ≡ 2 ^ 64 - 1) × Tells (seen view disk) (λ bytes. Holds bytes opening) × (AllUntried (records opening).apps → ⊥))
 IsUnfounded view opening disk now (Full needed room) = ⊥
 IsUnfounded view opening disk now EpochsSpent = IsSpent (seen view disk) opening []
 IsUnfounded view opening disk now Memory = Unit {0}

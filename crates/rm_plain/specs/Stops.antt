@@ -11,7 +11,7 @@ use Rattle.rm_formats.specs.Device.{Holds}
 use Rattle.rm_model.specs.Lawful.{place_after, state_after}
 use Rattle.rm_store.specs.Causes.{IsWhy}
 use Rattle.rm_store.specs.declared.fault.StoreError.TheVariants as store
-use Rattle.rm_facts.specs.Submissions.{AllPlain}
+use Rattle.rm_facts.specs.Submissions.{AllUntried}
 use Rattle.rm_desk.specs.Does.{IsHanded}
 use Rattle.rm_store.specs.Store.{seen}
 use Rattle.rm_plain.specs.Keeping.{IsFull}
@@ -22,9 +22,9 @@ use Rattle.rm_plain.specs.declared.halts.Stop.TheVariants.{DiskFault, Damaged, F
 abbrev pub IsNoStore : ℕ → List ℕ → Type 0
 IsNoStore offset bytes = IsWhy bytes (store.Damaged offset) ⊎ ((number : ℕ) × IsWhy bytes (store.Stray number offset))
 
--- what is kept has an attempt or an end, which no life can begin over yet
+-- what is kept has an attempt, which no life can begin over yet
 abbrev pub CannotGoOn : List Op → List Entry → Type 0
-CannotGoOn opening log = AllPlain (records (state_after opening log).kept).apps → ⊥
+CannotGoOn opening log = AllUntried (records (state_after opening log).kept).apps → ⊥
 
 -- a start found no store that it can begin over, on a disk that tells its bytes: before the first life these are none, and no
 -- opening list was read; or they held the opening list, and what is kept can't be begun over yet
@@ -32,10 +32,10 @@ abbrev pub IsDamaged : DiskView → List Op → List Entry → ℕ → Type 0
 IsDamaged disk opening log offset =
     Tells disk (λ bytes. ((log ≡ []) × (opening ≡ []) × IsNoStore offset bytes) ⊎ ((offset ≡ 2 ^ 64 - 1) × Holds bytes opening × CannotGoOn opening log))
 
--- what is kept has no attempt and no end, and no epoch or no stamp is left for one more life
+-- what is kept has no attempt, and no epoch or no stamp is left for one more life
 abbrev pub NoneLeft : List Op → List Entry → Type 0
 NoneLeft opening log =
-    AllPlain (records (state_after opening log).kept).apps
+    AllUntried (records (state_after opening log).kept).apps
     × ((2 ^ 24 ≤ (records (state_after opening log).kept).next_epoch) ⊎ (2 ^ 63 - 1 ≤ (records (state_after opening log).kept).stamp))
 
 -- the disk held the opening list, and no epoch or no stamp is left for one more life

@@ -5,7 +5,7 @@ ghost use Rattle.rm_formats.specs.Device.{Holds};
 ghost use Rattle.rm_store.specs.Errors.{IsOpenError};
 ghost use Rattle.rm_store.specs.Store.{IsSound as IsStoreSound, seen};
 ghost use Rattle.rm_core.specs.Adds.{AmountsTo, CanBeginOver};
-ghost use Rattle.rm_facts.specs.Submissions.{AllPlain};
+ghost use Rattle.rm_facts.specs.Submissions.{AllUntried};
 ghost use Rattle.rm_core.specs.Words.{stands};
 ghost use Rattle.rm_types.specs.declared.operations.Op.{Op as AnyOp};
 ghost use Rattle.rm_core.specs.Seen.{StandsFor};
@@ -25,7 +25,7 @@ use rm_desk::Desk;
 use rm_disk::{Disk, Fuse};
 use rm_store::{OpenFail, Store, StoreError};
 use rm_tree::Tree;
-use rm_types::{AppRecord, Items, Op};
+use rm_types::{Items, Op};
 use std::alloc::Global;
 
 /// The offset by which a store is refused over which no life can begin yet.
@@ -81,33 +81,27 @@ pub(crate) fn open<D: Disk>(
     }
 }
 
-/// Whether a record has neither an attempt nor an end.
-fn is_plain(app: &AppRecord) -> bool
-    ensures { IsTrue result ↔ ((app.now.attempts ≡ []) × (app.now.ending ≡ None)) }
-{
-    app.attempts.is_empty() && app.ending.is_none()
-}
-
-fn are_plain(tree: &Tree) -> bool
-    ensures { IsTrue result ↔ AllPlain tree.now.apps }
+/// Whether no application of a tree has an attempt.
+fn are_untried(tree: &Tree) -> bool
+    ensures { IsTrue result ↔ AllUntried tree.now.apps }
 {
     'records: for place in 0..tree.len() {
-        if !is_plain(tree.at(place)) {
+        if !tree.at(place).attempts.is_empty() {
             return false;
         }
     }
     true
 }
 
-/// Whether a life can begin over a tree: so far no application may have an attempt or an end, and an epoch
-/// and a stamp must be left.
+/// Whether a life can begin over a tree: so far no application may have an attempt, and an epoch and a stamp must
+/// be left.
 pub(crate) fn can_begin(tree: &Tree) -> Result<(), Stop>
     ensures epoch { OnOk result (tree.now.next_epoch < 2 ^ 24) }
     ensures stamp { OnOk result (tree.now.stamp < 2 ^ 63 - 1) }
-    ensures plain { OnOk result (AllPlain tree.now.apps) }
+    ensures untried { OnOk result (AllUntried tree.now.apps) }
     ensures refused { IfErr result (IsRefusedBy tree.now) }
 {
-    if !are_plain(tree) {
+    if !are_untried(tree) {
         return Err(Stop::Damaged {
             offset: CANNOT_GO_ON,
         });

@@ -14,11 +14,12 @@ use Rattle.rm_types.specs.declared.messages.Message.TheVariants as messages
 use Rattle.rm_types.specs.declared.scripts.Life.{Life}
 use Rattle.rm_types.specs.declared.scripts.Segment.{Segment}
 use Rattle.rm_script.specs.declared.kinds.Kind.{Kind}
-use Rattle.rm_script.specs.declared.kinds.Kind.TheVariants.{Modify, Nodes, Masters, Failures, EachCrash}
+use Rattle.rm_script.specs.declared.kinds.Kind.TheVariants.{Modify, Kills, Nodes, Masters, Failures, EachCrash}
 
 -- whether lines of a kind are read: a kind is turned on here, and in `src/kinds.rt`
 abbrev pub is_built : Kind → Bool
 is_built Modify = true
+is_built Kills = true
 is_built Nodes = false
 is_built Masters = false
 is_built Failures = false
@@ -47,7 +48,7 @@ abbrev pub IsBuiltAsk : ClientAsk → Type 0
 IsBuiltAsk clients.New = Unit {0}
 IsBuiltAsk (clients.Submit id submission) = BuiltOr Modify (submission.modify ≡ [])
 IsBuiltAsk (clients.Report id) = Unit {0}
-IsBuiltAsk (clients.Kill id) = BuiltOr Failures ⊥
+IsBuiltAsk (clients.Kill id) = BuiltOr Kills ⊥
 
 -- what a node says, where nodes are read
 abbrev pub IsBuiltNodeAsk : NodeAsk → Type 0

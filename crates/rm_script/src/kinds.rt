@@ -8,11 +8,13 @@ use rm_types::{ClientAsk, ClockAsk, Message, NodeAsk};
 pub(crate) enum Kind {
     /// The `modify=` of a submission.
     Modify,
+    /// A client's `kill`.
+    Kills,
     /// What nodes say, but `done=`, with one registration of each name in a life; and ticks of the clock.
     Nodes,
     /// What masters ask.
     Masters,
-    /// `done=`, each further registration of a node, expiries, and a client's `kill`.
+    /// `done=`, each further registration of a node, and expiries.
     Failures,
     /// Each crash: else one that stands directly after a `settle` of its life.
     EachCrash,
@@ -24,6 +26,7 @@ pub(crate) fn is_built(kind: Kind) -> bool
 {
     match kind {
         Kind::Modify => true,
+        Kind::Kills => true,
         Kind::Nodes => false,
         Kind::Masters => false,
         Kind::Failures => false,
@@ -39,7 +42,7 @@ fn is_built_ask(ask: &ClientAsk) -> bool
         ClientAsk::New | ClientAsk::Report(_) => true,
         ClientAsk::Submit(_, submission) => is_built(Kind::Modify)
             || submission.modify.bytes().is_empty(),
-        ClientAsk::Kill(_) => is_built(Kind::Failures),
+        ClientAsk::Kill(_) => is_built(Kind::Kills),
     }
 }
 

@@ -67,7 +67,7 @@ const SCRIPTS: [(&str, u32); 44] = [
     ("start 1\nsettle\ncrash 0 0\nsettle", 4),
     ("start 1\nsettle\ncrash 1000001 0", 3),
     ("start 1\nsettle\ncrash 0 4294967296", 3),
-    ("start 1\nclient alice kill application_1_0001\nsettle", 2),
+    ("start 1\nclient alice kill application_1_0001\nsettle", 0),
     (
         "start 1\nclient alice submit application_1_0001 queue=q name=n memory=1 vcores=1 attempts=0 modify=*\nsettle",
         0,

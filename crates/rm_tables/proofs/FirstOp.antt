@@ -1,5 +1,5 @@
 -- The first of a list of operations, of which the shape is known.
-use Rattle.std.proofs.Common.{◌≡◌, List, [], ◌∷◌, Some, slice_get, ap, sym, ◌∙◌}
+use Rattle.std.proofs.Common.{◌≡◌, List, ◌∷◌, Some, slice_get, ap, sym, ◌∙◌}
 use Rattle.rm_types.specs.declared.operations.Op.{Op}
 
 pub record IsFirst (ops rest : List Op) (op shape : Op) : Type 0 where

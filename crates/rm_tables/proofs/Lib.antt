@@ -1,4 +1,5 @@
 pub mod FirstOp
+pub mod Inserted
 pub mod Placed
 pub mod Stays
 pub mod Once

@@ -1,5 +1,5 @@
 -- A change of what isn't there changes nothing.
-use Rattle.std.proofs.Common.{◌≡◌, List, Option, None, Some, option_map, refl}
+use Rattle.std.proofs.Common.{◌≡◌, List, Option, None, Some, refl}
 use Rattle.std.proofs.lemmas.Map.Steps.{set_value_same}
 use Rattle.rm_types.specs.declared.ids.AppId.{AppId}
 use Rattle.rm_types.specs.Ids.{is_app}

@@ -1,7 +1,6 @@
 -- NodeAdded: the report of a node that registered is absorbed. Which of the reported containers are taken, and that a manager
 -- rebuilds its containers from such reports, is told by the judge; here it is read off the tables.
-use Rattle.std.specs.Prelude.{◌≡◌, ℕ, List, [], Bool, true, false, not, ◌&&◌, nat_lt, nat_le, ◌==◌, Option, None, Some, is_some, is_none, filter, fold, map, ◌++◌, ◌∷◌, if◌then◌else◌}
-use Rattle.std.specs.List.{list_any}
+use Rattle.std.specs.Prelude.{ℕ, List, [], Bool, true, false, not, ◌&&◌, nat_lt, nat_le, ◌==◌, Option, None, Some, is_some, is_none, filter, fold, map, ◌++◌, ◌∷◌, if◌then◌else◌}
 use Rattle.std.specs.Str.{bytes_eq}
 use Rattle.rm_types.specs.declared.containers.BookRow.{BookRow}
 use Rattle.rm_types.specs.declared.containers.Cause.TheVariants.{Gone}
@@ -12,7 +11,7 @@ use Rattle.rm_types.specs.declared.ids.AttemptId.{AttemptId}
 use Rattle.rm_types.specs.declared.ids.ContainerId.{ContainerId}
 use Rattle.rm_types.specs.declared.records.AppRecord.{AppRecord}
 use Rattle.rm_types.specs.declared.resources.Resource.{Resource}
-use Rattle.rm_types.specs.Ids.{is_attempt, is_container}
+use Rattle.rm_types.specs.Ids.{is_attempt}
 use Rattle.rm_types.specs.Passes.{total_of}
 use Rattle.rm_types.specs.Records.{is_some_and, last_attempt, record_of}
 use Rattle.rm_types.specs.Resources.{difference_of, fits}

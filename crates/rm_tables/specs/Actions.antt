@@ -1,6 +1,6 @@
 -- What the manager does to its tables, each action once: what it logs, and the tables after it. This project's own way, of which
 -- the judge knows nothing.
-use Rattle.std.specs.Prelude.{ℕ, ◌+◌, List, [], ◌∷◌, ◌++◌, Option, None, Some, drop, length}
+use Rattle.std.specs.Prelude.{ℕ, ◌+◌, List, [], ◌∷◌, ◌++◌, Option, drop, length}
 use Rattle.rm_types.specs.declared.entries.Entry.{Entry}
 use Rattle.rm_types.specs.declared.entries.Entry.TheVariants.{Issued, Quiet}
 use Rattle.rm_types.specs.declared.ids.AppId.{AppId}

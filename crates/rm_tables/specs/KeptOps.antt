@@ -1,6 +1,6 @@
 -- What is done once the operation that is with the store is kept: it is recorded, the row of its application changes, and what
 -- follows from it is posted. This project's own.
-use Rattle.std.specs.Prelude.{ℕ, ◌-◌, List, [], ◌∷◌, ◌++◌, true, false, Option, None, Some, drop}
+use Rattle.std.specs.Prelude.{◌-◌, List, [], ◌∷◌, ◌++◌, true, false, Option, None, Some, drop}
 use Rattle.rm_types.specs.declared.ids.AppId.{AppId}
 use Rattle.rm_types.specs.declared.ids.AttemptId.{AttemptId}
 use Rattle.rm_types.specs.declared.operations.How.{How}

@@ -9,4 +9,5 @@ pub mod Passing
 pub mod SchedEvents
 pub mod KeptOps
 pub mod Opening
+pub mod Completed
 pub mod Lives

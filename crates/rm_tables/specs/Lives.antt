@@ -1,5 +1,5 @@
 -- How the tables change where a life begins, opens and goes down, and which lanes have something to do. This project's own.
-use Rattle.std.specs.Prelude.{ℕ, List, [], ◌∷◌, Bool, true, false, ◌&&◌, ◌||◌, not, nat_lt}
+use Rattle.std.specs.Prelude.{ℕ, [], ◌∷◌, Bool, true, false, ◌&&◌, ◌||◌, not, nat_lt}
 use Rattle.std.specs.declared.alloc.Global.{Global}
 use Rattle.rm_types.specs.declared.messages.Lane.{Lane}
 use Rattle.rm_types.specs.declared.messages.Lane.TheVariants as lanes
@@ -9,6 +9,7 @@ use Rattle.rm_types.specs.declared.settings.Settings.{Settings}
 use Rattle.rm_types.specs.Records.{Records, no_records}
 use Rattle.rm_tables.specs.declared.events.MainEvent.TheVariants as mains
 use Rattle.rm_tables.specs.declared.tables.Tables.{Tables}
+use Rattle.rm_tables.specs.Completed.{ended_in}
 use Rattle.rm_tables.specs.Opening.{going_in, recovered_rows}
 
 -- before the first life: nothing is known of the store
@@ -71,6 +72,7 @@ begun tree stamp t =
       stamp = stamp;
       rows = recovered_rows tree.apps;
       going = going_in tree.apps;
+      ended = ended_in tree.apps;
       waits = nat_lt 0 (going_in tree.apps);
       main = mains.EpochStart ∷ [];
     }

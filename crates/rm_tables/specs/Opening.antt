@@ -1,6 +1,6 @@
 -- The tables of a life that begins over recorded applications, and with which events it opens. That a manager recovers its
 -- applications and their attempts from its store is after YARN's page on ResourceManager Restart; the events are this project's own.
-use Rattle.std.specs.Prelude.{ℕ, ◌+◌, List, [], ◌∷◌, ◌++◌, true, false, Option, None, Some, is_some, is_none, option_map, map, count_by, length, if◌then◌else◌}
+use Rattle.std.specs.Prelude.{ℕ, List, [], ◌∷◌, ◌++◌, false, Option, None, Some, is_some, is_none, option_map, map, count_by, length, if◌then◌else◌}
 use Rattle.std.specs.List.{flat_map}
 use Rattle.rm_types.specs.declared.ids.AppId.{AppId}
 use Rattle.rm_types.specs.declared.operations.How.{How}

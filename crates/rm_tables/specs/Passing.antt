@@ -1,7 +1,6 @@
 -- NodeUpdate: a pass answers a beat. First fit is told in `rm_types`, and that a scheduler allocates when a node beats by the judge; here
 -- it goes over the attempts that ask for something.
-use Rattle.std.specs.Prelude.{ℕ, ◌+◌, List, [], ◌∷◌, ◌++◌, Bool, true, false, not, ◌&&◌, nat_lt, ◌==◌, Option, None, Some, is_some, count_by, filter, find, fold, map, if◌then◌else◌}
-use Rattle.std.specs.List.{flat_map}
+use Rattle.std.specs.Prelude.{ℕ, ◌+◌, List, [], ◌++◌, Bool, true, false, not, ◌&&◌, nat_lt, ◌==◌, Option, None, Some, filter, find, fold, map, if◌then◌else◌}
 use Rattle.rm_types.specs.declared.containers.Ask.{Ask}
 use Rattle.rm_types.specs.declared.containers.Grant.{Grant}
 use Rattle.rm_types.specs.declared.containers.Turn.{Turn}
@@ -9,10 +8,9 @@ use Rattle.rm_types.specs.declared.entries.Entry.{Entry}
 use Rattle.rm_types.specs.declared.entries.Entry.TheVariants.{Pass}
 use Rattle.rm_types.specs.declared.ids.AppId.{AppId}
 use Rattle.rm_types.specs.declared.ids.AttemptId.{AttemptId}
-use Rattle.rm_types.specs.declared.records.AppRecord.{AppRecord}
 use Rattle.rm_types.specs.declared.resources.Resource.{Resource}
 use Rattle.rm_types.specs.Lists.{is_nil}
-use Rattle.rm_types.specs.Passes.{PassNode, by_priority, pass_list}
+use Rattle.rm_types.specs.Passes.{by_priority, pass_list}
 use Rattle.rm_book.specs.AskTables.{AsksOf, asks_of, granted_in}
 use Rattle.rm_book.specs.Books.{capability_of, sizes_on, with_grants}
 use Rattle.rm_model.specs.Attempts.{attempt_at}

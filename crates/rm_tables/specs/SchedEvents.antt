@@ -1,11 +1,8 @@
 -- What each event of the scheduler's queue does: the entry that it logs, and the tables after it. It is still the first of its queue, and
 -- is taken when it is done. After the scheduler of YARN's ResourceManager; the events and their rows are this project's own.
 use Rattle.std.specs.Prelude.{◌≡◌, ℕ, List, [], ◌∷◌, ◌++◌, Bool, true, false, not, ◌&&◌, ◌==◌, Option, None, Some, filter}
-use Rattle.std.specs.List.{list_any}
 use Rattle.std.specs.Str.{bytes_eq}
-use Rattle.rm_types.specs.declared.containers.Ask.{Ask}
 use Rattle.rm_types.specs.declared.containers.BookRow.{BookRow}
-use Rattle.rm_types.specs.declared.containers.Cause.{Cause}
 use Rattle.rm_types.specs.declared.containers.Cause.TheVariants as causes
 use Rattle.rm_types.specs.declared.entries.Entry.{Entry}
 use Rattle.rm_types.specs.declared.entries.Entry.TheVariants.{Queued, Quiet}
@@ -13,7 +10,6 @@ use Rattle.rm_types.specs.declared.ids.AppId.{AppId}
 use Rattle.rm_types.specs.declared.ids.AttemptId.{AttemptId}
 use Rattle.rm_types.specs.declared.ids.ContainerId.{ContainerId}
 use Rattle.rm_types.specs.declared.messages.Lane.TheVariants as lanes
-use Rattle.rm_types.specs.declared.operations.Submission.{Submission}
 use Rattle.rm_types.specs.declared.records.AppRecord.{AppRecord}
 use Rattle.rm_types.specs.Ids.{is_attempt}
 use Rattle.rm_types.specs.Order.{Ascend}

@@ -14,6 +14,7 @@
 #![tactic(auto)]
 
 mod changes;
+mod completed;
 mod events;
 mod keeping;
 mod lives;

@@ -1,6 +1,7 @@
 ghost use Rattle.std.specs.Prelude.{◌≡◌, OnOk, OnErr};
 ghost use Rattle.rm_tables.specs.Lives.{no_life, cleared, begun, gone_down, handed_out, refused, is_ready, may_go_down};
 
+use crate::completed::ended_in;
 use crate::events::MainEvent;
 use crate::nodes::Nodes;
 use crate::opening::{going_in, recovered_rows};
@@ -43,7 +44,7 @@ impl Tables {
     }
 
     /// A life begins under a stamp, over a tree, which is moved in. It takes time in the number of recorded
-    /// applications. `NoMemory` leaves all as it was; the tree is then dropped.
+    /// applications, and little more where they ended in about the order in which they were submitted. `NoMemory` leaves all as it was; the tree is then dropped.
     pub fn begin(&mut self, tree: Tree, stamp: u64) -> Result<(), NoMemory>
         ensures ok { OnOk result (self.new ≡ begun tree stamp self.old) }
         ensures err { OnErr result (self.new ≡ self.old) }
@@ -51,10 +52,12 @@ impl Tables {
         let mut main = Queue::new(self.alloc);
         main.push(MainEvent::EpochStart)?;
         let rows = recovered_rows(self.alloc, &tree)?;
+        let ended = ended_in(self.alloc, &tree)?;
         self.clear();
         self.going = going_in(&tree);
         self.waits = self.going > 0;
         self.rows = rows;
+        self.ended = ended;
         self.epoch = tree.next_epoch();
         self.stamp = stamp;
         self.main = main;

@@ -1,4 +1,4 @@
-use Rattle.std.proofs.Common.{◌≡◌, ◌∙◌, ap}
+use Rattle.std.proofs.Common.{◌∙◌, ap}
 use Rattle.rm_types.specs.declared.entries.Entry.TheVariants.{Kept}
 use Rattle.rm_tables.proofs.keeping.take_into.Goals as goal
 

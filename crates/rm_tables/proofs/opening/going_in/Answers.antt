@@ -1,4 +1,4 @@
-use Rattle.std.proofs.Common.{◌≡◌, ◌≤◌, ℕ, cond, Bool, true, false, arith}
+use Rattle.std.proofs.Common.{◌≤◌, cond, Bool, true, false, arith}
 use Rattle.std.specs.Prelude.{is_none}
 use Rattle.rm_tables.proofs.Placed.{more_going}
 use Rattle.rm_tables.proofs.opening.going_in.Goals as goal

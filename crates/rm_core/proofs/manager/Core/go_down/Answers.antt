@@ -1,4 +1,3 @@
-use Rattle.std.proofs.Common.{sym, ◌∙◌, arith}
 use Rattle.rm_core.specs.declared.manager.Move.TheVariants.{Down}
 use Rattle.rm_core.proofs.Moving.{Done, core_sound, down_done}
 use Rattle.rm_core.proofs.manager.Core.go_down.Goals as goal

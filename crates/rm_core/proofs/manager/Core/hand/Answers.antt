@@ -1,4 +1,3 @@
-use Rattle.std.proofs.Common.{sym, ◌∙◌, arith}
 use Rattle.rm_core.specs.declared.manager.Move.TheVariants.{Hand}
 use Rattle.rm_core.proofs.Moving.{Done, core_sound, hand_done}
 use Rattle.rm_core.proofs.manager.Core.hand.Goals as goal

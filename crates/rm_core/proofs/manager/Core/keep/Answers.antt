@@ -1,4 +1,3 @@
-use Rattle.std.proofs.Common.{sym, ◌∙◌, arith}
 use Rattle.rm_core.specs.declared.manager.Move.TheVariants.{Kept}
 use Rattle.rm_core.proofs.Moving.{Done, core_sound, keep_done, write_awaits, write_fits}
 use Rattle.rm_core.proofs.manager.Core.keep.Goals as goal

@@ -1,4 +1,3 @@
-use Rattle.std.proofs.Common.{sym, ◌∙◌, arith}
 use Rattle.rm_core.specs.declared.manager.Move.TheVariants.{Sched}
 use Rattle.rm_core.proofs.Moving.{Done, core_sound, sched_done}
 use Rattle.rm_core.proofs.Phases.{no_registration, no_update}

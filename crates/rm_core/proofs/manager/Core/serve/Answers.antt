@@ -1,4 +1,4 @@
-use Rattle.std.proofs.Common.{sym, ◌∙◌, arith}
+use Rattle.std.proofs.Common.{arith}
 use Rattle.rm_core.specs.declared.manager.Move.TheVariants.{Serve}
 use Rattle.rm_core.proofs.Moving.{Done, core_sound, serve_done}
 use Rattle.rm_core.proofs.Phases.{no_attempts}

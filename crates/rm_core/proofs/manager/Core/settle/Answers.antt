@@ -1,4 +1,3 @@
-use Rattle.std.proofs.Common.{sym, ◌∙◌}
 use Rattle.rm_core.specs.declared.manager.Move.TheVariants.{Settle}
 use Rattle.rm_core.proofs.Moving.{Done, settle_done}
 use Rattle.rm_core.proofs.manager.Core.settle.Goals as goal

@@ -1,4 +1,4 @@
-use Rattle.std.proofs.Common.{◌≡◌, not, refl, rules}
+use Rattle.std.proofs.Common.{not, refl, rules}
 use Rattle.std.proofs.lemmas.Fn.{filter_same}
 use Rattle.rm_types.specs.Ids.{is_container}
 use Rattle.rm_tables.proofs.nodes.NodeRow.unlaunch.Goals as goal

@@ -1,4 +1,4 @@
-use Rattle.std.proofs.Common.{rules, ◌≡◌, ◌∷◌, [], ◌++◌, None, Some, ◌∙◌}
+use Rattle.std.proofs.Common.{Some, ◌∙◌}
 use Rattle.indexmap.proofs.CallerLemmas.{insert_entry-new}
 use Rattle.rm_types.specs.Ids.{is_app}
 use Rattle.rm_tables.proofs.rows.Rows.add.Goals as goal

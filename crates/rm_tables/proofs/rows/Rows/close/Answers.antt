@@ -1,4 +1,4 @@
-use Rattle.std.proofs.Common.{◌≡◌, None, Option, refl, sym, ◌∙◌, ap}
+use Rattle.std.proofs.Common.{sym}
 use Rattle.rm_tables.specs.Leaving.{closed}
 use Rattle.rm_tables.proofs.Stays.{unknown_stays}
 use Rattle.rm_tables.proofs.rows.Rows.close.Goals as goal

@@ -1,4 +1,4 @@
-use Rattle.std.proofs.Common.{◌≡◌, ◌∙◌, ap}
+use Rattle.std.proofs.Common.{◌∙◌, ap}
 use Rattle.rm_tables.specs.Rows.{row_in}
 use Rattle.rm_tables.proofs.rows.Rows.find.Goals as goal
 

@@ -1,4 +1,4 @@
-use Rattle.std.proofs.Common.{◌≡◌, List}
+use Rattle.std.proofs.Common.{◌≡◌}
 use Rattle.std.proofs.Common.{subst}
 use Rattle.rm_types.specs.declared.entries.Entry.TheVariants.{Kept}
 use Rattle.rm_types.specs.declared.operations.Op.{Op}
