@@ -1,0 +1,15 @@
+use Rattle.rm_tracker.proofs.Replies.{expire_answer}
+use Rattle.rm_tracker.proofs.Served.{clock_offered, clock_served}
+use Rattle.rm_tracker.proofs.serving.serve_clock.Goals as goal
+
+pub returns-in-ExpireNode-clause-reply : goal.returns-in-ExpireNode-clause-reply
+returns-in-ExpireNode-clause-reply c = λ m shows.
+    rw (c.in-ExpireNode.is, ← expire_answer m c.args.t.now c.in-ExpireNode.name shows) c.expire_node.ensures.reply
+
+pub returns-in-ExpireNode-clause-shows : goal.returns-in-ExpireNode-clause-shows
+returns-in-ExpireNode-clause-shows c = λ m shows.
+    clock_served m c.args.t.now c.expire_node.new.t c.args.ask.now c.expire_node.result (returns-in-ExpireNode-clause-reply c m shows) (rw c.in-ExpireNode.is c.expire_node.ensures.changed) shows
+
+pub returns-in-ExpireNode-clause-offers : goal.returns-in-ExpireNode-clause-offers
+returns-in-ExpireNode-clause-offers c = λ offer.
+    clock_offered c.args.t.now c.expire_node.new.t c.args.ask.now c.expire_node.result (rw c.in-ExpireNode.is c.expire_node.ensures.changed) c.expire_node.ensures.err offer
