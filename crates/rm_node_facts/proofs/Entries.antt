@@ -245,7 +245,7 @@ pass_lawful m sched n more e good =
       none_done = rw (beat, is, lives_filter m n f.0, none_filter (ids_on m.life.book n) f.0 f.2) refl;
     }
 
-at_name : (n : List ℕ) (change : NodeState → NodeState) → KeepsName change → (node : NodeState) → (if bytes_eq node.name n then change node else node).name ≡ node.name
+pub at_name : (n : List ℕ) (change : NodeState → NodeState) → KeepsName change → (node : NodeState) → (if bytes_eq node.name n then change node else node).name ≡ node.name
 at_name n change k node = by_test (bytes_eq node.name n) refl
   where
     by_test : (b : Bool) → bytes_eq node.name n ≡ b → (if bytes_eq node.name n then change node else node).name ≡ node.name
@@ -293,7 +293,7 @@ pass_good m sched n grants more e on good =
     }) good)
 
 -- A REGISTRATION
-taken_place : (taken : List Held) → KeepsPlace (row_taken taken)
+pub taken_place : (taken : List Held) → KeepsPlace (row_taken taken)
 taken_place taken row = by_test (is_held taken row.id) refl
   where
     by_test : (b : Bool) → is_held taken row.id ≡ b → ((row_taken taken row).id ≡ row.id) × ((row_taken taken row).node ≡ row.node)

@@ -78,7 +78,7 @@ all_living P rows [] h l = tt
 all_living P rows (id ∷ ids) h l = (living_has P rows id h l.0, all_living P rows ids h l.1)
 
 -- a launch that isn't of them still lives there
-lives_still : (list : List ContainerId) (rows : List Row) (name : List ℕ) (id : ContainerId) → has_container list id ≡ false → lives_on rows name id ≡ true → lives_on (filter (stays_without list) rows) name id ≡ true
+pub lives_still : (list : List ContainerId) (rows : List Row) (name : List ℕ) (id : ContainerId) → has_container list id ≡ false → lives_on rows name id ≡ true → lives_on (filter (stays_without list) rows) name id ≡ true
 lives_still list [] name id n l = l
 lives_still list (row ∷ rows) name id n l = by_test (stays_without list row) (is_container row.id id && bytes_eq row.node name) refl refl (lives_still list rows name id n)
   where
@@ -102,7 +102,7 @@ absorbed_still list nodes name h = rw (node_of-map (without_launches list) (λ n
     by_node None h = h
     by_node (Some node) h = h
 
-not_false : (b : Bool) → not b ≡ true → b ≡ false
+pub not_false : (b : Bool) → not b ≡ true → b ≡ false
 not_false true e = absurd (false≢true e)
 not_false false e = refl
 
@@ -135,7 +135,7 @@ leave_holds m cause list more living h =
 
 -- A GRANT IS NEW: an id of the life, numbered above the grants that were made to its attempt, is neither in the book nor among
 -- those that left
-abbrev IsNew : LifeState → ContainerId → Type 0
+abbrev pub IsNew : LifeState → ContainerId → Type 0
 IsNew life id = (id.epoch ≡ life.epoch) × (count_by (λ one. is_attempt one.attempt id.attempt) life.granted < id.seq)
 
 not_granted : (life : LifeState) (id other : ContainerId) → IsNew life id → IsGranted life other → is_container other id ≡ true → ⊥

@@ -6,3 +6,4 @@ pub mod Entries
 pub mod Holds
 pub mod Ascending
 pub mod Resting
+pub mod Absorbs

@@ -1,0 +1,5 @@
+pub mod Sound
+pub mod Marks
+pub mod Says
+pub mod Joined
+pub mod Issues
