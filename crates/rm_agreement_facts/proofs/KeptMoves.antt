@@ -1,0 +1,202 @@
+-- An operation is kept, as a whole step that keeps all that holds of an open life: an App, an Attempt, the end of an attempt or an application, and a Remove.
+-- Each fits what is recorded.
+use Rattle.std.proofs.Common.{◌≡◌, ℕ, List, [], ◌∷◌, ◌++◌, Bool, true, false, ◌||◌, Option, None, Some, refl, sym, ◌∙◌, ap, subst, append-nil}
+use Rattle.std.proofs.lemmas.Bool.{false≢true}
+use Rattle.std.proofs.lemmas.List.Elements.{filter-append}
+use Rattle.rm_types.specs.declared.entries.Entry.TheVariants.{Kept as KeptEntry}
+use Rattle.rm_types.specs.declared.containers.AskOf.{AskOf}
+use Rattle.rm_types.specs.declared.ids.AppId.{AppId}
+use Rattle.rm_types.specs.declared.ids.AttemptId.{AttemptId}
+use Rattle.rm_types.specs.declared.operations.Op.{Op}
+use Rattle.rm_types.specs.declared.operations.Op.TheVariants as ops
+use Rattle.rm_types.specs.declared.settings.Settings.{Settings}
+use Rattle.rm_types.specs.declared.operations.How.{How}
+use Rattle.rm_types.specs.declared.operations.Submission.{Submission}
+use Rattle.rm_types.specs.Ids.{is_app, is_attempt}
+use Rattle.rm_types.specs.Records.{fits_records}
+use Rattle.rm_book.specs.AskTables.{AsksOf, asks_of, without_asks_of}
+use Rattle.rm_book.proofs.Ids.{same_attempt}
+use Rattle.rm_model.specs.Changes.{asks_without, life_keeps}
+use Rattle.rm_model.specs.Passing.{asks_of as asks_told}
+use Rattle.rm_model.specs.Containers.{ids_on}
+use Rattle.rm_model.specs.Nodes.{node_of}
+use Rattle.rm_model.specs.State.{LifeState}
+use Rattle.rm_tables.specs.declared.changes.AttemptChange.TheVariants as of_attempt
+use Rattle.rm_tables.specs.declared.changes.RowChange.TheVariants as of_app
+use Rattle.rm_tables.specs.declared.events.SchedEvent.{SchedEvent}
+use Rattle.rm_tables.specs.declared.events.SchedEvent.TheVariants as scheds
+use Rattle.rm_tables.specs.declared.tables.Tables.{Tables}
+use Rattle.rm_tables.specs.Changes.{changed}
+use Rattle.rm_tables.specs.KeptOps.{dropped_at, dropped_by, dropped_of, kept}
+use Rattle.rm_agreement.specs.Agreement.{ClosingsAgree, RowAgrees, SameAsks}
+use Rattle.rm_facts.specs.Told.{History, life_in}
+use Rattle.rm_facts.proofs.Found.{row_changed}
+use Rattle.rm_node_facts.specs.AtNodes.{AllGood, Good, events_of, is_of}
+use Rattle.rm_master_facts.proofs.KeptApps.{app_end_kept_joins, app_kept_joins, attempt_end_kept_joins, remove_kept_joins}
+use Rattle.rm_master_facts.proofs.KeptAttempts.{attempt_kept_joins}
+use Rattle.rm_app_facts.proofs.Removing.{row_gone}
+use Rattle.rm_types.specs.declared.ids.ContainerId.{ContainerId}
+use Rattle.rm_model.specs.Facts.{has_app}
+use Rattle.rm_tables.specs.Rows.{row_of, without_row}
+use Rattle.rm_tables.specs.declared.rows.AppRow.{AppRow}
+use Rattle.rm_tables.specs.declared.rows.Current.{Current}
+use Rattle.rm_attempt.specs.declared.states.AttemptState.{AttemptState}
+use Rattle.rm_attempt.specs.declared.states.AttemptState.TheVariants as attempts
+use Rattle.std.proofs.lemmas.List.Folds.{list_any-append}
+use Rattle.rm_master_facts.proofs.Sounding.{sound_step}
+use Rattle.rm_agreement_facts.specs.Whole.{Whole, WholeStep}
+use Rattle.rm_agreement_facts.proofs.Changes.{kept_agrees}
+use Rattle.rm_agreement_facts.proofs.Leaving.{stepped_whole}
+
+-- an attempt's asks go alike
+pub asks_gone : (table : List AsksOf) (asks : List AskOf) (id : AttemptId) → SameAsks table asks → SameAsks (without_asks_of id table) (asks_without id asks)
+asks_gone table asks id same = λ q. by q (is_attempt id q) refl
+  where
+    own_table : (table : List AsksOf) → asks_of (without_asks_of id table) id ≡ []
+    own_table [] = refl
+    own_table (one ∷ more) = at (is_attempt one.attempt id) refl (own_table more)
+      where
+        at : (b : Bool) → is_attempt one.attempt id ≡ b → asks_of (without_asks_of id more) id ≡ [] → asks_of (without_asks_of id (one ∷ more)) id ≡ []
+        at true e rest = rw e rest
+        at false e rest = rw (e, e) rest
+
+    own_asks : (asks : List AskOf) → asks_told (asks_without id asks) id ≡ []
+    own_asks [] = refl
+    own_asks (one ∷ more) = at (is_attempt one.attempt id) refl (own_asks more)
+      where
+        at : (b : Bool) → is_attempt one.attempt id ≡ b → asks_told (asks_without id more) id ≡ [] → asks_told (asks_without id (one ∷ more)) id ≡ []
+        at true e rest = rw e rest
+        at false e rest = rw (e, e) rest
+
+    other_table : (q : AttemptId) → is_attempt id q ≡ false → (table : List AsksOf) → asks_of (without_asks_of id table) q ≡ asks_of table q
+    other_table q apart [] = refl
+    other_table q apart (one ∷ more) = at (is_attempt one.attempt id) refl (is_attempt one.attempt q) refl (other_table q apart more)
+      where
+        at : (b : Bool) → is_attempt one.attempt id ≡ b → (c : Bool) → is_attempt one.attempt q ≡ c → asks_of (without_asks_of id more) q ≡ asks_of more q
+            → asks_of (without_asks_of id (one ∷ more)) q ≡ asks_of (one ∷ more) q
+        at true e true f rest = absurd (false≢true (sym apart ∙ subst (λ (a : AttemptId). is_attempt a q ≡ true) (same_attempt one.attempt id e) f))
+        at true e false f rest = rw (e, f) rest
+        at false e true f rest = rw (e, f) refl
+        at false e false f rest = rw (e, f) rest
+
+    other_asks : (q : AttemptId) → is_attempt id q ≡ false → (asks : List AskOf) → asks_told (asks_without id asks) q ≡ asks_told asks q
+    other_asks q apart [] = refl
+    other_asks q apart (one ∷ more) = at (is_attempt one.attempt id) refl (is_attempt one.attempt q) refl (other_asks q apart more)
+      where
+        at : (b : Bool) → is_attempt one.attempt id ≡ b → (c : Bool) → is_attempt one.attempt q ≡ c → asks_told (asks_without id more) q ≡ asks_told more q
+            → asks_told (asks_without id (one ∷ more)) q ≡ asks_told (one ∷ more) q
+        at true e true f rest = absurd (false≢true (sym apart ∙ subst (λ (a : AttemptId). is_attempt a q ≡ true) (same_attempt one.attempt id e) f))
+        at true e false f rest = rw (e, f) rest
+        at false e true f rest = rw (e, f) (ap (λ l. one.ask ∷ l) rest)
+        at false e false f rest = rw (e, f) rest
+
+    by : (q : AttemptId) (b : Bool) → is_attempt id q ≡ b → asks_of (without_asks_of id table) q ≡ asks_told (asks_without id asks) q
+    by q true e = subst (λ (x : AttemptId). asks_of (without_asks_of id table) x ≡ asks_told (asks_without id asks) x) (same_attempt id q e) (own_table table ∙ sym (own_asks asks))
+    by q false e = other_table q e table ∙ same q ∙ sym (other_asks q e asks)
+
+-- events of no node at the end of the queue are nothing to the nodes
+pub posted_good : (h : History) (sched more : List SchedEvent) → ((q : List ℕ) → events_of q more ≡ []) → AllGood h.nodes h.book sched → AllGood h.nodes h.book (sched ++ more)
+posted_good h sched more none good = λ q.
+    subst (λ (events : List SchedEvent). Good (node_of h.nodes q) events (ids_on h.book q)) (sym (filter-append (is_of q) sched more ∙ ap (λ l. events_of q sched ++ l) (none q) ∙ append-nil (events_of q sched))) (good q)
+
+module _ (settings : Settings) (h : History) (t : Tables) (w : Whole settings h t) (handed : t.handed ≡ true) where
+  -- the life after an operation is kept
+  abbrev kept_life : Op → LifeState
+  kept_life op = record (life_keeps (life_in h t) op) { handed = false }
+
+  -- an App
+  pub app_kept_whole : (id : AppId) (s : Submission) (rest : List Op) → t.awaiting ≡ ops.App id s ∷ rest → fits_records t.tree (ops.App id s) ≡ true → WholeStep settings h t (KeptEntry (ops.App id s), kept (ops.App id s) t)
+  app_kept_whole id s rest front fits =
+      let life : LifeState = kept_life (ops.App id s) in
+      stepped_whole settings h t (KeptEntry (ops.App id s)) (kept (ops.App id s) t) life (record { next = _; joins = app_kept_joins settings h t w.keeps w.marks id s rest front handed }) refl
+      (sound_step t.tree (ops.App id s) w.sound fits)
+      (kept_agrees life t (kept (ops.App id s) t) id of_app.Keep refl (record { rows = w.agrees.rows; nodes = w.agrees.nodes; asks = w.agrees.asks; closings = w.agrees.closings; masters = w.agrees.masters }) refl refl refl
+      (λ q. row_changed (changed of_app.Keep) id q t.rows))
+      w.nodes (record { apart = w.book.apart; rows = w.book.rows; left = w.book.left; launches = w.book.launches })
+
+  -- the end of an attempt
+  pub attempt_end_kept_whole : (id : AttemptId) (how : How) (text : List ℕ) (rest : List Op) → t.awaiting ≡ ops.AttemptEnd id how text ∷ rest → fits_records t.tree (ops.AttemptEnd id how text) ≡ true
+      → WholeStep settings h t (KeptEntry (ops.AttemptEnd id how text), kept (ops.AttemptEnd id how text) t)
+  attempt_end_kept_whole id how text rest front fits =
+      let life : LifeState = kept_life (ops.AttemptEnd id how text) in
+      let asked : Tables = record t { asks = without_asks_of id t.asks } in
+      stepped_whole settings h t (KeptEntry (ops.AttemptEnd id how text)) (kept (ops.AttemptEnd id how text) t) life
+      (record { next = _; joins = attempt_end_kept_joins settings h t w.keeps w.marks id how text rest front handed }) refl (sound_step t.tree (ops.AttemptEnd id how text) w.sound fits)
+      (kept_agrees life asked (kept (ops.AttemptEnd id how text) t) id.app (of_app.OfAttempt (of_attempt.KeepEnd how)) refl
+      (record { rows = w.agrees.rows; nodes = w.agrees.nodes; asks = asks_gone t.asks h.asks id w.agrees.asks; closings = w.agrees.closings; masters = w.agrees.masters }) refl refl refl
+      (λ q. row_changed (changed (of_app.OfAttempt (of_attempt.KeepEnd how))) id.app q t.rows))
+      (posted_good h t.sched (scheds.AttemptRemoved id ∷ []) (λ q. refl) w.nodes) (record { apart = w.book.apart; rows = w.book.rows; left = w.book.left; launches = w.book.launches })
+
+  -- an Attempt
+  pub attempt_kept_whole : (c : ContainerId) (node : List ℕ) (rest : List Op) → t.awaiting ≡ ops.Attempt c.attempt c node ∷ rest → fits_records t.tree (ops.Attempt c.attempt c node) ≡ true
+      → WholeStep settings h t (KeptEntry (ops.Attempt c.attempt c node), kept (ops.Attempt c.attempt c node) t)
+  attempt_kept_whole c node rest front fits =
+      let op : Op = ops.Attempt c.attempt c node in
+      let life : LifeState = kept_life op in
+      stepped_whole settings h t (KeptEntry op) (kept op t) life (record { next = _; joins = attempt_kept_joins settings h t w.keeps w.marks w.sound c node rest front handed }) refl (sound_step t.tree op w.sound fits)
+      (kept_agrees life t (kept op t) c.attempt.app (of_app.OfAttempt of_attempt.Keep) refl (record { rows = w.agrees.rows; nodes = w.agrees.nodes; asks = w.agrees.asks; closings = w.agrees.closings; masters = w.agrees.masters }) refl refl refl
+      (λ q. row_changed (changed (of_app.OfAttempt of_attempt.Keep)) c.attempt.app q t.rows))
+      w.nodes (record { apart = w.book.apart; rows = w.book.rows; left = w.book.left; launches = w.book.launches })
+
+  -- an attempt that was dropped is removed: an event of no node
+  dropped_none : (id : AppId) (o : Option AppRow) (q : List ℕ) → events_of q (dropped_by o id) ≡ []
+  dropped_none id None q = refl
+  dropped_none id (Some row) q = of_current row.current
+    where
+      at_state : (s : AttemptState) (attempt : AttemptId) → events_of q (dropped_at s attempt) ≡ []
+      at_state attempts.Scheduled attempt = refl
+      at_state attempts.Granted attempt = refl
+      at_state attempts.Saving attempt = refl
+      at_state attempts.Live attempt = refl
+      at_state attempts.Registered attempt = refl
+      at_state attempts.Finishing attempt = refl
+      at_state attempts.Ending attempt = refl
+      at_state attempts.Ended attempt = refl
+      at_state attempts.Dropped attempt = refl
+
+      of_current : (c : Option Current) → events_of q (dropped_of c id) ≡ []
+      of_current None = refl
+      of_current (Some current) = at_state current.state (record { app = id; number = current.number })
+
+  -- the end of an application
+  pub app_end_kept_whole : (id : AppId) (how : How) (text : List ℕ) (rest : List Op) → t.awaiting ≡ ops.AppEnd id how text ∷ rest → fits_records t.tree (ops.AppEnd id how text) ≡ true
+      → WholeStep settings h t (KeptEntry (ops.AppEnd id how text), kept (ops.AppEnd id how text) t)
+  app_end_kept_whole id how text rest front fits =
+      let op : Op = ops.AppEnd id how text in
+      let life : LifeState = kept_life op in
+      stepped_whole settings h t (KeptEntry op) (kept op t) life (record { next = _; joins = app_end_kept_joins settings h t w.keeps w.marks id how text rest front handed }) refl (sound_step t.tree op w.sound fits)
+      (kept_agrees life t (kept op t) id (of_app.KeepEnd how) refl (record { rows = w.agrees.rows; nodes = w.agrees.nodes; asks = w.agrees.asks; closings = w.agrees.closings; masters = w.agrees.masters }) refl refl refl
+      (λ q. row_changed (changed (of_app.KeepEnd how)) id q t.rows))
+      (posted_good h t.sched (dropped_by (row_of t.rows id) id) (dropped_none id (row_of t.rows id)) w.nodes) (record { apart = w.book.apart; rows = w.book.rows; left = w.book.left; launches = w.book.launches })
+
+  -- a Remove: nothing is said of an application once it is retired
+  pub remove_kept_whole : (id : AppId) (rest : List Op) → t.awaiting ≡ ops.Remove id ∷ rest → fits_records t.tree (ops.Remove id) ≡ true → WholeStep settings h t (KeptEntry (ops.Remove id), kept (ops.Remove id) t)
+  remove_kept_whole id rest front fits =
+      let op : Op = ops.Remove id in
+      let life : LifeState = kept_life op in
+      stepped_whole settings h t (KeptEntry op) (kept op t) life (record { next = _; joins = remove_kept_joins settings h t w.keeps w.marks id rest front handed }) refl (sound_step t.tree op w.sound fits)
+      (record { rows = w.agrees.rows; nodes = w.agrees.nodes; asks = w.agrees.asks; closings = λ q. closing q (is_app id q) refl; masters = λ q. master q (is_app id q.app) refl })
+      w.nodes (record { apart = w.book.apart; rows = w.book.rows; left = w.book.left; launches = w.book.launches })
+    where
+      retired_now : (q : AppId) (b : Bool) → is_app id q ≡ b → has_app (h.apps.retired ++ id ∷ []) q ≡ (has_app h.apps.retired q || b)
+      retired_now q b e = list_any-append (λ one. is_app one q) h.apps.retired (id ∷ []) ∙ rw e (last b)
+        where
+          last : (c : Bool) → (has_app h.apps.retired q || (c || false)) ≡ (has_app h.apps.retired q || c)
+          last true = refl
+          last false = refl
+
+      gone : (b : Bool) → (b || true) ≡ true
+      gone true = refl
+      gone false = refl
+
+      still : (b : Bool) → (b || false) ≡ b
+      still true = refl
+      still false = refl
+
+      closing : (q : AppId) (b : Bool) → is_app id q ≡ b → ClosingsAgree h.endings.outbox q (has_app (h.apps.retired ++ id ∷ []) q) (row_of (without_row id t.rows) q)
+      closing q true e = let now : has_app (h.apps.retired ++ id ∷ []) q ≡ true = retired_now q true e ∙ gone (has_app h.apps.retired q) in rw (row_gone id q t.rows, e, now) (λ r. cc)
+      closing q false e = let now : has_app (h.apps.retired ++ id ∷ []) q ≡ has_app h.apps.retired q = retired_now q false e ∙ still (has_app h.apps.retired q) in rw (row_gone id q t.rows, e, now) (w.agrees.closings q)
+
+      master : (q : AttemptId) (b : Bool) → is_app id q.app ≡ b → RowAgrees h.masters.registered h.granted (has_app (h.apps.retired ++ id ∷ []) q.app) q (row_of (without_row id t.rows) q.app)
+      master q true e = let now : has_app (h.apps.retired ++ id ∷ []) q.app ≡ true = retired_now q.app true e ∙ gone (has_app h.apps.retired q.app) in rw (row_gone id q.app t.rows, e, now) (λ r. cc)
+      master q false e = let now : has_app (h.apps.retired ++ id ∷ []) q.app ≡ has_app h.apps.retired q.app = retired_now q.app false e ∙ still (has_app h.apps.retired q.app) in rw (row_gone id q.app t.rows, e, now) (w.agrees.masters q)

@@ -1,0 +1,51 @@
+-- What the tables are to launch, and what they know of applications, where containers leave. This project's own.
+use Rattle.std.specs.Prelude.{◌≡◌, ◌⊎◌, ◌∷◌, [], ◌≢◌, ℕ, Option, List, Bool, true, None, Some}
+use Rattle.std.specs.List.{list_all}
+use Rattle.rm_types.specs.declared.ids.AppId.{AppId}
+use Rattle.rm_types.specs.declared.ids.AttemptId.{AttemptId}
+use Rattle.rm_types.specs.declared.ids.ContainerId.{ContainerId}
+use Rattle.rm_types.specs.Records.{record_of}
+use Rattle.rm_book.specs.Books.{BookOf, row_of as book_row_of}
+use Rattle.rm_model.specs.Attempts.{attempt_was_first}
+use Rattle.rm_model.specs.State.{Release, Scene}
+use Rattle.rm_tables.specs.declared.events.SchedEvent.{SchedEvent}
+use Rattle.rm_tables.specs.declared.events.SchedEvent.TheVariants as scheds
+use Rattle.rm_node.specs.declared.states.NodeState.TheVariants as states
+use Rattle.rm_tables.specs.declared.nodes.NodeRow.{NodeRow}
+use Rattle.rm_tables.specs.declared.rows.AppRow.{AppRow}
+use Rattle.rm_tables.specs.declared.tables.Tables.{Tables}
+use Rattle.rm_tables.specs.Absorbing.{was_first}
+use Rattle.rm_tables.specs.Nodes.{node_of}
+use Rattle.rm_tables.specs.Rows.{row_of}
+use Rattle.rm_tables.specs.SchedEvents.{is_on}
+
+-- each of these containers stands on a node
+abbrev pub are_on : BookOf → List ℕ → List ContainerId → Bool
+are_on book name ids = list_all (λ id. is_on name (book_row_of book id)) ids
+
+-- what a node is to launch stands on it
+abbrev pub LaunchesHere : BookOf → List (List ℕ × NodeRow) → Type 0
+LaunchesHere book nodes = (name : List ℕ) (row : NodeRow) → node_of nodes name ≡ Some row → are_on book name row.launches ≡ true
+
+-- an application of which the tables have no row has no record
+abbrev pub RowsKnow : Tables → Type 0
+RowsKnow t = (id : AppId) → row_of t.rows id ≡ None → record_of t.tree.apps id ≡ None
+
+-- the rows know which attempts were kept when the life began
+abbrev pub FirstsKnown : Scene → List (AppId × Option AppRow) → Type 0
+FirstsKnown m rows = (id : AttemptId) (row : AppRow) → row_of rows id.app ≡ Some row → attempt_was_first m id ≡ was_first id (Some row)
+
+-- no node that registered is absent
+abbrev pub NoneAbsent : List (List ℕ × NodeRow) → Type 0
+NoneAbsent nodes = (name : List ℕ) (row : NodeRow) → node_of nodes name ≡ Some row → row.state ≢ states.Absent
+
+-- a release is one of these
+abbrev pub IsServed : Release → List Release → Type 0
+IsServed one [] = ⊥
+IsServed one (served ∷ more) = (served ≡ one) ⊎ IsServed one more
+
+-- each release that is on its way was served since the last Settled
+abbrev pub AreServed : List Release → List SchedEvent → Type 0
+AreServed releases [] = Unit {0}
+AreServed releases (scheds.Release attempt list ∷ more) = IsServed (record { attempt = attempt; list = list }) releases × AreServed releases more
+AreServed releases (_ ∷ more) = AreServed releases more

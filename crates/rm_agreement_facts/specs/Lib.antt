@@ -1,0 +1,5 @@
+pub mod Here
+pub mod Agrees
+pub mod Asking
+pub mod Masters
+pub mod Whole
