@@ -95,7 +95,7 @@ same_dialogue (of_app.OfAttempt change) row e = refl
 
 module _ (registered : List MasterState) (granted : List ContainerId) (attempt : AttemptId) where
   -- what is said of an attempt by one row is said by one that is alike
-  alike_agrees : (row now : AppRow) → now.dialogue ≡ row.dialogue → (o p : Option Current) → AreAlike o p → AttemptAgrees registered granted attempt row o → AttemptAgrees registered granted attempt now p
+  pub alike_agrees : (row now : AppRow) → now.dialogue ≡ row.dialogue → (o p : Option Current) → AreAlike o p → AttemptAgrees registered granted attempt row o → AttemptAgrees registered granted attempt now p
   alike_agrees row now dialogue None None alike same = (same.0, dialogue ∙ same.1)
   alike_agrees row now dialogue None (Some b) alike same = absurd alike
   alike_agrees row now dialogue (Some a) None alike same = absurd alike

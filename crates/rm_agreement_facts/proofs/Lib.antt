@@ -29,3 +29,11 @@ pub mod Turning
 pub mod AskedOnce
 pub mod AskedEvents
 pub mod Updated
+pub mod Moving
+pub mod AppMoves
+pub mod MasterMoves
+pub mod Ordering
+pub mod Silent
+pub mod SilentSched
+pub mod Still
+pub mod MainQueue

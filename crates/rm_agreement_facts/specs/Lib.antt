@@ -3,3 +3,4 @@ pub mod Agrees
 pub mod Asking
 pub mod Masters
 pub mod Whole
+pub mod MainQueue

@@ -1,5 +1,4 @@
-//! Why the tables and the judge's life agree again after each event of the scheduler and each operation that is kept, and all that holds of
-//! an open life is kept by it.
+//! Why the tables and the judge's life agree again after each move over an open life, and all that holds of it is kept.
 //!
 //! It has definitions and proofs alone, and no function:
 //!
@@ -8,10 +7,11 @@
 //!   the judge grants (`Passing`), as long as the attempts that ask are current ones (`specs/Asking`), and where a row changes (`Changes`);
 //! - all that holds of an open life (`specs/Whole`), of applications, masters, nodes, the book and the agreement at once, is kept by each
 //!   event of the scheduler: AppAdded and AttemptAdded (`Queueing`), AttemptRecovered, AttemptRemoved, Release, NodeDone and NodeLost
-//!   (`Events`), NodeAdded (`Absorption`) and NodeUpdate (`Updated`); and by each operation but an Epoch once it is kept (`KeptMoves`);
-//! - what these take besides is named in `specs/Here`, `specs/Asking` and `specs/Masters`, and each event of the scheduler keeps it, but for
-//!   the releases that were served (`Firsts`, `Registered`, `AskedEvents`).
+//!   (`Events`), NodeAdded (`Absorption`) and NodeUpdate (`Updated`); by each event of the manager (`MainQueue`: `AppMoves`, `MasterMoves`,
+//!   `Ordering`), but the one that opens a life; and by each operation but an Epoch once it is kept (`KeptMoves`);
+//! - what these take besides is named in `specs/Here`, `specs/Asking`, `specs/Masters` and `specs/MainQueue`, and what keeps it is in
+//!   `Firsts`, `Registered`, `AskedEvents`, `Silent`, `SilentSched` and `Still`.
 //!
-//! It stands on how the two agree (`rm_agreement`), on what holds of applications, masters and nodes (`rm_facts`, `rm_master_facts`,
-//! `rm_node_facts`), on the tables and on the judge's words.
+//! It stands on how the two agree (`rm_agreement`), on what holds of applications, masters and nodes (`rm_facts`, `rm_app_facts`,
+//! `rm_master_facts`, `rm_node_facts`), on the tables and on the judge's words.
 #![tactic(auto)]
