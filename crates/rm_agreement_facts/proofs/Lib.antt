@@ -37,3 +37,4 @@ pub mod Silent
 pub mod SilentSched
 pub mod Still
 pub mod MainQueue
+pub mod SchedQueue

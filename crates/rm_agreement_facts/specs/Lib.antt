@@ -4,3 +4,4 @@ pub mod Asking
 pub mod Masters
 pub mod Whole
 pub mod MainQueue
+pub mod SchedQueue

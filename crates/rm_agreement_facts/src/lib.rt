@@ -6,10 +6,10 @@
 //!   absorbed (`Absorbing`), of which the tables take what the judge takes (`Taken`), after a pass (`Passed`), in which the tables grant what
 //!   the judge grants (`Passing`), as long as the attempts that ask are current ones (`specs/Asking`), and where a row changes (`Changes`);
 //! - all that holds of an open life (`specs/Whole`), of applications, masters, nodes, the book and the agreement at once, is kept by each
-//!   event of the scheduler: AppAdded and AttemptAdded (`Queueing`), AttemptRecovered, AttemptRemoved, Release, NodeDone and NodeLost
+//!   event of the scheduler (`SchedQueue`): AppAdded and AttemptAdded (`Queueing`), AttemptRecovered, AttemptRemoved, Release, NodeDone and NodeLost
 //!   (`Events`), NodeAdded (`Absorption`) and NodeUpdate (`Updated`); by each event of the manager (`MainQueue`: `AppMoves`, `MasterMoves`,
 //!   `Ordering`), but the one that opens a life; and by each operation but an Epoch once it is kept (`KeptMoves`);
-//! - what these take besides is named in `specs/Here`, `specs/Asking`, `specs/Masters` and `specs/MainQueue`, and what keeps it is in
+//! - what these take besides is gathered in `specs/SchedQueue` and `specs/MainQueue`, and what keeps it is in
 //!   `Firsts`, `Registered`, `AskedEvents`, `Silent`, `SilentSched` and `Still`.
 //!
 //! It stands on how the two agree (`rm_agreement`), on what holds of applications, masters and nodes (`rm_facts`, `rm_app_facts`,
