@@ -392,10 +392,10 @@ posted nodes book sched n change book_after events named rows apart all node the
       none = λ q other g. (posted_other q sched events (apart q other) ∙ g.0, rows q ∙ g.1);
     }) good
 
-one_other : (q : List ℕ) (event : SchedEvent) → is_of q event ≡ false → events_of q (event ∷ []) ≡ []
+pub one_other : (q : List ℕ) (event : SchedEvent) → is_of q event ≡ false → events_of q (event ∷ []) ≡ []
 one_other q event e = rw e refl
 
-one_own : (n : List ℕ) (event : SchedEvent) → is_of n event ≡ true → events_of n (event ∷ []) ≡ event ∷ []
+pub one_own : (n : List ℕ) (event : SchedEvent) → is_of n event ≡ true → events_of n (event ∷ []) ≡ event ∷ []
 one_own n event e = rw e refl
 
 beat_other : (n q : List ℕ) (done : List ContainerId) → bytes_eq n q ≡ false → events_of q (beat_events n done) ≡ []
@@ -485,7 +485,7 @@ none_yet : AtNode no_node
 none_yet = record { half = []; paired = refl; gone = refl; turns = refl; same = refl }
 
 -- a node that is one more; nothing else happens
-pushed : (nodes : List NodeState) (book : List Row) (sched events : List SchedEvent) (n : List ℕ) (node : NodeState) → node.name ≡ n → node_of nodes n ≡ None
+pub pushed : (nodes : List NodeState) (book : List Row) (sched events : List SchedEvent) (n : List ℕ) (node : NodeState) → node.name ≡ n → node_of nodes n ≡ None
     → ((q : List ℕ) → bytes_eq n q ≡ false → events_of q events ≡ []) → events_of n events ≡ events → AtNode (view_of node events []) → AllGood nodes book sched
     → AllGood (nodes ++ node ∷ []) book (sched ++ events)
 pushed nodes book sched events n node is none apart all first good = λ q. good_by q (node_of nodes q) refl (good q)
@@ -508,7 +508,7 @@ pushed nodes book sched events n node is none apart all first good = λ q. good_
     good_by q (Some found) f a = rw (push_found nodes node q found f, posted_other q sched events (apart q (not_new q found (bytes_eq n q) refl f))) a
 
 -- what has without_idle away has without_idle away
-still_tidy : (nodes : List NodeState) (book : List Row) (sched : List SchedEvent) → AllGood nodes book sched → AllGood (map (tidied_node book) nodes) book sched
+pub still_tidy : (nodes : List NodeState) (book : List Row) (sched : List SchedEvent) → AllGood nodes book sched → AllGood (map (tidied_node book) nodes) book sched
 still_tidy nodes book sched good =
     all_moved nodes book sched (tidied_node book) book sched (λ one. refl)
     (λ q one is a. rw (← is) (tidy one (events_of one.name sched) (ids_on book one.name) book (λ id. true) (filter-all (ids_on book one.name)) (rw is a)))

@@ -119,14 +119,14 @@ is_there (one ∷ front) id ids = rw (is_there front id ids) (or_true (is_contai
     or_true false = refl
 
 -- of what a node was told to launch nothing is left, and all where it was told nothing
-none_left : (front launches : List ContainerId) → [] ≡ filter (λ id. not (has_container (front ++ launches) id)) launches
+pub none_left : (front launches : List ContainerId) → [] ≡ filter (λ id. not (has_container (front ++ launches) id)) launches
 none_left front [] = refl
 none_left front (id ∷ launches) =
     let more : [] ≡ filter (λ one. not (has_container (front ++ id ∷ launches) one)) launches =
     subst (λ (ids : List ContainerId). [] ≡ filter (λ one. not (has_container ids one)) launches) (append_assoc front (id ∷ []) launches) (none_left (front ++ id ∷ []) launches) in
     rw (is_there front id launches) more
 
-all_left : (launches : List ContainerId) → launches ≡ filter (λ id. not (has_container [] id)) launches
+pub all_left : (launches : List ContainerId) → launches ≡ filter (λ id. not (has_container [] id)) launches
 all_left [] = refl
 all_left (id ∷ launches) = ap (λ l. id ∷ l) (all_left launches)
 
