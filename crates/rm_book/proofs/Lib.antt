@@ -3,6 +3,7 @@ pub mod Changes
 pub mod Entries
 pub mod Ids
 pub mod Lists
+pub mod ManyAsks
 pub mod Nodes
 pub mod Numbered
 pub mod Rows

@@ -2,3 +2,5 @@ pub mod AskEntries
 pub mod AskLines
 pub mod AskTables
 pub mod Books
+pub mod ManyAsks
+pub mod Granted

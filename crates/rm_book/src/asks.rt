@@ -1,10 +1,12 @@
-ghost use Rattle.std.specs.Prelude.{◌≡◌, [], OnOk, OnErr, map, option_map};
+ghost use Rattle.std.specs.Prelude.{◌≡◌, [], OnOk, OnErr, IfOk, length, map, nat_lt, not, option_map, if◌then◌else◌};
 ghost use Rattle.std.specs.List.{list_any};
 ghost use Rattle.std.specs.Option.{option_copied};
 ghost use Rattle.rm_types.specs.Passes.{by_priority};
 ghost use Rattle.rm_book.specs.AskTables.{AskNow, asks_of, asks_set, asks_granted, granted_in, is_for, some_asks, with_asks_of, without_asks_of};
+ghost use Rattle.rm_book.specs.ManyAsks.{all_asked, asks_after};
 
 use crate::attempts::Attempts;
+use crate::many::lines_after;
 use rm_types::{Ask, AskLine, AttemptId, Items, NoMemory, Resource};
 use std::alloc::Global;
 use std::marker::Model;
@@ -53,6 +55,35 @@ impl Asks {
         self.attempts.set(attempt, ask, order)?;
         self.asked = order;
         Ok(())
+    }
+
+    /// Sets each of these asks of an attempt, one after the other, unless it would ask for more than so many different ones
+    /// then: `false` comes exactly there. Then nothing changes, and neither at `NoMemory`, which also comes where no numbers
+    /// are left to order asks by.
+    pub fn set_all(
+        &mut self,
+        attempt: AttemptId,
+        asks: &[Ask],
+        most: usize,
+    ) -> Result<bool, NoMemory>
+        ensures few { IfOk result (λ set. set ≡ not (nat_lt most (length (asks_after (asks_of self.old attempt) asks.now)))) }
+        ensures ok { IfOk result (λ set. self.new ≡ (if set then all_asked attempt self.old asks.now else self.old)) }
+        ensures err { OnErr result (self.new ≡ self.old) }
+    {
+        let lines = self.attempts.lines_of(attempt);
+        if asks.is_empty() {
+            return Ok(lines.len() <= most);
+        }
+        let Some(asked) = self.asked.checked_add(asks.len() as u64) else {
+            return Err(NoMemory);
+        };
+        let after = lines_after(self.attempts.allocator(), lines, asks, self.asked)?;
+        if after.len() > most {
+            return Ok(false);
+        }
+        self.attempts.put(attempt, Items::from_vec(after))?;
+        self.asked = asked;
+        Ok(true)
     }
 
     /// Lines of what an attempt asks for, by priority and then as first asked. `None` comes exactly where it

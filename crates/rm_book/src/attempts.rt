@@ -87,6 +87,21 @@ impl Attempts {
         }
     }
 
+    /// The lines of an attempt; none where it has none.
+    pub fn lines_of(&self, attempt: AttemptId) -> &[AskLine]
+        ensures { result.now ≡ lines_in self.now attempt }
+    {
+        match self.of(attempt) {
+            Some(lines) => lines.as_slice(),
+            None => &[],
+        }
+    }
+
+    /// What lines of attempts take their memory from.
+    pub fn allocator(&self) -> Global {
+        *self.map.allocator()
+    }
+
     /// Sets an ask of an attempt; a new one gets this order. `NoMemory` changes nothing.
     pub fn set(&mut self, attempt: AttemptId, ask: Ask, order: u64) -> Result<(), NoMemory>
         ensures ok { OnOk result (self.new ≡ with_lines attempt (lines_set ask order (lines_in self.old attempt)) self.old) }
@@ -105,15 +120,37 @@ impl Attempts {
         ensures ok { OnOk result (self.new ≡ with_lines attempt (lines_set ask order []) self.old) }
         ensures err { OnErr result (self.new ≡ self.old) }
     {
+        let mut lines = Vec::new(*self.map.allocator());
+        set_line(&mut lines, ask, order)?;
+        self.enter_lines(attempt, Items::from_vec(lines))
+    }
+
+    /// An attempt that has no lines enters with these. `NoMemory` changes nothing.
+    fn enter_lines(&mut self, attempt: AttemptId, lines: Items<AskLine>) -> Result<(), NoMemory>
+        requires { list_any (λ entry. is_attempt entry.attempt attempt) self.old ≡ false }
+        ensures ok { OnOk result (self.new ≡ with_lines attempt lines self.old) }
+        ensures err { OnErr result (self.new ≡ self.old) }
+    {
         let Some(number) = self.entered.checked_add(1) else {
             return Err(NoMemory);
         };
-        let mut lines = Vec::new(*self.map.allocator());
-        set_line(&mut lines, ask, order)?;
-        let lines = Items::from_vec(lines);
         self.map.insert(attempt, AttemptLines { number, lines })?;
         self.entered = number;
         Ok(())
+    }
+
+    /// Puts these lines in the place of an attempt's. `NoMemory` changes nothing.
+    pub fn put(&mut self, attempt: AttemptId, lines: Items<AskLine>) -> Result<(), NoMemory>
+        ensures ok { OnOk result (self.new ≡ with_lines attempt lines self.old) }
+        ensures err { OnErr result (self.new ≡ self.old) }
+    {
+        match self.map.get_mut(&attempt) {
+            Some(slot) => {
+                slot.lines = lines;
+                Ok(())
+            }
+            None => self.enter_lines(attempt, lines),
+        }
     }
 
     /// Takes one from the number outstanding of an attempt's ask, and says whether it has such an ask.

@@ -1,5 +1,6 @@
 pub mod Rows
 pub mod Changes
+pub mod Talks
 pub mod Nodes
 pub mod Actions
 pub mod MainEvents

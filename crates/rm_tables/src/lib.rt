@@ -22,6 +22,7 @@ mod nodes;
 mod opening;
 mod rows;
 mod tables;
+mod talks;
 #[cfg(test)]
 mod tests;
 
@@ -31,3 +32,4 @@ pub use nodes::{NodeChange, NodeRow, Nodes, Registration};
 pub use opening::last_attempt;
 pub use rows::{AppRow, Current, Dialogue, Rows};
 pub use tables::Tables;
+pub use talks::Talk;

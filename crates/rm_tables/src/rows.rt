@@ -3,8 +3,10 @@ ghost use Rattle.std.specs.Option.{option_copied};
 ghost use Rattle.rm_tables.specs.Rows.{slot_of, row_of, is_retired, with_row, without_row};
 ghost use Rattle.rm_tables.specs.Changes.{changed};
 ghost use Rattle.rm_tables.specs.Leaving.{closed_one, telling};
+ghost use Rattle.rm_tables.specs.Talks.{talked};
 
 use crate::changes::RowChange;
+use crate::talks::Talk;
 use indexmap::IndexMap;
 use rm_app::AppState;
 use rm_attempt::AttemptState;
@@ -160,6 +162,16 @@ impl Rows {
         }
     }
 
+    /// Something is said between the manager and the master of an application's current attempt, where the life knows the
+    /// application. It takes no memory.
+    pub fn talk(&mut self, id: AppId, talk: Talk)
+        ensures { self.new ≡ with_row (talked talk) id self.old }
+    {
+        if let Some(slot) = self.map.get_mut(&id) {
+            talk_slot(slot, talk);
+        }
+    }
+
     /// Removes an application, whose id is retired from then on.
     pub fn remove(&mut self, id: AppId)
         ensures { self.new ≡ without_row id self.old }
@@ -175,6 +187,14 @@ fn change_slot(slot: &mut Option<AppRow>, change: RowChange)
 {
     if let Some(row) = slot {
         row.change(change);
+    }
+}
+
+fn talk_slot(slot: &mut Option<AppRow>, talk: Talk)
+    ensures { slot.new ≡ option_map (talked talk) slot.old }
+{
+    if let Some(row) = slot {
+        row.talk(talk);
     }
 }
 

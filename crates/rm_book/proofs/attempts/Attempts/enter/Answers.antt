@@ -1,24 +1,12 @@
 use Rattle.std.proofs.Common.{◌∙◌, ap}
-use Rattle.indexmap.proofs.CallerLemmas.{insert_entry-new}
-use Rattle.rm_types.specs.Ids.{is_attempt}
+use Rattle.std.proofs.lemmas.Result.{on_ok_weaker}
 use Rattle.rm_book.specs.AskLines.{lines_set, with_lines}
-use Rattle.rm_book.specs.AskEntries.{entries_in}
-use Rattle.rm_book.proofs.Slots.{enters, looked_none_in}
 use Rattle.rm_book.proofs.attempts.Attempts.enter.Goals as goal
-
-pub invariant_of-self-2 : goal.invariant_of-self-2
-invariant_of-self-2 c =
-    let new = rw (← c.self.view_is) at c.requires in
-    let none = looked_none_in c.args.attempt c.self.inside.map.entries new in
-    (enters c.self.inside.entered c.in-Some.number c.args.attempt c.from_vec-lines.result c.self.inside.map.entries c.insert.new.self.entries c.self.invariant new
-    c.in-Some.ensures.1 (c.in_ok-insert.ensures.entries ∙ insert_entry-new is_attempt c.self.inside.map c.args.attempt _ none)).lawful
 
 pub returns-clause-ok : goal.returns-clause-ok
 returns-clause-ok c =
-    let new = rw (← c.self.view_is) at c.requires in
-    let none = looked_none_in c.args.attempt c.self.inside.map.entries new in
-    rw (← c.self.view_is)
-    ((enters c.self.inside.entered c.in-Some.number c.args.attempt c.from_vec-lines.result c.self.inside.map.entries c.insert.new.self.entries c.self.invariant new
-    c.in-Some.ensures.1 (c.in_ok-insert.ensures.entries ∙ insert_entry-new is_attempt c.self.inside.map c.args.attempt _ none)).entries
-    ∙ ap (λ lines. with_lines c.args.attempt lines (entries_in c.self.inside.map.entries))
-    (c.from_vec-lines.ensures ∙ c.in_ok-set_line.ensures.ok ∙ ap (lines_set c.args.ask c.args.order) c.new-lines.ensures.items))
+    on_ok_weaker c.enter_lines.result
+    (λ h. h
+    ∙ ap (λ lines. with_lines c.args.attempt lines c.args.self.now)
+    (c.from_vec.ensures ∙ c.in_ok-set_line.ensures.ok ∙ ap (lines_set c.args.ask c.args.order) c.new-lines.ensures.items))
+    c.enter_lines.ensures.ok
