@@ -1,0 +1,64 @@
+-- Containers become Acquired one by one, as all at once.
+use Rattle.std.proofs.Common.{◌≡◌, ℕ, ◌+◌, ◌<◌, List, [], ◌∷◌, ◌++◌, Bool, true, false, ◌||◌, map, length, get_or, take, refl, sym, ◌∙◌, ap}
+use Rattle.std.specs.Prelude.{if◌then◌else◌}
+use Rattle.std.specs.List.{list_any}
+use Rattle.std.proofs.lemmas.List.{map-append, take_more}
+use Rattle.std.proofs.lemmas.List.Folds.{list_any-append}
+use Rattle.rm_types.specs.declared.containers.BookRow.{BookRow}
+use Rattle.rm_types.specs.declared.containers.Closing.{Closing}
+use Rattle.rm_types.specs.declared.containers.ContainerState.{ContainerState}
+use Rattle.rm_types.specs.declared.containers.ContainerState.TheVariants.{Acquired}
+use Rattle.rm_types.specs.declared.containers.Grant.{Grant}
+use Rattle.rm_types.specs.declared.ids.ContainerId.{ContainerId}
+use Rattle.rm_types.specs.declared.replies.Reply.{Reply}
+use Rattle.rm_types.specs.declared.replies.Reply.TheVariants.{Allocated}
+use Rattle.rm_types.specs.Ids.{is_container}
+use Rattle.rm_book.specs.Books.{BookOf, is_of, with_state}
+use Rattle.rm_book.proofs.Ids.{container_back}
+use Rattle.rm_model.specs.Facts.{has_container}
+use Rattle.rm_master.specs.Answers.{acquired, acquired_row, ids_granted, told_by}
+
+no_rows : (rows : List BookRow) → rows ≡ map (acquired_row []) rows
+no_rows [] = refl
+no_rows (row ∷ rows) = ap (λ (more : List BookRow). row ∷ more) (no_rows rows)
+
+-- none does
+pub none_acquired : (book : BookOf) → book ≡ acquired [] book
+none_acquired book = ap (λ (rows : List BookRow). record book { rows = rows }) (no_rows book.rows)
+
+-- nor where the reply tells of none
+pub none_told : (reply : Reply) (book : BookOf) → ((id : ℕ) (grants : List Grant) (ended : List Closing) → reply ≡ Allocated id grants ended → ⊥) → book ≡ acquired (told_by reply) book
+none_told (Allocated id grants ended) book other = absurd (other id grants ended refl)
+none_told _ book other = none_acquired book
+
+either_way : (here there : Bool) (row : BookRow) → (if here then record row { state = Acquired } else record row { state = if there then Acquired else row.state })
+    ≡ record row { state = if there || here then Acquired else row.state }
+either_way true true row = refl
+either_way true false row = refl
+either_way false true row = refl
+either_way false false row = refl
+
+module _ (told : List ContainerId) (id : ContainerId) where
+  one_row : (row : BookRow) → (if is_of id row then record (acquired_row told row) { state = Acquired } else acquired_row told row) ≡ acquired_row (told ++ id ∷ []) row
+  one_row row =
+      either_way (is_of id row) (has_container told row.id) row
+      ∙ ap (λ (b : Bool). record row { state = if b then Acquired else row.state })
+      (ap (λ (b : Bool). has_container told row.id || b) (container_back row.id id ∙ or_none (is_container id row.id)) ∙ sym (list_any-append (λ one. is_container one row.id) told (id ∷ [])))
+    where
+      or_none : (b : Bool) → b ≡ (b || false)
+      or_none true = refl
+      or_none false = refl
+
+  more_rows : (rows : List BookRow) → map (λ row. if is_of id row then record row { state = Acquired } else row) (map (acquired_row told) rows) ≡ map (acquired_row (told ++ id ∷ [])) rows
+  more_rows [] = refl
+  more_rows (row ∷ rows) = rw (more_rows rows) (ap (λ (one : BookRow). one ∷ map (acquired_row (told ++ id ∷ [])) rows) (one_row row))
+
+  -- one more does
+  pub one_acquired : (book : BookOf) → with_state (acquired told book) id Acquired ≡ acquired (told ++ id ∷ []) book
+  one_acquired book = ap (λ (rows : List BookRow). record book { rows = rows }) (more_rows book.rows)
+
+-- the containers of one grant more
+pub more_granted : (grants : List Grant) (place : ℕ) (grant : Grant) → place < length grants → grant ≡ get_or grants place grant
+    → ids_granted (take place grants) ++ grant.id ∷ [] ≡ ids_granted (take (place + 1) grants)
+more_granted grants place grant within is =
+    sym (ap ids_granted (take_more grants place grant within ∙ ap (λ (one : Grant). take place grants ++ one ∷ []) (sym is)) ∙ map-append (λ (one : Grant). one.id) (take place grants) (grant ∷ []))

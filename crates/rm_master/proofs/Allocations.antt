@@ -1,0 +1,113 @@
+-- What an allocation is answered from the tables is what the judge answers, where the tables show the judge's scene.
+use Rattle.std.proofs.Common.{◌≡◌, ℕ, ◌+◌, List, Bool, true, false, not, ◌&&◌, Option, None, Some, is_some, is_none, filter, map, length, count_by, refl, sym, ◌∙◌, ap, subst}
+use Rattle.std.specs.Prelude.{if◌then◌else◌, option_map, ◌==◌, nat_lt}
+use Rattle.std.specs.List.{list_any}
+use Rattle.std.proofs.lemmas.Bool.{eqb-true}
+use Rattle.rm_types.specs.declared.containers.Ask.{Ask}
+use Rattle.rm_types.specs.declared.containers.Closing.{Closing}
+use Rattle.rm_types.specs.declared.containers.Grant.{Grant}
+use Rattle.rm_types.specs.declared.ids.AttemptId.{AttemptId}
+use Rattle.rm_types.specs.declared.replies.Reply.{Reply}
+use Rattle.rm_types.specs.declared.replies.Reply.TheVariants.{Resync, WrongId, TooLarge, Full, Allocated}
+use Rattle.rm_types.specs.Ids.{is_attempt}
+use Rattle.rm_types.specs.Records.{Records}
+use Rattle.rm_book.specs.Granted.{grants_to}
+use Rattle.rm_book.specs.AskTables.{asks_of as asks_in}
+use Rattle.rm_book.specs.ManyAsks.{asks_after}
+use Rattle.rm_model.specs.State.{MasterState, Scene}
+use Rattle.rm_model.specs.Attempts.{is_live, is_registered, master_of}
+use Rattle.rm_model.specs.Facts.{has_app}
+use Rattle.rm_model.specs.MasterReplies.{allocate_reply, allocated_reply, allocation_reply, has_too_many as too_many_told, outbox_of, untold_rows, with_asks}
+use Rattle.rm_tables.specs.declared.rows.AppRow.{AppRow}
+use Rattle.rm_tables.specs.declared.rows.Dialogue.{Dialogue}
+use Rattle.rm_tables.specs.declared.tables.Tables.{Tables}
+use Rattle.rm_tables.specs.Leaving.{is_masters_in}
+use Rattle.rm_tables.specs.Rows.{row_of}
+use Rattle.rm_agreement.specs.Agreement.{ClosingsAgree, PlainDialogue, bare_dialogue, closings_for, plain_dialogue}
+use Rattle.rm_agreement.specs.Shown.{ShowsLife, lives_by}
+use Rattle.rm_master.specs.Told.{allocate_told, allocated_told, asks_too_much, closings_told, grants_told, has_too_many, living_row, new_told, said_told, spoken_told}
+use Rattle.rm_master.proofs.Asked.{lines_told, many_told}
+use Rattle.rm_master.proofs.Granted.{endings_same, grants_same}
+use Rattle.rm_master.proofs.Replies.{Lives, lives_here, none_lives, row_lives}
+
+-- too many are too many
+pub many_alike : (m : Scene) (t : Tables) (attempt : AttemptId) (asks : List Ask) → ShowsLife m t → has_too_many t.asks attempt asks ≡ too_many_told attempt (with_asks attempt m.life.asks asks)
+many_alike m t attempt asks shows =
+    ap (λ (n : ℕ). nat_lt 64 n)
+    (ap (λ (so_far : List Ask). length (asks_after so_far asks)) (shows.asks attempt) ∙ ap (length {A = Ask}) (sym (many_told attempt m.life.asks asks)) ∙ sym (lines_told attempt (with_asks attempt m.life.asks asks)))
+
+-- the endings of a row are those of the application
+row_closings : (m : Scene) (t : Tables) (attempt : AttemptId) (row : AppRow) (o : Option AppRow) → o ≡ Some row → (retired : Bool) → ClosingsAgree m.life.endings.outbox attempt.app retired o
+    → row.closings ≡ closings_for m.life.endings.outbox attempt.app
+row_closings m t attempt row None e retired agree = cc
+row_closings m t attempt row (Some one) e retired agree = let same : one ≡ row = cc in rw (← same) agree
+
+pub closings_alike : (m : Scene) (t : Tables) (attempt : AttemptId) (row : AppRow) → row_of t.rows attempt.app ≡ Some row → ShowsLife m t → row.closings ≡ closings_for m.life.endings.outbox attempt.app
+closings_alike m t attempt row found shows =
+    row_closings m t attempt row (row_of t.rows attempt.app) found (has_app m.life.apps.retired attempt.app) (shows.closings attempt.app)
+
+-- what a master is told
+told_alike : (m : Scene) (t : Tables) (attempt : AttemptId) (id : ℕ) (row : AppRow) → row_of t.rows attempt.app ≡ Some row → ShowsLife m t → allocated_told t attempt id row ≡ allocated_reply m attempt id
+told_alike m t attempt id row found shows =
+    ap (λ (x : List Grant). Allocated (id + 1) x (closings_told attempt row.closings)) (grants_alike t.tree shows.records)
+    ∙ ap (λ (x : List Closing). Allocated (id + 1) judged x) (ap (closings_told attempt) (closings_alike m t attempt row found shows) ∙ endings_same attempt m.life.endings.outbox)
+  where
+    judged : List Grant
+    judged = map (λ one. record { id = one.id; node = one.node; size = one.size }) (untold_rows m attempt)
+
+    grants_alike : (records : Records) → m.records ≡ records → filter (λ grant. not (is_masters_in records.apps grant.id)) (grants_to t.book.rows attempt) ≡ judged
+    grants_alike records e = subst (λ (r : Records). filter (λ grant. not (is_masters_in r.apps grant.id)) (grants_to t.book.rows attempt) ≡ judged) e (grants_same m attempt t.book.rows shows.rows)
+
+module _ (m : Scene) (t : Tables) (attempt : AttemptId) (id : ℕ) (asks : List Ask) (shows : ShowsLife m t) where
+  -- in a dialogue
+  said_alike : (row : AppRow) → row_of t.rows attempt.app ≡ Some row → is_live m attempt ≡ true → (one : Dialogue) (master : MasterState) → bare_dialogue one ≡ plain_dialogue master → master_of m attempt ≡ Some master
+      → said_told t attempt id asks row one ≡ allocate_reply t.settings m attempt id asks (Some master)
+  said_alike row found live one master same is =
+      let last : one.last_id ≡ master.last_id = ap (λ (x : PlainDialogue). x.last_id) same in
+      let reply : one.last_reply ≡ master.last_reply = ap (λ (x : PlainDialogue). x.last_reply) same in
+      let finishing : one.finishing ≡ master.finishing = ap (λ (x : PlainDialogue). x.finishing) same in
+      let registered : is_registered m attempt ≡ is_none master.finishing = rw (live, is) refl in
+      by_text master.finishing finishing registered last reply (id + 1 == master.last_id) (id == master.last_id) refl refl
+    where
+      by_id : (a b : Bool) → (id + 1 == master.last_id) ≡ a → (id == master.last_id) ≡ b → one.last_id ≡ master.last_id → one.last_reply ≡ master.last_reply
+          → (if id + 1 == one.last_id then one.last_reply else (if not (id == one.last_id) then WrongId else new_told t attempt id asks row)) ≡ allocation_reply t.settings m attempt id asks master
+      by_id true b e f last reply = rw (last, e) reply
+      by_id false false e f last reply = rw (last, e, f) refl
+      by_id false true e f last reply =
+          let many = many_alike m t attempt asks shows in
+          let told = told_alike m t attempt id row found shows in
+          let next : id ≡ master.last_id = eqb-true id master.last_id f in
+          rw (last, e, f, many)
+          (ap (λ (x : Reply). if asks_too_much t.settings.greatest asks then TooLarge else (if too_many_told attempt (with_asks attempt m.life.asks asks) then Full else x))
+          (told ∙ ap (allocated_reply m attempt) next))
+
+      by_text : (f : Option (List ℕ)) → one.finishing ≡ f → is_registered m attempt ≡ is_none f → one.last_id ≡ master.last_id → one.last_reply ≡ master.last_reply
+          → (a b : Bool) → (id + 1 == master.last_id) ≡ a → (id == master.last_id) ≡ b
+          → said_told t attempt id asks row one ≡ allocate_reply t.settings m attempt id asks (Some master)
+      by_text None finishing registered last reply a b e f = rw (finishing, registered) (by_id a b e f last reply)
+      by_text (Some text) finishing registered last reply a b e f = rw (finishing, registered) refl
+
+  -- of an attempt that lives
+  spoken_alike : (row : AppRow) → row_of t.rows attempt.app ≡ Some row → is_live m attempt ≡ true → (d : Option Dialogue) (o : Option MasterState) → option_map bare_dialogue d ≡ option_map plain_dialogue o
+      → master_of m attempt ≡ o → spoken_told t attempt id asks row d ≡ allocate_reply t.settings m attempt id asks o
+  spoken_alike row found live None None same is = refl
+  spoken_alike row found live None (Some master) same is = cc
+  spoken_alike row found live (Some one) None same is = cc
+  spoken_alike row found live (Some one) (Some master) same is = let alike : bare_dialogue one ≡ plain_dialogue master = cc in said_alike row found live one master alike is
+
+  -- of one that doesn't
+  gone_alike : is_live m attempt ≡ false → (o : Option MasterState) → Resync ≡ allocate_reply t.settings m attempt id asks o
+  gone_alike live None = refl
+  gone_alike live (Some master) = rw live refl
+
+  by_life : (b : Bool) → lives_by attempt (row_of t.rows attempt.app) ≡ b
+      → allocate_told t attempt id asks (living_row attempt (row_of t.rows attempt.app)) ≡ allocate_reply t.settings m attempt id asks (master_of m attempt)
+  by_life false lives = rw (none_lives attempt (row_of t.rows attempt.app) lives) (gone_alike (shows.live attempt ∙ lives) (master_of m attempt))
+  by_life true lives =
+      let here : Lives m t attempt = lives_here m t attempt shows lives in
+      rw (row_lives attempt (row_of t.rows attempt.app) here.row here.found lives)
+      (spoken_alike here.row here.found (shows.live attempt ∙ lives) here.row.dialogue (master_of m attempt) here.agrees.0 refl)
+
+  -- an allocation is answered as the judge does
+  pub allocate_answer : allocate_told t attempt id asks (living_row attempt (row_of t.rows attempt.app)) ≡ allocate_reply t.settings m attempt id asks (master_of m attempt)
+  allocate_answer = by_life (lives_by attempt (row_of t.rows attempt.app)) refl

@@ -1,0 +1,10 @@
+pub mod Acquired
+pub mod Found
+pub mod Replies
+pub mod Asked
+pub mod Granted
+pub mod Allocations
+pub mod Masters
+pub mod Again
+pub mod Same
+pub mod Served

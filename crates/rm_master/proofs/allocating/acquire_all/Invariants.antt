@@ -1,0 +1,6 @@
+use Rattle.std.proofs.Common.{◌≡◌, take}
+use Rattle.rm_master.specs.Answers.{acquired, ids_granted}
+use Rattle.rm_master.proofs.allocating.acquire_all.Given as goal
+
+abbrev pub invariant-grants : goal.invariant-grants
+invariant-grants l = l.book ≡ acquired (ids_granted (take l.grant-index l.grants)) l.initial.book

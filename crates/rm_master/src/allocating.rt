@@ -1,0 +1,196 @@
+//! A master allocates.
+ghost use Rattle.std.specs.Prelude.{◌≡◌, ◌+◌, ◌<◌, ◌^◌, List, ◌++◌, Some, not, IfOk, OnOk, OnErr, if◌then◌else◌};
+ghost use Rattle.rm_types.specs.declared.messages.MasterAsk.{MasterAsk as Asked};
+ghost use Rattle.rm_types.specs.declared.replies.Reply.{Reply as Told};
+ghost use Rattle.rm_types.specs.Ids.{is_attempt};
+ghost use Rattle.rm_master.specs.Answers.{acquired, after_master, allocated_with, ids_granted, release_events, told_by, told_in};
+ghost use Rattle.rm_master.specs.Told.{allocate_told, allocated_told, asks_too_much, closings_told, grants_told, has_too_many, living_row};
+ghost use Rattle.rm_tables.specs.declared.events.SchedEvent.{SchedEvent as Event};
+ghost use Rattle.rm_tables.specs.Leaving.{is_masters_in};
+ghost use Rattle.rm_tables.specs.Rows.{row_of};
+
+use crate::living::living;
+use crate::recorded::is_masters;
+use rm_book::Book;
+use rm_tables::{AppRow, SchedEvent, Tables, Talk};
+use rm_types::{
+    Ask, AttemptId, Boxed, Closing, ContainerId, ContainerState, Duplicate, Grant, Items, NoMemory,
+    Queue, Reply, Resource,
+};
+
+/// How many different asks an attempt may have.
+const MOST_ASKS: usize = 64;
+
+/// Whether one of these asks is for more than the greatest size.
+fn asks_too_much(greatest: Resource, asks: &[Ask]) -> bool
+    ensures { result ≡ asks_too_much greatest asks.now }
+{
+    asks.iter().any(|ask| !ask.size.fits(greatest))
+}
+
+/// The grants that a master is told of.
+fn grants(t: &Tables, attempt: AttemptId) -> Result<Items<Grant>, NoMemory>
+    ensures { IfOk result (λ grants. grants ≡ grants_told t.now attempt) }
+{
+    let mut grants = t.book.granted_to(attempt)?;
+    grants.retain(
+        |grant: &Grant| -> bool
+            ensures { result ≡ not (is_masters_in t.entry.now.tree.apps grant.now.id) }
+        { !is_masters(&t.tree, grant.id) },
+    );
+    Ok(grants)
+}
+
+/// The endings that a master is told of.
+fn closings(row: &AppRow, attempt: AttemptId) -> Result<Items<Closing>, NoMemory>
+    ensures { IfOk result (λ closings. closings ≡ closings_told attempt row.now.closings) }
+{
+    let mut closings = row.closings.copy()?;
+    closings.retain(
+        |one: &Closing| -> bool
+            ensures { result ≡ is_attempt one.now.id.attempt attempt }
+        { one.id.attempt == attempt },
+    );
+    Ok(closings)
+}
+
+/// What an allocation is answered that isn't refused.
+fn answer(t: &Tables, attempt: AttemptId, id: u32, row: &AppRow) -> Result<Reply, NoMemory>
+    requires { id + 1 < 2 ^ 32 }
+    ensures { IfOk result (λ reply. reply ≡ allocated_told t.now attempt id row.now) }
+{
+    let grants = grants(t, attempt)?;
+    let ended = closings(row, attempt)?;
+    Ok(Reply::Allocated {
+        id: id + 1,
+        grants,
+        ended,
+    })
+}
+
+/// A release is to be worked off, if anything is released. `NoMemory` posts nothing.
+fn post_release(
+    sched: &mut Queue<SchedEvent>,
+    attempt: AttemptId,
+    release: &Items<ContainerId>,
+) -> Result<(), NoMemory>
+    ensures ok { OnOk result (sched.new ≡ sched.old ++ release_events attempt release.now) }
+    ensures err { OnErr result (sched.new ≡ sched.old) }
+{
+    if release.is_empty() {
+        return Ok(());
+    }
+    let list = release.copy()?;
+    sched.push(SchedEvent::Release { attempt, list })
+}
+
+/// Takes the release back that was posted last.
+fn take_back(sched: &mut Queue<SchedEvent>, attempt: AttemptId, release: &Items<ContainerId>)
+    ensures { (front : List Event) → sched.old ≡ front ++ release_events attempt release.now → sched.new ≡ front }
+{
+    if !release.is_empty() {
+        sched.drop_last();
+    }
+}
+
+/// What a master was told of is acquired.
+fn acquire_all(book: &mut Book, grants: &[Grant])
+    ensures { book.new ≡ acquired (ids_granted grants.now) book.old }
+{
+    'grants: for grant in grants {
+        book.set_state(grant.id, ContainerState::Acquired);
+    }
+}
+
+/// What a reply tells a master of is acquired.
+fn acquire_told(book: &mut Book, reply: &Reply)
+    ensures { book.new ≡ acquired (told_by reply.now) book.old }
+{
+    if let Reply::Allocated { grants, .. } = reply {
+        acquire_all(book, grants.as_slice());
+    }
+}
+
+/// A master is told what it is answered, and what it was told of is acquired.
+fn tell(t: &mut Tables, attempt: AttemptId, id: u32, reply: &Reply, kept: Boxed<Reply>)
+    requires id { id + 1 < 2 ^ 32 }
+    requires kept { kept ≡ reply.now }
+    ensures { t.new ≡ told_in attempt id reply.now t.old }
+{
+    acquire_told(&mut t.book, reply);
+    let id = id + 1;
+    let talk = Talk::Answer {
+        attempt,
+        id,
+        reply: kept,
+    };
+    t.rows.talk(attempt.app, talk);
+}
+
+/// A new allocation, which is answered so, is taken unless its attempt would ask for too many. `NoMemory` changes nothing.
+fn take(
+    t: &mut Tables,
+    attempt: AttemptId,
+    id: u32,
+    asks: &Items<Ask>,
+    release: &Items<ContainerId>,
+    reply: Reply,
+) -> Result<Reply, NoMemory>
+    requires { id + 1 < 2 ^ 32 }
+    ensures reply { IfOk result (λ told. told ≡ (if has_too_many t.old.asks attempt asks.now then Told.Full else reply)) }
+    ensures changed { IfOk result (λ told. t.new ≡ (if has_too_many t.old.asks attempt asks.now then t.old else allocated_with attempt id asks.now release.now reply t.old)) }
+    ensures err { OnErr result (t.new ≡ t.old) }
+{
+    let kept = reply.copy()?;
+    let kept = Boxed::new(t.alloc, kept)?;
+    post_release(&mut t.sched, attempt, release)?;
+    match t.asks.set_all(attempt, asks.as_slice(), MOST_ASKS) {
+        Ok(true) => {
+            tell(t, attempt, id, &reply, kept);
+            Ok(reply)
+        }
+        Ok(false) => {
+            take_back(&mut t.sched, attempt, release);
+            Ok(Reply::Full)
+        }
+        Err(refused) => {
+            take_back(&mut t.sched, attempt, release);
+            Err(refused)
+        }
+    }
+}
+
+/// An allocation is answered; where it is new and isn't refused, it is taken.
+pub fn allocate(
+    t: &mut Tables,
+    attempt: AttemptId,
+    id: u32,
+    asks: &Items<Ask>,
+    release: &Items<ContainerId>,
+) -> Result<Reply, NoMemory>
+    requires { id + 1 < 2 ^ 32 }
+    ensures reply { IfOk result (λ reply. reply ≡ allocate_told t.old attempt id asks.now (living_row attempt (row_of t.old.rows attempt.app))) }
+    ensures changed { IfOk result (λ reply. t.new ≡ after_master attempt (Asked.Allocate id asks.now release.now) reply t.old) }
+    ensures err { OnErr result (t.new ≡ t.old) }
+{
+    let Some(row) = living(&t.rows, attempt) else {
+        return Ok(Reply::Resync);
+    };
+    let Some(one) = &row.dialogue else {
+        return Ok(Reply::Resync);
+    };
+    if one.finishing.is_some() {
+        return Ok(Reply::Resync);
+    }
+    if id + 1 == one.last_id {
+        return one.last_reply.get().copy();
+    }
+    if id != one.last_id {
+        return Ok(Reply::WrongId);
+    }
+    if asks_too_much(t.settings.greatest, asks.as_slice()) {
+        return Ok(Reply::TooLarge);
+    }
+    let reply = answer(t, attempt, id, row)?;
+    take(t, attempt, id, asks, release, reply)
+}
