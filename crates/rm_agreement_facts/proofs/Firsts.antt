@@ -75,7 +75,7 @@ module _ (m : Scene) where
 -- EVENTS
 
 -- what was recorded when the life began
-abbrev first_of : Manager → Option Records
+abbrev pub first_of : Manager → Option Records
 first_of s = option_map (λ (life : LifeState). life.first) s.life
 
 module _ (h : History) (t : Tables) (before : FirstsKnown (scene_in h t) t.rows) where

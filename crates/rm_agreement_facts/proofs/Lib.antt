@@ -38,3 +38,4 @@ pub mod SilentSched
 pub mod Still
 pub mod MainQueue
 pub mod SchedQueue
+pub mod SchedFacts

@@ -9,8 +9,8 @@
 //!   event of the scheduler (`SchedQueue`): AppAdded and AttemptAdded (`Queueing`), AttemptRecovered, AttemptRemoved, Release, NodeDone and NodeLost
 //!   (`Events`), NodeAdded (`Absorption`) and NodeUpdate (`Updated`); by each event of the manager (`MainQueue`: `AppMoves`, `MasterMoves`,
 //!   `Ordering`), but the one that opens a life; and by each operation but an Epoch once it is kept (`KeptMoves`);
-//! - what these take besides is gathered in `specs/SchedQueue` and `specs/MainQueue`, and what keeps most of it is in
-//!   `Firsts`, `Registered`, `AskedEvents`, `Silent`, `SilentSched` and `Still`.
+//! - what these take besides is gathered in `specs/SchedQueue`, which each event of the scheduler keeps (`SchedFacts`), and in
+//!   `specs/MainQueue`, most of which each event of the manager keeps (`MainQueue`).
 //!
 //! It stands on how the two agree (`rm_agreement`), on what holds of applications, masters and nodes (`rm_facts`, `rm_app_facts`,
 //! `rm_master_facts`, `rm_node_facts`), on the tables and on the judge's words.
