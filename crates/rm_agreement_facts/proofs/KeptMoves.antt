@@ -1,10 +1,8 @@
 -- An operation is kept, as a whole step that keeps all that holds of an open life: an App, an Attempt, the end of an attempt or an application, and a Remove.
 -- Each fits what is recorded.
 use Rattle.std.proofs.Common.{◌≡◌, ℕ, List, [], ◌∷◌, ◌++◌, Bool, true, false, ◌||◌, Option, None, Some, refl, sym, ◌∙◌, ap, subst, append-nil}
-use Rattle.std.proofs.lemmas.Bool.{false≢true}
 use Rattle.std.proofs.lemmas.List.Elements.{filter-append}
 use Rattle.rm_types.specs.declared.entries.Entry.TheVariants.{Kept as KeptEntry}
-use Rattle.rm_types.specs.declared.containers.AskOf.{AskOf}
 use Rattle.rm_types.specs.declared.ids.AppId.{AppId}
 use Rattle.rm_types.specs.declared.ids.AttemptId.{AttemptId}
 use Rattle.rm_types.specs.declared.operations.Op.{Op}
@@ -12,12 +10,10 @@ use Rattle.rm_types.specs.declared.operations.Op.TheVariants as ops
 use Rattle.rm_types.specs.declared.settings.Settings.{Settings}
 use Rattle.rm_types.specs.declared.operations.How.{How}
 use Rattle.rm_types.specs.declared.operations.Submission.{Submission}
-use Rattle.rm_types.specs.Ids.{is_app, is_attempt}
+use Rattle.rm_types.specs.Ids.{is_app}
 use Rattle.rm_types.specs.Records.{fits_records}
-use Rattle.rm_book.specs.AskTables.{AsksOf, asks_of, without_asks_of}
-use Rattle.rm_book.proofs.Ids.{same_attempt}
-use Rattle.rm_model.specs.Changes.{asks_without, life_keeps}
-use Rattle.rm_model.specs.Passing.{asks_of as asks_told}
+use Rattle.rm_book.specs.AskTables.{without_asks_of}
+use Rattle.rm_model.specs.Changes.{life_keeps}
 use Rattle.rm_model.specs.Containers.{ids_on}
 use Rattle.rm_model.specs.Nodes.{node_of}
 use Rattle.rm_model.specs.State.{LifeState}
@@ -28,7 +24,7 @@ use Rattle.rm_tables.specs.declared.events.SchedEvent.TheVariants as scheds
 use Rattle.rm_tables.specs.declared.tables.Tables.{Tables}
 use Rattle.rm_tables.specs.Changes.{changed}
 use Rattle.rm_tables.specs.KeptOps.{dropped_at, dropped_by, dropped_of, kept}
-use Rattle.rm_agreement.specs.Agreement.{ClosingsAgree, RowAgrees, SameAsks}
+use Rattle.rm_agreement.specs.Agreement.{ClosingsAgree, RowAgrees}
 use Rattle.rm_facts.specs.Told.{History, life_in}
 use Rattle.rm_facts.proofs.Found.{row_changed}
 use Rattle.rm_node_facts.specs.AtNodes.{AllGood, Good, events_of, is_of}
@@ -47,52 +43,7 @@ use Rattle.rm_master_facts.proofs.Sounding.{sound_step}
 use Rattle.rm_agreement_facts.specs.Whole.{Whole, WholeStep}
 use Rattle.rm_agreement_facts.proofs.Changes.{kept_agrees}
 use Rattle.rm_agreement_facts.proofs.Leaving.{stepped_whole}
-
--- an attempt's asks go alike
-pub asks_gone : (table : List AsksOf) (asks : List AskOf) (id : AttemptId) → SameAsks table asks → SameAsks (without_asks_of id table) (asks_without id asks)
-asks_gone table asks id same = λ q. by q (is_attempt id q) refl
-  where
-    own_table : (table : List AsksOf) → asks_of (without_asks_of id table) id ≡ []
-    own_table [] = refl
-    own_table (one ∷ more) = at (is_attempt one.attempt id) refl (own_table more)
-      where
-        at : (b : Bool) → is_attempt one.attempt id ≡ b → asks_of (without_asks_of id more) id ≡ [] → asks_of (without_asks_of id (one ∷ more)) id ≡ []
-        at true e rest = rw e rest
-        at false e rest = rw (e, e) rest
-
-    own_asks : (asks : List AskOf) → asks_told (asks_without id asks) id ≡ []
-    own_asks [] = refl
-    own_asks (one ∷ more) = at (is_attempt one.attempt id) refl (own_asks more)
-      where
-        at : (b : Bool) → is_attempt one.attempt id ≡ b → asks_told (asks_without id more) id ≡ [] → asks_told (asks_without id (one ∷ more)) id ≡ []
-        at true e rest = rw e rest
-        at false e rest = rw (e, e) rest
-
-    other_table : (q : AttemptId) → is_attempt id q ≡ false → (table : List AsksOf) → asks_of (without_asks_of id table) q ≡ asks_of table q
-    other_table q apart [] = refl
-    other_table q apart (one ∷ more) = at (is_attempt one.attempt id) refl (is_attempt one.attempt q) refl (other_table q apart more)
-      where
-        at : (b : Bool) → is_attempt one.attempt id ≡ b → (c : Bool) → is_attempt one.attempt q ≡ c → asks_of (without_asks_of id more) q ≡ asks_of more q
-            → asks_of (without_asks_of id (one ∷ more)) q ≡ asks_of (one ∷ more) q
-        at true e true f rest = absurd (false≢true (sym apart ∙ subst (λ (a : AttemptId). is_attempt a q ≡ true) (same_attempt one.attempt id e) f))
-        at true e false f rest = rw (e, f) rest
-        at false e true f rest = rw (e, f) refl
-        at false e false f rest = rw (e, f) rest
-
-    other_asks : (q : AttemptId) → is_attempt id q ≡ false → (asks : List AskOf) → asks_told (asks_without id asks) q ≡ asks_told asks q
-    other_asks q apart [] = refl
-    other_asks q apart (one ∷ more) = at (is_attempt one.attempt id) refl (is_attempt one.attempt q) refl (other_asks q apart more)
-      where
-        at : (b : Bool) → is_attempt one.attempt id ≡ b → (c : Bool) → is_attempt one.attempt q ≡ c → asks_told (asks_without id more) q ≡ asks_told more q
-            → asks_told (asks_without id (one ∷ more)) q ≡ asks_told (one ∷ more) q
-        at true e true f rest = absurd (false≢true (sym apart ∙ subst (λ (a : AttemptId). is_attempt a q ≡ true) (same_attempt one.attempt id e) f))
-        at true e false f rest = rw (e, f) rest
-        at false e true f rest = rw (e, f) (ap (λ l. one.ask ∷ l) rest)
-        at false e false f rest = rw (e, f) rest
-
-    by : (q : AttemptId) (b : Bool) → is_attempt id q ≡ b → asks_of (without_asks_of id table) q ≡ asks_told (asks_without id asks) q
-    by q true e = subst (λ (x : AttemptId). asks_of (without_asks_of id table) x ≡ asks_told (asks_without id asks) x) (same_attempt id q e) (own_table table ∙ sym (own_asks asks))
-    by q false e = other_table q e table ∙ same q ∙ sym (other_asks q e asks)
+use Rattle.rm_agreement_facts.proofs.Moving.{asks_gone}
 
 -- events of no node at the end of the queue are nothing to the nodes
 pub posted_good : (h : History) (sched more : List SchedEvent) → ((q : List ℕ) → events_of q more ≡ []) → AllGood h.nodes h.book sched → AllGood h.nodes h.book (sched ++ more)
@@ -123,7 +74,7 @@ module _ (settings : Settings) (h : History) (t : Tables) (w : Whole settings h 
       stepped_whole settings h t (KeptEntry (ops.AttemptEnd id how text)) (kept (ops.AttemptEnd id how text) t) life
       (record { next = _; joins = attempt_end_kept_joins settings h t w.keeps w.marks id how text rest front handed }) refl (sound_step t.tree (ops.AttemptEnd id how text) w.sound fits)
       (kept_agrees life asked (kept (ops.AttemptEnd id how text) t) id.app (of_app.OfAttempt (of_attempt.KeepEnd how)) refl
-      (record { rows = w.agrees.rows; nodes = w.agrees.nodes; asks = asks_gone t.asks h.asks id w.agrees.asks; closings = w.agrees.closings; masters = w.agrees.masters }) refl refl refl
+      (record { rows = w.agrees.rows; nodes = w.agrees.nodes; asks = asks_gone id t.asks h.asks w.agrees.asks; closings = w.agrees.closings; masters = w.agrees.masters }) refl refl refl
       (λ q. row_changed (changed (of_app.OfAttempt (of_attempt.KeepEnd how))) id.app q t.rows))
       (posted_good h t.sched (scheds.AttemptRemoved id ∷ []) (λ q. refl) w.nodes) (record { apart = w.book.apart; rows = w.book.rows; left = w.book.left; launches = w.book.launches })
 

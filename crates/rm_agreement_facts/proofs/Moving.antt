@@ -47,7 +47,7 @@ use Rattle.rm_agreement_facts.proofs.Leaving.{queues_agree, stepped_whole}
 
 module _ (id : AttemptId) where
   -- in the tables, of its own asks and of those of others
-  own_gone : (table : List AsksOf) → asks_of (without_asks_of id table) id ≡ []
+  pub own_gone : (table : List AsksOf) → asks_of (without_asks_of id table) id ≡ []
   own_gone [] = refl
   own_gone (one ∷ table) = by (is_attempt one.attempt id) refl (own_gone table)
     where
@@ -55,7 +55,7 @@ module _ (id : AttemptId) where
       by true e rest = rw e rest
       by false e rest = rw (e, e) rest
 
-  other_gone : (q : AttemptId) → is_attempt id q ≡ false → (table : List AsksOf) → asks_of (without_asks_of id table) q ≡ asks_of table q
+  pub other_gone : (q : AttemptId) → is_attempt id q ≡ false → (table : List AsksOf) → asks_of (without_asks_of id table) q ≡ asks_of table q
   other_gone q apart [] = refl
   other_gone q apart (one ∷ table) = by (is_attempt one.attempt id) refl (is_attempt one.attempt q) refl (other_gone q apart table)
     where

@@ -179,7 +179,7 @@ module _ (settings : Settings) (h : History) (t : Tables) (id : AppId) (rests : 
   never : {X : Type 0} → record_of t.tree.apps id ≡ None → waiting_submission h.apps.submitted id ≡ None → is_known here id ≡ true → X
   never none waits known = absurd (let w = submitted_waits h.apps.submitted id waits in let x = rw (w, none) at known in cc)
 
-  known_kept : is_known here id ≡ true → is_kept here id ≡ true
+  pub known_kept : is_known here id ≡ true → is_kept here id ≡ true
   known_kept known = by rests
     where
       by : RestsAt settings h t id → is_kept here id ≡ true
@@ -188,7 +188,7 @@ module _ (settings : Settings) (h : History) (t : Tables) (id : AppId) (rests : 
       by (resting number (asks stopped follows free some)) = stopped.0
       by (resting number (lives goes free)) = goes.0
 
-  no_wish : is_known here id ≡ true → kept_end here id ≡ None → is_wished here id ≡ false
+  pub no_wish : is_known here id ≡ true → kept_end here id ≡ None → is_wished here id ≡ false
   no_wish known unended = by rests
     where
       by : RestsAt settings h t id → is_wished here id ≡ false
@@ -197,7 +197,7 @@ module _ (settings : Settings) (h : History) (t : Tables) (id : AppId) (rests : 
       by (resting number (asks stopped follows free some)) = free
       by (resting number (lives goes free)) = free
 
-  accepted_or_kept : is_known here id ≡ true → kept_end here id ≡ None → is_accepted here id ≡ false → kept_attempts here id ≢ []
+  pub accepted_or_kept : is_known here id ≡ true → kept_end here id ≡ None → is_accepted here id ≡ false → kept_attempts here id ≢ []
   accepted_or_kept known unended unaccepted untried = by rests
     where
       by : RestsAt settings h t id → ⊥
@@ -207,7 +207,7 @@ module _ (settings : Settings) (h : History) (t : Tables) (id : AppId) (rests : 
       by (resting number (asks stopped (n, inr failed) free some)) = let f = failed.0 in absurd (let x = rw untried at f in cc)
       by (resting number (lives goes free)) = absurd (let l = goes.2 in let x = rw untried at l in cc)
 
-  asks_master : is_known here id ≡ true → kept_end here id ≡ None → all_ended (kept_attempts here id) ≡ true → has_master_ask here (next_attempt here id) ≡ true
+  pub asks_master : is_known here id ≡ true → kept_end here id ≡ None → all_ended (kept_attempts here id) ≡ true → has_master_ask here (next_attempt here id) ≡ true
   asks_master known unended all = by rests
     where
       by : RestsAt settings h t id → has_master_ask here (next_attempt here id) ≡ true
@@ -216,7 +216,7 @@ module _ (settings : Settings) (h : History) (t : Tables) (id : AppId) (rests : 
       by (resting number (asks stopped follows free some)) = let n = follows.0 in rw (← n) (some_passes (is_ask (numbered id number)) h.asks some)
       by (resting number (lives goes free)) = absurd (let x = going_open (numbered id number) (kept_attempts here id) goes.2 in cc)
 
-  undecided : is_known here id ≡ true → kept_end here id ≡ None → kept_attempts here id ≢ [] → all_ended (kept_attempts here id) ≡ true
+  pub undecided : is_known here id ≡ true → kept_end here id ≡ None → kept_attempts here id ≢ [] → all_ended (kept_attempts here id) ≡ true
       → (ended_not_failed (last_attempt (kept_attempts here id)) || reaches_bound settings (kept_record here id)) ≡ false
   undecided known unended tried all = by rests
     where

@@ -16,10 +16,10 @@ use Rattle.rm_tables.specs.declared.tables.Tables.{Tables}
 use Rattle.rm_tables.specs.Changes.{changed}
 use Rattle.rm_tables.specs.Rows.{row_of, with_row}
 
--- a report of this state, of what was submitted, so many attempts and the text of an end; no container lives
-abbrev pub report_with : StateWord → Submission → ℕ → List ℕ → ReportOf
-report_with state submission attempts text =
-    record { state = state; user = submission.user; queue = submission.queue; name = submission.name; attempts = attempts; live = 0; text = text }
+-- a report of this state, of what was submitted, so many attempts, so many living containers and the text of an end
+abbrev pub report_with : StateWord → Submission → ℕ → ℕ → List ℕ → ReportOf
+report_with state submission attempts live text =
+    record { state = state; user = submission.user; queue = submission.queue; name = submission.name; attempts = attempts; live = live; text = text }
 
 -- the row of an application that was submitted just now
 abbrev pub new_row : Submission → AppRow

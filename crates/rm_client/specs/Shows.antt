@@ -1,14 +1,15 @@
 -- What the tables show of the judge's scene, as far as a client is answered from them: who makes a move shows that they do. This
 -- project's own.
-use Rattle.std.specs.Prelude.{◌≡◌, [], Bool, true, false, ◌&&◌, ◌||◌, not, Option, None, Some, is_some}
+use Rattle.std.specs.Prelude.{◌≡◌, Bool, true, false, ◌&&◌, ◌||◌, not, Option, None, Some, is_some, count_by}
 use Rattle.rm_types.specs.declared.ids.AppId.{AppId}
 use Rattle.rm_types.specs.declared.records.AppRecord.{AppRecord}
+use Rattle.rm_types.specs.Ids.{is_app}
 use Rattle.rm_types.specs.Lists.{is_nil}
 use Rattle.rm_types.specs.Records.{is_some_and, last_attempt}
 use Rattle.rm_model.specs.State.{Scene}
 use Rattle.rm_model.specs.Attempts.{has_failed}
 use Rattle.rm_model.specs.Facts.{attempts_in, awaits, has_app, is_accepted, is_app_op, is_known, kept_attempts, kept_record, waiting_submission}
-use Rattle.rm_model.specs.ClientReplies.{going, is_running}
+use Rattle.rm_model.specs.ClientReplies.{going, is_running, live_of}
 use Rattle.rm_app.specs.declared.states.AppState.{AppState}
 use Rattle.rm_app.specs.declared.states.AppState.TheVariants as apps
 use Rattle.rm_tables.specs.declared.rows.AppRow.{AppRow}
@@ -53,13 +54,13 @@ abbrev pub ShowsAt : Scene → AppId → Option AppRow → Type 0
 ShowsAt m id None = NoneShows m id
 ShowsAt m id (Some row) = RowShows m id row
 
--- the tables show the scene: what is recorded, the ids that were given, how many applications go on, and each application. No
--- container lives as long as the tables have no book
+-- the tables show the scene: what is recorded, the ids that were given, how many applications go on, how many containers of an
+-- application live, and each application
 pub record Shows (m : Scene) (t : Tables) : Type 0 where
   pub records : m.records ≡ t.tree
   pub stamp : m.life.stamp ≡ t.stamp
   pub given : m.life.given ≡ t.given
   pub going : going m ≡ t.going
-  pub book : m.life.book ≡ []
+  pub live : (id : AppId) → live_of m id ≡ count_by (λ row. is_app row.id.attempt.app id) t.book.rows
   pub retired : (id : AppId) → has_app m.life.apps.retired id ≡ is_retired t.rows id
   pub at : (id : AppId) → ShowsAt m id (row_of t.rows id)

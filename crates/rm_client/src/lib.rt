@@ -2,7 +2,8 @@
 //!
 //! `serve` answers a new id, a submission, a report and a kill. Its reply is the judge's for every scene that the tables show
 //! (`Shows` in `specs/`), and the tables change by one equation (`Answers`). It finds an application by its id without a walk,
-//! takes its memory first, and leaves all as it was where there is none.
+//! takes its memory first, and leaves all as it was where there is none. A report alone walks, over the living containers, to count
+//! those of its application.
 //!
 //! It stands on `rm_tables`, on the rights of `rm_queues`, and on the judge's replies in `rm_model`.
 #![tactic(auto)]

@@ -8,7 +8,8 @@ use rm_app::AppState;
 use rm_queues::{QueueTree, starts_at_root};
 use rm_tables::{AppRow, Tables};
 use rm_types::{
-    AppId, ClientAsk, Items, NoMemory, QueueSpec, Reply, Resource, Settings, Submission, Text,
+    AppId, AttemptId, ClientAsk, ContainerId, ContainerState, Items, NoMemory, QueueSpec, Reply,
+    Resource, Settings, Submission, Text,
 };
 use std::alloc::Global;
 use std::process::Abort;
@@ -18,6 +19,12 @@ use std::test::Fail;
 const FIRST: AppId = AppId {
     stamp: 5,
     number: 1,
+};
+
+/// The second.
+const SECOND: AppId = AppId {
+    stamp: 5,
+    number: 2,
 };
 
 fn text(alloc: Global, bytes: &[u8]) -> Result<Text, NoMemory> {
@@ -163,4 +170,46 @@ fn follows_a_wish(rt: &impl Abort, queues: &QueueTree, tables: &mut Tables) -> R
 fn a_kill_is_wished_for(rt: HostRuntime) -> Result<(), Fail> {
     let (queues, mut tables) = cluster(rt.alloc())?;
     follows_a_wish(&rt, &queues, &mut tables)
+}
+
+// A container of an application lives on a node.
+fn lives(tables: &mut Tables, app: AppId, node: &Text) -> Result<(), Fail>
+    ensures { tables.new ≡ record tables.old { book = tables.new.book } }
+{
+    if tables.book.free_of(node).is_none() {
+        return Err(Fail::from("the node offers nothing"));
+    }
+    let id = ContainerId {
+        attempt: AttemptId { app, number: 1 },
+        epoch: 1,
+        seq: 1,
+    };
+    let size = Resource {
+        memory_mb: 1024,
+        vcores: 1,
+    };
+    Ok(tables.book.add(id, node, size, ContainerState::Running)?)
+}
+
+fn tells_what_lives(rt: &impl Abort, queues: &QueueTree, tables: &mut Tables) -> Result<(), Fail>
+    requires settings { queues.now ≡ tables.old.settings }
+    requires tables { tables.old ≡ no_life tables.old.alloc tables.old.settings }
+{
+    let known = row(tables.alloc)?;
+    tables.rows.add(FIRST, known)?;
+    let node = text(tables.alloc, b"n1:1")?;
+    let offer = tables.settings.greatest;
+    tables.book.set_node(&node, offer)?;
+    lives(tables, FIRST, &node)?;
+    lives(tables, SECOND, &node)?;
+    let user = text(tables.alloc, b"alice")?;
+    let reply = answered(queues, tables, &user, &ClientAsk::Report(FIRST))?;
+    assert!(rt; matches!(&reply, Reply::Report(report) if report.live == 1));
+    Ok(())
+}
+
+#[test]
+fn a_report_counts_the_living_of_its_application(rt: HostRuntime) -> Result<(), Fail> {
+    let (queues, mut tables) = cluster(rt.alloc())?;
+    tells_what_lives(&rt, &queues, &mut tables)
 }

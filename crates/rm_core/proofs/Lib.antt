@@ -1,9 +1,8 @@
 mod Listed
 mod Standing
 mod Recorded
-mod Phases
-mod Showing
-mod Answering
+mod Queued
+mod Serving
 mod Settling
 mod Lives
 mod Moving

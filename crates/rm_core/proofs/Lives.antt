@@ -1,10 +1,10 @@
--- A manager before its first life, and the begin and the end of a life.
-use Rattle.std.proofs.Common.{◌≡◌, ◌≢◌, ℕ, ◌<◌, ◌^◌, List, [], ◌∷◌, ◌++◌, true, false, None, take, refl, sym, ◌∙◌, ap, subst, inl, arith}
+-- A manager before its first life, and the begin of a life.
+use Rattle.std.proofs.Common.{◌≡◌, ◌≢◌, ℕ, ◌<◌, ◌^◌, List, [], ◌∷◌, ◌++◌, false, None, take, refl, sym, ◌∙◌, ap, subst, inl}
 use Rattle.std.proofs.lemmas.List.{append-nil}
 use Rattle.std.proofs.lemmas.List.Sums.{fold_push}
 use Rattle.std.specs.declared.alloc.Global.{Global}
 use Rattle.rm_types.specs.declared.entries.Entry.{Entry}
-use Rattle.rm_types.specs.declared.entries.Entry.TheVariants.{Down, Opened}
+use Rattle.rm_types.specs.declared.entries.Entry.TheVariants.{Opened}
 use Rattle.rm_types.specs.declared.operations.Op.{Op}
 use Rattle.rm_types.specs.declared.settings.Settings.{Settings}
 use Rattle.rm_types.specs.Records.{Records, records}
@@ -13,55 +13,33 @@ use Rattle.rm_model.specs.Changes.{after}
 use Rattle.rm_model.specs.Rules.{Allowed, MayOpen}
 use Rattle.rm_model.specs.Lawful.{state_after}
 use Rattle.rm_tables.specs.declared.tables.Tables.{Tables}
-use Rattle.rm_tables.specs.Lives.{begun, gone_down, no_life}
-use Rattle.rm_facts.specs.Told.{History, new_history}
+use Rattle.rm_tables.specs.Lives.{begun, no_life}
+use Rattle.rm_facts.specs.Told.{new_history}
 use Rattle.rm_core.specs.Adds.{AmountsTo, CanBeginOver}
 use Rattle.rm_core.specs.Queues.{tables_after, tables_moved, unopened}
-use Rattle.rm_core.specs.Keeps.{IsBeginning, IsSound, Keeps, Phase, none, starting}
-use Rattle.rm_core.proofs.Phases.{recorded_of, untried_of}
-use Rattle.rm_core.proofs.Recorded.{each_early, each_named, each_once}
-use Rattle.rm_core.proofs.Standing.{AllAllowed-push, Moves, not_empty}
+use Rattle.rm_moves.specs.Messages.{KeepsLimits}
+use Rattle.rm_running.specs.Phases.{Phase, none, starting}
+use Rattle.rm_running.proofs.OpeningRuns.{begin_starts}
+use Rattle.rm_core.specs.Keeps.{IsSound, Keeps}
+use Rattle.rm_core.proofs.Recorded.{stored, stored_ranges}
+use Rattle.rm_core.proofs.Standing.{AllAllowed-push, not_empty}
 
 -- before the first life
 pub new_sound : (alloc : Global) (settings : Settings) → IsSound (no_life alloc settings)
 new_sound alloc settings =
-    record { history = new_history []; phase = none (record { alive = refl; main = refl; sched = refl; untried = tt }); epoch = omega arith; given = omega arith }
+    record { history = new_history []; phase = none (record { alive = refl; main = refl; sched = refl }) }
 
 pub new_keeps : (opening : List Op) (alloc : Global) (settings : Settings) → Keeps opening [] (no_life alloc settings)
 new_keeps opening alloc settings =
-    record { allowed = tt; history = new_history opening; same = refl; recorded = λ some. absurd (some refl); phase = none (record { alive = refl; main = refl; sched = refl; untried = tt }); fresh = λ none. refl; told_by = λ some. absurd (some refl) }
+    record { allowed = tt; history = new_history opening; same = refl; recorded = λ some. absurd (some refl); phase = none (record { alive = refl; main = refl; sched = refl }); fresh = λ none. refl; told_by = λ some. absurd (some refl) }
 
 -- a life begins under a stamp that is above the recorded one
-module _ (t : Tables) (tree : Records) (stamp : ℕ) (over : CanBeginOver tree) (low : tree.stamp < stamp) (high : stamp < 2 ^ 63) where
-  begins : (kept : List Op) → records kept ≡ tree → IsBeginning (new_history kept) (begun tree stamp t)
-  begins kept is =
-      record {
-        alive = refl;
-        is_open = refl;
-        unblown = refl;
-        new = refl;
-        recorded = is;
-        rows = refl;
-        once = each_once tree over;
-        untried = over.untried;
-        named = each_named tree over;
-        going = refl;
-        ended = refl;
-        early = each_early tree over;
-        book = refl;
-        sched = refl;
-        epoch = refl;
-        rises = low;
-        fits = high;
-      }
-
+module _ (t : Tables) (tree : Records) (stamp : ℕ) (limits : KeepsLimits t.settings) (over : CanBeginOver tree) (low : tree.stamp < stamp) (high : stamp < 2 ^ 63) where
   begin_phase : (kept : List Op) → records kept ≡ tree → Phase (new_history kept) (begun tree stamp t)
-  begin_phase kept is = starting (record { begins = begins kept is; main = refl; awaiting = refl; handed = refl })
+  begin_phase kept is = starting (begin_starts t tree stamp kept is (stored tree over) (stored_ranges tree over) limits over.epoch low high)
 
   pub begin_sound : IsSound (begun tree stamp t)
-  begin_sound =
-      let store = over.of_store in
-      record { history = new_history store.ops; phase = begin_phase store.ops (sym store.amounts); epoch = over.epoch; given = omega arith }
+  begin_sound = let store = over.of_store in record { history = new_history store.ops; phase = begin_phase store.ops (sym store.amounts) }
 
   -- what a life begins with is told by its first entry
   begun_told : (opening : List Op) (log : List Entry) → Keeps opening log t → AmountsTo tree opening (record { settings = t.settings; tables = t; log = log }) → (entries : List Entry) → log ≡ entries
@@ -100,17 +78,3 @@ module _ (t : Tables) (tree : Records) (stamp : ℕ) (over : CanBeginOver tree) 
         fresh = λ none. absurd (not_empty log (Opened 0 tree.next_epoch stamp) none);
         told_by = λ some. begun_told opening log k amounts log refl;
       }
-
--- a life goes down, with no operation with the store
-pub down_moves : (h : History) (t : Tables) → Phase h t → t.alive ≡ true → t.handed ≡ false → t.blown ≡ false → Moves h t Down (gone_down t)
-down_moves h t phase a f b =
-    record {
-      history = h;
-      lawful = rw a (record { none_handed = f });
-      same = rw (a, b) refl;
-      recorded = recorded_of h t phase a;
-      phase = none (record { alive = refl; main = refl; sched = refl; untried = untried_of h t phase });
-      settings = refl;
-      alloc = refl;
-      own = refl;
-    }

@@ -1,52 +1,58 @@
 -- Each move, whether it was made or refused, keeps what holds, and does what it says.
-use Rattle.std.proofs.Common.{◌∙◌, ◌≡◌, ◌≢◌, ℕ, ◌+◌, ◌<◌, ◌≤◌, ◌^◌, max, List, [], ◌∷◌, ◌++◌, Bool, true, false, not, ◌&&◌, ◌||◌, Option, None, Some, Ok, Err, Result, refl, sym, ap, subst, arith}
+use Rattle.std.proofs.Common.{◌∙◌, ◌≡◌, ◌≢◌, ℕ, ◌+◌, ◌<◌, ◌≤◌, ◌^◌, max, List, [], ◌∷◌, ◌++◌, Bool, true, false, not, ◌&&◌, ◌||◌, Option, None, Some, Ok, Err, Result, length, refl, sym, ap, subst, arith}
 use Rattle.std.specs.Prelude.{OnOk, OnErr, slice_get}
 use Rattle.rm_types.specs.declared.entries.Entry.{Entry}
 use Rattle.rm_types.specs.declared.entries.Entry.TheVariants.{Down as DownEntry, Handed, Kept as KeptEntry, Opened, Served, Settled}
+use Rattle.rm_types.specs.declared.ids.AppId.{AppId}
 use Rattle.rm_types.specs.declared.ids.ContainerId.{ContainerId}
-use Rattle.rm_types.specs.declared.messages.Lane.TheVariants.{Client, End, Hand as HandLane, Write}
+use Rattle.rm_types.specs.declared.messages.Lane.TheVariants.{Client, End, Hand as HandLane, Main as MainLane, Write}
 use Rattle.rm_types.specs.declared.messages.Message.{Message}
-use Rattle.rm_types.specs.declared.messages.Message.TheVariants.{Client as FromClient, Clock as FromClock, Master as FromMaster, Node as FromNode}
-use Rattle.rm_types.specs.declared.messages.Sender.TheVariants.{Client as ClientSender}
+use Rattle.rm_types.specs.declared.messages.Message.TheVariants as messages
 use Rattle.rm_types.specs.declared.operations.Op.{Op}
 use Rattle.rm_types.specs.declared.settings.Settings.{Settings}
+use Rattle.rm_types.specs.Lanes.{feed_lane, sender_of}
 use Rattle.rm_types.specs.Lists.{is_nil}
 use Rattle.rm_types.specs.Ranges.{IsOperation}
 use Rattle.rm_types.specs.Records.{Records, fits_records, records}
 use Rattle.rm_queues.specs.Rules.{KeepsRules}
+use Rattle.rm_model.specs.Facts.{attempts_in}
 use Rattle.rm_model.specs.State.{Manager}
 use Rattle.rm_model.specs.Lawful.{state_after}
 use Rattle.rm_tables.specs.declared.events.MainEvent.{MainEvent}
 use Rattle.rm_tables.specs.declared.events.SchedEvent.{SchedEvent}
 use Rattle.rm_tables.specs.declared.events.Refused.{Refused}
 use Rattle.rm_tables.specs.declared.tables.Tables.{Tables}
-use Rattle.rm_tables.specs.Actions.{main_worked, sched_worked}
+use Rattle.rm_tables.specs.Actions.{found_in, main_worked, sched_worked}
 use Rattle.rm_tables.specs.KeptOps.{kept}
 use Rattle.rm_tables.specs.Lives.{begun, gone_down, handed_out, is_ready, may_go_down}
 use Rattle.rm_tables.specs.MainEvents.{main_step}
 use Rattle.rm_tables.specs.SchedEvents.{EndsBy, sched_step}
-use Rattle.rm_facts.specs.Told.{History, scene_in}
-use Rattle.rm_facts.proofs.Weighing.{begin_weighs, down_weighs}
+use Rattle.rm_facts.specs.Told.{History}
+use Rattle.rm_moves.specs.Messages.{IsMessage, KeepsLimits}
+use Rattle.rm_weight_facts.proofs.Lives.{begin_weighs, down_weighs}
+use Rattle.rm_running.specs.Phases.{Leads}
+use Rattle.rm_running.specs.Running.{Running}
+use Rattle.rm_running.proofs.Phases.{down_leads, fits_in, framed_in, goes_leads, hand_leads, handed_awaits, keep_leads, main_called, main_leads, recorded_of, sched_leads, serving_open, unblown_of}
+use Rattle.rm_running.proofs.Settling.{settle_leads}
 use Rattle.rm_core.specs.declared.manager.Move.{Move}
 use Rattle.rm_core.specs.declared.manager.Move.TheVariants.{Begin, Down, Hand, Kept, Main, Sched, Serve, Settle}
 use Rattle.rm_core.specs.Adds.{CanBeginOver, Does, Stands}
-use Rattle.rm_core.specs.Keeps.{IsRunning, IsSound, IsSoundCore, Keeps, Phase, none, running, saving, starting}
+use Rattle.rm_core.specs.Keeps.{IsSound, IsSoundCore, Keeps}
+use Rattle.rm_core.specs.Queues.{served_moved}
 use Rattle.rm_core.specs.Seen.{IsToBeKept, Seen, handed_op}
-use Rattle.rm_core.specs.Serving.{IsBuiltMessage, IsServed}
-use Rattle.rm_core.proofs.Answering.{client_answered, client_moves}
-use Rattle.rm_core.proofs.Lives.{begin_keeps, begin_sound, down_moves}
-use Rattle.rm_core.proofs.Phases.{first_fits, first_framed, hand_moves, handed_awaits, keep_moves, main_moves, recorded_of, sched_moves, unblown_of}
-use Rattle.rm_core.proofs.Settling.{settle_moves}
-use Rattle.rm_core.proofs.Showing.{shows}
-use Rattle.rm_core.proofs.Standing.{Moves, keeps_more, sound_own}
+use Rattle.rm_core.specs.Serving.{IsServed}
 use Rattle.rm_core.specs.Words.{new_manager}
+use Rattle.rm_core.proofs.Lives.{begin_keeps, begin_sound}
+use Rattle.rm_core.proofs.Queued.{main_told, sched_told}
+use Rattle.rm_core.proofs.Serving.{serve_goes, serve_weighs}
+use Rattle.rm_core.proofs.Standing.{keeps_more, sound_after}
 
 abbrev pub seen_of : Tables → List Entry → Seen
 seen_of t log = record { settings = t.settings; tables = t; log = log }
 
 -- the manager before its first life is the same after a move
-began_on : {h : History} {t next : Tables} {e : Entry} → Moves h t e next → new_manager next.alloc next.settings ≡ new_manager t.alloc t.settings
-began_on moves = rw (moves.alloc, moves.settings) refl
+began_on : {h : History} {t next : Tables} {e : Entry} → Leads h t e next → new_manager next.alloc next.settings ≡ new_manager t.alloc t.settings
+began_on leads = rw (leads.alloc, leads.settings) refl
 
 -- what a move comes to, made or refused
 pub record Done (m : Move) (t next : Tables) (log longer : List Entry) (r : Result (Unit {0}) Refused) : Type 0 where
@@ -59,11 +65,11 @@ pub core_sound : (queues : Option Settings) (m : Move) (t next : Tables) (log lo
     → (Stands m t.alive next.alive → t.alive ≡ true) → Done m t next log longer r → IsSoundCore queues next
 core_sound queues m t next log longer (Err e) s err stood done = rw err.0 s
 core_sound None m t next log longer (Ok x) s err stood done = absurd (let lives = stood done.does.stands in let dead = s.queues_are in let no = sym lives ∙ dead in cc)
-core_sound (Some queues) m t next log longer (Ok x) s err stood done = record { rules = rw done.settings s.rules; queues_are = s.queues_are ∙ sym done.settings; sound = done.sound }
+core_sound (Some queues) m t next log longer (Ok x) s err stood done = record { rules = rw done.settings s.rules; limits = rw done.settings s.limits; queues_are = s.queues_are ∙ sym done.settings; sound = done.sound }
 
 -- and one that begins a life has them
-pub begun_sound : (queues : Settings) (m : Move) (t next : Tables) (log longer : List Entry) (r : Result (Unit {0}) Refused) → KeepsRules t.settings → queues ≡ t.settings → Done m t next log longer r → IsSoundCore (Some queues) next
-begun_sound queues m t next log longer r rules are done = record { rules = rw done.settings rules; queues_are = are ∙ sym done.settings; sound = done.sound }
+pub begun_sound : (queues : Settings) (m : Move) (t next : Tables) (log longer : List Entry) (r : Result (Unit {0}) Refused) → KeepsRules t.settings → KeepsLimits t.settings → queues ≡ t.settings → Done m t next log longer r → IsSoundCore (Some queues) next
+begun_sound queues m t next log longer r rules limits are done = record { rules = rw done.settings rules; limits = rw done.settings limits; queues_are = are ∙ sym done.settings; sound = done.sound }
 
 refused : (m : Move) (t next : Tables) (log longer : List Entry) (e : Refused) → IsSound t → next ≡ t → Done m t next log longer (Err e)
 refused m t next log longer e s same = record { sound = rw same s; settings = rw same refl; does = tt }
@@ -92,23 +98,32 @@ module _ (t : Tables) (log : List Entry) (s : IsSound t) where
   -- the first event of the main queue
   main_made : (event : MainEvent) (rest : List MainEvent) → t.main ≡ event ∷ rest → (x : Unit {0}) → Done Main t (main_worked (main_step event t)).1 log (log ++ (main_worked (main_step event t)).0 ∷ []) (Ok x)
   main_made event rest front x =
-      let moves = main_moves s.history t event rest s.phase front in
-      let own = moves.own in
+      let own = main_leads s.history t event rest s.phase front in
+      let told = main_told t rest event front in
       record {
-        sound = sound_own t (main_worked (main_step event t)).1 (main_worked (main_step event t)).0 s own;
-        settings = own.moves.settings;
+        sound = sound_after s.history t (main_step event t).0 (main_worked (main_step event t)).1 own.leads;
+        settings = own.leads.settings;
         does = record {
-          added = record { entry = (main_worked (main_step event t)).0; of_move = moves.of_lane; added = refl };
-          lawful = λ opening k from. keeps_more opening log t (main_worked (main_step event t)).1 (main_worked (main_step event t)).0 k own.stood (main_moves k.history t event rest k.phase front).own.moves;
+          added = record { entry = (main_worked (main_step event t)).0; of_move = told.lane; added = refl };
+          lawful = λ opening k from.
+              keeps_more opening log t (main_worked (main_step event t)).1 (main_worked (main_step event t)).0 k own.stood (record { leads = (main_leads k.history t event rest k.phase front).leads; own = told.own });
           ready = rw front refl;
           weighs = own.lighter;
           stands = (own.stood, own.stands);
           served = own.served;
           tables = tt;
-          settings = own.moves.settings;
-          began = began_on own.moves;
+          settings = own.leads.settings;
+          began = began_on own.leads;
         };
       }
+
+  -- where its lane is ready, the epoch and the attempts of each application leave room for one more
+  pub main_room : is_ready t MainLane ≡ true → (t.epoch + 1 < 2 ^ 32) × ((id : AppId) → length (attempts_in (found_in t id)) + 1 < 2 ^ 32)
+  main_room ready = by t.main refl
+    where
+      by : (main : List MainEvent) → t.main ≡ main → (t.epoch + 1 < 2 ^ 32) × ((id : AppId) → length (attempts_in (found_in t id)) + 1 < 2 ^ 32)
+      by [] front = absurd (let x = rw front at ready in cc)
+      by (event ∷ rest) front = main_called s.history t event rest s.phase front
 
   pub main_done : (next : Tables) (longer : List Entry) (r : Result (Unit {0}) Refused)
       → OnOk r ((event : MainEvent) (rest : List MainEvent) → t.main ≡ event ∷ rest → (next ≡ (main_worked (main_step event t)).1) × (longer ≡ log ++ (main_worked (main_step event t)).0 ∷ []))
@@ -123,21 +138,22 @@ module _ (t : Tables) (log : List Entry) (s : IsSound t) where
   -- the first event of the scheduler's queue
   sched_made : (event : SchedEvent) (list : List ContainerId) (rest : List SchedEvent) → t.sched ≡ event ∷ rest → EndsBy event t list → (x : Unit {0}) → Done Sched t (sched_worked (sched_step event list t)).1 log (log ++ (sched_worked (sched_step event list t)).0 ∷ []) (Ok x)
   sched_made event list rest front ends x =
-      let moves = sched_moves s.history t event list rest s.phase front ends in
-      let own = moves.own in
+      let own = sched_leads s.history t event list rest s.phase front ends in
+      let told = sched_told t rest event front list in
       record {
-        sound = sound_own t (sched_worked (sched_step event list t)).1 (sched_worked (sched_step event list t)).0 s own;
-        settings = own.moves.settings;
+        sound = sound_after s.history t (sched_step event list t).0 (sched_worked (sched_step event list t)).1 own.leads;
+        settings = own.leads.settings;
         does = record {
-          added = record { entry = (sched_worked (sched_step event list t)).0; of_move = moves.of_lane; added = refl };
-          lawful = λ opening k from. keeps_more opening log t (sched_worked (sched_step event list t)).1 (sched_worked (sched_step event list t)).0 k own.stood (sched_moves k.history t event list rest k.phase front ends).own.moves;
+          added = record { entry = (sched_worked (sched_step event list t)).0; of_move = told.lane; added = refl };
+          lawful = λ opening k from.
+              keeps_more opening log t (sched_worked (sched_step event list t)).1 (sched_worked (sched_step event list t)).0 k own.stood (record { leads = (sched_leads k.history t event list rest k.phase front ends).leads; own = told.own });
           ready = rw front refl;
           weighs = own.lighter;
           stands = (own.stood, own.stands);
           served = own.served;
           tables = tt;
-          settings = own.moves.settings;
-          began = began_on own.moves;
+          settings = own.leads.settings;
+          began = began_on own.leads;
         };
       }
 
@@ -160,13 +176,13 @@ module _ (t : Tables) (log : List Entry) (s : IsSound t) where
       let second = both (not (is_nil t.awaiting)) (not t.handed && not t.blown) first.1 in
       let free = is_not t.handed (both (not t.handed) (not t.blown) second.1).0 in
       let some = not_nil t.awaiting second.0 in
-      let own = hand_moves s.history t s.phase first.0 some free in
+      let own = hand_leads s.history t s.phase first.0 some free in
       rw (ok.0, ok.1) (record {
-        sound = sound_own t (handed_out t) Handed s own;
+        sound = sound_after s.history t Handed (handed_out t) own.leads;
         settings = refl;
         does = record {
           added = record { entry = Handed; of_move = refl; added = refl };
-          lawful = λ opening k from. keeps_more opening log t (handed_out t) Handed k own.stood (hand_moves k.history t k.phase first.0 some free).moves;
+          lawful = λ opening k from. keeps_more opening log t (handed_out t) Handed k own.stood (record { leads = (hand_leads k.history t k.phase first.0 some free).leads; own = refl });
           ready = ready;
           weighs = own.lighter;
           stands = (own.stood, own.stands);
@@ -184,20 +200,20 @@ module _ (t : Tables) (log : List Entry) (s : IsSound t) where
   -- and is kept
   keep_made : (op : Op) (rest : List Op) → t.awaiting ≡ op ∷ rest → t.alive ≡ true → t.handed ≡ true → (x : Unit {0}) → Done Kept t (kept op t) log (log ++ KeptEntry op ∷ []) (Ok x)
   keep_made op rest front a hd x =
-      let own = keep_moves s.history t op rest s.phase a hd front in
+      let own = keep_leads s.history t op rest s.phase a hd front in
       record {
-        sound = sound_own t (kept op t) (KeptEntry op) s own;
-        settings = own.moves.settings;
+        sound = sound_after s.history t (KeptEntry op) (kept op t) own.leads;
+        settings = own.leads.settings;
         does = record {
           added = record { entry = KeptEntry op; of_move = (op, handed_first op rest front a hd, refl); added = refl };
-          lawful = λ opening k from. keeps_more opening log t (kept op t) (KeptEntry op) k own.stood (keep_moves k.history t op rest k.phase a hd front).moves;
+          lawful = λ opening k from. keeps_more opening log t (kept op t) (KeptEntry op) k own.stood (record { leads = (keep_leads k.history t op rest k.phase a hd front).leads; own = refl });
           ready = rw (a, hd) refl;
           weighs = own.lighter;
           stands = (own.stood, own.stands);
           served = own.served;
           tables = tt;
-          settings = own.moves.settings;
-          began = began_on own.moves;
+          settings = own.leads.settings;
+          began = began_on own.leads;
         };
       }
 
@@ -216,7 +232,7 @@ module _ (t : Tables) (log : List Entry) (s : IsSound t) where
   write_awaits ready = let lives = both t.alive t.handed ready in handed_awaits s.history t s.phase lives.0 lives.1
 
   pub write_fits : is_ready t Write ≡ true → (op : Op) (rest : List Op) → t.awaiting ≡ op ∷ rest → fits_records t.tree op ≡ true
-  write_fits ready op rest front = first_fits s.history t op rest s.phase (both t.alive t.handed ready).0 front
+  write_fits ready op rest front = fits_in s.history t op rest s.phase (both t.alive t.handed ready).0 front
 
   -- the segment settles
   pub settle_done : (longer : List Entry) (r : Result (Unit {0}) Refused) → OnOk r (longer ≡ log ++ Settled ∷ []) → OnOk r (is_ready t End ≡ true) → OnErr r (longer ≡ log) → Done Settle t t log longer r
@@ -233,7 +249,7 @@ module _ (t : Tables) (log : List Entry) (s : IsSound t) where
         settings = refl;
         does = record {
           added = record { entry = Settled; of_move = refl; added = refl };
-          lawful = λ opening k from. keeps_more opening log t t Settled k first.0 (settle_moves k.history t k.phase first.0 m n w);
+          lawful = λ opening k from. keeps_more opening log t t Settled k first.0 (record { leads = settle_leads k.history t k.phase first.0 m n w; own = refl });
           ready = ready;
           weighs = omega arith;
           stands = (first.0, first.0);
@@ -251,13 +267,13 @@ module _ (t : Tables) (log : List Entry) (s : IsSound t) where
   down_done next longer (Ok x) ok ready err =
       let lives = both t.alive (not t.handed) ready in
       let free = is_not t.handed lives.1 in
-      let moves = down_moves s.history t s.phase lives.0 free (unblown_of s.history t s.phase lives.0) in
+      let leads = down_leads s.history t s.phase lives.0 free (unblown_of s.history t s.phase lives.0) in
       rw (ok.0, ok.1) (record {
-        sound = record { history = moves.history; phase = moves.phase; epoch = s.epoch; given = omega arith };
+        sound = sound_after s.history t DownEntry (gone_down t) leads;
         settings = refl;
         does = record {
           added = record { entry = DownEntry; of_move = refl; added = refl };
-          lawful = λ opening k from. keeps_more opening log t (gone_down t) DownEntry k lives.0 (down_moves k.history t k.phase lives.0 free (unblown_of s.history t s.phase lives.0));
+          lawful = λ opening k from. keeps_more opening log t (gone_down t) DownEntry k lives.0 (record { leads = down_leads k.history t k.phase lives.0 free (unblown_of s.history t s.phase lives.0); own = refl });
           ready = ready;
           weighs = down_weighs t free;
           stands = (lives.0, refl);
@@ -269,20 +285,20 @@ module _ (t : Tables) (log : List Entry) (s : IsSound t) where
       })
 
   -- a life begins
-  pub begin_done : (tree : Records) (handed : ℕ) → t.alive ≡ false → CanBeginOver tree → handed ≤ 1000000000000000 → (next : Tables) (longer : List Entry) (r : Result (Unit {0}) Refused)
+  pub begin_done : KeepsLimits t.settings → (tree : Records) (handed : ℕ) → t.alive ≡ false → CanBeginOver tree → handed ≤ 1000000000000000 → (next : Tables) (longer : List Entry) (r : Result (Unit {0}) Refused)
       → OnOk r ((next ≡ begun tree (max handed (tree.stamp + 1)) t) × (longer ≡ log ++ Opened 0 tree.next_epoch (max handed (tree.stamp + 1)) ∷ []))
       → OnErr r ((next ≡ t) × (longer ≡ log)) → Done (Begin tree handed) t next log longer r
-  begin_done tree handed a over high next longer (Err e) ok err = refused (Begin tree handed) t next log longer e s err.0
-  begin_done tree handed a over high next longer (Ok x) ok err =
+  begin_done limits tree handed a over high next longer (Err e) ok err = refused (Begin tree handed) t next log longer e s err.0
+  begin_done limits tree handed a over high next longer (Ok x) ok err =
       let above : tree.stamp < max handed (tree.stamp + 1) = omega arith in
       let fits = over.stamp in
       let within : max handed (tree.stamp + 1) < 2 ^ 63 = omega arith in
       rw (ok.0, ok.1) (record {
-        sound = begin_sound t tree (max handed (tree.stamp + 1)) over above within;
+        sound = begin_sound t tree (max handed (tree.stamp + 1)) limits over above within;
         settings = refl;
         does = record {
           added = record { entry = Opened 0 tree.next_epoch (max handed (tree.stamp + 1)); of_move = refl; added = refl };
-          lawful = λ opening k from. begin_keeps t tree (max handed (tree.stamp + 1)) over above within opening log k a from;
+          lawful = λ opening k from. begin_keeps t tree (max handed (tree.stamp + 1)) limits over above within opening log k a from;
           ready = rw a refl;
           weighs = begin_weighs tree (max handed (tree.stamp + 1)) t;
           stands = (a, refl);
@@ -293,46 +309,51 @@ module _ (t : Tables) (log : List Entry) (s : IsSound t) where
         };
       })
 
-  -- a life that serves runs
-  serving_runs : (h : History) → Phase h t → t.alive ≡ true → (t.is_open || t.blown) ≡ true → IsRunning h t
-  serving_runs h (none n) a o = absurd (let x = n.alive in cc)
-  serving_runs h (starting b) a o = absurd (let x = b.begins.is_open in let y = b.begins.unblown in let z = rw (x, y) at o in cc)
-  serving_runs h (saving b) a o = absurd (let x = b.begins.is_open in let y = b.begins.unblown in let z = rw (x, y) at o in cc)
-  serving_runs h (running r) a o = r
+  -- the lanes of all senders are ready alike
+  feed_ready : (message : Message) → is_ready t (feed_lane (sender_of message)) ≡ is_ready t Client
+  feed_ready (messages.Client user ask) = refl
+  feed_ready (messages.Master attempt ask) = refl
+  feed_ready (messages.Node name ask) = refl
+  feed_ready (messages.Clock ask) = refl
+
+  -- a life that serves is open
+  pub serving_runs : is_ready t Client ≡ true → Running s.history t
+  serving_runs ready = let lives = both t.alive (t.is_open || t.blown) ready in serving_open s.history t s.phase lives.0 lives.1
 
   -- a message is answered
-  serve_made : (message : Message) → IsBuiltMessage message → is_ready t Client ≡ true → (next : Tables) (longer : List Entry) → IsServed t next log longer message → (x : Unit {0}) → Done (Serve message) t next log longer (Ok x)
-  serve_made (FromClient user ask) built ready next longer (reply, answers, changed, added) x =
+  serve_made : (message : Message) → IsMessage message → t.served < 100000 → is_ready t Client ≡ true → (next : Tables) (longer : List Entry) → IsServed t next log longer message → (x : Unit {0}) → Done (Serve message) t next log longer (Ok x)
+  serve_made message in_range few ready next longer (reply, answers, changed, added) x =
       let lives = both t.alive (t.is_open || t.blown) ready in
-      let r = serving_runs s.history s.phase lives.0 lives.1 in
-      let is = answers (scene_in s.history t) (shows s.history t r.runs) in
-      let moves = client_moves s.history t r user ask reply built is in
-      let answered = client_answered t s.history user ask reply built is in
+      let r = serving_runs ready in
+      let goes = serve_goes s.history t r few message reply in_range answers in
+      let leads = goes_leads s.history t (Served (sender_of message) message reply) (served_moved message reply t) lives.0 goes in
       rw (changed, added) (record {
-        sound = record { history = moves.history; phase = moves.phase; epoch = rw answered.epoch s.epoch; given = answered.given s.given };
-        settings = moves.settings;
+        sound = sound_after s.history t (Served (sender_of message) message reply) (served_moved message reply t) leads;
+        settings = leads.settings;
         does = record {
-          added = record { entry = Served ClientSender (FromClient user ask) reply; of_move = (reply, refl); added = refl };
+          added = record { entry = Served (sender_of message) message reply; of_move = (reply, refl); added = refl };
           lawful = λ opening k from.
-              let run = serving_runs k.history k.phase lives.0 lives.1 in
-              keeps_more opening log t _ (Served ClientSender (FromClient user ask) reply) k lives.0 (client_moves k.history t run user ask reply built (answers (scene_in k.history t) (shows k.history t run.runs)));
-          ready = ready;
-          weighs = answered.weighs;
-          stands = (lives.0, answered.alive ∙ lives.0);
-          served = answered.served;
+              let run = serving_open k.history t k.phase lives.0 lives.1 in
+              keeps_more opening log t (served_moved message reply t) (Served (sender_of message) message reply) k lives.0
+              (record { leads = goes_leads k.history t (Served (sender_of message) message reply) (served_moved message reply t) lives.0 (serve_goes k.history t run few message reply in_range answers); own = refl });
+          ready = feed_ready message ∙ ready;
+          weighs = serve_weighs s.history t r message reply in_range;
+          stands = (lives.0, goes.stays.alive ∙ lives.0);
+          served = refl;
           tables = tt;
-          settings = moves.settings;
-          began = began_on moves;
+          settings = leads.settings;
+          began = began_on leads;
         };
       })
-  serve_made (FromMaster attempt ask) built ready next longer is x = absurd is
-  serve_made (FromNode node ask) built ready next longer is x = absurd is
-  serve_made (FromClock ask) built ready next longer is x = absurd is
 
-  pub serve_done : (message : Message) → IsBuiltMessage message → (next : Tables) (longer : List Entry) (r : Result (Unit {0}) Refused)
+  pub serve_done : (message : Message) → IsMessage message → t.served < 100000 → (next : Tables) (longer : List Entry) (r : Result (Unit {0}) Refused)
       → OnOk r (IsServed t next log longer message) → OnOk r (is_ready t Client ≡ true) → OnErr r ((next ≡ t) × (longer ≡ log)) → Done (Serve message) t next log longer r
-  serve_done message built next longer (Err e) ok ready err = refused (Serve message) t next log longer e s err.0
-  serve_done message built next longer (Ok x) ok ready err = serve_made message built ready next longer ok x
+  serve_done message in_range few next longer (Err e) ok ready err = refused (Serve message) t next log longer e s err.0
+  serve_done message in_range few next longer (Ok x) ok ready err = serve_made message in_range few ready next longer ok x
+
+  -- a message is refused where its lane isn't ready
+  pub serve_unready : (message : Message) → is_ready t Client ≡ false → is_ready t (feed_lane (sender_of message)) ≡ false
+  serve_unready message unready = feed_ready message ∙ unready
 
 -- what is with the store is the first awaiting operation of a life that stands
 handed_front : (t : Tables) (op : Op) → handed_op t ≡ Some op → (a b : Bool) → t.alive ≡ a → t.handed ≡ b → (ops : List Op) → t.awaiting ≡ ops → (t.alive ≡ true) × ((rest : List Op) × (t.awaiting ≡ op ∷ rest))
@@ -343,7 +364,7 @@ handed_front t op h false b a c ops w = absurd (let x = rw a at h in cc)
 
 -- it can be framed
 pub handed_framed : (t : Tables) → IsSound t → (op : Op) → handed_op t ≡ Some op → IsOperation op
-handed_framed t s op h = let is = handed_front t op h t.alive t.handed refl refl t.awaiting refl in first_framed s.history t op is.1.0 s.epoch s.phase is.0 is.1.1
+handed_framed t s op h = let is = handed_front t op h t.alive t.handed refl refl t.awaiting refl in framed_in s.history t op is.1.0 s.phase is.0 is.1.1
 
 -- and fits what is kept
 pub handed_next : (t : Tables) (op : Op) → handed_op t ≡ Some op → (opening : List Op) (log : List Entry) → Keeps opening log t → IsToBeKept opening (seen_of t log) op
@@ -351,7 +372,7 @@ handed_next t op h opening log k =
     let is = handed_front t op h t.alive t.handed refl refl t.awaiting refl in
     let front = is.1.1 in
     let recorded = recorded_of k.history t k.phase is.0 in
-    let fits : fits_records (records k.history.kept) op ≡ true = rw recorded (first_fits k.history t op is.1.0 k.phase is.0 front) in
+    let fits : fits_records (records k.history.kept) op ≡ true = rw recorded (fits_in k.history t op is.1.0 k.phase is.0 front) in
     record {
       first = ap (λ (m : Manager). slice_get m.awaiting 0) k.same ∙ rw front refl;
       fits = subst (λ (m : Manager). fits_records (records m.kept) op ≡ true) (sym k.same) fits;

@@ -1,8 +1,6 @@
--- What a store's operations amount to has each application once, under a name in its range, and no end was kept after them.
-use Rattle.std.proofs.Common.{◌≡◌, ℕ, ◌+◌, ◌≤◌, List, [], ◌∷◌, ◌++◌, Bool, true, false, not, cond, fold, map, filter, find, is_none, is_some, None, Some, Option, if◌then◌else◌, count_by, refl, sym, ◌∙◌, ap, arith}
-use Rattle.std.specs.List.{AllByRecursion, list_any}
-use Rattle.std.proofs.lemmas.List.Elements.{recursion_from_All}
-use Rattle.rm_types.specs.Ranges.{IsOperation}
+-- What a store's operations amount to has each application once, with sound attempts and parts in their ranges, and no end was kept after them.
+use Rattle.std.proofs.Common.{◌≡◌, ℕ, ◌+◌, ◌≤◌, List, [], ◌∷◌, ◌++◌, Bool, true, false, not, cond, fold, map, filter, find, is_none, is_some, None, Some, Option, if◌then◌else◌, count_by, refl, sym, ◌∙◌, ap, subst, arith}
+use Rattle.std.specs.List.{list_any}
 use Rattle.std.proofs.lemmas.List.Sums.{sum_by-append, sum_by-cons}
 use Rattle.rm_types.specs.declared.ids.AppId.{AppId}
 use Rattle.rm_types.specs.declared.operations.Op.{Op}
@@ -15,11 +13,14 @@ use Rattle.rm_core.specs.Adds.{CanBeginOver}
 use Rattle.rm_facts.proofs.Counts.{fails_never}
 use Rattle.rm_facts.specs.Completed.{order_in, order_of}
 use Rattle.rm_facts.specs.View.{changed_if, gone_if}
-use Rattle.rm_facts.specs.Submissions.{AllNamed}
 use Rattle.rm_facts.proofs.Completing.{order_new}
-use Rattle.rm_facts.proofs.Lists.{AllNamed-changed, AllNamed-filter, AllNamed-push}
 use Rattle.rm_facts.proofs.Found.{found_gone, is_app_same}
 use Rattle.rm_app_facts.proofs.Recorded.{record_changed}
+use Rattle.rm_master_facts.specs.Says.{EachApt}
+use Rattle.rm_master_facts.specs.Sound.{EachSound}
+use Rattle.rm_life_facts.specs.Begun.{IsStored}
+use Rattle.rm_range_facts.specs.Ranged.{AreRecords}
+use Rattle.rm_range_facts.proofs.Stores.{stored_apt, stored_records, stored_sound}
 
 -- how often an application is recorded
 abbrev kept_at : AppId → List AppRecord → ℕ
@@ -182,23 +183,16 @@ each_early tree over =
     let early : AllEarly (records store.ops) = early_from store.ops no_records (λ q. omega arith) in
     rw store.amounts early
 
--- the ids of recorded applications are in their ranges
-named_more : (r : Records) (op : Op) → IsOperation op → AllNamed r.apps → AllNamed (recorded r op).apps
-named_more r (Epoch next stamp) is named = named
-named_more r (App id s) is named = AllNamed-push r.apps id s named is.0
-named_more r (Attempt id master node) is named =
-    AllNamed-changed (λ app. record app { attempts = app.attempts ++ record { id = id; master = master; node = node; ending = None } ∷ [] }) (λ app. refl) id.app r.apps named
-named_more r (AttemptEnd id how text) is named = AllNamed-changed (λ app. record app { attempts = map (with_end id how text) app.attempts }) (λ app. refl) id.app r.apps named
-named_more r (AppEnd id how text) is named = AllNamed-changed (λ app. record app { ending = Some (how, text); end_order = r.applied }) (λ app. refl) id r.apps named
-named_more r (Remove id) is named = AllNamed-filter (λ app. not (is_app app.id id)) r.apps named
-
-named_from : (ops : List Op) (r : Records) → AllByRecursion IsOperation ops → AllNamed r.apps → AllNamed (fold recorded r ops).apps
-named_from [] r all named = named
-named_from (op ∷ ops) r all named = named_from ops (recorded r op) all.1 (named_more r op all.0 named)
-
--- a life begins over records whose ids are in their ranges
-pub each_named : (tree : Records) → CanBeginOver tree → AllNamed tree.apps
-each_named tree over =
+-- what a life begins over is what a store may hold, with its parts in their ranges
+pub stored : (tree : Records) → CanBeginOver tree → IsStored tree
+stored tree over =
     let store = over.of_store in
-    let named : AllNamed (records store.ops).apps = named_from store.ops no_records (recursion_from_All IsOperation store.ops store.framed) tt in
-    rw store.amounts named
+    record {
+      once = each_once tree over;
+      early = each_early tree over;
+      sound = subst (λ (r : Records). EachSound r.apps) (sym store.amounts) (stored_sound store.ops store.none_stray);
+      apt = subst (λ (r : Records). EachApt r.apps) (sym store.amounts) (stored_apt store.ops store.framed);
+    }
+
+pub stored_ranges : (tree : Records) → CanBeginOver tree → AreRecords tree.apps
+stored_ranges tree over = let store = over.of_store in subst (λ (r : Records). AreRecords r.apps) (sym store.amounts) (stored_records store.ops store.framed)

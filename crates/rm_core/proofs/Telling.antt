@@ -9,8 +9,8 @@ use Rattle.rm_tables.specs.declared.tables.Tables.{Tables}
 use Rattle.rm_facts.specs.Told.{life_in}
 use Rattle.rm_core.specs.Seen.{Seen, StandsFor}
 use Rattle.rm_core.specs.Words.{as_new, is_handed, manager_after, stands}
-use Rattle.rm_core.proofs.Phases.{unblown_of}
-use Rattle.rm_core.proofs.Standing.{told_standing}
+use Rattle.rm_running.proofs.OpeningRuns.{told_standing}
+use Rattle.rm_running.proofs.Phases.{unblown_of}
 
 -- a life stands after the log; it was not blown, and an operation is with the store where the manager has handed one
 pub record LifeTold (opening : List Op) (s : Seen) : Type 0 where

@@ -1,22 +1,22 @@
 -- What a move asks, and what it adds to the log.
-use Rattle.std.specs.Prelude.{◌≡◌, ℕ, ◌+◌, ◌-◌, ◌*◌, ◌^◌, ◌<◌, ◌≤◌, max, length, List, [], ◌∷◌, ◌++◌, All, Bool, true, false, None, Some}
+use Rattle.std.specs.Prelude.{◌≡◌, ℕ, ◌+◌, ◌-◌, ◌^◌, ◌<◌, ◌≤◌, max, List, [], ◌∷◌, ◌++◌, All, Bool, true, false, None, Some}
 use Rattle.rm_types.specs.declared.entries.Entry.{Entry}
 use Rattle.rm_types.specs.declared.entries.Entry.TheVariants.{Opened, Handed, Kept as KeptEntry, Served, Settled, Down as DownEntry}
 use Rattle.rm_types.specs.declared.messages.Lane.{Lane}
 use Rattle.rm_types.specs.declared.messages.Lane.TheVariants.{Main as MainLane, Sched as SchedLane, Hand as HandLane, Write, End, Begin as BeginLane}
 use Rattle.rm_types.specs.declared.operations.Op.{Op}
 use Rattle.rm_types.specs.declared.replies.Reply.{Reply}
+use Rattle.rm_types.specs.declared.settings.Settings.{Settings}
 use Rattle.rm_types.specs.Ranges.{IsOperation}
 use Rattle.rm_types.specs.Records.{Records, records, stray}
 use Rattle.rm_model.specs.Lawful.{state_after}
-use Rattle.rm_types.specs.Lanes.{feed_lane, sender_of}
+use Rattle.rm_types.specs.Lanes.{feed_lane, lane_of_entry, sender_of}
 use Rattle.rm_core.specs.Seen.{Seen, StandsFor, handed_op}
-use Rattle.rm_core.specs.Serving.{IsBuiltMessage}
 use Rattle.rm_core.specs.Words.{as_new}
 use Rattle.rm_tables.specs.declared.tables.Tables.{Tables}
 use Rattle.rm_tables.specs.Lives.{is_ready, may_go_down}
-use Rattle.rm_facts.specs.Submissions.{AllUntried, IsOfLane}
-use Rattle.rm_facts.specs.Weights.{weight}
+use Rattle.rm_moves.specs.Messages.{IsMessage}
+use Rattle.rm_weight_facts.specs.Weights.{begin_weight, message_weight, weight}
 use Rattle.rm_core.specs.declared.manager.Move.{Move}
 use Rattle.rm_core.specs.declared.manager.Move.TheVariants.{Serve, Main, Sched, Hand, Kept, Settle, Down, Begin}
 
@@ -27,18 +27,17 @@ pub record IsOfStore (tree : Records) : Type 0 where
   pub none_stray : stray ops ≡ None
   pub amounts : tree ≡ records ops
 
--- a life may begin over what is recorded: there is an epoch and a stamp left, and so far no application has an attempt
+-- a life may begin over what is recorded, whatever that is: there is an epoch and a stamp left
 pub record CanBeginOver (tree : Records) : Type 0 where
   pub of_store : IsOfStore tree
   pub epoch : tree.next_epoch < 2 ^ 24
   pub stamp : tree.stamp < 2 ^ 63 - 1
-  pub untried : AllUntried tree.apps
 
--- a move may be asked for: the number that is handed to a life is 1 to 10^15; a message is of a kind that is served, and
+-- a move may be asked for: the number that is handed to a life is 1 to 10^15; the parts of a message are in their ranges, and
 -- not more than 100,000 are served in a life
 abbrev pub CanMake : Tables → Move → Type 0
 CanMake t (Begin tree handed) = CanBeginOver tree × (1 ≤ handed) × (handed ≤ 1000000000000000)
-CanMake t (Serve message) = IsBuiltMessage message × (t.served < 100000)
+CanMake t (Serve message) = IsMessage message × (t.served < 100000)
 CanMake t _ = Unit {0}
 
 -- the lane of a move
@@ -57,19 +56,12 @@ abbrev pub may_make : Tables → Move → Bool
 may_make t Down = may_go_down t
 may_make t next = is_ready t (lane_of next)
 
--- the entries that the main queue's dispatcher may log, and those of the scheduler
-abbrev pub IsOfMain : Entry → Type 0
-IsOfMain e = IsOfLane MainLane e
-
-abbrev pub IsOfSched : Entry → Type 0
-IsOfSched e = IsOfLane SchedLane e
-
 -- the entry that a move adds to a log
 abbrev pub IsOf : Move → Tables → Entry → Type 0
 IsOf (Begin tree handed) t e = e ≡ Opened 0 tree.next_epoch (max handed (tree.stamp + 1))
-IsOf Main t e = IsOfMain e
+IsOf Main t e = lane_of_entry e ≡ MainLane
 IsOf (Serve message) t e = (reply : Reply) × (e ≡ Served (sender_of message) message reply)
-IsOf Sched t e = IsOfSched e
+IsOf Sched t e = lane_of_entry e ≡ SchedLane
 IsOf Hand t e = e ≡ Handed
 IsOf Kept t e = (op : Op) × (handed_op t ≡ Some op) × (e ≡ KeptEntry op)
 IsOf Settle t e = e ≡ Settled
@@ -90,14 +82,14 @@ abbrev pub GoesOnFrom : Move → List Op → Seen → Type 0
 GoesOnFrom (Begin tree handed) opening seen = AmountsTo tree opening seen
 GoesOnFrom _ opening seen = Unit {0}
 
--- a move of the manager's own makes the weight less; a message adds 20 at most; a life begins with the weight of its first
--- event and of what is recorded
-abbrev pub Weighs : Move → ℕ → ℕ → Type 0
-Weighs (Begin tree handed) old new = new ≤ 5 + 11 * length tree.apps
-Weighs Settle old new = new ≤ old
-Weighs Down old new = new ≤ old
-Weighs (Serve message) old new = new ≤ old + 20
-Weighs _ old new = new < old
+-- a move of the manager's own makes the weight less; a message adds a fixed weight at most; a life begins with the weight of its
+-- first event and of what is recorded
+abbrev pub Weighs : Move → Settings → ℕ → ℕ → Type 0
+Weighs (Begin tree handed) settings old new = new ≤ begin_weight settings tree
+Weighs Settle settings old new = new ≤ old
+Weighs Down settings old new = new ≤ old
+Weighs (Serve message) settings old new = new ≤ old + message_weight
+Weighs _ settings old new = new < old
 
 -- a life stands after each move but the one that it goes down by, and before each that doesn't begin one
 abbrev pub Stands : Move → Bool → Bool → Type 0
@@ -123,7 +115,7 @@ pub record Does (next : Move) (old new : Seen) : Type 0 where
   pub added : Adds next old.tables old.log new.log
   pub lawful : (opening : List Op) → StandsFor opening old → GoesOnFrom next opening old → StandsFor opening new
   pub ready : may_make old.tables next ≡ true
-  pub weighs : Weighs next (weight old.tables) (weight new.tables)
+  pub weighs : Weighs next old.settings (weight old.tables) (weight new.tables)
   pub stands : Stands next old.tables.alive new.tables.alive
   pub served : new.tables.served ≡ served_after next old.tables.served
   pub tables : TablesStay next old.tables new.tables

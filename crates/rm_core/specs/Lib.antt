@@ -13,8 +13,8 @@ pub use Rattle.rm_model.specs.Rules
 pub use Rattle.rm_model.specs.Place
 pub use Rattle.rm_model.specs.Lawful
 pub use Rattle.rm_tables.specs.Lives
-pub use Rattle.rm_facts.specs.Submissions
-pub use Rattle.rm_facts.specs.Weights
+pub use Rattle.rm_moves.specs.Messages
+pub use Rattle.rm_weight_facts.specs.Weights
 pub mod Serving
 pub mod Queues
 pub mod Keeps

@@ -8,7 +8,7 @@ use Rattle.rm_types.specs.declared.ids.ContainerId.{ContainerId}
 use Rattle.rm_types.specs.declared.messages.Lane.{Lane}
 use Rattle.rm_types.specs.declared.messages.Lane.TheVariants.{Main, Sched}
 use Rattle.rm_types.specs.declared.messages.Message.{Message}
-use Rattle.rm_types.specs.declared.messages.Message.TheVariants.{Client as FromClient}
+use Rattle.rm_types.specs.declared.messages.Message.TheVariants as messages
 use Rattle.rm_types.specs.declared.operations.Op.{Op}
 use Rattle.rm_types.specs.declared.replies.Reply.{Reply}
 use Rattle.rm_types.specs.declared.settings.Settings.{Settings}
@@ -22,6 +22,8 @@ use Rattle.rm_tables.specs.Lives.{begun, gone_down, handed_out, no_life, refused
 use Rattle.rm_tables.specs.MainEvents.{main_step}
 use Rattle.rm_tables.specs.SchedEvents.{sched_step}
 use Rattle.rm_client.specs.Answers.{after_client}
+use Rattle.rm_master.specs.Answers.{after_master}
+use Rattle.rm_tracker.specs.Answers.{after_clock, after_node}
 
 -- before the first life, over a store that holds these operations
 abbrev pub unopened : Global → Settings → List Op → Tables
@@ -42,10 +44,16 @@ quiet_moved Main t = main_moved t.main t
 quiet_moved Sched t = sched_moved t.sched [] t
 quiet_moved _ t = t
 
--- a message was answered, and is counted; those of others than clients come in later
+-- the tables after a message was answered
+abbrev pub answered : Message → Reply → Tables → Tables
+answered (messages.Client user ask) reply t = after_client ask reply t
+answered (messages.Master attempt ask) reply t = after_master attempt ask reply t
+answered (messages.Node name ask) reply t = after_node name ask reply t
+answered (messages.Clock ask) reply t = after_clock ask reply t
+
+-- and is counted
 abbrev pub served_moved : Message → Reply → Tables → Tables
-served_moved (FromClient user ask) reply t = record (after_client ask reply t) { served = t.served + 1 }
-served_moved _ reply t = t
+served_moved message reply t = record (answered message reply t) { served = t.served + 1 }
 
 -- the tables after one more entry
 abbrev pub tables_moved : Tables → Entry → Tables

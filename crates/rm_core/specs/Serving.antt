@@ -1,37 +1,28 @@
--- The messages that are served so far, and what serving one does.
-use Rattle.std.specs.Prelude.{◌≡◌, ◌+◌, List, [], ◌∷◌, ◌++◌}
+-- What serving a message does.
+use Rattle.std.specs.Prelude.{◌≡◌, List, [], ◌∷◌, ◌++◌}
 use Rattle.rm_types.specs.declared.entries.Entry.{Entry}
 use Rattle.rm_types.specs.declared.entries.Entry.TheVariants.{Served}
-use Rattle.rm_types.specs.declared.messages.ClientAsk.{ClientAsk}
-use Rattle.rm_types.specs.declared.messages.ClientAsk.TheVariants.{New, Submit, Report, Kill}
 use Rattle.rm_types.specs.declared.messages.Message.{Message}
-use Rattle.rm_types.specs.declared.messages.Message.TheVariants.{Client as FromClient}
-use Rattle.rm_types.specs.declared.messages.Sender.TheVariants.{Client}
-use Rattle.rm_types.specs.declared.operations.Op.TheVariants.{App}
+use Rattle.rm_types.specs.declared.messages.Message.TheVariants as messages
 use Rattle.rm_types.specs.declared.replies.Reply.{Reply}
-use Rattle.rm_types.specs.Ranges.{IsOperation}
+use Rattle.rm_types.specs.Lanes.{sender_of}
 use Rattle.rm_model.specs.ClientReplies.{client_reply}
+use Rattle.rm_model.specs.MasterReplies.{master_reply}
+use Rattle.rm_model.specs.NodeReplies.{clock_reply, node_reply}
 use Rattle.rm_model.specs.State.{Scene}
 use Rattle.rm_tables.specs.declared.tables.Tables.{Tables}
-use Rattle.rm_client.specs.Answers.{after_client}
+use Rattle.rm_agreement.specs.Shown.{ShowsLife}
 use Rattle.rm_client.specs.Shows.{Shows}
+use Rattle.rm_core.specs.Queues.{served_moved}
 
--- the parts of a submission are in their ranges
-abbrev pub IsBuiltAsk : ClientAsk → Type 0
-IsBuiltAsk New = Unit {0}
-IsBuiltAsk (Submit id submission) = IsOperation (App id submission)
-IsBuiltAsk (Report id) = Unit {0}
-IsBuiltAsk (Kill id) = Unit {0}
+-- the reply to a message is the judge's for every scene that the tables show
+abbrev pub IsReply : Tables → Message → Reply → Type 0
+IsReply t (messages.Client user ask) reply = (m : Scene) → Shows m t → reply ≡ client_reply t.settings m user ask
+IsReply t (messages.Master attempt ask) reply = (m : Scene) → ShowsLife m t → reply ≡ master_reply t.settings m attempt ask
+IsReply t (messages.Node name ask) reply = (m : Scene) → ShowsLife m t → reply ≡ node_reply m name ask
+IsReply t (messages.Clock ask) reply = (m : Scene) → ShowsLife m t → reply ≡ clock_reply m ask
 
--- the messages that are served so far: those of clients
-abbrev pub IsBuiltMessage : Message → Type 0
-IsBuiltMessage (FromClient user ask) = IsBuiltAsk ask
-IsBuiltMessage _ = ⊥
-
--- a message is answered: its reply is the judge's for every scene that the tables show, the tables change with it, and it is counted
+-- a message is answered: its reply is the judge's, the tables change with it, it is counted, and the log has it
 abbrev pub IsServed : Tables → Tables → List Entry → List Entry → Message → Type 0
-IsServed old new log longer (FromClient user ask) =
-    (reply : Reply) × ((m : Scene) → Shows m old → reply ≡ client_reply old.settings m user ask)
-    × (new ≡ record (after_client ask reply old) { served = old.served + 1 })
-    × (longer ≡ log ++ Served Client (FromClient user ask) reply ∷ [])
-IsServed old new log longer _ = ⊥
+IsServed old new log longer message =
+    (reply : Reply) × IsReply old message reply × (new ≡ served_moved message reply old) × (longer ≡ log ++ Served (sender_of message) message reply ∷ [])

@@ -8,10 +8,10 @@ use Rattle.rm_types.specs.declared.operations.Op.{Op}
 use Rattle.rm_types.specs.declared.settings.Settings.{Settings}
 use Rattle.rm_types.specs.Records.{records}
 use Rattle.rm_tables.specs.Lives.{is_ready, may_go_down, no_life}
-use Rattle.rm_facts.specs.Weights.{weight}
+use Rattle.rm_moves.specs.Messages.{IsMessage}
+use Rattle.rm_weight_facts.specs.Weights.{message_weight as weight_added, weight}
 use Rattle.rm_core.specs.Queues.{tables_moved}
 use Rattle.rm_core.specs.Seen.{Seen, handed_op}
-use Rattle.rm_core.specs.Serving.{IsBuiltMessage}
 
 -- a life stands
 abbrev pub stands : Seen → Bool
@@ -29,9 +29,9 @@ served_in seen = seen.tables.served
 abbrev pub most_served : ℕ
 most_served = 100000
 
--- the message is of a kind that is served so far, and its parts are in their ranges
+-- the parts of the message are in their ranges
 abbrev pub IsServable : Message → Type 0
-IsServable message = IsBuiltMessage message
+IsServable message = IsMessage message
 
 -- the manager has something to do in this lane
 abbrev pub ready_at : Seen → Lane → Bool
@@ -51,7 +51,7 @@ weight_of seen = weight seen.tables
 
 -- a message that is served adds so much to it at most
 abbrev pub message_weight : ℕ
-message_weight = 20
+message_weight = weight_added
 
 -- the operation that is with the store, where one is
 abbrev pub handed_of : Seen → Option Op

@@ -11,7 +11,7 @@ ghost use Rattle.rm_tables.specs.Lives.{is_ready, may_go_down, no_life};
 ghost use Rattle.rm_core.specs.Adds.{AmountsTo, CanBeginOver, CanMake, Does, may_make};
 ghost use Rattle.rm_core.specs.Keeps.{QueuesAre};
 ghost use Rattle.rm_core.specs.Seen.{IsToBeKept, Rests, StandsFor, handed_op, is_kept_entry};
-ghost use Rattle.rm_core.specs.Serving.{IsBuiltMessage};
+ghost use Rattle.rm_moves.specs.Messages.{IsMessage, KeepsLimits};
 
 use crate::likeness::are_same;
 use crate::moves;
@@ -67,9 +67,11 @@ impl Model for Core {
 }
 
 impl Core {
-    /// A manager before its first life. Whatever the store holds, an empty log is lawful. The first queue of the settings is the root.
+    /// A manager before its first life. Whatever the store holds, an empty log is lawful. The first queue of the settings is the root, and
+    /// they allow 1 to 100 attempts of an application.
     pub fn new(alloc: Global, settings: Settings) -> Result<Core, NoMemory>
-        requires { KeepsRules settings }
+        requires rules { KeepsRules settings }
+        requires limits { KeepsLimits settings }
         ensures made { IsOk result }
         ensures settings { IfOk result (λ core. core.settings ≡ settings) }
         ensures tables { IfOk result (λ core. core.tables ≡ no_life alloc settings) }
@@ -222,10 +224,10 @@ impl Core {
     }
 
     fn serve(&mut self, message: Message) -> Result<(), Refused>
-        requires built { IsBuiltMessage message }
+        requires message { IsMessage message }
         requires few { self.old.tables.served < 100000 }
         ensures does { OnOk result (Does (Move.Serve message) self.old self.new) }
-        ensures not_ready { IsErrOf result Refused.NotReady → is_ready self.old.tables Lane.Client ≡ false }
+        ensures not_ready { IsErrOf result Refused.NotReady → may_make self.old.tables (Move.Serve message) ≡ false }
         ensures err { OnErr result (self.new ≡ self.old) }
     {
         let Some(queues) = &self.queues else {

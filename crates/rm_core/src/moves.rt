@@ -2,16 +2,11 @@ ghost use Rattle.std.specs.Prelude.{◌≡◌, ℕ, ◌≢◌, ◌+◌, ◌<◌,
 ghost use Rattle.rm_types.specs.declared.entries.Entry.{Entry};
 ghost use Rattle.rm_types.specs.declared.ids.AppId.{AppId};
 ghost use Rattle.rm_types.specs.declared.ids.ContainerId.{ContainerId};
-ghost use Rattle.rm_types.specs.declared.messages.ClientAsk.{ClientAsk};
 ghost use Rattle.rm_types.specs.declared.messages.Lane.{Lane};
-ghost use Rattle.rm_types.specs.declared.messages.Message.{Message};
-ghost use Rattle.rm_types.specs.declared.messages.Sender.{Sender};
 ghost use Rattle.rm_types.specs.declared.operations.Op.{Op};
-ghost use Rattle.rm_types.specs.declared.replies.Reply.{Reply};
+ghost use Rattle.rm_types.specs.Lanes.{sender_of};
 ghost use Rattle.rm_types.specs.Records.{fits_records};
-ghost use Rattle.rm_model.specs.ClientReplies.{client_reply};
 ghost use Rattle.rm_model.specs.Facts.{attempts_in};
-ghost use Rattle.rm_model.specs.State.{Scene};
 ghost use Rattle.rm_tables.specs.declared.events.MainEvent.{MainEvent};
 ghost use Rattle.rm_tables.specs.declared.events.SchedEvent.{SchedEvent};
 ghost use Rattle.rm_tables.specs.Actions.{found_in, main_worked, sched_worked};
@@ -20,17 +15,15 @@ ghost use Rattle.rm_tables.specs.Lives.{begun, gone_down, handed_out, is_ready, 
 ghost use Rattle.rm_tables.specs.MainEvents.{main_step};
 ghost use Rattle.rm_tables.specs.SchedEvents.{EndsBy, sched_step};
 ghost use Rattle.rm_sched.specs.CanWork.{AreFew, CanAbsorb, CanPass};
-ghost use Rattle.rm_client.specs.Answers.{after_client};
-ghost use Rattle.rm_client.specs.Shows.{Shows};
-ghost use Rattle.rm_core.specs.Serving.{IsBuiltMessage, IsServed};
+ghost use Rattle.rm_moves.specs.Messages.{IsMessage};
+ghost use Rattle.rm_range_facts.specs.Ranged.{Ranged};
+ghost use Rattle.rm_core.specs.Queues.{served_moved};
+ghost use Rattle.rm_core.specs.Serving.{IsReply, IsServed};
 
-use rm_client::serve;
 use rm_queues::QueueTree;
 use rm_tables::{Refused, Tables};
 use rm_tree::Tree;
-use rm_types::{
-    Boxed, ClientAsk, Duplicate, Entry, Items, Lane, Message, NoMemory, Reply, Sender, Text,
-};
+use rm_types::{Boxed, Duplicate, Entry, Items, Lane, Message, NoMemory, Reply, Sender};
 
 // Each move takes the room for its entry first, so that the tables and the log change together or not at all. The entry
 // that takes the room is replaced by the move's own.
@@ -58,13 +51,16 @@ pub fn begin(t: &mut Tables, log: &mut Items<Entry>, tree: Tree, stamp: u64) -> 
 
 /// The first event of the main queue is worked off.
 pub fn main(t: &mut Tables, log: &mut Items<Entry>) -> Result<(), Refused>
-    requires epoch { t.old.epoch + 1 < 2 ^ 32 }
-    requires few { (id : AppId) → length (attempts_in (found_in t.old id)) + 1 < 2 ^ 32 }
+    requires epoch { is_ready t.old Lane.Main ≡ true → t.old.epoch + 1 < 2 ^ 32 }
+    requires few { is_ready t.old Lane.Main ≡ true → (id : AppId) → length (attempts_in (found_in t.old id)) + 1 < 2 ^ 32 }
     ensures ok { OnOk result ((event : MainEvent) (rest : List MainEvent) → t.old.main ≡ event ∷ rest → (t.new ≡ (main_worked (main_step event t.old)).1) × (log.new ≡ log.old ++ (main_worked (main_step event t.old)).0 ∷ [])) }
     ensures some { OnOk result (t.old.main ≢ []) }
     ensures not_ready { IsErrOf result Refused.NotReady → is_ready t.old Lane.Main ≡ false }
     ensures err { OnErr result ((t.new ≡ t.old) × (log.new ≡ log.old)) }
 {
+    if !t.is_ready(Lane::Main) {
+        return Err(Refused::NotReady);
+    }
     log.push(Entry::Settled)?;
     match rm_dispatch::front(t) {
         Ok(entry) => {
@@ -169,31 +165,43 @@ pub fn go_down(t: &mut Tables, log: &mut Items<Entry>) -> Result<(), Refused>
     Ok(())
 }
 
-/// A client is answered, and its message is counted.
-fn answer(
-    queues: &QueueTree,
-    t: &mut Tables,
-    user: &Text,
-    ask: &ClientAsk,
-) -> Result<Reply, NoMemory>
+/// Who sent a message.
+fn sender_of(message: &Message) -> Sender
+    ensures { result ≡ sender_of message.now }
+{
+    match message {
+        Message::Client(..) => Sender::Client,
+        Message::Master(..) => Sender::Master,
+        Message::Node(..) => Sender::Node,
+        Message::Clock(_) => Sender::Clock,
+    }
+}
+
+/// A message is answered by the service of its sender, and is counted.
+fn answer(queues: &QueueTree, t: &mut Tables, message: &Message) -> Result<Reply, NoMemory>
     requires settings { queues.now ≡ t.old.settings }
-    requires served { t.old.served + 1 < 2 ^ 32 }
-    requires ids { t.old.given + 1 < 2 ^ 32 }
+    requires message { IsMessage message.now }
+    requires ranged { Ranged t.old }
     requires attempts { (id : AppId) → length (attempts_in (found_in t.old id)) < 2 ^ 32 }
-    ensures reply { (m : Scene) → Shows m t.old → IfOk result (λ reply. reply ≡ client_reply t.old.settings m user.now ask.now) }
-    ensures changed { IfOk result (λ reply. t.new ≡ record (after_client ask.now reply t.old) { served = t.old.served + 1 }) }
+    ensures reply { IfOk result (λ reply. IsReply t.old message.now reply) }
+    ensures changed { IfOk result (λ reply. t.new ≡ served_moved message.now reply t.old) }
     ensures err { OnErr result (t.new ≡ t.old) }
 {
     if t.going == usize::MAX {
         return Err(NoMemory);
     }
     let served = t.served + 1;
-    let reply = serve(queues, t, user, ask)?;
+    let reply = match message {
+        Message::Client(user, ask) => rm_client::serve(queues, t, user, ask)?,
+        Message::Master(attempt, ask) => rm_master::serve(t, *attempt, ask)?,
+        Message::Node(name, ask) => rm_tracker::serve(t, name, ask)?,
+        Message::Clock(ask) => rm_tracker::serve_clock(t, ask)?,
+    };
     t.served = served;
     Ok(reply)
 }
 
-/// A message is answered. Only clients are served so far.
+/// A message is answered.
 pub fn answer_message(
     queues: &QueueTree,
     t: &mut Tables,
@@ -201,29 +209,27 @@ pub fn answer_message(
     message: Message,
 ) -> Result<(), Refused>
     requires settings { queues.now ≡ t.old.settings }
-    requires built { IsBuiltMessage message }
-    requires few { t.old.served < 100000 }
-    requires given { t.old.given ≤ t.old.served }
-    requires attempts { (id : AppId) → length (attempts_in (found_in t.old id)) < 2 ^ 32 }
+    requires message { IsMessage message }
+    requires ranged { is_ready t.old Lane.Client ≡ true → Ranged t.old }
+    requires attempts { is_ready t.old Lane.Client ≡ true → (id : AppId) → length (attempts_in (found_in t.old id)) < 2 ^ 32 }
     ensures ok { OnOk result (IsServed t.old t.new log.old log.new message) }
     ensures ready { OnOk result (is_ready t.old Lane.Client ≡ true) }
     ensures not_ready { IsErrOf result Refused.NotReady → is_ready t.old Lane.Client ≡ false }
     ensures err { OnErr result ((t.new ≡ t.old) × (log.new ≡ log.old)) }
 {
+    // The lanes of all senders are ready alike.
     if !t.is_ready(Lane::Client) {
         return Err(Refused::NotReady);
     }
+    let sender = sender_of(&message);
     let message = Boxed::new(t.alloc, message)?;
     let mut reply = Boxed::new(t.alloc, Reply::NotOpen)?;
-    let Message::Client(user, ask) = message.get() else {
-        unreachable!()
-    };
     log.push(Entry::Settled)?;
-    match answer(queues, t, user, ask) {
+    match answer(queues, t, message.get()) {
         Ok(answer) => {
             reply.set(answer);
             log.set_last(Entry::Served {
-                sender: Sender::Client,
+                sender,
                 message,
                 reply,
             });

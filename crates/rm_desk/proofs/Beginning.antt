@@ -1,19 +1,17 @@
 -- A life of the script begins.
-use Rattle.std.proofs.Common.{◌≡◌, ◌≢◌, ℕ, ◌+◌, ◌≤◌, max, List, [], ◌∷◌, ◌++◌, true, false, Some, None, Option, refl, sym, ◌∙◌, ap, subst, arith}
+use Rattle.std.proofs.Common.{◌≡◌, ℕ, ◌+◌, ◌≤◌, List, [], ◌∷◌, ◌++◌, true, false, Some, refl, sym, ◌∙◌, ap, subst, arith}
 use Rattle.std.specs.Prelude.{slice_get}
 use Rattle.std.proofs.lemmas.List.{append-nil}
-use Rattle.rm_types.specs.declared.entries.Entry.{Entry}
 use Rattle.rm_types.specs.declared.entries.Entry.TheVariants.{Opened}
 use Rattle.rm_types.specs.declared.operations.Op.{Op}
 use Rattle.rm_types.specs.declared.scripts.Life.{Life}
-use Rattle.rm_types.specs.declared.scripts.Segment.{Segment}
 use Rattle.rm_types.specs.Records.{Records, records}
 use Rattle.rm_model.specs.Changes.{kept_after_landing}
 use Rattle.rm_model.specs.Lawful.{state_after}
-use Rattle.rm_model.specs.Place.{Begins as BeginsAt, Place, begun, moved, stamp_of}
+use Rattle.rm_model.specs.Place.{Begins as BeginsAt, Place, begun, stamp_of}
 use Rattle.rm_core.specs.Adds.{AmountsTo}
 use Rattle.rm_core.specs.Seen.{Seen, StandsFor}
-use Rattle.rm_core.specs.Words.{as_new, most_served, served_in, stands}
+use Rattle.rm_core.specs.Words.{as_new, served_in, stands}
 use Rattle.rm_desk.specs.View.{DeskView}
 use Rattle.rm_desk.specs.Scripts.{AllLive, CanFollow, EndsInCrash, messages_in}
 use Rattle.rm_desk.specs.Runs.{IsSound}

@@ -1,5 +1,6 @@
 pub mod Words
 pub mod Longer
+pub mod Feeding
 pub mod Moving
 pub mod Beginning
 pub mod Resting

@@ -1,5 +1,5 @@
 -- A run with one more entry.
-use Rattle.std.proofs.Common.{◌≡◌, ◌≢◌, List, [], ◌∷◌, ◌++◌, true, refl, sym, ◌∙◌, ap, subst}
+use Rattle.std.proofs.Common.{◌≡◌, ◌≢◌, List, [], ◌∷◌, ◌++◌, refl, sym, ◌∙◌, ap, subst}
 use Rattle.std.proofs.lemmas.List.Sums.{fold_push}
 use Rattle.rm_types.specs.declared.entries.Entry.{Entry}
 use Rattle.rm_types.specs.declared.entries.Entry.TheVariants.{Opened, Issued, Handed, Kept, Blown, Served, Accepted, Queued, Absorbed, Pass, Ordered, Ended, Settled, Down, Quiet}
@@ -11,9 +11,8 @@ use Rattle.rm_types.specs.declared.scripts.Script.{Script}
 use Rattle.rm_types.specs.Lanes.{lane_of_entry}
 use Rattle.rm_model.specs.State.{Manager, opening_state}
 use Rattle.rm_model.specs.Changes.{after, after_all}
-use Rattle.rm_model.specs.Lawful.{Follows, place_after, state_after}
+use Rattle.rm_model.specs.Lawful.{Follows, state_after}
 use Rattle.rm_model.specs.Place.{IsNext, Place, beginning, moved}
-use Rattle.rm_core.specs.Adds.{IsOfMain, IsOfSched}
 use Rattle.rm_core.specs.Seen.{StandsFor}
 use Rattle.rm_desk.specs.View.{DeskView}
 use Rattle.rm_desk.specs.Runs.{GoesTo, IsRun}
@@ -81,38 +80,3 @@ own_silent Down h = absurd h
 
 pub kept_silent : (op : Op) → IsSilent (Kept op)
 kept_silent op = record { next = λ s p. tt; stays = λ p. refl }
-
--- the entries of the two queues are of their lanes
-pub main_lane : (e : Entry) → IsOfMain e → lane_of_entry e ≡ Main
-main_lane (Issued op) h = refl
-main_lane (Accepted app) h = refl
-main_lane (Ordered container node) h = refl
-main_lane (Quiet lane) h = h
-main_lane (Opened landed epoch stamp) h = absurd h
-main_lane Handed h = absurd h
-main_lane (Kept op) h = absurd h
-main_lane (Blown passed) h = absurd h
-main_lane (Served sender message reply) h = absurd h
-main_lane (Queued attempt) h = absurd h
-main_lane (Absorbed node taken ended) h = absurd h
-main_lane (Pass node grants) h = absurd h
-main_lane (Ended cause list) h = absurd h
-main_lane Settled h = absurd h
-main_lane Down h = absurd h
-
-pub sched_lane : (e : Entry) → IsOfSched e → lane_of_entry e ≡ Sched
-sched_lane (Queued attempt) h = refl
-sched_lane (Absorbed node taken ended) h = refl
-sched_lane (Pass node grants) h = refl
-sched_lane (Ended cause list) h = refl
-sched_lane (Quiet lane) h = h
-sched_lane (Opened landed epoch stamp) h = absurd h
-sched_lane (Issued op) h = absurd h
-sched_lane Handed h = absurd h
-sched_lane (Kept op) h = absurd h
-sched_lane (Blown passed) h = absurd h
-sched_lane (Served sender message reply) h = absurd h
-sched_lane (Accepted app) h = absurd h
-sched_lane (Ordered container node) h = absurd h
-sched_lane Settled h = absurd h
-sched_lane Down h = absurd h

@@ -1,5 +1,5 @@
 -- The moves of a desk, each a longer run, with less left.
-use Rattle.std.proofs.Common.{◌≡◌, ◌≢◌, ℕ, ◌+◌, ◌*◌, ◌<◌, ◌≤◌, List, [], ◌∷◌, ◌++◌, Bool, true, false, ◌&&◌, Some, None, Option, Ok, Err, Result, length, refl, sym, ◌∙◌, ap, subst, arith, drop}
+use Rattle.std.proofs.Common.{◌≡◌, ◌≢◌, ◌+◌, ◌*◌, ◌<◌, ◌≤◌, List, [], ◌∷◌, ◌++◌, true, false, ◌&&◌, Some, None, Option, Ok, Err, Result, length, refl, sym, ◌∙◌, ap, subst, arith}
 use Rattle.std.specs.Prelude.{OnOk, slice_get}
 use Rattle.std.specs.List.{sum_by}
 use Rattle.std.proofs.lemmas.List.Sums.{sum_by-cons}
@@ -8,32 +8,30 @@ use Rattle.rm_types.specs.declared.entries.Entry.TheVariants.{Handed, Kept, Serv
 use Rattle.rm_types.specs.declared.messages.Lane.{Lane}
 use Rattle.rm_types.specs.declared.messages.Lane.TheVariants as lanes
 use Rattle.rm_types.specs.declared.messages.Message.{Message}
-use Rattle.rm_types.specs.declared.messages.Message.TheVariants.{Client as FromClient, Master as FromMaster, Node as FromNode, Clock as FromClock}
 use Rattle.rm_types.specs.declared.messages.Sender.{Sender}
 use Rattle.rm_types.specs.declared.operations.Op.{Op}
 use Rattle.rm_types.specs.declared.replies.Reply.{Reply}
 use Rattle.rm_types.specs.declared.scripts.Close.{Close}
 use Rattle.rm_types.specs.declared.scripts.Close.TheVariants.{Settle, Crash}
-use Rattle.rm_types.specs.declared.scripts.Life.{Life}
 use Rattle.rm_types.specs.declared.scripts.Segment.{Segment}
-use Rattle.rm_types.specs.Lanes.{lane_of_entry, sender_of}
+use Rattle.rm_types.specs.Lanes.{feed_lane, lane_of_entry, sender_of}
 use Rattle.rm_types.specs.Lists.{is_nil}
-use Rattle.rm_model.specs.State.{Manager}
 use Rattle.rm_model.specs.Lawful.{state_after}
-use Rattle.rm_model.specs.Place.{Crashes, IsNext, Place, Settles, close_left, first_from, is_from, messages_left, moved, rest_of, segments_without, without_first}
-use Rattle.rm_core.specs.Adds.{Does as CoreDoes, GoesOnFrom, IsOf, IsOfMain, IsOfSched, Stands, Weighs, served_after}
+use Rattle.rm_model.specs.Place.{Crashes, Place, Settles, close_left, first_from, messages_left, moved, rest_of, segments_without, without_first}
+use Rattle.rm_core.specs.Adds.{Does as CoreDoes, GoesOnFrom, IsOf, Stands, Weighs, served_after}
 use Rattle.rm_tables.specs.declared.events.Refused.{Refused}
 use Rattle.rm_core.specs.declared.manager.Move.{Move}
 use Rattle.rm_core.specs.Seen.{Seen, StandsFor}
 use Rattle.rm_core.specs.Words.{IsServable, as_new, can_go_down, handed_of, has_rest, message_weight, most_served, ready_at, served_in, stands, weight_of}
 use Rattle.rm_desk.specs.declared.feeds.Feeds.{Feeds}
 use Rattle.rm_desk.specs.View.{DeskView}
-use Rattle.rm_desk.specs.Scripts.{AllLive, CanFollow, Closes, EndsInCrash, messages_in}
+use Rattle.rm_desk.specs.Scripts.{AllLive, CanFollow, EndsInCrash, messages_in}
 use Rattle.rm_desk.specs.Lanes.{IsWork, may_close, stands_after}
 use Rattle.rm_desk.specs.Feeds.{IsEntered, at, current_in, place_of}
-use Rattle.rm_desk.specs.Runs.{IsRun, IsSound, left, segment_cost}
-use Rattle.rm_desk.specs.Does.{AddsOne, Does, GoesOver, IsEntryOf}
-use Rattle.rm_desk.proofs.Longer.{IsOwn, IsSilent, kept_silent, main_lane, one_more, own_silent, sched_lane}
+use Rattle.rm_desk.specs.Runs.{IsSound, segment_cost}
+use Rattle.rm_desk.specs.Does.{Does, IsEntryOf}
+use Rattle.rm_desk.proofs.Feeding.{answers_entry, found_sender, no_work, not_end, one_less, served_found, served_without, stands_on}
+use Rattle.rm_desk.proofs.Longer.{IsOwn, IsSilent, kept_silent, one_more, own_silent}
 use Rattle.rm_desk.proofs.Words.{both, nil_is, rest_idle}
 
 -- the place where the current segment is left behind
@@ -71,7 +69,7 @@ work_lane lanes.Begin d e work is = absurd work
 module _ (lane : Lane) (old new : Seen) (place : Place) (h : IsSound (record { core = old; place = place })) (m : Move)
     (silent : (e : Entry) → IsOf m old.tables e → IsSilent e × IsEntryOf lane (record { core = old; place = place }) e) (from : (opening : List Op) → GoesOnFrom m opening old) where
   pub silent_does : (r : Result (Unit {0}) Refused) → IsWork lane → stands_after lane (close_left place.segments) ≡ true → ready_at old lane ≡ true
-      → OnOk r (CoreDoes m old new) → (Weighs m (weight_of old) (weight_of new) → weight_of new < weight_of old) → (Stands m (stands old) (stands new) → (stands old ≡ true) × (stands new ≡ true))
+      → OnOk r (CoreDoes m old new) → (Weighs m old.settings (weight_of old) (weight_of new) → weight_of new < weight_of old) → (Stands m (stands old) (stands new) → (stands old ≡ true) × (stands new ≡ true))
       → served_after m (served_in old) ≡ served_in old → OnOk r (Does lane (record { core = old; place = place }) (record { core = new; place = place }))
   silent_does (Err e) work behind ready does less lives same = tt
   silent_does (Ok x) work behind ready does less lives same =
@@ -106,11 +104,11 @@ module _ (lane : Lane) (old new : Seen) (place : Place) (h : IsSound (record { c
       }
 
 -- the entries of which it says nothing
-pub main_entry : (d : DeskView) (e : Entry) → IsOfMain e → IsSilent e × IsEntryOf lanes.Main d e
-main_entry d e is = let lane = main_lane e is in (own_silent e (subst IsOwn (sym lane) tt), lane)
+pub main_entry : (d : DeskView) (e : Entry) → lane_of_entry e ≡ lanes.Main → IsSilent e × IsEntryOf lanes.Main d e
+main_entry d e lane = (own_silent e (subst IsOwn (sym lane) tt), lane)
 
-pub sched_entry : (d : DeskView) (e : Entry) → IsOfSched e → IsSilent e × IsEntryOf lanes.Sched d e
-sched_entry d e is = let lane = sched_lane e is in (own_silent e (subst IsOwn (sym lane) tt), lane)
+pub sched_entry : (d : DeskView) (e : Entry) → lane_of_entry e ≡ lanes.Sched → IsSilent e × IsEntryOf lanes.Sched d e
+sched_entry d e lane = (own_silent e (subst IsOwn (sym lane) tt), lane)
 
 pub hand_entry : (d : DeskView) (e : Entry) → e ≡ Handed → IsSilent e × IsEntryOf lanes.Hand d e
 hand_entry d e is = (subst IsSilent (sym is) (own_silent Handed tt), is)
@@ -118,52 +116,41 @@ hand_entry d e is = (subst IsSilent (sym is) (own_silent Handed tt), is)
 pub kept_entry : (d : DeskView) (e : Entry) → (op : Op) × (handed_of d.core ≡ Some op) × (e ≡ Kept op) → IsSilent e × IsEntryOf lanes.Write d e
 kept_entry d e is = (subst IsSilent (sym is.2) (kept_silent is.0), is)
 
--- a message that is served is a client's, and is its own sender's
-is_from_own : (m : Message) → IsServable m → is_from (sender_of m) m ≡ true
-is_from_own (FromClient user ask) h = refl
-is_from_own (FromMaster attempt ask) h = absurd h
-is_from_own (FromNode node ask) h = absurd h
-is_from_own (FromClock ask) h = absurd h
-
--- and its answer is of the clients' lane
-served_lane : (m : Message) (reply : Reply) → IsServable m → lane_of_entry (Served (sender_of m) m reply) ≡ lanes.Client
-served_lane (FromClient user ask) reply h = refl
-served_lane (FromMaster attempt ask) reply h = absurd h
-served_lane (FromNode node ask) reply h = absurd h
-served_lane (FromClock ask) reply h = absurd h
-
--- the first of a sender's messages is taken
-without_own : (sender : Sender) (m : Message) (more : List Message) → is_from sender m ≡ true → without_first sender (m ∷ more) ≡ more
-without_own sender m more h = rw (h, without_first) refl
-
 -- the first of a list
 pub first_of : {X : Type 0} (xs : List X) (x : X) → slice_get xs 0 ≡ Some x → (more : List X) × (xs ≡ x ∷ more)
 first_of [] x h = cc
 first_of (one ∷ more) x h = let same : one ≡ x = cc in (more, ap (λ y. y ∷ more) same)
 
--- a segment is current where its feed has a message
-pub fed_in : (f : Feeds) → IsEntered f → (m : Message) (more : List Message) → f.feed ≡ m ∷ more → (close : Option Close) → f.close ≡ close → (is : Close) × (f.close ≡ Some is)
-fed_in f entered m more e None c = absurd (let x = sym e ∙ (entered c).1 in cc)
-fed_in f entered m more e (Some close) c = (close, c)
+-- a segment is current where its feeds have a message
+pub fed_in : (f : Feeds) → IsEntered f → f.feed ≢ [] → (close : Option Close) → f.close ≡ close → (is : Close) × (f.close ≡ Some is)
+fed_in f entered some None c = absurd (some (entered c).1)
+fed_in f entered some (Some close) c = (close, c)
 
-module _ (f : Feeds) (close : Close) (c : f.close ≡ Some close) (m : Message) (more : List Message) (e : f.feed ≡ m ∷ more) where
-  fed : (place_of f).segments ≡ record { messages = m ∷ more; close = close } ∷ f.segments
-  fed = rw (c, e) refl
+-- a message that is found is one of some
+pub found_some : (sender : Sender) (list : List Message) (m : Message) → first_from sender list ≡ Some m → list ≢ []
+found_some sender [] m e = cc
+found_some sender (one ∷ more) m e = λ none. cc
 
-  fed_messages : messages_in (place_of f).segments ≡ length more + 1 + messages_in f.segments
-  fed_messages = ap messages_in fed ∙ sum_by-cons (λ (x : Segment). length x.messages) (record { messages = m ∷ more; close = close }) f.segments ∙ omega arith
+module _ (f : Feeds) (close : Close) (c : f.close ≡ Some close) (sender : Sender) (m : Message) (e : first_from sender f.feed ≡ Some m) where
+  fed : (place_of f).segments ≡ record { messages = f.feed; close = close } ∷ f.segments
+  fed = rw c refl
 
-  -- the first message of the feed can be served
+  fed_messages : messages_in (place_of f).segments ≡ length (without_first sender f.feed) + 1 + messages_in f.segments
+  fed_messages =
+      let less = one_less sender m f.feed e in
+      ap messages_in fed ∙ sum_by-cons (λ (x : Segment). length x.messages) (record { messages = f.feed; close = close }) f.segments ∙ omega (arith, less)
+
+  -- the first message of a feed can be served
   pub first_served : (core : Seen) → IsSound (at core f) → stands core ≡ true → IsServable m × (served_in core < most_served)
   first_served core h alive =
-      let sound : CanFollow (record { messages = m ∷ more; close = close } ∷ f.segments) = subst CanFollow fed h.segments in
-      (sound.0.0, let n = h.served alive in let were = fed_messages in omega (arith, n, were))
+      let sound : CanFollow (record { messages = f.feed; close = close } ∷ f.segments) = subst CanFollow fed h.segments in
+      (served_found sender m f.feed sound.0 e, let n = h.served alive in let were = fed_messages in omega (arith, n, were))
 
 -- segments end in a crash whatever messages are left of the first
-ends_on : (m : Message) (more : List Message) (close : Close) (after : List Segment) → EndsInCrash (record { messages = m ∷ more; close = close } ∷ after)
+ends_on : (some more : List Message) (close : Close) (after : List Segment) → EndsInCrash (record { messages = some; close = close } ∷ after)
     → EndsInCrash (record { messages = more; close = close } ∷ after)
-ends_on m more close [] h = h
-ends_on m more close (next ∷ after) h = h
+ends_on some more close [] h = h
+ends_on some more close (next ∷ after) h = h
 
 ends_after : (after : List Segment) → EndsInCrash (record { messages = []; close = Settle } ∷ after) → EndsInCrash after
 ends_after [] e = absurd e
@@ -171,40 +158,40 @@ ends_after (one ∷ after) e = e
 
 module _ (old new : Seen) (f : Feeds) (h : IsSound (at old f)) (entered : IsEntered f) (settings : new.settings ≡ old.settings) (began : as_new new ≡ as_new old)
     (lawful : (opening : List Op) → StandsFor opening old → StandsFor opening new) where
-  -- the first message of the feed is answered
-  pub serve_does : (close : Close) → f.close ≡ Some close → (m : Message) (more : List Message) → f.feed ≡ m ∷ more → (reply : Reply)
+  -- the first message of a sender's feed is answered
+  pub serve_does : (close : Close) → f.close ≡ Some close → (sender : Sender) (m : Message) → first_from sender f.feed ≡ Some m → (reply : Reply)
       → new.log ≡ old.log ++ Served (sender_of m) m reply ∷ [] → weight_of new ≤ weight_of old + message_weight → (stands old ≡ true) × (stands new ≡ true)
-      → served_in new ≡ served_in old + 1 → (rest : List Message) → rest ≡ more → Does lanes.Client (at old f) (at new (record f { feed = rest }))
-  serve_does close c m more e reply added weighs alive count rest is =
+      → served_in new ≡ served_in old + 1 → (rest : List Message) → rest ≡ without_first sender f.feed → Does (feed_lane sender) (at old f) (at new (record f { feed = rest }))
+  serve_does close c sender m e reply added weighs alive count rest is =
       let d = at old f in
       let next = at new (record f { feed = rest }) in
-      let before : d.place.segments ≡ record { messages = m ∷ more; close = close } ∷ f.segments = fed f close c m more e in
-      let after : next.place.segments ≡ record { messages = more; close = close } ∷ f.segments = rw (c, is) refl in
-      let sound : CanFollow (record { messages = m ∷ more; close = close } ∷ f.segments) = subst CanFollow before h.segments in
-      let own = is_from_own m sound.0.0 in
-      let isnext : first_from (sender_of m) (messages_left d.place.segments) ≡ Some m = rw (before, own) refl in
-      let head : slice_get (messages_left d.place.segments) 0 ≡ Some m = ap (λ (x : List Segment). slice_get (messages_left x) 0) before in
+      let before : d.place.segments ≡ record { messages = f.feed; close = close } ∷ f.segments = fed f close c sender m e in
+      let after : next.place.segments ≡ record { messages = without_first sender f.feed; close = close } ∷ f.segments = rw (c, is) refl in
+      let sound : CanFollow (record { messages = f.feed; close = close } ∷ f.segments) = subst CanFollow before h.segments in
+      let own : sender_of m ≡ sender = found_sender sender m f.feed e in
+      let first : first_from sender (messages_left d.place.segments) ≡ Some m = rw before e in
+      let isnext : first_from (sender_of m) (messages_left d.place.segments) ≡ Some m = rw own first in
       let entry = Served (sender_of m) m reply in
-      let taken : segments_without (sender_of m) d.place.segments ≡ record { messages = more; close = close } ∷ f.segments =
-      ap (segments_without (sender_of m)) before
-      ∙ ap (λ (x : List Message). record { messages = x; close = close } ∷ f.segments) (without_own (sender_of m) m more own) in
+      let taken : segments_without (sender_of m) d.place.segments ≡ record { messages = without_first sender f.feed; close = close } ∷ f.segments =
+      ap (λ (one : Sender). segments_without one d.place.segments) own ∙ ap (segments_without sender) before in
       let place : next.place ≡ moved d.place entry = ap (λ (x : List Segment). record { lives = f.lives; segments = x }) (after ∙ sym taken) in
-      let cost : sum_by segment_cost d.place.segments ≡ 1 + (message_weight + 1) * (length more + 1) + sum_by segment_cost f.segments =
-      ap (λ (x : List Segment). sum_by segment_cost x) before ∙ sum_by-cons segment_cost (record { messages = m ∷ more; close = close }) f.segments ∙ omega arith in
-      let costs : sum_by segment_cost next.place.segments ≡ 1 + (message_weight + 1) * length more + sum_by segment_cost f.segments =
-      ap (λ (x : List Segment). sum_by segment_cost x) after ∙ sum_by-cons segment_cost (record { messages = more; close = close }) f.segments in
-      let were = fed_messages f close c m more e in
-      let are : messages_in next.place.segments ≡ length more + messages_in f.segments =
-      ap messages_in after ∙ sum_by-cons (λ (x : Segment). length x.messages) (record { messages = more; close = close }) f.segments in
+      let less = one_less sender m f.feed e in
+      let cost : sum_by segment_cost d.place.segments ≡ 1 + (message_weight + 1) * length f.feed + sum_by segment_cost f.segments =
+      ap (λ (x : List Segment). sum_by segment_cost x) before ∙ sum_by-cons segment_cost (record { messages = f.feed; close = close }) f.segments in
+      let costs : sum_by segment_cost next.place.segments ≡ 1 + (message_weight + 1) * length (without_first sender f.feed) + sum_by segment_cost f.segments =
+      ap (λ (x : List Segment). sum_by segment_cost x) after ∙ sum_by-cons segment_cost (record { messages = without_first sender f.feed; close = close }) f.segments in
+      let were = fed_messages f close c sender m e in
+      let are : messages_in next.place.segments ≡ length (without_first sender f.feed) + messages_in f.segments =
+      ap messages_in after ∙ sum_by-cons (λ (x : Segment). length x.messages) (record { messages = without_first sender f.feed; close = close }) f.segments in
       record {
-        adds = record { entry = entry; of_kind = (m, reply, head, refl); added = added; place = place };
-        of_lane = served_lane m reply sound.0.0;
+        adds = record { entry = entry; of_kind = answers_entry sender d entry (m, reply, first, ap (λ (one : Sender). Served one m reply) own); added = added; place = place };
+        of_lane = ap feed_lane own;
         goes = record {
           sound = record {
             lives = h.lives;
-            segments = subst CanFollow (sym after) (sound.0.1, sound.1, sound.2);
+            segments = subst CanFollow (sym after) (served_without sender f.feed sound.0, sound.1, sound.2);
             between = λ a. let x = alive.1 in cc;
-            ends = λ a others. subst EndsInCrash (sym after) (ends_on m more close f.segments (subst EndsInCrash before (h.ends alive.0 others)));
+            ends = λ a others. subst EndsInCrash (sym after) (ends_on f.feed (without_first sender f.feed) close f.segments (subst EndsInCrash before (h.ends alive.0 others)));
             served = λ a. let n = h.served alive.0 in omega (arith, n, were, are, count);
           };
           settings = settings;
@@ -212,11 +199,11 @@ module _ (old new : Seen) (f : Feeds) (h : IsSound (at old f)) (entered : IsEnte
           lawful = λ opening over k. lawful opening k;
           run = λ opening script over run. one_more opening script d next entry run (lawful opening run.stands) added place isnext;
         };
-        less = omega (arith, weighs, cost, costs);
+        less = omega (arith, weighs, cost, costs, less);
         stood = alive.0;
-        standing = alive.1;
-        busy = λ work. absurd work;
-        settled = λ no. cc;
+        standing = alive.1 ∙ sym (stands_on sender (close_left d.place.segments));
+        busy = λ work. absurd (no_work sender work);
+        settled = λ end. absurd (not_end sender end);
       }
 
   -- the current segment settles

@@ -1,8 +1,10 @@
 -- Where nothing is left to do, a lane of the script is ready, or the run is done.
-use Rattle.std.proofs.Common.{◌≡◌, ◌≢◌, ◌⊎◌, inl, inr, ⊎_elim, List, [], ◌∷◌, Bool, true, false, not, ◌&&◌, Some, None, Option, refl, sym, ◌∙◌, ap, subst}
+use Rattle.std.proofs.Common.{◌≡◌, ◌⊎◌, inl, inr, ⊎_elim, List, [], ◌∷◌, Bool, true, false, None, is_some, refl, sym, ◌∙◌, ap, subst}
 use Rattle.rm_types.specs.declared.messages.Lane.{Lane}
 use Rattle.rm_types.specs.declared.messages.Lane.TheVariants.{Client, Master, Node, Clock, Main, Sched, Hand, Write, End, Begin}
 use Rattle.rm_types.specs.declared.messages.Message.{Message}
+use Rattle.rm_types.specs.declared.messages.Message.TheVariants.{Client as FromClient, Clock as FromClock, Master as FromMaster, Node as FromNode}
+use Rattle.rm_types.specs.declared.messages.Sender.TheVariants as senders
 use Rattle.rm_types.specs.declared.operations.Op.{Op}
 use Rattle.rm_types.specs.declared.scripts.Close.{Close}
 use Rattle.rm_types.specs.declared.scripts.Close.TheVariants.{Settle, Crash}
@@ -10,14 +12,13 @@ use Rattle.rm_types.specs.declared.scripts.Life.{Life}
 use Rattle.rm_types.specs.declared.scripts.Script.{Script}
 use Rattle.rm_types.specs.declared.scripts.Segment.{Segment}
 use Rattle.rm_types.specs.declared.settings.Settings.{Settings}
-use Rattle.rm_types.specs.Lists.{is_nil}
 use Rattle.rm_model.specs.State.{Manager}
-use Rattle.rm_model.specs.Lawful.{IsAtRest, IsDone, Lawful, state_after}
-use Rattle.rm_model.specs.Place.{IsAtEnd, Place, close_left, messages_left}
-use Rattle.rm_core.specs.Seen.{Rests, Seen, StandsFor}
-use Rattle.rm_core.specs.Words.{can_go_down, has_rest, ready_at, stands}
+use Rattle.rm_model.specs.Lawful.{IsAtRest, IsDone, state_after}
+use Rattle.rm_model.specs.Place.{Place, first_from, messages_left}
+use Rattle.rm_core.specs.Seen.{Rests, StandsFor}
+use Rattle.rm_core.specs.Words.{has_rest, ready_at, stands}
 use Rattle.rm_desk.specs.View.{DeskView}
-use Rattle.rm_desk.specs.Lanes.{is_ready_at, may_close}
+use Rattle.rm_desk.specs.Lanes.{is_ready_at}
 use Rattle.rm_desk.specs.Runs.{IsOver, IsRun, IsSound, Tells}
 use Rattle.rm_desk.specs.Scripts.{EndsInCrash}
 use Rattle.rm_desk.proofs.Words.{both, dead_idle, idle_rests, life_none, life_stands, rest_down, rest_ends, rest_open, rest_owes}
@@ -58,7 +59,10 @@ module _ (d : DeskView) (h : IsSound d) (rests : Rests d.core) (alive : stands d
   -- its current segment closes, or a message of it is served
   of_segment : (segment : Segment) (more : List Segment) → d.place.segments ≡ segment ∷ more → (messages : List Message) → segment.messages ≡ messages → (close : Close) → segment.close ≡ close
       → SomeReady d
-  of_segment segment more e (message ∷ messages) em close ec = (Client, rw (e, em, rest_open d.core alive rest rests) refl)
+  of_segment segment more e (FromClient user ask ∷ messages) em close ec = (Client, rw (e, em, rest_open d.core alive rest rests) refl)
+  of_segment segment more e (FromMaster attempt ask ∷ messages) em close ec = (Master, rw (e, em, rest_open d.core alive rest rests) refl)
+  of_segment segment more e (FromNode name ask ∷ messages) em close ec = (Node, rw (e, em, rest_open d.core alive rest rests) refl)
+  of_segment segment more e (FromClock ask ∷ messages) em close ec = (Clock, rw (e, em, rest_open d.core alive rest rests) refl)
   of_segment segment more e [] em Settle ec = (End, rw (e, ec, em, rest_ends d.core alive rest) refl)
   of_segment segment more e [] em (Crash calls image) ec = (End, rw (e, ec, em, rest_down d.core alive rest) refl)
 
@@ -92,10 +96,10 @@ ready_unless d h rests unless = ⊎_elim (λ over. absurd (unless over)) (λ som
 
 -- where no life stands, no lane is ready but that in which a life begins
 pub dead_ready : (d : DeskView) → IsSound d → Rests d.core → stands d.core ≡ false → (lane : Lane) → is_ready_at d lane ≡ true → lane ≡ Begin
-dead_ready d h rests dead Client ready = dead_idle d.core dead rests Client (both (ready_at d.core Client) (not (is_nil (messages_left d.place.segments))) ready).0
-dead_ready d h rests dead Master ready = cc
-dead_ready d h rests dead Node ready = cc
-dead_ready d h rests dead Clock ready = cc
+dead_ready d h rests dead Client ready = dead_idle d.core dead rests Client (both (ready_at d.core Client) (is_some (first_from senders.Client (messages_left d.place.segments))) ready).0
+dead_ready d h rests dead Master ready = dead_idle d.core dead rests Master (both (ready_at d.core Master) (is_some (first_from senders.Master (messages_left d.place.segments))) ready).0
+dead_ready d h rests dead Node ready = dead_idle d.core dead rests Node (both (ready_at d.core Node) (is_some (first_from senders.Node (messages_left d.place.segments))) ready).0
+dead_ready d h rests dead Clock ready = dead_idle d.core dead rests Clock (both (ready_at d.core Clock) (is_some (first_from senders.Clock (messages_left d.place.segments))) ready).0
 dead_ready d h rests dead Main ready = dead_idle d.core dead rests Main ready
 dead_ready d h rests dead Sched ready = dead_idle d.core dead rests Sched ready
 dead_ready d h rests dead Hand ready = dead_idle d.core dead rests Hand ready

@@ -1,13 +1,11 @@
 -- What a desk uses of a manager beside the clauses of its calls, said in the words of the manager.
-use Rattle.std.proofs.Common.{◌≡◌, List, [], ◌∷◌, Bool, true, false, not, ◌&&◌, ◌||◌, None, Some, Option, if◌then◌else◌, refl, sym, ◌∙◌, ap, subst}
-use Rattle.rm_types.specs.declared.entries.Entry.{Entry}
+use Rattle.std.proofs.Common.{◌≡◌, List, [], ◌∷◌, Bool, true, false, not, ◌&&◌, ◌||◌, None, Some, Option, if◌then◌else◌, refl, sym, ◌∙◌, subst}
 use Rattle.rm_types.specs.declared.messages.Lane.{Lane}
 use Rattle.rm_types.specs.declared.messages.Lane.TheVariants.{Client, Master, Node, Clock, Main, Sched, Hand, Write, End, Begin}
 use Rattle.rm_types.specs.declared.operations.Op.{Op}
 use Rattle.rm_types.specs.Lists.{is_nil}
-use Rattle.rm_model.specs.State.{LifeState, Manager}
 use Rattle.rm_model.specs.Lawful.{IsAtRest, state_after}
-use Rattle.rm_core.specs.Seen.{Rests, Seen, StandsFor, handed_op}
+use Rattle.rm_core.specs.Seen.{Rests, Seen, StandsFor}
 use Rattle.rm_core.specs.Words.{can_go_down, handed_of, has_rest, ready_at, stands}
 use Rattle.rm_core.proofs.Telling.{told_life, told_none}
 use Rattle.rm_desk.specs.Does.{HasHanded}

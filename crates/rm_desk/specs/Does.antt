@@ -1,21 +1,23 @@
 -- What a desk's calls do.
-use Rattle.std.specs.Prelude.{◌≡◌, ℕ, ◌+◌, ◌<◌, List, [], ◌∷◌, ◌++◌, Option, None, Some, slice_get, true, false}
+use Rattle.std.specs.Prelude.{◌≡◌, ◌+◌, ◌<◌, List, [], ◌∷◌, ◌++◌, Option, None, Some, slice_get, true, false}
 use Rattle.rm_types.specs.declared.entries.Entry.{Entry}
 use Rattle.rm_types.specs.declared.entries.Entry.TheVariants.{Opened, Handed, Kept, Served, Settled, Down}
 use Rattle.rm_types.specs.declared.messages.Lane.{Lane}
-use Rattle.rm_types.specs.declared.messages.Lane.TheVariants.{Client, Main, Sched, Hand, Write, End}
+use Rattle.rm_types.specs.declared.messages.Lane.TheVariants.{Client, Clock, Main, Master, Node, Sched, Hand, Write, End}
 use Rattle.rm_types.specs.declared.messages.Message.{Message}
+use Rattle.rm_types.specs.declared.messages.Sender.{Sender}
+use Rattle.rm_types.specs.declared.messages.Sender.TheVariants as senders
 use Rattle.rm_types.specs.declared.operations.Op.{Op}
 use Rattle.rm_types.specs.declared.replies.Reply.{Reply}
 use Rattle.rm_types.specs.declared.scripts.Close.{Close}
 use Rattle.rm_types.specs.declared.scripts.Close.TheVariants.{Settle, Crash}
 use Rattle.rm_types.specs.declared.scripts.Life.{Life}
 use Rattle.rm_types.specs.declared.scripts.Script.{Script}
-use Rattle.rm_types.specs.Lanes.{lane_of_entry, sender_of}
+use Rattle.rm_types.specs.Lanes.{lane_of_entry}
 use Rattle.rm_types.specs.Records.{Records}
 use Rattle.rm_model.specs.State.{LifeState}
 use Rattle.rm_model.specs.Lawful.{state_after}
-use Rattle.rm_model.specs.Place.{close_left, messages_left, moved, stamp_of}
+use Rattle.rm_model.specs.Place.{close_left, first_from, messages_left, moved, stamp_of}
 use Rattle.rm_core.specs.Adds.{AmountsTo}
 use Rattle.rm_core.specs.Seen.{StandsFor}
 use Rattle.rm_core.specs.Words.{as_new, handed_of, has_rest, stands}
@@ -29,11 +31,17 @@ ClosesWith None e = ⊥
 ClosesWith (Some Settle) e = e ≡ Settled
 ClosesWith (Some (Crash calls image)) e = e ≡ Down
 
--- the entry that a lane's move adds: the answer to the feed's first message, one of the queue's own, or the one that says
+-- the answer to the first message of a sender's feed
+abbrev pub Answers : Sender → DeskView → Entry → Type 0
+Answers sender d e = (message : Message) × (reply : Reply) × (first_from sender (messages_left d.place.segments) ≡ Some message) × (e ≡ Served sender message reply)
+
+-- the entry that a lane's move adds: the answer to the first message of its feed, one of the queue's own, or the one that says
 -- what was handed, kept or closed
 abbrev pub IsEntryOf : Lane → DeskView → Entry → Type 0
-IsEntryOf Client d e =
-    (message : Message) × (reply : Reply) × (slice_get (messages_left d.place.segments) 0 ≡ Some message) × (e ≡ Served (sender_of message) message reply)
+IsEntryOf Client d e = Answers senders.Client d e
+IsEntryOf Master d e = Answers senders.Master d e
+IsEntryOf Node d e = Answers senders.Node d e
+IsEntryOf Clock d e = Answers senders.Clock d e
 IsEntryOf Main d e = lane_of_entry e ≡ Main
 IsEntryOf Sched d e = lane_of_entry e ≡ Sched
 IsEntryOf Hand d e = e ≡ Handed

@@ -8,6 +8,7 @@ ghost use Rattle.rm_model.specs.Lawful.{IsDone, Lawful};
 ghost use Rattle.rm_model.specs.Place.{beginning, close_left};
 ghost use Rattle.rm_tables.specs.declared.events.Refused.{Refused};
 ghost use Rattle.rm_queues.specs.Rules.{KeepsRules};
+ghost use Rattle.rm_moves.specs.Messages.{KeepsLimits};
 ghost use Rattle.rm_core.specs.Adds.{AmountsTo, CanBeginOver};
 ghost use Rattle.rm_core.specs.Seen.{IsToBeKept, StandsFor};
 ghost use Rattle.rm_core.specs.Words.{as_new, handed_of, has_rest, new_manager, stands};
@@ -20,7 +21,7 @@ use crate::feeds::Feeds;
 use crate::moves::{advance, begin, kept};
 use rm_core::{Core, Refused};
 use rm_tree::Tree;
-use rm_types::{Close, Entry, Items, Lane, NoMemory, Op, Script, Settings};
+use rm_types::{Close, Entry, Items, Lane, NoMemory, Op, Script, Sender, Settings};
 use std::alloc::Global;
 use std::marker::Model;
 
@@ -47,9 +48,10 @@ impl Model for Desk {
 impl Desk {
     /// A manager before the first life of a script. An empty log goes along each script, whatever the store
     /// holds.
-    /// The first queue of the settings is the root.
+    /// The first queue of the settings is the root, and they allow 1 to 100 attempts of an application.
     pub fn new(alloc: Global, settings: Settings, script: Script) -> Result<Desk, NoMemory>
         requires queues { KeepsRules settings }
+        requires limits { KeepsLimits settings }
         requires script { CanGoAlong script }
         ensures made { IsOk result }
         ensures settings { IfOk result (λ desk. desk.core.settings ≡ settings) }
@@ -66,21 +68,23 @@ impl Desk {
         })
     }
 
-    /// Whether a lane may move: the manager has something to do there, and the script is at it. Messages are
-    /// those of clients so far, so the feeds of masters, nodes and the clock are never ready.
+    /// Whether a lane may move: the manager has something to do there, and the script is at it. The lane of a feed
+    /// has something to do where a message of its sender is left in the current segment.
     pub fn ready(&self, lane: Lane) -> bool
         ensures { result ≡ is_ready_at self.now lane }
     {
         match lane {
-            Lane::Client => self.core.is_ready(lane) && !self.feeds.feed.is_empty(),
-            Lane::Master | Lane::Node | Lane::Clock => false,
+            Lane::Client => self.core.is_ready(lane) && self.feeds.feed.has(Sender::Client),
+            Lane::Master => self.core.is_ready(lane) && self.feeds.feed.has(Sender::Master),
+            Lane::Node => self.core.is_ready(lane) && self.feeds.feed.has(Sender::Node),
+            Lane::Clock => self.core.is_ready(lane) && self.feeds.feed.has(Sender::Clock),
             Lane::Main | Lane::Sched | Lane::Hand | Lane::Write => self.core.is_ready(lane),
             Lane::End => self.may_close(),
             Lane::Begin => self.core.is_ready(lane) && !self.feeds.lives.is_empty(),
         }
     }
 
-    /// Whether the current segment may close: its feed is empty, and nothing is left to do where it settles,
+    /// Whether the current segment may close: its feeds are empty, and nothing is left to do where it settles,
     /// or no operation is with the store where it crashes.
     fn may_close(&self) -> bool
         ensures { result ≡ is_ready_at self.now Lane.End }

@@ -1,16 +1,17 @@
 ghost use Rattle.std.specs.Prelude.{◌≡◌, ◌≢◌, ◌↔◌, [], IsTrue};
 
-use rm_types::{Close, Life, Message, Queue, Script, Segment};
+use rm_feed::Feed;
+use rm_types::{Close, Life, Queue, Script, Segment};
 use std::alloc::Global;
 
 /// What is left of a script: the lives that have not begun, how the current segment closes and the messages
-/// left in its feed, and the segments of this life after it.
+/// left in its four feeds, and the segments of this life after it.
 #[derive(Debug, Drop)]
 pub struct Feeds {
     pub alloc: Global,
     pub lives: Queue<Life>,
     pub close: Option<Close>,
-    pub feed: Queue<Message>,
+    pub feed: Feed,
     pub segments: Queue<Segment>,
 }
 
@@ -28,7 +29,7 @@ impl Feeds {
             alloc,
             lives: Queue::from_items(lives),
             close: None,
-            feed: Queue::new(alloc),
+            feed: Feed::new(alloc),
             segments: Queue::new(alloc),
         }
     }
@@ -41,11 +42,11 @@ impl Feeds {
         match self.segments.take_first() {
             Some(segment) => {
                 let Segment { messages, close } = segment;
-                self.feed = Queue::from_items(messages);
+                self.feed = Feed::from_items(messages);
                 self.close = Some(close);
             }
             None => {
-                self.feed = Queue::new(self.alloc);
+                self.feed = Feed::new(self.alloc);
                 self.close = None;
             }
         }

@@ -1,37 +1,38 @@
 ghost use Rattle.std.specs.Prelude.{◌≡◌, ◌≢◌, OnOk, OnErr, Err, Some, true};
 ghost use Rattle.rm_types.specs.declared.messages.Lane.{Lane};
 ghost use Rattle.rm_types.specs.declared.scripts.Close.{Close};
+ghost use Rattle.rm_types.specs.Lanes.{feed_lane};
 ghost use Rattle.rm_tables.specs.declared.events.Refused.{Refused};
 ghost use Rattle.rm_core.specs.Adds.{CanBeginOver};
 ghost use Rattle.rm_desk.specs.Does.{Begins, Does};
 ghost use Rattle.rm_desk.specs.Feeds.{IsEntered, at};
-ghost use Rattle.rm_desk.specs.Lanes.{IsStep, is_ready_at};
+ghost use Rattle.rm_desk.specs.Lanes.{IsStep, has_message, is_ready_at};
 ghost use Rattle.rm_desk.specs.Runs.{IsSound};
 
 use crate::feeds::Feeds;
 use rm_core::{Core, Move, Refused};
 use rm_tree::Tree;
-use rm_types::{Close, Duplicate, Lane};
+use rm_types::{Close, Duplicate, Lane, Sender};
 
 // The moves of a desk whose lane is ready. Each is refused for want of memory alone, and then nothing has changed.
 
-/// The first message of the feed is answered.
-fn serve(core: &mut Core, feeds: &mut Feeds) -> Result<(), Refused>
+/// The first message of a sender's feed is answered.
+fn serve(core: &mut Core, feeds: &mut Feeds, sender: Sender) -> Result<(), Refused>
     requires sound { IsSound (at core.old feeds.old) }
     requires entered { IsEntered feeds.old }
-    requires ready { is_ready_at (at core.old feeds.old) Lane.Client ≡ true }
+    requires ready { has_message sender (at core.old feeds.old) ≡ true }
     ensures ready { result ≢ Err Refused.NotReady }
-    ensures does { OnOk result (Does Lane.Client (at core.old feeds.old) (at core.new feeds.new)) }
+    ensures does { OnOk result (Does (feed_lane sender) (at core.old feeds.old) (at core.new feeds.new)) }
     ensures entered { OnOk result (IsEntered feeds.new) }
     ensures core { OnErr result (core.new ≡ core.old) }
     ensures feeds { OnErr result (feeds.new ≡ feeds.old) }
 {
-    let Some(message) = feeds.feed.first() else {
+    let Some(message) = feeds.feed.first(sender) else {
         unreachable!()
     };
     let message = message.copy()?;
     core.step(Move::Serve(message))?;
-    let _ = feeds.feed.take_first();
+    feeds.feed.take(sender);
     Ok(())
 }
 
@@ -145,12 +146,15 @@ pub(crate) fn advance(core: &mut Core, feeds: &mut Feeds, lane: Lane) -> Result<
     ensures feeds { OnErr result (feeds.new ≡ feeds.old) }
 {
     match lane {
-        Lane::Client => serve(core, feeds),
+        Lane::Client => serve(core, feeds, Sender::Client),
+        Lane::Master => serve(core, feeds, Sender::Master),
+        Lane::Node => serve(core, feeds, Sender::Node),
+        Lane::Clock => serve(core, feeds, Sender::Clock),
         Lane::Main => work_main(core, feeds),
         Lane::Sched => work_sched(core, feeds),
         Lane::Hand => hand(core, feeds),
         Lane::End => close(core, feeds),
-        Lane::Master | Lane::Node | Lane::Clock | Lane::Write | Lane::Begin => unreachable!(),
+        Lane::Write | Lane::Begin => unreachable!(),
     }
 }
 

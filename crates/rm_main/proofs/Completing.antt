@@ -74,7 +74,8 @@ module _ {D : Type 0} (view : D → DiskView) (told : Told) (asked : Option Aske
 
   no_damage : (offset : ℕ) → Ran view told asked made (StoreDamaged offset) → ⊥
   no_damage offset ran =
-      ⊎_elim (λ none. a_store place.bytes place.ops offset place.holds none.2) (λ cannot. cannot.2 place.untried) (ran.caused.1 place.bytes place.told)
+      let none = ran.caused.1 place.bytes place.told in
+      a_store place.bytes place.ops offset place.holds none.2
 
   no_full : (needed room : ℕ) → Ran view told asked made (StoreFull needed room) → ⊥
   no_full needed room ran =

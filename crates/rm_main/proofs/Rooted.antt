@@ -1,4 +1,4 @@
--- The queues of a cluster file begin with the root.
+-- The settings of a cluster file keep the rules and limits that a manager rests on: their queues begin with the root, and they allow few attempts.
 use Rattle.std.proofs.Common.{◌≡◌, List, [], ◌∷◌, Bool, true, false, ◌&&◌, refl, ap, Some}
 use Rattle.std.specs.Prelude.{option_map, slice_get}
 use Rattle.std.specs.Str.{bytes_eq}
@@ -7,6 +7,7 @@ use Rattle.rm_types.specs.declared.settings.QueueSpec.{QueueSpec}
 use Rattle.rm_types.specs.declared.settings.Settings.{Settings}
 use Rattle.rm_types.specs.Rights.{root_name}
 use Rattle.rm_queues.specs.Rules.{KeepsRules}
+use Rattle.rm_moves.specs.Messages.{KeepsLimits}
 use Rattle.rm_cluster.specs.Queues.{all_follow, is_tree}
 use Rattle.rm_cluster.specs.Ranges.{IsInRange}
 
@@ -20,3 +21,6 @@ first_is (first ∷ more) h = let same = left_of (bytes_eq first.name root_name)
 
 pub rooted : (settings : Settings) → IsInRange settings → KeepsRules settings
 rooted settings within = record { first_is_root = first_is settings.queues within.queues.tree }
+
+pub limited : (settings : Settings) → IsInRange settings → KeepsLimits settings
+limited settings within = within.max_attempts

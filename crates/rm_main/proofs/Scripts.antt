@@ -2,11 +2,20 @@
 use Rattle.std.proofs.Common.{◌≡◌, ◌⊎◌, inl, inr, ℕ, ◌<◌, List, [], ◌∷◌, ◌++◌, length, refl, sym, subst, arith}
 use Rattle.std.specs.Prelude.{All}
 use Rattle.std.specs.List.{AllByRecursion}
-use Rattle.std.proofs.lemmas.List.Elements.{recursion_from_All}
+use Rattle.std.proofs.lemmas.List.Elements.{All-from_recursion, recursion_from_All}
+use Rattle.rm_types.specs.declared.containers.Ask.{Ask}
+use Rattle.rm_types.specs.declared.containers.Held.{Held}
 use Rattle.rm_types.specs.declared.messages.ClientAsk.{ClientAsk}
-use Rattle.rm_types.specs.declared.messages.ClientAsk.TheVariants.{New, Submit, Report, Kill}
+use Rattle.rm_types.specs.declared.messages.ClientAsk.TheVariants as clients
+use Rattle.rm_types.specs.declared.messages.ClockAsk.{ClockAsk}
+use Rattle.rm_types.specs.declared.messages.ClockAsk.TheVariants as clocks
+use Rattle.rm_types.specs.declared.messages.MasterAsk.{MasterAsk}
+use Rattle.rm_types.specs.declared.messages.MasterAsk.TheVariants as masters
 use Rattle.rm_types.specs.declared.messages.Message.{Message}
-use Rattle.rm_types.specs.declared.messages.Message.TheVariants.{Client, Master, Node, Clock}
+use Rattle.rm_types.specs.declared.messages.Message.TheVariants as messages
+use Rattle.rm_types.specs.declared.messages.NodeAsk.{NodeAsk}
+use Rattle.rm_types.specs.declared.messages.NodeAsk.TheVariants as nodes
+use Rattle.rm_types.specs.declared.resources.Resource.{Resource}
 use Rattle.rm_types.specs.declared.scripts.Close.{Close}
 use Rattle.rm_types.specs.declared.scripts.Close.TheVariants.{Settle, Crash}
 use Rattle.rm_types.specs.declared.scripts.Life.{Life}
@@ -15,8 +24,9 @@ use Rattle.rm_types.specs.declared.scripts.Script.{Script}
 use Rattle.rm_types.specs.declared.operations.Submission.{Submission}
 use Rattle.rm_types.specs.declared.texts.TextKind.TheVariants.{Name}
 use Rattle.rm_types.specs.Ranges.{IsText, IsSubmission as IsFramedSubmission}
-use Rattle.rm_core.specs.Serving.{IsBuiltAsk as IsServedAsk, IsBuiltMessage as IsServedMessage}
-use Rattle.rm_script.specs.Scripts.{IsScript, IsRead, IsBuiltAsk, IsClientAsk, IsSubmission, EachButLast}
+use Rattle.rm_moves.specs.Messages.{IsAsk, IsClientAsk, IsClockAsk, IsHeld, IsList, IsMasterAsk, IsMessage, IsNodeAsk, IsSize}
+use Rattle.rm_script.specs.Messages.{IsAsk as IsReadAsk, IsClientAsk as IsReadClientAsk, IsClockAsk as IsReadClockAsk, IsHeld as IsReadHeld, IsList as IsReadList, IsMasterAsk as IsReadMasterAsk, IsNodeAsk as IsReadNodeAsk, IsSize as IsReadSize, IsSubmission}
+use Rattle.rm_script.specs.Scripts.{IsScript, IsRead, EachButLast}
 use Rattle.rm_script.specs.Values.{Settles, EndInCrash, IsToldLife, IsToldScript}
 use Rattle.rm_script.proofs.Values.{told_values}
 use Rattle.rm_desk.specs.Scripts.{AllServed, Closes, CanFollow, EndsInCrash, CanLive, AllLive}
@@ -35,17 +45,51 @@ framed user submission name h =
       modify = h.modify;
     }
 
-ask_served : (user : List ℕ) (ask : ClientAsk) → IsText Name user → IsClientAsk user ask → IsBuiltAsk ask → IsServedAsk ask
-ask_served user New name values built = tt
-ask_served user (Submit id submission) name values built = (values.0, framed user submission name values.1)
-ask_served user (Report id) name values built = tt
-ask_served user (Kill id) name values built = tt
+-- what the reader of scripts says of a message is what a manager takes
+sized : (size : Resource) → IsReadSize size → IsSize size
+sized size is = record { memory = is.memory; vcores = is.vcores }
 
-message_served : (message : Message) → IsRead message → IsServedMessage message
-message_served (Client user ask) h = ask_served user ask h.values.0 h.values.1 h.built
-message_served (Master attempt ask) h = absurd h.built
-message_served (Node node ask) h = absurd h.built
-message_served (Clock ask) h = absurd h.built
+every : {X : Type 0} {P Q : X → Type 0} → ((x : X) → P x → Q x) → (xs : List X) → All P xs → All Q xs
+every {X = X} {P = P} {Q = Q} f xs all = All-from_recursion Q xs (by xs (recursion_from_All P xs all))
+  where
+    by : (list : List X) → AllByRecursion P list → AllByRecursion Q list
+    by [] each = tt
+    by (x ∷ list) each = (f x each.0, by list each.1)
+
+listed : {X : Type 0} {P Q : X → Type 0} → ((x : X) → P x → Q x) → (xs : List X) → IsReadList P xs → IsList Q xs
+listed f xs is = record { few = is.few; each = every f xs is.each }
+
+held : (one : Held) → IsReadHeld one → IsHeld one
+held one is = record { id = is.id; size = sized one.size is.size }
+
+asked : (ask : Ask) → IsReadAsk ask → IsAsk ask
+asked ask is = record { priority = is.priority; count = is.count; size = sized ask.size is.size }
+
+client_served : (user : List ℕ) (ask : ClientAsk) → IsText Name user → IsReadClientAsk user ask → IsClientAsk ask
+client_served user clients.New name values = tt
+client_served user (clients.Submit id submission) name values = (values.0, framed user submission name values.1)
+client_served user (clients.Report id) name values = tt
+client_served user (clients.Kill id) name values = tt
+
+master_served : (ask : MasterAsk) → IsReadMasterAsk ask → IsMasterAsk ask
+master_served masters.Register is = tt
+master_served (masters.Finish text) is = is.note
+master_served (masters.Allocate id asks release) is = (is.0.1, listed asked asks is.1, listed (λ one h. h) release is.2)
+
+node_served : (ask : NodeAsk) → IsReadNodeAsk ask → IsNodeAsk ask
+node_served (nodes.Register turn capability running) is = (sized capability is.1, listed held running is.2)
+node_served (nodes.Beat id running done) is = (is.0.1, listed held running is.1, listed (λ one h. h) done is.2)
+
+clock_served : (ask : ClockAsk) → IsReadClockAsk ask → IsClockAsk ask
+clock_served (clocks.Tick time) is = is.1
+clock_served (clocks.ExpireNode node) is = tt
+clock_served (clocks.ExpireMaster attempt) is = tt
+
+message_served : (message : Message) → IsRead message → IsMessage message
+message_served (messages.Client user ask) h = client_served user ask h.0 h.1
+message_served (messages.Master attempt ask) h = master_served ask h.1
+message_served (messages.Node node ask) h = (h.0, node_served ask h.1)
+message_served (messages.Clock ask) h = clock_served ask h
 
 all_served : (messages : List Message) → AllByRecursion IsRead messages → AllServed messages
 all_served [] h = tt

@@ -11,7 +11,6 @@ use Rattle.rm_model.specs.Lawful.{state_after}
 use Rattle.rm_outside.specs.Shelves.{bytes_read}
 use Rattle.rm_cluster.specs.Clusters.{IsCluster}
 use Rattle.rm_script.specs.Scripts.{IsScript}
-use Rattle.rm_facts.specs.Submissions.{AllUntried}
 use Rattle.rm_store.specs.Store.{needed_for, room_behind, seen}
 use Rattle.rm_plain.specs.Stops.{NoneLeft}
 use Rattle.rm_main.specs.Runs.{Made, Told}
@@ -31,14 +30,13 @@ pub record IsAccepted (told : Told) (asked : Option Asked) : Type 0 where
   pub script : Script
   pub of_script : IsScript (bytes_read script_bytes) script
 
--- The device tells that it held a store. What is kept after the log has no attempt, and an epoch and a stamp are
--- left; the operation that awaits there, if one does, has room; and the disk inside the fuse counted no fault.
+-- The device tells that it held a store. An epoch and a stamp are left behind what is kept after the log; the
+-- operation that awaits there, if one does, has room; and the disk inside the fuse counted no fault.
 pub record HasPlace {D : Type 0} (view : D → DiskView) (made : Made D) : Type 0 where
   pub bytes : List ℕ
   pub told : (view made.before.inner).told ≡ Some bytes
   pub ops : List Op
   pub holds : Holds bytes ops
-  pub untried : AllUntried (records (state_after made.opening made.log).kept).apps
   pub some_left : NoneLeft made.opening made.log → ⊥
   pub room : (op : Op) → slice_get (state_after made.opening made.log).awaiting 0 ≡ Some op → needed_for op ≤ room_behind (view made.after.inner).size (state_after made.opening made.log).kept
   pub faultless : Rose (view made.before.inner).faults (view made.after.inner).faults → ⊥

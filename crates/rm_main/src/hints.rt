@@ -23,10 +23,16 @@ pub fn cluster_hint(place: u32) -> &'static str {
 
 /// What a refused line of a script should be, by how it begins.
 fn line_hint(line: &str) -> &'static str {
-    if line.starts_with("master ") || line.starts_with("node ") || line.starts_with("clock ") {
-        "the messages of masters, nodes and the clock are not read yet"
-    } else if line.starts_with("client ") || line.starts_with("lose ") {
-        "a message stands inside a life, as `client USER new`, `client USER submit APP queue=QUEUE name=NAME memory=MB vcores=CORES attempts=N[ modify=ACL]`, `client USER report APP` or `client USER kill APP`"
+    if line.starts_with("client ") {
+        "a client's message stands inside a life, as `client USER new`, `client USER submit APP queue=QUEUE name=NAME memory=MB vcores=CORES attempts=N[ modify=ACL]`, `client USER report APP` or `client USER kill APP`"
+    } else if line.starts_with("master ") {
+        "a master's message stands inside a life, as `master ATTEMPT register`, `master ATTEMPT allocate ID[ ask=PRIORITY:COUNT:MB:CORES,..][ release=CONTAINER,..]` or `master ATTEMPT finish NOTE`"
+    } else if line.starts_with("node ") {
+        "a node's message stands inside a life, as `node NODE register TURN memory=MB vcores=CORES[ running=CONTAINER:MB:CORES,..]` or `node NODE beat ID[ running=CONTAINER:MB:CORES,..][ done=CONTAINER,..]`"
+    } else if line.starts_with("clock ") {
+        "the clock's message stands inside a life, as `clock tick MS`, `clock expire node NODE` or `clock expire master ATTEMPT`"
+    } else if line.starts_with("lose ") {
+        "a message that is lost stands inside a life, as `lose` and the line of a client, a master, a node or the clock"
     } else if line.starts_with("crash") {
         "a crash is `crash CALLS IMAGE`, directly after a `settle` of its life"
     } else if line.starts_with("settle") {
@@ -36,7 +42,7 @@ fn line_hint(line: &str) -> &'static str {
     } else if line.is_empty() {
         "the messages at the end are not settled"
     } else {
-        "a line begins with `start`, `client`, `lose`, `settle`, `crash` or `#`, and has printable bytes alone"
+        "a line begins with `start`, `client`, `master`, `node`, `clock`, `lose`, `settle`, `crash` or `#`, and has printable bytes alone"
     }
 }
 

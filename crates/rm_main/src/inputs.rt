@@ -1,6 +1,7 @@
 ghost use Rattle.std.specs.Prelude.{◌≡◌, ◌≤◌, IfOk, IfErr, OnOk, Err, Some};
 ghost use Rattle.rm_types.specs.Counts.{Rose};
 ghost use Rattle.rm_queues.specs.Rules.{KeepsRules};
+ghost use Rattle.rm_moves.specs.Messages.{KeepsLimits};
 ghost use Rattle.rm_plain.specs.Along.{CanRun};
 ghost use Rattle.rm_main.specs.Runs.{AreRead, AreSettings, IsScriptOf};
 ghost use Rattle.rm_main.specs.Words.{Run};
@@ -16,6 +17,7 @@ use std::alloc::Global;
 fn read_settings<F: Shelf>(alloc: Global, shelf: &mut F, name: &str) -> Result<Settings, Outcome>
     ensures read { IfOk result (λ settings. AreSettings (F.bytes_of shelf.old name.now) settings) }
     ensures queues { IfOk result KeepsRules }
+    ensures limits { IfOk result KeepsLimits }
     ensures refused { IfErr result (StopsAtCluster (F.bytes_of shelf.old name.now)) }
     ensures told { F.bytes_of shelf.new ≡ F.bytes_of shelf.old }
     ensures one { F.reads name.now shelf.old shelf.new }
@@ -64,6 +66,7 @@ pub fn read_inputs<F: Shelf>(
 ) -> Result<(Settings, Script), Outcome>
     ensures settings { IfOk result (λ inputs. AreSettings (F.bytes_of shelf.old cluster.now) inputs.0) }
     ensures queues { IfOk result (λ inputs. KeepsRules inputs.0) }
+    ensures limits { IfOk result (λ inputs. KeepsLimits inputs.0) }
     ensures script { IfOk result (λ inputs. IsScriptOf (F.bytes_of shelf.old script.now) inputs.1) }
     ensures can_run { IfOk result (λ inputs. CanRun inputs.1) }
     ensures refused { IfErr result (StopsEarly (F.bytes_of shelf.old) cluster.now script.now) }

@@ -10,7 +10,7 @@ ghost use Rattle.rm_plain.specs.Along.{CanRun};
 ghost use Rattle.rm_plain.specs.Falls.{falls_of};
 ghost use Rattle.rm_types.specs.Records.{records};
 ghost use Rattle.rm_queues.specs.Rules.{KeepsRules};
-ghost use Rattle.rm_facts.specs.Submissions.{AllUntried};
+ghost use Rattle.rm_moves.specs.Messages.{KeepsLimits};
 ghost use Rattle.rm_plain.specs.Starts.{DiskStays, IsAtEase};
 ghost use Rattle.rm_plain.specs.Stops.{IsDue};
 ghost use Rattle.rm_plain.specs.Survives.{SurvivesAll, SurvivesNow};
@@ -93,6 +93,7 @@ fn run<K: Sink, D: Disk>(
 ) -> Ended<D>
     requires script { CanRun script }
     requires queues { KeepsRules settings }
+    requires limits { KeepsLimits settings }
     requires unarmed { disk.armed ≡ None }
     ensures lawful { Lawful settings script result.opening result.log }
     ensures done { result.outcome ≡ Outcome.Done → IsDone settings script result.opening result.log }
@@ -108,7 +109,7 @@ fn run<K: Sink, D: Disk>(
     ensures stays { DiskStays D.view disk result.disk }
     ensures unarmed { result.disk.armed ≡ None }
     ensures unblown { disk.blown ≡ false → result.disk.blown ≡ false }
-    ensures opening { result.log ≢ [] → AllUntried (records result.opening).apps × Tells (seen D.view disk) (λ bytes. Holds bytes result.opening) }
+    ensures opening { result.log ≢ [] → Tells (seen D.view disk) (λ bytes. Holds bytes result.opening) }
     ensures held { (result.opening ≡ []) ⊎ Tells (seen D.view disk) (λ bytes. Holds bytes result.opening) }
     ensures quiet { result.log ≡ [] → IsQuiet (seen D.view disk) (seen D.view result.disk) }
     ensures images { SurvivesAll result.opening result.log (seen D.view disk) (seen D.view result.disk) }
@@ -145,7 +146,7 @@ fn plain<F: Shelf, K: Sink, D: Disk>(
     ensures stays { DiskStays D.view disk result.disk }
     ensures unarmed { result.disk.armed ≡ None }
     ensures unblown { disk.blown ≡ false → result.disk.blown ≡ false }
-    ensures opening { result.log ≢ [] → AllUntried (records result.opening).apps × Tells (seen D.view disk) (λ bytes. Holds bytes result.opening) }
+    ensures opening { result.log ≢ [] → Tells (seen D.view disk) (λ bytes. Holds bytes result.opening) }
     ensures held { (result.opening ≡ []) ⊎ Tells (seen D.view disk) (λ bytes. Holds bytes result.opening) }
     ensures quiet { result.log ≡ [] → IsQuiet (seen D.view disk) (seen D.view result.disk) }
     ensures images { SurvivesAll result.opening result.log (seen D.view disk) (seen D.view result.disk) }
@@ -168,8 +169,8 @@ fn plain<F: Shelf, K: Sink, D: Disk>(
 ///   another form. `ClusterRefused` and `ScriptRefused`: exactly where the file, as the shelf tells it,
 ///   breaks a rule or is no script, with the first rule's place or the first line; the cluster file is read
 ///   first. `DiskFault`: the device inside the fuse counted a fault, while a life was due or an operation was
-///   with the store. `StoreDamaged`: a life was due, and the device holds no store, at the offset of a fault
-///   that the store names; or, at 2^64 - 1, one in which an application has an attempt. `StoreFull`: the operation
+///   with the store. `StoreDamaged`: the first life was due, and the device holds no store, at the offset of a
+///   fault that the store names. `StoreFull`: the operation
 ///   that is with the store needs more than is left behind what is kept. `EpochsSpent`: a life was due, and
 ///   no epoch or stamp is left. `Memory` is free. Of a script without lives no call of the device is made.
 /// - `complete`: where the files are accepted, the device holds a store with place for the run, and no count
@@ -184,8 +185,8 @@ fn plain<F: Shelf, K: Sink, D: Disk>(
 /// - `unused`: where the words or a file stop the call, the device is as it was. `quiet`: where nothing was
 ///   logged, and so by `store`, no byte of it changed. `stays`: it fell only where a life went down, and the
 ///   fuse, which is given back unarmed, refused nothing.
-/// - `opening`: a device on which something was logged held the opening list, in which no application has an
-///   attempt. `held`: the opening list is empty, or the device held it.
+/// - `opening`: a device on which something was logged held the opening list. `held`: the opening list is empty, or
+///   the device held it.
 /// - `images` and `images_now`, for every outcome: at each moment of the call a crash left what could be left
 ///   of the handed device, or what is kept at some moment of the log, or this and the operation that awaited;
 ///   and where something was logged it leaves now what is kept, or this and the operation that awaits.
@@ -213,7 +214,7 @@ pub fn top_plain<F: Shelf, K: Sink, D: Disk>(
     ensures stays { DiskStays D.view disk result.disk }
     ensures unarmed { result.disk.armed ≡ None }
     ensures unblown { disk.blown ≡ false → result.disk.blown ≡ false }
-    ensures opening { result.log ≢ [] → AllUntried (records result.opening).apps × Tells (seen D.view disk) (λ bytes. Holds bytes result.opening) }
+    ensures opening { result.log ≢ [] → Tells (seen D.view disk) (λ bytes. Holds bytes result.opening) }
     ensures held { (result.opening ≡ []) ⊎ Tells (seen D.view disk) (λ bytes. Holds bytes result.opening) }
     ensures quiet { result.log ≡ [] → IsQuiet (seen D.view disk) (seen D.view result.disk) }
     ensures images { SurvivesAll result.opening result.log (seen D.view disk) (seen D.view result.disk) }

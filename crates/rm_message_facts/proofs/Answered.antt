@@ -32,7 +32,10 @@ use Rattle.rm_facts.proofs.Keeping.{in_scene}
 use Rattle.rm_node_facts.specs.AtNodes.{AllGood}
 use Rattle.rm_node_facts.specs.Holds.{BookHolds}
 use Rattle.rm_master_facts.specs.Marks.{is_removal, marks}
+use Rattle.rm_master_facts.specs.Says.{AllMarks}
+use Rattle.rm_master_facts.specs.Sound.{EachSound}
 use Rattle.rm_master_facts.proofs.Stepping.{marks_stay}
+use Rattle.rm_agreement_facts.specs.Agrees.{Agrees}
 use Rattle.rm_agreement_facts.specs.Whole.{Nothing, Whole, WholeStep}
 
 -- the answer of an open life, where it is open
@@ -72,6 +75,23 @@ module _ (settings : Settings) (h : History) (t : Tables) (w : Whole settings h 
       ap (λ (r : Records). in_life (standing h t) (life_after (record { records = r; awaiting = t.awaiting; life = life_in h t }) message reply)) w.keeps.recorded
       ∙ ap (λ (l : LifeState). in_life (standing h t) l) life
       ∙ rw (kept, awaiting) refl
+
+  -- a message after which all of it holds again, by this history
+  pub served_whole : (g : History) (next : Tables) → g.kept ≡ h.kept → next.awaiting ≡ t.awaiting → life_after (scene_in h t) message reply ≡ life_in g next → Keeps settings g next → AllMarks g next
+      → EachSound next.tree.apps → Agrees (life_in g next) next → AllGood g.nodes g.book next.sched → BookHolds (life_in g next) Nothing → WholeStep settings h t (Served (sender_of message) message reply, next)
+  served_whole g next kept awaiting life keeps all sound agrees nodes book =
+      record {
+        next = g;
+        step = record { lawful = in_scene settings h t w.keeps (Served (sender_of message) message reply) may_serve; same = served_state g next kept awaiting life; keeps = keeps };
+        whole = record { keeps = keeps; marks = all; sound = sound; agrees = agrees; nodes = nodes; book = book };
+      }
+
+  -- more ids were given
+  pub given_whole : (given : ℕ) → life_after (scene_in h t) message reply ≡ life_in h (record t { given = given }) → WholeStep settings h t (Served (sender_of message) message reply, record t { given = given })
+  given_whole given life =
+      served_whole h (record t { given = given }) refl refl life (record { is_open = w.keeps.is_open; recorded = w.keeps.recorded; all = w.keeps.all }) w.marks w.sound
+      (record { rows = w.agrees.rows; nodes = w.agrees.nodes; asks = w.agrees.asks; closings = w.agrees.closings; masters = w.agrees.masters }) w.nodes
+      (record { apart = w.book.apart; rows = w.book.rows; left = w.book.left; launches = w.book.launches })
 
   -- the life after it is one in which the containers' states and the nodes changed
   module _ (rows : List Row) (nodes : List NodeState) (book : BookOf) (in_nodes : List (List ℕ × NodeRow)) (events : List SchedEvent) where

@@ -1,5 +1,5 @@
 -- The book holds after a node joins, changes or beats: what it offers stays, and the containers stand where they stood.
-use Rattle.std.proofs.Common.{◌≡◌, ℕ, List, [], ◌∷◌, ◌++◌, Bool, true, false, not, ◌&&◌, Option, None, Some, map, refl, ◌∙◌}
+use Rattle.std.proofs.Common.{◌≡◌, ℕ, List, [], ◌∷◌, ◌++◌, Bool, true, false, not, ◌&&◌, Option, None, Some, map, refl, ◌∙◌, ap}
 use Rattle.std.specs.Prelude.{if◌then◌else◌, is_some, option_and_then, option_map}
 use Rattle.std.specs.List.{list_any}
 use Rattle.std.specs.Str.{bytes_eq}
@@ -7,7 +7,7 @@ use Rattle.rm_types.specs.declared.containers.ContainerState.TheVariants.{Acquir
 use Rattle.rm_types.specs.declared.ids.ContainerId.{ContainerId}
 use Rattle.rm_types.specs.declared.replies.Reply.{Reply}
 use Rattle.rm_types.specs.Ids.{is_attempt, is_container}
-use Rattle.rm_model.specs.Containers.{is_granted, lives_on}
+use Rattle.rm_model.specs.Containers.{ids_on, is_granted, lives_on}
 use Rattle.rm_model.specs.Facts.{has_container}
 use Rattle.rm_model.specs.NodeReplies.{beaten, row_beaten}
 use Rattle.rm_model.specs.Nodes.{node_of, with_node}
@@ -19,7 +19,7 @@ use Rattle.rm_node_facts.proofs.Moved.{node_of-map}
 use Rattle.rm_message_facts.proofs.Answered.{SameHeld}
 
 -- what holds of each item holds of it in another way
-all_weaker : {X : Type 0} (P Q : X → Type 0) → ((x : X) → P x → Q x) → (xs : List X) → All P xs → All Q xs
+pub all_weaker : {X : Type 0} (P Q : X → Type 0) → ((x : X) → P x → Q x) → (xs : List X) → All P xs → All Q xs
 all_weaker P Q more [] h = tt
 all_weaker P Q more (x ∷ xs) h = (more x h.0, all_weaker P Q more xs h.1)
 
@@ -95,13 +95,56 @@ changed_holds life change name more keeps offers launches h =
       launches = all_map (AreLaunches life.book) (AreLaunches life.book) (at_node change name) (at_node_launches (AreLaunches life.book) change name launches) life.nodes h.launches;
     }
 
+-- CONTAINERS CHANGE
+
+-- the states and marks of containers change, which stand where they stood
+module _ (change : Row → Row) (same_id : (row : Row) → (change row).id ≡ row.id) (same_node : (row : Row) → (change row).node ≡ row.node) where
+  -- a test of containers and their nodes passes as before
+  any_changed : (p : ContainerId → List ℕ → Bool) (rows : List Row) → list_any (λ row. p row.id row.node) (map change rows) ≡ list_any (λ row. p row.id row.node) rows
+  any_changed p [] = refl
+  any_changed p (row ∷ rows) = let a = same_id row in let b = same_node row in rw (a, b, any_changed p rows) refl
+
+  pub rows_held : (rows : List Row) → SameHeld rows (map change rows)
+  rows_held rows = record { held = λ q. any_changed (λ id node. is_attempt id.attempt q) rows; living = λ c. any_changed (λ id node. is_container id c) rows }
+
+  apart_changed : (rows : List Row) → AreApart rows → AreApart (map change rows)
+  apart_changed [] h = tt
+  apart_changed (row ∷ rows) h = let a = same_id row in rw a (any_changed (λ id node. is_container id row.id) rows ∙ h.0, apart_changed rows h.1)
+
+  launches_changed : (rows : List Row) (node : NodeState) → AreLaunches rows node → AreLaunches (map change rows) node
+  launches_changed rows node h =
+      all_weaker (λ id. lives_on rows node.name id ≡ true) (λ id. lives_on (map change rows) node.name id ≡ true)
+      (λ id l. any_changed (λ one at_name. is_container one id && bytes_eq at_name node.name) rows ∙ l) node.launches h
+
+  rows_changed : (life : LifeState) (more : ContainerId → Type 0) (rows : List Row) → All (IsRow life more) rows → All (IsRow (record life { book = map change life.book }) more) (map change rows)
+  rows_changed life more [] h = tt
+  rows_changed life more (row ∷ rows) h = let a = same_id row in let b = same_node row in (rw (a, b) (h.0.0, h.0.1, h.0.2, h.0.3), rows_changed life more rows h.1)
+
+  pub rows_hold : (life : LifeState) (more : ContainerId → Type 0) → BookHolds life more → BookHolds (record life { book = map change life.book }) more
+  rows_hold life more h =
+      record {
+        apart = apart_changed life.book h.apart;
+        rows = rows_changed life more life.book h.rows;
+        left = h.left;
+        launches = all_weaker (AreLaunches life.book) (AreLaunches (map change life.book)) (launches_changed life.book) life.nodes h.launches;
+      }
+
+  -- the same stand on each node
+  pub same_on : (rows : List Row) (name : List ℕ) → ids_on (map change rows) name ≡ ids_on rows name
+  same_on [] name = refl
+  same_on (row ∷ rows) name = by (bytes_eq row.node name) refl (ap (λ (n : List ℕ). bytes_eq n name) (same_node row)) (same_on rows name)
+    where
+      by : (b : Bool) → bytes_eq row.node name ≡ b → bytes_eq (change row).node name ≡ bytes_eq row.node name → ids_on (map change rows) name ≡ ids_on rows name → ids_on (map change (row ∷ rows)) name ≡ ids_on (row ∷ rows) name
+      by true e f rest = let now = f ∙ e in let a = same_id row in rw (now, e, a, rest) refl
+      by false e f rest = let now = f ∙ e in rw (now, e) rest
+
 -- A NODE BEATS
 
 module _ (name : List ℕ) (running launched : List ContainerId) where
   abbrev beat_row : Row → Row
   beat_row row = row_beaten name running launched row
 
-  same_id : (row : Row) → (beat_row row).id ≡ row.id
+  pub same_id : (row : Row) → (beat_row row).id ≡ row.id
   same_id row = by (not (bytes_eq row.node name)) (has_container running row.id) (has_container launched row.id && is_granted row.state)
     where
       by : (a b c : Bool) → (if a then row else (if b then record row { state = Running } else (if c then record row { state = Acquired } else row))).id ≡ row.id
@@ -119,36 +162,8 @@ module _ (name : List ℕ) (running launched : List ContainerId) where
       by false false true = refl
       by false false false = refl
 
-  -- a test of containers and their nodes passes as before
-  any_beaten : (p : ContainerId → List ℕ → Bool) (rows : List Row) → list_any (λ row. p row.id row.node) (map beat_row rows) ≡ list_any (λ row. p row.id row.node) rows
-  any_beaten p [] = refl
-  any_beaten p (row ∷ rows) = let a = same_id row in let b = same_node row in rw (a, b, any_beaten p rows) refl
-
   pub beaten_held : (rows : List Row) → SameHeld rows (map beat_row rows)
-  beaten_held rows = record { held = λ q. any_beaten (λ id node. is_attempt id.attempt q) rows; living = λ c. any_beaten (λ id node. is_container id c) rows }
-
-  apart_beaten : (rows : List Row) → AreApart rows → AreApart (map beat_row rows)
-  apart_beaten [] h = tt
-  apart_beaten (row ∷ rows) h = let a = same_id row in rw a (any_beaten (λ id node. is_container id row.id) rows ∙ h.0, apart_beaten rows h.1)
-
-  launches_beaten : (rows : List Row) (node : NodeState) → AreLaunches rows node → AreLaunches (map beat_row rows) node
-  launches_beaten rows node h =
-      all_weaker (λ id. lives_on rows node.name id ≡ true) (λ id. lives_on (map beat_row rows) node.name id ≡ true)
-      (λ id l. any_beaten (λ one at_name. is_container one id && bytes_eq at_name node.name) rows ∙ l) node.launches h
-
-  rows_beaten : (life : LifeState) (more : ContainerId → Type 0) (rows : List Row) → All (IsRow life more) rows → All (IsRow (record life { book = map beat_row life.book }) more) (map beat_row rows)
-  rows_beaten life more [] h = tt
-  rows_beaten life more (row ∷ rows) h = let a = same_id row in let b = same_node row in (rw (a, b) (h.0.0, h.0.1, h.0.2, h.0.3), rows_beaten life more rows h.1)
-
-  -- the states of containers change
-  states_hold : (life : LifeState) (more : ContainerId → Type 0) → BookHolds life more → BookHolds (record life { book = map beat_row life.book }) more
-  states_hold life more h =
-      record {
-        apart = apart_beaten life.book h.apart;
-        rows = rows_beaten life more life.book h.rows;
-        left = h.left;
-        launches = all_weaker (AreLaunches life.book) (AreLaunches (map beat_row life.book)) (launches_beaten life.book) life.nodes h.launches;
-      }
+  beaten_held rows = rows_held beat_row same_id same_node rows
 
   -- and the node that beat was told
   pub beaten_holds : (life : LifeState) (done : List ContainerId) (reply : Reply) (more : ContainerId → Type 0) → BookHolds life more
@@ -156,4 +171,4 @@ module _ (name : List ℕ) (running launched : List ContainerId) where
   beaten_holds life done reply more h =
       changed_holds (record life { book = map beat_row life.book }) (beaten launched done reply) name more (λ node. refl) (λ node. refl)
       (λ node l. all_filter (λ id. lives_on (map beat_row life.book) node.name id ≡ true) (λ id. not (has_container launched id)) node.launches l)
-      (states_hold life more h)
+      (rows_hold beat_row same_id same_node life more h)

@@ -42,7 +42,7 @@ registered_rows (Some row) name turn capability running reply t = by (nat_lt row
     by true e = rw e refl
     by false e = rw e refl
 
-node_rows : (name : List ℕ) (ask : NodeAsk) (reply : Reply) (t : Tables) → (after_node name ask reply t).rows ≡ t.rows
+pub node_rows : (name : List ℕ) (ask : NodeAsk) (reply : Reply) (t : Tables) → (after_node name ask reply t).rows ≡ t.rows
 node_rows name (asks.Register turn capability running) reply t = registered_rows (node_in t.nodes name) name turn capability running reply t
 node_rows name (asks.Beat id running done) (TellBeat next launched clean) t = by (is_new_beat id (node_in t.nodes name)) refl
   where
@@ -51,7 +51,7 @@ node_rows name (asks.Beat id running done) (TellBeat next launched clean) t = by
     by false e = rw e refl
 node_rows name (asks.Beat id running done) _ t = refl
 
-clock_rows : (ask : ClockAsk) (reply : Reply) (t : Tables) → (after_clock ask reply t).rows ≡ t.rows
+pub clock_rows : (ask : ClockAsk) (reply : Reply) (t : Tables) → (after_clock ask reply t).rows ≡ t.rows
 clock_rows (ExpireNode name) Ok t = refl
 clock_rows (Tick time) Ok t = refl
 clock_rows (ExpireMaster attempt) Ok t = refl

@@ -5,3 +5,15 @@ pub mod Registering
 pub mod Beating
 pub mod Present
 pub mod Firsts
+pub mod Known
+pub mod Shapes
+pub mod Marked
+pub mod MarkedMessages
+pub mod MarkedQueues
+pub mod MarkedOps
+pub mod Fitting
+pub mod FittingMoves
+pub mod Life
+pub mod Showing
+pub mod Masters
+pub mod Clients

@@ -95,7 +95,7 @@ module _ {D : Type 0} (view : D → DiskView) (opening : List Op) where
     later_stop k some DiskFault why = (let before = ab.stays.faults in let rose = why.0 in omega arith, why.1, λ none. absurd (some none))
     later_stop k some (Damaged offset) why = (
       why.0,
-      λ bytes told. let no = why.1 (ab.kept bytes told k).kept in inr (no.0, (ab.kept bytes told k).opened, no.1),
+      λ bytes told. absurd (why.1 (ab.kept bytes told k).kept),
       λ none. absurd (some none),
     )
     later_stop k some (Full needed room) why =
@@ -131,7 +131,7 @@ module _ {D : Type 0} (view : D → DiskView) (opening : List Op) where
           stays = stays_trans view first second third ab.stays bc.disk_stays;
           unarmed = bc.at_ease.unarmed;
           unblown = λ some. bc.at_ease.unblown;
-          opened = λ some. (ab.untried, ab.opened);
+          opened = λ some. ab.opened;
           found = inr ab.opened;
           ends = record { lives = none; over = bc.ends };
           quiet = λ empty. absurd (bc.some empty);
@@ -149,7 +149,7 @@ module _ {D : Type 0} (view : D → DiskView) (opening : List Op) where
           stays = stays_trans view first second third ab.stays bc.stays;
           unarmed = bc.at_ease.unarmed;
           unblown = λ some. bc.at_ease.unblown;
-          opened = λ some. (ab.untried, ab.opened);
+          opened = λ some. ab.opened;
           found = inr ab.opened;
           ends = tt;
           quiet = λ empty. absurd (bc.goes.some ab.some empty);

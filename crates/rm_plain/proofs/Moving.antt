@@ -9,6 +9,7 @@ use Rattle.rm_types.specs.declared.messages.Lane.{Lane}
 use Rattle.rm_types.specs.declared.messages.Lane.TheVariants.{Client, Master, Node, Clock, Main, Sched, Hand, Write, End, Begin}
 use Rattle.rm_types.specs.declared.messages.Message.{Message}
 use Rattle.rm_types.specs.declared.messages.Sender.{Sender}
+use Rattle.rm_types.specs.declared.messages.Sender.TheVariants as senders
 use Rattle.rm_types.specs.declared.operations.Op.{Op}
 use Rattle.rm_types.specs.declared.replies.Reply.{Reply}
 use Rattle.rm_types.specs.declared.scripts.Close.{Close}
@@ -16,7 +17,7 @@ use Rattle.rm_types.specs.declared.scripts.Close.TheVariants.{Settle, Crash}
 use Rattle.rm_types.specs.declared.scripts.Life.{Life}
 use Rattle.rm_types.specs.declared.scripts.Segment.{Segment}
 use Rattle.rm_types.specs.declared.settings.Settings.{Settings}
-use Rattle.rm_types.specs.Lanes.{lane_of_entry, sender_of}
+use Rattle.rm_types.specs.Lanes.{lane_of_entry}
 use Rattle.rm_types.specs.Lists.{is_nil}
 use Rattle.rm_types.specs.Records.{Records}
 use Rattle.rm_disk.specs.declared.fallen.Fallen.{Fallen}
@@ -24,14 +25,14 @@ use Rattle.rm_model.specs.State.{LifeState, Manager, opening_state}
 use Rattle.rm_model.specs.Changes.{after, after_where}
 use Rattle.rm_model.specs.Downs.{GoesDownAtRest}
 use Rattle.rm_model.specs.Lawful.{IsAtRest, state_after}
-use Rattle.rm_model.specs.Place.{Place, begun, close_left, messages_left, moved, rest_of, segments_without, without_first}
+use Rattle.rm_model.specs.Place.{Place, begun, close_left, first_from, messages_left, moved, rest_of, segments_without, without_first}
 use Rattle.rm_core.specs.Adds.{AmountsTo}
 use Rattle.rm_core.specs.Seen.{StandsFor}
 use Rattle.rm_core.specs.Words.{has_rest, stands}
 use Rattle.rm_desk.specs.View.{DeskView}
 use Rattle.rm_desk.specs.Lanes.{IsStep, IsWork, is_ready_at, stands_after}
 use Rattle.rm_desk.specs.Runs.{IsUnblown, Tells}
-use Rattle.rm_desk.specs.Does.{Begins, Does, IsEntryOf}
+use Rattle.rm_desk.specs.Does.{Answers, Begins, Does, IsEntryOf}
 use Rattle.rm_desk.proofs.Longer.{not_empty}
 use Rattle.rm_plain.specs.Along.{AllBare, AllSettle, IsBare, IsSound, SettlesFirst}
 use Rattle.rm_plain.specs.Falls.{fall, falls_at}
@@ -158,46 +159,46 @@ close_without sender [] = refl
 close_without sender (segment ∷ more) = refl
 
 -- a crash has no message left
-fed_calm : (segments : List Segment) (m : Message) → AllBare segments → slice_get (messages_left segments) 0 ≡ Some m → (calls image : ℕ) → close_left segments ≡ Some (Crash calls image) → ⊥
-fed_calm [] m h first calls image c = cc
-fed_calm (segment ∷ more) m h first calls image c =
+fed_calm : (sender : Sender) (segments : List Segment) (m : Message) → AllBare segments → first_from sender (messages_left segments) ≡ Some m → (calls image : ℕ) → close_left segments ≡ Some (Crash calls image) → ⊥
+fed_calm sender [] m h first calls image c = cc
+fed_calm sender (segment ∷ more) m h first calls image c =
     let close : segment.close ≡ Crash calls image = some_same segment.close (Crash calls image) c in
     let none : segment.messages ≡ [] = rw close at h.0 in
     let x = rw none at first in
     cc
 
 -- a message is answered
-serve_works : (d next : DeskView) (does : Does Client d next) → find (is_ready_at d) policy ≡ Some Client → IsSound d → Works d next
-serve_works d next does chosen h =
-    let m = does.adds.of_kind.0 in
-    let is = does.adds.of_kind.3 in
-    let calm = fed_calm d.place.segments m h.bare does.adds.of_kind.2 in
-    let place : next.place ≡ record { lives = d.place.lives; segments = segments_without (sender_of m) d.place.segments } =
+serve_works : (sender : Sender) (lane : Lane) (d next : DeskView) (does : Does lane d next) → Answers sender d does.adds.entry → find (is_ready_at d) policy ≡ Some lane → IsSound d → Works d next
+serve_works sender lane d next does answers chosen h =
+    let m = answers.0 in
+    let is = answers.3 in
+    let calm = fed_calm sender d.place.segments m h.bare answers.2 in
+    let place : next.place ≡ record { lives = d.place.lives; segments = segments_without sender d.place.segments } =
     does.adds.place ∙ ap (λ (e : Entry). moved d.place e) is in
-    let segments : next.place.segments ≡ segments_without (sender_of m) d.place.segments = ap (λ (p : Place). p.segments) place in
+    let segments : next.place.segments ≡ segments_without sender d.place.segments = ap (λ (p : Place). p.segments) place in
     let lives : next.place.lives ≡ d.place.lives = ap (λ (p : Place). p.lives) place in
-    let close : close_left next.place.segments ≡ close_left d.place.segments = ap close_left segments ∙ close_without (sender_of m) d.place.segments in
+    let close : close_left next.place.segments ≡ close_left d.place.segments = ap close_left segments ∙ close_without sender d.place.segments in
     let plain : is_plain does.adds.entry ≡ true = ap is_plain is in
     record {
-      goes = step_goes Client d next does chosen (plain_stands does.adds.entry plain)
+      goes = step_goes lane d next does chosen (plain_stands does.adds.entry plain)
           (record {
-            bare = subst AllBare (sym segments) (bare_without (sender_of m) d.place.segments calm h.bare);
+            bare = subst AllBare (sym segments) (bare_without sender d.place.segments calm h.bare);
             lives = subst AllSettle (sym lives) h.lives;
             crashing = λ calls image c. absurd (calm calls image (sym close ∙ c));
           })
           lives;
-      same = step_unkept Client d next does plain;
+      same = step_unkept lane d next does plain;
       close = close;
     }
 
 pub works : (lane : Lane) (d next : DeskView) → Does lane d next → find (is_ready_at d) policy ≡ Some lane → IsStep lane → lane ≢ End → IsSound d → Works d next
-works Client d next does chosen step goes h = serve_works d next does chosen h
+works Client d next does chosen step goes h = serve_works senders.Client Client d next does does.adds.of_kind chosen h
 works Main d next does chosen step goes h = quiet_works Main d next does chosen tt h (main_quiet does.adds.entry does.adds.of_kind)
 works Sched d next does chosen step goes h = quiet_works Sched d next does chosen tt h (sched_quiet does.adds.entry does.adds.of_kind)
 works Hand d next does chosen step goes h = quiet_works Hand d next does chosen tt h (hand_quiet does.adds.entry does.adds.of_kind)
-works Master d next does chosen step goes h = absurd does.adds.of_kind
-works Node d next does chosen step goes h = absurd does.adds.of_kind
-works Clock d next does chosen step goes h = absurd does.adds.of_kind
+works Master d next does chosen step goes h = serve_works senders.Master Master d next does does.adds.of_kind chosen h
+works Node d next does chosen step goes h = serve_works senders.Node Node d next does does.adds.of_kind chosen h
+works Clock d next does chosen step goes h = serve_works senders.Clock Clock d next does does.adds.of_kind chosen h
 works End d next does chosen step goes h = absurd (goes refl)
 works Write d next does chosen step goes h = absurd step
 works Begin d next does chosen step goes h = absurd step

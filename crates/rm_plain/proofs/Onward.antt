@@ -15,7 +15,6 @@ use Rattle.rm_plain.specs.Survives.{HoldsWithin, SurvivesAll, SurvivesNow}
 use Rattle.rm_store.specs.Store.{StoreState, seen}
 use Rattle.rm_store.proofs.Faultless.{one_list, never_damaged, never_stray}
 use Rattle.rm_core.specs.Adds.{AmountsTo}
-use Rattle.rm_facts.specs.Submissions.{AllUntried}
 use Rattle.rm_core.specs.Seen.{Seen, StandsFor}
 use Rattle.rm_core.specs.Words.{stands}
 use Rattle.rm_desk.specs.View.{DeskView}
@@ -30,7 +29,7 @@ use Rattle.rm_plain.specs.Halted.{stop_of}
 use Rattle.rm_plain.specs.Keeping.{HaltsOver, IsHaltedBy, IsKeptOn}
 use Rattle.rm_plain.specs.Later.{FirstStopped, FirstTo, IsAgain, IsDueAt, IsFirst, IsLaterStop, IsReady, IsUnfounded, IsUnready, LaterTo, StopsLater}
 use Rattle.rm_plain.specs.Starts.{DiskStays, Halts, IsAtEase, IsGivenBack, IsOpened, IsRefusedBy, IsUnopenedBy, Lives, LivesTo}
-use Rattle.rm_plain.specs.Stops.{CannotGoOn, IsNoStore, IsStoppedBy, IsTold, NoneLeft}
+use Rattle.rm_plain.specs.Stops.{IsNoStore, IsStoppedBy, IsTold, NoneLeft}
 use Rattle.rm_plain.proofs.Ending.{goes_trans}
 use Rattle.rm_plain.proofs.Halting.{after_within, full_known, goes_any, leaves_after}
 use Rattle.rm_plain.proofs.Moving.{goes_same}
@@ -62,7 +61,7 @@ module _ {D : Type 0} (view : D → DiskView) where
   -- the first life's store wasn't opened
   pub unopened_first : (disk now : Fused D) (why : Stop) → IsUnopenedBy view disk now why → IsUnfounded view [] disk now why
   unopened_first disk now DiskFault h = (refl, h)
-  unopened_first disk now (Damaged offset) h = inl (refl, h)
+  unopened_first disk now (Damaged offset) h = (refl, h)
   unopened_first disk now Memory h = tt
   unopened_first disk now (Full needed room) h = absurd h
   unopened_first disk now EpochsSpent h = absurd h
@@ -76,8 +75,8 @@ module _ {D : Type 0} (view : D → DiskView) where
     amounts_kept opening core has =
         o.read.amounts ∙ ap records (same_ops opening core.log has)
 
-    ready : tree.next_epoch < 2 ^ 24 → tree.stamp < 2 ^ 63 - 1 → AllUntried tree.apps → IsReady view disk store tree
-    ready epoch stamp untried =
+    ready : tree.next_epoch < 2 ^ 24 → tree.stamp < 2 ^ 63 - 1 → IsReady view disk store tree
+    ready epoch stamp =
         record {
           sound = o.sound;
           unbroken = o.unbroken;
@@ -85,7 +84,7 @@ module _ {D : Type 0} (view : D → DiskView) where
           unblown = o.unblown;
           falls = o.falls;
           stays = o.disk;
-          over = record { of_store = record { ops = ops; framed = o.read.framed; none_stray = o.read.none_stray; amounts = o.read.amounts }; epoch = epoch; stamp = stamp; untried = untried };
+          over = record { of_store = record { ops = ops; framed = o.read.framed; none_stray = o.read.none_stray; amounts = o.read.amounts }; epoch = epoch; stamp = stamp };
         }
 
     -- it is given back, since no life can begin over it
@@ -94,35 +93,34 @@ module _ {D : Type 0} (view : D → DiskView) where
 
     -- for its operations
     pub refused_first : (stop : Stop) → IsRefusedBy tree stop → IsUnfounded view ops disk store.disk stop
-    refused_first (Damaged offset) h = inr (h.0, o.holds, λ all. h.1 (subst (λ (r : Records). AllUntried r.apps) (sym o.read.amounts) all))
-    refused_first EpochsSpent h = (o.holds, subst (λ (r : Records). AllUntried r.apps × ((2 ^ 24 ≤ r.next_epoch) ⊎ (2 ^ 63 - 1 ≤ r.stamp))) o.read.amounts h)
+    refused_first (Damaged offset) h = absurd h
+    refused_first EpochsSpent h = (o.holds, subst (λ (r : Records). (2 ^ 24 ≤ r.next_epoch) ⊎ (2 ^ 63 - 1 ≤ r.stamp)) o.read.amounts h)
     refused_first DiskFault h = absurd h
     refused_first (Full needed room) h = absurd h
     refused_first Memory h = absurd h
 
     -- or for those that are kept
     pub refused_again : (opening : List Op) (core : Seen) → AmountsTo tree opening core → (stop : Stop) → IsRefusedBy tree stop → IsUnready view opening core.log disk store.disk stop
-    refused_again opening core amounts (Damaged offset) h = λ has. (h.0, λ all. h.1 (subst (λ (l : List AppRecord). AllUntried l) (sym (ap (λ (r : Records). r.apps) amounts)) all))
-    refused_again opening core amounts EpochsSpent h =
-        subst (λ (r : Records). AllUntried r.apps × ((2 ^ 24 ≤ r.next_epoch) ⊎ (2 ^ 63 - 1 ≤ r.stamp))) amounts h
+    refused_again opening core amounts (Damaged offset) h = absurd h
+    refused_again opening core amounts EpochsSpent h = subst (λ (r : Records). (2 ^ 24 ≤ r.next_epoch) ⊎ (2 ^ 63 - 1 ≤ r.stamp)) amounts h
     refused_again opening core amounts DiskFault h = absurd h
     refused_again opening core amounts (Full needed room) h = absurd h
     refused_again opening core amounts Memory h = absurd h
 
-    pub is_first : tree.next_epoch < 2 ^ 24 → tree.stamp < 2 ^ 63 - 1 → AllUntried tree.apps → IsFirst view disk store tree ops
-    is_first epoch stamp untried =
+    pub is_first : tree.next_epoch < 2 ^ 24 → tree.stamp < 2 ^ 63 - 1 → IsFirst view disk store tree ops
+    is_first epoch stamp =
         record {
-          ready = ready epoch stamp untried;
+          ready = ready epoch stamp;
           amounts = o.read.amounts;
           kept = λ bytes told. (o.holds bytes told, record { bytes = bytes; told = o.quiet.told ∙ told; holds = o.holds bytes told; images = o.images bytes told });
           quiet = o.quiet;
         }
 
-    pub is_again : (core : Seen) → tree.next_epoch < 2 ^ 24 → tree.stamp < 2 ^ 63 - 1 → AllUntried tree.apps → ((opening : List Op) → StandsFor opening core → AmountsTo tree opening core)
+    pub is_again : (core : Seen) → tree.next_epoch < 2 ^ 24 → tree.stamp < 2 ^ 63 - 1 → ((opening : List Op) → StandsFor opening core → AmountsTo tree opening core)
         → IsAgain view core disk store tree
-    is_again core epoch stamp untried amounts =
+    is_again core epoch stamp amounts =
         record {
-          ready = ready epoch stamp untried;
+          ready = ready epoch stamp;
           amounts = amounts;
           kept = λ opening k has.
               let same = same_ops opening core.log has in
@@ -316,9 +314,6 @@ module _ {D : Type 0} (view : D → DiskView) where
       λ some bytes told. (h.left opening (amounts_first opening refl) k (kept_first bytes told)).now,
     )
 
-    untried_first : AllUntried (records opening).apps
-    untried_first = subst (λ (r : Records). AllUntried r.apps) first.amounts first.ready.over.untried
-
     pub first_to : (r : Result (Unit {0}) Stop) → LivesTo view (λ ops. AmountsTo tree ops d.core) d new store.disk now r → FirstTo view opening d new disk now r
     first_to (Ok x) l =
         record {
@@ -329,7 +324,6 @@ module _ {D : Type 0} (view : D → DiskView) where
           stays = stays_trans disk store.disk now first.ready.stays l.disk_stays;
           ends = l.ends;
           some = l.some;
-          untried = untried_first;
           opened = λ bytes told. (first.kept bytes told).0;
           kept = λ bytes told k.
               let on = l.kept opening (amounts_first opening refl) k (kept_first bytes told) in
@@ -347,7 +341,7 @@ module _ {D : Type 0} (view : D → DiskView) where
           falls = h.falls ∙ first.ready.falls;
           stays = stays_trans disk store.disk now first.ready.stays h.disk_stays;
           at_ease = h.at_ease;
-          held = λ some. (untried_first, λ bytes told. (first.kept bytes told).0);
+          held = λ some bytes told. (first.kept bytes told).0;
           found = inr (λ bytes told. (first.kept bytes told).0);
           quiet = λ none. quiet_trans (seen view disk) (seen view store.disk) (seen view now) first.quiet (h.quiet none);
           left = λ k. left_first h.halt h.halted k;
@@ -382,9 +376,7 @@ module _ {D : Type 0} (view : D → DiskView) where
 
       by : (stop : Stop) → IsUnfounded view opening disk now stop → IsStoppedBy view (IsDueAt d) disk now opening d.core.log stop
       by DiskFault why = (why.1, inl due, λ none. why.0)
-      by (Damaged offset) (inl why) = (due, λ bytes told. inl (empty, why.0, why.1 bytes told), λ none. inl why.0)
-      by (Damaged offset) (inr why) =
-          (due, λ bytes told. inr (why.0, why.1 bytes told, subst (λ (l : List Entry). CannotGoOn opening l) (sym empty) why.2), λ none. inr why.0)
+      by (Damaged offset) why = (due, λ bytes told. (empty, why.0, why.1 bytes told), λ none. why.0)
       by (Full needed room) why = absurd why
       by EpochsSpent why = (due, (why.0, subst (λ (l : List Entry). NoneLeft opening l) (sym empty) why.1))
       by Memory why = tt

@@ -15,7 +15,6 @@ use Rattle.rm_model.specs.Lawful.{state_after}
 use Rattle.rm_plain.specs.Survives.{HoldsWithin}
 use Rattle.rm_store.specs.Store.{StoreState, AreRead, IsSound as IsStoreSound, seen}
 use Rattle.rm_core.specs.Adds.{AmountsTo}
-use Rattle.rm_facts.specs.Submissions.{AllUntried}
 use Rattle.std.proofs.lemmas.List.{take_more}
 use Rattle.std.proofs.lemmas.Option.{slice_get_within, get_or_from_slice_get}
 use Rattle.rm_core.specs.Words.{stands}
@@ -34,21 +33,6 @@ use Rattle.rm_plain.specs.Starts.{Begins, DiskStays, Halts, IsOpened, KeepsOver,
 use Rattle.rm_plain.proofs.Ending.{fuse_trans, goes_trans}
 use Rattle.rm_plain.proofs.Halting.{halts_on, keeps_leaves}
 use Rattle.rm_plain.proofs.Stored.{keeps_trans}
-
--- one more record without an attempt
-AllUntried-push : (apps : List AppRecord) (app : AppRecord) → AllUntried apps → app.attempts ≡ [] → AllUntried (apps ++ app ∷ [])
-AllUntried-push [] app h p = (p, tt)
-AllUntried-push (one ∷ apps) app h p = (h.0, AllUntried-push apps app h.1 p)
-
-pub untried_more : (apps : List AppRecord) (i : ℕ) (app : AppRecord) → slice_get apps i ≡ Some app → AllUntried (take i apps) → app.attempts ≡ [] → AllUntried (take (i + 1) apps)
-untried_more apps i app e h p = rw (take_more apps i app (slice_get_within apps i app e) ∙ ap (λ y. take i apps ++ y ∷ []) (get_or_from_slice_get apps i app app e)) (AllUntried-push (take i apps) app h p)
-
-pub untried_at : (apps : List AppRecord) (i : ℕ) (app : AppRecord) → slice_get apps i ≡ Some app → AllUntried apps → app.attempts ≡ []
-untried_at [] i app e h = cc
-untried_at (one ∷ apps) zero app e h =
-    let same : one ≡ app = cc in
-    subst (λ (x : AppRecord). x.attempts ≡ []) same h.0
-untried_at (one ∷ apps) (suc i) app e h = untried_at apps i app e h.1
 
 module _ {D : Type 0} (view : D → DiskView) where
   -- a store that was opened on a disarmed fuse

@@ -12,7 +12,6 @@ use Rattle.rm_plain.specs.Survives.{HoldsWithin, SurvivesAll, SurvivesNow}
 use Rattle.rm_desk.specs.Does.{IsHanded}
 use Rattle.rm_store.specs.Store.{StoreState, IsSound, seen}
 use Rattle.rm_core.specs.Adds.{AmountsTo, CanBeginOver}
-use Rattle.rm_facts.specs.Submissions.{AllUntried}
 use Rattle.rm_core.specs.Seen.{Seen, StandsFor}
 use Rattle.rm_core.specs.Words.{stands}
 use Rattle.rm_desk.specs.View.{DeskView}
@@ -21,7 +20,7 @@ use Rattle.rm_plain.specs.declared.halts.Stop.TheVariants.{DiskFault, Damaged, F
 use Rattle.rm_plain.specs.Goes.{GoesOver, IsOver}
 use Rattle.rm_plain.specs.Keeping.{IsFull, IsKeptOn, KeepsOn, LeftOver}
 use Rattle.rm_plain.specs.Starts.{DiskStays, IsAtEase, Lives}
-use Rattle.rm_plain.specs.Stops.{CannotGoOn, IsNoStore, IsSpent, IsStoppedBy, NoneLeft}
+use Rattle.rm_plain.specs.Stops.{IsNoStore, IsSpent, IsStoppedBy, NoneLeft}
 
 -- a store that is ready for a life: whole, with its fuse unarmed, over a tree that a life can begin over
 pub record IsReady {D : Type 0} (view : D → DiskView) (disk : Fused D) (store : StoreState D) (tree : Records) : Type 0 where
@@ -54,7 +53,7 @@ pub record IsDueAt (d : DeskView) : Type 0 where
 -- why a later life has no store that it can begin over
 abbrev pub IsUnready : {D : Type 0} → (D → DiskView) → List Op → List Entry → Fused D → Fused D → Stop → Type 0
 IsUnready view opening log disk now DiskFault = Rose (view disk.inner).faults (view now.inner).faults
-IsUnready view opening log disk now (Damaged offset) = IsKeptOn opening log (seen view disk) → (offset ≡ 2 ^ 64 - 1) × CannotGoOn opening log
+IsUnready view opening log disk now (Damaged offset) = IsKeptOn opening log (seen view disk) → ⊥
 IsUnready view opening log disk now (Full needed room) = ⊥
 IsUnready view opening log disk now EpochsSpent = NoneLeft opening log
 IsUnready view opening log disk now Memory = Unit {0}
@@ -64,7 +63,7 @@ abbrev pub IsLaterStop : {D : Type 0} → (D → DiskView) → List Op → DeskV
 IsLaterStop view opening old new disk now DiskFault =
     Rose (view disk.inner).faults (view now.inner).faults × (IsDueAt new ⊎ ((op : Op) × IsHanded opening new.core.log op))
 IsLaterStop view opening old new disk now (Damaged offset) =
-    IsDueAt new × (IsKeptOn opening old.core.log (seen view disk) → (offset ≡ 2 ^ 64 - 1) × CannotGoOn opening new.core.log)
+    IsDueAt new × (IsKeptOn opening old.core.log (seen view disk) → ⊥)
 IsLaterStop view opening old new disk now (Full needed room) =
     IsFull (IsKeptOn opening old.core.log (seen view disk)) opening new.core.log (view now.inner).size needed room
 IsLaterStop view opening old new disk now EpochsSpent = IsDueAt new × NoneLeft opening new.core.log
@@ -100,7 +99,6 @@ pub record FirstLived {D : Type 0} (view : D → DiskView) (opening : List Op) (
   pub stays : DiskStays view disk now
   pub ends : (stands new.core ≡ false) ⊎ IsOver new
   pub some : new.core.log ≢ []
-  pub untried : AllUntried (records opening).apps
   pub opened : Tells (seen view disk) (λ bytes. Holds bytes opening)
   pub kept : (bytes : List ℕ) → (seen view disk).told ≡ Some bytes → StandsFor opening old.core → HeldFirst view opening new disk now bytes
 
@@ -110,7 +108,7 @@ pub record FirstStopped {D : Type 0} (view : D → DiskView) (opening : List Op)
   pub falls : now.falls ≡ disk.falls
   pub stays : DiskStays view disk now
   pub at_ease : IsAtEase now
-  pub held : new.core.log ≢ [] → AllUntried (records opening).apps × Tells (seen view disk) (λ bytes. Holds bytes opening)
+  pub held : new.core.log ≢ [] → Tells (seen view disk) (λ bytes. Holds bytes opening)
   pub found : (opening ≡ []) ⊎ Tells (seen view disk) (λ bytes. Holds bytes opening)
   pub quiet : new.core.log ≡ [] → IsQuiet (seen view disk) (seen view now)
   pub left : StandsFor opening old.core → SurvivesAll opening new.core.log (seen view disk) (seen view now) × SurvivesNow opening new.core.log (seen view disk) (seen view now)
@@ -124,9 +122,7 @@ FirstTo view opening old new disk now (Err stop) = FirstStopped view opening old
 -- why the first life had no store that it can begin over, and what its disk held, if it held a store
 abbrev pub IsUnfounded : {D : Type 0} → (D → DiskView) → List Op → Fused D → Fused D → Stop → Type 0
 IsUnfounded view opening disk now DiskFault = (opening ≡ []) × Rose (view disk.inner).faults (view now.inner).faults
-IsUnfounded view opening disk now (Damaged offset) =
-    ((opening ≡ []) × Tells (seen view disk) (IsNoStore offset))
-    ⊎ ((offset ≡ 2 ^ 64 - 1) × Tells (seen view disk) (λ bytes. Holds bytes opening) × (AllUntried (records opening).apps → ⊥))
+IsUnfounded view opening disk now (Damaged offset) = (opening ≡ []) × Tells (seen view disk) (IsNoStore offset)
 IsUnfounded view opening disk now (Full needed room) = ⊥
 IsUnfounded view opening disk now EpochsSpent = IsSpent (seen view disk) opening []
 IsUnfounded view opening disk now Memory = Unit {0}

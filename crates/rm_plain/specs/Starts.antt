@@ -8,7 +8,6 @@ use Rattle.rm_disk.specs.Disk.{DiskView, EachImage, Falls, IsQuiet, Tells}
 use Rattle.rm_disk.specs.Fuse.{Fused, FallsThrough}
 use Rattle.rm_formats.specs.Device.{Holds}
 use Rattle.rm_store.specs.Store.{StoreState, AreRead, IsSound, seen}
-use Rattle.rm_facts.specs.Submissions.{AllUntried}
 use Rattle.rm_core.specs.Seen.{StandsFor}
 use Rattle.rm_core.specs.Words.{stands}
 use Rattle.rm_desk.specs.View.{DeskView}
@@ -61,10 +60,9 @@ pub record IsGivenBack {D : Type 0} (view : D → DiskView) (old new : Fused D) 
   pub falls : new.falls ≡ old.falls
   pub at_ease : IsAtEase new
 
--- why no life can begin over a tree: an application has an attempt; or none has, and no epoch or no stamp is left
+-- why no life can begin over a tree: no epoch or no stamp is left
 abbrev pub IsRefusedBy : Records → Stop → Type 0
-IsRefusedBy tree (Damaged offset) = (offset ≡ 2 ^ 64 - 1) × (AllUntried tree.apps → ⊥)
-IsRefusedBy tree EpochsSpent = AllUntried tree.apps × ((2 ^ 24 ≤ tree.next_epoch) ⊎ (2 ^ 63 - 1 ≤ tree.stamp))
+IsRefusedBy tree EpochsSpent = (2 ^ 24 ≤ tree.next_epoch) ⊎ (2 ^ 63 - 1 ≤ tree.stamp)
 IsRefusedBy tree _ = ⊥
 
 -- where a life began over what is kept, and what was kept before it was on its disk, what is kept after it is there

@@ -11,7 +11,6 @@ use Rattle.rm_formats.specs.Device.{Holds}
 use Rattle.rm_model.specs.Lawful.{place_after, state_after}
 use Rattle.rm_store.specs.Causes.{IsWhy}
 use Rattle.rm_store.specs.declared.fault.StoreError.TheVariants as store
-use Rattle.rm_facts.specs.Submissions.{AllUntried}
 use Rattle.rm_desk.specs.Does.{IsHanded}
 use Rattle.rm_store.specs.Store.{seen}
 use Rattle.rm_plain.specs.Keeping.{IsFull}
@@ -22,21 +21,13 @@ use Rattle.rm_plain.specs.declared.halts.Stop.TheVariants.{DiskFault, Damaged, F
 abbrev pub IsNoStore : ℕ → List ℕ → Type 0
 IsNoStore offset bytes = IsWhy bytes (store.Damaged offset) ⊎ ((number : ℕ) × IsWhy bytes (store.Stray number offset))
 
--- what is kept has an attempt, which no life can begin over yet
-abbrev pub CannotGoOn : List Op → List Entry → Type 0
-CannotGoOn opening log = AllUntried (records (state_after opening log).kept).apps → ⊥
-
--- a start found no store that it can begin over, on a disk that tells its bytes: before the first life these are none, and no
--- opening list was read; or they held the opening list, and what is kept can't be begun over yet
+-- a start found no store, on a disk that tells its bytes: that was before the first life, and no opening list was read
 abbrev pub IsDamaged : DiskView → List Op → List Entry → ℕ → Type 0
-IsDamaged disk opening log offset =
-    Tells disk (λ bytes. ((log ≡ []) × (opening ≡ []) × IsNoStore offset bytes) ⊎ ((offset ≡ 2 ^ 64 - 1) × Holds bytes opening × CannotGoOn opening log))
+IsDamaged disk opening log offset = Tells disk (λ bytes. (log ≡ []) × (opening ≡ []) × IsNoStore offset bytes)
 
--- what is kept has no attempt, and no epoch or no stamp is left for one more life
+-- no epoch or no stamp is left for one more life over what is kept
 abbrev pub NoneLeft : List Op → List Entry → Type 0
-NoneLeft opening log =
-    AllUntried (records (state_after opening log).kept).apps
-    × ((2 ^ 24 ≤ (records (state_after opening log).kept).next_epoch) ⊎ (2 ^ 63 - 1 ≤ (records (state_after opening log).kept).stamp))
+NoneLeft opening log = (2 ^ 24 ≤ (records (state_after opening log).kept).next_epoch) ⊎ (2 ^ 63 - 1 ≤ (records (state_after opening log).kept).stamp)
 
 -- the disk held the opening list, and no epoch or no stamp is left for one more life
 abbrev pub IsSpent : DiskView → List Op → List Entry → Type 0
@@ -52,14 +43,14 @@ pub record IsDue (script : Script) (opening : List Op) (log : List Entry) : Type
   pub lives : (place_after script log).lives ≢ []
 
 -- why a run stopped, between the handed disk and the one given back. The disk inside the fuse counted a fault, while a life
--- was due or an operation was with the store; a life was due, and the store was none that it can begin over, or its epochs
+-- was due or an operation was with the store; a life was due, and the disk held no store, or its epochs
 -- or stamps were used up; the store was full; or memory ran out. Where nothing was logged and the store wasn't opened, there
 -- is no opening list.
 abbrev pub IsStoppedBy : {D : Type 0} → (D → DiskView) → Type 0 → Fused D → Fused D → List Op → List Entry → Stop → Type 0
 IsStoppedBy view due old new opening log DiskFault =
     Rose (view old.inner).faults (view new.inner).faults × (due ⊎ ((op : Op) × IsHanded opening log op)) × (log ≡ [] → opening ≡ [])
 IsStoppedBy view due old new opening log (Damaged offset) =
-    due × IsDamaged (seen view old) opening log offset × (log ≡ [] → (opening ≡ []) ⊎ (offset ≡ 2 ^ 64 - 1))
+    due × IsDamaged (seen view old) opening log offset × (log ≡ [] → opening ≡ [])
 IsStoppedBy view due old new opening log (Full needed room) = IsFull (IsTold (seen view old)) opening log (view new.inner).size needed room
 IsStoppedBy view due old new opening log EpochsSpent = due × IsSpent (seen view old) opening log
 IsStoppedBy view due old new opening log Memory = Unit {0}

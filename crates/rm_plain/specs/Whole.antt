@@ -6,7 +6,6 @@ use Rattle.rm_types.specs.Records.{records}
 use Rattle.rm_disk.specs.Disk.{DiskView, IsQuiet, Tells}
 use Rattle.rm_disk.specs.Fuse.{Fused}
 use Rattle.rm_formats.specs.Device.{Holds}
-use Rattle.rm_facts.specs.Submissions.{AllUntried}
 use Rattle.rm_plain.specs.Later.{IsDueAt}
 use Rattle.rm_plain.specs.Survives.{SurvivesAll, SurvivesNow}
 use Rattle.rm_store.specs.Store.{seen}
@@ -32,7 +31,7 @@ pub record AllLived {D : Type 0} (view : D → DiskView) (opening : List Op) (ol
   pub stays : DiskStays view disk now
   pub unarmed : now.armed ≡ None
   pub unblown : disk.blown ≡ false → now.blown ≡ false
-  pub opened : new.core.log ≢ [] → AllUntried (records opening).apps × Tells (seen view disk) (λ bytes. Holds bytes opening)
+  pub opened : new.core.log ≢ [] → Tells (seen view disk) (λ bytes. Holds bytes opening)
   pub found : (opening ≡ []) ⊎ Tells (seen view disk) (λ bytes. Holds bytes opening)
   pub ends : OnOk ended (Ends new)
   pub quiet : new.core.log ≡ [] → IsQuiet (seen view disk) (seen view now)

@@ -28,8 +28,8 @@ impl From<NoMemory> for Halt {
 pub enum Stop {
     /// The disk failed, and counted the fault.
     DiskFault,
-    /// The disk holds no store that a life can begin over: its fault is at this offset; 0 where it holds
-    /// another store than was kept on it, and 2^64 - 1 where an application has an attempt.
+    /// The disk holds no store: its fault is at this offset; 0 where it holds another store than was kept on
+    /// it.
     Damaged { offset: u64 },
     /// The next operation needs so many bytes behind those that are stored, and the disk has only this room.
     Full { needed: u64, room: u64 },

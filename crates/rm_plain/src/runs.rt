@@ -2,10 +2,10 @@ ghost use Rattle.std.specs.Prelude.{◌≡◌, ◌≢◌, ◌⊎◌, ◌++◌, �
 ghost use Rattle.rm_disk.specs.Disk.{IsQuiet, Tells};
 ghost use Rattle.rm_formats.specs.Device.{Holds};
 ghost use Rattle.rm_queues.specs.Rules.{KeepsRules};
+ghost use Rattle.rm_moves.specs.Messages.{KeepsLimits};
 ghost use Rattle.rm_model.specs.Downs.{AllGoDownAtRest};
 ghost use Rattle.rm_model.specs.Lawful.{Lawful, IsDone};
 ghost use Rattle.rm_model.specs.State.{opening_state};
-ghost use Rattle.rm_facts.specs.Submissions.{AllUntried};
 ghost use Rattle.rm_core.specs.Words.{new_manager, stands};
 ghost use Rattle.rm_plain.specs.Goes.{IsOver};
 ghost use Rattle.rm_types.specs.Records.{records};
@@ -158,8 +158,7 @@ fn all_lives<D: Disk>(alloc: Global, d: &mut Desk, disk: Fuse<D>) -> First<D>
 ///
 /// The log is lawful whatever the disk does, and so it is where the run stops before its script's end:
 /// - `DiskFault`: the disk inside the fuse counted a fault;
-/// - `Damaged`: the disk held no store, with the offset at which it is damaged, or, with the largest offset,
-///   one that no life can begin over yet, since an application in it has an attempt;
+/// - `Damaged`: the disk held no store, with the offset at which it is damaged;
 /// - `Full`: the operation that awaits the store needs so many bytes, and so many are left;
 /// - `EpochsSpent`: no epoch, or no stamp, is left for one more life;
 /// - `Memory`: no memory was found.
@@ -180,6 +179,7 @@ pub fn run_script<D: Disk>(
 ) -> Run<D>
     requires script { CanRun script }
     requires queues { KeepsRules settings }
+    requires limits { KeepsLimits settings }
     requires unarmed { disk.armed ≡ None }
     ensures lawful { Lawful settings script result.opening result.log }
     ensures done { IsOk result.ended → IsDone settings script result.opening result.log }
@@ -191,7 +191,7 @@ pub fn run_script<D: Disk>(
     ensures unblown { disk.blown ≡ false → result.disk.blown ≡ false }
     ensures idle { script.lives ≡ [] → (result.log ≡ []) × (result.disk ≡ disk) × IsOk result.ended }
     ensures begun { script.lives ≢ [] → OnOk result.ended (result.log ≢ []) }
-    ensures opening { result.log ≢ [] → AllUntried (records result.opening).apps × Tells (seen D.view disk) (λ bytes. Holds bytes result.opening) }
+    ensures opening { result.log ≢ [] → Tells (seen D.view disk) (λ bytes. Holds bytes result.opening) }
     ensures found { (result.opening ≡ []) ⊎ Tells (seen D.view disk) (λ bytes. Holds bytes result.opening) }
     ensures quiet { result.log ≡ [] → IsQuiet (seen D.view disk) (seen D.view result.disk) }
     ensures images { SurvivesAll result.opening result.log (seen D.view disk) (seen D.view result.disk) }

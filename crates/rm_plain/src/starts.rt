@@ -5,7 +5,6 @@ ghost use Rattle.rm_formats.specs.Device.{Holds};
 ghost use Rattle.rm_store.specs.Errors.{IsOpenError};
 ghost use Rattle.rm_store.specs.Store.{IsSound as IsStoreSound, seen};
 ghost use Rattle.rm_core.specs.Adds.{AmountsTo, CanBeginOver};
-ghost use Rattle.rm_facts.specs.Submissions.{AllUntried};
 ghost use Rattle.rm_core.specs.Words.{stands};
 ghost use Rattle.rm_types.specs.declared.operations.Op.{Op as AnyOp};
 ghost use Rattle.rm_core.specs.Seen.{StandsFor};
@@ -27,9 +26,6 @@ use rm_store::{OpenFail, Store, StoreError};
 use rm_tree::Tree;
 use rm_types::{Items, Op};
 use std::alloc::Global;
-
-/// The offset by which a store is refused over which no life can begin yet.
-const CANNOT_GO_ON: u64 = u64::MAX;
 
 /// Why no store was opened, and its disk.
 #[derive(Drop)]
@@ -81,31 +77,12 @@ pub(crate) fn open<D: Disk>(
     }
 }
 
-/// Whether no application of a tree has an attempt.
-fn are_untried(tree: &Tree) -> bool
-    ensures { IsTrue result ↔ AllUntried tree.now.apps }
-{
-    'records: for place in 0..tree.len() {
-        if !tree.at(place).attempts.is_empty() {
-            return false;
-        }
-    }
-    true
-}
-
-/// Whether a life can begin over a tree: so far no application may have an attempt, and an epoch and a stamp must
-/// be left.
+/// Whether a life can begin over a tree: an epoch and a stamp must be left.
 pub(crate) fn can_begin(tree: &Tree) -> Result<(), Stop>
     ensures epoch { OnOk result (tree.now.next_epoch < 2 ^ 24) }
     ensures stamp { OnOk result (tree.now.stamp < 2 ^ 63 - 1) }
-    ensures untried { OnOk result (AllUntried tree.now.apps) }
     ensures refused { IfErr result (IsRefusedBy tree.now) }
 {
-    if !are_untried(tree) {
-        return Err(Stop::Damaged {
-            offset: CANNOT_GO_ON,
-        });
-    }
     if tree.next_epoch() >= 1 << 24 || tree.stamp() >= (1 << 63) - 1 {
         return Err(Stop::EpochsSpent);
     }

@@ -1,31 +1,28 @@
 -- Lines put together to a draft of a script, which is what was written so far.
-use Rattle.std.proofs.Common.{◌≡◌, ℕ, ◌<◌, Bool, true, false, not, ◌||◌, List, [], ◌∷◌, ◌++◌, length, map, Some, refl, sym, ap, subst, ◌∙◌, append_assoc, arith}
+use Rattle.std.proofs.Common.{◌≡◌, ℕ, ◌<◌, Bool, true, false, not, List, [], ◌∷◌, ◌++◌, length, map, Some, refl, sym, ap, ◌∙◌, append_assoc, arith}
 use Rattle.std.specs.Prelude.{codes, All}
 use Rattle.std.specs.List.{flat_map, AllByRecursion}
-use Rattle.std.proofs.lemmas.Option.{same_Some}
+use Rattle.std.proofs.lemmas.Bool.{and_parts}
+use Rattle.std.proofs.lemmas.Option.{cond_some, same_Some}
 use Rattle.std.proofs.lemmas.List.{append-nil, map-append}
 use Rattle.std.proofs.lemmas.List.Concat.{flat_map-append}
 use Rattle.std.proofs.lemmas.List.Elements.{All-nil, All-push}
 use Rattle.rm_types.specs.Ranges.{IsWithin}
 use Rattle.rm_types.specs.Lists.{is_nil}
 use Rattle.rm_types.specs.declared.messages.Message.{Message}
-use Rattle.rm_types.specs.declared.scripts.Close.TheVariants as closes
 use Rattle.rm_types.specs.declared.scripts.Life.{Life}
 use Rattle.rm_types.specs.declared.scripts.Segment.{Segment}
-use Rattle.rm_script.specs.declared.kinds.Kind.TheVariants.{EachCrash}
 use Rattle.rm_script.specs.declared.lines.Line.{Line}
 use Rattle.rm_script.specs.declared.lines.Line.TheVariants.{Skipped, Start, Settle, Crash, Deliver, Lose}
 use Rattle.rm_script.specs.declared.drafts.Living.{Living}
 use Rattle.rm_script.specs.declared.drafts.Draft.{Draft}
 use Rattle.rm_script.specs.declared.drafts.Draft.TheVariants as drafts
-use Rattle.rm_script.specs.Built.{is_built, registering, names_in, Once}
 use Rattle.rm_script.specs.Written.{Sent, Delivered, Lost, WrittenLife, delivered, settled_segment, life_of}
 use Rattle.rm_script.specs.Spelling.{sent_text, start_text, settled_lines, life_lines, script_lines}
 use Rattle.rm_script.specs.Scripts.{IsRead, IsSent, FollowsSettle, IsCrash, IsLife, Crashes}
 use Rattle.rm_script.specs.Limits.{greatest_stamp}
-use Rattle.rm_script.specs.Reading.{settled, is_early, crashed, crash_life, names_of, is_again, told, line_text, with_start, with_settle, with_crash, with_message, with_loss, with_line, with_lines, IsCrashLine, IsMark}
-use Rattle.rm_script.proofs.Labels.{bound, not_chosen}
-use Rattle.rm_script.proofs.Registered.{once_none, unless_map, unless_fails, names_in-segment, names_in-settled, once_told}
+use Rattle.rm_script.specs.Reading.{settled, follows_settle, crashed, crash_life, told, line_text, with_start, with_settle, with_crash, with_message, with_loss, with_line, with_lines, IsCrashLine, IsLine}
+use Rattle.rm_script.proofs.Labels.{bound}
 
 -- a script as it is written, as far as its lines go: the lives that crashed, and the life that goes on
 pub data Written : Type 0 where
@@ -56,7 +53,6 @@ pub record IsGoing (lives : List WrittenLife) (stamp : ℕ) (done : List (List S
   pub stamp_fits : IsWithin 1 greatest_stamp stamp
   pub done_fit : All (All IsSent) done
   pub sent_fit : All IsSent sent
-  pub once : Once (names_of (living_of stamp done sent))
 
 -- what is written so far may stand in a script
 abbrev pub Fits : Written → Type 0
@@ -108,7 +104,7 @@ grow_start : (before : Written) (stamp : ℕ) (next : Draft) → with_start (dra
 grow_start (Between lives) stamp next e fits fine = record {
   after = Going lives stamp [] [];
   is = sym (same_Some (draft_of (Going lives stamp [] [])) next e);
-  fits = record { lives_fit = fits; stamp_fits = fine; done_fit = All-nil (All IsSent); sent_fit = All-nil IsSent; once = once_none };
+  fits = record { lives_fit = fits; stamp_fits = fine; done_fit = All-nil (All IsSent); sent_fit = All-nil IsSent };
   lines = refl;
 }
 grow_start (Going lives start done sent) stamp next e fits fine = absurd cc
@@ -127,42 +123,39 @@ grow_settle (Going lives stamp done sent) next e fits = record {
     stamp_fits = fits.stamp_fits;
     done_fit = All-push (All IsSent) done sent fits.done_fit fits.sent_fit;
     sent_fit = All-nil IsSent;
-    once = subst Once (sym (append-nil (names_in (map settled_segment (done ++ sent ∷ []))) ∙ names_in-settled done sent)) fits.once;
   };
   lines = settled_text (script_lines lives) (start_text stamp ∷ []) done sent;
 }
-
-neither : (b c : Bool) → (b || c) ≡ false → (b ≡ false) × (c ≡ false)
-neither true c e = absurd cc
-neither false c e = (refl, e)
 
 pub nothing_sent : (sent : List Sent) → not (is_nil sent) ≡ false → sent ≡ []
 nothing_sent [] e = refl
 nothing_sent (one ∷ sent) e = absurd cc
 
-some_settled : (done : List (List Sent)) → is_nil (map settled_segment done) ≡ false → 0 < length done
+some_settled : (done : List (List Sent)) → not (is_nil (map settled_segment done)) ≡ true → 0 < length done
 some_settled [] e = absurd cc
 some_settled (sent ∷ done) e = omega arith
 
--- nothing is sent behind a segment that settled
-follows : (done : List (List Sent)) (sent : List Sent) → (not (is_nil sent) || is_nil (map settled_segment done)) ≡ false → FollowsSettle done sent
-follows done sent e =
-    let tests = neither (not (is_nil sent)) (is_nil (map settled_segment done)) e in
-    record { bare = nothing_sent sent tests.0; after_settle = some_settled done tests.1 }
+failing : (b : Bool) → not b ≡ true → b ≡ false
+failing true e = absurd cc
+failing false e = refl
 
-crashed_fit : (lives : List WrittenLife) (stamp : ℕ) (done : List (List Sent)) (sent : List Sent) (calls image : ℕ) → IsGoing lives stamp done sent → is_early (living_of stamp done sent) ≡ false
+-- nothing is sent behind a segment that settled
+follows : (stamp : ℕ) (done : List (List Sent)) (sent : List Sent) → follows_settle (living_of stamp done sent) ≡ true → FollowsSettle done sent
+follows stamp done sent e =
+    let tests = and_parts (not (not (is_nil sent))) (not (is_nil (map settled_segment done))) e in
+    record { bare = nothing_sent sent (failing (not (is_nil sent)) tests.0); after_settle = some_settled done tests.1 }
+
+crashed_fit : (lives : List WrittenLife) (stamp : ℕ) (done : List (List Sent)) (sent : List Sent) (calls image : ℕ) → IsGoing lives stamp done sent → FollowsSettle done sent
     → IsCrashLine calls image → AreCrashed (lives ++ crashed_life stamp done sent calls image ∷ [])
-crashed_fit lives stamp done sent calls image fits early fine =
+crashed_fit lives stamp done sent calls image fits place fine =
     let life : WrittenLife = crashed_life stamp done sent calls image in
     let crash : IsCrash life (record { sent = sent; calls = calls; image = image }) = record {
       sent = fits.sent_fit;
       calls = fine.calls_fit;
       image = fine.image_fits;
-      built = unless_map {Q = FollowsSettle done sent} (is_built EachCrash) (follows done sent) (unless_fails (is_built EachCrash) (not (is_nil sent) || is_nil (map settled_segment done)) early);
+      place = place;
     } in
-    let once : Once (names_in (life_of life).segments) =
-    subst Once (sym (names_in-segment (map settled_segment done) (record { messages = flat_map delivered sent; close = closes.Crash calls image }))) fits.once in
-    let is : IsLife life = record { stamp = fits.stamp_fits; settled = fits.done_fit; crash = crash; once = once } in
+    let is : IsLife life = record { stamp = fits.stamp_fits; settled = fits.done_fit; crash = crash } in
     record { each = All-push IsLife lives life fits.lives_fit.each is; crash = All-push Crashes lives life fits.lives_fit.crash refl }
 
 pub lines_of-push : (lives : List WrittenLife) (life : WrittenLife) → script_lines (lives ++ life ∷ []) ≡ script_lines lives ++ life_lines life
@@ -178,13 +171,13 @@ grow_crash (Going lives stamp done sent) calls image next e fits fine =
     let living : Living = living_of stamp done sent in
     let life : WrittenLife = crashed_life stamp done sent calls image in
     let ended = bound (crash_life living calls image) (λ (l : Life). Some (drafts.Between (map life_of lives ++ l ∷ []))) next e in
-    let parts = not_chosen (is_early living) (Some (crashed living calls image)) ended.0 ended.1 in
-    let life-is : life_of life ≡ ended.0 = same_Some (crashed living calls image) ended.0 parts.1 in
+    let parts = cond_some (follows_settle living) (crashed living calls image) ended.0 ended.1 in
+    let life-is : life_of life ≡ ended.0 = parts.1 in
     let next-is : drafts.Between (map life_of lives ++ ended.0 ∷ []) ≡ next = same_Some (drafts.Between (map life_of lives ++ ended.0 ∷ [])) next ended.2 in
     record {
       after = Between (lives ++ life ∷ []);
       is = sym next-is ∙ ap (λ (l : Life). drafts.Between (map life_of lives ++ l ∷ [])) (sym life-is) ∙ crashed_is lives life;
-      fits = crashed_fit lives stamp done sent calls image fits parts.0 fine;
+      fits = crashed_fit lives stamp done sent calls image fits (follows stamp done sent parts.0) fine;
       lines = lines_of-push lives life
           ∙ crashed_lines (script_lines lives) (start_text stamp ∷ flat_map settled_lines done) (map sent_text sent) (line_text (Crash calls image) ∷ []);
     }
@@ -195,58 +188,40 @@ sent_lines lives front sent one = simp (map-append, append_assoc)
 grow_message : (before : Written) (message : Message) (next : Draft) → with_message (draft_of before) message ≡ Some next → Fits before → IsRead message
     → Grown before (sent_text (Delivered message) ∷ []) next
 grow_message (Between lives) message next e fits fine = absurd cc
-grow_message (Going lives stamp done sent) message next e fits fine =
-    let living : Living = living_of stamp done sent in
-    let parts = not_chosen (is_again living message) (Some (drafts.Living (map life_of lives) (told living message))) next e in
-    let same : flat_map delivered sent ++ message ∷ [] ≡ flat_map delivered (sent ++ Delivered message ∷ []) = sym (flat_map-append delivered sent (Delivered message ∷ [])) in
-    record {
-      after = Going lives stamp done (sent ++ Delivered message ∷ []);
-      is = sym (same_Some (drafts.Living (map life_of lives) (told living message)) next parts.1) ∙ delivered_is lives stamp done sent message;
-      fits = record {
-        lives_fit = fits.lives_fit;
-        stamp_fits = fits.stamp_fits;
-        done_fit = fits.done_fit;
-        sent_fit = All-push IsSent sent (Delivered message) fits.sent_fit fine;
-        once = subst (λ (ms : List Message). Once (names_in (map settled_segment done) ++ flat_map registering ms)) same (once_told living message fits.once parts.0);
-      };
-      lines = sent_lines (script_lines lives) (start_text stamp ∷ flat_map settled_lines done) sent (Delivered message);
-    }
+grow_message (Going lives stamp done sent) message next e fits fine = record {
+  after = Going lives stamp done (sent ++ Delivered message ∷ []);
+  is = sym (same_Some (drafts.Living (map life_of lives) (told (living_of stamp done sent) message)) next e) ∙ delivered_is lives stamp done sent message;
+  fits = record { lives_fit = fits.lives_fit; stamp_fits = fits.stamp_fits; done_fit = fits.done_fit; sent_fit = All-push IsSent sent (Delivered message) fits.sent_fit fine };
+  lines = sent_lines (script_lines lives) (start_text stamp ∷ flat_map settled_lines done) sent (Delivered message);
+}
 
 grow_loss : (before : Written) (message : Message) (next : Draft) → with_loss (draft_of before) ≡ Some next → Fits before → IsRead message → Grown before (sent_text (Lost message) ∷ []) next
 grow_loss (Between lives) message next e fits fine = absurd cc
-grow_loss (Going lives stamp done sent) message next e fits fine =
-    let same : flat_map delivered sent ≡ flat_map delivered (sent ++ Lost message ∷ []) = sym (flat_map-append delivered sent (Lost message ∷ []) ∙ append-nil (flat_map delivered sent)) in
-    record {
-      after = Going lives stamp done (sent ++ Lost message ∷ []);
-      is = sym (same_Some (drafts.Living (map life_of lives) (record (living_of stamp done sent) { is_sending = true })) next e) ∙ lost_is lives stamp done sent message;
-      fits = record {
-        lives_fit = fits.lives_fit;
-        stamp_fits = fits.stamp_fits;
-        done_fit = fits.done_fit;
-        sent_fit = All-push IsSent sent (Lost message) fits.sent_fit fine;
-        once = subst (λ (ms : List Message). Once (names_in (map settled_segment done) ++ flat_map registering ms)) same fits.once;
-      };
-      lines = sent_lines (script_lines lives) (start_text stamp ∷ flat_map settled_lines done) sent (Lost message);
-    }
+grow_loss (Going lives stamp done sent) message next e fits fine = record {
+  after = Going lives stamp done (sent ++ Lost message ∷ []);
+  is = sym (same_Some (drafts.Living (map life_of lives) (record (living_of stamp done sent) { is_sending = true })) next e) ∙ lost_is lives stamp done sent message;
+  fits = record { lives_fit = fits.lives_fit; stamp_fits = fits.stamp_fits; done_fit = fits.done_fit; sent_fit = All-push IsSent sent (Lost message) fits.sent_fit fine };
+  lines = sent_lines (script_lines lives) (start_text stamp ∷ flat_map settled_lines done) sent (Lost message);
+}
 
 -- a line more
-grow : (before : Written) (line : Line) (next : Draft) → with_line (draft_of before) line ≡ Some next → Fits before → IsMark line → Grown before (line_text line ∷ []) next
-grow before Skipped next e fits mark = absurd mark
-grow before (Start stamp) next e fits mark = grow_start before stamp next e fits mark
-grow before Settle next e fits mark = grow_settle before next e fits
-grow before (Crash calls image) next e fits mark = grow_crash before calls image next e fits mark
-grow before (Deliver message) next e fits mark = grow_message before message next e fits mark
-grow before (Lose message) next e fits mark = grow_loss before message next e fits mark
+grow : (before : Written) (line : Line) (next : Draft) → with_line (draft_of before) line ≡ Some next → Fits before → IsLine line → Grown before (line_text line ∷ []) next
+grow before Skipped next e fits fine = absurd fine
+grow before (Start stamp) next e fits fine = grow_start before stamp next e fits fine
+grow before Settle next e fits fine = grow_settle before next e fits
+grow before (Crash calls image) next e fits fine = grow_crash before calls image next e fits fine
+grow before (Deliver message) next e fits fine = grow_message before message next e fits fine
+grow before (Lose message) next e fits fine = grow_loss before message next e fits fine
 
 -- lines one after the other
-pub with_lines_are : (before : Written) (lines : List Line) (last : Draft) → with_lines (draft_of before) lines ≡ Some last → Fits before → AllByRecursion IsMark lines
+pub with_lines_are : (before : Written) (lines : List Line) (last : Draft) → with_lines (draft_of before) lines ≡ Some last → Fits before → AllByRecursion IsLine lines
     → Grown before (map line_text lines) last
-with_lines_are before [] last e fits marks = record { after = before; is = sym (same_Some (draft_of before) last e); fits = fits; lines = sym (append-nil (written_lines before)) }
-with_lines_are before (line ∷ lines) last e fits marks =
+with_lines_are before [] last e fits fit = record { after = before; is = sym (same_Some (draft_of before) last e); fits = fits; lines = sym (append-nil (written_lines before)) }
+with_lines_are before (line ∷ lines) last e fits fit =
     let first = bound (with_line (draft_of before) line) (λ next. with_lines next lines) last e in
-    let one = grow before line first.0 first.1 fits marks.0 in
+    let one = grow before line first.0 first.1 fits fit.0 in
     let more : with_lines (draft_of one.after) lines ≡ Some last = ap (λ (d : Draft). with_lines d lines) (sym one.is) ∙ first.2 in
-    let rest = with_lines_are one.after lines last more one.fits marks.1 in
+    let rest = with_lines_are one.after lines last more one.fits fit.1 in
     record {
       after = rest.after;
       is = rest.is;

@@ -8,7 +8,6 @@ pub mod Asks
 pub mod Ranges
 pub mod LineWords
 pub mod OneLine
-pub mod Registered
 pub mod Drafting
 pub mod Running
 pub mod Standing

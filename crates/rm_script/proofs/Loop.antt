@@ -16,10 +16,10 @@ use Rattle.rm_script.specs.declared.lines.Line.TheVariants.{Skipped}
 use Rattle.rm_script.specs.Limits.{most_bytes, most_lines}
 use Rattle.rm_script.specs.Lines.{lines_of, ended, size_of_first, is_skipped, kept_lines, IsLineText}
 use Rattle.rm_script.specs.Results.{◌>>=◌, Fails, FindsNone, at_line}
-use Rattle.rm_script.specs.Reading.{line_text, with_line, with_lines, no_lines, script_of_draft, IsMark, IsMarkText, Takes, Reads, Tells}
+use Rattle.rm_script.specs.Reading.{line_text, with_line, with_lines, no_lines, script_of_draft, IsLine, IsTextOf, Takes, Reads, Tells}
 use Rattle.rm_script.proofs.Parts.{heads}
 use Rattle.rm_script.proofs.Labels.{bound}
-use Rattle.rm_script.proofs.OneLine.{is_told, mark_said, none_said, says}
+use Rattle.rm_script.proofs.OneLine.{is_told, text_said, none_said, says}
 use Rattle.rm_script.proofs.Running.{with_lines-append, one_lines}
 
 -- all of a list with one more at its end
@@ -87,10 +87,10 @@ is_next count bytes rest draft text after is some lines cut =
 -- the lines of the texts so far and one more
 
 -- a text that says a line more
-kept_more : (texts : List (List ℕ)) (text : List ℕ) (lines : List Line) (line : Line) → kept_lines texts ≡ map line_text lines → IsMarkText text line
+kept_more : (texts : List (List ℕ)) (text : List ℕ) (lines : List Line) (line : Line) → kept_lines texts ≡ map line_text lines → IsTextOf text line
     → kept_lines (texts ++ text ∷ []) ≡ map line_text (lines ++ line ∷ [])
 kept_more texts text lines line so_far is =
-    let told : is_skipped text ≡ false = ap is_skipped is.same ∙ is_told line is.mark in
+    let told : is_skipped text ≡ false = ap is_skipped is.same ∙ is_told line is.fits in
     filter-append (λ one. not (is_skipped one)) texts (text ∷ [])
     ∙ ap (λ (b : Bool). kept_lines texts ++ cond (not b) (text ∷ []) []) told
     ∙ ap (λ (ls : List (List ℕ)). ls ++ text ∷ []) so_far
@@ -132,18 +132,18 @@ goes_on count bytes rest draft next text after is line few size takes = record {
           size = omega (arith, line.size);
           each = each;
           lines = is.reads.lines;
-          marks = is.reads.marks;
+          fit = is.reads.fit;
           texts = ap kept_lines line.taken ∙ kept_same (take count (lines_of bytes)) text e ∙ is.reads.texts;
           draft_is = is.reads.draft_is ∙ ap Some same;
         }
     by false e =
-        let said = mark_said text takes.line e takes.is.says in
+        let said = text_said text takes.line e takes.is.says in
         record {
           few = few;
           size = omega (arith, line.size);
           each = each;
           lines = is.reads.lines ++ takes.line ∷ [];
-          marks = All-push IsMark is.reads.lines takes.line is.reads.marks said.mark;
+          fit = All-push IsLine is.reads.lines takes.line is.reads.fit said.fits;
           texts = ap kept_lines line.taken ∙ kept_more (take count (lines_of bytes)) text is.reads.lines takes.line is.reads.texts said;
           draft_is = run_more draft next is.reads.lines takes.line is.reads.draft_is takes.next_is;
         }
@@ -200,9 +200,9 @@ took count bytes rest draft next text after is line reads = by (is_skipped text)
         sym (filter-append (λ one. not (is_skipped one)) (take count (lines_of bytes)) (text ∷ []) ∙ ap (λ (b : Bool). kept_lines (take count (lines_of bytes)) ++ cond (not b) (text ∷ []) []) e)
         ∙ ap kept_lines (sym line.taken) ∙ reads.texts in
         let ends = end_with (kept_lines (take count (lines_of bytes))) text reads.lines whole in
-        let marks : AllByRecursion IsMark (ends.before ++ ends.last ∷ []) = subst (AllByRecursion IsMark) {y = ends.before ++ ends.last ∷ []} ends.apart (recursion_from_All IsMark reads.lines reads.marks) in
+        let fit : AllByRecursion IsLine (ends.before ++ ends.last ∷ []) = subst (AllByRecursion IsLine) {y = ends.before ++ ends.last ∷ []} ends.apart (recursion_from_All IsLine reads.lines reads.fit) in
         let before : ends.before ≡ is.reads.lines =
-        one_lines ends.before is.reads.lines (recursion_front IsMark ends.before ends.last marks) (recursion_from_All IsMark is.reads.lines is.reads.marks) (sym ends.front_is ∙ is.reads.texts) in
+        one_lines ends.before is.reads.lines (recursion_front IsLine ends.before ends.last fit) (recursion_from_All IsLine is.reads.lines is.reads.fit) (sym ends.front_is ∙ is.reads.texts) in
         let run : (with_lines no_lines ends.before >>= λ d. with_lines d (ends.last ∷ [])) ≡ Some next =
         sym (with_lines-append no_lines ends.before (ends.last ∷ [])) ∙ ap (with_lines no_lines) (sym ends.apart) ∙ reads.draft_is in
         let at : (with_line draft ends.last >>= λ d. Some d) ≡ Some next =
@@ -211,7 +211,7 @@ took count bytes rest draft next text after is line reads = by (is_skipped text)
           made.0,
           record {
             line = ends.last;
-            is = record { fine = fine; says = says text ends.last (record { same = ends.text_is; mark = recursion_last IsMark ends.before ends.last marks }) };
+            is = record { fine = fine; says = says text ends.last (record { same = ends.text_is; fits = recursion_last IsLine ends.before ends.last fit }) };
             next_is = made.1;
           },
         )

@@ -1,6 +1,6 @@
 -- A line by itself: what its text says, and that no other line has it.
-use Rattle.std.proofs.Common.{◌≡◌, ℕ, ◌^◌, ◌<◌, Bool, true, false, cond, leb, List, [], ◌∷◌, Result, Ok, Err, refl, sym, ap, subst, ◌∙◌, arith}
-use Rattle.std.specs.Prelude.{codes, IsErrAnd, MatchResult}
+use Rattle.std.proofs.Common.{◌≡◌, ℕ, ◌^◌, ◌<◌, Bool, true, false, cond, leb, List, [], ◌∷◌, Result, Ok, Err, refl, sym, ap, ◌∙◌, arith}
+use Rattle.std.specs.Prelude.{codes}
 use Rattle.std.specs.Fmt.{decimal}
 use Rattle.std.specs.List.{list_all, AllByRecursion}
 use Rattle.std.specs.Str.{bytes_eq}
@@ -22,8 +22,8 @@ use Rattle.rm_script.specs.declared.lines.Line.{Line}
 use Rattle.rm_script.specs.declared.lines.Line.TheVariants.{Skipped, Start, Settle, Crash, Deliver, Lose}
 use Rattle.rm_script.specs.Lines.{is_skipped, IsLineText}
 use Rattle.rm_script.specs.Messages.{IsMessage}
-use Rattle.rm_script.specs.Reading.{line_words, line_text, IsLine, IsBuiltLine, IsMark, IsMarkText, Says, IsLineAs, with_line, Takes}
-use Rattle.rm_script.specs.Results.{Finds, FindsNone, Gives, IsOf}
+use Rattle.rm_script.specs.Reading.{line_words, line_text, IsLine, IsTextOf, Says, IsLineAs, with_line, Takes}
+use Rattle.rm_script.specs.Results.{Finds, Gives, IsOf}
 use Rattle.rm_script.specs.Words.{words_of}
 use Rattle.rm_script.proofs.LineWords.{spaced-words_of, words_back}
 use Rattle.rm_script.proofs.Parts.{heads, not_some}
@@ -80,64 +80,46 @@ same_line (Lose message) (Lose message') k is is' e = ap Lose (same_message mess
 same_line one other k is is' e = absurd (omega (arith, k))
 
 -- two lines with one text are one
-same_text : (one other : Line) → IsLine one → IsLine other → line_text one ≡ line_text other → one ≡ other
-same_text one other is is' e =
+pub one_line : (one other : Line) → IsLine one → IsLine other → line_text one ≡ line_text other → one ≡ other
+one_line one other is is' e =
     let words : line_words one ≡ line_words other = sym (words_back one is) ∙ ap words_of e ∙ words_back other is' in
     same_line one other (sym (kind_words one) ∙ ap kind_of words ∙ kind_words other) is is' words
 
-pub line_of_mark : (line : Line) → IsMark line → IsLine line
-line_of_mark (Deliver message) mark = mark.values
-line_of_mark (Lose message) mark = mark.values
-line_of_mark line mark = mark
-
-built_of_mark : (line : Line) → IsMark line → IsBuiltLine line
-built_of_mark (Deliver message) mark = mark.built
-built_of_mark (Lose message) mark = mark.built
-built_of_mark line mark = tt
-
-marked : (line : Line) → IsLine line → IsBuiltLine line → IsMark line
-marked (Deliver message) is built = record { values = is; built = built }
-marked (Lose message) is built = record { values = is; built = built }
-marked line is built = is
-
-pub one_line : (one other : Line) → IsMark one → IsMark other → line_text one ≡ line_text other → one ≡ other
-one_line one other mark mark' e = same_text one other (line_of_mark one mark) (line_of_mark other mark') e
-
 -- the text says something
-pub is_told : (line : Line) → IsMark line → is_skipped (line_text line) ≡ false
-is_told Skipped mark = absurd mark
-is_told (Start stamp) mark = refl
-is_told Settle mark = refl
-is_told (Crash calls image) mark = refl
-is_told (Deliver (Client user ask)) mark = refl
-is_told (Deliver (Master attempt ask)) mark = refl
-is_told (Deliver (Node node ask)) mark = refl
-is_told (Deliver (Clock (Tick time))) mark = refl
-is_told (Deliver (Clock (ExpireNode node))) mark = refl
-is_told (Deliver (Clock (ExpireMaster attempt))) mark = refl
-is_told (Lose (Client user ask)) mark = refl
-is_told (Lose (Master attempt ask)) mark = refl
-is_told (Lose (Node node ask)) mark = refl
-is_told (Lose (Clock ask)) mark = refl
+pub is_told : (line : Line) → IsLine line → is_skipped (line_text line) ≡ false
+is_told Skipped is = absurd is
+is_told (Start stamp) is = refl
+is_told Settle is = refl
+is_told (Crash calls image) is = refl
+is_told (Deliver (Client user ask)) is = refl
+is_told (Deliver (Master attempt ask)) is = refl
+is_told (Deliver (Node node ask)) is = refl
+is_told (Deliver (Clock (Tick time))) is = refl
+is_told (Deliver (Clock (ExpireNode node))) is = refl
+is_told (Deliver (Clock (ExpireMaster attempt))) is = refl
+is_told (Lose (Client user ask)) is = refl
+is_told (Lose (Master attempt ask)) is = refl
+is_told (Lose (Node node ask)) is = refl
+is_told (Lose (Clock ask)) is = refl
 
 -- ---- what a text says
 
-pub says : (text : List ℕ) (line : Line) → IsMarkText text line → Says text line
-says text Skipped is = absurd is.mark
+pub says : (text : List ℕ) (line : Line) → IsTextOf text line → Says text line
+says text Skipped is = absurd is.fits
 says text line is = is
 
 -- a text that isn't skipped says a line that says something
-pub mark_said : (text : List ℕ) (line : Line) → is_skipped text ≡ false → Says text line → IsMarkText text line
-mark_said text Skipped told is = absurd (false≢true (sym told ∙ is))
-mark_said text line told is = is
+pub text_said : (text : List ℕ) (line : Line) → is_skipped text ≡ false → Says text line → IsTextOf text line
+text_said text Skipped told is = absurd (false≢true (sym told ∙ is))
+text_said text line told is = is
 
-mark_told : (text : List ℕ) (line : Line) → IsMarkText text line → is_skipped text ≡ false
-mark_told text line is = ap is_skipped is.same ∙ is_told line is.mark
+text_told : (text : List ℕ) (line : Line) → IsTextOf text line → is_skipped text ≡ false
+text_told text line is = ap is_skipped is.same ∙ is_told line is.fits
 
 -- and one that is skipped says nothing
 pub none_said : (text : List ℕ) (line : Line) → is_skipped text ≡ true → Says text line → line ≡ Skipped
 none_said text Skipped skipped is = refl
-none_said text line skipped is = absurd (false≢true (sym (mark_told text line is) ∙ skipped))
+none_said text line skipped is = absurd (false≢true (sym (text_told text line is) ∙ skipped))
 
 -- it says one line
 one_says : (text : List ℕ) (one other : Line) → Says text one → Says text other → one ≡ other
@@ -146,9 +128,9 @@ one_says text one other is again = by (is_skipped text) refl
     by : (b : Bool) → is_skipped text ≡ b → one ≡ other
     by true e = none_said text one e is ∙ sym (none_said text other e again)
     by false e =
-        let first = mark_said text one e is in
-        let second = mark_said text other e again in
-        one_line one other first.mark second.mark (sym first.same ∙ second.same)
+        let first = text_said text one e is in
+        let second = text_said text other e again in
+        one_line one other first.fits second.fits (sym first.same ∙ second.same)
 
 -- what a draft gives with the line is what it gives with the text
 pub line_taken : (answer : Result Draft LineError) (draft : Draft) (line : Line) (text : List ℕ) → IsLineAs text line → Gives answer (with_line draft line) → Finds answer (Takes draft text)
@@ -176,29 +158,12 @@ is_printed text fine = printable_test text (recursion_from_All (IsWithin 0x20 0x
 
 -- ---- what is found by the words of a text is what the text says
 
-line_found : (line : Line) (text : List ℕ) → IsLineText text → IsOf line_words IsLine (words_of text) line → IsBuiltLine line → IsLineAs text line
-line_found line text fine is built =
-    record { fine = fine; says = says text line (record { same = sym (spaced-words_of text) ∙ ap spaced is.same; mark = marked line is.fits built }) }
+line_found : (line : Line) (text : List ℕ) → IsLineText text → IsOf line_words IsLine (words_of text) line → IsLineAs text line
+line_found line text fine is = record { fine = fine; says = says text line (record { same = sym (spaced-words_of text) ∙ ap spaced is.same; fits = is.fits }) }
 
--- where the words say none, the text says none
-pub none_found : (answer : Result Line LineError) (error : LineError) (text : List ℕ) → IsErrAnd answer (λ returned. returned ≡ error) → is_skipped text ≡ false
-    → FindsNone error (IsOf line_words IsLine (words_of text)) → Finds answer (IsLineAs text)
-none_found (Ok line) error text same told none = absurd same
-none_found (Err returned) Refused text same told none = rw same (λ line is.
-    let said = mark_said text line told is.says in
-    let fits = line_of_mark line said.mark in
-    none line (record { same = ap words_of said.same ∙ words_back line fits; fits = fits }))
-none_found (Err returned) Memory text same told none = rw same tt
-
--- a line of a kind that isn't read is none, and no other line has its text
-not_built : (line : Line) (text : List ℕ) → is_skipped text ≡ false → IsOf line_words IsLine (words_of text) line → ¬ IsBuiltLine line → (other : Line) → IsLineAs text other → ⊥
-not_built line text told is not_read other line_is =
-    let said = mark_said text other told line_is.says in
-    let same : line ≡ other = same_text line other is.fits (line_of_mark other said.mark) (sym (ap spaced is.same) ∙ spaced-words_of text ∙ said.same) in
-    not_read (subst IsBuiltLine (sym same) (built_of_mark other said.mark))
-
--- what is answered of a line that its words say
-pub built_found : (answer : Result Line LineError) (line : Line) (text : List ℕ) → IsLineText text → is_skipped text ≡ false → IsOf line_words IsLine (words_of text) line
-    → MatchResult answer (λ built. (built ≡ line) × IsBuiltLine line) (λ error. (error ≡ Refused) × ¬ IsBuiltLine line) → Finds answer (IsLineAs text)
-built_found (Ok built) line text fine told is answered = subst (IsLineAs text) (sym answered.0) (line_found line text fine is answered.1)
-built_found (Err error) line text fine told is answered = rw answered.0 (not_built line text told is answered.1)
+pub words_found : (answer : Result Line LineError) (text : List ℕ) → IsLineText text → is_skipped text ≡ false → Finds answer (IsOf line_words IsLine (words_of text)) → Finds answer (IsLineAs text)
+words_found (Ok line) text fine told is = line_found line text fine is
+words_found (Err Refused) text fine told none = λ line is.
+    let said = text_said text line told is.says in
+    none line (record { same = ap words_of said.same ∙ words_back line said.fits; fits = said.fits })
+words_found (Err Memory) text fine told none = tt

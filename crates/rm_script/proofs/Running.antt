@@ -1,29 +1,25 @@
 -- The lines of lives, put together to the script that these lives are.
-use Rattle.std.proofs.Common.{◌≡◌, ℕ, Bool, false, not, cond, ◌||◌, List, [], ◌∷◌, ◌++◌, map, Option, Some, None, refl, sym, ap, subst, ◌∙◌, append_assoc, arith}
+use Rattle.std.proofs.Common.{◌≡◌, ℕ, Bool, true, not, cond, ◌&&◌, List, [], ◌∷◌, ◌++◌, map, Option, Some, None, refl, sym, ap, ◌∙◌, append_assoc, arith}
 use Rattle.std.specs.Prelude.{codes, All, IfSome, IsSome}
 use Rattle.std.specs.List.{flat_map, AllByRecursion}
 use Rattle.std.proofs.lemmas.List.{append-nil, map-append}
 use Rattle.std.proofs.lemmas.List.Elements.{recursion_from_All}
 use Rattle.rm_types.specs.Lists.{is_nil}
-use Rattle.rm_types.specs.declared.messages.Message.{Message}
 use Rattle.rm_types.specs.declared.scripts.Life.{Life}
 use Rattle.rm_types.specs.declared.scripts.Segment.{Segment}
-use Rattle.rm_script.specs.declared.kinds.Kind.TheVariants.{EachCrash}
 use Rattle.rm_script.specs.declared.lines.Line.{Line}
 use Rattle.rm_script.specs.declared.lines.Line.TheVariants.{Start, Settle, Crash, Deliver, Lose}
 use Rattle.rm_script.specs.declared.drafts.Draft.{Draft}
 use Rattle.rm_script.specs.declared.drafts.Draft.TheVariants as drafts
 use Rattle.rm_script.specs.declared.drafts.Living.{Living}
-use Rattle.rm_script.specs.Built.{is_built, BuiltOr, registering, names_in, Once}
 use Rattle.rm_script.specs.Written.{Sent, Delivered, Lost, Crashing, WrittenLife, settled_segment, crash_segments, life_of, script_of_lives}
 use Rattle.rm_script.specs.Spelling.{sent_text, start_text, crash_text, settled_lines, crash_lines, life_lines, script_lines}
 use Rattle.rm_script.specs.Scripts.{IsSent, FollowsSettle, IsCrash, IsLife, Crashes, IsLineOf, EachButLast, AreLives}
 use Rattle.rm_script.specs.Results.{◌>>=◌}
-use Rattle.rm_script.specs.Reading.{line_text, is_early, crashed, is_again, told, with_message, with_line, with_lines, script_of_draft, IsMark}
+use Rattle.rm_script.specs.Reading.{line_text, follows_settle, crashed, with_line, with_lines, script_of_draft, IsLine}
 use Rattle.rm_script.proofs.Parts.{heads}
 use Rattle.rm_script.proofs.OneLine.{one_line}
 use Rattle.rm_script.proofs.Drafting.{Between, Going, living_of, draft_of, crashed_life, delivered_is, lost_is, settled_is, crashed_is}
-use Rattle.rm_script.proofs.Registered.{unless_map, fails_unless, given, given-append, names_in-append, names_in-settled, told_once}
 
 -- ---- the lines of lives as values
 
@@ -80,31 +76,31 @@ pub append_both : {A : Type 0} (P : A → Type 0) (xs ys : List A) → AllByRecu
 append_both P [] ys h k = k
 append_both P (x ∷ xs) ys h k = (h.0, append_both P xs ys h.1 k)
 
-marks-sent : (sent : List Sent) → AllByRecursion IsSent sent → AllByRecursion IsMark (map mark_of sent)
+marks-sent : (sent : List Sent) → AllByRecursion IsSent sent → AllByRecursion IsLine (map mark_of sent)
 marks-sent [] fit = tt
 marks-sent (Delivered message ∷ sent) fit = (fit.0, marks-sent sent fit.1)
 marks-sent (Lost message ∷ sent) fit = (fit.0, marks-sent sent fit.1)
 
-marks-segments : (done : List (List Sent)) → AllByRecursion (All IsSent) done → AllByRecursion IsMark (flat_map settled_marks done)
+marks-segments : (done : List (List Sent)) → AllByRecursion (All IsSent) done → AllByRecursion IsLine (flat_map settled_marks done)
 marks-segments [] fit = tt
 marks-segments (sent ∷ done) fit =
-    append_both IsMark (settled_marks sent) (flat_map settled_marks done)
-    (append_both IsMark (map mark_of sent) (Settle ∷ []) (marks-sent sent (recursion_from_All IsSent sent fit.0)) (tt, tt)) (marks-segments done fit.1)
+    append_both IsLine (settled_marks sent) (flat_map settled_marks done)
+    (append_both IsLine (map mark_of sent) (Settle ∷ []) (marks-sent sent (recursion_from_All IsSent sent fit.0)) (tt, tt)) (marks-segments done fit.1)
 
-marks-crash : (life : WrittenLife) (crash : Option Crashing) → IfSome crash (IsCrash life) → AllByRecursion IsMark (crash_marks crash)
+marks-crash : (life : WrittenLife) (crash : Option Crashing) → IfSome crash (IsCrash life) → AllByRecursion IsLine (crash_marks crash)
 marks-crash life None fit = tt
 marks-crash life (Some crash) fit =
-    append_both IsMark (map mark_of crash.sent) (Crash crash.calls crash.image ∷ []) (marks-sent crash.sent (recursion_from_All IsSent crash.sent fit.sent)) (record { calls_fit = fit.calls; image_fits = fit.image }, tt)
+    append_both IsLine (map mark_of crash.sent) (Crash crash.calls crash.image ∷ []) (marks-sent crash.sent (recursion_from_All IsSent crash.sent fit.sent)) (record { calls_fit = fit.calls; image_fits = fit.image }, tt)
 
-marks-life : (life : WrittenLife) → IsLife life → AllByRecursion IsMark (life_marks life)
+marks-life : (life : WrittenLife) → IsLife life → AllByRecursion IsLine (life_marks life)
 marks-life life fit =
-    append_both IsMark (Start life.stamp ∷ flat_map settled_marks life.settled) (crash_marks life.crash)
+    append_both IsLine (Start life.stamp ∷ flat_map settled_marks life.settled) (crash_marks life.crash)
     (fit.stamp, marks-segments life.settled (recursion_from_All (All IsSent) life.settled fit.settled)) (marks-crash life life.crash fit.crash)
 
 -- each of them is such a line
-pub marks-lives : (lives : List WrittenLife) → AllByRecursion IsLife lives → AllByRecursion IsMark (script_marks lives)
+pub marks-lives : (lives : List WrittenLife) → AllByRecursion IsLife lives → AllByRecursion IsLine (script_marks lives)
 marks-lives [] fit = tt
-marks-lives (life ∷ lives) fit = append_both IsMark (life_marks life) (script_marks lives) (marks-life life fit.0) (marks-lives lives fit.1)
+marks-lives (life ∷ lives) fit = append_both IsLine (life_marks life) (script_marks lives) (marks-life life fit.0) (marks-lives lives fit.1)
 
 -- ---- lines one after the other
 
@@ -117,7 +113,7 @@ with_lines-append draft [] ys = refl
 with_lines-append draft (line ∷ xs) ys = associated (with_line draft line) (λ next. with_lines next (xs ++ ys)) (λ next. with_lines next xs) (λ next. with_lines next ys) (λ next. with_lines-append next xs ys)
 
 -- lines with the same texts are the same
-pub one_lines : (ones others : List Line) → AllByRecursion IsMark ones → AllByRecursion IsMark others → map line_text ones ≡ map line_text others → ones ≡ others
+pub one_lines : (ones others : List Line) → AllByRecursion IsLine ones → AllByRecursion IsLine others → map line_text ones ≡ map line_text others → ones ≡ others
 one_lines [] [] marks marks' e = refl
 one_lines [] (other ∷ others) marks marks' e = absurd cc
 one_lines (one ∷ ones) [] marks marks' e = absurd cc
@@ -130,120 +126,81 @@ one_lines (one ∷ ones) (other ∷ others) marks marks' e =
 run_on : (draft next : Draft) (line : Line) (more : List Line) → with_line draft line ≡ Some next → with_lines draft (line ∷ more) ≡ with_lines next more
 run_on draft next line more e = ap (λ (o : Option Draft). o >>= λ n. with_lines n more) e
 
--- the names that registered so far
-abbrev names : List (List Sent) → List Sent → List (List ℕ)
-names done sent = names_in (map settled_segment done) ++ given sent
-
-names_on : (done : List (List Sent)) (before : List Sent) (message : Message) (more : List (List ℕ)) → names done before ++ (registering message ++ more) ≡ names done (before ++ Delivered message ∷ []) ++ more
-names_on done before message more =
-    let one : given (before ++ Delivered message ∷ []) ≡ given before ++ registering message =
-    given-append before (Delivered message ∷ []) ∙ ap (λ (ns : List (List ℕ)). given before ++ ns) (append-nil (registering message)) in
-    sym (
-    ap (λ (ns : List (List ℕ)). (names_in (map settled_segment done) ++ ns) ++ more) one
-    ∙ ap (λ (ns : List (List ℕ)). ns ++ more) (sym (append_assoc (names_in (map settled_segment done)) (given before) (registering message)))
-    ∙ append_assoc (names done before) (registering message) more
-    )
-
--- a message that is delivered where it registers no node again
-run_message : (draft next : Draft) (lives : List Life) (living : Living) (message : Message) (more : List Line) → draft ≡ drafts.Living lives living → is_again living message ≡ false
-    → drafts.Living lives (told living message) ≡ next → with_lines draft (Deliver message ∷ more) ≡ with_lines next more
-run_message draft next lives living message more e none is =
-    run_on draft next (Deliver message) more (ap (λ (d : Draft). with_message d message) e ∙ ap (λ (b : Bool). cond b None (Some (drafts.Living lives (told living message)))) none ∙ ap Some is)
-
-run_sent : (lives : List WrittenLife) (stamp : ℕ) (done : List (List Sent)) (before sent : List Sent) (later : List (List ℕ)) (more : List Line) → Once (names done before ++ (given sent ++ later))
+run_sent : (lives : List WrittenLife) (stamp : ℕ) (done : List (List Sent)) (before sent : List Sent) (more : List Line)
     → with_lines (draft_of (Going lives stamp done before)) (map mark_of sent ++ more) ≡ with_lines (draft_of (Going lives stamp done (before ++ sent))) more
-run_sent lives stamp done before [] later more once = ap (λ (s : List Sent). with_lines (draft_of (Going lives stamp done s)) more) (sym (append-nil before))
-run_sent lives stamp done before (Delivered message ∷ sent) later more once =
-    let rest : given (Delivered message ∷ sent) ++ later ≡ registering message ++ (given sent ++ later) = append_assoc (registering message) (given sent) later in
-    let own : Once (names done before ++ (registering message ++ (given sent ++ later))) = subst (λ (ns : List (List ℕ)). Once (names done before ++ ns)) rest once in
-    let on : names done before ++ (registering message ++ (given sent ++ later)) ≡ names done (before ++ Delivered message ∷ []) ++ (given sent ++ later) = names_on done before message (given sent ++ later) in
-    run_message (draft_of (Going lives stamp done before)) (draft_of (Going lives stamp done (before ++ Delivered message ∷ []))) (map life_of lives) (living_of stamp done before) message (map mark_of sent ++ more) refl
-    (told_once (living_of stamp done before) message (given sent ++ later) own) (delivered_is lives stamp done before message)
-    ∙ run_sent lives stamp done (before ++ Delivered message ∷ []) sent later more (subst Once on own)
+run_sent lives stamp done before [] more = ap (λ (s : List Sent). with_lines (draft_of (Going lives stamp done s)) more) (sym (append-nil before))
+run_sent lives stamp done before (Delivered message ∷ sent) more =
+    ap (λ (d : Draft). with_lines d (map mark_of sent ++ more)) (delivered_is lives stamp done before message)
+    ∙ run_sent lives stamp done (before ++ Delivered message ∷ []) sent more
     ∙ ap (λ (s : List Sent). with_lines (draft_of (Going lives stamp done s)) more) (append_assoc before (Delivered message ∷ []) sent)
-run_sent lives stamp done before (Lost message ∷ sent) later more once =
-    let same : names done before ≡ names done (before ++ Lost message ∷ []) = ap (λ (ns : List (List ℕ)). names_in (map settled_segment done) ++ ns) (sym (given-append before (Lost message ∷ []) ∙ append-nil (given before))) in
+run_sent lives stamp done before (Lost message ∷ sent) more =
     ap (λ (d : Draft). with_lines d (map mark_of sent ++ more)) (lost_is lives stamp done before message)
-    ∙ run_sent lives stamp done (before ++ Lost message ∷ []) sent later more (subst (λ (ns : List (List ℕ)). Once (ns ++ (given sent ++ later))) same once)
+    ∙ run_sent lives stamp done (before ++ Lost message ∷ []) sent more
     ∙ ap (λ (s : List Sent). with_lines (draft_of (Going lives stamp done s)) more) (append_assoc before (Lost message ∷ []) sent)
 
-run_segment : (lives : List WrittenLife) (stamp : ℕ) (done : List (List Sent)) (sent : List Sent) (later : List (List ℕ)) (more : List Line) → Once (names_in (map settled_segment done) ++ (given sent ++ later))
+run_segment : (lives : List WrittenLife) (stamp : ℕ) (done : List (List Sent)) (sent : List Sent) (more : List Line)
     → with_lines (draft_of (Going lives stamp done [])) (settled_marks sent ++ more) ≡ with_lines (draft_of (Going lives stamp (done ++ sent ∷ []) [])) more
-run_segment lives stamp done sent later more once =
+run_segment lives stamp done sent more =
     ap (with_lines (draft_of (Going lives stamp done []))) (append_assoc (map mark_of sent) (Settle ∷ []) more)
-    ∙ run_sent lives stamp done [] sent later (Settle ∷ more) (subst (λ (ns : List (List ℕ)). Once (ns ++ (given sent ++ later))) (sym (append-nil (names_in (map settled_segment done)))) once)
+    ∙ run_sent lives stamp done [] sent (Settle ∷ more)
     ∙ ap (λ (d : Draft). with_lines d more) (settled_is lives stamp done sent)
 
-run_segments : (lives : List WrittenLife) (stamp : ℕ) (before done : List (List Sent)) (later : List (List ℕ)) (more : List Line)
-    → Once (names_in (map settled_segment before) ++ (names_in (map settled_segment done) ++ later))
+run_segments : (lives : List WrittenLife) (stamp : ℕ) (before done : List (List Sent)) (more : List Line)
     → with_lines (draft_of (Going lives stamp before [])) (flat_map settled_marks done ++ more) ≡ with_lines (draft_of (Going lives stamp (before ++ done) [])) more
-run_segments lives stamp before [] later more once = ap (λ (d : List (List Sent)). with_lines (draft_of (Going lives stamp d [])) more) (sym (append-nil before))
-run_segments lives stamp before (sent ∷ done) later more once =
-    let rest : names_in (map settled_segment (sent ∷ done)) ++ later ≡ given sent ++ (names_in (map settled_segment done) ++ later) = append_assoc (given sent) (names_in (map settled_segment done)) later in
-    let own : Once (names_in (map settled_segment before) ++ (given sent ++ (names_in (map settled_segment done) ++ later))) = subst (λ (ns : List (List ℕ)). Once (names_in (map settled_segment before) ++ ns)) rest once in
-    let on : names_in (map settled_segment before) ++ (given sent ++ (names_in (map settled_segment done) ++ later)) ≡ names_in (map settled_segment (before ++ sent ∷ [])) ++ (names_in (map settled_segment done) ++ later) =
-    sym (append_assoc (names_in (map settled_segment before)) (given sent) (names_in (map settled_segment done) ++ later))
-    ∙ ap (λ (ns : List (List ℕ)). ns ++ (names_in (map settled_segment done) ++ later)) (sym (names_in-settled before sent)) in
+run_segments lives stamp before [] more = ap (λ (d : List (List Sent)). with_lines (draft_of (Going lives stamp d [])) more) (sym (append-nil before))
+run_segments lives stamp before (sent ∷ done) more =
     ap (with_lines (draft_of (Going lives stamp before []))) (append_assoc (settled_marks sent) (flat_map settled_marks done) more)
-    ∙ run_segment lives stamp before sent (names_in (map settled_segment done) ++ later) (flat_map settled_marks done ++ more) own
-    ∙ run_segments lives stamp (before ++ sent ∷ []) done later more (subst Once on own)
+    ∙ run_segment lives stamp before sent (flat_map settled_marks done ++ more)
+    ∙ run_segments lives stamp (before ++ sent ∷ []) done more
     ∙ ap (λ (d : List (List Sent)). with_lines (draft_of (Going lives stamp d [])) more) (append_assoc before (sent ∷ []) done)
 
 -- a crash where it may stand
-not_early : (done : List (List Sent)) (sent : List Sent) → FollowsSettle done sent → (not (is_nil sent) || is_nil (map settled_segment done)) ≡ false
-not_early [] sent follows = absurd (omega (arith, follows.after_settle))
-not_early (first ∷ done) sent follows = ap (λ (s : List Sent). not (is_nil s) || false) follows.bare
+crash_stands : (stamp : ℕ) (done : List (List Sent)) (sent : List Sent) → FollowsSettle done sent → follows_settle (living_of stamp done sent) ≡ true
+crash_stands stamp [] sent follows = absurd (omega (arith, follows.after_settle))
+crash_stands stamp (first ∷ done) sent follows = ap (λ (s : List Sent). not (not (is_nil s)) && true) follows.bare
 
-run_crash : (lives : List WrittenLife) (stamp : ℕ) (done : List (List Sent)) (sent : List Sent) (calls image : ℕ) → BuiltOr EachCrash (FollowsSettle done sent)
+run_crash : (lives : List WrittenLife) (stamp : ℕ) (done : List (List Sent)) (sent : List Sent) (calls image : ℕ) → FollowsSettle done sent
     → with_line (draft_of (Going lives stamp done sent)) (Crash calls image) ≡ Some (draft_of (Between (lives ++ crashed_life stamp done sent calls image ∷ [])))
-run_crash lives stamp done sent calls image built =
+run_crash lives stamp done sent calls image place =
     let living : Living = living_of stamp done sent in
-    let early : is_early living ≡ false =
-    fails_unless (is_built EachCrash) (not (is_nil sent) || is_nil (map settled_segment done)) (unless_map {P = FollowsSettle done sent} (is_built EachCrash) (not_early done sent) built) in
-    ap (λ (b : Bool). cond b None (Some (crashed living calls image)) >>= λ (l : Life). Some (drafts.Between (map life_of lives ++ l ∷ []))) early
+    ap (λ (b : Bool). cond b (Some (crashed living calls image)) None >>= λ (l : Life). Some (drafts.Between (map life_of lives ++ l ∷ []))) (crash_stands stamp done sent place)
     ∙ ap Some (crashed_is lives (crashed_life stamp done sent calls image))
 
--- the names of a life, segment by segment
-names_of_life : (life : WrittenLife) → Once (names_in (life_of life).segments) → Once (names_in (map settled_segment life.settled) ++ names_in (crash_segments life.crash))
-names_of_life life once = subst Once (names_in-append (map settled_segment life.settled) (crash_segments life.crash)) once
-
 -- the lines of a life up to the segment that crashes
-run_life : (lives : List WrittenLife) (life : WrittenLife) (more : List Line) → IsLife life
+run_life : (lives : List WrittenLife) (life : WrittenLife) (more : List Line)
     → with_lines (draft_of (Between lives)) (life_marks life ++ more) ≡ with_lines (draft_of (Going lives life.stamp life.settled [])) (crash_marks life.crash ++ more)
-run_life lives life more fit =
+run_life lives life more =
     ap (with_lines (draft_of (Between lives))) (append_assoc (Start life.stamp ∷ flat_map settled_marks life.settled) (crash_marks life.crash) more)
-    ∙ run_segments lives life.stamp [] life.settled (names_in (crash_segments life.crash)) (crash_marks life.crash ++ more) (names_of_life life fit.once)
+    ∙ run_segments lives life.stamp [] life.settled (crash_marks life.crash ++ more)
 
-run_end : (lives : List WrittenLife) (life : WrittenLife) (crash : Option Crashing) (more : List Line) → life.crash ≡ crash → Once (names_in (map settled_segment life.settled) ++ names_in (crash_segments crash))
-    → IfSome crash (IsCrash life) → IsSome crash
+run_end : (lives : List WrittenLife) (life : WrittenLife) (crash : Option Crashing) (more : List Line) → life.crash ≡ crash → IfSome crash (IsCrash life) → IsSome crash
     → with_lines (draft_of (Going lives life.stamp life.settled [])) (crash_marks crash ++ more) ≡ with_lines (draft_of (Between (lives ++ life ∷ []))) more
-run_end lives life None more e once fit crashes = absurd cc
-run_end lives life (Some crash) more e once fit crashes =
+run_end lives life None more e fit crashes = absurd cc
+run_end lives life (Some crash) more e fit crashes =
     let marks : crash_marks (Some crash) ++ more ≡ map mark_of crash.sent ++ (Crash crash.calls crash.image ∷ more) = append_assoc (map mark_of crash.sent) (Crash crash.calls crash.image ∷ []) more in
-    let sent : Once (names life.settled [] ++ (given crash.sent ++ [])) = subst (λ (ns : List (List ℕ)). Once (ns ++ (given crash.sent ++ []))) (sym (append-nil (names_in (map settled_segment life.settled)))) once in
     ap (with_lines (draft_of (Going lives life.stamp life.settled []))) marks
-    ∙ run_sent lives life.stamp life.settled [] crash.sent [] (Crash crash.calls crash.image ∷ more) sent
+    ∙ run_sent lives life.stamp life.settled [] crash.sent (Crash crash.calls crash.image ∷ more)
     ∙ run_on (draft_of (Going lives life.stamp life.settled crash.sent)) (draft_of (Between (lives ++ crashed_life life.stamp life.settled crash.sent crash.calls crash.image ∷ []))) (Crash crash.calls crash.image) more
-    (run_crash lives life.stamp life.settled crash.sent crash.calls crash.image fit.built)
+    (run_crash lives life.stamp life.settled crash.sent crash.calls crash.image fit.place)
     ∙ ap (λ (c : Option Crashing). with_lines (draft_of (Between (lives ++ record { stamp = life.stamp; settled = life.settled; crash = c } ∷ []))) more) (sym e)
 
 -- the last life, with a crash or without
-run_last : (lives : List WrittenLife) (life : WrittenLife) (crash : Option Crashing) → life.crash ≡ crash → Once (names_in (map settled_segment life.settled) ++ names_in (crash_segments crash)) → IfSome crash (IsCrash life)
+run_last : (lives : List WrittenLife) (life : WrittenLife) (crash : Option Crashing) → life.crash ≡ crash → IfSome crash (IsCrash life)
     → (with_lines (draft_of (Going lives life.stamp life.settled [])) (crash_marks crash ++ []) >>= script_of_draft) ≡ Some (script_of_lives (lives ++ life ∷ []))
-run_last lives life None e once fit =
+run_last lives life None e fit =
     ap (λ (ls : List Life). Some (record { lives = ls }))
     (ap (λ (segments : List Segment). map life_of lives ++ record { stamp = life.stamp; segments = segments } ∷ []) (sym (ap (λ (c : Option Crashing). map settled_segment life.settled ++ crash_segments c) e ∙ append-nil (map settled_segment life.settled)))
     ∙ sym (map-append life_of lives (life ∷ [])))
-run_last lives life (Some crash) e once fit = ap (λ (o : Option Draft). o >>= script_of_draft) (run_end lives life (Some crash) [] e once fit refl)
+run_last lives life (Some crash) e fit = ap (λ (o : Option Draft). o >>= script_of_draft) (run_end lives life (Some crash) [] e fit refl)
 
 -- the lines of lives make the script that they are
 run_lives : (done lives : List WrittenLife) → AllByRecursion IsLife lives → EachButLast Crashes lives
     → (with_lines (draft_of (Between done)) (script_marks lives) >>= script_of_draft) ≡ Some (script_of_lives (done ++ lives))
 run_lives done [] fit crash = ap (λ (ls : List WrittenLife). Some (script_of_lives ls)) (sym (append-nil done))
 run_lives done (life ∷ []) fit crash =
-    ap (λ (o : Option Draft). o >>= script_of_draft) (run_life done life [] fit.0) ∙ run_last done life life.crash refl (names_of_life life fit.0.once) fit.0.crash
+    ap (λ (o : Option Draft). o >>= script_of_draft) (run_life done life []) ∙ run_last done life life.crash refl fit.0.crash
 run_lives done (life ∷ next ∷ lives) fit crash =
-    ap (λ (o : Option Draft). o >>= script_of_draft) (run_life done life (script_marks (next ∷ lives)) fit.0 ∙ run_end done life life.crash (script_marks (next ∷ lives)) refl (names_of_life life fit.0.once) fit.0.crash crash.0)
+    ap (λ (o : Option Draft). o >>= script_of_draft) (run_life done life (script_marks (next ∷ lives)) ∙ run_end done life life.crash (script_marks (next ∷ lives)) refl fit.0.crash crash.0)
     ∙ run_lives (done ++ life ∷ []) (next ∷ lives) fit.1 crash.1
     ∙ ap (λ (ls : List WrittenLife). Some (script_of_lives ls)) (append_assoc done (life ∷ []) (next ∷ lives))
 
@@ -259,7 +216,7 @@ text_of_mark : (sent : Sent) → line_text (mark_of sent) ≡ sent_text sent
 text_of_mark (Delivered message) = refl
 text_of_mark (Lost message) = refl
 
-mark_fits : (sent : Sent) → IsSent sent → IsMark (mark_of sent)
+mark_fits : (sent : Sent) → IsSent sent → IsLine (mark_of sent)
 mark_fits (Delivered message) fits = fits
 mark_fits (Lost message) fits = fits
 

@@ -15,7 +15,6 @@ use Rattle.rm_types.specs.declared.scripts.Segment.{Segment}
 use Rattle.rm_types.specs.declared.scripts.Script.{Script}
 use Rattle.rm_script.specs.declared.lines.Line.{Line}
 use Rattle.rm_script.specs.declared.drafts.Draft.{Draft}
-use Rattle.rm_script.specs.Built.{names_in, Once}
 use Rattle.rm_script.specs.Lines.{lines_of, ended, is_skipped, kept_lines, IsLineText}
 use Rattle.rm_script.specs.Written.{Sent, WrittenLife, settled_segment, life_of, script_of_lives}
 use Rattle.rm_script.specs.Spelling.{start_text, life_lines, script_lines}
@@ -23,10 +22,9 @@ use Rattle.rm_script.specs.Scripts.{IsSent, IsLife, Crashes, EachButLast, AreLiv
 use Rattle.rm_script.specs.Refusals.{CanBegin, Stand}
 use Rattle.rm_script.specs.Results.{◌>>=◌}
 use Rattle.rm_script.specs.Limits.{greatest_stamp}
-use Rattle.rm_script.specs.Reading.{told_life, line_text, with_lines, no_lines, script_of_draft, IsMark, Reads, ReadsAll}
+use Rattle.rm_script.specs.Reading.{told_life, line_text, with_lines, no_lines, script_of_draft, IsLine, Reads, ReadsAll}
 use Rattle.rm_script.proofs.Labels.{bound, not_chosen}
 use Rattle.rm_script.proofs.Drafting.{Written, Between, Going, living_of, draft_of, written_lines, AreCrashed, Fits, Grown, nothing_sent, settled_text, lines_of-push, with_lines_are}
-use Rattle.rm_script.proofs.Registered.{given, names_in-settled, once_front}
 use Rattle.rm_script.proofs.Running.{script_marks, texts-lives, marks-lives, with_lines-append, one_lines, script_runs}
 
 -- ---- lives at the end of others
@@ -49,11 +47,10 @@ abbrev open_life : ℕ → List (List Sent) → WrittenLife
 open_life stamp done = record { stamp = stamp; settled = done; crash = None }
 
 with_open_life : (lives : List WrittenLife) (stamp : ℕ) (done : List (List Sent)) → AreCrashed lives → IsWithin 1 greatest_stamp stamp → All (All IsSent) done
-    → Once (names_in (map settled_segment done)) → AreLives (lives ++ open_life stamp done ∷ [])
-with_open_life lives stamp done fit stamp_fits done_fit once =
+    → AreLives (lives ++ open_life stamp done ∷ [])
+with_open_life lives stamp done fit stamp_fits done_fit =
     let life : WrittenLife = open_life stamp done in
-    let told : Once (names_in (life_of life).segments) = subst (λ (ss : List Segment). Once (names_in ss)) (sym (append-nil (map settled_segment done))) once in
-    let is : IsLife life = record { stamp = stamp_fits; settled = done_fit; crash = tt; once = told } in
+    let is : IsLife life = record { stamp = stamp_fits; settled = done_fit; crash = tt } in
     record { each = All-push IsLife lives life fit.each is; crash = last_apart lives life (recursion_from_All Crashes lives fit.crash) }
 
 -- ---- a draft can be finished
@@ -76,8 +73,7 @@ finish (Going lives stamp done sent) lines fits same =
       script = script_of_lives (lives ++ life ∷ []);
       spelled = record {
         lives = lives ++ life ∷ [];
-        fit = with_open_life lives stamp (done ++ sent ∷ []) fits.lives_fit fits.stamp_fits (All-push (All IsSent) done sent fits.done_fit fits.sent_fit)
-            (subst Once (sym (names_in-settled done sent)) fits.once);
+        fit = with_open_life lives stamp (done ++ sent ∷ []) fits.lives_fit fits.stamp_fits (All-push (All IsSent) done sent fits.done_fit fits.sent_fit);
         text = kept ∙ added ∙ sym whole;
         same = refl;
       };
@@ -90,7 +86,7 @@ no_lives = record { each = All-nil IsLife; crash = All-nil Crashes }
 grown_of : (count : ℕ) (bytes : List ℕ) (draft : Draft) → Reads count bytes draft → Grown (Between []) (kept_lines (take count (lines_of bytes))) draft
 grown_of count bytes draft reads =
     subst (λ (ls : List (List ℕ)). Grown (Between []) ls draft) (sym reads.texts)
-    (with_lines_are (Between []) reads.lines draft reads.draft_is no_lives (recursion_from_All IsMark reads.lines reads.marks))
+    (with_lines_are (Between []) reads.lines draft reads.draft_is no_lives (recursion_from_All IsLine reads.lines reads.fit))
 
 -- lines that read as a draft stand
 pub reads_stand : (count : ℕ) (bytes : List ℕ) (draft : Draft) → Reads count bytes draft → Stand count bytes
@@ -123,7 +119,7 @@ done_spells (Going lives stamp done sent) lines script fits same e =
     ap (λ (s : List Sent). written_lines (Going lives stamp done s)) (nothing_sent sent parts.0) in
     record {
       lives = lives ++ life ∷ [];
-      fit = with_open_life lives stamp done fits.lives_fit fits.stamp_fits fits.done_fit (once_front (names_in (map settled_segment done)) (given sent) fits.once);
+      fit = with_open_life lives stamp done fits.lives_fit fits.stamp_fits fits.done_fit;
       text = sym same ∙ open_lines ∙ sym (lines_of-push lives life);
       same = sym (same_Some made script parts.1) ∙ one ∙ all;
     }
@@ -159,7 +155,7 @@ stand_reads count bytes stand =
     let front : List (List ℕ) = kept_lines lines in
     let first : List Line = take (length front) marks in
     let apart : front ++ kept_lines stand.begin.more ≡ script_lines lives = sym (filter-append (λ line. not (is_skipped line)) lines stand.begin.more) ∙ stand.begin.spelled.text in
-    let all_fit : AllByRecursion IsMark marks = marks-lives lives (recursion_from_All IsLife lives fit.each) in
+    let all_fit : AllByRecursion IsLine marks = marks-lives lives (recursion_from_All IsLife lives fit.each) in
     let run = bound (with_lines no_lines marks) script_of_draft (script_of_lives lives) (script_runs lives fit) in
     let split : (with_lines no_lines first >>= λ next. with_lines next (drop (length front) marks)) ≡ Some run.0 =
     sym (with_lines-append no_lines first (drop (length front) marks)) ∙ ap (with_lines no_lines) (take-append-drop (length front) marks) ∙ run.1 in
@@ -170,7 +166,7 @@ stand_reads count bytes stand =
         size = stand.limits.size;
         each = stand.limits.each;
         lines = first;
-        marks = All-take IsMark (length front) marks (All-from_recursion IsMark marks all_fit);
+        fit = All-take IsLine (length front) marks (All-from_recursion IsLine marks all_fit);
         texts = front_marks lives front (kept_lines stand.begin.more) apart;
         draft_is = made.1;
       },
@@ -189,7 +185,7 @@ script_is_read bytes script is =
         size = is.limits.size;
         each = is.limits.each;
         lines = script_marks lives;
-        marks = All-from_recursion IsMark (script_marks lives) (marks-lives lives (recursion_from_All IsLife lives fit.each));
+        fit = All-from_recursion IsLine (script_marks lives) (marks-lives lives (recursion_from_All IsLife lives fit.each));
         texts = ap kept_lines (all_lines bytes) ∙ is.spelled.text ∙ sym (texts-lives lives);
         draft_is = run.1;
       };
@@ -200,7 +196,7 @@ script_is_read bytes script is =
 pub one_draft : (count : ℕ) (bytes : List ℕ) (one other : Draft) → Reads count bytes one → Reads count bytes other → one ≡ other
 one_draft count bytes one other reads again =
     let lines : reads.lines ≡ again.lines =
-    one_lines reads.lines again.lines (recursion_from_All IsMark reads.lines reads.marks) (recursion_from_All IsMark again.lines again.marks) (sym reads.texts ∙ again.texts) in
+    one_lines reads.lines again.lines (recursion_from_All IsLine reads.lines reads.fit) (recursion_from_All IsLine again.lines again.fit) (sym reads.texts ∙ again.texts) in
     same_Some one other (sym reads.draft_is ∙ ap (with_lines no_lines) lines ∙ again.draft_is)
 
 -- ---- fewer lines stand too

@@ -1,24 +1,20 @@
 -- What holds of each script that is read.
-use Rattle.std.proofs.Common.{◌≡◌, ℕ, ◌+◌, ◌<◌, ◌≤◌, Bool, true, false, cond, not, List, [], ◌∷◌, ◌++◌, length, map, Option, Some, None, refl, sym, ap, subst, ◌∙◌, arith, inl, inr}
+use Rattle.std.proofs.Common.{◌≡◌, ℕ, ◌+◌, ◌≤◌, true, false, cond, not, List, [], ◌∷◌, ◌++◌, length, map, Option, Some, None, refl, sym, ap, subst, ◌∙◌, arith, inl, inr}
 use Rattle.std.specs.Prelude.{All, IfSome, IsSome, ◌⊎◌}
 use Rattle.std.specs.List.{flat_map, AllByRecursion}
 use Rattle.std.proofs.lemmas.List.{length-append, length-map}
 use Rattle.std.proofs.lemmas.List.Concat.{flat_map-cons}
 use Rattle.std.proofs.lemmas.List.Elements.{All-nil, All-cons, All-append, All-from_recursion, recursion_from_All}
 use Rattle.std.proofs.lemmas.List.Sums.{sum_by-cons, sum_by-append}
-use Rattle.rm_types.specs.declared.messages.Message.{Message}
 use Rattle.rm_types.specs.declared.scripts.Close.TheVariants.{Crash}
 use Rattle.rm_types.specs.declared.scripts.Life.{Life}
 use Rattle.rm_types.specs.declared.scripts.Segment.{Segment}
 use Rattle.rm_types.specs.declared.scripts.Script.{Script}
-use Rattle.rm_script.specs.declared.kinds.Kind.TheVariants.{EachCrash}
-use Rattle.rm_script.specs.Built.{is_built, Unless}
 use Rattle.rm_script.specs.Limits.{most_lines}
 use Rattle.rm_script.specs.Lines.{lines_of, is_skipped, kept_lines}
 use Rattle.rm_script.specs.Written.{Sent, Delivered, Lost, Crashing, WrittenLife, delivered, settled_segment, crash_segments, life_of}
 use Rattle.rm_script.specs.Spelling.{sent_text, start_text, settled_lines, crash_lines, life_lines, script_lines}
-use Rattle.rm_script.specs.Scripts.{IsRead, IsSent, FollowsSettle, IsCrash, IsLife, Crashes, EachButLast, IsScript}
-use Rattle.rm_script.proofs.Registered.{unless_map}
+use Rattle.rm_script.specs.Scripts.{IsRead, IsSent, IsCrash, IsLife, Crashes, EachButLast, IsScript}
 use Rattle.rm_script.specs.Values.{Settles, EndInCrash, messages_in, IsToldLife, IsToldScript}
 
 -- ---- messages
@@ -46,23 +42,15 @@ all_settle : (done : List (List Sent)) → AllByRecursion Settles (map settled_s
 all_settle [] = tt
 all_settle (sent ∷ done) = (refl, all_settle done)
 
--- the messages of the segment that crashes: none, where the crash stands directly after a `settle`
-bare : (b : Bool) (sent : List Sent) → Unless b (sent ≡ []) → flat_map delivered sent ≡ cond b (flat_map delivered sent) []
-bare true sent none = refl
-bare false sent none = ap (flat_map delivered) none
-
 ends : (life : WrittenLife) (crash : Option Crashing) → IfSome crash (IsCrash life) → IsSome crash → EndInCrash (map settled_segment life.settled ++ crash_segments crash)
 ends life None fit crashes = absurd cc
 ends life (Some crash) fit crashes = record {
   before = map settled_segment life.settled;
-  messages = flat_map delivered crash.sent;
   calls = crash.calls;
   image = crash.image;
-  apart = ap (λ (ms : List Message). map settled_segment life.settled ++ record { messages = ms; close = Crash crash.calls crash.image } ∷ [])
-      (bare (is_built EachCrash) crash.sent (unless_map {P = FollowsSettle life.settled crash.sent} {Q = crash.sent ≡ []} (is_built EachCrash) (λ follows. follows.bare) fit.built));
+  apart = ap (λ (sent : List Sent). map settled_segment life.settled ++ record { messages = flat_map delivered sent; close = Crash crash.calls crash.image } ∷ []) fit.place.bare;
   settle = All-from_recursion Settles (map settled_segment life.settled) (all_settle life.settled);
-  some = unless_map {P = FollowsSettle life.settled crash.sent} {Q = 0 < length (map settled_segment life.settled)} (is_built EachCrash)
-      (λ follows. omega (arith, length-map life.settled settled_segment, follows.after_settle)) fit.built;
+  some = omega (arith, length-map life.settled settled_segment, fit.place.after_settle);
   calls_fit = fit.calls;
   image_fits = fit.image;
 }
@@ -124,7 +112,6 @@ told_life life fit few = record {
       (All-from_recursion AreRead (map settled_segment life.settled) (settled_read life.settled (recursion_from_All (All IsSent) life.settled fit.settled))) (crash_read life life.crash fit.crash);
   closes = closes life life.crash fit.crash;
   few = omega (arith, fewer_in_life life);
-  once = fit.once;
 }
 
 told_lives : (lives : List WrittenLife) → AllByRecursion IsLife lives → length (script_lines lives) ≤ most_lines → AllByRecursion IsToldLife (map life_of lives)

@@ -1,7 +1,6 @@
 pub mod Limits
 pub mod Lines
 pub mod Messages
-pub mod Built
 pub mod Written
 pub mod Spelling
 pub mod Scripts
@@ -11,5 +10,4 @@ pub mod Results
 pub mod Numbers
 pub mod Words
 pub mod Laws
-pub mod Names
 pub mod Reading

@@ -1,8 +1,6 @@
 -- What reading gives: a line by itself, and the lines put together.
-use Rattle.std.specs.Prelude.{◌≡◌, ◌⊎◌, ℕ, ◌+◌, ◌<◌, ◌≤◌, List, [], ◌∷◌, ◌++◌, length, map, take, Option, Some, None, Result, Ok, Err, Bool, true, false, not, ◌&&◌, ◌||◌, if◌then◌else◌, All, codes}
-use Rattle.std.specs.List.{flat_map, list_any}
+use Rattle.std.specs.Prelude.{◌≡◌, ◌⊎◌, ℕ, ◌+◌, ◌<◌, ◌≤◌, List, [], ◌∷◌, ◌++◌, length, map, take, Option, Some, None, Result, Ok, Err, Bool, true, false, not, ◌&&◌, if◌then◌else◌, All, codes}
 use Rattle.std.specs.Fmt.{decimal}
-use Rattle.std.specs.Str.{bytes_eq}
 use Rattle.rm_types.specs.Lists.{is_nil}
 use Rattle.rm_types.specs.Ranges.{IsWithin}
 use Rattle.rm_types.specs.declared.messages.Message.{Message}
@@ -12,18 +10,15 @@ use Rattle.rm_types.specs.declared.scripts.Script.{Script}
 use Rattle.rm_formats.specs.Wording.{spaced, message_words}
 use Rattle.rm_script.specs.declared.errors.ScriptError.{ScriptError}
 use Rattle.rm_script.specs.declared.errors.ScriptError.TheVariants.{Refused, Memory}
-use Rattle.rm_script.specs.declared.kinds.Kind.TheVariants.{Failures, EachCrash}
 use Rattle.rm_script.specs.declared.lines.Line.{Line}
 use Rattle.rm_script.specs.declared.lines.Line.TheVariants.{Skipped, Start, Settle, Crash, Deliver, Lose}
 use Rattle.rm_script.specs.declared.drafts.Living.{Living}
 use Rattle.rm_script.specs.declared.drafts.Draft.{Draft}
 use Rattle.rm_script.specs.declared.drafts.Draft.TheVariants as drafts
-use Rattle.rm_script.specs.Built.{is_built, IsBuiltMessage, registering, names_in}
 use Rattle.rm_script.specs.Limits.{most_bytes, most_lines, greatest_stamp, greatest_calls, greatest_image}
 use Rattle.rm_script.specs.Lines.{lines_of, size_of_first, is_skipped, kept_lines, IsLineText}
 use Rattle.rm_script.specs.Messages.{IsMessage}
 use Rattle.rm_script.specs.Results.{◌>>=◌}
-use Rattle.rm_script.specs.Scripts.{IsRead}
 
 -- ---- a line by itself
 
@@ -54,27 +49,15 @@ IsLine (Crash calls image) = IsCrashLine calls image
 IsLine (Deliver message) = IsMessage message
 IsLine (Lose message) = IsMessage message
 
--- the line is of a kind that is read so far
-abbrev pub IsBuiltLine : Line → Type 0
-IsBuiltLine (Deliver message) = IsBuiltMessage message
-IsBuiltLine (Lose message) = IsBuiltMessage message
-IsBuiltLine line = Unit {0}
-
--- the line says something, its values are in their ranges, and it is of a kind that is read so far
-abbrev pub IsMark : Line → Type 0
-IsMark (Deliver message) = IsRead message
-IsMark (Lose message) = IsRead message
-IsMark line = IsLine line
-
 -- the text is that of a line that says something
-pub record IsMarkText (text : List ℕ) (line : Line) : Type 0 where
+pub record IsTextOf (text : List ℕ) (line : Line) : Type 0 where
   pub same : text ≡ line_text line
-  pub mark : IsMark line
+  pub fits : IsLine line
 
 -- the text says the line, or is skipped
 abbrev pub Says : List ℕ → Line → Type 0
 Says text Skipped = is_skipped text ≡ true
-Says text line = IsMarkText text line
+Says text line = IsTextOf text line
 
 -- the text may stand in a script, and says the line
 pub record IsLineAs (text : List ℕ) (line : Line) : Type 0 where
@@ -107,13 +90,13 @@ abbrev pub crashed : Living → ℕ → ℕ → Life
 crashed living calls image =
     record { stamp = living.stamp; segments = living.segments ++ record { messages = living.messages; close = closes.Crash calls image } ∷ [] }
 
--- a crash may not stand there yet: not directly after a segment that settled
-abbrev pub is_early : Living → Bool
-is_early living = not (is_built EachCrash) && (living.is_sending || is_nil living.segments)
+-- a segment of the life settled, and no message was sent since: a crash may stand there
+abbrev pub follows_settle : Living → Bool
+follows_settle living = not living.is_sending && not (is_nil living.segments)
 
--- the life that ends so
+-- the life that ends so, where a crash may stand there
 abbrev pub crash_life : Living → ℕ → ℕ → Option Life
-crash_life living calls image = if is_early living then None else Some (crashed living calls image)
+crash_life living calls image = if follows_settle living then Some (crashed living calls image) else None
 
 -- a draft whose life crashes
 abbrev pub with_crash : Draft → ℕ → ℕ → Option Draft
@@ -122,18 +105,6 @@ with_crash (drafts.Living lives living) calls image = do
   life ← crash_life living calls image
   Some (drafts.Between (lives ++ life ∷ []))
 
--- the names of the nodes that registered in a life so far
-abbrev pub names_of : Living → List (List ℕ)
-names_of living = names_in living.segments ++ flat_map registering living.messages
-
--- the name is among these
-abbrev pub is_among : List (List ℕ) → List ℕ → Bool
-is_among names name = list_any (λ one. bytes_eq one name) names
-
--- the message registers a node a second time, and may not stand there yet
-abbrev pub is_again : Living → Message → Bool
-is_again living message = not (is_built Failures) && list_any (is_among (names_of living)) (registering message)
-
 -- a life that was told this message
 abbrev pub told : Living → Message → Living
 told living message = record living { messages = living.messages ++ message ∷ []; is_sending = true }
@@ -141,7 +112,7 @@ told living message = record living { messages = living.messages ++ message ∷ 
 -- a draft whose life is sent this message
 abbrev pub with_message : Draft → Message → Option Draft
 with_message (drafts.Between lives) message = None
-with_message (drafts.Living lives living) message = if is_again living message then None else Some (drafts.Living lives (told living message))
+with_message (drafts.Living lives living) message = Some (drafts.Living lives (told living message))
 
 -- a draft whose life is sent a message that is lost
 abbrev pub with_loss : Draft → Option Draft
@@ -188,7 +159,7 @@ pub record Reads (count : ℕ) (bytes : List ℕ) (draft : Draft) : Type 0 where
   pub size : size_of_first count bytes ≤ most_bytes
   pub each : All IsLineText (take count (lines_of bytes))
   pub lines : List Line
-  pub marks : All IsMark lines
+  pub fit : All IsLine lines
   pub texts : kept_lines (take count (lines_of bytes)) ≡ map line_text lines
   pub draft_is : with_lines no_lines lines ≡ Some draft
 

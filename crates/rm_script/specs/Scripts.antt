@@ -1,22 +1,18 @@
 -- Which bytes are which script.
 pub use Rattle.rm_script.specs.Messages.{IsSubmission, IsClientAsk}
-pub use Rattle.rm_script.specs.Built.{IsBuiltAsk}
 use Rattle.std.specs.Prelude.{◌≡◌, ℕ, ◌<◌, List, [], ◌∷◌, length, IfSome, IsSome, All}
 use Rattle.rm_types.specs.Ranges.{IsWithin}
 use Rattle.rm_types.specs.declared.messages.Message.{Message}
 use Rattle.rm_types.specs.declared.scripts.Script.{Script}
-use Rattle.rm_script.specs.declared.kinds.Kind.TheVariants.{EachCrash}
-use Rattle.rm_script.specs.Built.{BuiltOr, IsBuiltMessage, RegistersOnce}
 use Rattle.rm_script.specs.Limits.{greatest_stamp, greatest_calls, greatest_image}
 use Rattle.rm_script.specs.Lines.{lines_of, kept_lines, KeepLimits}
 use Rattle.rm_script.specs.Messages.{IsMessage}
-use Rattle.rm_script.specs.Written.{Sent, message_of, Crashing, WrittenLife, life_of, script_of_lives}
+use Rattle.rm_script.specs.Written.{Sent, message_of, Crashing, WrittenLife, script_of_lives}
 use Rattle.rm_script.specs.Spelling.{sent_text, script_lines}
 
--- a message that may stand in a script: its parts are in their ranges, and it is of a kind that is read so far
-pub record IsRead (message : Message) : Type 0 where
-  pub values : IsMessage message
-  pub built : IsBuiltMessage message
+-- a message that may stand in a script: its parts are in their ranges
+abbrev pub IsRead : Message → Type 0
+IsRead message = IsMessage message
 
 -- what is sent is such a message
 abbrev pub IsSent : Sent → Type 0
@@ -27,7 +23,8 @@ pub record IsLineOf (line : List ℕ) (sent : Sent) : Type 0 where
   pub fits : IsSent sent
   pub text : line ≡ sent_text sent
 
--- a crash stands directly after a `settle` of its life: a segment settled, and nothing is sent since
+-- a crash stands directly after a `settle` of its life, for a time, since the layers above can't take another yet: a segment
+-- settled, and nothing is sent since
 pub record FollowsSettle (settled : List (List Sent)) (sent : List Sent) : Type 0 where
   pub bare : sent ≡ []
   pub after_settle : 0 < length settled
@@ -37,14 +34,13 @@ pub record IsCrash (life : WrittenLife) (crash : Crashing) : Type 0 where
   pub sent : All IsSent crash.sent
   pub calls : IsWithin 0 greatest_calls crash.calls
   pub image : IsWithin 0 greatest_image crash.image
-  pub built : BuiltOr EachCrash (FollowsSettle life.settled crash.sent)
+  pub place : FollowsSettle life.settled crash.sent
 
 -- a life that may stand in a script
 pub record IsLife (life : WrittenLife) : Type 0 where
   pub stamp : IsWithin 1 greatest_stamp life.stamp
   pub settled : All (All IsSent) life.settled
   pub crash : IfSome life.crash (IsCrash life)
-  pub once : RegistersOnce (life_of life)
 
 -- the life ends with a crash
 abbrev pub Crashes : WrittenLife → Type 0

@@ -1,13 +1,10 @@
 -- What holds of each script that is read: how its lives close, and the ranges of its values.
-use Rattle.std.specs.Prelude.{◌≡◌, ◌⊎◌, ℕ, ◌<◌, ◌≤◌, List, [], ◌∷◌, ◌++◌, length, sum_by, All, if◌then◌else◌}
+use Rattle.std.specs.Prelude.{◌≡◌, ◌⊎◌, ℕ, ◌<◌, ◌≤◌, List, [], ◌∷◌, ◌++◌, length, sum_by, All}
 use Rattle.rm_types.specs.Ranges.{IsWithin}
-use Rattle.rm_types.specs.declared.messages.Message.{Message}
 use Rattle.rm_types.specs.declared.scripts.Close.TheVariants.{Settle, Crash}
 use Rattle.rm_types.specs.declared.scripts.Segment.{Segment}
 use Rattle.rm_types.specs.declared.scripts.Life.{Life}
 use Rattle.rm_types.specs.declared.scripts.Script.{Script}
-use Rattle.rm_script.specs.declared.kinds.Kind.TheVariants.{EachCrash}
-use Rattle.rm_script.specs.Built.{is_built, BuiltOr, RegistersOnce}
 use Rattle.rm_script.specs.Limits.{most_lines, greatest_stamp, greatest_calls, greatest_image}
 use Rattle.rm_script.specs.Scripts.{IsRead, EachButLast}
 
@@ -15,20 +12,14 @@ use Rattle.rm_script.specs.Scripts.{IsRead, EachButLast}
 abbrev pub Settles : Segment → Type 0
 Settles segment = segment.close ≡ Settle
 
--- the messages of a segment that crashes: none, as long as a crash stands directly after a `settle` alone
-abbrev pub before_crash : List Message → List Message
-before_crash messages = if is_built EachCrash then messages else []
-
--- the last segment ends with a crash, and those before it settle; as long as a crash stands directly after a `settle` alone,
--- there is one before it
+-- the last segment is a crash directly after a `settle`: it has no message, and there are segments before it, which settle
 pub record EndInCrash (segments : List Segment) : Type 0 where
   pub before : List Segment
-  pub messages : List Message
   pub calls : ℕ
   pub image : ℕ
-  pub apart : segments ≡ before ++ record { messages = before_crash messages; close = Crash calls image } ∷ []
+  pub apart : segments ≡ before ++ record { messages = []; close = Crash calls image } ∷ []
   pub settle : All Settles before
-  pub some : BuiltOr EachCrash (0 < length before)
+  pub some : 0 < length before
   pub calls_fit : IsWithin 0 greatest_calls calls
   pub image_fits : IsWithin 0 greatest_image image
 
@@ -42,7 +33,6 @@ pub record IsToldLife (life : Life) : Type 0 where
   pub messages : All (λ segment. All IsRead segment.messages) life.segments
   pub closes : All Settles life.segments ⊎ EndInCrash life.segments
   pub few : messages_in life.segments ≤ most_lines
-  pub once : RegistersOnce life
 
 -- a script that is read: each life but the last crashes
 pub record IsToldScript (script : Script) : Type 0 where

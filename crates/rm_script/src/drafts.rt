@@ -1,12 +1,9 @@
-ghost use Rattle.std.specs.Prelude.{Some, IfOk};
-ghost use Rattle.rm_script.specs.Names.{Knows};
+ghost use Rattle.std.specs.Prelude.{◌≡◌, Some};
 ghost use Rattle.rm_script.specs.Results.{Finds, Gives};
-ghost use Rattle.rm_script.specs.Reading.{settled, with_start, with_settle, crash_life, with_crash, with_message, with_loss, with_line, script_of_draft, Takes};
+ghost use Rattle.rm_script.specs.Reading.{settled, follows_settle, with_start, with_settle, crash_life, with_crash, with_message, with_loss, with_line, script_of_draft, Takes};
 
 use crate::errors::LineError;
-use crate::kinds::{Kind, is_built};
 use crate::lines::{Line, line_of};
-use crate::names::Names;
 use rm_types::{Close, Items, Life, Message, Script, Segment};
 use std::alloc::Global;
 
@@ -40,12 +37,19 @@ impl Living {
         })
     }
 
-    /// The life when it crashes. As long as a crash stands directly after a `settle` alone, `Refused` comes
-    /// where no segment settled, or a message was sent since.
+    /// Whether a segment settled, and no message was sent since.
+    fn follows_settle(&self) -> bool
+        ensures { result ≡ follows_settle self.now }
+    {
+        !self.is_sending && !self.segments.is_empty()
+    }
+
+    /// The life when it crashes. `Refused` comes where it may not: a crash stands directly after a `settle` of
+    /// its life, for a time, since the layers above can't take another yet.
     fn crash(self, calls: u32, image: u32) -> Result<Life, LineError>
         ensures { Gives result (crash_life self calls image) }
     {
-        if !is_built(Kind::EachCrash) && (self.is_sending || self.segments.is_empty()) {
+        if !self.follows_settle() {
             return Err(LineError::Refused);
         }
         let mut segments = self.segments;
@@ -72,44 +76,33 @@ pub enum Draft {
 impl Draft {
     /// The draft with the line of this text more. `Refused` comes where the text is no line, or the line
     /// may not stand there.
-    pub(crate) fn with_text(
-        self,
-        alloc: Global,
-        text: &[u8],
-        names: &mut Names,
-    ) -> Result<Draft, LineError>
-        requires { Knows names.old self }
-        ensures takes { Finds result (Takes self text.now) }
-        ensures knows { IfOk result (Knows names.new) }
+    pub(crate) fn with_text(self, alloc: Global, text: &[u8]) -> Result<Draft, LineError>
+        ensures { Finds result (Takes self text.now) }
     {
         let line = line_of(alloc, text)?;
-        self.with_line(alloc, line, names)
+        self.with_line(alloc, line)
     }
 
     /// The draft with one line more. `Refused` comes where the line may not stand there.
-    fn with_line(self, alloc: Global, line: Line, names: &mut Names) -> Result<Draft, LineError>
-        requires { Knows names.old self }
-        ensures line { Gives result (with_line self line) }
-        ensures knows { IfOk result (Knows names.new) }
+    fn with_line(self, alloc: Global, line: Line) -> Result<Draft, LineError>
+        ensures { Gives result (with_line self line) }
     {
         match line {
             Line::Skipped => Ok(self),
-            Line::Start(stamp) => self.with_start(alloc, stamp, names),
+            Line::Start(stamp) => self.with_start(alloc, stamp),
             Line::Settle => self.with_settle(alloc),
             Line::Crash { calls, image } => self.with_crash(calls, image),
-            Line::Deliver(message) => self.with_message(message, names),
+            Line::Deliver(message) => self.with_message(message),
             Line::Lose(_) => self.with_loss(),
         }
     }
 
     /// The draft in which a life starts. `Refused` comes where one goes on.
-    fn with_start(self, alloc: Global, stamp: u64, names: &mut Names) -> Result<Draft, LineError>
-        ensures draft { Gives result (with_start self stamp) }
-        ensures knows { IfOk result (Knows names.new) }
+    fn with_start(self, alloc: Global, stamp: u64) -> Result<Draft, LineError>
+        ensures { Gives result (with_start self stamp) }
     {
         match self {
             Draft::Between(lives) => {
-                names.forget();
                 let living = Living {
                     stamp,
                     segments: Items::new(alloc),
@@ -132,7 +125,8 @@ impl Draft {
         }
     }
 
-    /// The draft whose life crashes. `Refused` comes where no life goes on, or no crash may stand there yet.
+    /// The draft whose life crashes. `Refused` comes where no life goes on, or no crash may
+    /// stand there.
     fn with_crash(self, calls: u32, image: u32) -> Result<Draft, LineError>
         ensures { Gives result (with_crash self calls image) }
     {
@@ -145,19 +139,13 @@ impl Draft {
         }
     }
 
-    /// The draft with a message that is delivered. `Refused` comes where no life goes on, or the message
-    /// registers a node again and may not yet.
-    fn with_message(self, message: Message, names: &mut Names) -> Result<Draft, LineError>
-        requires { Knows names.old self }
-        ensures draft { Gives result (with_message self message) }
-        ensures knows { IfOk result (Knows names.new) }
+    /// The draft with a message that is delivered. `Refused` comes where no life goes on.
+    fn with_message(self, message: Message) -> Result<Draft, LineError>
+        ensures { Gives result (with_message self message) }
     {
         match self {
             Draft::Between(_) => Err(LineError::Refused),
             Draft::Living(lives, mut living) => {
-                if !names.admit(&message)? {
-                    return Err(LineError::Refused);
-                }
                 living.messages.push(message)?;
                 living.is_sending = true;
                 Ok(Draft::Living(lives, living))

@@ -2,13 +2,13 @@
 //!
 //! It promises that a script is answered exactly where the bytes are one, and else the first line that is
 //! refused; that the same bytes are one script at most; and that a message has one line. Of its `specs/`,
-//! `Limits` has the limits, and `Lines` the lines of bytes; `Messages` the messages in their ranges, and
-//! `Built` the kinds of lines that are read so far; `Written` and `Spelling` a script as it is written, and
-//! its lines; `Scripts` says which bytes are which script, `Refusals` which line is refused first, and
-//! `Values` what holds of each script that is read; the others say what the private functions answer.
+//! `Limits` has the limits, and `Lines` the lines of bytes; `Messages` the messages in their ranges;
+//! `Written` and `Spelling` a script as it is written, and its lines; `Scripts` says which bytes are which
+//! script, `Refusals` which line is refused first, and `Values` what holds of each script that is read; the
+//! others say what the private functions answer.
 //!
-//! The whole grammar is read, but a line of a kind that the layers above can't take yet is refused: `kinds`
-//! says which.
+//! The whole grammar is read, but for one rule that stands for a time, since the layers above can't take
+//! another crash yet: a crash stands directly after a `settle` of its life (`FollowsSettle` in `Scripts`).
 //!
 //! It stands on the values of `rm_types`, on the wording of messages in `rm_formats`, on `rm_ids`, which
 //! reads ids, and on the law of `rm_page` that no two messages have one text.
@@ -19,12 +19,10 @@ mod clocks;
 mod drafts;
 mod errors;
 mod fields;
-mod kinds;
 mod laws;
 mod lines;
 mod lists;
 mod masters;
-mod names;
 mod nodes;
 mod numbers;
 mod reading;

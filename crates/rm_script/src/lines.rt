@@ -1,16 +1,15 @@
-ghost use Rattle.std.specs.Prelude.{◌≡◌, ◌+◌, ◌<◌, ◌∷◌, ◌==◌, ◌⊎◌, [], length, map, position, MatchBool, MatchResult, codes};
+ghost use Rattle.std.specs.Prelude.{◌≡◌, ◌+◌, ◌<◌, ◌∷◌, ◌==◌, ◌⊎◌, [], length, map, position, codes};
 ghost use Rattle.std.specs.List.{list_all};
 ghost use Rattle.rm_types.specs.Texts.{is_printable};
 ghost use Rattle.rm_formats.specs.Wording.{message_words};
 ghost use Rattle.rm_script.specs.Lines.{lines_of, is_skipped};
 ghost use Rattle.rm_script.specs.Messages.{IsMessage};
 ghost use Rattle.rm_script.specs.Results.{Finds, IsOf};
-ghost use Rattle.rm_script.specs.Reading.{line_words, IsLine, IsBuiltLine, IsLineAs};
+ghost use Rattle.rm_script.specs.Reading.{line_words, IsLine, IsLineAs};
 
 use crate::clients::client_message;
 use crate::clocks::clock_message;
 use crate::errors::LineError;
-use crate::kinds::is_built_message;
 use crate::masters::master_message;
 use crate::nodes::node_message;
 use crate::numbers::{long_number, number};
@@ -115,11 +114,7 @@ fn crash_line(words: &[&[u8]]) -> Result<Line, LineError>
 }
 
 /// The message of a sender, by the words after it.
-pub(crate) fn message_from(
-    alloc: Global,
-    sender: &[u8],
-    words: &[&[u8]],
-) -> Result<Message, LineError>
+fn message_from(alloc: Global, sender: &[u8], words: &[&[u8]]) -> Result<Message, LineError>
     ensures { Finds result (IsOf message_words IsMessage (sender.now ∷ map (λ word. word.now) words.now)) }
 {
     if sender == "client".as_bytes() {
@@ -172,16 +167,6 @@ fn line_of_words(alloc: Global, words: &[&[u8]]) -> Result<Line, LineError>
     }
 }
 
-/// Whether a line is of a kind that is read.
-fn is_built_line(line: &Line) -> bool
-    ensures { MatchBool result (IsBuiltLine line.now) (¬ IsBuiltLine line.now) }
-{
-    match line {
-        Line::Deliver(message) | Line::Lose(message) => is_built_message(message),
-        Line::Skipped | Line::Start(_) | Line::Settle | Line::Crash { .. } => true,
-    }
-}
-
 /// Whether a line says nothing: it is empty, or begins with `#`.
 fn is_skipped(text: &[u8]) -> bool
     ensures { result ≡ is_skipped text.now }
@@ -199,17 +184,6 @@ fn all_printable(text: &[u8]) -> bool
     text.iter().all(|byte| *byte >= 0x20 && *byte <= 0x7e)
 }
 
-/// The line, where it is of a kind that is read. Else it is refused as one that breaks the grammar.
-fn if_built(line: Line) -> Result<Line, LineError>
-    ensures { MatchResult result (λ built. (built ≡ line) × IsBuiltLine line) (λ error. (error ≡ LineError.Refused) × ¬ IsBuiltLine line) }
-{
-    if is_built_line(&line) {
-        Ok(line)
-    } else {
-        Err(LineError::Refused)
-    }
-}
-
 /// A line by itself.
 pub(crate) fn line_of(alloc: Global, text: &[u8]) -> Result<Line, LineError>
     ensures { Finds result (IsLineAs text.now) }
@@ -221,6 +195,5 @@ pub(crate) fn line_of(alloc: Global, text: &[u8]) -> Result<Line, LineError>
         return Ok(Line::Skipped);
     }
     let words = words_of(alloc, text)?;
-    let line = line_of_words(alloc, words.as_slice())?;
-    if_built(line)
+    line_of_words(alloc, words.as_slice())
 }

@@ -7,7 +7,6 @@ ghost use Rattle.rm_script.specs.Reading.{Tells};
 use crate::drafts::Draft;
 use crate::errors::ScriptError;
 use crate::lines::cut_line;
-use crate::names::Names;
 use rm_types::{Items, Script};
 use std::alloc::Global;
 
@@ -35,7 +34,6 @@ fn script_of(alloc: Global, bytes: &[u8]) -> Result<Script, ScriptError>
     ensures { Tells bytes.now result }
 {
     let mut draft = Draft::Between(Items::new(alloc));
-    let mut names = Names::new(alloc);
     let mut rest = bytes;
     let mut count: u32 = 0;
     'lines: while !rest.is_empty() {
@@ -44,7 +42,7 @@ fn script_of(alloc: Global, bytes: &[u8]) -> Result<Script, ScriptError>
         if line > MOST_LINES || bytes.len() - after.len() > MOST_BYTES {
             return Err(ScriptError::Refused { line });
         }
-        draft = match draft.with_text(alloc, text, &mut names) {
+        draft = match draft.with_text(alloc, text) {
             Ok(next) => next,
             Err(error) => return Err(error.at(line)),
         };

@@ -1,11 +1,11 @@
 //! What no clause says: that calls succeed, and whether the grammar is the one that is meant. The expected values are
 //! worked out by hand.
-use crate::errors::LineError;
-use crate::lines::message_from;
-use crate::words::{pieces, words_of};
 use crate::{ScriptError, read_script};
-use rm_types::Message;
-use std::alloc::Global;
+use rm_types::{
+    AppId, Ask, AttemptId, ClockAsk, Close, ContainerId, Held, Life, MasterAsk, Message, NodeAsk,
+    Resource, Segment,
+};
+use std::alloc::{AllocError, Global};
 use std::test::Fail;
 
 /// The first refused line of a text, or 0 where it is a script.
@@ -18,7 +18,7 @@ fn refused_line(alloc: Global, text: &[u8]) -> u32 {
 }
 
 /// Texts, and their first refused lines: 0 where they are scripts.
-const SCRIPTS: [(&str, u32); 44] = [
+const SCRIPTS: [(&str, u32); 47] = [
     ("", 0),
     ("\n# no life\n\n", 0),
     ("start 1", 0),
@@ -72,15 +72,21 @@ const SCRIPTS: [(&str, u32); 44] = [
         "start 1\nclient alice submit application_1_0001 queue=q name=n memory=1 vcores=1 attempts=0 modify=*\nsettle",
         0,
     ),
+    ("start 1\nsettle\nlose clock tick 1\ncrash 0 0", 4),
     (
-        "start 1\nsettle\nnode n1 register 1 memory=8192 vcores=8\nsettle",
-        3,
+        "start 1\nnode n1 register 1 memory=1 vcores=1\nnode n1 register 1 memory=1 vcores=1\nsettle",
+        0,
     ),
     (
-        "start 1\nlose master appattempt_1_0001_000001 register\nsettle",
+        "start 1\nlose master appattempt_1_0001_000001 register\nsettle\ncrash 0 0",
+        0,
+    ),
+    (
+        "start 1\nlose master appattempt_1_0001_000001 finish \nsettle",
         2,
     ),
-    ("start 1\nclock tick 1\nsettle", 2),
+    ("start 1\nclock tick 1\n", 3),
+    ("clock tick 1\n", 1),
 ];
 
 #[test]
@@ -107,15 +113,6 @@ fn limits(rt: HostRuntime) -> Result<(), Fail> {
     assert_eq!(rt; refused_line(rt.alloc(), line.as_slice()), 1);
     assert_eq!(rt; refused_line(rt.alloc(), &line.as_slice()[1..]), 0);
     Ok(())
-}
-
-/// The message that a line is by the grammar, of a kind that is read or not.
-fn message_of(alloc: Global, line: &[u8]) -> Result<Message, LineError> {
-    let words = words_of(alloc, line)?;
-    match words.as_slice() {
-        [sender, more @ ..] => message_from(alloc, sender, more),
-        [] => Err(LineError::Refused),
-    }
 }
 
 /// Lines of messages.
@@ -215,13 +212,213 @@ clock expire n1\n\
 clock expire master n1\n\
 clock expire node n1 n2";
 
+/// The text with a life in which a line stands alone in a segment.
+fn with_line(alloc: Global, line: &[u8]) -> Result<Vec<u8>, AllocError> {
+    let mut text = Vec::new(alloc);
+    text.extend_from_slice(b"start 1\n")?;
+    text.extend_from_slice(line)?;
+    text.extend_from_slice(b"\nsettle")?;
+    Ok(text)
+}
+
 #[test]
-fn messages(rt: HostRuntime) -> Result<(), LineError> {
-    for (lines, expected) in [(MESSAGES, true), (NO_MESSAGES, false)] {
-        for (place, line) in pieces(rt.alloc(), lines, b'\n')?.iter().enumerate() {
-            let found = message_of(rt.alloc(), line);
-            assert_eq!(rt; found.is_ok(), expected, "line {place}");
+fn messages(rt: HostRuntime) -> Result<(), Fail> {
+    for (lines, refused) in [(MESSAGES, 0), (NO_MESSAGES, 2)] {
+        for (place, line) in lines.split(|byte| *byte == b'\n').enumerate() {
+            let text = with_line(rt.alloc(), line)?;
+            assert_eq!(rt;
+                refused_line(rt.alloc(), text.as_slice()),
+                refused,
+                "line {place}"
+            );
         }
     }
+    Ok(())
+}
+
+/// A script in which all that isn't a client speaks, and some of it is lost.
+const TOLD: &[u8] = b"\
+start 7\n\
+node n1 register 1 memory=8192 vcores=8\n\
+lose node n1 beat 1\n\
+node n1 register 2 memory=4096 vcores=4 running=container_7_0001_01_000001:1024:1\n\
+settle\n\
+node n1 beat 3 done=container_7_0001_01_000001\n\
+master appattempt_7_0001_000001 allocate 4 ask=1:2:1024:1 release=container_7_0001_01_000001\n\
+master appattempt_7_0001_000001 finish  all done\n\
+clock tick 10\n\
+clock expire node n1\n\
+clock expire master appattempt_7_0001_000001\n\
+settle\n\
+crash 5 1\n\
+start 8\n";
+
+/// The attempt `appattempt_7_0001_000001`.
+const ATTEMPT: AttemptId = AttemptId {
+    app: AppId {
+        stamp: 7,
+        number: 1,
+    },
+    number: 1,
+};
+
+/// The container `container_7_0001_01_000001`.
+const CONTAINER: ContainerId = ContainerId {
+    attempt: ATTEMPT,
+    epoch: 0,
+    seq: 1,
+};
+
+/// The size `1024:1`.
+const SIZE: Resource = Resource {
+    memory_mb: 1024,
+    vcores: 1,
+};
+
+/// Whether the node `n1` registers in this turn, with such a capability and this running.
+fn registers(message: &Message, turn: u32, memory_mb: u32, vcores: u32, running: &[Held]) -> bool {
+    let size = Resource { memory_mb, vcores };
+    match message {
+        Message::Node(
+            name,
+            NodeAsk::Register {
+                turn: found,
+                capability,
+                running: held,
+            },
+        ) => {
+            name.bytes() == "n1".as_bytes()
+                && *found == turn
+                && *capability == size
+                && held.as_slice() == running
+        }
+        _ => false,
+    }
+}
+
+/// Whether the node `n1` beats with the id 3 and says that the container is done.
+fn beats(message: &Message) -> bool {
+    match message {
+        Message::Node(name, NodeAsk::Beat { id, running, done }) => {
+            name.bytes() == "n1".as_bytes()
+                && *id == 3
+                && running.is_empty()
+                && done.as_slice() == [CONTAINER].as_slice()
+        }
+        _ => false,
+    }
+}
+
+/// Whether the attempt's master asks for two containers and releases one.
+fn allocates(message: &Message) -> bool {
+    let ask = Ask {
+        priority: 1,
+        count: 2,
+        size: SIZE,
+    };
+    match message {
+        Message::Master(attempt, MasterAsk::Allocate { id, asks, release }) => {
+            *attempt == ATTEMPT
+                && *id == 4
+                && asks.as_slice() == [ask].as_slice()
+                && release.as_slice() == [CONTAINER].as_slice()
+        }
+        _ => false,
+    }
+}
+
+/// Whether the attempt's master ends, with two spaces in its last word.
+fn finishes(message: &Message) -> bool {
+    match message {
+        Message::Master(attempt, MasterAsk::Finish { text }) => {
+            *attempt == ATTEMPT && text.bytes() == " all done".as_bytes()
+        }
+        _ => false,
+    }
+}
+
+/// Whether the clock ticks 10 milliseconds.
+fn ticks(message: &Message) -> bool {
+    match message {
+        Message::Clock(ClockAsk::Tick(time)) => *time == 10,
+        _ => false,
+    }
+}
+
+/// Whether the lease of the node `n1` runs out.
+fn expires_node(message: &Message) -> bool {
+    match message {
+        Message::Clock(ClockAsk::ExpireNode(name)) => name.bytes() == "n1".as_bytes(),
+        _ => false,
+    }
+}
+
+/// Whether the lease of the attempt's master runs out.
+fn expires_master(message: &Message) -> bool {
+    match message {
+        Message::Clock(ClockAsk::ExpireMaster(attempt)) => *attempt == ATTEMPT,
+        _ => false,
+    }
+}
+
+/// Whether the messages are those of the first segment.
+fn are_first(messages: &[Message]) -> bool {
+    let held = Held {
+        id: CONTAINER,
+        size: SIZE,
+    };
+    match messages {
+        [one, two] => registers(one, 1, 8192, 8, &[]) && registers(two, 2, 4096, 4, &[held]),
+        _ => false,
+    }
+}
+
+/// Whether the messages are those of the second.
+fn are_second(messages: &[Message]) -> bool {
+    match messages {
+        [beat, allocation, finish, tick, node, master] => {
+            beats(beat)
+                && allocates(allocation)
+                && finishes(finish)
+                && ticks(tick)
+                && expires_node(node)
+                && expires_master(master)
+        }
+        _ => false,
+    }
+}
+
+/// Whether the segments are those of the first life.
+fn are_segments(segments: &[Segment]) -> bool {
+    match segments {
+        [first, second, crash] => {
+            are_first(first.messages.as_slice())
+                && first.close == Close::Settle
+                && are_second(second.messages.as_slice())
+                && second.close == Close::Settle
+                && crash.messages.is_empty()
+                && crash.close == Close::Crash { calls: 5, image: 1 }
+        }
+        _ => false,
+    }
+}
+
+/// Whether the lives are those that the script tells.
+fn are_told(lives: &[Life]) -> bool {
+    match lives {
+        [first, last] => {
+            first.stamp == 7
+                && are_segments(first.segments.as_slice())
+                && last.stamp == 8
+                && last.segments.is_empty()
+        }
+        _ => false,
+    }
+}
+
+#[test]
+fn values(rt: HostRuntime) -> Result<(), ScriptError> {
+    let script = read_script(rt.alloc(), TOLD)?;
+    assert!(rt; are_told(script.lives.as_slice()));
     Ok(())
 }

@@ -1,4 +1,4 @@
-use Rattle.rm_main.proofs.Rooted.{rooted}
+use Rattle.rm_main.proofs.Rooted.{limited, rooted}
 use Rattle.rm_main.proofs.inputs.read_settings.Goals as goal
 
 pub returns-in-Ok-read_cluster-clause-read : goal.returns-in-Ok-read_cluster-clause-read
@@ -12,3 +12,6 @@ returns-in-Err-Refused-clause-refused g c =
 
 pub returns-in-Ok-read_cluster-clause-queues : goal.returns-in-Ok-read_cluster-clause-queues
 returns-in-Ok-read_cluster-clause-queues g c = rooted _ c.in-Ok-read_cluster.ensures.in_range
+
+pub returns-in-Ok-read_cluster-clause-limits : goal.returns-in-Ok-read_cluster-clause-limits
+returns-in-Ok-read_cluster-clause-limits g c = limited _ c.in-Ok-read_cluster.ensures.in_range

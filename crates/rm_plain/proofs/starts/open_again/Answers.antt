@@ -19,4 +19,4 @@ returns-then-not-is_known-clause-why g c = λ opening k has.
 pub returns-in-Ok-can_begin-clause-again : goal.returns-in-Ok-can_begin-clause-again
 returns-in-Ok-can_begin-clause-again g c =
     is_again g.D.Disk.view c.args.disk c.in-Ok.store c.in-Ok.tree c.in-Ok.field-0-2 c.in-Ok.ensures.opened c.args.d.now.core c.in-Ok-can_begin.ensures.epoch c.in-Ok-can_begin.ensures.stamp
-    c.in-Ok-can_begin.ensures.untried (λ opening k. (c.is_known.ensures opening k c.requires.some).0 c.if-not-is_known.false)
+    (λ opening k. (c.is_known.ensures opening k c.requires.some).0 c.if-not-is_known.false)

@@ -2,7 +2,7 @@ use Rattle.std.proofs.Common.{map, sym, ap, ◌∙◌, arith}
 use Rattle.std.proofs.lemmas.List.Elements.{All-from_recursion}
 use Rattle.rm_types.specs.Ranges.{IsWithin}
 use Rattle.rm_script.specs.Lines.{IsLineText}
-use Rattle.rm_script.proofs.OneLine.{printable, is_printed, none_found, built_found}
+use Rattle.rm_script.proofs.OneLine.{printable, is_printed, words_found}
 use Rattle.rm_script.proofs.lines.line_of.Goals as goal
 use Rattle.rm_script.proofs.lines.line_of.Goals.{then-text-gt-MOST_LINE_BYTES-via-then-text-gt-MOST_LINE_BYTES, then-text-gt-MOST_LINE_BYTES-via-else-text-gt-MOST_LINE_BYTES+then-not-all_printable}
 
@@ -14,12 +14,6 @@ returns-then-text-gt-MOST_LINE_BYTES c = λ line is.
           absurd (let printed = w.all_printable.ensures ∙ is_printed c.args.text.now is.fine in let no = w.if-not-all_printable.true in cc)
     ]
 
-pub returns-in_err-line : goal.returns-in_err-line
-returns-in_err-line c =
-    let words = ap (map (λ word. word.now)) c.as_slice.ensures.value ∙ c.in_ok-words.ensures.words in
-    none_found c.from_residual-in_err-line.result c.in_err-line.field-0.0 c.args.text.now c.from_residual-in_err-line.ensures.1 (sym c.is_skipped.ensures ∙ c.if-is_skipped.false)
-    (rw words at c.in_err-line.ensures)
-
 pub returns : goal.returns
 returns c =
     let words = ap (map (λ word. word.now)) c.as_slice.ensures.value ∙ c.in_ok-words.ensures.words in
@@ -27,4 +21,4 @@ returns c =
       printable = All-from_recursion (IsWithin 0x20 0x7e) c.args.text.now (printable c.args.text.now (sym c.all_printable.ensures ∙ c.if-not-all_printable.false));
       short = omega (arith, c.if-text-gt-MOST_LINE_BYTES.false);
     } in
-    built_found c.if_built.result c.in_ok-line.line c.args.text.now fine (sym c.is_skipped.ensures ∙ c.if-is_skipped.false) (rw words at c.in_ok-line.ensures) c.if_built.ensures
+    words_found c.line_of_words.result c.args.text.now fine (sym c.is_skipped.ensures ∙ c.if-is_skipped.false) (rw words at c.line_of_words.ensures)

@@ -12,11 +12,11 @@ returns-then-line-gt-MOST_LINES c =
     let apart = eqb-false _ _ (sym c.lines-test.ensures) in
     let rest : List ℕ = c.lines.rest.now in
     let some : 0 < length rest = omega (arith, apart) in
-    let next = is_next c.lines.count c.args.bytes.now rest c.lines.draft c.cut_line.result.0.now c.cut_line.result.1.now c.lines.invariant.at some c.cut_line.ensures.lines c.cut_line.ensures.cut in
+    let next = is_next c.lines.count c.args.bytes.now rest c.lines.draft c.cut_line.result.0.now c.cut_line.result.1.now c.lines.invariant some c.cut_line.ensures.lines c.cut_line.ensures.cut in
     elim c.then-line-gt-MOST_LINES.branch [
-      | then-line-gt-MOST_LINES-via-then-line-gt-MOST_LINES w ↦ too_many c.lines.count c.args.bytes.now rest c.lines.draft _ _ c.lines.invariant.at next (omega arith)
+      | then-line-gt-MOST_LINES-via-then-line-gt-MOST_LINES w ↦ too_many c.lines.count c.args.bytes.now rest c.lines.draft _ _ c.lines.invariant next (omega arith)
       | then-line-gt-MOST_LINES-via-else-line-gt-MOST_LINES+then-bytes-after-gt-MOST_BYTES w ↦
-          too_far c.lines.count c.args.bytes.now rest c.lines.draft _ _ c.lines.invariant.at next (omega arith)
+          too_far c.lines.count c.args.bytes.now rest c.lines.draft _ _ c.lines.invariant next (omega arith)
     ]
 
 pub returns-in-Err : goal.returns-in-Err
@@ -24,27 +24,24 @@ returns-in-Err c =
     let apart = eqb-false _ _ (sym c.lines-test.ensures) in
     let rest : List ℕ = c.lines.rest.now in
     let some : 0 < length rest = omega (arith, apart) in
-    let next = is_next c.lines.count c.args.bytes.now rest c.lines.draft c.cut_line.result.0.now c.cut_line.result.1.now c.lines.invariant.at some c.cut_line.ensures.lines c.cut_line.ensures.cut in
-    subst (λ e. Tells c.args.bytes.now (Err e)) (sym c.at.ensures) (refuses c.in-Err.error c.lines.count c.args.bytes.now rest c.lines.draft _ _ c.lines.invariant.at next c.in-Err.ensures.takes)
+    let next = is_next c.lines.count c.args.bytes.now rest c.lines.draft c.cut_line.result.0.now c.cut_line.result.1.now c.lines.invariant some c.cut_line.ensures.lines c.cut_line.ensures.cut in
+    subst (λ e. Tells c.args.bytes.now (Err e)) (sym c.at.ensures) (refuses c.in-Err.error c.lines.count c.args.bytes.now rest c.lines.draft _ _ c.lines.invariant next c.in-Err.ensures)
 
 pub lines-preserved : goal.lines-preserved
 lines-preserved c =
     let apart = eqb-false _ _ (sym c.lines-test.ensures) in
     let rest : List ℕ = c.lines.rest.now in
     let some : 0 < length rest = omega (arith, apart) in
-    let next = is_next c.lines.count c.args.bytes.now rest c.lines.draft c.cut_line.result.0.now c.cut_line.result.1.now c.lines.invariant.at some c.cut_line.ensures.lines c.cut_line.ensures.cut in
-    record {
-      at = goes_on c.lines.count c.args.bytes.now rest c.lines.draft c.in-Ok.next _ _ c.lines.invariant.at next (omega arith) (omega arith) c.in-Ok.ensures.takes;
-      knows = c.in-Ok.ensures.knows;
-    }
+    let next = is_next c.lines.count c.args.bytes.now rest c.lines.draft c.cut_line.result.0.now c.cut_line.result.1.now c.lines.invariant some c.cut_line.ensures.lines c.cut_line.ensures.cut in
+    goes_on c.lines.count c.args.bytes.now rest c.lines.draft c.in-Ok.next _ _ c.lines.invariant next (omega arith) (omega arith) c.in-Ok.ensures
 
 pub returns-in-Ok-into_script : goal.returns-in-Ok-into_script
 returns-in-Ok-into_script c =
     let nothing = nil_from_length c.lines.rest.now (eqb-true _ _ (sym c.lines-test.ensures)) in
-    ends c.in-Ok-into_script.script c.lines.count c.args.bytes.now c.lines.rest.now c.lines.draft nothing c.lines.invariant.at c.in-Ok-into_script.ensures
+    ends c.in-Ok-into_script.script c.lines.count c.args.bytes.now c.lines.rest.now c.lines.draft nothing c.lines.invariant c.in-Ok-into_script.ensures
 
-pub returns : goal.returns
-returns c =
+pub returns-in-Err-into_script : goal.returns-in-Err-into_script
+returns-in-Err-into_script c =
     let nothing = nil_from_length c.lines.rest.now (eqb-true _ _ (sym c.lines-test.ensures)) in
     subst (λ e. Tells c.args.bytes.now (Err e)) (sym c.at-in-Err-into_script.ensures)
-    (ends_open c.in-Err-into_script.error c.lines.count c.args.bytes.now c.lines.rest.now c.lines.draft nothing c.lines.invariant.at c.in-Err-into_script.ensures)
+    (ends_open c.in-Err-into_script.error c.lines.count c.args.bytes.now c.lines.rest.now c.lines.draft nothing c.lines.invariant c.in-Err-into_script.ensures)

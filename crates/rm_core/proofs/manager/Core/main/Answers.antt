@@ -1,11 +1,12 @@
-use Rattle.std.proofs.Common.{arith}
 use Rattle.rm_core.specs.declared.manager.Move.TheVariants.{Main}
-use Rattle.rm_core.proofs.Moving.{Done, core_sound, main_done}
-use Rattle.rm_core.proofs.Phases.{no_attempts}
+use Rattle.rm_core.proofs.Moving.{Done, core_sound, main_done, main_room}
 use Rattle.rm_core.proofs.manager.Core.main.Goals as goal
 
+pub main-requires-clause-epoch : goal.main-requires-clause-epoch
+main-requires-clause-epoch c = λ ready. (main_room c.self.inside.tables c.self.inside.log c.self.invariant.sound ready).0
+
 pub main-requires-clause-few : goal.main-requires-clause-few
-main-requires-clause-few c = λ id. let none = no_attempts c.self.invariant.sound.history c.self.inside.tables c.self.invariant.sound.phase id in rw none (omega arith)
+main-requires-clause-few c = λ ready. (main_room c.self.inside.tables c.self.inside.log c.self.invariant.sound ready).1
 
 done : (c : goal.After-main) → Done Main c.self.inside.tables c.main.new.t c.self.inside.log c.main.new.log c.main.result
 done c = main_done c.self.inside.tables c.self.inside.log c.self.invariant.sound c.main.new.t c.main.new.log c.main.result c.main.ensures.ok c.main.ensures.some c.main.ensures.err

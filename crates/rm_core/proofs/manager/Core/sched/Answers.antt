@@ -1,6 +1,9 @@
 use Rattle.rm_core.specs.declared.manager.Move.TheVariants.{Sched}
 use Rattle.rm_core.proofs.Moving.{Done, core_sound, sched_done}
-use Rattle.rm_core.proofs.Phases.{no_registration, no_update}
+use Rattle.rm_life_facts.proofs.Facts.{sched_facts_of}
+use Rattle.rm_range_facts.proofs.Absorbable.{can_absorb}
+use Rattle.rm_range_facts.proofs.Passable.{are_few, can_pass}
+use Rattle.rm_running.proofs.Phases.{sched_open}
 use Rattle.rm_core.proofs.manager.Core.sched.Goals as goal
 
 done : (c : goal.After-sched) → Done Sched c.self.inside.tables c.sched.new.t c.self.inside.log c.sched.new.log c.sched.result
@@ -13,7 +16,15 @@ pub returns-clause-does : goal.returns-clause-does
 returns-clause-does c = rw (← c.self.view_is) (done c).does
 
 pub sched-requires-clause-pass : goal.sched-requires-clause-pass
-sched-requires-clause-pass c = λ name rest front. absurd (no_update c.self.invariant.sound.history c.self.inside.tables name rest c.self.invariant.sound.phase front)
+sched-requires-clause-pass c = λ name rest front.
+    let t = c.self.inside.tables in
+    let h = c.self.invariant.sound.history in
+    let r = sched_open h t _ rest c.self.invariant.sound.phase front in
+    (are_few t.settings h t r.whole (sched_facts_of h t r.sides) r.ranged, can_pass t.settings h t r.whole (sched_facts_of h t r.sides) r.ranged)
 
 pub sched-requires-clause-absorb : goal.sched-requires-clause-absorb
-sched-requires-clause-absorb c = λ name turn rest front. absurd (no_registration c.self.invariant.sound.history c.self.inside.tables name turn rest c.self.invariant.sound.phase front)
+sched-requires-clause-absorb c = λ name turn rest front.
+    let t = c.self.inside.tables in
+    let h = c.self.invariant.sound.history in
+    let r = sched_open h t _ rest c.self.invariant.sound.phase front in
+    can_absorb t.settings h t r.whole

@@ -1,4 +1,4 @@
-use Rattle.std.proofs.Common.{◌≡◌, Bool, true, false, not, sym, ◌∙◌, subst}
+use Rattle.std.proofs.Common.{◌≡◌, true, false, not, sym, ◌∙◌, subst}
 use Rattle.rm_core.specs.Words.{has_rest, stands}
 use Rattle.rm_desk.specs.Feeds.{at}
 use Rattle.rm_desk.specs.View.{DeskView}

@@ -1,0 +1,36 @@
+-- A message is answered as the judge says, and the life goes on.
+use Rattle.std.proofs.Common.{◌≤◌, ◌<◌, ◌+◌}
+use Rattle.rm_types.specs.declared.entries.Entry.TheVariants.{Served}
+use Rattle.rm_types.specs.declared.messages.Message.{Message}
+use Rattle.rm_types.specs.declared.messages.Message.TheVariants as messages
+use Rattle.rm_types.specs.declared.replies.Reply.{Reply}
+use Rattle.rm_types.specs.Lanes.{sender_of}
+use Rattle.rm_tables.specs.declared.tables.Tables.{Tables}
+use Rattle.rm_facts.specs.Told.{History, scene_in}
+use Rattle.rm_client.specs.Shows.{Shows}
+use Rattle.rm_moves.specs.Messages.{IsMessage}
+use Rattle.rm_weight_facts.specs.Weights.{message_weight, weight}
+use Rattle.rm_weight_facts.proofs.Messages.{client_weighs, clock_weighs, master_weighs, node_weighs}
+use Rattle.rm_running.specs.Goes.{Goes}
+use Rattle.rm_running.specs.Running.{Running}
+use Rattle.rm_running.proofs.ServedRuns.{client_runs, client_shown, clock_runs, life_shown, master_runs, node_runs}
+use Rattle.rm_core.specs.Queues.{served_moved}
+use Rattle.rm_core.specs.Serving.{IsReply}
+
+-- the tables show clients the scene of an open life
+shows : (h : History) (t : Tables) → Running h t → Shows (scene_in h t) t
+shows h t r = let c = client_shown h t r in record { records = c.records; stamp = c.stamp; given = c.given; going = c.going; live = c.live; retired = c.retired; at = c.at }
+
+-- the life goes on
+pub serve_goes : (h : History) (t : Tables) → Running h t → t.served < 100000 → (message : Message) (reply : Reply) → IsMessage message → IsReply t message reply → Goes h t (Served (sender_of message) message reply) (served_moved message reply t)
+serve_goes h t r few (messages.Client user ask) reply in_range answers = client_runs h t r few user ask reply in_range (answers (scene_in h t) (shows h t r))
+serve_goes h t r few (messages.Master attempt ask) reply in_range answers = master_runs h t r few attempt ask reply in_range (answers (scene_in h t) (life_shown h t r))
+serve_goes h t r few (messages.Node name ask) reply in_range answers = node_runs h t r few name ask reply in_range.0 in_range.1 (answers (scene_in h t) (life_shown h t r))
+serve_goes h t r few (messages.Clock ask) reply in_range answers = clock_runs h t r few ask reply in_range (answers (scene_in h t) (life_shown h t r))
+
+-- with little more to do
+pub serve_weighs : (h : History) (t : Tables) → Running h t → (message : Message) (reply : Reply) → IsMessage message → weight (served_moved message reply t) ≤ weight t + message_weight
+serve_weighs h t r (messages.Client user ask) reply in_range = client_weighs t r.limits ask reply (t.served + 1)
+serve_weighs h t r (messages.Master attempt ask) reply in_range = master_weighs t r.limits attempt ask reply (t.served + 1)
+serve_weighs h t r (messages.Node name ask) reply in_range = node_weighs t r.limits name ask reply (t.served + 1)
+serve_weighs h t r (messages.Clock ask) reply in_range = clock_weighs t r.limits ask reply (t.served + 1)

@@ -1,0 +1,9 @@
+pub mod Rows
+pub mod Parts
+pub mod Starting
+pub mod MainSides
+pub mod SchedSides
+pub mod KeptSides
+pub mod MessageSides
+pub mod Facts
+pub mod OpeningSides

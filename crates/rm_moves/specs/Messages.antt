@@ -1,0 +1,75 @@
+-- The messages that a manager serves: each part is in its range, as a script says it. The ranges are this project's own.
+use Rattle.std.specs.Prelude.{◌≤◌, ℕ, List, All, length}
+use Rattle.rm_types.specs.declared.containers.Ask.{Ask}
+use Rattle.rm_types.specs.declared.containers.Held.{Held}
+use Rattle.rm_types.specs.declared.messages.ClientAsk.{ClientAsk}
+use Rattle.rm_types.specs.declared.messages.ClientAsk.TheVariants as clients
+use Rattle.rm_types.specs.declared.messages.ClockAsk.{ClockAsk}
+use Rattle.rm_types.specs.declared.messages.ClockAsk.TheVariants as clocks
+use Rattle.rm_types.specs.declared.messages.MasterAsk.{MasterAsk}
+use Rattle.rm_types.specs.declared.messages.MasterAsk.TheVariants as masters
+use Rattle.rm_types.specs.declared.messages.Message.{Message}
+use Rattle.rm_types.specs.declared.messages.Message.TheVariants as messages
+use Rattle.rm_types.specs.declared.messages.NodeAsk.{NodeAsk}
+use Rattle.rm_types.specs.declared.messages.NodeAsk.TheVariants as nodes
+use Rattle.rm_types.specs.declared.operations.Op.TheVariants.{App}
+use Rattle.rm_types.specs.declared.resources.Resource.{Resource}
+use Rattle.rm_types.specs.declared.settings.Settings.{Settings}
+use Rattle.rm_types.specs.declared.texts.TextKind.TheVariants.{Node, Note}
+use Rattle.rm_types.specs.Ranges.{IsContainerId, IsOperation, IsText, IsWithin}
+
+-- the settings allow from 1 to 100 attempts of an application
+abbrev pub KeepsLimits : Settings → Type 0
+KeepsLimits settings = IsWithin 1 100 settings.max_attempts
+
+-- the size of a container or a node: up to 16 TiB and 256 cores
+pub record IsSize (size : Resource) : Type 0 where
+  pub memory : IsWithin 1 16777216 size.memory_mb
+  pub vcores : IsWithin 1 256 size.vcores
+
+-- a list of at most a thousand
+pub record IsList {X : Type 0} (Fits : X → Type 0) (items : List X) : Type 0 where
+  pub few : length items ≤ 1000
+  pub each : All Fits items
+
+-- a container that is reported to run
+pub record IsHeld (held : Held) : Type 0 where
+  pub id : IsContainerId held.id
+  pub size : IsSize held.size
+
+-- what a master asks for; a count of 0 takes an ask away
+pub record IsAsk (ask : Ask) : Type 0 where
+  pub priority : IsWithin 1 1000 ask.priority
+  pub count : IsWithin 0 1000 ask.count
+  pub size : IsSize ask.size
+
+-- a response id has a next one
+abbrev pub IsResponse : ℕ → Type 0
+IsResponse id = id ≤ 4294967294
+
+-- what clients, masters, nodes and the clock say has its parts in their ranges
+abbrev pub IsClientAsk : ClientAsk → Type 0
+IsClientAsk clients.New = Unit {0}
+IsClientAsk (clients.Submit id submission) = IsOperation (App id submission)
+IsClientAsk (clients.Report id) = Unit {0}
+IsClientAsk (clients.Kill id) = Unit {0}
+
+abbrev pub IsMasterAsk : MasterAsk → Type 0
+IsMasterAsk masters.Register = Unit {0}
+IsMasterAsk (masters.Finish text) = IsText Note text
+IsMasterAsk (masters.Allocate id asks release) = IsResponse id × IsList IsAsk asks × IsList IsContainerId release
+
+abbrev pub IsNodeAsk : NodeAsk → Type 0
+IsNodeAsk (nodes.Register turn capability running) = IsSize capability × IsList IsHeld running
+IsNodeAsk (nodes.Beat id running done) = IsResponse id × IsList IsHeld running × IsList IsContainerId done
+
+abbrev pub IsClockAsk : ClockAsk → Type 0
+IsClockAsk (clocks.Tick time) = time ≤ 1000000000
+IsClockAsk (clocks.ExpireNode node) = Unit {0}
+IsClockAsk (clocks.ExpireMaster attempt) = Unit {0}
+
+abbrev pub IsMessage : Message → Type 0
+IsMessage (messages.Client user ask) = IsClientAsk ask
+IsMessage (messages.Master attempt ask) = IsMasterAsk ask
+IsMessage (messages.Node node ask) = IsText Node node × IsNodeAsk ask
+IsMessage (messages.Clock ask) = IsClockAsk ask

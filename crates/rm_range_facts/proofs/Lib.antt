@@ -1,0 +1,16 @@
+pub mod FewGrants
+pub mod Passable
+pub mod Absorbable
+pub mod NextFits
+pub mod RowRanges
+pub mod TreeRanges
+pub mod AskRanges
+pub mod NodeRanges
+pub mod BookRanges
+pub mod MainRanges
+pub mod SchedRanges
+pub mod KeptRanges
+pub mod MessageRanges
+pub mod Stores
+pub mod OpenRanges
+pub mod Called

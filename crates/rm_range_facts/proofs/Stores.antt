@@ -1,0 +1,80 @@
+-- What the operations of a store amount to is in its range where they are, is sound where each fits, and names masters of its attempts.
+use Rattle.std.proofs.Common.{◌≡◌, ◌≤◌, ◌^◌, ◌-◌, List, [], ◌∷◌, Bool, true, false, None, fold, refl, arith}
+use Rattle.std.specs.Prelude.{All as Every}
+use Rattle.rm_types.specs.declared.operations.Op.{Op}
+use Rattle.rm_types.specs.declared.operations.Op.TheVariants.{Epoch, App, Attempt, AttemptEnd, AppEnd, Remove}
+use Rattle.rm_types.specs.Ranges.{IsOperation}
+use Rattle.rm_types.specs.Records.{Records, fits_records, no_records, recorded, records, stray, stray_from}
+use Rattle.rm_node_facts.specs.Holds.{All}
+use Rattle.rm_master_facts.specs.Says.{EachApt}
+use Rattle.rm_master_facts.specs.Sound.{EachSound}
+use Rattle.rm_master_facts.proofs.Apt.{IsAptOp, apt_step}
+use Rattle.rm_master_facts.proofs.Sounding.{sound_step}
+use Rattle.rm_range_facts.specs.Ranged.{AreRecords}
+use Rattle.rm_range_facts.proofs.BookRanges.{each_of}
+use Rattle.rm_range_facts.proofs.TreeRanges.{records_after}
+
+-- RANGES
+
+records_from : (ops : List Op) (r : Records) → All IsOperation ops → AreRecords r.apps → AreRecords (fold recorded r ops).apps
+records_from [] r all are = are
+records_from (op ∷ ops) r all are = records_from ops (recorded r op) all.1 (records_after r.apps r.applied op all.0 are)
+
+-- what is recorded is in its range
+pub stored_records : (ops : List Op) → Every IsOperation ops → AreRecords (records ops).apps
+stored_records ops every = records_from ops no_records (each_of IsOperation ops every) tt
+
+-- SOUND RECORDS
+
+sound_more : (op : Op) (ops : List Op) (r : Records) (b : Bool) → fits_records r op ≡ b → EachSound r.apps → stray_from r (op ∷ ops) ≡ None
+    → (EachSound (recorded r op).apps → stray_from (recorded r op) ops ≡ None → EachSound (fold recorded (recorded r op) ops).apps) → EachSound (fold recorded r (op ∷ ops)).apps
+sound_more op ops r true e sound none more = more (sound_step r op sound e) (rw e at none)
+sound_more op ops r false e sound none more = absurd (let x = rw e at none in cc)
+
+sound_from : (ops : List Op) (r : Records) → EachSound r.apps → stray_from r ops ≡ None → EachSound (fold recorded r ops).apps
+sound_from [] r sound none = sound
+sound_from (op ∷ ops) r sound none = sound_more op ops r (fits_records r op) refl sound none (sound_from ops (recorded r op))
+
+-- where no operation is stray the records are sound
+pub stored_sound : (ops : List Op) → stray ops ≡ None → EachSound (records ops).apps
+stored_sound ops none = sound_from ops no_records (λ id one e. cc) none
+
+-- MASTERS
+
+apt_of : (op : Op) → IsOperation op → IsAptOp op
+apt_of (Epoch next stamp) is = tt
+apt_of (App id submission) is = tt
+apt_of (Attempt id master node) is = is.1.attempt
+apt_of (AttemptEnd id how text) is = tt
+apt_of (AppEnd id how text) is = tt
+apt_of (Remove id) is = tt
+
+apt_from : (ops : List Op) (r : Records) → All IsOperation ops → EachApt r.apps → EachApt (fold recorded r ops).apps
+apt_from [] r all apt = apt
+apt_from (op ∷ ops) r all apt = apt_from ops (recorded r op) all.1 (apt_step r op apt (apt_of op all.0))
+
+-- each master that is recorded is a container of its attempt
+pub stored_apt : (ops : List Op) → Every IsOperation ops → EachApt (records ops).apps
+stored_apt ops every = apt_from ops no_records (each_of IsOperation ops every) (λ id one e. cc)
+
+-- THE NEXT LIFE
+
+-- the next epoch and the last stamp
+pub record AreLast (r : Records) : Type 0 where
+  pub epoch : r.next_epoch ≤ 2 ^ 24
+  pub stamp : r.stamp ≤ 2 ^ 63 - 1
+
+last_more : (r : Records) (op : Op) → IsOperation op → AreLast r → AreLast (recorded r op)
+last_more r (Epoch next stamp) is last = record { epoch = is.0.1; stamp = is.1.1 }
+last_more r (App id submission) is last = record { epoch = last.epoch; stamp = last.stamp }
+last_more r (Attempt id master node) is last = record { epoch = last.epoch; stamp = last.stamp }
+last_more r (AttemptEnd id how text) is last = record { epoch = last.epoch; stamp = last.stamp }
+last_more r (AppEnd id how text) is last = record { epoch = last.epoch; stamp = last.stamp }
+last_more r (Remove id) is last = record { epoch = last.epoch; stamp = last.stamp }
+
+last_from : (ops : List Op) (r : Records) → All IsOperation ops → AreLast r → AreLast (fold recorded r ops)
+last_from [] r all last = last
+last_from (op ∷ ops) r all last = last_from ops (recorded r op) all.1 (last_more r op all.0 last)
+
+pub stored_last : (ops : List Op) → Every IsOperation ops → AreLast (records ops)
+stored_last ops every = last_from ops no_records (each_of IsOperation ops every) (record { epoch = omega arith; stamp = omega arith })

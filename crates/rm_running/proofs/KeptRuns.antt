@@ -1,0 +1,171 @@
+-- What awaits is handed to the store of an open life, and kept: the life is open still, with less to do.
+use Rattle.std.proofs.Common.{◌≡◌, ◌≢◌, ◌||◌, List, [], ◌∷◌, Bool, true, false, refl, sym, ◌∙◌, subst}
+use Rattle.std.specs.List.{list_any}
+use Rattle.rm_types.specs.declared.entries.Entry.TheVariants.{Handed, Kept as KeptEntry}
+use Rattle.rm_types.specs.declared.ids.AttemptId.{AttemptId}
+use Rattle.rm_types.specs.declared.operations.Op.{Op}
+use Rattle.rm_types.specs.declared.operations.Op.TheVariants as ops
+use Rattle.rm_types.specs.declared.settings.Settings.{Settings}
+use Rattle.rm_types.specs.Ranges.{IsOperation}
+use Rattle.rm_types.specs.Records.{fits_records}
+use Rattle.rm_model.specs.Facts.{is_epoch_op}
+use Rattle.rm_tables.specs.declared.tables.Tables.{Tables}
+use Rattle.rm_tables.specs.KeptOps.{kept}
+use Rattle.rm_tables.specs.Lives.{handed_out}
+use Rattle.rm_facts.specs.Told.{History}
+use Rattle.rm_moves.specs.Messages.{KeepsLimits}
+use Rattle.rm_agreement_facts.specs.Whole.{Whole, WholeStep}
+use Rattle.rm_agreement_facts.proofs.KeptMoves.{app_end_kept_whole, app_kept_whole, attempt_end_kept_whole, attempt_kept_whole, remove_kept_whole}
+use Rattle.rm_message_facts.proofs.FittingMoves.{kept_fits}
+use Rattle.rm_message_facts.proofs.Marked.{still_on_way}
+use Rattle.rm_message_facts.proofs.MarkedOps.{kept_on_way}
+use Rattle.rm_life_facts.specs.Sides.{Sides}
+use Rattle.rm_life_facts.proofs.KeptSides.{app_sides, attempt_sides, end_sides, ended_sides, removed_sides}
+use Rattle.rm_range_facts.proofs.KeptRanges.{first_awaiting, handed_ranged, kept_ranged}
+use Rattle.rm_range_facts.proofs.NextFits.{next_fits}
+use Rattle.rm_rest_facts.proofs.Names.{step_apart}
+use Rattle.rm_weight_facts.proofs.Keeping.{kept_lighter}
+use Rattle.rm_weight_facts.proofs.Lives.{hand_lighter}
+use Rattle.rm_weight_facts.proofs.Reported.{kept_few}
+use Rattle.rm_running.specs.Goes.{GoesOwn}
+use Rattle.rm_running.specs.Running.{Running}
+use Rattle.rm_running.proofs.Staying.{SchedStays, kept_stays}
+
+-- what awaits, where no Epoch does, has none in front
+not_epoch : (awaiting : List Op) (op : Op) (rest : List Op) → awaiting ≡ op ∷ rest → list_any is_epoch_op awaiting ≡ false → is_epoch_op op ≡ false
+not_epoch awaiting op rest front none = first (is_epoch_op op) (subst (λ (l : List Op). list_any is_epoch_op l ≡ false) front none)
+  where
+    first : (b : Bool) → (b || list_any is_epoch_op rest) ≡ false → b ≡ false
+    first true e = cc
+    first false e = refl
+
+module _ (h : History) (t : Tables) (r : Running h t) where
+  -- the first awaiting operation fits what is recorded, and its parts are in their ranges
+  pub first_fits : (op : Op) (rest : List Op) → t.awaiting ≡ op ∷ rest → fits_records t.tree op ≡ true
+  first_fits op rest front = next_fits t.settings h t r.whole op rest front (not_epoch t.awaiting op rest front r.begun.awaiting)
+
+  pub first_framed : (op : Op) (rest : List Op) → t.awaiting ≡ op ∷ rest → IsOperation op
+  first_framed op rest front = first_awaiting t r.ranged op rest front
+
+  -- HANDING
+
+  -- the first awaiting operation is handed to the store
+  pub hand_running : t.awaiting ≢ [] → Running h (handed_out t)
+  hand_running some =
+      let w = r.whole in
+      let s = r.sides in
+      let g = r.ranged in
+      record {
+        alive = r.alive;
+        unblown = r.unblown;
+        handed = λ is. some;
+        limits = r.limits;
+        whole = record {
+          keeps = record { is_open = w.keeps.is_open; recorded = w.keeps.recorded; all = w.keeps.all };
+          marks = w.marks;
+          sound = w.sound;
+          agrees = record { rows = w.agrees.rows; nodes = w.agrees.nodes; asks = w.agrees.asks; closings = w.agrees.closings; masters = w.agrees.masters };
+          nodes = w.nodes;
+          book = record { apart = w.book.apart; rows = w.book.rows; left = w.book.left; launches = w.book.launches };
+        };
+        sides = record {
+          completes = record { once = s.completes.once; in_order = s.completes.in_order; early = s.completes.early; retires = s.completes.retires };
+          apt = s.apt;
+          silent = s.silent;
+          firsts = s.firsts;
+          none_first = s.none_first;
+          present = s.present;
+          others = s.others;
+          single = s.single;
+          waits = s.waits;
+          served = s.served;
+          offers = s.offers;
+          lists = record { order = s.lists.order; going = s.lists.going };
+          finishes = s.finishes;
+          unfinished = s.unfinished;
+          retired = s.retired;
+        };
+        fits = r.fits;
+        ranged = handed_ranged t g;
+        reported = r.reported;
+        on_way = still_on_way h h t (handed_out t) refl refl refl r.on_way;
+        apart = r.apart;
+        begun = record { main = r.begun.main; awaiting = r.begun.awaiting };
+      }
+
+  pub hand_runs : t.awaiting ≢ [] → t.handed ≡ false → GoesOwn h t Handed (handed_out t)
+  hand_runs some free =
+      let runs = hand_running some in
+      record {
+        goes = record {
+          history = h;
+          step = record { lawful = record { some_awaits = some; none_handed = free; not_blown = r.unblown }; same = refl; keeps = runs.whole.keeps };
+          runs = runs;
+          stays = record { settings = refl; alloc = refl; alive = refl; epoch = refl; blown = refl; handed = λ before is. some; begun = λ b. record { main = b.main; awaiting = b.awaiting } };
+        };
+        lighter = hand_lighter t free some;
+        given = refl;
+        served = refl;
+      }
+
+  -- KEEPING
+
+  module _ (handed : t.handed ≡ true) where
+    -- a whole step that keeps an operation
+    record Keeping (op : Op) : Type 0 where
+      whole : WholeStep t.settings h t (KeptEntry op, kept op t)
+      sides : Sides whole.next (kept op t)
+
+    keeping : (op : Op) (rest : List Op) → t.awaiting ≡ op ∷ rest → is_epoch_op op ≡ false → fits_records t.tree op ≡ true → IsOperation op → Keeping op
+    keeping (ops.Epoch next stamp) rest front other fits framed = cc
+    keeping (ops.App id s) rest front other fits framed =
+        let step = app_kept_whole t.settings h t r.whole handed id s rest front fits in
+        record { whole = step; sides = app_sides h t r.whole r.sides id s rest front step }
+    keeping (ops.Attempt id master node) rest front other fits framed =
+        let apt : master.attempt ≡ id = framed.1.attempt in
+        let step : WholeStep t.settings h t (KeptEntry (ops.Attempt id master node), kept (ops.Attempt id master node) t) =
+        subst (λ (a : AttemptId). t.awaiting ≡ ops.Attempt a master node ∷ rest → fits_records t.tree (ops.Attempt a master node) ≡ true → WholeStep t.settings h t (KeptEntry (ops.Attempt a master node), kept (ops.Attempt a master node) t)) apt
+        (λ f g. attempt_kept_whole t.settings h t r.whole handed master node rest f g) front fits in
+        record { whole = step; sides = attempt_sides h t r.whole r.sides id master node rest front apt step }
+    keeping (ops.AttemptEnd id how text) rest front other fits framed =
+        let step = attempt_end_kept_whole t.settings h t r.whole handed id how text rest front fits in
+        record { whole = step; sides = end_sides h t r.whole r.sides id how text rest front step }
+    keeping (ops.AppEnd id how text) rest front other fits framed =
+        let step = app_end_kept_whole t.settings h t r.whole handed id how text rest front fits in
+        record { whole = step; sides = ended_sides h t r.whole r.sides id how text rest front step }
+    keeping (ops.Remove id) rest front other fits framed =
+        let step = remove_kept_whole t.settings h t r.whole handed id rest front fits in
+        record { whole = step; sides = removed_sides h t r.whole r.sides id rest front step }
+
+    -- the operation that is with the store is kept
+    pub kept_runs : (op : Op) (rest : List Op) → t.awaiting ≡ op ∷ rest → GoesOwn h t (KeptEntry op) (kept op t)
+    kept_runs op rest front =
+        let other = not_epoch t.awaiting op rest front r.begun.awaiting in
+        let k = keeping op rest front other (first_fits op rest front) (first_framed op rest front) in
+        let s = k.whole in
+        let all : SchedStays t (kept op t) = kept_stays t op other in
+        let stays = all.stays in
+        record {
+          goes = record {
+            history = s.next;
+            step = s.step;
+            runs = record {
+              alive = stays.alive ∙ r.alive;
+              unblown = stays.blown ∙ r.unblown;
+              handed = stays.handed r.handed;
+              limits = subst KeepsLimits (sym stays.settings) r.limits;
+              whole = subst (λ (one : Settings). Whole one s.next (kept op t)) (sym stays.settings) s.whole;
+              sides = k.sides;
+              fits = kept_fits t.settings h t r.whole.keeps r.fits op rest front other s;
+              ranged = kept_ranged t r.ranged op rest front;
+              reported = kept_few op t r.reported;
+              on_way = kept_on_way t.settings h t r.whole.keeps r.on_way op rest front other s;
+              apart = step_apart t.settings h t _ s.next _ s.step r.apart;
+              begun = stays.begun r.begun;
+            };
+            stays = stays;
+          };
+          lighter = kept_lighter t op rest front r.whole.keeps.is_open other;
+          given = all.given;
+          served = all.served;
+        }

@@ -1,0 +1,33 @@
+-- What a move of an open life leads to. This project's own.
+use Rattle.std.specs.Prelude.{◌≡◌, ◌≢◌, ◌<◌, [], true}
+use Rattle.rm_types.specs.declared.entries.Entry.{Entry}
+use Rattle.rm_tables.specs.declared.tables.Tables.{Tables}
+use Rattle.rm_facts.specs.Step.{Step}
+use Rattle.rm_facts.specs.Told.{History}
+use Rattle.rm_weight_facts.specs.Weights.{weight}
+use Rattle.rm_running.specs.Running.{NoneBegins, Running}
+
+-- a move leaves the life with its settings, its allocator and its epoch, and no operation refused; what is with the store awaits still, and
+-- nothing begins
+pub record Stays (t next : Tables) : Type 0 where
+  pub settings : next.settings ≡ t.settings
+  pub alloc : next.alloc ≡ t.alloc
+  pub alive : next.alive ≡ t.alive
+  pub epoch : next.epoch ≡ t.epoch
+  pub blown : next.blown ≡ t.blown
+  pub handed : (t.handed ≡ true → t.awaiting ≢ []) → next.handed ≡ true → next.awaiting ≢ []
+  pub begun : NoneBegins t → NoneBegins next
+
+-- a move leads to a life that is open still, as the judge allows
+pub record Goes (h : History) (t : Tables) (e : Entry) (next : Tables) : Type 0 where
+  pub history : History
+  pub step : Step t.settings h t e history next
+  pub runs : Running history next
+  pub stays : Stays t next
+
+-- and so does a move of the manager's own, which leaves less to do and serves no message
+pub record GoesOwn (h : History) (t : Tables) (e : Entry) (next : Tables) : Type 0 where
+  pub goes : Goes h t e next
+  pub lighter : weight next < weight t
+  pub given : next.given ≡ t.given
+  pub served : next.served ≡ t.served

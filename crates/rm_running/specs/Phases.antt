@@ -1,0 +1,67 @@
+-- How far a life has come, and what a move leads to in each phase of it. This project's own.
+use Rattle.std.specs.Prelude.{◌≡◌, ◌+◌, ◌<◌, ◌^◌, [], ◌∷◌, true, false}
+use Rattle.rm_types.specs.declared.entries.Entry.{Entry}
+use Rattle.rm_types.specs.declared.operations.Op.TheVariants.{Epoch}
+use Rattle.rm_types.specs.Records.{records}
+use Rattle.rm_model.specs.Changes.{after}
+use Rattle.rm_model.specs.Rules.{Allowed}
+use Rattle.rm_tables.specs.declared.events.MainEvent.TheVariants.{EpochStart}
+use Rattle.rm_tables.specs.declared.tables.Tables.{Tables}
+use Rattle.rm_facts.specs.Told.{History, told}
+use Rattle.rm_moves.specs.Messages.{KeepsLimits}
+use Rattle.rm_life_facts.specs.Begun.{IsBegun}
+use Rattle.rm_range_facts.specs.Ranged.{Ranged}
+use Rattle.rm_weight_facts.specs.Weights.{weight}
+use Rattle.rm_running.specs.Running.{Running}
+
+-- no life stands
+pub record NoneStands (t : Tables) : Type 0 where
+  pub alive : t.alive ≡ false
+  pub main : t.main ≡ []
+  pub sched : t.sched ≡ []
+
+-- a life began over what is recorded, whatever that is, and isn't open; its stamp is above the recorded one
+pub record Beginning (h : History) (t : Tables) : Type 0 where
+  pub begun : IsBegun h t
+  pub limits : KeepsLimits t.settings
+  pub ranged : Ranged t
+  pub rises : t.tree.stamp < t.stamp
+  pub fits : t.stamp < 2 ^ 63
+
+-- its first event waits
+pub record Starting (h : History) (t : Tables) : Type 0 where
+  pub begins : Beginning h t
+  pub main : t.main ≡ EpochStart ∷ []
+  pub awaiting : t.awaiting ≡ []
+  pub handed : t.handed ≡ false
+
+-- its Epoch awaits
+pub record Saving (h : History) (t : Tables) : Type 0 where
+  pub begins : Beginning h t
+  pub main : t.main ≡ []
+  pub awaiting : t.awaiting ≡ Epoch (t.epoch + 1) t.stamp ∷ []
+
+-- how far a life has come
+pub data Phase (h : History) (t : Tables) : Type 0 where
+  none : NoneStands t → Phase h t
+  starting : Starting h t → Phase h t
+  saving : Saving h t → Phase h t
+  running : Running h t → Phase h t
+
+-- what a move does to the tables, with a history: its entry is allowed, the state goes on by it, and a phase is reached
+pub record Leads (h : History) (t : Tables) (e : Entry) (next : Tables) : Type 0 where
+  pub history : History
+  pub lawful : Allowed t.settings (told h t) e
+  pub same : after (told h t) e ≡ told history next
+  pub recorded : records history.kept ≡ next.tree
+  pub phase : Phase history next
+  pub settings : next.settings ≡ t.settings
+  pub alloc : next.alloc ≡ t.alloc
+
+-- and a move of the manager's own: the life stands before and after it, less is left to do, and no message is served
+pub record LeadsOwn (h : History) (t : Tables) (e : Entry) (next : Tables) : Type 0 where
+  pub leads : Leads h t e next
+  pub lighter : weight next < weight t
+  pub stood : t.alive ≡ true
+  pub stands : next.alive ≡ true
+  pub served : next.served ≡ t.served

@@ -1,0 +1,52 @@
+-- All that holds of an open life between two moves. This project's own.
+use Rattle.std.specs.Prelude.{◌≡◌, ◌≢◌, [], Bool, true, false}
+use Rattle.std.specs.List.{list_any}
+use Rattle.rm_model.specs.Facts.{is_epoch_op}
+use Rattle.rm_tables.specs.declared.events.MainEvent.{MainEvent}
+use Rattle.rm_tables.specs.declared.events.MainEvent.TheVariants as mains
+use Rattle.rm_tables.specs.declared.tables.Tables.{Tables}
+use Rattle.rm_facts.specs.Told.{History}
+use Rattle.rm_agreement_facts.specs.Whole.{Whole}
+use Rattle.rm_moves.specs.Messages.{KeepsLimits}
+use Rattle.rm_message_facts.specs.Fits.{RowsFit}
+use Rattle.rm_message_facts.specs.Released.{ReleasesOnWay}
+use Rattle.rm_life_facts.specs.Sides.{Sides}
+use Rattle.rm_weight_facts.specs.Few.{FewReported}
+use Rattle.rm_range_facts.specs.Ranged.{Ranged}
+use Rattle.rm_node_facts.proofs.Resting.{NamesApart}
+
+-- the event that a life begins with
+abbrev pub is_epoch_start : MainEvent → Bool
+is_epoch_start mains.EpochStart = true
+is_epoch_start (mains.AppStart id) = false
+is_epoch_start (mains.AppSaved id) = false
+is_epoch_start (mains.AppAccepted id) = false
+is_epoch_start (mains.AppKill id) = false
+is_epoch_start (mains.MasterGranted container) = false
+is_epoch_start (mains.AttemptSaved id) = false
+is_epoch_start (mains.MasterLost container) = false
+is_epoch_start (mains.AttemptExpired id) = false
+is_epoch_start (mains.AttemptFinish id) = false
+is_epoch_start (mains.AttemptDone id) = false
+is_epoch_start mains.Retire = false
+
+-- neither a life's first event nor its first operation is on its way
+pub record NoneBegins (t : Tables) : Type 0 where
+  pub main : list_any is_epoch_start t.main ≡ false
+  pub awaiting : list_any is_epoch_op t.awaiting ≡ false
+
+-- the life stands, no store refused an operation of it, and what is with the store awaits; of its settings, its applications, masters, nodes,
+-- containers and messages, all that was gathered holds
+pub record Running (h : History) (t : Tables) : Type 0 where
+  pub alive : t.alive ≡ true
+  pub unblown : t.blown ≡ false
+  pub handed : t.handed ≡ true → t.awaiting ≢ []
+  pub limits : KeepsLimits t.settings
+  pub whole : Whole t.settings h t
+  pub sides : Sides h t
+  pub fits : RowsFit t
+  pub ranged : Ranged t
+  pub reported : FewReported t
+  pub on_way : ReleasesOnWay h t
+  pub apart : NamesApart h.nodes
+  pub begun : NoneBegins t

@@ -1,0 +1,3 @@
+pub use Rattle.rm_model.specs.Lawful
+pub use Rattle.rm_model.specs.Place
+pub mod Spelled

@@ -1,0 +1,11 @@
+pub mod Sums
+pub mod Rows
+pub mod Lives
+pub mod Messages
+pub mod Keeping
+pub mod Leaving
+pub mod Scheduling
+pub mod Following
+pub mod Actions
+pub mod Dispatching
+pub mod Reported
