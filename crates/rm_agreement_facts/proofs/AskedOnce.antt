@@ -24,7 +24,6 @@ use Rattle.rm_tables.specs.MainEvents.{is_alive}
 use Rattle.rm_tables.specs.Passing.{answered, passed_with, row_granted, without_granted}
 use Rattle.rm_tables.specs.Rows.{row_of}
 use Rattle.rm_agreement.specs.Shown.{is_ending}
-use Rattle.rm_facts.specs.Completed.{Completes}
 use Rattle.rm_facts.specs.View.{changed_if}
 use Rattle.rm_facts.proofs.Found.{row_changed}
 use Rattle.rm_agreement_facts.specs.Asking.{OthersCurrent, asks_others}
@@ -142,7 +141,3 @@ module _ (t : Tables) (grants : List Grant) where
   -- and no two records are of one application
   pub apps_kept : AppsOnce t → AppsOnce next_tables
   apps_kept apps = apps
-
--- no two records are of one application where the completed ones are in order
-pub apps_once : (t : Tables) → Completes t → AppsOnce t
-apps_once t completes = completes.once

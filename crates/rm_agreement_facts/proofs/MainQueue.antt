@@ -1,5 +1,5 @@
 -- Each event of the main queue but EpochStart, as a whole step that keeps all that holds of an open life.
-use Rattle.std.proofs.Common.{◌≡◌, ◌≢◌, List, ◌∷◌, refl, sym, ◌∙◌}
+use Rattle.std.proofs.Common.{◌≡◌, ◌≢◌, List, ◌∷◌, refl}
 use Rattle.rm_types.specs.declared.settings.Settings.{Settings}
 use Rattle.rm_tables.specs.declared.events.MainEvent.{MainEvent}
 use Rattle.rm_tables.specs.declared.events.MainEvent.TheVariants as mains
@@ -7,13 +7,11 @@ use Rattle.rm_tables.specs.declared.tables.Tables.{Tables}
 use Rattle.rm_tables.specs.Actions.{main_worked}
 use Rattle.rm_tables.specs.MainEvents.{main_step}
 use Rattle.rm_facts.specs.Told.{History}
-use Rattle.rm_agreement_facts.specs.MainQueue.{MainFacts, StartsLawful}
+use Rattle.rm_agreement_facts.specs.MainQueue.{MainFacts}
 use Rattle.rm_agreement_facts.specs.Whole.{Whole, WholeStep}
 use Rattle.rm_agreement_facts.proofs.AppMoves.{accepted_whole, attempt_done_whole, kill_whole, retire_whole, saved_whole, started_whole}
 use Rattle.rm_agreement_facts.proofs.MasterMoves.{expired_whole, finished_whole, granted_whole, lost_whole}
 use Rattle.rm_agreement_facts.proofs.Ordering.{launched_whole}
-use Rattle.rm_agreement_facts.proofs.Silent.{main_silent}
-use Rattle.rm_agreement_facts.proofs.Still.{main_apt, main_completes, main_keeps}
 
 -- an event of an open life that stands first in the main queue
 pub main_whole : (settings : Settings) (h : History) (t : Tables) → Whole settings h t → MainFacts settings h t → (e : MainEvent) (rest : List MainEvent) → t.main ≡ e ∷ rest → e ≢ mains.EpochStart
@@ -30,15 +28,3 @@ main_whole settings h t w facts (mains.AttemptExpired id) rest front some = expi
 main_whole settings h t w facts (mains.AttemptFinish id) rest front some = finished_whole settings h t w id rest front
 main_whole settings h t w facts (mains.AttemptDone id) rest front some = attempt_done_whole settings h t w id facts.set rest front
 main_whole settings h t w facts mains.Retire rest front some = retire_whole settings h t w facts.set facts.completes rest front
-
--- what else the events of the main queue stand on holds after each, but for what is to start then
-pub main_facts : (settings : Settings) (h : History) (t : Tables) → MainFacts settings h t → (e : MainEvent) (rest : List MainEvent) → t.main ≡ e ∷ rest → (next : History)
-    → StartsLawful next (main_worked (main_step e t)).1 → MainFacts settings next (main_worked (main_step e t)).1
-main_facts settings h t facts e rest front next starts =
-    record {
-      set = facts.set ∙ sym (main_keeps t e).1;
-      completes = main_completes t e rest front facts.completes;
-      apt = main_apt t e facts.apt;
-      silent = main_silent t facts.silent e;
-      starts = starts;
-    }

@@ -2,7 +2,6 @@
 use Rattle.std.proofs.Common.{◌≡◌, ℕ, List, [], ◌∷◌, Bool, true, false, ◌&&◌, not, Option, None, Some, is_some, drop, fold, refl, sym, ◌∙◌, ap, subst}
 use Rattle.std.specs.Prelude.{option_and_then, option_map, if◌then◌else◌}
 use Rattle.rm_types.specs.declared.containers.Grant.{Grant}
-use Rattle.rm_types.specs.declared.entries.Entry.{Entry}
 use Rattle.rm_types.specs.declared.entries.Entry.TheVariants.{Pass}
 use Rattle.rm_types.specs.declared.ids.ContainerId.{ContainerId}
 use Rattle.rm_types.specs.declared.resources.Resource.{Resource}
@@ -41,7 +40,7 @@ use Rattle.rm_agreement_facts.specs.Asking.{AreNext, AskersCurrent, OthersCurren
 use Rattle.rm_agreement_facts.specs.Whole.{Nothing, Whole, WholeStep}
 use Rattle.rm_agreement_facts.proofs.Askers.{askers_current}
 use Rattle.rm_agreement_facts.proofs.Entering.{passed_holds}
-use Rattle.rm_agreement_facts.proofs.Leaving.{at_event, life_is, queues_agree, stepped_whole}
+use Rattle.rm_agreement_facts.proofs.Leaving.{at_event, queues_agree, stepped_whole}
 use Rattle.rm_agreement_facts.proofs.Next.{grants_next}
 use Rattle.rm_agreement_facts.proofs.OnNode.{all_now, all_on}
 use Rattle.rm_agreement_facts.proofs.Passed.{passed_agrees}
@@ -161,21 +160,3 @@ module _ (settings : Settings) (h : History) (t : Tables) (w : Whole settings h 
       let k = known_row in
       let is : updated_by (node_of t.nodes name) name t ≡ (Pass name (grants_on name k.0 t), passed_with (grants_on name k.0 t) t) = ap (λ (o : Option NodeRow). updated_by o name t) k.1 in
       subst (λ done. WholeStep settings h t (sched_worked done)) (sym is) (passed_whole k.0 k.1 (passed_joins k.0 k.1 once apps))
-
-  -- what is shown of tables and of where a step goes to
-  abbrev pub WaitsAlike : Entry × Tables → Type 0
-  WaitsAlike done = (step : WholeStep settings h t done) → still_waits done.1 ≡ waits_for_nodes settings (scene_in step.next done.1)
-
-  -- after it the two agree again whether nodes may still report
-  pub waits_kept : (list : List ContainerId) → WaitsAlike (sched_worked (sched_step (scheds.NodeUpdate name) list t))
-  waits_kept list =
-      let k = known_row in
-      let is : updated_by (node_of t.nodes name) name t ≡ (Pass name (grants_on name k.0 t), passed_with (grants_on name k.0 t) t) = ap (λ (o : Option NodeRow). updated_by o name t) k.1 in
-      subst (λ done. WaitsAlike (sched_worked done)) (sym is) (at k.0)
-    where
-      at : (row : NodeRow) → WaitsAlike (Pass name (grants_on name row t), sched_popped (passed_with (grants_on name row t) t))
-      at row step =
-          let next : Tables = sched_popped (passed_with (grants_on name row t) t) in
-          let life : LifeState = passes (at_event settings h t w (scheds.NodeUpdate name) rest front) name (grants_on name row t) in
-          let is : life_in step.next next ≡ life = life_is step.next next _ life refl step.step.same in
-          waits ∙ sym (ap (λ (one : LifeState). waits_for_nodes settings (record { records = t.tree; awaiting = t.awaiting; life = one })) is)

@@ -10,7 +10,7 @@
 //!   (`Events`), NodeAdded (`Absorption`) and NodeUpdate (`Updated`); by each event of the manager (`MainQueue`: `AppMoves`, `MasterMoves`,
 //!   `Ordering`), but the one that opens a life; and by each operation but an Epoch once it is kept (`KeptMoves`);
 //! - what these take besides is gathered in `specs/SchedQueue`, which each event of the scheduler keeps (`SchedFacts`), and in
-//!   `specs/MainQueue`, most of which each event of the manager keeps (`MainQueue`).
+//!   `specs/MainQueue`, most of which each event of the manager keeps (`Still`, `Silent`).
 //!
 //! It stands on how the two agree (`rm_agreement`), on what holds of applications, masters and nodes (`rm_facts`, `rm_app_facts`,
 //! `rm_master_facts`, `rm_node_facts`), on the tables and on the judge's words.

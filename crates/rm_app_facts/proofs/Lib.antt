@@ -7,7 +7,5 @@ pub mod Recorded
 pub mod KeptEnds
 pub mod Removing
 pub mod Retiring
-pub mod Untried
-pub mod Clients
 pub mod Wishing
 pub mod Resting

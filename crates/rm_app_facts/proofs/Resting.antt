@@ -1,6 +1,6 @@
--- The cover: why nothing is owed in an open life where both queues and the awaiting list are empty. Of each application that is known
--- the facts then say how it rests, and no application that rests so is owed anything.
-use Rattle.std.proofs.Common.{◌≡◌, ◌≢◌, ◌≤◌, inl, inr, ℕ, ◌==◌, ◌||◌, List, [], ◌∷◌, Bool, true, false, Option, None, Some, is_some, is_none, option_map, count_by, length, refl, ◌∙◌, subst, arith}
+-- The cover of applications: why nothing is owed of them in an open life where both queues and the awaiting list are empty. Of each that is
+-- known the facts then say how it rests, and none that rests so is owed anything.
+use Rattle.std.proofs.Common.{◌≡◌, ◌≢◌, ◌≤◌, inl, inr, ℕ, ◌==◌, ◌||◌, List, [], ◌∷◌, Bool, true, false, Option, None, Some, is_some, is_none, option_map, length, refl, ◌∙◌, subst, arith}
 use Rattle.std.proofs.lemmas.Bool.Decides.{nat_tests}
 use Rattle.rm_types.specs.declared.ids.AppId.{AppId}
 use Rattle.rm_types.specs.declared.ids.AttemptId.{AttemptId}
@@ -13,7 +13,7 @@ use Rattle.rm_types.specs.Records.{all_ended, is_some_and, last_attempt, record_
 use Rattle.rm_model.specs.Attempts.{has_failed, has_master_ask}
 use Rattle.rm_model.specs.Facts.{end_in, is_accepted, is_kept, is_known, is_submitted, is_wished, kept_attempts, kept_end, kept_record, next_attempt, reaches_bound, waiting_submission}
 use Rattle.rm_model.specs.State.{Scene}
-use Rattle.rm_model.specs.Owed.{Owed, opening, keeping, killing, accepting, deciding, asking, finishing, expiring, losing, ordering, working, leaving, retiring, ended_not_failed}
+use Rattle.rm_model.specs.Owed.{ended_not_failed}
 use Rattle.rm_app.specs.declared.states.AppState.{AppState}
 use Rattle.rm_app.specs.declared.states.AppState.TheVariants as apps
 use Rattle.rm_attempt.specs.declared.states.AttemptState.{AttemptState}
@@ -25,12 +25,8 @@ use Rattle.rm_tables.specs.Rows.{row_of}
 use Rattle.rm_facts.specs.Told.{History, scene_in}
 use Rattle.rm_facts.specs.View.{View, Counts, view, counts, is_ask}
 use Rattle.rm_facts.specs.Says.{RowSays, StateSays, ActiveSays, CurrentSays, AtCurrent, HasStopped, GoesOn, Follows, ops_of, way, is_going}
-use Rattle.rm_facts.specs.Completed.{is_retire}
 use Rattle.rm_facts.specs.Step.{Keeps}
-use Rattle.rm_facts.specs.Submissions.{OnlyClients}
 use Rattle.rm_facts.proofs.Counts.{some_passes}
-use Rattle.rm_app_facts.proofs.Retiring.{as_many}
-use Rattle.rm_facts.proofs.Plain.{untried_found}
 
 -- nothing of an application and its attempt is on its way
 pub record IsStill (c : Counts) : Type 0 where
@@ -226,38 +222,3 @@ module _ (settings : Settings) (h : History) (t : Tables) (id : AppId) (rests : 
       by (resting number (asks stopped (n, inl first) free some)) = absurd (tried (none_by (kept_attempts here id) (let o = first.0 in omega (arith, n, o))))
       by (resting number (asks stopped (n, inr failed) free some)) = let f = not_done (last_attempt (kept_attempts here id)) failed.0 in rw (f, failed.1) refl
       by (resting number (lives goes free)) = absurd (let x = going_open (numbered id number) (kept_attempts here id) goes.2 in cc)
-
--- an open life in which nothing is in flight owes nothing
-pub owes_nothing : (h : History) (t : Tables) → Keeps t.settings h t → OnlyClients h t → t.main ≡ [] → t.sched ≡ [] → t.awaiting ≡ []
-    → Owed t.settings (scene_in h t) → ⊥
-owes_nothing h t k only main sched awaiting (opening closed) = let o = k.is_open in cc
-owes_nothing h t k only main sched awaiting (keeping id known unkept) =
-    let kept = known_kept t.settings h t id (rests_at t.settings h t k main sched awaiting id) known in
-    cc
-owes_nothing h t k only main sched awaiting (killing id goes wish) =
-    let free = no_wish t.settings h t id (rests_at t.settings h t k main sched awaiting id) goes.known goes.unended in
-    cc
-owes_nothing h t k only main sched awaiting (accepting id goes unaccepted untried) =
-    accepted_or_kept t.settings h t id (rests_at t.settings h t k main sched awaiting id) goes.known goes.unended unaccepted untried
-owes_nothing h t k only main sched awaiting (deciding id goes tried all decided) =
-    let fails = undecided t.settings h t id (rests_at t.settings h t k main sched awaiting id) goes.known goes.unended tried all in
-    cc
-owes_nothing h t k only main sched awaiting (asking id goes all unasked) =
-    let asked = asks_master t.settings h t id (rests_at t.settings h t k main sched awaiting id) goes.known goes.unended all in
-    cc
-owes_nothing h t k only main sched awaiting (finishing attempt alive said) = absurd (let x = rw only.bare.masters at said in cc)
-owes_nothing h t k only main sched awaiting (expiring attempt alive ran) = absurd (let x = rw only.bare.masters at ran in cc)
-owes_nothing h t k only main sched awaiting (losing attempt alive left) = absurd (let x = rw only.bare.left at left in cc)
-owes_nothing h t k only main sched awaiting (ordering attempt alive first unordered) =
-    let among = rw (untried_found t.tree.apps attempt.id.app only.untried) at alive.kept in
-    absurd (omega (arith, among.1))
-owes_nothing h t k only main sched awaiting (working node there undone) =
-    let among = rw only.bare.nodes at there in
-    absurd (omega (arith, among.1))
-owes_nothing h t k only main sched awaiting (leaving row there why) =
-    let among = rw only.bare.book at there in
-    absurd (omega (arith, among.1))
-owes_nothing h t k only main sched awaiting (retiring many) =
-    let all = as_many t.settings h t k only.completes in
-    let some = only.completes.retires (omega (arith, all, many)) in
-    absurd (let none : 1 ≤ count_by is_retire [] = rw main at some in omega (arith, none))

@@ -184,10 +184,6 @@ module _ (change : AppRecord → AppRecord) (keeps : KeepsId change) (id : AppId
 abbrev pub with_end_at : How → List ℕ → ℕ → AppRecord → AppRecord
 with_end_at how text n app = record app { ending = Some (how, text); end_order = n }
 
-order_in_changed : (how : How) (text : List ℕ) (n : ℕ) (b : Bool) (o : Option AppRecord) → b ≡ false → order_in (changed_if b (with_end_at how text n) o) ≡ order_in o
-order_in_changed how text n true o e = cc
-order_in_changed how text n false o e = refl
-
 -- as an AppEnd is kept: the application is the last of the completed
 pub completes_ended : (t next : Tables) (id : AppId) (how : How) (text : List ℕ) → Completes t → is_some (record_of t.tree.apps id) ≡ true → count_by (λ one. is_app one id) t.ended ≡ 0
     → ((q : AppId) → record_of next.tree.apps q ≡ changed_if (is_app id q) (with_end_at how text t.tree.applied) (record_of t.tree.apps q)) → ((q : AppId) → kept_at q next.tree.apps ≡ kept_at q t.tree.apps)

@@ -9,7 +9,4 @@ pub mod Saving
 pub mod Completing
 pub mod Completions
 pub mod Lists
-pub mod Weighing
-pub mod Running
-pub mod Plain
 pub mod Opening

@@ -30,13 +30,13 @@ use Rattle.rm_tables.specs.declared.rows.Current.{Current}
 use Rattle.rm_tables.specs.declared.tables.Tables.{Tables}
 use Rattle.rm_tables.specs.KeptOps.{kept}
 use Rattle.rm_tables.specs.Opening.{recovered_row, recovered_rows, recovered_state, recovered_attempt, main_by, main_of, sched_by, sched_of, opening_main, opening_sched}
-use Rattle.rm_tables.specs.Rows.{slot_of, row_in, row_of, is_empty_slot}
+use Rattle.rm_tables.specs.Rows.{slot_of, row_in, row_of, is_empty_slot, is_retired}
 use Rattle.rm_facts.specs.Told.{History}
 use Rattle.rm_facts.specs.View.{View, view, one_if, is_start, is_save, is_accept, is_kill, is_done, is_grant, is_launch, is_add, is_queueing}
 use Rattle.rm_facts.specs.Says.{RowSays, IsKnown, StateSays, ActiveSays, AtCurrent, OverSays, GoesOn, has_tried}
 use Rattle.rm_facts.specs.Step.{Step}
 use Rattle.rm_facts.specs.Recovered.{Recoverable, IsRecovered, has_ended, fresh, stopped, lives, over, over_after}
-use Rattle.rm_facts.specs.Submissions.{AllOfApps, AllUntried, IsPlainRow, starting, is_registered}
+use Rattle.rm_facts.specs.Submissions.{starting}
 use Rattle.rm_facts.proofs.Counts.{at_front, at_end, count_append, none_among}
 
 abbrev pub AtMostOnce : AppId → List AppRecord → Type 0
@@ -102,64 +102,13 @@ recovered_found apps q = ap row_in (recovered_slot apps q) ∙ by (record_of app
     by None = refl
     by (Some one) = refl
 
--- each row of recorded applications is one that was not removed and whose master has not registered
-pub plain_rows : (apps : List AppRecord) → (id : AppId) → IsPlainRow [] (recovered_rows apps) id
-plain_rows apps id =
-    record {
-      stays = ap is_empty_slot (recovered_slot apps id) ∙ full (record_of apps id);
-      unregistered = ap is_registered (recovered_found apps id) ∙ of_record (record_of apps id);
-    }
+-- no recorded application was removed
+pub none_retired : (apps : List AppRecord) (id : AppId) → is_retired (recovered_rows apps) id ≡ false
+none_retired apps id = ap is_empty_slot (recovered_slot apps id) ∙ full (record_of apps id)
   where
     full : (o : Option AppRecord) → is_empty_slot (option_map slot_over o) ≡ false
     full None = refl
     full (Some one) = refl
-
-    of_last : (one : AppRecord) (last : Option AttemptRecord) → last_attempt one.attempts ≡ last → is_registered (Some (recovered_row one)) ≡ false
-    of_last one None e = rw e refl
-    of_last one (Some last) e = rw e refl
-
-    of_record : (o : Option AppRecord) → is_registered (option_map recovered_row o) ≡ false
-    of_record None = refl
-    of_record (Some one) = of_last one (last_attempt one.attempts) refl
-
--- records without attempts can be recovered
-pub untried_sound : (apps : List AppRecord) → AllUntried apps → (id : AppId) (one : AppRecord) → record_of apps id ≡ Some one → Recoverable id one
-untried_sound [] untried id one found = cc
-untried_sound (app ∷ apps) untried id one found = by (is_app app.id id) refl (untried_sound apps untried.1 id one)
-  where
-    at_end_ : (none : app.attempts ≡ []) (end : Option (How × List ℕ)) → app.ending ≡ end → Recoverable id app
-    at_end_ none None e = fresh e none
-    at_end_ none (Some end) e = over end e none
-
-    by : (b : Bool) → is_app app.id id ≡ b → (record_of apps id ≡ Some one → Recoverable id one) → Recoverable id one
-    by true e more =
-        let here : ◌≡◌ {A = Option AppRecord} (Some app) (Some one) = rw e at found in
-        let same : app ≡ one = cc in
-        subst (λ (app : AppRecord). Recoverable id app) same (at_end_ untried.0 app.ending refl)
-    by false e more = more (rw e at found)
-
--- an application without attempts posts that it is saved, unless it has ended
-pub saves_alone : (app : AppRecord) → app.attempts ≡ [] → (end : Option (How × List ℕ)) → app.ending ≡ end → main_of app ≡ (if is_none end then mains.AppSaved app.id ∷ [] else [])
-saves_alone app first None e = rw (first, e) refl
-saves_alone app first (Some end) e = rw (first, e) refl
-
--- each event with which a life opens over records without attempts is of an application that was saved, or looks for one to remove
-pub opening_of_apps : (apps : List AppRecord) → AllUntried apps → AllOfApps (opening_main apps)
-opening_of_apps [] untried = tt
-opening_of_apps (app ∷ apps) untried = by app.ending refl (opening_of_apps apps untried.1)
-  where
-    by : (end : Option (How × List ℕ)) → app.ending ≡ end → AllOfApps (opening_main apps) → AllOfApps (opening_main (app ∷ apps))
-    by None e more = subst (λ (events : List MainEvent). AllOfApps ((events ++ flat_map main_of apps) ++ mains.Retire ∷ [])) (sym (saves_alone app untried.0 None e)) more
-    by (Some end) e more = subst (λ (events : List MainEvent). AllOfApps ((events ++ flat_map main_of apps) ++ mains.Retire ∷ [])) (sym (saves_alone app untried.0 (Some end) e)) more
-
--- and none is the scheduler's
-pub opening_queueings : (apps : List AppRecord) → AllUntried apps → opening_sched apps ≡ []
-opening_queueings [] untried = refl
-opening_queueings (app ∷ apps) untried = ap (λ (events : List SchedEvent). events ++ flat_map sched_of apps) (by app.ending refl) ∙ opening_queueings apps untried.1
-  where
-    by : (end : Option (How × List ℕ)) → app.ending ≡ end → sched_of app ≡ []
-    by None e = let none = untried.0 in rw (none, e) refl
-    by (Some end) e = rw e refl
 
 -- no event with which a life opens is to issue an App
 pub opening_starts_none : (apps : List AppRecord) → flat_map starting (opening_main apps) ≡ []

@@ -34,7 +34,6 @@ use Rattle.rm_facts.specs.Told.{History, scene_in}
 use Rattle.rm_facts.specs.View.{View, view, counts, main_view, sched_view, one_if, is_ask, is_attempt_op_of}
 use Rattle.rm_facts.specs.Says.{RowSays, StateSays, ActiveSays, HasStopped, Follows, is_active, ops_of}
 use Rattle.rm_facts.specs.Step.{Keeps, Step}
-use Rattle.rm_facts.specs.Submissions.{IsOfLane}
 use Rattle.rm_facts.proofs.Counts.{at_end, none_under}
 use Rattle.rm_facts.proofs.Effects.{sched_taken, main_posted}
 use Rattle.rm_facts.proofs.Found.{is_app-refl}
@@ -176,12 +175,11 @@ module _ (settings : Settings) (h : History) (t : Tables) (k : Keeps settings h 
   pub record QueuedStep (done : Entry × Tables) : Type 0 where
     pub asks : List AsksOf
     pub asked : List AskOf
-    pub kind : IsOfLane SchedLane done.0
     pub is : done.1 ≡ record t { asks = asks }
     pub step : Step settings h t done.0 (record h { asks = asked }) (sched_popped done.1)
 
   idle_step : Step settings h t (Quiet SchedLane) h gone → QueuedStep (Quiet SchedLane, t)
-  idle_step step = record { asks = t.asks; asked = h.asks; kind = refl; is = refl; step = step }
+  idle_step step = record { asks = t.asks; asked = h.asks; is = refl; step = step }
 
   with_queueing_is : (q : AttemptId) (v : View) → is_app id.app q.app ≡ true → sched_view q (scheds.AttemptAdded id) v ≡ with_queueing id q v
   with_queueing_is q v same = rw same refl
@@ -218,7 +216,7 @@ module _ (settings : Settings) (h : History) (t : Tables) (k : Keeps settings h 
     where
       asking_step : (asks : List AsksOf) (asked : List AskOf) → Step settings h t (Queued id) (record h { asks = asked }) (record gone { asks = asks })
           → QueuedStep (Queued id, record t { asks = asks })
-      asking_step asks asked step = record { asks = asks; asked = asked; kind = tt; is = refl; step = step }
+      asking_step asks asked step = record { asks = asks; asked = asked; is = refl; step = step }
 
       same_number : (n : ℕ) → (n == n) ≡ true
       same_number n = grind (arith, nat_tests)

@@ -2,7 +2,6 @@ pub mod Told
 pub mod View
 pub mod Says
 pub mod Step
-pub mod Weights
 pub mod Completed
 pub mod Submissions
 pub mod Recovered

@@ -1,5 +1,5 @@
 -- The state of the judge's manager that the tables stand for.
-use Rattle.std.specs.Prelude.{List, [], Bool, true, false, Option, None, Some}
+use Rattle.std.specs.Prelude.{List, [], Bool, true, false, not, ◌&&◌, Option, None, Some}
 use Rattle.rm_types.specs.declared.containers.AskOf.{AskOf}
 use Rattle.rm_types.specs.declared.ids.ContainerId.{ContainerId}
 use Rattle.rm_types.specs.declared.operations.Op.{Op}
@@ -69,6 +69,6 @@ abbrev pub life_where : Bool → History → Tables → Option LifeState
 life_where true h t = Some (life_in h t)
 life_where false h t = None
 
--- the state that the tables stand for
+-- the state that the tables stand for; where no life stands they say whether the last one blew
 abbrev pub told : History → Tables → Manager
-told h t = record { kept = h.kept; awaiting = t.awaiting; blew = false; life = life_where t.alive h t }
+told h t = record { kept = h.kept; awaiting = t.awaiting; blew = not t.alive && t.blown; life = life_where t.alive h t }

@@ -2,7 +2,7 @@
 //!
 //! Beside the tables stands a history: what the judge remembers and the tables don't (`specs/Told`). What holds of each
 //! application and each of its attempts is said once for every state of its row, by numbers of events, operations and asks
-//! (`View`, `Says`); what holds of a whole life in `Submissions`. Each step restores all of it, and its entry
+//! (`View`, `Says`); what holds of the lists of submissions in `Submissions`. Each step restores all of it, and its entry
 //! is allowed by the judge's rule for it (`Step`). The proofs go by the primitives first: one more event or operation at an end of
 //! its list, a row or a record changed.
 //!

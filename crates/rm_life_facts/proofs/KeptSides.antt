@@ -37,7 +37,7 @@ use Rattle.rm_tables.specs.declared.events.SchedEvent.TheVariants as scheds
 use Rattle.rm_tables.specs.declared.rows.AppRow.{AppRow}
 use Rattle.rm_tables.specs.declared.rows.Current.{Current}
 use Rattle.rm_tables.specs.declared.tables.Tables.{Tables}
-use Rattle.rm_tables.specs.Changes.{changed, current_after, current_with}
+use Rattle.rm_tables.specs.Changes.{changed, current_after}
 use Rattle.rm_tables.specs.KeptOps.{dropped_at, dropped_by, dropped_of, kept}
 use Rattle.rm_tables.specs.Opening.{going_in}
 use Rattle.rm_tables.specs.Rows.{is_empty_slot, is_retired, row_of, slot_of, with_row, without_row, without_slot}
@@ -76,9 +76,6 @@ use Rattle.rm_life_facts.proofs.Starting.{saving_number, starting_number}
 -- WHAT STAYS OF A ROW
 
 -- its current attempt, and so whether it goes on and finishes
-abbrev LeavesCurrent : RowChange → Type 0
-LeavesCurrent change = (c : Current) → current_with change c ≡ c
-
 module _ (change : RowChange) (none : current_after change None ≡ None) (some : (c : Current) → current_after change (Some c) ≡ Some c) where
   current_stays : (row : AppRow) → (changed change row).current ≡ row.current
   current_stays row = by row.current

@@ -408,10 +408,6 @@ module _ (t : Tables) where
   rests_ending attempts.Ended e = (refl, refl)
   rests_ending attempts.Dropped e = cc
 
-  pub and_false : (b : Bool) → (b && false) ≡ false
-  and_false true = refl
-  and_false false = refl
-
   module _ (settings : Settings) (h : History) (k : Keeps settings h t) (unfinished : AreUnfinished t.rows) where
     stopped_finishes : (id : AppId) (row : AppRow) → row_of t.rows id ≡ Some row → HasStopped row → (q : AttemptId) → finishes_by q (Some (changed of_app.End row)) ≡ finishes_by q (Some row)
     stopped_finishes id row found (inl state) q = let none = none_submitted settings h k id row found state in rw none refl

@@ -35,7 +35,7 @@ use Rattle.rm_facts.specs.Told.{History, life_in, scene_in, standing}
 use Rattle.rm_facts.proofs.Completing.{retire_posted}
 use Rattle.rm_facts.proofs.Completions.{ended_counts, ended_in_order}
 use Rattle.rm_facts.proofs.Counts.{at_front}
-use Rattle.rm_facts.proofs.Opening.{opening_starts_none, plain_rows, recovered_found}
+use Rattle.rm_facts.proofs.Opening.{none_retired, opening_starts_none, recovered_found}
 use Rattle.rm_node_facts.specs.AtNodes.{AllGood, events_of}
 use Rattle.rm_node_facts.specs.Holds.{BookHolds}
 use Rattle.rm_master_facts.specs.Sound.{Numbered}
@@ -311,5 +311,5 @@ module _ (h : History) (t : Tables) (b : IsBegun h t) (next stamp : ℕ) (front 
         lists = record { order = rw submitted opened_lists.order; going = rw submitted opened_lists.going };
         finishes = λ q. rw front (sym (ap (finishes_by q) (found_row q.app) ∙ recovered_finishes q (record_of t.tree.apps q.app)));
         unfinished = each_row (λ row. IsUnfinished row.current) recovered_unfinished;
-        retired = let r = rows in rw (retired, none_out, r) (λ id. (plain_rows t.tree.apps id).stays);
+        retired = let r = rows in rw (retired, none_out, r) (none_retired t.tree.apps);
       }

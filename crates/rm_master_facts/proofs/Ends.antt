@@ -96,11 +96,6 @@ module _ (settings : Settings) (h : History) (t : Tables) (k : Keeps settings h 
   pub number_of : current.number ≡ id.number
   number_of = grind (arith, nat_tests)
 
-  goes_by : Alive current.state → is_alive current.state ≡ true
-  goes_by (inl e) = rw e refl
-  goes_by (inr (inl e)) = rw e refl
-  goes_by (inr (inr e)) = rw e refl
-
   active_by : (s : AttemptState) → current.state ≡ s → Alive s → RowSays settings id (Some row) (view h t id) → is_active row.state ≡ true
   active_by s f (inl e) good = active_of settings id row (view h t id) current is (rw (f, e) refl) good
   active_by s f (inr (inl e)) good = active_of settings id row (view h t id) current is (rw (f, e) refl) good

@@ -48,9 +48,6 @@ module _ (settings : Settings) (h : History) (t : Tables) (k : Keeps settings h 
   abbrev IsNotIt : Option AppRow → Type 0
   IsNotIt row = (one : AppRow) (current : Current) → row ≡ Some one → one.current ≡ Some current → ((current.number == id.number) && is_alive current.state) ≡ false
 
-  same_current : (row one : AppRow) (current other : Current) → row.current ≡ Some current → Some row ≡ Some one → one.current ≡ Some other → other ≡ current
-  same_current row one current other is x y = let u : one ≡ row = cc in let w : Some other ≡ Some current = sym y ∙ ap (λ (r : AppRow). r.current) u ∙ is in cc
-
   quiet_step : (row : Option AppRow) → row_of t.rows id.app ≡ row → IsNotIt row → SomeJoins settings h t (main_worked (main_quiet t))
   quiet_step row found not_it = record {
     next = h;

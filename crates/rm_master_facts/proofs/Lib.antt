@@ -30,7 +30,6 @@ pub mod Finishing
 pub mod Serving
 pub mod ServingLive
 pub mod Resting
-pub mod Weighing
 pub mod Others
 pub mod AppEvents
 pub mod KeptApps

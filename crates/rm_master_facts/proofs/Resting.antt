@@ -11,7 +11,7 @@ use Rattle.rm_types.specs.declared.records.AttemptRecord.{AttemptRecord}
 use Rattle.rm_types.specs.declared.settings.Settings.{Settings}
 use Rattle.rm_types.specs.Ids.{is_attempt, is_container}
 use Rattle.rm_types.specs.Records.{all_ended, record_of, is_some_and}
-use Rattle.rm_model.specs.Attempts.{attempt_is_kept, attempt_was_first, finishing_text, has_expired, has_lost_master, is_over, kept_here}
+use Rattle.rm_model.specs.Attempts.{attempt_is_kept, attempt_was_first, finishing_text, has_expired, is_over, kept_here}
 use Rattle.rm_model.specs.Containers.{is_living}
 use Rattle.rm_model.specs.Facts.{attempts_in, end_in, has_container}
 use Rattle.rm_model.specs.Owed.{IsAlive}
@@ -194,9 +194,6 @@ module _ (settings : Settings) (h : History) (t : Tables) (k : Keeps settings h 
         by : (1 ≤ (marks h t attempt.master).losses) ⊎ ((rests.2.current.lost ≡ true) × (1 ≤ (marks h t attempt.master).launches)) → ⊥
         by (inl n) = let m = rw no_main at n in omega (arith, m)
         by (inr n) = let m = n.1 in let o = rw no_main at m in omega (arith, o)
-
-    pub not_lost : has_lost_master (scene_in h t) attempt.id ≡ false
-    not_lost = let f = found_here.found in rw f still_there
 
     -- and its master was ordered
     pub is_ordered : kept_here (scene_in h t) attempt.id ≡ true → has_container h.masters.ordered attempt.master ≡ false → ⊥

@@ -1,5 +1,5 @@
 -- Sound records stay sound with each operation that fits them, and a life can recover them.
-use Rattle.std.proofs.Common.{◌≡◌, ◌≤◌, ◌<◌, ℕ, ◌+◌, ◌==◌, ◌&&◌, List, [], ◌∷◌, ◌++◌, Bool, true, false, Option, None, Some, is_some, is_none, find, map, length, refl, sym, ◌∙◌, ap, subst, arith}
+use Rattle.std.proofs.Common.{◌≡◌, ◌<◌, ℕ, ◌+◌, ◌==◌, ◌&&◌, List, [], ◌∷◌, ◌++◌, Bool, true, false, Option, None, Some, is_some, is_none, find, map, length, refl, sym, ◌∙◌, ap, subst, arith}
 use Rattle.std.specs.Prelude.{option_and_then}
 use Rattle.std.specs.List.{list_all}
 use Rattle.std.proofs.lemmas.Bool.Decides.{nat_tests}
@@ -46,13 +46,6 @@ front_all (one ∷ []) last f e s = let same : one ≡ last = cc in let ended : 
 front_all (one ∷ next ∷ more) last f e s = let ended = f.0 in rw ended (front_all (next ∷ more) last f.1 e s)
 
 -- the first attempt of the last one's id is the last one
-not_found_below : (id : AppId) (n m : ℕ) (attempts : List AttemptRecord) → Numbered id n attempts → m ≤ n → find (λ one. is_attempt one.id (record { app = id; number = m })) attempts ≡ None
-not_found_below id n m [] k l = refl
-not_found_below id n m (one ∷ more) k l =
-    let here = k.0 in
-    let other : is_attempt one.id (record { app = id; number = m }) ≡ false = rw here (grind (arith, nat_tests)) in
-    rw other (not_found_below id (n + 1) m more k.1 (omega (arith, l)))
-
 pub last_found : (id : AppId) (n m : ℕ) (attempts : List AttemptRecord) (last : AttemptRecord) → Numbered id n attempts → last_attempt attempts ≡ Some last → m ≡ n + length attempts
     → find (λ one. is_attempt one.id (record { app = id; number = m })) attempts ≡ Some last
 last_found id n m [] last k e l = cc

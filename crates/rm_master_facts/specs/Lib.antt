@@ -2,4 +2,3 @@ pub mod Sound
 pub mod Marks
 pub mod Says
 pub mod Joined
-pub mod Issues

@@ -14,9 +14,8 @@
 //! - of services, where an attempt is live: a master registers and finishes, and its lease runs out (`ServingLive`), and it allocates
 //!   (`Allocating`).
 //!
-//! With both queues and the awaiting list empty nothing is owed of masters and of the book (`Resting`). How many operations may still be
-//! issued is told by the rows (`specs/Issues`), and falls with each (`Weighing`). The records of a store whose operations fit are sound
-//! (`specs/Sound`) and stay so (`Sounding`, `Apt`).
+//! With both queues and the awaiting list empty nothing is owed of masters and of the book (`Resting`). The records of
+//! a store whose operations fit are sound (`specs/Sound`) and stay so (`Sounding`, `Apt`).
 //!
 //! It stands on what `rm_facts`, `rm_app_facts` and `rm_node_facts` say of applications, attempts and nodes, on how the tables and the judge's
 //! life agree (`rm_agreement`), on the tables and on the judge's words.

@@ -61,7 +61,7 @@ use Rattle.rm_master_facts.proofs.AwaitingAttempts.{attempt_awaits, with_attempt
 use Rattle.rm_master_facts.proofs.Sounding.{numbered_last}
 use Rattle.rm_agreement_facts.specs.Whole.{WholeStep}
 use Rattle.rm_message_facts.specs.Fits.{FitsCurrent, RowsFit}
-use Rattle.rm_message_facts.proofs.Firsts.{clock_rows, node_rows}
+use Rattle.rm_message_facts.proofs.Rows.{clock_rows, node_rows}
 use Rattle.rm_message_facts.proofs.MarkedMessages.{clock_posts, node_posts}
 use Rattle.rm_message_facts.proofs.Fitting.{RowGoes, SameCurrent, change_same, goes_with, rows_fit, same_current}
 

@@ -4,7 +4,7 @@ pub mod Clock
 pub mod Registering
 pub mod Beating
 pub mod Present
-pub mod Firsts
+pub mod Rows
 pub mod Known
 pub mod Shapes
 pub mod Marked

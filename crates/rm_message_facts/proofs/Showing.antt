@@ -78,9 +78,6 @@ module _ (settings : Settings) (h : History) (t : Tables) (w : Whole settings h 
   abbrev goes_on : AttemptRecord → Bool
   goes_on attempt = has_spoken (scene_in h t) attempt.id && not (has_failed attempt)
 
-  abbrev failed : Bool
-  failed = is_some_and has_failed (last_attempt recorded)
-
   -- of an application whose current attempt is the last recorded one
   latest : (current : Current) → row.current ≡ Some current → 1 ≤ current.number → current.number ≡ length recorded → (o : Option AttemptRecord) → last_attempt recorded ≡ o
       → is_some_and goes_on o ≡ (current.registered && not (is_some_and has_failed o))

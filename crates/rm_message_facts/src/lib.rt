@@ -7,8 +7,7 @@
 //! - so is each message of the clock (`Clock`), a registration of a node (`Registering`) and a beat (`Beating`), each message of a client
 //!   (`Clients`) and of a master (`Masters`);
 //! - what the services of masters, nodes and the clock take to be shown is shown (`Life`), and so is what clients are told (`Known`, `Showing`);
-//! - a message of a node or of the clock leaves no node absent (`Present`), and the rows knowing which attempts were kept when the life began
-//!   (`Firsts`);
+//! - a message of a node or of the clock leaves no node absent (`Present`), and the rows of applications as they are (`Rows`);
 //! - each event of both queues changes rows, records, book and queue in few ways (`Shapes`). So each row that has the released mark has its
 //!   release on its way (`specs/Released`) after each message, event and kept operation (`Marked`, `MarkedMessages`, `MarkedQueues`,
 //!   `MarkedOps`);

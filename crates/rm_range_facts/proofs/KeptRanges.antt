@@ -24,7 +24,7 @@ use Rattle.rm_tables.specs.declared.rows.Current.{Current}
 use Rattle.rm_tables.specs.declared.tables.Tables.{Tables}
 use Rattle.rm_tables.specs.Changes.{changed}
 use Rattle.rm_tables.specs.KeptOps.{dropped_at, dropped_by, dropped_of, kept, taken_up}
-use Rattle.rm_tables.specs.Lives.{gone_down, handed_out, refused}
+use Rattle.rm_tables.specs.Lives.{handed_out}
 use Rattle.rm_tables.specs.Opening.{opening_main, opening_sched, sched_by, sched_of}
 use Rattle.rm_tables.specs.Rows.{row_of, with_row, without_row}
 use Rattle.rm_facts.proofs.Counts.{count_append, none_among}
@@ -157,25 +157,6 @@ with_store t r handed blown =
       counts = record { epoch = r.counts.epoch; served = r.counts.served; given = r.counts.given; clock = r.counts.clock };
     }
 
--- the first awaiting operation goes to the store, and the store refuses it
+-- the first awaiting operation goes to the store
 pub handed_ranged : (t : Tables) → Ranged t → Ranged (handed_out t)
 handed_ranged t r = with_store t r true t.blown
-
-pub refused_ranged : (t : Tables) → Ranged t → Ranged (refused t)
-refused_ranged t r = with_store t r false true
-
--- a life goes down
-pub down_ranged : (t : Tables) → Ranged t → Ranged (gone_down t)
-down_ranged t r =
-    record {
-      tree = r.tree;
-      awaiting = r.awaiting;
-      ended = tt;
-      rows = record { each = λ id row found. cc };
-      grants = record { each = λ id. omega arith };
-      asks = record { each = λ id. tt };
-      book = tt;
-      offers = tt;
-      nodes = record { each = λ name row found. cc };
-      counts = record { epoch = r.counts.epoch; served = omega arith; given = omega arith; clock = omega arith };
-    }

@@ -1,15 +1,13 @@
--- A life that begins over records in their ranges is in its range, and so is the life once it opens.
-use Rattle.std.proofs.Common.{◌≡◌, ◌≤◌, ◌<◌, ◌^◌, ◌-◌, ℕ, ◌+◌, nat_le, List, [], ◌∷◌, Bool, true, false, Option, None, Some, count_by, fold, is_some, map, option_map, refl, sym, ◌∙◌, ap, subst, arith}
+-- A life that begins over records in their ranges is in its range.
+use Rattle.std.proofs.Common.{◌≡◌, ◌<◌, ◌^◌, ℕ, nat_le, List, [], ◌∷◌, Bool, true, false, Option, None, Some, fold, is_some, map, option_map, refl, sym, ◌∙◌, ap, subst, arith}
 use Rattle.std.specs.Prelude.{if◌then◌else◌}
 use Rattle.rm_types.specs.declared.ids.AppId.{AppId}
 use Rattle.rm_types.specs.declared.ids.AttemptId.{AttemptId}
-use Rattle.rm_types.specs.declared.operations.Op.{Op}
-use Rattle.rm_types.specs.declared.operations.Op.TheVariants.{Epoch}
 use Rattle.rm_types.specs.declared.records.AppRecord.{AppRecord}
 use Rattle.rm_types.specs.declared.records.AttemptRecord.{AttemptRecord}
 use Rattle.rm_types.specs.Ids.{is_app}
-use Rattle.rm_types.specs.Ranges.{IsAppId, IsOperation, IsWithin}
-use Rattle.rm_types.specs.Records.{Records, is_some_and, last_attempt, record_of}
+use Rattle.rm_types.specs.Ranges.{IsAppId, IsOperation}
+use Rattle.rm_types.specs.Records.{Records, last_attempt, record_of}
 use Rattle.rm_book.specs.declared.plain.NodeCapability.{NodeCapability}
 use Rattle.rm_types.specs.declared.containers.BookRow.{BookRow}
 use Rattle.rm_tables.specs.declared.completed.Completion.{Completion}
@@ -17,20 +15,14 @@ use Rattle.rm_tables.specs.declared.events.SchedEvent.{SchedEvent}
 use Rattle.rm_tables.specs.declared.rows.AppRow.{AppRow}
 use Rattle.rm_tables.specs.declared.tables.Tables.{Tables}
 use Rattle.rm_tables.specs.Completed.{completion_of, completions_in, ended_in, put_completion, with_completed}
-use Rattle.rm_tables.specs.KeptOps.{kept}
 use Rattle.rm_tables.specs.Lives.{begun}
 use Rattle.rm_tables.specs.Opening.{recovered_attempt, recovered_row, recovered_rows}
 use Rattle.rm_tables.specs.Passing.{granted_by, granted_to}
 use Rattle.rm_tables.specs.Rows.{row_of}
-use Rattle.rm_facts.specs.Recovered.{IsRecovered, has_ended}
-use Rattle.rm_facts.specs.Told.{History}
-use Rattle.rm_facts.specs.View.{one_if}
-use Rattle.rm_facts.proofs.Counts.{at_front}
-use Rattle.rm_facts.proofs.Found.{is_app-refl, is_app_same}
+use Rattle.rm_facts.proofs.Found.{is_app_same}
 use Rattle.rm_facts.proofs.Opening.{recovered_found}
 use Rattle.rm_node_facts.specs.Holds.{All}
 use Rattle.rm_range_facts.specs.Ranged.{AreAsked, AreCounts, AreGrants, AreNodes, AreRecords, AreRows, IfThere, IsAttemptRecord, IsBooked, IsCurrent, IsOffer, IsRow, Ranged}
-use Rattle.rm_range_facts.proofs.KeptRanges.{kept_ranged}
 use Rattle.rm_range_facts.proofs.MainRanges.{last_found}
 use Rattle.rm_range_facts.proofs.Passable.{record_found}
 
@@ -111,40 +103,6 @@ ended_named apps all = by (completions_in apps) (completed_named apps [] all tt)
     by [] named = tt
     by (one ∷ list) named = (named.0, by list named.1)
 
--- each of a list is there
-each_there : (ids : List AppId) → All (λ id. 1 ≤ count_by (λ one. is_app one id) ids) ids
-each_there [] = tt
-each_there (id ∷ ids) = (first, raised ids (each_there ids))
-  where
-    first : 1 ≤ count_by (λ one. is_app one id) (id ∷ ids)
-    first =
-        let own = is_app-refl id in
-        let e = at_front (λ (one : AppId). is_app one id) id ids ∙ ap (λ (b : Bool). one_if b (count_by (λ (one : AppId). is_app one id) ids)) own in
-        omega (arith, e)
-
-    more : (b : Bool) (n m : ℕ) → m ≡ one_if b n → 1 ≤ n → 1 ≤ m
-    more true n m e few = omega (arith, e)
-    more false n m e few = omega (arith, e, few)
-
-    raised : (list : List AppId) → All (λ one. 1 ≤ count_by (λ x. is_app x one) ids) list → All (λ one. 1 ≤ count_by (λ x. is_app x one) (id ∷ ids)) list
-    raised [] all = tt
-    raised (one ∷ list) all = (more (is_app id one) _ _ (at_front (λ (x : AppId). is_app x one) id ids) all.0, raised list all.1)
-
--- those that have ended are recorded
-pub ended_recovered : (h : History) (t : Tables) → IsRecovered h t → AreRecords t.tree.apps → All IsAppId t.ended
-ended_recovered h t recovered all = by t.ended (each_there t.ended)
-  where
-    at : (id : AppId) (o : Option AppRecord) → record_of t.tree.apps id ≡ o → 1 ≤ one_if (is_some_and has_ended o) 0 → IsAppId id
-    at id None e few = absurd (omega (arith, few))
-    at id (Some app) e few = found_named t.tree.apps id app all e
-
-    by : (list : List AppId) → All (λ id. 1 ≤ count_by (λ one. is_app one id) t.ended) list → All IsAppId list
-    by [] there = tt
-    by (id ∷ list) there =
-        let told = recovered.ended id in
-        let few = there.0 in
-        (at id (record_of t.tree.apps id) refl (omega (arith, told, few)), by list there.1)
-
 -- LIVES
 
 -- a life of which nothing else is known is in its range
@@ -170,19 +128,3 @@ fresh_ranged t all awaiting ended counts rows sched asks book offers nodes =
 pub begun_ranged : (tree : Records) (stamp : ℕ) (t : Tables) → AreRecords tree.apps → tree.next_epoch < 2 ^ 24 → Ranged (begun tree stamp t)
 begun_ranged tree stamp t all epoch =
     fresh_ranged (begun tree stamp t) all tt (ended_named tree.apps all) (record { epoch = epoch; served = omega arith; given = omega arith; clock = omega arith }) refl refl refl refl refl refl
-
--- its Epoch
-pub epoch_is : (t : Tables) → t.epoch < 2 ^ 24 → IsWithin 1 (2 ^ 63 - 1) t.stamp → IsOperation (Epoch (t.epoch + 1) t.stamp)
-epoch_is t epoch stamp = ((omega arith, omega (arith, epoch)), stamp)
-
--- and one that opens
-pub opens_ranged : (t : Tables) (next stamp : ℕ) → t.awaiting ≡ Epoch next stamp ∷ [] → IsOperation (Epoch next stamp) → AreRecords t.tree.apps → All IsAppId t.ended → AreCounts t → t.rows ≡ recovered_rows t.tree.apps
-    → t.sched ≡ [] → t.asks ≡ [] → t.book.rows ≡ [] → t.book.nodes ≡ [] → t.nodes ≡ [] → Ranged (kept (Epoch next stamp) t)
-opens_ranged t next stamp front is all ended counts rows sched asks book offers nodes =
-    kept_ranged t (fresh_ranged t all (subst (λ (l : List Op). All IsOperation l) (sym front) (is, tt)) ended counts rows sched asks book offers nodes) (Epoch next stamp) [] front
-
--- also where it is known that nothing has happened since it began
-pub recovered_ranged : (h : History) (t : Tables) (next stamp : ℕ) → IsRecovered h t → t.awaiting ≡ Epoch next stamp ∷ [] → IsOperation (Epoch next stamp) → AreRecords t.tree.apps → AreCounts t → t.asks ≡ []
-    → t.book.rows ≡ [] → t.book.nodes ≡ [] → t.nodes ≡ [] → Ranged (kept (Epoch next stamp) t)
-recovered_ranged h t next stamp recovered front is all counts asks book offers nodes =
-    opens_ranged t next stamp front is all (ended_recovered h t recovered all) counts recovered.rows recovered.sched asks book offers nodes

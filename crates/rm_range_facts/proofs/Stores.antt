@@ -1,5 +1,5 @@
 -- What the operations of a store amount to is in its range where they are, is sound where each fits, and names masters of its attempts.
-use Rattle.std.proofs.Common.{◌≡◌, ◌≤◌, ◌^◌, ◌-◌, List, [], ◌∷◌, Bool, true, false, None, fold, refl, arith}
+use Rattle.std.proofs.Common.{◌≡◌, List, [], ◌∷◌, Bool, true, false, None, fold, refl}
 use Rattle.std.specs.Prelude.{All as Every}
 use Rattle.rm_types.specs.declared.operations.Op.{Op}
 use Rattle.rm_types.specs.declared.operations.Op.TheVariants.{Epoch, App, Attempt, AttemptEnd, AppEnd, Remove}
@@ -56,25 +56,3 @@ apt_from (op ∷ ops) r all apt = apt_from ops (recorded r op) all.1 (apt_step r
 -- each master that is recorded is a container of its attempt
 pub stored_apt : (ops : List Op) → Every IsOperation ops → EachApt (records ops).apps
 stored_apt ops every = apt_from ops no_records (each_of IsOperation ops every) (λ id one e. cc)
-
--- THE NEXT LIFE
-
--- the next epoch and the last stamp
-pub record AreLast (r : Records) : Type 0 where
-  pub epoch : r.next_epoch ≤ 2 ^ 24
-  pub stamp : r.stamp ≤ 2 ^ 63 - 1
-
-last_more : (r : Records) (op : Op) → IsOperation op → AreLast r → AreLast (recorded r op)
-last_more r (Epoch next stamp) is last = record { epoch = is.0.1; stamp = is.1.1 }
-last_more r (App id submission) is last = record { epoch = last.epoch; stamp = last.stamp }
-last_more r (Attempt id master node) is last = record { epoch = last.epoch; stamp = last.stamp }
-last_more r (AttemptEnd id how text) is last = record { epoch = last.epoch; stamp = last.stamp }
-last_more r (AppEnd id how text) is last = record { epoch = last.epoch; stamp = last.stamp }
-last_more r (Remove id) is last = record { epoch = last.epoch; stamp = last.stamp }
-
-last_from : (ops : List Op) (r : Records) → All IsOperation ops → AreLast r → AreLast (fold recorded r ops)
-last_from [] r all last = last
-last_from (op ∷ ops) r all last = last_from ops (recorded r op) all.1 (last_more r op all.0 last)
-
-pub stored_last : (ops : List Op) → Every IsOperation ops → AreLast (records ops)
-stored_last ops every = last_from ops no_records (each_of IsOperation ops every) (record { epoch = omega arith; stamp = omega arith })

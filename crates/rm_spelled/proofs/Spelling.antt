@@ -61,9 +61,10 @@ module _ (settings : Settings) where
   follows (Opened landed epoch stamp ∷ log) s None is allowed unblown =
       let may : MayOpen s landed epoch stamp = allowed_in settings s None is (Opened landed epoch stamp) allowed.0 in
       let rises = may.rises in
-      let stamped : stamp ≡ max stamp ((records (kept_after_landing s landed)).stamp + 1) = omega (arith, rises) in
-      (record { life = record { stamp = stamp; segments = first_in log ∷ more_in log }; more = lives_in log; next = refl; at_end = refl; stamped = stamped },
-      follows log (after s (Opened landed epoch stamp)) _ (opens s (Opened landed epoch stamp) is) allowed.1 unblown.1)
+      let stamped : stamp ≡ max stamp ((records (kept_after_landing s landed)).stamp + 1) = omega (arith, rises) in (
+        record { life = record { stamp = stamp; segments = first_in log ∷ more_in log }; more = lives_in log; next = refl; at_end = refl; stamped = stamped },
+        follows log (after s (Opened landed epoch stamp)) _ (opens s (Opened landed epoch stamp) is) allowed.1 unblown.1,
+      )
   follows (Opened landed epoch stamp ∷ log) s (Some life) is allowed unblown = absurd (allowed_in settings s (Some life) is (Opened landed epoch stamp) allowed.0)
   follows (Served sender message reply ∷ log) s (Some life) is allowed unblown =
       let may : MayServe settings (scene s life) sender message reply = allowed_in settings s (Some life) is (Served sender message reply) allowed.0 in

@@ -77,9 +77,9 @@ begun tree stamp t =
       main = mains.EpochStart ∷ [];
     }
 
--- a life goes down: what is recorded and what awaits is left of it
+-- a life goes down: what is recorded and what awaits is left of it, and whether the store refused an operation of it
 abbrev pub gone_down : Tables → Tables
-gone_down t = record (cleared t) { alive = false }
+gone_down t = record (cleared t) { alive = false; blown = t.blown }
 
 -- the first awaiting operation is with the store
 abbrev pub handed_out : Tables → Tables

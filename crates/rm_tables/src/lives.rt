@@ -67,11 +67,13 @@ impl Tables {
         Ok(())
     }
 
-    /// A life goes down: what is recorded and what awaits is left of it.
+    /// A life goes down: what is recorded and what awaits is left of it, and whether the store refused an operation of it.
     pub fn go_down(&mut self)
         ensures { self.new ≡ gone_down self.old }
     {
+        let blown = self.blown;
         self.clear();
+        self.blown = blown;
         self.alive = false;
     }
 

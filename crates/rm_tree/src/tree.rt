@@ -1,8 +1,9 @@
-ghost use Rattle.std.specs.Prelude.{◌≡◌, ◌<◌, length, slice_get, Some, Err, false, OnOk, OnErr, IfErr, IfSome};
+ghost use Rattle.std.specs.Prelude.{◌≡◌, ◌<◌, length, slice_get, Some, Err, true, false, OnOk, OnErr, IfErr, IfSome};
 ghost use Rattle.std.specs.Option.{option_copied};
 ghost use Rattle.rm_tree.specs.declared.tree.TreeError.TheVariants.{Memory, Stray};
 ghost use Rattle.rm_tree.specs.Numbers.{AreAttemptsFrom, AreApart, AreNumbered};
-ghost use Rattle.rm_types.specs.Records.{recorded, record_of, fits_records, no_records};
+ghost use Rattle.rm_tree.specs.Shows.{shows};
+ghost use Rattle.rm_types.specs.Records.{Records as AnyRecords, recorded, record_of, fits_records, no_records};
 
 use crate::apps::Apps;
 use crate::attempts::{has_stopped, is_next_attempt, is_unended_last};
@@ -136,6 +137,39 @@ impl Tree {
         }
         self.applied = applied;
         Ok(())
+    }
+
+    /// Whether an operation is among those that were applied, as far as the records tell: one that isn't stray shows
+    /// in the tree after it, and not in the tree before.
+    pub fn shows(&self, op: &Op) -> bool
+        ensures shows { result ≡ shows self.now op.now }
+        ensures before { fits_records self.now op.now ≡ true → result ≡ false }
+        ensures after { (r : AnyRecords) → fits_records r op.now ≡ true → self.now ≡ recorded r op.now → result ≡ true }
+    {
+        self.tells(op)
+    }
+
+    /// Whether the records tell of an operation.
+    fn tells(&self, op: &Op) -> bool
+        ensures { result ≡ shows self.now op.now }
+    {
+        match op {
+            Op::Epoch { next, .. } => self.next_epoch >= *next,
+            Op::App { id, .. } => self.apps.find(*id).is_some(),
+            Op::Attempt { id, .. } => match self.apps.find(id.app) {
+                Some(app) => app.attempts.len() >= id.number as usize,
+                None => false,
+            },
+            Op::AttemptEnd { id, .. } => match self.apps.find(id.app) {
+                Some(app) => !app.attempts.is_empty() && !is_unended_last(app, *id),
+                None => false,
+            },
+            Op::AppEnd { id, .. } => match self.apps.find(*id) {
+                Some(AppRecord { ending, .. }) => ending.is_some(),
+                None => false,
+            },
+            Op::Remove { id } => self.apps.find(*id).is_none(),
+        }
     }
 
     /// Whether an operation fits the records.

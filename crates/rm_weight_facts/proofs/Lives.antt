@@ -25,13 +25,6 @@ hand_lighter t h some = rw h (omega arith)
 pub down_weighs : (t : Tables) → t.handed ≡ false → weight (gone_down t) ≤ weight t
 down_weighs t h = rw h (omega arith)
 
--- how many messages were served, and which number was given last, weighs nothing
-pub given_weighs : (t : Tables) (given served : ℕ) → weight (record t { given = given; served = served }) ≡ weight t
-given_weighs t given served = refl
-
-pub served_weighs : (t : Tables) (served : ℕ) → weight (record t { served = served }) ≡ weight t
-served_weighs t served = refl
-
 -- no more are completed than are recorded
 few_put : (one : Completion) (xs : List Completion) → length (put_completion one xs) ≡ suc (length xs)
 few_put one [] = refl

@@ -22,7 +22,6 @@ use Rattle.rm_types.specs.declared.operations.Op.TheVariants as ops
 use Rattle.rm_types.specs.declared.replies.Reply.{Reply}
 use Rattle.rm_types.specs.declared.replies.Reply.TheVariants as replies
 use Rattle.rm_types.specs.declared.resources.Resource.{Resource}
-use Rattle.rm_types.specs.Records.{Records}
 use Rattle.rm_attempt.specs.declared.states.AttemptState.{AttemptState}
 use Rattle.rm_attempt.specs.declared.states.AttemptState.TheVariants as attempts
 use Rattle.rm_book.specs.Books.{BookOf, row_of as book_row_of}
@@ -41,7 +40,6 @@ use Rattle.rm_tables.specs.Absorbing.{absorbed_by, absorbed_if, unlaunched_here,
 use Rattle.rm_tables.specs.Actions.{main_worked, sched_worked}
 use Rattle.rm_tables.specs.KeptOps.{kept}
 use Rattle.rm_tables.specs.Leaving.{ended_by, unlaunched, unlaunched_at, unlaunched_one}
-use Rattle.rm_tables.specs.Lives.{begun, gone_down}
 use Rattle.rm_tables.specs.MainEvents.{main_step}
 use Rattle.rm_tables.specs.Nodes.{beaten_row, changed_row, is_waiting, new_row, node_of, ordered_row, registered_row, with_node}
 use Rattle.rm_tables.specs.Passing.{updated_by}
@@ -188,13 +186,6 @@ kept_few (ops.Attempt id master node) t before = before
 kept_few (ops.AttemptEnd id how text) t before = before
 kept_few (ops.AppEnd id how text) t before = before
 kept_few (ops.Remove id) t before = before
-
--- a life that begins, and one that goes down, has no nodes
-pub begun_few : (tree : Records) (stamp : ℕ) (t : Tables) → FewReported (begun tree stamp t)
-begun_few tree stamp t name row found = cc
-
-pub down_few : (t : Tables) → FewReported (gone_down t)
-down_few t name row found = cc
 
 -- a message of a client and of a master
 pub client_few : (ask : ClientAsk) (reply : Reply) (t : Tables) → FewReported t → FewReported (after_client ask reply t)
