@@ -7,3 +7,4 @@ mod Settling
 mod Lives
 mod Moving
 pub mod Telling
+pub mod Left

@@ -2,7 +2,7 @@
 use Rattle.std.proofs.Common.{◌∙◌, ◌≡◌, ◌≢◌, ℕ, ◌+◌, ◌<◌, ◌≤◌, ◌^◌, max, List, [], ◌∷◌, ◌++◌, Bool, true, false, not, ◌&&◌, ◌||◌, Option, None, Some, Ok, Err, Result, length, refl, sym, ap, subst, arith}
 use Rattle.std.specs.Prelude.{OnOk, OnErr, slice_get}
 use Rattle.rm_types.specs.declared.entries.Entry.{Entry}
-use Rattle.rm_types.specs.declared.entries.Entry.TheVariants.{Down as DownEntry, Handed, Kept as KeptEntry, Opened, Served, Settled}
+use Rattle.rm_types.specs.declared.entries.Entry.TheVariants.{Blown as BlownEntry, Down as DownEntry, Handed, Kept as KeptEntry, Opened, Served, Settled}
 use Rattle.rm_types.specs.declared.ids.AppId.{AppId}
 use Rattle.rm_types.specs.declared.ids.ContainerId.{ContainerId}
 use Rattle.rm_types.specs.declared.messages.Lane.TheVariants.{Client, End, Hand as HandLane, Main as MainLane, Write}
@@ -10,6 +10,8 @@ use Rattle.rm_types.specs.declared.messages.Message.{Message}
 use Rattle.rm_types.specs.declared.messages.Message.TheVariants as messages
 use Rattle.rm_types.specs.declared.operations.Op.{Op}
 use Rattle.rm_types.specs.declared.settings.Settings.{Settings}
+use Rattle.rm_types.specs.declared.replies.Reply.{Reply}
+use Rattle.rm_types.specs.declared.replies.Reply.TheVariants.{NotOpen}
 use Rattle.rm_types.specs.Lanes.{feed_lane, sender_of}
 use Rattle.rm_types.specs.Lists.{is_nil}
 use Rattle.rm_types.specs.Ranges.{IsOperation}
@@ -17,30 +19,29 @@ use Rattle.rm_types.specs.Records.{Records, fits_records, records}
 use Rattle.rm_queues.specs.Rules.{KeepsRules}
 use Rattle.rm_model.specs.Facts.{attempts_in}
 use Rattle.rm_model.specs.State.{Manager}
-use Rattle.rm_model.specs.Lawful.{state_after}
 use Rattle.rm_tables.specs.declared.events.MainEvent.{MainEvent}
 use Rattle.rm_tables.specs.declared.events.SchedEvent.{SchedEvent}
 use Rattle.rm_tables.specs.declared.events.Refused.{Refused}
 use Rattle.rm_tables.specs.declared.tables.Tables.{Tables}
 use Rattle.rm_tables.specs.Actions.{found_in, main_worked, sched_worked}
 use Rattle.rm_tables.specs.KeptOps.{kept}
-use Rattle.rm_tables.specs.Lives.{begun, gone_down, handed_out, is_ready, may_go_down}
+use Rattle.rm_tables.specs.Lives.{begun, gone_down, handed_out, is_ready, may_go_down, refused as refused_by}
 use Rattle.rm_tables.specs.MainEvents.{main_step}
 use Rattle.rm_tables.specs.SchedEvents.{EndsBy, sched_step}
 use Rattle.rm_facts.specs.Told.{History}
 use Rattle.rm_moves.specs.Messages.{IsMessage, KeepsLimits}
-use Rattle.rm_weight_facts.proofs.Lives.{begin_weighs, down_weighs}
+use Rattle.rm_weight_facts.proofs.Lives.{begin_weighs, blow_lighter, down_weighs}
 use Rattle.rm_running.specs.Phases.{Leads}
 use Rattle.rm_running.specs.Running.{Running}
-use Rattle.rm_running.proofs.Phases.{down_leads, fits_in, framed_in, goes_leads, hand_leads, handed_awaits, keep_leads, main_called, main_leads, recorded_of, sched_leads, serving_open, unblown_of}
+use Rattle.rm_running.proofs.Phases.{blow_leads, down_leads, fits_in, framed_in, goes_leads, hand_leads, handed_awaits, keep_leads, main_called, main_leads, recorded_of, sched_leads, serving_open, serving_shut, shut_serves, unblown_of}
 use Rattle.rm_running.proofs.Settling.{settle_leads}
 use Rattle.rm_core.specs.declared.manager.Move.{Move}
-use Rattle.rm_core.specs.declared.manager.Move.TheVariants.{Begin, Down, Hand, Kept, Main, Sched, Serve, Settle}
+use Rattle.rm_core.specs.declared.manager.Move.TheVariants.{Begin, Blown, Down, Hand, Kept, Main, Sched, Serve, Settle}
 use Rattle.rm_core.specs.Adds.{CanBeginOver, Does, Stands}
 use Rattle.rm_core.specs.Keeps.{IsSound, IsSoundCore, Keeps}
-use Rattle.rm_core.specs.Queues.{served_moved}
+use Rattle.rm_core.specs.Queues.{answered_where, landed_in, served_moved}
 use Rattle.rm_core.specs.Seen.{IsToBeKept, Seen, handed_op}
-use Rattle.rm_core.specs.Serving.{IsServed}
+use Rattle.rm_core.specs.Serving.{IsReply, IsReplyWhere, IsServed}
 use Rattle.rm_core.specs.Words.{new_manager}
 use Rattle.rm_core.proofs.Lives.{begin_keeps, begin_sound}
 use Rattle.rm_core.proofs.Queued.{main_told, sched_told}
@@ -90,10 +91,6 @@ not_nil : {X : Type 0} (xs : List X) → not (is_nil xs) ≡ true → xs ≢ []
 not_nil [] h = cc
 not_nil (x ∷ xs) h = λ e. cc
 
-some_nil : {X : Type 0} (xs : List X) → xs ≢ [] → not (is_nil xs) ≡ true
-some_nil [] h = absurd (h refl)
-some_nil (x ∷ xs) h = refl
-
 module _ (t : Tables) (log : List Entry) (s : IsSound t) where
   -- the first event of the main queue
   main_made : (event : MainEvent) (rest : List MainEvent) → t.main ≡ event ∷ rest → (x : Unit {0}) → Done Main t (main_worked (main_step event t)).1 log (log ++ (main_worked (main_step event t)).0 ∷ []) (Ok x)
@@ -111,6 +108,7 @@ module _ (t : Tables) (log : List Entry) (s : IsSound t) where
           weighs = own.lighter;
           stands = (own.stood, own.stands);
           served = own.served;
+          blown = own.blown;
           tables = tt;
           settings = own.leads.settings;
           began = began_on own.leads;
@@ -151,6 +149,7 @@ module _ (t : Tables) (log : List Entry) (s : IsSound t) where
           weighs = own.lighter;
           stands = (own.stood, own.stands);
           served = own.served;
+          blown = own.blown;
           tables = tt;
           settings = own.leads.settings;
           began = began_on own.leads;
@@ -176,17 +175,19 @@ module _ (t : Tables) (log : List Entry) (s : IsSound t) where
       let second = both (not (is_nil t.awaiting)) (not t.handed && not t.blown) first.1 in
       let free = is_not t.handed (both (not t.handed) (not t.blown) second.1).0 in
       let some = not_nil t.awaiting second.0 in
-      let own = hand_leads s.history t s.phase first.0 some free in
+      let unblown = is_not t.blown (both (not t.handed) (not t.blown) second.1).1 in
+      let own = hand_leads s.history t s.phase first.0 some free unblown in
       rw (ok.0, ok.1) (record {
         sound = sound_after s.history t Handed (handed_out t) own.leads;
         settings = refl;
         does = record {
           added = record { entry = Handed; of_move = refl; added = refl };
-          lawful = λ opening k from. keeps_more opening log t (handed_out t) Handed k own.stood (record { leads = (hand_leads k.history t k.phase first.0 some free).leads; own = refl });
+          lawful = λ opening k from. keeps_more opening log t (handed_out t) Handed k own.stood (record { leads = (hand_leads k.history t k.phase first.0 some free unblown).leads; own = refl });
           ready = ready;
           weighs = own.lighter;
           stands = (own.stood, own.stands);
           served = refl;
+          blown = refl;
           tables = tt;
           settings = refl;
           began = refl;
@@ -211,6 +212,7 @@ module _ (t : Tables) (log : List Entry) (s : IsSound t) where
           weighs = own.lighter;
           stands = (own.stood, own.stands);
           served = own.served;
+          blown = own.blown;
           tables = tt;
           settings = own.leads.settings;
           began = began_on own.leads;
@@ -227,12 +229,36 @@ module _ (t : Tables) (log : List Entry) (s : IsSound t) where
       by [] front = let lives = both t.alive t.handed ready in absurd (handed_awaits s.history t s.phase lives.0 lives.1 front)
       by (op ∷ rest) front = let lives = both t.alive t.handed ready in let is = ok op rest front in rw (is.0, is.1) (keep_made op rest front lives.0 lives.1 x)
 
+  -- or refused
+  pub blow_done : (passed : ℕ) (next : Tables) (longer : List Entry) (r : Result (Unit {0}) Refused) → OnOk r ((next ≡ refused_by t) × (longer ≡ log ++ BlownEntry passed ∷ [])) → OnOk r (is_ready t Write ≡ true)
+      → OnErr r ((next ≡ t) × (longer ≡ log)) → Done (Blown passed) t next log longer r
+  blow_done passed next longer (Err e) ok ready err = refused (Blown passed) t next log longer e s err.0
+  blow_done passed next longer (Ok x) ok ready err =
+      let lives = both t.alive t.handed ready in
+      let leads = blow_leads s.history t passed s.phase lives.0 lives.1 in
+      rw (ok.0, ok.1) (record {
+        sound = sound_after s.history t (BlownEntry passed) (refused_by t) leads;
+        settings = refl;
+        does = record {
+          added = record { entry = BlownEntry passed; of_move = refl; added = refl };
+          lawful = λ opening k from. keeps_more opening log t (refused_by t) (BlownEntry passed) k lives.0 (record { leads = blow_leads k.history t passed k.phase lives.0 lives.1; own = refl });
+          ready = ready;
+          weighs = blow_lighter t lives.1 (unblown_of s.history t s.phase lives.0 lives.1);
+          stands = (lives.0, lives.0);
+          served = refl;
+          blown = refl;
+          tables = tt;
+          settings = refl;
+          began = refl;
+        };
+      })
+
   -- what awaits while an operation is with the store, and that it fits
   pub write_awaits : is_ready t Write ≡ true → t.awaiting ≢ []
   write_awaits ready = let lives = both t.alive t.handed ready in handed_awaits s.history t s.phase lives.0 lives.1
 
   pub write_fits : is_ready t Write ≡ true → (op : Op) (rest : List Op) → t.awaiting ≡ op ∷ rest → fits_records t.tree op ≡ true
-  write_fits ready op rest front = fits_in s.history t op rest s.phase (both t.alive t.handed ready).0 front
+  write_fits ready op rest front = let lives = both t.alive t.handed ready in fits_in s.history t op rest s.phase lives.0 lives.1 front
 
   -- the segment settles
   pub settle_done : (longer : List Entry) (r : Result (Unit {0}) Refused) → OnOk r (longer ≡ log ++ Settled ∷ []) → OnOk r (is_ready t End ≡ true) → OnErr r (longer ≡ log) → Done Settle t t log longer r
@@ -254,6 +280,7 @@ module _ (t : Tables) (log : List Entry) (s : IsSound t) where
           weighs = omega arith;
           stands = (first.0, first.0);
           served = refl;
+          blown = refl;
           tables = refl;
           settings = refl;
           began = refl;
@@ -267,17 +294,18 @@ module _ (t : Tables) (log : List Entry) (s : IsSound t) where
   down_done next longer (Ok x) ok ready err =
       let lives = both t.alive (not t.handed) ready in
       let free = is_not t.handed lives.1 in
-      let leads = down_leads s.history t s.phase lives.0 free (unblown_of s.history t s.phase lives.0) in
+      let leads = down_leads s.history t s.phase lives.0 free in
       rw (ok.0, ok.1) (record {
         sound = sound_after s.history t DownEntry (gone_down t) leads;
         settings = refl;
         does = record {
           added = record { entry = DownEntry; of_move = refl; added = refl };
-          lawful = λ opening k from. keeps_more opening log t (gone_down t) DownEntry k lives.0 (record { leads = down_leads k.history t k.phase lives.0 free (unblown_of s.history t s.phase lives.0); own = refl });
+          lawful = λ opening k from. keeps_more opening log t (gone_down t) DownEntry k lives.0 (record { leads = down_leads k.history t k.phase lives.0 free; own = refl });
           ready = ready;
           weighs = down_weighs t free;
           stands = (lives.0, refl);
           served = refl;
+          blown = refl;
           tables = tt;
           settings = refl;
           began = refl;
@@ -286,7 +314,7 @@ module _ (t : Tables) (log : List Entry) (s : IsSound t) where
 
   -- a life begins
   pub begin_done : KeepsLimits t.settings → (tree : Records) (handed : ℕ) → t.alive ≡ false → CanBeginOver tree → handed ≤ 1000000000000000 → (next : Tables) (longer : List Entry) (r : Result (Unit {0}) Refused)
-      → OnOk r ((next ≡ begun tree (max handed (tree.stamp + 1)) t) × (longer ≡ log ++ Opened 0 tree.next_epoch (max handed (tree.stamp + 1)) ∷ []))
+      → OnOk r ((next ≡ begun tree (max handed (tree.stamp + 1)) t) × (longer ≡ log ++ Opened (landed_in t tree) tree.next_epoch (max handed (tree.stamp + 1)) ∷ []))
       → OnErr r ((next ≡ t) × (longer ≡ log)) → Done (Begin tree handed) t next log longer r
   begin_done limits tree handed a over high next longer (Err e) ok err = refused (Begin tree handed) t next log longer e s err.0
   begin_done limits tree handed a over high next longer (Ok x) ok err =
@@ -297,12 +325,13 @@ module _ (t : Tables) (log : List Entry) (s : IsSound t) where
         sound = begin_sound t tree (max handed (tree.stamp + 1)) limits over above within;
         settings = refl;
         does = record {
-          added = record { entry = Opened 0 tree.next_epoch (max handed (tree.stamp + 1)); of_move = refl; added = refl };
+          added = record { entry = Opened (landed_in t tree) tree.next_epoch (max handed (tree.stamp + 1)); of_move = refl; added = refl };
           lawful = λ opening k from. begin_keeps t tree (max handed (tree.stamp + 1)) limits over above within opening log k a from;
           ready = rw a refl;
           weighs = begin_weighs tree (max handed (tree.stamp + 1)) t;
           stands = (a, refl);
           served = refl;
+          blown = refl;
           tables = tt;
           settings = refl;
           began = refl;
@@ -316,71 +345,109 @@ module _ (t : Tables) (log : List Entry) (s : IsSound t) where
   feed_ready (messages.Node name ask) = refl
   feed_ready (messages.Clock ask) = refl
 
-  -- a life that serves is open
-  pub serving_runs : is_ready t Client ≡ true → Running s.history t
-  serving_runs ready = let lives = both t.alive (t.is_open || t.blown) ready in serving_open s.history t s.phase lives.0 lives.1
+  -- a life that is open
+  pub serving_runs : is_ready t Client ≡ true → t.is_open ≡ true → Running s.history t
+  serving_runs ready open_ = serving_open s.history t s.phase (both t.alive (t.is_open || t.blown) ready).0 open_
 
-  -- a message is answered
-  serve_made : (message : Message) → IsMessage message → t.served < 100000 → is_ready t Client ≡ true → (next : Tables) (longer : List Entry) → IsServed t next log longer message → (x : Unit {0}) → Done (Serve message) t next log longer (Ok x)
-  serve_made message in_range few ready next longer (reply, answers, changed, added) x =
+  -- a message of an open life is answered
+  open_made : (message : Message) → IsMessage message → t.served < 100000 → is_ready t Client ≡ true → t.is_open ≡ true → (reply : Reply) → IsReply t message reply → (x : Unit {0})
+      → Done (Serve message) t (served_moved message reply t) log (log ++ Served (sender_of message) message reply ∷ []) (Ok x)
+  open_made message in_range few ready open_ reply answers x =
       let lives = both t.alive (t.is_open || t.blown) ready in
-      let r = serving_runs ready in
+      let r = serving_runs ready open_ in
       let goes = serve_goes s.history t r few message reply in_range answers in
       let leads = goes_leads s.history t (Served (sender_of message) message reply) (served_moved message reply t) lives.0 goes in
-      rw (changed, added) (record {
+      record {
         sound = sound_after s.history t (Served (sender_of message) message reply) (served_moved message reply t) leads;
         settings = leads.settings;
         does = record {
           added = record { entry = Served (sender_of message) message reply; of_move = (reply, refl); added = refl };
           lawful = λ opening k from.
-              let run = serving_open k.history t k.phase lives.0 lives.1 in
+              let run = serving_open k.history t k.phase lives.0 open_ in
               keeps_more opening log t (served_moved message reply t) (Served (sender_of message) message reply) k lives.0
               (record { leads = goes_leads k.history t (Served (sender_of message) message reply) (served_moved message reply t) lives.0 (serve_goes k.history t run few message reply in_range answers); own = refl });
           ready = feed_ready message ∙ ready;
           weighs = serve_weighs s.history t r message reply in_range;
           stands = (lives.0, goes.stays.alive ∙ lives.0);
           served = refl;
+          blown = goes.stays.blown;
           tables = tt;
           settings = leads.settings;
           began = began_on leads;
         };
-      })
+      }
+
+  -- one of a life that blew before it was open
+  shut_made : (message : Message) → is_ready t Client ≡ true → t.is_open ≡ false → (x : Unit {0})
+      → Done (Serve message) t (record t { served = t.served + 1 }) log (log ++ Served (sender_of message) message NotOpen ∷ []) (Ok x)
+  shut_made message ready closed x =
+      let lives = both t.alive (t.is_open || t.blown) ready in
+      let blew : t.blown ≡ true = let b = lives.1 in rw closed at b in
+      let leads = shut_serves s.history t message (serving_shut s.history t s.phase lives.0 closed blew) in
+      record {
+        sound = sound_after s.history t (Served (sender_of message) message NotOpen) (record t { served = t.served + 1 }) leads;
+        settings = refl;
+        does = record {
+          added = record { entry = Served (sender_of message) message NotOpen; of_move = (NotOpen, refl); added = refl };
+          lawful = λ opening k from.
+              keeps_more opening log t (record t { served = t.served + 1 }) (Served (sender_of message) message NotOpen) k lives.0
+              (record { leads = shut_serves k.history t message (serving_shut k.history t k.phase lives.0 closed blew); own = rw closed refl });
+          ready = feed_ready message ∙ ready;
+          weighs = omega arith;
+          stands = (lives.0, lives.0);
+          served = refl;
+          blown = refl;
+          tables = tt;
+          settings = refl;
+          began = refl;
+        };
+      }
+
+  -- a message is answered
+  serve_made : (message : Message) → IsMessage message → t.served < 100000 → is_ready t Client ≡ true → (b : Bool) → t.is_open ≡ b → (reply : Reply) → IsReply t message reply → (x : Unit {0})
+      → Done (Serve message) t (served_moved message reply t) log (log ++ Served (sender_of message) message reply ∷ []) (Ok x)
+  serve_made message in_range few ready true open_ reply answers x = open_made message in_range few ready open_ reply answers x
+  serve_made message in_range few ready false closed reply answers x =
+      let is : reply ≡ NotOpen = subst (λ (b : Bool). IsReplyWhere b t message reply) closed answers in
+      let same : served_moved message reply t ≡ record t { served = t.served + 1 } = ap (λ (b : Bool). record (answered_where b message reply t) { served = t.served + 1 }) closed in
+      subst (λ (next : Tables). Done (Serve message) t next log (log ++ Served (sender_of message) message reply ∷ []) (Ok x)) (sym same)
+      (subst (λ (r : Reply). Done (Serve message) t (record t { served = t.served + 1 }) log (log ++ Served (sender_of message) message r ∷ []) (Ok x)) (sym is) (shut_made message ready closed x))
 
   pub serve_done : (message : Message) → IsMessage message → t.served < 100000 → (next : Tables) (longer : List Entry) (r : Result (Unit {0}) Refused)
       → OnOk r (IsServed t next log longer message) → OnOk r (is_ready t Client ≡ true) → OnErr r ((next ≡ t) × (longer ≡ log)) → Done (Serve message) t next log longer r
   serve_done message in_range few next longer (Err e) ok ready err = refused (Serve message) t next log longer e s err.0
-  serve_done message in_range few next longer (Ok x) ok ready err = serve_made message in_range few ready next longer ok x
+  serve_done message in_range few next longer (Ok x) ok ready err = rw (ok.2, ok.3) (serve_made message in_range few ready t.is_open refl ok.0 ok.1 x)
 
   -- a message is refused where its lane isn't ready
   pub serve_unready : (message : Message) → is_ready t Client ≡ false → is_ready t (feed_lane (sender_of message)) ≡ false
   serve_unready message unready = feed_ready message ∙ unready
 
 -- what is with the store is the first awaiting operation of a life that stands
-handed_front : (t : Tables) (op : Op) → handed_op t ≡ Some op → (a b : Bool) → t.alive ≡ a → t.handed ≡ b → (ops : List Op) → t.awaiting ≡ ops → (t.alive ≡ true) × ((rest : List Op) × (t.awaiting ≡ op ∷ rest))
+handed_front : (t : Tables) (op : Op) → handed_op t ≡ Some op → (a b : Bool) → t.alive ≡ a → t.handed ≡ b → (ops : List Op) → t.awaiting ≡ ops → (t.alive ≡ true) × ((t.handed ≡ true) × ((rest : List Op) × (t.awaiting ≡ op ∷ rest)))
 handed_front t op h true true a b [] w = absurd (let x = rw (a, b, w) at h in cc)
-handed_front t op h true true a b (first ∷ rest) w = let x = rw (a, b, w) at h in let same : first ≡ op = cc in (a, (rest, w ∙ ap (λ (o : Op). o ∷ rest) same))
+handed_front t op h true true a b (first ∷ rest) w = let x = rw (a, b, w) at h in let same : first ≡ op = cc in (a, (b, (rest, w ∙ ap (λ (o : Op). o ∷ rest) same)))
 handed_front t op h true false a b ops w = absurd (let x = rw (a, b) at h in cc)
 handed_front t op h false b a c ops w = absurd (let x = rw a at h in cc)
 
 -- it can be framed
 pub handed_framed : (t : Tables) → IsSound t → (op : Op) → handed_op t ≡ Some op → IsOperation op
-handed_framed t s op h = let is = handed_front t op h t.alive t.handed refl refl t.awaiting refl in framed_in s.history t op is.1.0 s.phase is.0 is.1.1
+handed_framed t s op h = let is = handed_front t op h t.alive t.handed refl refl t.awaiting refl in framed_in s.history t op is.1.1.0 s.phase is.0 is.1.0 is.1.1.1
+
+-- it was not refused
+pub handed_unblown : (t : Tables) → IsSound t → (op : Op) → handed_op t ≡ Some op → t.blown ≡ false
+handed_unblown t s op h = let is = handed_front t op h t.alive t.handed refl refl t.awaiting refl in unblown_of s.history t s.phase is.0 is.1.0
 
 -- and fits what is kept
 pub handed_next : (t : Tables) (op : Op) → handed_op t ≡ Some op → (opening : List Op) (log : List Entry) → Keeps opening log t → IsToBeKept opening (seen_of t log) op
 handed_next t op h opening log k =
     let is = handed_front t op h t.alive t.handed refl refl t.awaiting refl in
-    let front = is.1.1 in
+    let front = is.1.1.1 in
     let recorded = recorded_of k.history t k.phase is.0 in
-    let fits : fits_records (records k.history.kept) op ≡ true = rw recorded (fits_in k.history t op is.1.0 k.phase is.0 front) in
+    let fits : fits_records (records k.history.kept) op ≡ true = rw recorded (fits_in k.history t op is.1.1.0 k.phase is.0 is.1.0 front) in
     record {
       first = ap (λ (m : Manager). slice_get m.awaiting 0) k.same ∙ rw front refl;
       fits = subst (λ (m : Manager). fits_records (records m.kept) op ≡ true) (sym k.same) fits;
     }
-
--- once a life began, what the tables record is what the kept operations amount to
-pub known_amounts : (opening : List Op) (log : List Entry) (t : Tables) → Keeps opening log t → log ≢ [] → t.tree ≡ records (state_after opening log).kept
-known_amounts opening log t k some = sym (k.recorded some) ∙ sym (ap (λ (m : Manager). records m.kept) k.same)
 
 -- no store's lane is ready where nothing is with the store
 pub none_handed : (t : Tables) → IsSound t → (a h : Bool) → t.alive ≡ a → t.handed ≡ h → handed_op t ≡ None → is_ready t Write ≡ false

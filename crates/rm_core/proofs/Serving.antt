@@ -1,5 +1,5 @@
 -- A message is answered as the judge says, and the life goes on.
-use Rattle.std.proofs.Common.{◌≤◌, ◌<◌, ◌+◌}
+use Rattle.std.proofs.Common.{◌≤◌, ◌<◌, ◌+◌, Bool, sym, subst}
 use Rattle.rm_types.specs.declared.entries.Entry.TheVariants.{Served}
 use Rattle.rm_types.specs.declared.messages.Message.{Message}
 use Rattle.rm_types.specs.declared.messages.Message.TheVariants as messages
@@ -14,23 +14,34 @@ use Rattle.rm_weight_facts.proofs.Messages.{client_weighs, clock_weighs, master_
 use Rattle.rm_running.specs.Goes.{Goes}
 use Rattle.rm_running.specs.Running.{Running}
 use Rattle.rm_running.proofs.ServedRuns.{client_runs, client_shown, clock_runs, life_shown, master_runs, node_runs}
-use Rattle.rm_core.specs.Queues.{served_moved}
-use Rattle.rm_core.specs.Serving.{IsReply}
+use Rattle.rm_core.specs.Queues.{answered, answered_where, served_moved}
+use Rattle.rm_core.specs.Serving.{IsOpenReply, IsReply, IsReplyWhere}
 
 -- the tables show clients the scene of an open life
 shows : (h : History) (t : Tables) → Running h t → Shows (scene_in h t) t
 shows h t r = let c = client_shown h t r in record { records = c.records; stamp = c.stamp; given = c.given; going = c.going; live = c.live; retired = c.retired; at = c.at }
 
 -- the life goes on
+open_goes : (h : History) (t : Tables) → Running h t → t.served < 100000 → (message : Message) (reply : Reply) → IsMessage message → IsOpenReply t message reply
+    → Goes h t (Served (sender_of message) message reply) (record (answered message reply t) { served = t.served + 1 })
+open_goes h t r few (messages.Client user ask) reply in_range answers = client_runs h t r few user ask reply in_range (answers (scene_in h t) (shows h t r))
+open_goes h t r few (messages.Master attempt ask) reply in_range answers = master_runs h t r few attempt ask reply in_range (answers (scene_in h t) (life_shown h t r))
+open_goes h t r few (messages.Node name ask) reply in_range answers = node_runs h t r few name ask reply in_range.0 in_range.1 (answers (scene_in h t) (life_shown h t r))
+open_goes h t r few (messages.Clock ask) reply in_range answers = clock_runs h t r few ask reply in_range (answers (scene_in h t) (life_shown h t r))
+
 pub serve_goes : (h : History) (t : Tables) → Running h t → t.served < 100000 → (message : Message) (reply : Reply) → IsMessage message → IsReply t message reply → Goes h t (Served (sender_of message) message reply) (served_moved message reply t)
-serve_goes h t r few (messages.Client user ask) reply in_range answers = client_runs h t r few user ask reply in_range (answers (scene_in h t) (shows h t r))
-serve_goes h t r few (messages.Master attempt ask) reply in_range answers = master_runs h t r few attempt ask reply in_range (answers (scene_in h t) (life_shown h t r))
-serve_goes h t r few (messages.Node name ask) reply in_range answers = node_runs h t r few name ask reply in_range.0 in_range.1 (answers (scene_in h t) (life_shown h t r))
-serve_goes h t r few (messages.Clock ask) reply in_range answers = clock_runs h t r few ask reply in_range (answers (scene_in h t) (life_shown h t r))
+serve_goes h t r few message reply in_range answers =
+    let open_ = r.whole.keeps.is_open in
+    let open_answers : IsOpenReply t message reply = subst (λ (b : Bool). IsReplyWhere b t message reply) open_ answers in
+    subst (λ (b : Bool). Goes h t (Served (sender_of message) message reply) (record (answered_where b message reply t) { served = t.served + 1 })) (sym open_) (open_goes h t r few message reply in_range open_answers)
 
 -- with little more to do
+open_weighs : (h : History) (t : Tables) → Running h t → (message : Message) (reply : Reply) → IsMessage message → weight (record (answered message reply t) { served = t.served + 1 }) ≤ weight t + message_weight
+open_weighs h t r (messages.Client user ask) reply in_range = client_weighs t r.limits ask reply (t.served + 1)
+open_weighs h t r (messages.Master attempt ask) reply in_range = master_weighs t r.limits attempt ask reply (t.served + 1)
+open_weighs h t r (messages.Node name ask) reply in_range = node_weighs t r.limits name ask reply (t.served + 1)
+open_weighs h t r (messages.Clock ask) reply in_range = clock_weighs t r.limits ask reply (t.served + 1)
+
 pub serve_weighs : (h : History) (t : Tables) → Running h t → (message : Message) (reply : Reply) → IsMessage message → weight (served_moved message reply t) ≤ weight t + message_weight
-serve_weighs h t r (messages.Client user ask) reply in_range = client_weighs t r.limits ask reply (t.served + 1)
-serve_weighs h t r (messages.Master attempt ask) reply in_range = master_weighs t r.limits attempt ask reply (t.served + 1)
-serve_weighs h t r (messages.Node name ask) reply in_range = node_weighs t r.limits name ask reply (t.served + 1)
-serve_weighs h t r (messages.Clock ask) reply in_range = clock_weighs t r.limits ask reply (t.served + 1)
+serve_weighs h t r message reply in_range =
+    subst (λ (b : Bool). weight (record (answered_where b message reply t) { served = t.served + 1 }) ≤ weight t + message_weight) (sym r.whole.keeps.is_open) (open_weighs h t r message reply in_range)

@@ -6,10 +6,9 @@ use Rattle.rm_model.specs.State.{Manager}
 use Rattle.rm_model.specs.Lawful.{IsAtRest, state_after}
 use Rattle.rm_tables.specs.declared.tables.Tables.{Tables}
 use Rattle.rm_facts.specs.Told.{History, standing}
-use Rattle.rm_running.specs.Phases.{Phase, none, running, saving, starting}
+use Rattle.rm_running.specs.Phases.{Phase, none, running, saving, shut, starting}
 use Rattle.rm_running.specs.Running.{Running}
 use Rattle.rm_running.proofs.OpeningRuns.{stands, told_standing}
-use Rattle.rm_running.proofs.Phases.{unblown_of}
 use Rattle.rm_running.proofs.Settling.{open_at_rest, owes_none}
 use Rattle.rm_core.specs.Keeps.{IsSound, Keeps}
 use Rattle.rm_core.specs.Seen.{Rests, RestsWhere}
@@ -25,7 +24,7 @@ module _ (t : Tables) (log : List Entry) where
   -- and between lives
   between_rests : (opening : List Op) → Keeps opening log t → t.alive ≡ false → IsAtRest t.settings (state_after opening log) (state_after opening log).life
   between_rests opening k a =
-      let at : state_after opening log ≡ record { kept = k.history.kept; awaiting = t.awaiting; blew = false; life = None } = k.same ∙ rw a refl in
+      let at : state_after opening log ≡ record { kept = k.history.kept; awaiting = t.awaiting; blew = t.blown; life = None } = k.same ∙ rw a refl in
       subst (λ (x : Manager). IsAtRest t.settings x x.life) (sym at) tt
 
   none_handed : (h : History) → Running h t → t.awaiting ≡ [] → (b : Bool) → t.handed ≡ b → b ≡ false
@@ -43,8 +42,9 @@ module _ (t : Tables) (log : List Entry) where
   none_queued h (none n) dead = (n.main, n.sched)
   none_queued h (starting b) dead = absurd (let x = sym (stands h t b.begins) ∙ dead in cc)
   none_queued h (saving b) dead = absurd (let x = sym (stands h t b.begins) ∙ dead in cc)
+  none_queued h (shut b) dead = absurd (let x = sym b.alive ∙ dead in cc)
   none_queued h (running r) dead = absurd (let x = sym r.alive ∙ dead in cc)
 
   -- where nothing is left to do, nothing is owed
   pub sound_rests : IsSound t → Rests (record { settings = t.settings; tables = t; log = log })
-  sound_rests s = record { idle = λ dead. none_queued s.history s.phase dead; unblown = unblown_of s.history t s.phase; left = λ m n w. rests_where s m n w t.alive refl }
+  sound_rests s = record { idle = λ dead. none_queued s.history s.phase dead; left = λ m n w. rests_where s m n w t.alive refl }

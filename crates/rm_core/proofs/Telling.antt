@@ -2,21 +2,23 @@
 use Rattle.std.proofs.Common.{◌≡◌, List, [], ◌∷◌, true, false, None, Some, refl, sym, ◌∙◌, ap}
 use Rattle.rm_types.specs.declared.entries.Entry.{Entry}
 use Rattle.rm_types.specs.declared.operations.Op.{Op}
-use Rattle.rm_types.specs.Records.{Records}
+use Rattle.rm_types.specs.Records.{Records, records}
+use Rattle.rm_model.specs.Changes.{kept_after_landing}
 use Rattle.rm_model.specs.State.{LifeState, Manager}
 use Rattle.rm_model.specs.Lawful.{state_after}
 use Rattle.rm_tables.specs.declared.tables.Tables.{Tables}
 use Rattle.rm_facts.specs.Told.{life_in}
+use Rattle.rm_core.specs.Adds.{HasLanded, IsLeft}
 use Rattle.rm_core.specs.Seen.{Seen, StandsFor}
-use Rattle.rm_core.specs.Words.{as_new, is_handed, manager_after, stands}
+use Rattle.rm_core.specs.Words.{as_new, is_blown, is_handed, landed_over, manager_after, stands}
 use Rattle.rm_running.proofs.OpeningRuns.{told_standing}
-use Rattle.rm_running.proofs.Phases.{unblown_of}
+use Rattle.rm_core.proofs.Lives.{landing, landing_none, landing_one, stands_for}
 
--- a life stands after the log; it was not blown, and an operation is with the store where the manager has handed one
+-- a life stands after the log; it was blown where an operation of it was refused, and an operation is with the store where the manager has handed one
 pub record LifeTold (opening : List Op) (s : Seen) : Type 0 where
   pub life : LifeState
   pub is : (state_after opening s.log).life ≡ Some life
-  pub unblown : life.blown ≡ false
+  pub blown : life.blown ≡ is_blown s
   pub handed : life.handed ≡ is_handed s
 
 module _ (s : Seen) (opening : List Op) (k : StandsFor opening s) where
@@ -25,13 +27,29 @@ module _ (s : Seen) (opening : List Op) (k : StandsFor opening s) where
       record {
         life = life_in k.history s.tables;
         is = ap (λ (m : Manager). m.life) (k.same ∙ told_standing k.history s.tables alive);
-        unblown = unblown_of k.history s.tables k.phase alive;
+        blown = refl;
         handed = refl;
       }
 
   -- where none stands, none does there
   pub told_none : stands s ≡ false → (state_after opening s.log).life ≡ None
   told_none dead = ap (λ (m : Manager). m.life) k.same ∙ rw dead refl
+
+  -- and the last one blew where an operation of it was refused
+  pub told_blew : stands s ≡ false → (state_after opening s.log).blew ≡ is_blown s
+  told_blew dead = ap (λ (m : Manager). m.blew) k.same ∙ rw dead refl
+
+  -- and a life that begins then begins over what is kept with so many operations
+  pub told_landed : stands s ≡ false → (tree : Records) → IsLeft tree (state_after opening s.log) → tree ≡ records (kept_after_landing (state_after opening s.log) (landed_over s tree))
+  told_landed dead tree left =
+      (landing opening s.log s.tables k dead tree left).is ∙ sym (ap (λ (m : Manager). records (kept_after_landing m (landed_over s tree))) (stands_for opening s.log s.tables k dead))
+
+  -- none over what is kept, and one over this and the first that awaited
+  pub told_none_landed : stands s ≡ false → (tree : Records) → tree ≡ records (state_after opening s.log).kept → landed_over s tree ≡ 0
+  told_none_landed dead tree amounts = landing_none opening s.log s.tables k dead tree amounts
+
+  pub told_one_landed : stands s ≡ false → (tree : Records) → HasLanded tree (state_after opening s.log) → landed_over s tree ≡ 1
+  told_one_landed dead tree one = landing_one opening s.log s.tables k dead tree one
 
 -- tables with their own records
 by_itself : (t told : Tables) → t ≡ told → t ≡ record told { tree = t.tree }

@@ -1,7 +1,7 @@
 -- What a move asks, and what it adds to the log.
-use Rattle.std.specs.Prelude.{◌≡◌, ℕ, ◌+◌, ◌-◌, ◌^◌, ◌<◌, ◌≤◌, max, List, [], ◌∷◌, ◌++◌, All, Bool, true, false, None, Some}
+use Rattle.std.specs.Prelude.{◌≡◌, ℕ, ◌+◌, ◌-◌, ◌^◌, ◌<◌, ◌≤◌, ◌⊎◌, max, List, [], ◌∷◌, ◌++◌, All, Bool, true, false, None, Some, slice_get}
 use Rattle.rm_types.specs.declared.entries.Entry.{Entry}
-use Rattle.rm_types.specs.declared.entries.Entry.TheVariants.{Opened, Handed, Kept as KeptEntry, Served, Settled, Down as DownEntry}
+use Rattle.rm_types.specs.declared.entries.Entry.TheVariants.{Opened, Handed, Kept as KeptEntry, Blown as BlownEntry, Served, Settled, Down as DownEntry}
 use Rattle.rm_types.specs.declared.messages.Lane.{Lane}
 use Rattle.rm_types.specs.declared.messages.Lane.TheVariants.{Main as MainLane, Sched as SchedLane, Hand as HandLane, Write, End, Begin as BeginLane}
 use Rattle.rm_types.specs.declared.operations.Op.{Op}
@@ -10,15 +10,17 @@ use Rattle.rm_types.specs.declared.settings.Settings.{Settings}
 use Rattle.rm_types.specs.Ranges.{IsOperation}
 use Rattle.rm_types.specs.Records.{Records, records, stray}
 use Rattle.rm_model.specs.Lawful.{state_after}
+use Rattle.rm_model.specs.State.{Manager}
 use Rattle.rm_types.specs.Lanes.{feed_lane, lane_of_entry, sender_of}
 use Rattle.rm_core.specs.Seen.{Seen, StandsFor, handed_op}
+use Rattle.rm_core.specs.Queues.{landed_in}
 use Rattle.rm_core.specs.Words.{as_new}
 use Rattle.rm_tables.specs.declared.tables.Tables.{Tables}
 use Rattle.rm_tables.specs.Lives.{is_ready, may_go_down}
 use Rattle.rm_moves.specs.Messages.{IsMessage}
 use Rattle.rm_weight_facts.specs.Weights.{begin_weight, message_weight, weight}
 use Rattle.rm_core.specs.declared.manager.Move.{Move}
-use Rattle.rm_core.specs.declared.manager.Move.TheVariants.{Serve, Main, Sched, Hand, Kept, Settle, Down, Begin}
+use Rattle.rm_core.specs.declared.manager.Move.TheVariants.{Serve, Main, Sched, Hand, Kept, Blown, Settle, Down, Begin}
 
 -- the tree is what some operations of a store amount to, whose parts are in their ranges
 pub record IsOfStore (tree : Records) : Type 0 where
@@ -47,6 +49,7 @@ lane_of Main = MainLane
 lane_of Sched = SchedLane
 lane_of Hand = HandLane
 lane_of Kept = Write
+lane_of (Blown passed) = Write
 lane_of Settle = End
 lane_of Down = End
 lane_of (Begin tree handed) = BeginLane
@@ -58,12 +61,13 @@ may_make t next = is_ready t (lane_of next)
 
 -- the entry that a move adds to a log
 abbrev pub IsOf : Move → Tables → Entry → Type 0
-IsOf (Begin tree handed) t e = e ≡ Opened 0 tree.next_epoch (max handed (tree.stamp + 1))
+IsOf (Begin tree handed) t e = e ≡ Opened (landed_in t tree) tree.next_epoch (max handed (tree.stamp + 1))
 IsOf Main t e = lane_of_entry e ≡ MainLane
 IsOf (Serve message) t e = (reply : Reply) × (e ≡ Served (sender_of message) message reply)
 IsOf Sched t e = lane_of_entry e ≡ SchedLane
 IsOf Hand t e = e ≡ Handed
 IsOf Kept t e = (op : Op) × (handed_op t ≡ Some op) × (e ≡ KeptEntry op)
+IsOf (Blown passed) t e = e ≡ BlownEntry passed
 IsOf Settle t e = e ≡ Settled
 IsOf Down t e = e ≡ DownEntry
 
@@ -73,13 +77,20 @@ pub record Adds (next : Move) (t : Tables) (log longer : List Entry) : Type 0 wh
   pub of_move : IsOf next t entry
   pub added : longer ≡ log ++ entry ∷ []
 
--- the tree is what the operations that are kept after a log amount to
-abbrev pub AmountsTo : Records → List Op → Seen → Type 0
-AmountsTo tree opening seen = tree ≡ records (state_after opening seen.log).kept
+-- the last life blew, and the tree is what is kept and the first operation that awaits amount to
+pub record HasLanded (tree : Records) (s : Manager) : Type 0 where
+  pub blew : s.blew ≡ true
+  pub op : Op
+  pub first : slice_get s.awaiting 0 ≡ Some op
+  pub amounts : tree ≡ records (s.kept ++ op ∷ [])
 
--- a life begins over what is kept; of other moves this says nothing
+-- what a life can have left of its store: what is kept, or this and the operation that the store refused
+abbrev pub IsLeft : Records → Manager → Type 0
+IsLeft tree s = (tree ≡ records s.kept) ⊎ HasLanded tree s
+
+-- a life begins over what the last one left; of other moves this says nothing
 abbrev pub GoesOnFrom : Move → List Op → Seen → Type 0
-GoesOnFrom (Begin tree handed) opening seen = AmountsTo tree opening seen
+GoesOnFrom (Begin tree handed) opening seen = IsLeft tree (state_after opening seen.log)
 GoesOnFrom _ opening seen = Unit {0}
 
 -- a move of the manager's own makes the weight less; a message adds a fixed weight at most; a life begins with the weight of its
@@ -104,6 +115,12 @@ served_after Down served = 0
 served_after (Serve message) served = served + 1
 served_after _ served = served
 
+-- whether an operation of the life was refused after a move; of a life that went down, whether one was
+abbrev pub blown_after : Move → Bool → Bool
+blown_after (Begin tree handed) blown = false
+blown_after (Blown passed) blown = true
+blown_after _ blown = blown
+
 -- a segment settles with the tables as they were; of other moves this says nothing
 abbrev pub TablesStay : Move → Tables → Tables → Type 0
 TablesStay Settle old new = new ≡ old
@@ -118,6 +135,7 @@ pub record Does (next : Move) (old new : Seen) : Type 0 where
   pub weighs : Weighs next old.settings (weight old.tables) (weight new.tables)
   pub stands : Stands next old.tables.alive new.tables.alive
   pub served : new.tables.served ≡ served_after next old.tables.served
+  pub blown : new.tables.blown ≡ blown_after next old.tables.blown
   pub tables : TablesStay next old.tables new.tables
   pub settings : new.settings ≡ old.settings
   pub began : as_new new ≡ as_new old

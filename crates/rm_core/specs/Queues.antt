@@ -1,6 +1,6 @@
 -- The manager's tables after a log: its own way, entry by entry, of which the judge knows nothing. A log tells which queue each of its
 -- entries came from, so that the two queues after it can be read off it.
-use Rattle.std.specs.Prelude.{◌+◌, List, [], ◌∷◌, fold}
+use Rattle.std.specs.Prelude.{◌+◌, ℕ, List, [], ◌∷◌, Bool, true, false, fold, take, if◌then◌else◌}
 use Rattle.std.specs.declared.alloc.Global.{Global}
 use Rattle.rm_types.specs.declared.entries.Entry.{Entry}
 use Rattle.rm_types.specs.declared.entries.Entry.TheVariants.{Absorbed, Accepted, Blown, Down, Ended, Handed, Issued, Kept, Opened, Ordered, Pass, Queued, Quiet, Served, Settled}
@@ -12,7 +12,8 @@ use Rattle.rm_types.specs.declared.messages.Message.TheVariants as messages
 use Rattle.rm_types.specs.declared.operations.Op.{Op}
 use Rattle.rm_types.specs.declared.replies.Reply.{Reply}
 use Rattle.rm_types.specs.declared.settings.Settings.{Settings}
-use Rattle.rm_types.specs.Records.{records}
+use Rattle.rm_types.specs.Records.{Records, recorded, records}
+use Rattle.rm_tree.specs.Shows.{shows}
 use Rattle.rm_tables.specs.declared.events.MainEvent.{MainEvent}
 use Rattle.rm_tables.specs.declared.events.SchedEvent.{SchedEvent}
 use Rattle.rm_tables.specs.declared.tables.Tables.{Tables}
@@ -51,13 +52,35 @@ answered (messages.Master attempt ask) reply t = after_master attempt ask reply 
 answered (messages.Node name ask) reply t = after_node name ask reply t
 answered (messages.Clock ask) reply t = after_clock ask reply t
 
--- and is counted
+-- before the life is open nothing of them does
+abbrev pub answered_where : Bool → Message → Reply → Tables → Tables
+answered_where true message reply t = answered message reply t
+answered_where false message reply t = t
+
+-- and it is counted
 abbrev pub served_moved : Message → Reply → Tables → Tables
-served_moved message reply t = record (answered message reply t) { served = t.served + 1 }
+served_moved message reply t = record (answered_where t.is_open message reply t) { served = t.served + 1 }
+
+-- how many of the awaiting operations a tree shows after a life that blew: the first, or none
+abbrev pub landed_first : List Op → Records → ℕ
+landed_first [] tree = 0
+landed_first (op ∷ rest) tree = if shows tree op then 1 else 0
+
+abbrev pub landed_where : Bool → List Op → Records → ℕ
+landed_where true awaiting tree = landed_first awaiting tree
+landed_where false awaiting tree = 0
+
+-- how many landed over the tree with which the next life begins
+abbrev pub landed_in : Tables → Records → ℕ
+landed_in t tree = landed_where t.blown t.awaiting tree
+
+-- what is recorded once so many of the awaiting operations have landed
+abbrev pub tree_landed : ℕ → Tables → Records
+tree_landed landed t = fold recorded t.tree (take landed t.awaiting)
 
 -- the tables after one more entry
 abbrev pub tables_moved : Tables → Entry → Tables
-tables_moved t (Opened landed epoch stamp) = begun t.tree stamp t
+tables_moved t (Opened landed epoch stamp) = begun (tree_landed landed t) stamp t
 tables_moved t (Issued op) = main_moved t.main t
 tables_moved t Handed = handed_out t
 tables_moved t (Kept op) = kept op t

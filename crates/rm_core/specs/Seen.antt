@@ -35,11 +35,9 @@ pub record RestsWhere (seen : Seen) : Type 0 where
   pub none_handed : seen.tables.alive ≡ true → seen.tables.handed ≡ false
   pub at_rest : (opening : List Op) → StandsFor opening seen → IsAtRest seen.settings (state_after opening seen.log) (state_after opening seen.log).life
 
--- no store has refused an operation of a life that stands, and the queues are empty where none stands; and where nothing is left to
--- do, nothing is owed
+-- the queues are empty where no life stands; and where nothing is left to do, nothing is owed
 pub record Rests (seen : Seen) : Type 0 where
   pub idle : seen.tables.alive ≡ false → (seen.tables.main ≡ []) × (seen.tables.sched ≡ [])
-  pub unblown : seen.tables.alive ≡ true → seen.tables.blown ≡ false
   pub left : seen.tables.main ≡ [] → seen.tables.sched ≡ [] → (seen.tables.alive ≡ true → seen.tables.awaiting ≡ []) → RestsWhere seen
 
 -- the operation is the first that awaits after the log, and fits what is kept by then

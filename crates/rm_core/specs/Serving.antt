@@ -1,10 +1,11 @@
 -- What serving a message does.
-use Rattle.std.specs.Prelude.{◌≡◌, List, [], ◌∷◌, ◌++◌}
+use Rattle.std.specs.Prelude.{◌≡◌, List, [], ◌∷◌, ◌++◌, Bool, true, false}
 use Rattle.rm_types.specs.declared.entries.Entry.{Entry}
 use Rattle.rm_types.specs.declared.entries.Entry.TheVariants.{Served}
 use Rattle.rm_types.specs.declared.messages.Message.{Message}
 use Rattle.rm_types.specs.declared.messages.Message.TheVariants as messages
 use Rattle.rm_types.specs.declared.replies.Reply.{Reply}
+use Rattle.rm_types.specs.declared.replies.Reply.TheVariants.{NotOpen}
 use Rattle.rm_types.specs.Lanes.{sender_of}
 use Rattle.rm_model.specs.ClientReplies.{client_reply}
 use Rattle.rm_model.specs.MasterReplies.{master_reply}
@@ -15,12 +16,20 @@ use Rattle.rm_agreement.specs.Shown.{ShowsLife}
 use Rattle.rm_client.specs.Shows.{Shows}
 use Rattle.rm_core.specs.Queues.{served_moved}
 
--- the reply to a message is the judge's for every scene that the tables show
+-- the reply to a message of an open life is the judge's for every scene that the tables show
+abbrev pub IsOpenReply : Tables → Message → Reply → Type 0
+IsOpenReply t (messages.Client user ask) reply = (m : Scene) → Shows m t → reply ≡ client_reply t.settings m user ask
+IsOpenReply t (messages.Master attempt ask) reply = (m : Scene) → ShowsLife m t → reply ≡ master_reply t.settings m attempt ask
+IsOpenReply t (messages.Node name ask) reply = (m : Scene) → ShowsLife m t → reply ≡ node_reply m name ask
+IsOpenReply t (messages.Clock ask) reply = (m : Scene) → ShowsLife m t → reply ≡ clock_reply m ask
+
+-- before the life is open each reply is NOTOPEN
+abbrev pub IsReplyWhere : Bool → Tables → Message → Reply → Type 0
+IsReplyWhere true t message reply = IsOpenReply t message reply
+IsReplyWhere false t message reply = reply ≡ NotOpen
+
 abbrev pub IsReply : Tables → Message → Reply → Type 0
-IsReply t (messages.Client user ask) reply = (m : Scene) → Shows m t → reply ≡ client_reply t.settings m user ask
-IsReply t (messages.Master attempt ask) reply = (m : Scene) → ShowsLife m t → reply ≡ master_reply t.settings m attempt ask
-IsReply t (messages.Node name ask) reply = (m : Scene) → ShowsLife m t → reply ≡ node_reply m name ask
-IsReply t (messages.Clock ask) reply = (m : Scene) → ShowsLife m t → reply ≡ clock_reply m ask
+IsReply t message reply = IsReplyWhere t.is_open t message reply
 
 -- a message is answered: its reply is the judge's, the tables change with it, it is counted, and the log has it
 abbrev pub IsServed : Tables → Tables → List Entry → List Entry → Message → Type 0

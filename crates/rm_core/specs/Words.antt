@@ -6,11 +6,11 @@ use Rattle.rm_types.specs.declared.messages.Lane.{Lane}
 use Rattle.rm_types.specs.declared.messages.Message.{Message}
 use Rattle.rm_types.specs.declared.operations.Op.{Op}
 use Rattle.rm_types.specs.declared.settings.Settings.{Settings}
-use Rattle.rm_types.specs.Records.{records}
+use Rattle.rm_types.specs.Records.{Records, records}
 use Rattle.rm_tables.specs.Lives.{is_ready, may_go_down, no_life}
 use Rattle.rm_moves.specs.Messages.{IsMessage}
 use Rattle.rm_weight_facts.specs.Weights.{message_weight as weight_added, weight}
-use Rattle.rm_core.specs.Queues.{tables_moved}
+use Rattle.rm_core.specs.Queues.{landed_in, tables_moved}
 use Rattle.rm_core.specs.Seen.{Seen, handed_op}
 
 -- a life stands
@@ -20,6 +20,14 @@ stands seen = seen.tables.alive
 -- an operation is with the store
 abbrev pub is_handed : Seen → Bool
 is_handed seen = seen.tables.handed
+
+-- an operation of the life was refused by the store; where none stands, of the last one
+abbrev pub is_blown : Seen → Bool
+is_blown seen = seen.tables.blown
+
+-- so many operations of the last life landed over the tree with which the next one begins
+abbrev pub landed_over : Seen → Records → ℕ
+landed_over seen tree = landed_in seen.tables tree
 
 -- so many messages were served in the life that stands
 abbrev pub served_in : Seen → ℕ

@@ -1,7 +1,8 @@
-ghost use Rattle.std.specs.Prelude.{◌≡◌, ◌↔◌, IsTrue};
+ghost use Rattle.std.specs.Prelude.{◌≡◌, ◌↔◌, IfOk, IsTrue, true};
+ghost use Rattle.rm_types.specs.Records.{fits_records, recorded};
 
-use rm_tree::Tree;
-use rm_types::{AppRecord, AttemptRecord, How, Submission, Text};
+use rm_tree::{Tree, TreeError};
+use rm_types::{AppRecord, AttemptRecord, How, NoMemory, Op, Submission, Text};
 
 fn is_same_submission(one: &Submission, other: &Submission) -> bool
     ensures { IsTrue result ↔ (one.now ≡ other.now) }
@@ -79,4 +80,17 @@ pub fn are_same(tree: &Tree, other: &Tree) -> bool
         && tree.stamp() == other.stamp()
         && tree.applied() == other.applied();
     numbers && are_same_apps(tree, other)
+}
+
+/// Whether a tree records what another does once an operation is kept that fits it.
+pub fn is_after(before: &Tree, op: &Op, tree: &Tree) -> Result<bool, NoMemory>
+    requires { fits_records before.now op.now ≡ true }
+    ensures { IfOk result (λ after. IsTrue after ↔ (tree.now ≡ recorded before.now op.now)) }
+{
+    let mut with_op = before.copy()?;
+    match with_op.apply(op) {
+        Ok(()) => Ok(are_same(tree, &with_op)),
+        Err(TreeError::Memory) => Err(NoMemory),
+        Err(TreeError::Stray) => unreachable!(),
+    }
 }

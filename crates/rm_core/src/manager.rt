@@ -6,14 +6,14 @@ ghost use Rattle.rm_types.specs.declared.operations.Op.{Op as AnyOp};
 ghost use Rattle.rm_types.specs.Ranges.{IsOperation};
 ghost use Rattle.rm_queues.specs.Rules.{KeepsRules};
 ghost use Rattle.rm_model.specs.State.{opening_state};
-ghost use Rattle.rm_model.specs.Lawful.{AllAllowed};
+ghost use Rattle.rm_model.specs.Lawful.{AllAllowed, state_after};
 ghost use Rattle.rm_tables.specs.Lives.{is_ready, may_go_down, no_life};
-ghost use Rattle.rm_core.specs.Adds.{AmountsTo, CanBeginOver, CanMake, Does, may_make};
+ghost use Rattle.rm_core.specs.Adds.{CanBeginOver, CanMake, Does, IsLeft, may_make};
 ghost use Rattle.rm_core.specs.Keeps.{QueuesAre};
 ghost use Rattle.rm_core.specs.Seen.{IsToBeKept, Rests, StandsFor, handed_op, is_kept_entry};
 ghost use Rattle.rm_moves.specs.Messages.{IsMessage, KeepsLimits};
 
-use crate::likeness::are_same;
+use crate::likeness::{are_same, is_after};
 use crate::moves;
 use rm_queues::QueueTree;
 use rm_tables::{Refused, Tables};
@@ -35,6 +35,9 @@ pub enum Move {
     Hand,
     /// The store has kept the operation that was handed to it.
     Kept,
+    /// The store has refused the operation that was handed to it: so many of its calls passed, and nothing more is kept in
+    /// this life.
+    Blown { passed: u32 },
     /// The segment of the script settles.
     Settle,
     /// The life goes down. What awaits may land on the device or be lost.
@@ -110,6 +113,7 @@ impl Core {
         ensures none { IfNone result (is_ready self.now.tables Lane.Write ≡ false) }
         ensures framed { IfSome result (λ op. IsOperation op.now) }
         ensures next { IfSome result (λ op. (opening : List AnyOp) → StandsFor opening self.now → IsToBeKept opening self.now op.now) }
+        ensures unblown { IfSome result (λ _. self.now.tables.blown ≡ false) }
     {
         if self.tables.is_ready(Lane::Write) {
             self.tables.awaiting.first()
@@ -139,12 +143,22 @@ impl Core {
         self.tables.may_go_down()
     }
 
-    /// Whether a tree is what the store holds by all that the manager was told, from the first life on.
-    pub fn is_known(&self, tree: &Tree) -> bool
-        ensures known { IsTrue result ↔ (self.now.tables.tree ≡ tree.now) }
-        ensures amounts { (opening : List AnyOp) → StandsFor opening self.now → (self.now.log ≡ [] → ⊥) → IsTrue result ↔ AmountsTo tree.now opening self.now }
+    /// Whether a tree is what the last life can have left of the store: what the kept operations amount to or, where that life
+    /// blew, these and the first that awaits.
+    pub fn is_left(&self, tree: &Tree) -> Result<bool, NoMemory>
+        requires { self.now.tables.alive ≡ false }
+        ensures { (opening : List AnyOp) → StandsFor opening self.now → (self.now.log ≡ [] → ⊥) → IfOk result (λ left. IsTrue left ↔ IsLeft tree.now (state_after opening self.now.log)) }
     {
-        are_same(&self.tables.tree, tree)
+        if are_same(&self.tables.tree, tree) {
+            return Ok(true);
+        }
+        if !self.tables.blown {
+            return Ok(false);
+        }
+        match self.tables.awaiting.first() {
+            Some(op) => is_after(&self.tables.tree, op, tree),
+            None => Ok(false),
+        }
     }
 
     /// Where nothing is left to do, nothing is owed.
@@ -170,6 +184,7 @@ impl Core {
             Move::Sched => self.sched(),
             Move::Hand => self.hand(),
             Move::Kept => self.keep(),
+            Move::Blown { passed } => self.blow(passed),
             Move::Settle => self.settle(),
             Move::Down => self.go_down(),
         }
@@ -221,6 +236,14 @@ impl Core {
         ensures err { OnErr result (self.new ≡ self.old) }
     {
         moves::keep(&mut self.tables, &mut self.log)
+    }
+
+    fn blow(&mut self, passed: u32) -> Result<(), Refused>
+        ensures does { OnOk result (Does (Move.Blown passed) self.old self.new) }
+        ensures not_ready { IsErrOf result Refused.NotReady → is_ready self.old.tables Lane.Write ≡ false }
+        ensures err { OnErr result (self.new ≡ self.old) }
+    {
+        moves::blow(&mut self.tables, &mut self.log, passed)
     }
 
     fn serve(&mut self, message: Message) -> Result<(), Refused>

@@ -11,14 +11,14 @@ ghost use Rattle.rm_tables.specs.declared.events.MainEvent.{MainEvent};
 ghost use Rattle.rm_tables.specs.declared.events.SchedEvent.{SchedEvent};
 ghost use Rattle.rm_tables.specs.Actions.{found_in, main_worked, sched_worked};
 ghost use Rattle.rm_tables.specs.KeptOps.{kept};
-ghost use Rattle.rm_tables.specs.Lives.{begun, gone_down, handed_out, is_ready, may_go_down};
+ghost use Rattle.rm_tables.specs.Lives.{begun, gone_down, handed_out, is_ready, may_go_down, refused};
 ghost use Rattle.rm_tables.specs.MainEvents.{main_step};
 ghost use Rattle.rm_tables.specs.SchedEvents.{EndsBy, sched_step};
 ghost use Rattle.rm_sched.specs.CanWork.{AreFew, CanAbsorb, CanPass};
 ghost use Rattle.rm_moves.specs.Messages.{IsMessage};
 ghost use Rattle.rm_range_facts.specs.Ranged.{Ranged};
-ghost use Rattle.rm_core.specs.Queues.{served_moved};
-ghost use Rattle.rm_core.specs.Serving.{IsReply, IsServed};
+ghost use Rattle.rm_core.specs.Queues.{answered, landed_in, served_moved};
+ghost use Rattle.rm_core.specs.Serving.{IsOpenReply, IsReply, IsServed};
 
 use rm_queues::QueueTree;
 use rm_tables::{Refused, Tables};
@@ -28,15 +28,29 @@ use rm_types::{Boxed, Duplicate, Entry, Items, Lane, Message, NoMemory, Reply, S
 // Each move takes the room for its entry first, so that the tables and the log change together or not at all. The entry
 // that takes the room is replaced by the move's own.
 
-/// A life begins over what is recorded.
+/// How many of the awaiting operations a tree shows after a life that blew: the first, or none.
+fn landed_in(t: &Tables, tree: &Tree) -> u32
+    ensures { result ≡ landed_in t.now tree.now }
+{
+    if !t.blown {
+        return 0;
+    }
+    match t.awaiting.first() {
+        Some(op) if tree.shows(op) => 1,
+        _ => 0,
+    }
+}
+
+/// A life begins over what a store holds.
 pub fn begin(t: &mut Tables, log: &mut Items<Entry>, tree: Tree, stamp: u64) -> Result<(), Refused>
-    ensures ok { OnOk result ((t.new ≡ begun tree stamp t.old) × (log.new ≡ log.old ++ Entry.Opened 0 tree.next_epoch stamp ∷ [])) }
+    ensures ok { OnOk result ((t.new ≡ begun tree stamp t.old) × (log.new ≡ log.old ++ Entry.Opened (landed_in t.old tree) tree.next_epoch stamp ∷ [])) }
     ensures ready { result ≢ Err Refused.NotReady }
     ensures err { OnErr result ((t.new ≡ t.old) × (log.new ≡ log.old)) }
 {
+    let landed = landed_in(t, &tree);
     let epoch = tree.next_epoch();
     log.push(Entry::Opened {
-        landed: 0,
+        landed,
         epoch,
         stamp,
     })?;
@@ -136,6 +150,21 @@ pub fn keep(t: &mut Tables, log: &mut Items<Entry>) -> Result<(), Refused>
     }
 }
 
+/// The store has refused the operation that was handed to it.
+pub fn blow(t: &mut Tables, log: &mut Items<Entry>, passed: u32) -> Result<(), Refused>
+    ensures ok { OnOk result ((t.new ≡ refused t.old) × (log.new ≡ log.old ++ Entry.Blown passed ∷ [])) }
+    ensures ready { OnOk result (is_ready t.old Lane.Write ≡ true) }
+    ensures not_ready { IsErrOf result Refused.NotReady → is_ready t.old Lane.Write ≡ false }
+    ensures err { OnErr result ((t.new ≡ t.old) × (log.new ≡ log.old)) }
+{
+    if !t.is_ready(Lane::Write) {
+        return Err(Refused::NotReady);
+    }
+    log.push(Entry::Blown { passed })?;
+    t.blow();
+    Ok(())
+}
+
 /// The segment settles: nothing is left to do.
 pub fn settle(t: &Tables, log: &mut Items<Entry>) -> Result<(), Refused>
     ensures ok { OnOk result (log.new ≡ log.old ++ Entry.Settled ∷ []) }
@@ -177,28 +206,46 @@ fn sender_of(message: &Message) -> Sender
     }
 }
 
-/// A message is answered by the service of its sender, and is counted.
+/// A message is answered by the service of its sender, and is counted. Before the life is open it is NOTOPEN.
 fn answer(queues: &QueueTree, t: &mut Tables, message: &Message) -> Result<Reply, NoMemory>
+    requires settings { queues.now ≡ t.old.settings }
+    requires message { IsMessage message.now }
+    requires few { t.old.served < 100000 }
+    requires ranged { t.old.is_open ≡ true → Ranged t.old }
+    requires attempts { t.old.is_open ≡ true → (id : AppId) → length (attempts_in (found_in t.old id)) < 2 ^ 32 }
+    ensures reply { IfOk result (λ reply. IsReply t.old message.now reply) }
+    ensures changed { IfOk result (λ reply. t.new ≡ served_moved message.now reply t.old) }
+    ensures err { OnErr result (t.new ≡ t.old) }
+{
+    let served = t.served + 1;
+    let reply = if t.is_open {
+        open_answer(queues, t, message)?
+    } else {
+        Reply::NotOpen
+    };
+    t.served = served;
+    Ok(reply)
+}
+
+/// A message of an open life is answered by the service of its sender.
+fn open_answer(queues: &QueueTree, t: &mut Tables, message: &Message) -> Result<Reply, NoMemory>
     requires settings { queues.now ≡ t.old.settings }
     requires message { IsMessage message.now }
     requires ranged { Ranged t.old }
     requires attempts { (id : AppId) → length (attempts_in (found_in t.old id)) < 2 ^ 32 }
-    ensures reply { IfOk result (λ reply. IsReply t.old message.now reply) }
-    ensures changed { IfOk result (λ reply. t.new ≡ served_moved message.now reply t.old) }
+    ensures reply { IfOk result (λ reply. IsOpenReply t.old message.now reply) }
+    ensures changed { IfOk result (λ reply. t.new ≡ answered message.now reply t.old) }
     ensures err { OnErr result (t.new ≡ t.old) }
 {
     if t.going == usize::MAX {
         return Err(NoMemory);
     }
-    let served = t.served + 1;
-    let reply = match message {
+    Ok(match message {
         Message::Client(user, ask) => rm_client::serve(queues, t, user, ask)?,
         Message::Master(attempt, ask) => rm_master::serve(t, *attempt, ask)?,
         Message::Node(name, ask) => rm_tracker::serve(t, name, ask)?,
         Message::Clock(ask) => rm_tracker::serve_clock(t, ask)?,
-    };
-    t.served = served;
-    Ok(reply)
+    })
 }
 
 /// A message is answered.
@@ -210,8 +257,9 @@ pub fn answer_message(
 ) -> Result<(), Refused>
     requires settings { queues.now ≡ t.old.settings }
     requires message { IsMessage message }
-    requires ranged { is_ready t.old Lane.Client ≡ true → Ranged t.old }
-    requires attempts { is_ready t.old Lane.Client ≡ true → (id : AppId) → length (attempts_in (found_in t.old id)) < 2 ^ 32 }
+    requires few { t.old.served < 100000 }
+    requires ranged { is_ready t.old Lane.Client ≡ true → t.old.is_open ≡ true → Ranged t.old }
+    requires attempts { is_ready t.old Lane.Client ≡ true → t.old.is_open ≡ true → (id : AppId) → length (attempts_in (found_in t.old id)) < 2 ^ 32 }
     ensures ok { OnOk result (IsServed t.old t.new log.old log.new message) }
     ensures ready { OnOk result (is_ready t.old Lane.Client ≡ true) }
     ensures not_ready { IsErrOf result Refused.NotReady → is_ready t.old Lane.Client ≡ false }

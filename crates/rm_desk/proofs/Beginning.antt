@@ -1,7 +1,6 @@
 -- A life of the script begins.
 use Rattle.std.proofs.Common.{◌≡◌, ℕ, ◌+◌, ◌≤◌, List, [], ◌∷◌, ◌++◌, true, false, Some, refl, sym, ◌∙◌, ap, subst, arith}
 use Rattle.std.specs.Prelude.{slice_get}
-use Rattle.std.proofs.lemmas.List.{append-nil}
 use Rattle.rm_types.specs.declared.entries.Entry.TheVariants.{Opened}
 use Rattle.rm_types.specs.declared.operations.Op.{Op}
 use Rattle.rm_types.specs.declared.scripts.Life.{Life}
@@ -9,9 +8,10 @@ use Rattle.rm_types.specs.Records.{Records, records}
 use Rattle.rm_model.specs.Changes.{kept_after_landing}
 use Rattle.rm_model.specs.Lawful.{state_after}
 use Rattle.rm_model.specs.Place.{Begins as BeginsAt, Place, begun, stamp_of}
-use Rattle.rm_core.specs.Adds.{AmountsTo}
+use Rattle.rm_core.specs.Adds.{IsLeft}
 use Rattle.rm_core.specs.Seen.{Seen, StandsFor}
-use Rattle.rm_core.specs.Words.{as_new, served_in, stands}
+use Rattle.rm_core.specs.Words.{as_new, is_blown, landed_over, served_in, stands}
+use Rattle.rm_core.proofs.Telling.{told_landed}
 use Rattle.rm_desk.specs.View.{DeskView}
 use Rattle.rm_desk.specs.Scripts.{AllLive, CanFollow, EndsInCrash, messages_in}
 use Rattle.rm_desk.specs.Runs.{IsSound}
@@ -27,10 +27,10 @@ next_stamp d h (one ∷ more) e life first =
     (can.0.low, can.0.high)
 
 module _ (d : DeskView) (new : Seen) (place : Place) (h : IsSound d) (tree : Records) (settings : new.settings ≡ d.core.settings) (began : as_new new ≡ as_new d.core)
-    (lawful : (opening : List Op) → StandsFor opening d.core → AmountsTo tree opening d.core → StandsFor opening new)
-    (stood : stands d.core ≡ false) (standing : stands new ≡ true) (count : served_in new ≡ 0) (life : Life)
-    (added : new.log ≡ d.core.log ++ Opened 0 tree.next_epoch (stamp_of life tree.stamp) ∷ []) where
-  -- it begins over what is kept
+    (lawful : (opening : List Op) → StandsFor opening d.core → IsLeft tree (state_after opening d.core.log) → StandsFor opening new)
+    (stood : stands d.core ≡ false) (standing : stands new ≡ true) (count : served_in new ≡ 0) (unblown : is_blown new ≡ false) (life : Life)
+    (added : new.log ≡ d.core.log ++ Opened (landed_over d.core tree) tree.next_epoch (stamp_of life tree.stamp) ∷ []) where
+  -- it begins over what the last one left
   pub begin_does : (more : List Life) → d.place.lives ≡ life ∷ more → place ≡ begun d.place.lives d.place → Begins tree d (record { core = new; place = place })
   begin_does more whole p =
       let can : AllLive (life ∷ more) = subst AllLive whole h.lives in
@@ -40,7 +40,7 @@ module _ (d : DeskView) (new : Seen) (place : Place) (h : IsSound d) (tree : Rec
       let has : messages_in place.segments ≡ messages_in life.segments = ap messages_in segments in
       let total : served_in new + messages_in place.segments ≡ messages_in life.segments = omega (arith, has, count) in
       let head : slice_get d.place.lives 0 ≡ Some life = ap (λ (xs : List Life). slice_get xs 0) whole in
-      let entry = Opened 0 tree.next_epoch (stamp_of life tree.stamp) in
+      let entry = Opened (landed_over d.core tree) tree.next_epoch (stamp_of life tree.stamp) in
       record {
         adds = record { entry = entry; of_kind = (life, head, refl); added = added; place = p };
         goes = record {
@@ -49,19 +49,20 @@ module _ (d : DeskView) (new : Seen) (place : Place) (h : IsSound d) (tree : Rec
             segments = subst CanFollow (sym segments) can.0.segments;
             between = λ a. let x = standing in cc;
             ends = λ a others. subst EndsInCrash (sym segments) (can.1 (rw (← lives) others));
+            blown = λ a b. let x = unblown in cc;
             served = λ a. rw total can.0.few;
           };
           settings = settings;
           began = began;
-          lawful = λ opening amounts k. lawful opening k amounts;
-          run = λ opening script amounts run.
+          lawful = λ opening left k. lawful opening k left;
+          run = λ opening script left run.
               let s = state_after opening d.core.log in
-              let kept : kept_after_landing s 0 ≡ s.kept = append-nil s.kept in
-              let stamp : stamp_of life tree.stamp ≡ stamp_of life (records (kept_after_landing s 0)).stamp =
-              ap (λ (n : ℕ). stamp_of life n) (ap (λ (r : Records). r.stamp) amounts ∙ sym (ap (λ (ops : List Op). (records ops).stamp) kept)) in
-              let isnext : BeginsAt s d.place 0 (stamp_of life tree.stamp) = record { life = life; more = more; next = whole; at_end = h.between stood; stamped = stamp } in
-              one_more opening script d (record { core = new; place = place }) entry run (lawful opening run.stands amounts) added p isnext;
+              let stamp : stamp_of life tree.stamp ≡ stamp_of life (records (kept_after_landing s (landed_over d.core tree))).stamp =
+              ap (λ (r : Records). stamp_of life r.stamp) (told_landed d.core opening run.stands stood tree left) in
+              let isnext : BeginsAt s d.place (landed_over d.core tree) (stamp_of life tree.stamp) = record { life = life; more = more; next = whole; at_end = h.between stood; stamped = stamp } in
+              one_more opening script d (record { core = new; place = place }) entry run (lawful opening run.stands left) added p isnext;
         };
         stood = stood;
         standing = standing;
+        unblown = unblown;
       }

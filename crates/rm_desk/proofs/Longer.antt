@@ -78,5 +78,13 @@ own_silent (Served Clock message reply) h = absurd h
 own_silent Settled h = absurd h
 own_silent Down h = absurd h
 
+-- the script has nothing against an entry at this place, and stays there
+pub record IsQuietAt (p : Place) (e : Entry) : Type 0 where
+  pub next : (s : Manager) → IsNext s p e
+  pub stays : moved p e ≡ p
+
+pub quiet_at : (p : Place) (e : Entry) → IsSilent e → IsQuietAt p e
+quiet_at p e silent = record { next = λ s. silent.next s p; stays = silent.stays p }
+
 pub kept_silent : (op : Op) → IsSilent (Kept op)
 kept_silent op = record { next = λ s p. tt; stays = λ p. refl }

@@ -1,10 +1,10 @@
 -- The moves of a desk, each a longer run, with less left.
-use Rattle.std.proofs.Common.{◌≡◌, ◌≢◌, ◌+◌, ◌*◌, ◌<◌, ◌≤◌, List, [], ◌∷◌, ◌++◌, true, false, ◌&&◌, Some, None, Option, Ok, Err, Result, length, refl, sym, ◌∙◌, ap, subst, arith}
+use Rattle.std.proofs.Common.{◌≡◌, ◌≢◌, ℕ, ◌+◌, ◌*◌, ◌<◌, ◌≤◌, List, [], ◌∷◌, ◌++◌, true, false, ◌&&◌, Some, None, Option, Ok, Err, Result, length, refl, sym, ◌∙◌, ap, subst, arith}
 use Rattle.std.specs.Prelude.{OnOk, slice_get}
 use Rattle.std.specs.List.{sum_by}
 use Rattle.std.proofs.lemmas.List.Sums.{sum_by-cons}
 use Rattle.rm_types.specs.declared.entries.Entry.{Entry}
-use Rattle.rm_types.specs.declared.entries.Entry.TheVariants.{Handed, Kept, Served, Settled, Down}
+use Rattle.rm_types.specs.declared.entries.Entry.TheVariants.{Blown, Handed, Kept, Served, Settled, Down}
 use Rattle.rm_types.specs.declared.messages.Lane.{Lane}
 use Rattle.rm_types.specs.declared.messages.Lane.TheVariants as lanes
 use Rattle.rm_types.specs.declared.messages.Message.{Message}
@@ -18,30 +18,25 @@ use Rattle.rm_types.specs.Lanes.{feed_lane, lane_of_entry, sender_of}
 use Rattle.rm_types.specs.Lists.{is_nil}
 use Rattle.rm_model.specs.Lawful.{state_after}
 use Rattle.rm_model.specs.Place.{Crashes, Place, Settles, close_left, first_from, messages_left, moved, rest_of, segments_without, without_first}
-use Rattle.rm_core.specs.Adds.{Does as CoreDoes, GoesOnFrom, IsOf, Stands, Weighs, served_after}
+use Rattle.rm_core.specs.Adds.{Does as CoreDoes, GoesOnFrom, IsOf, Stands, Weighs, blown_after, served_after}
 use Rattle.rm_tables.specs.declared.events.Refused.{Refused}
 use Rattle.rm_core.specs.declared.manager.Move.{Move}
 use Rattle.rm_core.specs.Seen.{Seen, StandsFor}
-use Rattle.rm_core.specs.Words.{IsServable, as_new, can_go_down, handed_of, has_rest, message_weight, most_served, ready_at, served_in, stands, weight_of}
+use Rattle.rm_core.specs.Words.{IsServable, as_new, can_go_down, handed_of, has_rest, is_blown, message_weight, most_served, ready_at, served_in, stands, weight_of}
 use Rattle.rm_desk.specs.declared.feeds.Feeds.{Feeds}
 use Rattle.rm_desk.specs.View.{DeskView}
 use Rattle.rm_desk.specs.Scripts.{AllLive, CanFollow, EndsInCrash, messages_in}
 use Rattle.rm_desk.specs.Lanes.{IsWork, may_close, stands_after}
 use Rattle.rm_desk.specs.Feeds.{IsEntered, at, current_in, place_of}
-use Rattle.rm_desk.specs.Runs.{IsSound, segment_cost}
-use Rattle.rm_desk.specs.Does.{Does, IsEntryOf}
+use Rattle.rm_desk.specs.Runs.{IsLast, IsSound, segment_cost}
+use Rattle.rm_desk.specs.Does.{Does, DoesBy, IsEntryOf}
 use Rattle.rm_desk.proofs.Feeding.{answers_entry, found_sender, no_work, not_end, one_less, served_found, served_without, stands_on}
-use Rattle.rm_desk.proofs.Longer.{IsOwn, IsSilent, kept_silent, one_more, own_silent}
+use Rattle.rm_desk.proofs.Longer.{IsOwn, IsQuietAt, IsSilent, kept_silent, one_more, own_silent, quiet_at}
 use Rattle.rm_desk.proofs.Words.{both, nil_is, rest_idle}
 
 -- the place where the current segment is left behind
 abbrev pub behind : Feeds → Place
 behind f = record { lives = f.lives; segments = f.segments }
-
--- where no segment is left none is current
-none_current : (close : Option Close) (feed : List Message) (segments : List Segment) → current_in close feed ++ segments ≡ [] → close ≡ None
-none_current None feed segments e = refl
-none_current (Some close) feed segments e = cc
 
 -- how the feeds show the current segment
 pub feed_is : (f : Feeds) → IsEntered f → (close : Option Close) → f.close ≡ close → messages_left (place_of f).segments ≡ f.feed
@@ -52,41 +47,30 @@ pub close_is : (f : Feeds) → IsEntered f → (close : Option Close) → f.clos
 close_is f entered None e = let none = entered e in rw (e, none.0) refl
 close_is f entered (Some close) e = rw e refl
 
--- the entry of a lane of the manager's work is of this lane
-work_lane : (lane : Lane) (d : DeskView) (e : Entry) → IsWork lane → IsEntryOf lane d e → lane_of_entry e ≡ lane
-work_lane lanes.Main d e work is = is
-work_lane lanes.Sched d e work is = is
-work_lane lanes.Hand d e work is = ap lane_of_entry is
-work_lane lanes.Write d e work is = ap lane_of_entry is.2
-work_lane lanes.Client d e work is = absurd work
-work_lane lanes.Master d e work is = absurd work
-work_lane lanes.Node d e work is = absurd work
-work_lane lanes.Clock d e work is = absurd work
-work_lane lanes.End d e work is = absurd work
-work_lane lanes.Begin d e work is = absurd work
-
 -- a move of which the script says nothing, made or refused
 module _ (lane : Lane) (old new : Seen) (place : Place) (h : IsSound (record { core = old; place = place })) (m : Move)
-    (silent : (e : Entry) → IsOf m old.tables e → IsSilent e × IsEntryOf lane (record { core = old; place = place }) e) (from : (opening : List Op) → GoesOnFrom m opening old) where
+    (kind : Entry → Type 0) (silent : (e : Entry) → IsOf m old.tables e → IsQuietAt place e × kind e × (lane_of_entry e ≡ lane)) (from : (opening : List Op) → GoesOnFrom m opening old) where
   pub silent_does : (r : Result (Unit {0}) Refused) → IsWork lane → stands_after lane (close_left place.segments) ≡ true → ready_at old lane ≡ true
       → OnOk r (CoreDoes m old new) → (Weighs m old.settings (weight_of old) (weight_of new) → weight_of new < weight_of old) → (Stands m (stands old) (stands new) → (stands old ≡ true) × (stands new ≡ true))
-      → served_after m (served_in old) ≡ served_in old → OnOk r (Does lane (record { core = old; place = place }) (record { core = new; place = place }))
-  silent_does (Err e) work behind ready does less lives same = tt
-  silent_does (Ok x) work behind ready does less lives same =
+      → served_after m (served_in old) ≡ served_in old → (stands old ≡ true → blown_after m (is_blown old) ≡ true → IsLast (close_left place.segments))
+      → OnOk r (DoesBy kind (blown_after m (is_blown old)) lane (record { core = old; place = place }) (record { core = new; place = place }))
+  silent_does (Err e) work behind ready does less lives same last = tt
+  silent_does (Ok x) work behind ready does less lives same last =
       let adds = does.added in
       let quiet = silent adds.entry adds.of_move in
       let alive = lives does.stands in
       let weighs = less does.weighs in
       let count = does.served ∙ same in
       record {
-        adds = record { entry = adds.entry; of_kind = quiet.1; added = adds.added; place = sym (quiet.0.stays place) };
-        of_lane = work_lane lane (record { core = old; place = place }) adds.entry work quiet.1;
+        adds = record { entry = adds.entry; of_kind = quiet.1; added = adds.added; place = sym quiet.0.stays };
+        of_lane = quiet.2;
         goes = record {
           sound = record {
             lives = h.lives;
             segments = h.segments;
             between = λ a. let x = alive.1 in cc;
             ends = λ a more. h.ends alive.0 more;
+            blown = λ a b. last alive.0 (sym does.blown ∙ b);
             served = λ a. rw count (h.served alive.0);
           };
           settings = does.settings;
@@ -94,27 +78,34 @@ module _ (lane : Lane) (old new : Seen) (place : Place) (h : IsSound (record { c
           lawful = λ opening over k. does.lawful opening k (from opening);
           run = λ opening script over run.
               one_more opening script (record { core = old; place = place }) (record { core = new; place = place }) adds.entry run (does.lawful opening run.stands (from opening)) adds.added
-              (sym (quiet.0.stays place)) (quiet.0.next (state_after opening old.log) place);
+              (sym quiet.0.stays) (quiet.0.next (state_after opening old.log));
         };
         less = omega (arith, weighs);
         stood = alive.0;
         standing = alive.1 ∙ sym behind;
+        blown = does.blown;
         busy = λ w rest. rest_idle old rest lane work ready;
         settled = λ is. absurd (subst IsWork is work);
       }
 
 -- the entries of which it says nothing
-pub main_entry : (d : DeskView) (e : Entry) → lane_of_entry e ≡ lanes.Main → IsSilent e × IsEntryOf lanes.Main d e
-main_entry d e lane = (own_silent e (subst IsOwn (sym lane) tt), lane)
+pub main_entry : (d : DeskView) (e : Entry) → lane_of_entry e ≡ lanes.Main → IsQuietAt d.place e × IsEntryOf lanes.Main d e × (lane_of_entry e ≡ lanes.Main)
+main_entry d e lane = (quiet_at d.place e (own_silent e (subst IsOwn (sym lane) tt)), lane, lane)
 
-pub sched_entry : (d : DeskView) (e : Entry) → lane_of_entry e ≡ lanes.Sched → IsSilent e × IsEntryOf lanes.Sched d e
-sched_entry d e lane = (own_silent e (subst IsOwn (sym lane) tt), lane)
+pub sched_entry : (d : DeskView) (e : Entry) → lane_of_entry e ≡ lanes.Sched → IsQuietAt d.place e × IsEntryOf lanes.Sched d e × (lane_of_entry e ≡ lanes.Sched)
+sched_entry d e lane = (quiet_at d.place e (own_silent e (subst IsOwn (sym lane) tt)), lane, lane)
 
-pub hand_entry : (d : DeskView) (e : Entry) → e ≡ Handed → IsSilent e × IsEntryOf lanes.Hand d e
-hand_entry d e is = (subst IsSilent (sym is) (own_silent Handed tt), is)
+pub hand_entry : (d : DeskView) (e : Entry) → e ≡ Handed → IsQuietAt d.place e × IsEntryOf lanes.Hand d e × (lane_of_entry e ≡ lanes.Hand)
+hand_entry d e is = (quiet_at d.place e (subst IsSilent (sym is) (own_silent Handed tt)), is, ap lane_of_entry is)
 
-pub kept_entry : (d : DeskView) (e : Entry) → (op : Op) × (handed_of d.core ≡ Some op) × (e ≡ Kept op) → IsSilent e × IsEntryOf lanes.Write d e
-kept_entry d e is = (subst IsSilent (sym is.2) (kept_silent is.0), is)
+pub kept_entry : (d : DeskView) (e : Entry) → (op : Op) × (handed_of d.core ≡ Some op) × (e ≡ Kept op) → IsQuietAt d.place e × IsEntryOf lanes.Write d e × (lane_of_entry e ≡ lanes.Write)
+kept_entry d e is = (quiet_at d.place e (subst IsSilent (sym is.2) (kept_silent is.0)), is, ap lane_of_entry is.2)
+
+-- and the one that its crash allows
+pub blown_entry : (d : DeskView) (passed image : ℕ) → close_left d.place.segments ≡ Some (Crash passed image) → (e : Entry) → e ≡ Blown passed → IsQuietAt d.place e × (e ≡ Blown passed) × (lane_of_entry e ≡ lanes.Write)
+blown_entry d passed image closes e is =
+    let quiet : IsQuietAt d.place (Blown passed) = record { next = λ s. record { image = image; closes = closes }; stays = refl } in
+    (subst (IsQuietAt d.place) (sym is) quiet, is, ap lane_of_entry is)
 
 -- the first of a list
 pub first_of : {X : Type 0} (xs : List X) (x : X) → slice_get xs 0 ≡ Some x → (more : List X) × (xs ≡ x ∷ more)
@@ -161,8 +152,8 @@ module _ (old new : Seen) (f : Feeds) (h : IsSound (at old f)) (entered : IsEnte
   -- the first message of a sender's feed is answered
   pub serve_does : (close : Close) → f.close ≡ Some close → (sender : Sender) (m : Message) → first_from sender f.feed ≡ Some m → (reply : Reply)
       → new.log ≡ old.log ++ Served (sender_of m) m reply ∷ [] → weight_of new ≤ weight_of old + message_weight → (stands old ≡ true) × (stands new ≡ true)
-      → served_in new ≡ served_in old + 1 → (rest : List Message) → rest ≡ without_first sender f.feed → Does (feed_lane sender) (at old f) (at new (record f { feed = rest }))
-  serve_does close c sender m e reply added weighs alive count rest is =
+      → served_in new ≡ served_in old + 1 → is_blown new ≡ is_blown old → (rest : List Message) → rest ≡ without_first sender f.feed → Does (feed_lane sender) (at old f) (at new (record f { feed = rest }))
+  serve_does close c sender m e reply added weighs alive count same rest is =
       let d = at old f in
       let next = at new (record f { feed = rest }) in
       let before : d.place.segments ≡ record { messages = f.feed; close = close } ∷ f.segments = fed f close c sender m e in
@@ -191,6 +182,7 @@ module _ (old new : Seen) (f : Feeds) (h : IsSound (at old f)) (entered : IsEnte
             lives = h.lives;
             segments = subst CanFollow (sym after) (served_without sender f.feed sound.0, sound.1, sound.2);
             between = λ a. let x = alive.1 in cc;
+            blown = λ a b. rw after (let last = h.blown alive.0 (sym same ∙ b) in rw before at last);
             ends = λ a others. subst EndsInCrash (sym after) (ends_on f.feed (without_first sender f.feed) close f.segments (subst EndsInCrash before (h.ends alive.0 others)));
             served = λ a. let n = h.served alive.0 in omega (arith, n, were, are, count);
           };
@@ -202,14 +194,15 @@ module _ (old new : Seen) (f : Feeds) (h : IsSound (at old f)) (entered : IsEnte
         less = omega (arith, weighs, cost, costs, less);
         stood = alive.0;
         standing = alive.1 ∙ sym (stands_on sender (close_left d.place.segments));
+        blown = same;
         busy = λ work. absurd (no_work sender work);
         settled = λ end. absurd (not_end sender end);
       }
 
   -- the current segment settles
   pub settle_does : (g : Feeds) → f.close ≡ Some Settle → f.feed ≡ [] → new.log ≡ old.log ++ Settled ∷ [] → weight_of new ≤ weight_of old
-      → (stands old ≡ true) × (stands new ≡ true) → served_in new ≡ served_in old → place_of g ≡ behind f → has_rest new → Does lanes.End (at old f) (at new g)
-  settle_does g c none added weighs alive count p rest =
+      → (stands old ≡ true) × (stands new ≡ true) → served_in new ≡ served_in old → is_blown new ≡ is_blown old → place_of g ≡ behind f → has_rest new → Does lanes.End (at old f) (at new g)
+  settle_does g c none added weighs alive count same p rest =
       let d = at old f in
       let next = at new g in
       let before : d.place.segments ≡ record { messages = []; close = Settle } ∷ f.segments = rw (c, none) refl in
@@ -232,6 +225,7 @@ module _ (old new : Seen) (f : Feeds) (h : IsSound (at old f)) (entered : IsEnte
             lives = subst AllLive (sym lives) h.lives;
             segments = subst CanFollow (sym segments) follows.2;
             between = λ a. let x = alive.1 in cc;
+            blown = λ a b. absurd (let last = h.blown alive.0 (sym same ∙ b) in let x : ⊥ = rw before at last in x);
             ends = λ a others. subst EndsInCrash (sym segments) (ends_after f.segments (subst EndsInCrash before (h.ends alive.0 (rw (← lives) others))));
             served = λ a. let n = h.served alive.0 in omega (arith, n, were, are, count);
           };
@@ -243,16 +237,17 @@ module _ (old new : Seen) (f : Feeds) (h : IsSound (at old f)) (entered : IsEnte
         less = omega (arith, weighs, cost, costs);
         stood = alive.0;
         standing = rw before alive.1;
+        blown = same;
         busy = λ work. absurd work;
         settled = λ end settles. rest;
       }
 
   -- the life goes down
   pub down_does : (g : Feeds) (close : Option Close) → f.close ≡ close → close ≢ Some Settle → may_close (at old f) (close_left (place_of f).segments) ≡ true
-      → new.log ≡ old.log ++ Down ∷ [] → weight_of new ≤ weight_of old → (stands old ≡ true) × (stands new ≡ false) → place_of g ≡ behind f → Does lanes.End (at old f) (at new g)
-  down_does g None c unsettled ready added weighs alive p = let none = close_is f entered None c in absurd (let x = rw none at ready in cc)
-  down_does g (Some Settle) c unsettled ready added weighs alive p = absurd (unsettled refl)
-  down_does g (Some (Crash calls image)) c unsettled ready added weighs alive p =
+      → new.log ≡ old.log ++ Down ∷ [] → weight_of new ≤ weight_of old → (stands old ≡ true) × (stands new ≡ false) → is_blown new ≡ is_blown old → place_of g ≡ behind f → Does lanes.End (at old f) (at new g)
+  down_does g None c unsettled ready added weighs alive same p = let none = close_is f entered None c in absurd (let x = rw none at ready in cc)
+  down_does g (Some Settle) c unsettled ready added weighs alive same p = absurd (unsettled refl)
+  down_does g (Some (Crash calls image)) c unsettled ready added weighs alive same p =
       let open_is : (can_go_down old && is_nil f.feed) ≡ true = rw c at ready in
       let none = nil_is f.feed (both (can_go_down old) (is_nil f.feed) open_is).1 in
       let d = at old f in
@@ -275,6 +270,7 @@ module _ (old new : Seen) (f : Feeds) (h : IsSound (at old f)) (entered : IsEnte
             segments = subst CanFollow (sym over) tt;
             between = λ a. over;
             ends = λ a others. let x = alive.1 in cc;
+            blown = λ a b. let x = alive.1 in cc;
             served = λ a. let x = alive.1 in cc;
           };
           settings = settings;
@@ -285,6 +281,7 @@ module _ (old new : Seen) (f : Feeds) (h : IsSound (at old f)) (entered : IsEnte
         less = omega (arith, weighs, cost, costs);
         stood = alive.0;
         standing = rw before alive.1;
+        blown = same;
         busy = λ work. absurd work;
         settled = λ end settles. let no = sym (ap close_left before) ∙ settles in cc;
       }

@@ -6,11 +6,11 @@ use Rattle.rm_types.specs.declared.operations.Op.{Op}
 use Rattle.rm_types.specs.Lists.{is_nil}
 use Rattle.rm_model.specs.Lawful.{IsAtRest, state_after}
 use Rattle.rm_core.specs.Seen.{Rests, Seen, StandsFor}
-use Rattle.rm_core.specs.Words.{can_go_down, handed_of, has_rest, ready_at, stands}
-use Rattle.rm_core.proofs.Telling.{told_life, told_none}
+use Rattle.rm_core.specs.Words.{can_go_down, handed_of, has_rest, is_blown, ready_at, stands}
+use Rattle.rm_core.proofs.Telling.{told_blew, told_life, told_none}
 use Rattle.rm_desk.specs.Does.{HasHanded}
 use Rattle.rm_desk.specs.Lanes.{IsWork}
-use Rattle.rm_desk.specs.Runs.{IsUnblown}
+use Rattle.rm_desk.specs.Runs.{HasBlown}
 
 pub is_not : (b : Bool) → not b ≡ true → b ≡ false
 is_not true h = cc
@@ -31,6 +31,10 @@ nil_is (x ∷ xs) h = cc
 nil_unless : {X : Type 0} (xs : List X) → not (is_nil xs) ≡ false → xs ≡ []
 nil_unless [] h = refl
 nil_unless (x ∷ xs) h = cc
+
+or_true : (b : Bool) → (b || true) ≡ true
+or_true true = refl
+or_true false = refl
 
 some_if : {X : Type 0} (b : Bool) (x : Option X) (y : X) → (if b then x else None) ≡ Some y → b ≡ true
 some_if true x y h = refl
@@ -114,26 +118,36 @@ module _ (s : Seen) where
   rest_idle h End work ready = absurd work
   rest_idle h Begin work ready = absurd work
 
-  -- where none of them is ready in a life that stands, nothing is left to do
-  pub idle_rests : stands s ≡ true → Rests s → ready_at s Main ≡ false → ready_at s Sched ≡ false → ready_at s Hand ≡ false → ready_at s Write ≡ false → has_rest s
-  idle_rests alive rests main sched hand write =
+  -- where none of them is ready in a life that stands, of which no operation was refused, nothing is left to do
+  pub idle_rests : stands s ≡ true → is_blown s ≡ false → Rests s → ready_at s Main ≡ false → ready_at s Sched ≡ false → ready_at s Hand ≡ false → ready_at s Write ≡ false → has_rest s
+  idle_rests alive unblown rests main sched hand write =
       let t = s.tables in
       let handed : t.handed ≡ false = rw alive at write in
-      let awaits : not (is_nil t.awaiting) ≡ false = by (not (is_nil t.awaiting)) refl (let unblown = rests.unblown alive in rw (alive, handed, unblown) at hand) in
+      let awaits : not (is_nil t.awaiting) ≡ false = by (not (is_nil t.awaiting)) refl (rw (alive, handed, unblown) at hand) in
       (nil_unless t.main main, nil_unless t.sched sched, nil_unless t.awaiting awaits, handed)
     where
       by : (b : Bool) → not (is_nil s.tables.awaiting) ≡ b → (b && true) ≡ false → not (is_nil s.tables.awaiting) ≡ false
       by true e h = cc
       by false e h = e
 
+  -- a life of which one was refused may go down where the store's lane isn't ready, and serves
+  pub blown_down : stands s ≡ true → ready_at s Write ≡ false → can_go_down s ≡ true
+  blown_down alive write = let handed : s.tables.handed ≡ false = rw alive at write in rw (alive, handed) refl
+
+  pub blown_serves : stands s ≡ true → is_blown s ≡ true → ready_at s Client ≡ true
+  blown_serves alive blown = rw (alive, blown) (or_true s.tables.is_open)
+
   -- nothing is owed there
   pub rest_owes : has_rest s → Rests s → (opening : List Op) → StandsFor opening s → IsAtRest s.settings (state_after opening s.log) (state_after opening s.log).life
   rest_owes h rests = (rests.left h.0 h.1 (λ a. h.2)).at_rest
 
   module _ (opening : List Op) (k : StandsFor opening s) where
-    -- a life that stands does so in the state after the log, and wasn't blown
-    pub life_stands : stands s ≡ true → IsUnblown (state_after opening s.log).life
-    life_stands alive = let told = told_life s opening k alive in subst IsUnblown (sym told.is) told.unblown
+    -- a life that stands does so in the state after the log, and was blown there where an operation was refused
+    pub life_stands : stands s ≡ true → HasBlown (is_blown s) (state_after opening s.log).life
+    life_stands alive = let told = told_life s opening k alive in subst (HasBlown (is_blown s)) (sym told.is) told.blown
+
+    pub life_blew : stands s ≡ false → (state_after opening s.log).blew ≡ is_blown s
+    life_blew dead = told_blew s opening k dead
 
     -- an operation that is with the store is so there
     pub life_handed : ready_at s Write ≡ true → HasHanded (state_after opening s.log).life

@@ -1,7 +1,7 @@
 -- What a desk's calls do.
-use Rattle.std.specs.Prelude.{◌≡◌, ◌+◌, ◌<◌, List, [], ◌∷◌, ◌++◌, Option, None, Some, slice_get, true, false}
+use Rattle.std.specs.Prelude.{Bool, ℕ, ◌≡◌, ◌+◌, ◌<◌, List, [], ◌∷◌, ◌++◌, Option, None, Some, slice_get, true, false}
 use Rattle.rm_types.specs.declared.entries.Entry.{Entry}
-use Rattle.rm_types.specs.declared.entries.Entry.TheVariants.{Opened, Handed, Kept, Served, Settled, Down}
+use Rattle.rm_types.specs.declared.entries.Entry.TheVariants.{Blown, Opened, Handed, Kept, Served, Settled, Down}
 use Rattle.rm_types.specs.declared.messages.Lane.{Lane}
 use Rattle.rm_types.specs.declared.messages.Lane.TheVariants.{Client, Clock, Main, Master, Node, Sched, Hand, Write, End}
 use Rattle.rm_types.specs.declared.messages.Message.{Message}
@@ -18,9 +18,9 @@ use Rattle.rm_types.specs.Records.{Records}
 use Rattle.rm_model.specs.State.{LifeState}
 use Rattle.rm_model.specs.Lawful.{state_after}
 use Rattle.rm_model.specs.Place.{close_left, first_from, messages_left, moved, stamp_of}
-use Rattle.rm_core.specs.Adds.{AmountsTo}
+use Rattle.rm_core.specs.Adds.{IsLeft}
 use Rattle.rm_core.specs.Seen.{StandsFor}
-use Rattle.rm_core.specs.Words.{as_new, handed_of, has_rest, stands}
+use Rattle.rm_core.specs.Words.{as_new, handed_of, has_rest, is_blown, landed_over, stands}
 use Rattle.rm_desk.specs.View.{DeskView}
 use Rattle.rm_desk.specs.Lanes.{IsWork, stands_after}
 use Rattle.rm_desk.specs.Runs.{IsRun, IsSound, left}
@@ -51,7 +51,7 @@ IsEntryOf _ d e = ⊥
 
 -- the entry with which the script's next life begins over what a store holds
 abbrev pub IsOpening : Records → DeskView → Entry → Type 0
-IsOpening tree d e = (life : Life) × (slice_get d.place.lives 0 ≡ Some life) × (e ≡ Opened 0 tree.next_epoch (stamp_of life tree.stamp))
+IsOpening tree d e = (life : Life) × (slice_get d.place.lives 0 ≡ Some life) × (e ≡ Opened (landed_over d.core tree) tree.next_epoch (stamp_of life tree.stamp))
 
 -- the log has one more entry, which is of this kind, and the script is at the place behind it
 pub record AddsOne (kind : Entry → Type 0) (old new : DeskView) : Type 0 where
@@ -68,24 +68,35 @@ pub record GoesOver (over : List Op → Type 0) (old new : DeskView) : Type 0 wh
   pub lawful : (opening : List Op) → over opening → StandsFor opening old.core → StandsFor opening new.core
   pub run : (opening : List Op) (script : Script) → over opening → IsRun opening script old → IsRun opening script new
 
--- a lane's move: what it adds, an entry of this lane, that less is left, whether a life stands behind it, that a lane of the manager's own work
--- moves only where something is left to do, and that nothing is left where a segment settled
-pub record Does (lane : Lane) (old new : DeskView) : Type 0 where
-  pub adds : AddsOne (IsEntryOf lane old) old new
+-- a lane's move: what it adds, an entry of this kind and of this lane, that less is left, whether a life stands behind it, and whether an operation
+-- of it was refused by then; that a lane of the manager's own work moves only where something is left to do, and that nothing is left where a
+-- segment settled
+pub record DoesBy (kind : Entry → Type 0) (blew : Bool) (lane : Lane) (old new : DeskView) : Type 0 where
+  pub adds : AddsOne kind old new
   pub of_lane : lane_of_entry adds.entry ≡ lane
   pub goes : GoesOver (λ opening. Unit {0}) old new
   pub less : left new < left old
   pub stood : stands old.core ≡ true
   pub standing : stands new.core ≡ stands_after lane (close_left old.place.segments)
+  pub blown : is_blown new.core ≡ blew
   pub busy : IsWork lane → has_rest old.core → ⊥
   pub settled : lane ≡ End → close_left old.place.segments ≡ Some Settle → has_rest new.core
 
--- the script's next life begins over what a store holds
+-- the move of a lane that is ready
+abbrev pub Does : Lane → DeskView → DeskView → Type 0
+Does lane old new = DoesBy (IsEntryOf lane old) (is_blown old.core) lane old new
+
+-- the store refused the operation that was with it, after so many calls
+abbrev pub Blows : ℕ → DeskView → DeskView → Type 0
+Blows passed old new = DoesBy (λ e. e ≡ Blown passed) true Write old new
+
+-- the script's next life begins over what the last one left
 pub record Begins (tree : Records) (old new : DeskView) : Type 0 where
   pub adds : AddsOne (IsOpening tree old) old new
-  pub goes : GoesOver (λ opening. AmountsTo tree opening old.core) old new
+  pub goes : GoesOver (λ opening. IsLeft tree (state_after opening old.core.log)) old new
   pub stood : stands old.core ≡ false
   pub standing : stands new.core ≡ true
+  pub unblown : is_blown new.core ≡ false
 
 -- an operation is with the store in a life
 abbrev pub HasHanded : Option LifeState → Type 0

@@ -1,5 +1,5 @@
 -- Which lanes of a desk are ready.
-use Rattle.std.specs.Prelude.{Bool, true, false, ◌&&◌, not, Option, None, Some, is_some}
+use Rattle.std.specs.Prelude.{◌≡◌, Bool, true, false, ◌&&◌, not, Option, None, Some, is_some}
 use Rattle.rm_types.specs.declared.messages.Lane.{Lane}
 use Rattle.rm_types.specs.declared.messages.Lane.TheVariants.{Client, Master, Node, Clock, Main, Sched, Hand, Write, End, Begin}
 use Rattle.rm_types.specs.declared.messages.Sender.{Sender}
@@ -50,6 +50,10 @@ IsWork Sched = Unit {0}
 IsWork Hand = Unit {0}
 IsWork Write = Unit {0}
 IsWork _ = ⊥
+
+-- none of them is ready
+abbrev pub HasNoWork : DeskView → Type 0
+HasNoWork d = (lane : Lane) → IsWork lane → is_ready_at d lane ≡ false
 
 -- a life stands behind a lane's move, unless its segment crashed
 abbrev pub stands_after : Lane → Option Close → Bool

@@ -1,25 +1,32 @@
 -- What holds of a desk between its moves.
-use Rattle.std.specs.Prelude.{◌≡◌, ◌≢◌, ℕ, ◌+◌, ◌*◌, ◌≤◌, List, [], true, false, Option, None, Some, length}
+use Rattle.std.specs.Prelude.{◌≡◌, ◌≢◌, ℕ, ◌+◌, ◌*◌, ◌≤◌, List, [], Bool, true, false, Option, None, Some, length}
 use Rattle.std.specs.List.{sum_by}
 use Rattle.rm_types.specs.declared.entries.Entry.{Entry}
 use Rattle.rm_types.specs.declared.operations.Op.{Op}
+use Rattle.rm_types.specs.declared.scripts.Close.{Close}
 use Rattle.rm_types.specs.declared.scripts.Script.{Script}
 use Rattle.rm_types.specs.declared.scripts.Segment.{Segment}
 use Rattle.rm_model.specs.State.{LifeState, opening_state}
-use Rattle.rm_model.specs.Place.{Place, beginning}
+use Rattle.rm_model.specs.Place.{Place, beginning, close_left}
 use Rattle.rm_model.specs.Lawful.{Follows, IsAtRest, place_after, state_after}
 use Rattle.rm_core.specs.Seen.{StandsFor}
-use Rattle.rm_core.specs.Words.{has_rest, message_weight, most_served, served_in, stands, weight_of}
+use Rattle.rm_core.specs.Words.{has_rest, is_blown, message_weight, most_served, served_in, stands, weight_of}
 use Rattle.rm_desk.specs.View.{DeskView}
-use Rattle.rm_desk.specs.Scripts.{AllLive, CanFollow, EndsInCrash, messages_in}
+use Rattle.rm_desk.specs.Scripts.{AllLive, CanFollow, EndsInCrash, IsCrash, messages_in}
+
+-- the current segment ends with its life
+abbrev pub IsLast : Option Close → Type 0
+IsLast None = ⊥
+IsLast (Some close) = IsCrash close
 
 -- what is left of the script can be gone along: no segment is left between two lives, a life crashes where another follows
--- it, and no more messages are left in it than may still be served
+-- it, in the segment in which an operation of it was refused, and no more messages are left in it than may still be served
 pub record IsSound (d : DeskView) : Type 0 where
   pub lives : AllLive d.place.lives
   pub segments : CanFollow d.place.segments
   pub between : stands d.core ≡ false → d.place.segments ≡ []
   pub ends : stands d.core ≡ true → d.place.lives ≢ [] → EndsInCrash d.place.segments
+  pub blown : stands d.core ≡ true → is_blown d.core ≡ true → IsLast (close_left d.place.segments)
   pub served : stands d.core ≡ true → served_in d.core + messages_in d.place.segments ≤ most_served
 
 -- the log goes along the script, up to this place
@@ -47,14 +54,15 @@ segment_cost segment = 1 + (message_weight + 1) * length segment.messages
 abbrev pub left : DeskView → ℕ
 left d = weight_of d.core + sum_by segment_cost d.place.segments
 
--- a life that was not blown
-abbrev pub IsUnblown : Option LifeState → Type 0
-IsUnblown None = ⊥
-IsUnblown (Some life) = life.blown ≡ false
+-- a life that was blown, or was not
+abbrev pub HasBlown : Bool → Option LifeState → Type 0
+HasBlown b None = ⊥
+HasBlown b (Some life) = life.blown ≡ b
 
--- what a desk tells of the state after its log: whether a life stands there, and that nothing is owed where nothing is left
--- to do
+-- what a desk tells of the state after its log: whether a life stands there, and was blown; where none stands, whether the last one was; and that
+-- nothing is owed where nothing is left to do
 pub record Tells (opening : List Op) (d : DeskView) : Type 0 where
-  pub life : stands d.core ≡ true → IsUnblown (state_after opening d.core.log).life
+  pub life : stands d.core ≡ true → HasBlown (is_blown d.core) (state_after opening d.core.log).life
   pub none : stands d.core ≡ false → (state_after opening d.core.log).life ≡ None
+  pub blew : stands d.core ≡ false → (state_after opening d.core.log).blew ≡ is_blown d.core
   pub at_rest : has_rest d.core → IsAtRest d.core.settings (state_after opening d.core.log) (state_after opening d.core.log).life

@@ -1,24 +1,25 @@
-ghost use Rattle.std.specs.Prelude.{◌≡◌, ◌↔◌, List, [], OnOk, OnErr, IsOk, IfOk, IfNone, IfSome, IsErrOf, IsTrue, true, false, not};
+ghost use Rattle.std.specs.Prelude.{◌≡◌, ◌↔◌, ℕ, List, [], OnOk, OnErr, IsOk, IfOk, IfNone, IfSome, IsErrOf, IsTrue, Some, true, false, not};
 ghost use Rattle.std.specs.Option.{option_copied};
 ghost use Rattle.rm_types.specs.declared.messages.Lane.{Lane};
 ghost use Rattle.rm_types.specs.declared.operations.Op.{Op as AnyOp};
+ghost use Rattle.rm_types.specs.declared.scripts.Close.{Close};
 ghost use Rattle.rm_types.specs.declared.scripts.Script.{Script as AnyScript};
 ghost use Rattle.rm_types.specs.Ranges.{IsOperation};
-ghost use Rattle.rm_model.specs.Lawful.{IsDone, Lawful};
+ghost use Rattle.rm_model.specs.Lawful.{IsDone, Lawful, state_after};
 ghost use Rattle.rm_model.specs.Place.{beginning, close_left};
 ghost use Rattle.rm_tables.specs.declared.events.Refused.{Refused};
 ghost use Rattle.rm_queues.specs.Rules.{KeepsRules};
 ghost use Rattle.rm_moves.specs.Messages.{KeepsLimits};
-ghost use Rattle.rm_core.specs.Adds.{AmountsTo, CanBeginOver};
+ghost use Rattle.rm_core.specs.Adds.{CanBeginOver, IsLeft};
 ghost use Rattle.rm_core.specs.Seen.{IsToBeKept, StandsFor};
-ghost use Rattle.rm_core.specs.Words.{as_new, handed_of, has_rest, new_manager, stands};
-ghost use Rattle.rm_desk.specs.Does.{Begins, Does, IsHanded};
-ghost use Rattle.rm_desk.specs.Lanes.{IsStep, is_ready_at};
+ghost use Rattle.rm_core.specs.Words.{as_new, handed_of, has_rest, is_blown, new_manager, stands};
+ghost use Rattle.rm_desk.specs.Does.{Begins, Blows, Does, IsHanded};
+ghost use Rattle.rm_desk.specs.Lanes.{HasNoWork, IsStep, is_ready_at};
 ghost use Rattle.rm_desk.specs.Runs.{IsOver, IsRun, IsSound, Tells};
 ghost use Rattle.rm_desk.specs.Scripts.{CanGoAlong};
 
 use crate::feeds::Feeds;
-use crate::moves::{advance, begin, kept};
+use crate::moves::{advance, begin, blown, kept};
 use rm_core::{Core, Refused};
 use rm_tree::Tree;
 use rm_types::{Close, Entry, Items, Lane, NoMemory, Op, Script, Sender, Settings};
@@ -129,7 +130,23 @@ impl Desk {
         kept(&mut self.core, &self.feeds)
     }
 
-    /// The script's next life begins over what the store holds, of which `tree` is what it amounts to.
+    /// The store has refused the operation that was handed to it, after so many calls as the current segment's crash says:
+    /// the log has one more entry that says so, and nothing more is kept in this life. `NotReady` comes exactly where none
+    /// is with the store, and `Memory` where no memory was found; then nothing has changed.
+    pub fn blown(&mut self, passed: u32) -> Result<(), Refused>
+        requires { (image : ℕ) × (close_left self.old.place.segments ≡ Some (Close.Crash passed image)) }
+        ensures does { OnOk result (Blows passed self.old self.new) }
+        ensures ready { OnOk result (is_ready_at self.old Lane.Write ≡ true) }
+        ensures not_ready { IsErrOf result Refused.NotReady ↔ (is_ready_at self.old Lane.Write ≡ false) }
+        ensures err { OnErr result (self.new ≡ self.old) }
+    {
+        if !self.ready(Lane::Write) {
+            return Err(Refused::NotReady);
+        }
+        blown(&mut self.core, &self.feeds, passed)
+    }
+
+    /// The script's next life begins over what the last one left of the store, of which `tree` is what it amounts to.
     /// `NotReady` comes exactly where a life stands or none is left in the script, and `Memory` where no
     /// memory was found; then nothing has changed.
     pub fn begin(&mut self, tree: Tree) -> Result<(), Refused>
@@ -155,6 +172,7 @@ impl Desk {
         ensures next { IfSome result (λ op. (opening : List AnyOp) → StandsFor opening self.now.core → IsToBeKept opening self.now.core op.now) }
         ensures handed { IfSome result (λ op. (opening : List AnyOp) → StandsFor opening self.now.core → IsHanded opening self.now.core.log op.now) }
         ensures busy { IfSome result (λ _. has_rest self.now.core → ⊥) }
+        ensures unblown { IfSome result (λ _. is_blown self.now.core ≡ false) }
     {
         self.core.handed()
     }
@@ -166,11 +184,13 @@ impl Desk {
         self.feeds.close
     }
 
-    /// Whether a tree is what the store holds by all that the manager was told, from the first life on.
-    pub fn is_known(&self, tree: &Tree) -> bool
-        ensures { (opening : List AnyOp) → StandsFor opening self.now.core → (self.now.core.log ≡ [] → ⊥) → IsTrue result ↔ AmountsTo tree.now opening self.now.core }
+    /// Whether a tree is what the last life can have left of the store: what the kept operations amount to or, where that life
+    /// blew, these and the first that awaits.
+    pub fn is_left(&self, tree: &Tree) -> Result<bool, NoMemory>
+        requires { stands self.now.core ≡ false }
+        ensures { (opening : List AnyOp) → StandsFor opening self.now.core → (self.now.core.log ≡ [] → ⊥) → IfOk result (λ left. IsTrue left ↔ IsLeft tree.now (state_after opening self.now.core.log)) }
     {
-        self.core.is_known(tree)
+        self.core.is_left(tree)
     }
 
     /// Whether no life stands.
@@ -199,10 +219,12 @@ impl Desk {
     }
 
     /// What holds of a desk at every moment, and what it tells of the state after its log. Where no life stands, no lane is ready
-    /// but that in which one begins.
+    /// but that in which one begins; where one stands of which no operation was refused, nothing is left to do unless a lane of
+    /// the manager's own work is ready.
     pub fn law(&self)
         ensures sound { IsSound self.now }
         ensures dead { stands self.now.core ≡ false → (lane : Lane) → is_ready_at self.now lane ≡ true → lane ≡ Lane.Begin }
+        ensures idle { stands self.now.core ≡ true → is_blown self.now.core ≡ false → HasNoWork self.now → has_rest self.now.core }
         ensures tells { (opening : List AnyOp) → StandsFor opening self.now.core → Tells opening self.now }
     {
         let _ = &self.feeds;

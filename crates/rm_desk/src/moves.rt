@@ -1,10 +1,11 @@
-ghost use Rattle.std.specs.Prelude.{◌≡◌, ◌≢◌, OnOk, OnErr, Err, Some, true};
+ghost use Rattle.std.specs.Prelude.{◌≡◌, ◌≢◌, ℕ, OnOk, OnErr, Err, Some, true};
 ghost use Rattle.rm_types.specs.declared.messages.Lane.{Lane};
 ghost use Rattle.rm_types.specs.declared.scripts.Close.{Close};
 ghost use Rattle.rm_types.specs.Lanes.{feed_lane};
+ghost use Rattle.rm_model.specs.Place.{close_left};
 ghost use Rattle.rm_tables.specs.declared.events.Refused.{Refused};
 ghost use Rattle.rm_core.specs.Adds.{CanBeginOver};
-ghost use Rattle.rm_desk.specs.Does.{Begins, Does};
+ghost use Rattle.rm_desk.specs.Does.{Begins, Blows, Does};
 ghost use Rattle.rm_desk.specs.Feeds.{IsEntered, at};
 ghost use Rattle.rm_desk.specs.Lanes.{IsStep, has_message, is_ready_at};
 ghost use Rattle.rm_desk.specs.Runs.{IsSound};
@@ -79,6 +80,19 @@ pub(crate) fn kept(core: &mut Core, feeds: &Feeds) -> Result<(), Refused>
 {
     let _ = feeds;
     core.step(Move::Kept)
+}
+
+/// The store refused the operation that was with it.
+pub(crate) fn blown(core: &mut Core, feeds: &Feeds, passed: u32) -> Result<(), Refused>
+    requires sound { IsSound (at core.old feeds.now) }
+    requires ready { is_ready_at (at core.old feeds.now) Lane.Write ≡ true }
+    requires crashes { (image : ℕ) × (close_left (at core.old feeds.now).place.segments ≡ Some (Close.Crash passed image)) }
+    ensures ready { result ≢ Err Refused.NotReady }
+    ensures does { OnOk result (Blows passed (at core.old feeds.now) (at core.new feeds.now)) }
+    ensures core { OnErr result (core.new ≡ core.old) }
+{
+    let _ = feeds;
+    core.step(Move::Blown { passed })
 }
 
 /// The current segment settles, and the next one becomes the current one.

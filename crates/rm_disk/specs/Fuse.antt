@@ -97,8 +97,8 @@ pub record FaultedFuse {D : Type 0} (view : D → DiskView) (inner : D → D →
 -- What every call but a fall keeps of a fuse, whether it succeeds or not. The number that it is armed with and its
 -- falls stay. More may pass, but never beyond that number. A call that succeeds leaves it blown or not, as it was;
 -- once blown it stays blown and lets nothing more pass; where it blows, just as many passed as it was armed with; and
--- one that isn't blown afterwards refused nothing.
-pub record KeepsFuse {D : Type 0} (inner : D → D → Type 0) (succeeds : Bool) (old new : Fused D) : Type 0 where
+-- one that isn't blown afterwards refused nothing. The inner disk has no fewer faults.
+pub record KeepsFuse {D : Type 0} (view : D → DiskView) (inner : D → D → Type 0) (succeeds : Bool) (old new : Fused D) : Type 0 where
   pub inside : inner old.inner new.inner
   pub armed : new.armed ≡ old.armed
   pub falls : new.falls ≡ old.falls
@@ -110,3 +110,4 @@ pub record KeepsFuse {D : Type 0} (inner : D → D → Type 0) (succeeds : Bool)
   pub halted : old.blown ≡ true → new.passed ≡ old.passed
   pub blew : old.blown ≡ false → new.blown ≡ true → new.armed ≡ Some new.passed
   pub unrefused : new.blown ≡ false → new.refused ≡ old.refused
+  pub faults : (view old.inner).faults ≤ (view new.inner).faults

@@ -9,8 +9,8 @@ use Rattle.rm_disk.specs.Fuse.{Fused, fused_view, FaultedFuse, KeepsFuse}
 differ : false ≡ true → ⊥
 differ is = cc is
 
-pub keeps_fuse_same : {D : Type 0} (inner : D → D → Type 0) (succeeds : Bool) (fuse : Fused D) → inner fuse.inner fuse.inner → KeepsFuse inner succeeds fuse fuse
-keeps_fuse_same inner succeeds fuse same = record {
+pub keeps_fuse_same : {D : Type 0} (view : D → DiskView) (inner : D → D → Type 0) (succeeds : Bool) (fuse : Fused D) → inner fuse.inner fuse.inner → KeepsFuse view inner succeeds fuse fuse
+keeps_fuse_same view inner succeeds fuse same = record {
   inside = same;
   armed = refl;
   falls = refl;
@@ -22,11 +22,12 @@ keeps_fuse_same inner succeeds fuse same = record {
   halted = λ _. refl;
   blew = λ no yes. absurd (differ (sym no ∙ yes));
   unrefused = λ _. refl;
+  faults = omega arith;
 }
 
-pub keeps_fuse_on : {D : Type 0} (inner : Bool → D → D → Type 0) → ((one two : Bool) (x y z : D) → inner one x y → inner two y z → inner (one && two) x z)
-    → (one two : Bool) (x y z : Fused D) → KeepsFuse (inner one) one x y → KeepsFuse (inner two) two y z → KeepsFuse (inner (one && two)) (one && two) x z
-keeps_fuse_on inner on one two x y z xy yz = record {
+pub keeps_fuse_on : {D : Type 0} (view : D → DiskView) (inner : Bool → D → D → Type 0) → ((one two : Bool) (x y z : D) → inner one x y → inner two y z → inner (one && two) x z)
+    → (one two : Bool) (x y z : Fused D) → KeepsFuse view (inner one) one x y → KeepsFuse view (inner two) two y z → KeepsFuse view (inner (one && two)) (one && two) x z
+keeps_fuse_on view inner on one two x y z xy yz = record {
   inside = on one two x.inner y.inner z.inner xy.inside yz.inside;
   armed = yz.armed ∙ xy.armed;
   falls = yz.falls ∙ xy.falls;
@@ -44,12 +45,13 @@ keeps_fuse_on inner on one two x y z xy yz = record {
     | inl then ↦ absurd (differ (sym never ∙ yz.stays_blown then))
     | inr not_yet ↦ yz.unrefused never ∙ xy.unrefused not_yet
   ];
+  faults = omega (arith, xy.faults, yz.faults);
 }
 
 -- A fuse that goes on, and then shows a fault, shows it from the first on.
 pub faulted_fuse_later : {D : Type 0} (view : D → DiskView) (keeps : Bool → D → D → Type 0) (inner : D → D → Type 0)
     → ((succeeds : Bool) (x y z : D) → keeps succeeds x y → (view x).faults ≤ (view y).faults → inner y z → inner x z)
-    → (succeeds : Bool) (x y z : Fused D) → KeepsFuse (keeps succeeds) succeeds x y
+    → (succeeds : Bool) (x y z : Fused D) → KeepsFuse view (keeps succeeds) succeeds x y
     → (fused_view (view x.inner) x.refused).faults ≤ (fused_view (view y.inner) y.refused).faults
     → FaultedFuse view inner y z → FaultedFuse view inner x z
 faulted_fuse_later view keeps inner later succeeds x y z xy le yz = record {

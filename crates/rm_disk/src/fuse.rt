@@ -173,11 +173,11 @@ impl<D: Disk> Disk for Fuse<D> {
 
     ghost view = { λ f. fused_view (D.view f.inner) f.refused };
 
-    ghost keeps = { λ succeeds f g. KeepsFuse (D.keeps succeeds) succeeds f g };
+    ghost keeps = { λ succeeds f g. KeepsFuse D.view (D.keeps succeeds) succeeds f g };
 
-    ghost keeps_same = { λ succeeds f. keeps_fuse_same (D.keeps succeeds) succeeds f (D.keeps_same succeeds f.inner) };
+    ghost keeps_same = { λ succeeds f. keeps_fuse_same D.view (D.keeps succeeds) succeeds f (D.keeps_same succeeds f.inner) };
 
-    ghost keeps_on = { λ one two x y z xy yz. keeps_fuse_on D.keeps D.keeps_on one two x y z xy yz };
+    ghost keeps_on = { λ one two x y z xy yz. keeps_fuse_on D.view D.keeps D.keeps_on one two x y z xy yz };
 
     ghost faulted = { λ f g. FaultedFuse D.view D.faulted f g };
 
@@ -205,7 +205,7 @@ impl<D: Disk> Disk for Fuse<D> {
         requires { at + length into.old ≤ (D.view self.old.inner).size }
         ensures bytes { OnOk result (Tells (fused_view (D.view self.old.inner) self.old.refused) (λ told. into.new ≡ take (length into.old) (drop at told))) }
         ensures quiet { IsQuiet (fused_view (D.view self.old.inner) self.old.refused) (fused_view (D.view self.new.inner) self.new.refused) }
-        ensures kept { KeepsFuse (D.keeps (is_ok result)) (is_ok result) self.old self.new }
+        ensures kept { KeepsFuse D.view (D.keeps (is_ok result)) (is_ok result) self.old self.new }
         ensures fault { IsErrOf result DiskError.DiskFault → FaultedFuse D.view D.faulted self.old self.new }
         ensures memory { IsErrOf result DiskError.Memory → ⊥ }
 
@@ -223,7 +223,7 @@ impl<D: Disk> Disk for Fuse<D> {
         requires { at + length bytes.now ≤ (D.view self.old.inner).size }
         ensures written { OnOk result ((fused_view (D.view self.new.inner) self.new.refused).told ≡ option_map (put at bytes.now) (fused_view (D.view self.old.inner) self.old.refused).told) }
         ensures in_range { MayWrite at (length bytes.now) (fused_view (D.view self.old.inner) self.old.refused) (fused_view (D.view self.new.inner) self.new.refused) }
-        ensures kept { KeepsFuse (D.keeps (is_ok result)) (is_ok result) self.old self.new }
+        ensures kept { KeepsFuse D.view (D.keeps (is_ok result)) (is_ok result) self.old self.new }
         ensures fault { IsErrOf result DiskError.DiskFault → FaultedFuse D.view D.faulted self.old self.new }
         ensures memory { IsErrOf result DiskError.Memory → IsAsBefore (fused_view (D.view self.old.inner) self.old.refused) (fused_view (D.view self.new.inner) self.new.refused) }
 
@@ -245,7 +245,7 @@ impl<D: Disk> Disk for Fuse<D> {
     fn sync(&mut self) -> Result<(), DiskError>
         ensures durable { OnOk result (IsDurable (fused_view (D.view self.new.inner) self.new.refused)) }
         ensures quiet { IsQuiet (fused_view (D.view self.old.inner) self.old.refused) (fused_view (D.view self.new.inner) self.new.refused) }
-        ensures kept { KeepsFuse (D.keeps (is_ok result)) (is_ok result) self.old self.new }
+        ensures kept { KeepsFuse D.view (D.keeps (is_ok result)) (is_ok result) self.old self.new }
         ensures fault { IsErrOf result DiskError.DiskFault → FaultedFuse D.view D.faulted self.old self.new }
         ensures memory { IsErrOf result DiskError.Memory → IsAsBefore (fused_view (D.view self.old.inner) self.old.refused) (fused_view (D.view self.new.inner) self.new.refused) }
 

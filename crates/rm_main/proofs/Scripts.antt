@@ -29,8 +29,7 @@ use Rattle.rm_script.specs.Messages.{IsAsk as IsReadAsk, IsClientAsk as IsReadCl
 use Rattle.rm_script.specs.Scripts.{IsScript, IsRead, EachButLast}
 use Rattle.rm_script.specs.Values.{Settles, EndInCrash, IsToldLife, IsToldScript}
 use Rattle.rm_script.proofs.Values.{told_values}
-use Rattle.rm_desk.specs.Scripts.{AllServed, Closes, CanFollow, EndsInCrash, CanLive, AllLive}
-use Rattle.rm_plain.specs.Along.{CanRun, AllBare, AllSettle, IsBare, SettlesFirst}
+use Rattle.rm_desk.specs.Scripts.{AllServed, Closes, CanFollow, CanGoAlong, EndsInCrash, CanLive, AllLive}
 
 -- what is submitted can be kept
 framed : (user : List ℕ) (submission : Submission) → IsText Name user → IsSubmission user submission → IsFramedSubmission submission
@@ -111,29 +110,22 @@ settled_follow : (segments : List Segment) → AllByRecursion AreRead segments �
 settled_follow [] read settle = tt
 settled_follow (segment ∷ more) read settle = settling_follows segment more read.0 settle.0 (settled_follow more read.1 settle.1)
 
-abbrev crash_of : ℕ → ℕ → Segment
-crash_of calls image = record { messages = []; close = Crash calls image }
+abbrev crash_of : List Message → ℕ → ℕ → Segment
+crash_of messages calls image = record { messages = messages; close = Crash calls image }
 
-crashed_follow : (before : List Segment) (calls image : ℕ) → AllByRecursion AreRead (before ++ crash_of calls image ∷ []) → AllByRecursion Settles before → CanFollow (before ++ crash_of calls image ∷ [])
-crashed_follow [] calls image read settle = (tt, refl, tt)
-crashed_follow (segment ∷ before) calls image read settle =
-    settling_follows segment (before ++ crash_of calls image ∷ []) read.0 settle.0 (crashed_follow before calls image read.1 settle.1)
+crashed_follow : (before : List Segment) (messages : List Message) (calls image : ℕ) → AllByRecursion AreRead (before ++ crash_of messages calls image ∷ []) → AllByRecursion Settles before
+    → CanFollow (before ++ crash_of messages calls image ∷ [])
+crashed_follow [] messages calls image read settle = (all_served messages (recursion_from_All IsRead messages read.0), refl, tt)
+crashed_follow (segment ∷ before) messages calls image read settle =
+    settling_follows segment (before ++ crash_of messages calls image ∷ []) read.0 settle.0 (crashed_follow before messages calls image read.1 settle.1)
 
-settled_first : (segments : List Segment) → AllByRecursion Settles segments → SettlesFirst segments
-settled_first [] settle = tt
-settled_first (segment ∷ more) settle = settle.0
-
-crashed_first : (before : List Segment) (calls image : ℕ) → 0 < length before → AllByRecursion Settles before → SettlesFirst (before ++ crash_of calls image ∷ [])
-crashed_first [] calls image some settle = absurd (omega arith)
-crashed_first (segment ∷ before) calls image some settle = settle.0
-
-last_crashes : (before : List Segment) (calls image : ℕ) → EndsInCrash (before ++ crash_of calls image ∷ [])
-last_crashes [] calls image = tt
-last_crashes (segment ∷ []) calls image = tt
-last_crashes (segment ∷ next ∷ before) calls image = last_crashes (next ∷ before) calls image
+last_crashes : (before : List Segment) (messages : List Message) (calls image : ℕ) → EndsInCrash (before ++ crash_of messages calls image ∷ [])
+last_crashes [] messages calls image = tt
+last_crashes (segment ∷ []) messages calls image = tt
+last_crashes (segment ∷ next ∷ before) messages calls image = last_crashes (next ∷ before) messages calls image
 
 ends : (segments : List Segment) → EndInCrash segments → EndsInCrash segments
-ends segments h = subst EndsInCrash (sym h.apart) (last_crashes h.before h.calls h.image)
+ends segments h = subst EndsInCrash (sym h.apart) (last_crashes h.before h.messages h.calls h.image)
 
 follow : (segments : List Segment) → AllByRecursion AreRead segments → All Settles segments ⊎ EndInCrash segments → CanFollow segments
 follow segments read h =
@@ -141,33 +133,7 @@ follow segments read h =
       | inl settle ↦ settled_follow segments read (recursion_from_All Settles segments settle)
       | inr crash ↦
           subst CanFollow (sym crash.apart)
-          (crashed_follow crash.before crash.calls crash.image (subst (AllByRecursion AreRead) crash.apart read) (recursion_from_All Settles crash.before crash.settle))
-    ]
-
-first : (segments : List Segment) → All Settles segments ⊎ EndInCrash segments → SettlesFirst segments
-first segments h =
-    elim h [
-      | inl settle ↦ settled_first segments (recursion_from_All Settles segments settle)
-      | inr crash ↦ subst SettlesFirst (sym crash.apart) (crashed_first crash.before crash.calls crash.image crash.some (recursion_from_All Settles crash.before crash.settle))
-    ]
-
--- a segment that settles may have messages, and the crash has none
-bare : (segment : Segment) → Settles segment → IsBare segment.close segment.messages
-bare segment settles = rw settles tt
-
-settled_bare : (segments : List Segment) → AllByRecursion Settles segments → AllBare segments
-settled_bare [] settle = tt
-settled_bare (segment ∷ more) settle = (bare segment settle.0, settled_bare more settle.1)
-
-crashed_bare : (before : List Segment) (calls image : ℕ) → AllByRecursion Settles before → AllBare (before ++ crash_of calls image ∷ [])
-crashed_bare [] calls image settle = (refl, tt)
-crashed_bare (segment ∷ before) calls image settle = (bare segment settle.0, crashed_bare before calls image settle.1)
-
-all_bare : (segments : List Segment) → All Settles segments ⊎ EndInCrash segments → AllBare segments
-all_bare segments h =
-    elim h [
-      | inl settle ↦ settled_bare segments (recursion_from_All Settles segments settle)
-      | inr crash ↦ subst AllBare (sym crash.apart) (crashed_bare crash.before crash.calls crash.image (recursion_from_All Settles crash.before crash.settle))
+          (crashed_follow crash.before crash.messages crash.calls crash.image (subst (AllByRecursion AreRead) crash.apart read) (recursion_from_All Settles crash.before crash.settle))
     ]
 
 can_live : (life : Life) → IsToldLife life → CanLive life
@@ -187,12 +153,7 @@ all_live [] each crash = tt
 all_live (life ∷ []) each crash = (can_live life each.0, λ more. absurd (more refl), tt)
 all_live (life ∷ next ∷ lives) each crash = (can_live life each.0, λ more. ends life.segments crash.0, all_live (next ∷ lives) each.1 crash.1)
 
-all_settle : (lives : List Life) → AllByRecursion IsToldLife lives → AllSettle lives
-all_settle [] each = tt
-all_settle (life ∷ lives) each = (all_bare life.segments each.0.closes, first life.segments each.0.closes, all_settle lives each.1)
-
-pub can_run : (bytes : List ℕ) (script : Script) → IsScript bytes script → CanRun script
+pub can_run : (bytes : List ℕ) (script : Script) → IsScript bytes script → CanGoAlong script
 can_run bytes script h =
     let told : IsToldScript script = told_values bytes script h in
-    let each = recursion_from_All IsToldLife script.lives told.each in
-    record { goes = record { lives = all_live script.lives each told.crash }; settle = all_settle script.lives each }
+    record { lives = all_live script.lives (recursion_from_All IsToldLife script.lives told.each) told.crash }

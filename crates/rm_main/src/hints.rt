@@ -34,13 +34,13 @@ fn line_hint(line: &str) -> &'static str {
     } else if line.starts_with("lose ") {
         "a message that is lost stands inside a life, as `lose` and the line of a client, a master, a node or the clock"
     } else if line.starts_with("crash") {
-        "a crash is `crash CALLS IMAGE`, directly after a `settle` of its life"
+        "a crash is `crash CALLS IMAGE`, inside a life, with 0 to 1000000 calls and an image of 0 to 4294967295"
     } else if line.starts_with("settle") {
         "`settle` stands alone, inside a life"
     } else if line.starts_with("start") {
         "a life begins with `start STAMP`, first or after a `crash`"
     } else if line.is_empty() {
-        "the messages at the end are not settled"
+        "the messages at the end are closed by no `settle` or `crash`"
     } else {
         "a line begins with `start`, `client`, `master`, `node`, `clock`, `lose`, `settle`, `crash` or `#`, and has printable bytes alone"
     }

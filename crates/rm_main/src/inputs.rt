@@ -2,7 +2,7 @@ ghost use Rattle.std.specs.Prelude.{◌≡◌, ◌≤◌, IfOk, IfErr, OnOk, Err
 ghost use Rattle.rm_types.specs.Counts.{Rose};
 ghost use Rattle.rm_queues.specs.Rules.{KeepsRules};
 ghost use Rattle.rm_moves.specs.Messages.{KeepsLimits};
-ghost use Rattle.rm_plain.specs.Along.{CanRun};
+ghost use Rattle.rm_desk.specs.Scripts.{CanGoAlong};
 ghost use Rattle.rm_main.specs.Runs.{AreRead, AreSettings, IsScriptOf};
 ghost use Rattle.rm_main.specs.Words.{Run};
 ghost use Rattle.rm_main.specs.Inputs.{StopsAtCluster, StopsAtScript, StopsEarly};
@@ -39,7 +39,7 @@ fn read_settings<F: Shelf>(alloc: Global, shelf: &mut F, name: &str) -> Result<S
 /// Reads the script of a file. A refusal is the outcome that it makes.
 fn read_lives<F: Shelf>(alloc: Global, shelf: &mut F, name: &str) -> Result<Script, Outcome>
     ensures read { IfOk result (λ script. IsScriptOf (F.bytes_of shelf.old name.now) script) }
-    ensures can_run { IfOk result CanRun }
+    ensures can_run { IfOk result CanGoAlong }
     ensures refused { IfErr result (StopsAtScript (F.bytes_of shelf.old name.now)) }
     ensures one { F.reads name.now shelf.old shelf.new }
     ensures fault { result ≡ Err Outcome.ReadFault → Rose (F.faults shelf.old) (F.faults shelf.new) }
@@ -68,7 +68,7 @@ pub fn read_inputs<F: Shelf>(
     ensures queues { IfOk result (λ inputs. KeepsRules inputs.0) }
     ensures limits { IfOk result (λ inputs. KeepsLimits inputs.0) }
     ensures script { IfOk result (λ inputs. IsScriptOf (F.bytes_of shelf.old script.now) inputs.1) }
-    ensures can_run { IfOk result (λ inputs. CanRun inputs.1) }
+    ensures can_run { IfOk result (λ inputs. CanGoAlong inputs.1) }
     ensures refused { IfErr result (StopsEarly (F.bytes_of shelf.old) cluster.now script.now) }
     ensures order { AreRead F.reads (Some (Run cluster.now script.now)) shelf.old shelf.new }
     ensures fault { result ≡ Err Outcome.ReadFault → Rose (F.faults shelf.old) (F.faults shelf.new) }

@@ -6,7 +6,7 @@ ghost use Rattle.rm_model.specs.Lawful.{Lawful, IsDone};
 ghost use Rattle.rm_formats.specs.Page.{page, store_page};
 ghost use Rattle.rm_model.specs.State.{opening_state};
 ghost use Rattle.rm_types.specs.Counts.{Rose};
-ghost use Rattle.rm_plain.specs.Along.{CanRun};
+ghost use Rattle.rm_desk.specs.Scripts.{CanGoAlong};
 ghost use Rattle.rm_plain.specs.Falls.{falls_of};
 ghost use Rattle.rm_types.specs.Records.{records};
 ghost use Rattle.rm_queues.specs.Rules.{KeepsRules};
@@ -91,7 +91,7 @@ fn run<K: Sink, D: Disk>(
     sink: &mut K,
     disk: Fuse<D>,
 ) -> Ended<D>
-    requires script { CanRun script }
+    requires script { CanGoAlong script }
     requires queues { KeepsRules settings }
     requires limits { KeepsLimits settings }
     requires unarmed { disk.armed ≡ None }

@@ -1,5 +1,5 @@
 -- The first ready lane moves, each time.
-use Rattle.std.proofs.Common.{◌≡◌, ◌≢◌, ◌⊎◌, inl, inr, ⊎_elim, List, [], ◌∷◌, ◌++◌, Bool, true, false, None, Some, Option, if◌then◌else◌, refl, sym, ◌∙◌, ap, subst}
+use Rattle.std.proofs.Common.{◌≡◌, ◌≢◌, ◌⊎◌, inl, inr, ⊎_elim, List, [], ◌∷◌, ◌++◌, Bool, true, false, None, Some, Option, if◌then◌else◌, refl, sym, ◌∙◌, ap}
 use Rattle.std.specs.Prelude.{find}
 use Rattle.rm_types.specs.declared.entries.Entry.{Entry}
 use Rattle.rm_types.specs.declared.messages.Lane.{Lane}
@@ -8,7 +8,6 @@ use Rattle.rm_types.specs.declared.operations.Op.{Op}
 use Rattle.rm_types.specs.declared.scripts.Life.{Life}
 use Rattle.rm_types.specs.declared.scripts.Script.{Script}
 use Rattle.rm_types.specs.Lanes.{lane_of_entry}
-use Rattle.rm_model.specs.Lawful.{place_after}
 use Rattle.rm_model.specs.Place.{Place}
 use Rattle.rm_tables.specs.declared.tables.Tables.{Tables}
 use Rattle.rm_core.specs.Seen.{Seen}

@@ -15,26 +15,23 @@ use Rattle.rm_model.specs.Place.{close_left}
 use Rattle.rm_store.specs.declared.fault.StoreError.{StoreError}
 use Rattle.rm_store.specs.Store.{IsSound as IsStoreSound, StoreState, seen}
 use Rattle.rm_store.specs.Errors.{broken_after}
-use Rattle.rm_core.specs.Seen.{StandsFor}
-use Rattle.rm_core.specs.Words.{stands}
+use Rattle.rm_core.specs.Words.{has_rest, is_blown, stands}
 use Rattle.rm_desk.specs.View.{DeskView}
 use Rattle.rm_desk.specs.Does.{Does}
-use Rattle.rm_desk.specs.Lanes.{IsStep, is_ready_at, stands_after}
-use Rattle.rm_desk.specs.Runs.{IsOver as IsDeskOver, Tells}
-use Rattle.rm_plain.specs.Along.{IsSound}
+use Rattle.rm_desk.specs.Lanes.{HasNoWork, IsStep, is_ready_at, stands_after}
+use Rattle.rm_desk.specs.Runs.{IsLast, IsOver as IsDeskOver, IsSound as IsDeskSound}
 use Rattle.rm_plain.specs.Falls.{fall}
 use Rattle.rm_plain.specs.Goes.{GoesOver, Goes, IsRun}
 use Rattle.rm_plain.specs.Keeping.{FuseStays, IsUnkept, Serves, StoresOn, armed_by}
 use Rattle.rm_plain.specs.Lives.{ComesToRest, GoesOn, WentDown, Stores}
 use Rattle.rm_plain.specs.Policy.{policy}
-use Rattle.rm_plain.proofs.Moving.{Works, down_goes, goes_same}
+use Rattle.rm_plain.proofs.Moving.{TellsAll, Works, down_goes, down_unkept, goes_same}
 use Rattle.rm_plain.proofs.Stored.{keeps_trans, unkept_stores}
 
 -- one part of a run after the other
 pub goes_trans : (over : List Op → Type 0) (some more : List Fallen) (a b c : DeskView) → GoesOver over some a b → Goes more b c → GoesOver over (some ++ more) a c
 goes_trans over some more a b c ab bc =
     record {
-      sound = bc.sound;
       settings = bc.settings ∙ ab.settings;
       began = bc.began ∙ ab.began;
       lives = omega (arith, ab.lives, bc.lives);
@@ -51,11 +48,15 @@ stores_trans opening a b c one two three goes ab bc = λ k has.
 
 module _ {D : Type 0} (view : D → DiskView) where
   pub fuse_same : (a : Fused D) → FuseStays view a a
-  fuse_same a = record { falls = refl; unarmed_falls = refl; refused = refl; size = refl; faults = omega arith }
+  fuse_same a = record { falls = refl; unarmed_falls = refl; size = refl; faults = omega arith }
 
   pub fuse_trans : (a b c : Fused D) → FuseStays view a b → FuseStays view b c → FuseStays view a c
   fuse_trans a b c ab bc =
-      record { falls = bc.falls ∙ ab.falls; unarmed_falls = bc.unarmed_falls ∙ ab.unarmed_falls; refused = bc.refused ∙ ab.refused; size = bc.size ∙ ab.size; faults = omega (arith, ab.faults, bc.faults) }
+      record { falls = bc.falls ∙ ab.falls; unarmed_falls = bc.unarmed_falls ∙ ab.unarmed_falls; size = bc.size ∙ ab.size; faults = omega (arith, ab.faults, bc.faults) }
+
+  -- a call of the disk keeps it
+  pub fuse_kept : (keeps : D → D → Type 0) (succeeds : Bool) (a b : Fused D) → KeepsFuse view keeps succeeds a b → (view b.inner).size ≡ (view a.inner).size → FuseStays view a b
+  fuse_kept keeps succeeds a b kept size = record { falls = kept.falls; unarmed_falls = kept.unarmed_falls; size = size; faults = kept.faults }
 
   module _ (a b c : DeskView) (first second third : StoreState D) (goes : Goes [] a b) (kept : (opening : List Op) → StoresOn opening a b (seen view first.disk) (seen view second.disk)) where
     pub stores_on : Stores view b c second third → Stores view a c first third
@@ -69,9 +70,10 @@ module _ {D : Type 0} (view : D → DiskView) where
     down_on image h =
         record {
           calls = h.calls;
+          blew = h.blew;
           armed = h.armed;
-          unblown = h.unblown;
-          goes = goes_trans (λ opening. Unit {0}) [] (fall h.calls image ∷ []) a b c goes h.goes;
+          blown = h.blown;
+          goes = goes_trans (λ opening. Unit {0}) [] (fall h.calls image h.blew ∷ []) a b c goes h.goes;
           down = h.down;
           stores = stores_on h.stores;
         }
@@ -83,7 +85,7 @@ module _ {D : Type 0} (view : D → DiskView) where
         goes = works.goes;
         less = does.less;
         stands = does.standing ∙ stays lane step goes (close_left d.place.segments);
-        serves = record { sound = serves.sound; unbroken = serves.unbroken; armed = rw works.close serves.armed; unblown = serves.unblown };
+        serves = record { sound = serves.sound; unbroken = λ unblown. serves.unbroken (sym works.blown ∙ unblown); armed = rw works.close serves.armed; blown = serves.blown ∙ sym works.blown };
         stores = record { sound = serves.sound; kept = λ opening. unkept_stores opening d next works.same (seen view store.disk) };
       }
     where
@@ -100,11 +102,17 @@ module _ {D : Type 0} (view : D → DiskView) where
       stays Begin step goes close = refl
 
   -- an operation was kept
-  pub kept_serves : (keeps : D → D → Type 0) (d next : DeskView) (store now : StoreState D) (r : Result (Unit {0}) StoreError) → close_left next.place.segments ≡ close_left d.place.segments
-      → Serves view d store → ((e : StoreError) → r ≡ Err e → ⊥) → IsStoreSound view now → now.is_broken ≡ broken_after r store.is_broken → KeepsFuse keeps (is_ok r) store.disk now.disk → Serves view next now
-  kept_serves keeps d next store now (Ok x) close serves none sound broken kept =
-      record { sound = sound; unbroken = broken ∙ serves.unbroken; armed = rw close (kept.armed ∙ serves.armed); unblown = kept.success refl ∙ serves.unblown }
-  kept_serves keeps d next store now (Err e) close serves none sound broken kept = absurd (none e refl)
+  pub kept_serves : (keeps : D → D → Type 0) (d next : DeskView) (store now : StoreState D) (r : Result (Unit {0}) StoreError) → close_left next.place.segments ≡ close_left d.place.segments → is_blown d.core ≡ false → is_blown next.core ≡ is_blown d.core
+      → Serves view d store → ((e : StoreError) → r ≡ Err e → ⊥) → IsStoreSound view now → now.is_broken ≡ broken_after r store.is_broken → KeepsFuse view keeps (is_ok r) store.disk now.disk → Serves view next now
+  kept_serves keeps d next store now (Ok x) close unblown same serves none sound broken kept =
+      record { sound = sound; unbroken = λ whole. broken ∙ serves.unbroken unblown; armed = rw close (kept.armed ∙ serves.armed); blown = kept.success refl ∙ serves.blown ∙ sym same }
+  kept_serves keeps d next store now (Err e) close unblown same serves none sound broken kept = absurd (none e refl)
+
+  -- or refused, by a fuse that blew
+  pub blown_serves : (keeps : D → D → Type 0) (succeeds : Bool) (d next : DeskView) (store now : StoreState D) → close_left next.place.segments ≡ close_left d.place.segments → is_blown next.core ≡ true → Serves view d store → IsStoreSound view now
+      → now.disk.blown ≡ true → KeepsFuse view keeps succeeds store.disk now.disk → Serves view next now
+  blown_serves keeps succeeds d next store now close blew serves sound blown kept =
+      record { sound = sound; unbroken = λ unblown. let x = sym unblown ∙ blew in cc; armed = rw close (kept.armed ∙ serves.armed); blown = blown ∙ sym blew }
 
   -- a segment settled, and the fuse is armed as the next one says
   pub settles_on : (d next : DeskView) (store now : StoreState D) → Does End d next → Goes [] d next → IsUnkept d next → close_left d.place.segments ≡ Some Settle
@@ -119,17 +127,17 @@ module _ {D : Type 0} (view : D → DiskView) where
       }
 
   -- a life went down
-  pub goes_down_on : (d next : DeskView) (store : StoreState D) → Does End d next → find (is_ready_at d) policy ≡ Some End → IsSound d → ((opening : List Op) → StandsFor opening d.core → Tells opening d) → (calls image : ℕ)
+  pub goes_down_on : (d next : DeskView) (store : StoreState D) → Does End d next → find (is_ready_at d) policy ≡ Some End → TellsAll d → TellsAll next → (is_blown d.core ≡ false → HasNoWork d → has_rest d.core) → (calls image : ℕ)
       → close_left d.place.segments ≡ Some (Crash calls image) → Serves view d store → WentDown view d next store store image
-  goes_down_on d next store does chosen h tells calls image crash serves =
-      let down = down_goes d next does chosen h tells calls image crash in
+  goes_down_on d next store does chosen tells told idle calls image crash serves =
       record {
         calls = calls;
+        blew = is_blown d.core;
         armed = serves.armed ∙ ap armed_by crash;
-        unblown = serves.unblown;
-        goes = down.0;
+        blown = serves.blown;
+        goes = down_goes d next does chosen tells told idle calls image crash;
         down = does.standing ∙ ap (stands_after End) crash;
-        stores = record { sound = serves.sound; kept = λ opening. unkept_stores opening d next down.1 (seen view store.disk) };
+        stores = record { sound = serves.sound; kept = λ opening. unkept_stores opening d next (down_unkept d next does chosen tells told idle calls image crash) (seen view store.disk) };
       }
 
 -- what holds is said of an error too
@@ -182,14 +190,21 @@ pub at_end : (d : DeskView) → find (is_ready_at d) policy ≡ None → (b : Bo
 at_end d h true some = refl
 at_end d h false some = let ready = some refl in let none = none_ready d h ready.0 in let x = sym none ∙ ready.1 in cc
 
+-- a life of which nothing is left of the script didn't blow
+over_unblown : (d : DeskView) → IsDeskSound d → stands d.core ≡ true → d.place.segments ≡ [] → is_blown d.core ≡ false
+over_unblown d sound alive none = by (is_blown d.core) refl
+  where
+    by : (b : Bool) → is_blown d.core ≡ b → b ≡ false
+    by true blown = absurd (subst (λ (s : List Segment). IsLast (close_left s)) none (sound.blown alive blown))
+    by false blown = refl
+
 -- where the run is over it comes to rest
-pub comes_to_rest : {D : Type 0} (view : D → DiskView) (d : DeskView) (store : StoreState D) → IsSound d → Serves view d store → stands d.core ≡ true → IsDeskOver d
-    → ((opening : List Op) → StandsFor opening d.core → Tells opening d) → ComesToRest view d d store store
-comes_to_rest view d store h serves alive over tells =
+pub comes_to_rest : {D : Type 0} (view : D → DiskView) (d : DeskView) (store : StoreState D) → IsDeskSound d → Serves view d store → stands d.core ≡ true → IsDeskOver d → TellsAll d → ComesToRest view d d store store
+comes_to_rest view d store sound serves alive over tells =
     record {
-      goes = goes_same d h;
+      goes = goes_same d;
       over = record { lives = over.lives; segments = over.segments; rest = λ opening k. (tells opening k).at_rest (over.rest alive) };
       unarmed = serves.armed ∙ ap (λ (s : List Segment). armed_by (close_left s)) over.segments;
-      unblown = serves.unblown;
-      stores = record { sound = serves.sound; kept = λ opening. unkept_stores opening d d (record { kept = λ ops k. refl; more = []; grows = sym (append-nil d.core.log) }) (seen view store.disk) };
+      unblown = serves.blown ∙ over_unblown d sound alive over.segments;
+      stores = record { sound = serves.sound; kept = λ opening. unkept_stores opening d d (record { kept = λ ops k image h. h; more = []; grows = sym (append-nil d.core.log) }) (seen view store.disk) };
     }

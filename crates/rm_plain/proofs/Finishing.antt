@@ -1,5 +1,5 @@
 -- All lives of a script, from the first one on, and what a run over them shows.
-use Rattle.std.proofs.Common.{◌≡◌, ◌≢◌, ◌⊎◌, ℕ, List, [], ◌∷◌, ◌++◌, true, false, not, ◌&&◌, None, Ok, Err, Result, refl, sym, ◌∙◌, ap, subst, inl, inr, ⊎_elim, arith}
+use Rattle.std.proofs.Common.{◌≡◌, ◌≢◌, ◌⊎◌, ℕ, List, [], ◌∷◌, ◌++◌, true, false, not, None, Ok, Err, Result, refl, sym, ◌∙◌, ap, subst, inl, inr, ⊎_elim, arith}
 use Rattle.std.specs.Prelude.{IfErr, IsOk, OnOk}
 use Rattle.std.proofs.lemmas.List.{append-nil, append_assoc}
 use Rattle.rm_types.specs.declared.operations.Op.{Op}
@@ -15,23 +15,21 @@ use Rattle.rm_disk.specs.Fuse.{Fused}
 use Rattle.rm_disk.proofs.Views.{leaves_of, leaves_same, leaves_trans, quiet_same}
 use Rattle.rm_model.specs.Downs.{AllGoDownAtRest}
 use Rattle.rm_model.specs.Lawful.{IsAtRest, IsDone, Lawful, state_after}
-use Rattle.rm_model.specs.Place.{Place, beginning, close_left}
+use Rattle.rm_model.specs.Place.{Place}
 use Rattle.rm_model.specs.State.{Manager, opening_state}
 use Rattle.rm_plain.specs.Survives.{HoldsWithin, SurvivesAll, SurvivesNow}
 use Rattle.rm_store.specs.Store.{seen}
 use Rattle.rm_core.specs.Seen.{Seen, StandsFor}
 use Rattle.rm_core.specs.Words.{as_new, stands}
 use Rattle.rm_desk.specs.View.{DeskView}
-use Rattle.rm_desk.specs.Does.{IsHanded}
 use Rattle.rm_plain.specs.declared.halts.Stop.{Stop}
 use Rattle.rm_plain.specs.declared.halts.Stop.TheVariants.{DiskFault, Damaged, Full, EpochsSpent, Memory}
 use Rattle.rm_desk.specs.Lanes.{is_ready_at}
 use Rattle.rm_desk.specs.Runs.{IsRun as GoesAlong, IsSound as IsDeskSound, Tells}
-use Rattle.rm_plain.specs.Along.{CanRun, IsSound}
 use Rattle.rm_plain.specs.Falls.{falls_of}
 use Rattle.rm_plain.specs.Goes.{IsOver, IsRun}
 use Rattle.rm_plain.specs.Policy.{MovesByPolicy}
-use Rattle.rm_plain.specs.Keeping.{IsFull, IsKeptOn, LeftOver}
+use Rattle.rm_plain.specs.Keeping.{IsKeptOn, LeftOver}
 use Rattle.rm_plain.specs.Later.{FirstLived, FirstStopped, IsDueAt, IsLaterStop, LaterTo}
 use Rattle.rm_plain.specs.Stops.{IsDue, IsStoppedBy, IsTold}
 use Rattle.rm_plain.specs.Whole.{AllLived, Ends}
@@ -44,11 +42,11 @@ use Rattle.rm_plain.proofs.Stored.{within_longer}
 
 module _ {D : Type 0} (view : D → DiskView) (opening : List Op) where
   -- a script without lives
-  pub none_lived : (d : DeskView) (disk : Fused D) → IsSound d → stands d.core ≡ false → d.core.log ≡ [] → d.place.lives ≡ [] → disk.armed ≡ None → opening ≡ [] → AllLived view opening d d disk disk (Ok tt)
-  none_lived d disk h dead empty none unarmed nothing =
+  pub none_lived : (d : DeskView) (disk : Fused D) → stands d.core ≡ false → d.core.log ≡ [] → d.place.lives ≡ [] → disk.armed ≡ None → opening ≡ [] → AllLived view opening d d disk disk (Ok tt)
+  none_lived d disk dead empty none unarmed nothing =
       record {
         fallen = [];
-        goes = goes_any (λ ops. ops ≡ opening) d d (goes_same d h);
+        goes = goes_any (λ ops. ops ≡ opening) d d (goes_same d);
         falls = sym (append-nil disk.falls);
         stays = stays_same view disk;
         unarmed = unarmed;
@@ -104,7 +102,7 @@ module _ {D : Type 0} (view : D → DiskView) (opening : List Op) where
     later_stop k some Memory why = tt
 
     -- at each moment up to the end of the first life, and then
-    all_images : StandsFor opening a.core → LeftOver (λ ops. Unit {0}) b c (seen view second) (seen view third) → SurvivesAll opening c.core.log (seen view first) (seen view third)
+    all_images : StandsFor opening a.core → LeftOver (λ ops. Unit {0}) (λ ops. IsKeptOn ops b.core.log (seen view second)) b c (seen view second) (seen view third) → SurvivesAll opening c.core.log (seen view first) (seen view third)
     all_images k left = λ bytes told.
         let P : List ℕ → Type 0 = λ image. (seen view first).images image ⊎ HoldsWithin opening c.core.log image in
         let was = ab.kept bytes told k in
@@ -117,12 +115,12 @@ module _ {D : Type 0} (view : D → DiskView) (opening : List Op) where
           now = λ image is. inr (after_within opening c.core.log image (on.now image is));
         }
 
-    all_images_now : StandsFor opening a.core → LeftOver (λ ops. Unit {0}) b c (seen view second) (seen view third) → SurvivesNow opening c.core.log (seen view first) (seen view third)
+    all_images_now : StandsFor opening a.core → LeftOver (λ ops. Unit {0}) (λ ops. IsKeptOn ops b.core.log (seen view second)) b c (seen view second) (seen view third) → SurvivesNow opening c.core.log (seen view first) (seen view third)
     all_images_now k left = λ some bytes told. (left opening tt (ab.goes.lawful opening refl k) (ab.kept bytes told k).kept).now
 
     pub all_lived : (r : Result (Unit {0}) Stop) → LaterTo view b c second third r → OnOk r (c.place.lives ≡ []) → AllLived view opening a c first third r
     all_lived (Ok x) bc none =
-        let left : LeftOver (λ ops. Unit {0}) b c (seen view second) (seen view third) =
+        let left : LeftOver (λ ops. Unit {0}) (λ ops. IsKeptOn ops b.core.log (seen view second)) b c (seen view second) (seen view third) =
         λ ops is k has. keeps_leaves ops b.core.log c.core.log (seen view second) (seen view third) (bc.kept ops is k has) in
         record {
           fallen = ab.fallen ++ bc.fallen;
@@ -177,15 +175,6 @@ none_stands d h = is_not (stands d.core) (both (not (stands d.core)) (not (is_ni
 -- after the last life none is left
 pub none_after : (d : DeskView) → (stands d.core ≡ false) ⊎ IsOver d → is_ready_at d Begin ≡ false → d.place.lives ≡ []
 none_after d ends h = ⊎_elim (λ dead. none_left d dead h) (λ (o : IsOver d). o.lives) ends
-
--- the desk before the first life is sound
-pub first_sound : (d : DeskView) (script : Script) → CanRun script → d.place ≡ beginning script → IsSound d
-first_sound d script can place =
-    record {
-      bare = rw place tt;
-      lives = rw place can.settle;
-      crashing = λ calls image c. let x = sym (ap (λ (p : Place). close_left p.segments) place) ∙ c in cc;
-    }
 
 -- where no life stands nothing awaits or is owed
 at_rest : (settings : Settings) (s : Manager) → s.life ≡ None → IsAtRest settings s s.life

@@ -1,5 +1,5 @@
 -- What is left on a disk where a part of a run halted.
-use Rattle.std.proofs.Common.{◌≡◌, ◌⊎◌, ℕ, ◌<◌, ◌≤◌, List, [], ◌∷◌, ◌++◌, None, Some, Option, Bool, true, false, Ok, Err, Result, refl, sym, ◌∙◌, ap, subst, inl, inr, arith}
+use Rattle.std.proofs.Common.{◌≡◌, ◌⊎◌, ℕ, ◌<◌, ◌≤◌, List, [], ◌∷◌, ◌++◌, None, Some, Option, Bool, true, false, Ok, Err, Result, take, slice_get, refl, sym, ◌∙◌, ap, subst, inl, inr, ⊎_elim, arith}
 use Rattle.std.specs.Prelude.{IfErr}
 use Rattle.std.proofs.lemmas.List.{append-nil, append_assoc}
 use Rattle.rm_types.specs.declared.entries.Entry.{Entry}
@@ -10,33 +10,34 @@ use Rattle.rm_types.specs.Counts.{Rose}
 use Rattle.rm_types.specs.Records.{Records, records, fits_records}
 use Rattle.rm_disk.specs.Disk.{DiskView}
 use Rattle.rm_disk.specs.Fuse.{Fused, KeepsFuse}
-use Rattle.rm_disk.proofs.Views.{leaves_trans, leaves_of}
+use Rattle.rm_disk.proofs.Views.{leaves_of, leaves_same, leaves_trans}
 use Rattle.rm_formats.specs.Device.{Holds}
+use Rattle.rm_model.specs.Changes.{kept_after_landing}
 use Rattle.rm_model.specs.Lawful.{state_after}
 use Rattle.rm_model.specs.Place.{close_left}
-use Rattle.rm_plain.specs.Survives.{HoldsAfter, HoldsWithin}
+use Rattle.rm_model.specs.State.{Manager}
+use Rattle.rm_tree.specs.Shows.{shows}
+use Rattle.rm_plain.specs.Survives.{HoldsAfter, HoldsKept, HoldsWithin}
 use Rattle.rm_store.specs.declared.fault.StoreError.{StoreError}
 use Rattle.rm_store.specs.declared.fault.StoreError.TheVariants as store
 use Rattle.rm_store.specs.Store.{Has, LeavesOps, needed_for, room_behind, seen}
-use Rattle.rm_core.specs.Adds.{AmountsTo}
 use Rattle.rm_core.specs.Seen.{Seen, StandsFor, IsToBeKept}
-use Rattle.rm_core.specs.Words.{has_rest}
+use Rattle.rm_core.specs.Words.{landed_over}
 use Rattle.rm_desk.specs.Does.{IsHanded}
 use Rattle.rm_desk.specs.View.{DeskView}
 use Rattle.rm_plain.specs.declared.halts.Halt.{Halt}
 use Rattle.rm_plain.specs.declared.halts.Halt.TheVariants.{DiskFault, Full, Memory}
-use Rattle.rm_plain.specs.Along.{IsSound}
 use Rattle.rm_plain.specs.Goes.{Goes, GoesOver}
 use Rattle.rm_plain.specs.Halted.{halt_of}
-use Rattle.rm_plain.specs.Keeping.{HaltsBy, HaltsOver, IsBegun, IsFull, IsHaltedBy, IsKeptOn, IsUnkept, KeepsOn, LeavesOn, LeftOver, armed_by}
+use Rattle.rm_plain.specs.Keeping.{HaltsBy, HaltsOver, IsFoundOn, IsFull, IsHaltedBy, IsKeptOn, IsUnkept, KeepsOn, LeavesOn, armed_by, has_blown}
 use Rattle.rm_plain.proofs.Ending.{goes_trans}
 use Rattle.rm_plain.proofs.Moving.{goes_same}
-use Rattle.rm_plain.proofs.Stored.{unkept_stores, within_longer}
+use Rattle.rm_plain.proofs.Stored.{has_kept, holds_kept, unkept_stores, within_longer}
 
 -- a disk that has what is kept leaves it
 pub keeps_leaves : (opening : List Op) (log longer : List Entry) (old new : DiskView) → KeepsOn opening log longer old new → LeavesOn opening log longer old new
 keeps_leaves opening log longer old new k =
-    record { time = k.time; now = λ image is. inl (k.kept.images image is); more = k.more; grows = k.grows }
+    record { time = k.time; now = λ image is. holds_kept (state_after opening longer) image (k.kept.images image is); more = k.more; grows = k.grows }
 
 -- one part after the other
 pub leaves_after : (opening : List Op) (first second third : List Entry) (a b c : DiskView) → KeepsOn opening first second a b → LeavesOn opening second third b c → LeavesOn opening first third a c
@@ -54,12 +55,12 @@ pub after_within : (opening : List Op) (log : List Entry) (image : List ℕ) →
 after_within opening log image is = record { before = log; later = []; whole = sym (append-nil log); holds = is }
 
 -- a disk to which the operation that awaits was to be added
-op_leaves : (opening : List Op) (core : Seen) (op : Op) (old new : DiskView) → IsToBeKept opening core op
+op_leaves : (opening : List Op) (core : Seen) (op : Op) (old new : DiskView) → has_blown (state_after opening core.log) ≡ false → IsToBeKept opening core op
     → ((ops : List Op) → Has old ops → fits_records (records ops) op ≡ true → LeavesOps old new ops op)
     → IsKeptOn opening core.log old → LeavesOn opening core.log core.log old new
-op_leaves opening core op old new to_keep leaves has =
+op_leaves opening core op old new unblown to_keep leaves has =
     let s = state_after opening core.log in
-    let moments = leaves s.kept (record { bytes = has.bytes; told = has.told; holds = has.holds }) to_keep.fits in
+    let moments = leaves s.kept (has_kept opening core.log old unblown has) to_keep.fits in
     record {
       time = leaves_of old new _ (HoldsWithin opening core.log) (λ image is. after_within opening core.log image (either image is)) moments.so_far;
       now = λ image is. either image (moments.now image is);
@@ -71,19 +72,15 @@ op_leaves opening core op old new to_keep leaves has =
     either image (inl before) = inl before
     either image (inr after) = inr (op, to_keep.first, after)
 
--- the fuse isn't armed while an operation is with the store, so it doesn't blow
-pub stays_unblown : {D : Type 0} (keeps : D → D → Type 0) (succeeds : Bool) (d : DeskView) (old new : Fused D) → IsSound d → (has_rest d.core → ⊥) → old.armed ≡ armed_by (close_left d.place.segments) → old.blown ≡ false
-    → KeepsFuse keeps succeeds old new → new.blown ≡ false
-stays_unblown keeps succeeds d old new h busy armed unblown kept = by new.blown refl
+-- where the fuse blew, the current segment crashes after as many calls
+pub blown_close : {D : Type 0} (view : D → DiskView) (keeps : D → D → Type 0) (succeeds : Bool) (d : DeskView) (old new : Fused D) → old.armed ≡ armed_by (close_left d.place.segments) → old.blown ≡ false → new.blown ≡ true → KeepsFuse view keeps succeeds old new
+    → (image : ℕ) × (close_left d.place.segments ≡ Some (Crash new.passed image))
+blown_close view keeps succeeds d old new armed unblown blown kept = by (close_left d.place.segments) refl (sym armed ∙ sym kept.armed ∙ kept.blew unblown blown)
   where
-    never : (close : Option Close) → close_left d.place.segments ≡ close → new.armed ≡ Some new.passed → ⊥
-    never None e is = let none = sym (ap armed_by e) ∙ (sym armed ∙ (sym kept.armed ∙ is)) in cc
-    never (Some Settle) e is = let none = sym (ap armed_by e) ∙ (sym armed ∙ (sym kept.armed ∙ is)) in cc
-    never (Some (Crash calls image)) e is = busy (h.crashing calls image e)
-
-    by : (b : Bool) → new.blown ≡ b → new.blown ≡ false
-    by false e = e
-    by true e = absurd (never (close_left d.place.segments) refl (kept.blew unblown e))
+    by : (close : Option Close) → close_left d.place.segments ≡ close → armed_by close ≡ Some new.passed → (image : ℕ) × (close_left d.place.segments ≡ Some (Crash new.passed image))
+    by None e is = cc
+    by (Some Settle) e is = cc
+    by (Some (Crash calls image)) e is = let same : calls ≡ new.passed = cc in (image, e ∙ ap (λ (n : ℕ). Some (Crash n image)) same)
 
 -- an error that is want of memory
 pub if_memory : {A : Type 0} (P : Halt → Type 0) (r : Result A Halt) → P Memory → IfErr r (λ halt. halt ≡ Memory) → IfErr r P
@@ -99,7 +96,6 @@ full_known known less opening log size needed room by full =
 pub goes_any : (over : List Op → Type 0) (a b : DeskView) → Goes [] a b → GoesOver over [] a b
 goes_any over a b g =
     record {
-      sound = g.sound;
       settings = g.settings;
       began = g.began;
       lives = g.lives;
@@ -109,7 +105,34 @@ goes_any over a b g =
     }
 
 pub unkept_same : (d : DeskView) → IsUnkept d d
-unkept_same d = record { kept = λ opening k. refl; more = []; grows = sym (append-nil d.core.log) }
+unkept_same d = record { kept = λ opening k image h. h; more = []; grows = sym (append-nil d.core.log) }
+
+-- none of what awaits has landed, or one
+landed_number : (core : Seen) (tree : Records) → (landed_over core tree ≡ 0) ⊎ (landed_over core tree ≡ 1)
+landed_number core tree = by core.tables.blown refl core.tables.awaiting refl
+  where
+    by : (b : Bool) → core.tables.blown ≡ b → (awaiting : List Op) → core.tables.awaiting ≡ awaiting → (landed_over core tree ≡ 0) ⊎ (landed_over core tree ≡ 1)
+    by false e awaiting w = inl (rw e refl)
+    by true e [] w = inl (rw (e, w) refl)
+    by true e (op ∷ rest) w = one (shows tree op) refl
+      where
+        one : (b : Bool) → shows tree op ≡ b → (landed_over core tree ≡ 0) ⊎ (landed_over core tree ≡ 1)
+        one true s = inr (rw (e, w, s) refl)
+        one false s = inl (rw (e, w, s) refl)
+
+-- so what holds what a life begins with holds what is kept, or this and the first operation that awaited
+landed_holds : (s : Manager) (core : Seen) (tree : Records) (image : List ℕ) → Holds image (kept_after_landing s (landed_over core tree)) → HoldsKept s image
+landed_holds s core tree image h = ⊎_elim none one (landed_number core tree)
+  where
+    none : landed_over core tree ≡ 0 → HoldsKept s image
+    none e = inl (subst (λ (ops : List Op). Holds image ops) (ap (λ (n : ℕ). kept_after_landing s n) e ∙ append-nil s.kept) h)
+
+    one : landed_over core tree ≡ 1 → HoldsKept s image
+    one e = by s.awaiting refl (subst (λ (n : ℕ). Holds image (kept_after_landing s n)) e h)
+      where
+        by : (awaiting : List Op) → s.awaiting ≡ awaiting → Holds image (s.kept ++ take 1 s.awaiting) → HoldsKept s image
+        by [] w holds = inl (subst (λ (ops : List Op). Holds image ops) (ap (λ (l : List Op). s.kept ++ take 1 l) w ∙ append-nil s.kept) holds)
+        by (op ∷ rest) w holds = inr (op, ap (λ (l : List Op). slice_get l 0) w, subst (λ (ops : List Op). Holds image ops) (ap (λ (l : List Op). s.kept ++ take 1 l) w) holds)
 
 module _ {D : Type 0} (view : D → DiskView) where
   -- memory ran out where nothing was kept
@@ -123,35 +146,44 @@ module _ {D : Type 0} (view : D → DiskView) where
             rw (inner, refused) (keeps_leaves opening d.core.log next.core.log (seen view disk) (seen view disk) kept);
       }
 
-  -- and where nothing was done at all
-  pub halts_same : (over : List Op → Type 0) (d : DeskView) (disk : Fused D) → IsSound d → HaltsOver view over d d disk disk Memory
-  halts_same over d disk h =
+  -- or nothing was done at all
+  pub halts_still : (d : DeskView) (disk : Fused D) → HaltsBy view d d disk disk Memory
+  halts_still d disk = halts_unkept d d disk disk (goes_same d) (unkept_same d) refl refl
+
+  -- where no life began
+  pub halts_same : (over : List Op → Type 0) (d : DeskView) (disk : Fused D) (tree : Records) → HaltsOver view over (λ opening. IsFoundOn opening d.core tree (seen view disk)) d d disk disk Memory
+  halts_same over d disk tree =
       record {
-        goes = goes_any over d d (goes_same d h);
+        goes = goes_any over d d (goes_same d);
         why = tt;
         left = λ opening is k has.
-            keeps_leaves opening d.core.log d.core.log (seen view disk) (seen view disk) (unkept_stores opening d d (unkept_same d) (seen view disk) k has);
+            record {
+              time = leaves_same (seen view disk) (HoldsWithin opening d.core.log);
+              now = λ image here. landed_holds (state_after opening d.core.log) d.core tree image (has.images image here);
+              more = [];
+              grows = sym (append-nil d.core.log);
+            };
       }
 
   -- an append was refused by a whole store
   pub append_halts : (faulted : D → D → Type 0) → ((x y : D) → faulted x y → Rose (view x).faults (view y).faults)
-      → (d : DeskView) (disk now : Fused D) (op : Op) → IsSound d → ((opening : List Op) → StandsFor opening d.core → IsToBeKept opening d.core op)
+      → (d : DeskView) (disk now : Fused D) (op : Op) → ((opening : List Op) → StandsFor opening d.core → has_blown (state_after opening d.core.log) ≡ false) → ((opening : List Op) → StandsFor opening d.core → IsToBeKept opening d.core op)
       → ((opening : List Op) → StandsFor opening d.core → IsHanded opening d.core.log op)
       → ((ops : List Op) → Has (seen view disk) ops → fits_records (records ops) op ≡ true → LeavesOps (seen view disk) (seen view now) ops op)
       → (view now.inner).size ≡ (view disk.inner).size
       → (error : StoreError) → (error ≡ store.DiskFault → faulted disk.inner now.inner)
       → ((needed room : ℕ) → error ≡ store.Full needed room → (room < needed) × (needed ≡ needed_for op) × ((ops : List Op) → Has (seen view disk) ops → room ≡ room_behind (view disk.inner).size ops))
       → HaltsBy view d d disk now (halt_of error)
-  append_halts faulted counts d disk now op h next is_handed leaves size error fault full =
+  append_halts faulted counts d disk now op unblown next is_handed leaves size error fault full =
       record {
-        goes = goes_same d h;
+        goes = goes_same d;
         why = by error fault full;
-        left = λ opening is k has. op_leaves opening d.core op (seen view disk) (seen view now) (next opening k) leaves has;
+        left = λ opening is k has. op_leaves opening d.core op (seen view disk) (seen view now) (unblown opening k) (next opening k) leaves has;
       }
     where
       by : (error : StoreError) → (error ≡ store.DiskFault → faulted disk.inner now.inner)
           → ((needed room : ℕ) → error ≡ store.Full needed room → (room < needed) × (needed ≡ needed_for op) × ((ops : List Op) → Has (seen view disk) ops → room ≡ room_behind (view disk.inner).size ops))
-          → IsHaltedBy view (λ opening. Unit {0}) d d disk now (halt_of error)
+          → IsHaltedBy view (λ opening. Unit {0}) (λ opening. IsKeptOn opening d.core.log (seen view disk)) d d disk now (halt_of error)
       by store.DiskFault fault full = (counts disk.inner now.inner (fault refl), λ opening is k. (op, is_handed opening k))
       by (store.Full needed room) fault full = λ opening is k.
           let told = full needed room refl in
@@ -161,7 +193,7 @@ module _ {D : Type 0} (view : D → DiskView) where
             needs = told.1;
             less = told.0;
             behind = λ has.
-                told.2 (state_after opening d.core.log).kept (record { bytes = has.bytes; told = has.told; holds = has.holds })
+                told.2 (state_after opening d.core.log).kept (has_kept opening d.core.log (seen view disk) (unblown opening k) has)
                 ∙ ap (λ (n : ℕ). room_behind n (state_after opening d.core.log).kept) (sym size);
           }
       by (store.Damaged offset) fault full = tt
@@ -169,23 +201,23 @@ module _ {D : Type 0} (view : D → DiskView) where
       by store.NeedsReopen fault full = tt
       by store.Memory fault full = tt
 
-  -- the store has the operation, and the manager found no memory to learn so
-  pub unlearned_halts : (d : DeskView) (disk now : Fused D) (op : Op) → IsSound d
+  -- the store has the operation, or refused it, and the manager found no memory to learn so
+  pub unlearned_halts : (d : DeskView) (disk now : Fused D) (op : Op) → ((opening : List Op) → StandsFor opening d.core → has_blown (state_after opening d.core.log) ≡ false)
       → ((opening : List Op) → StandsFor opening d.core → IsToBeKept opening d.core op)
       → ((ops : List Op) → Has (seen view disk) ops → fits_records (records ops) op ≡ true → LeavesOps (seen view disk) (seen view now) ops op)
       → HaltsBy view d d disk now Memory
-  unlearned_halts d disk now op h next leaves =
+  unlearned_halts d disk now op unblown next leaves =
       record {
-        goes = goes_same d h;
+        goes = goes_same d;
         why = tt;
-        left = λ opening is k has. op_leaves opening d.core op (seen view disk) (seen view now) (next opening k) leaves has;
+        left = λ opening is k has. op_leaves opening d.core op (seen view disk) (seen view now) (unblown opening k) (next opening k) leaves has;
       }
 
   -- a part of a run, and one after it that halted
-  module _ (over : List Op → Type 0) (a b c : DeskView) (first second third : Fused D) (goes : GoesOver over [] a b)
-      (kept : (opening : List Op) → over opening → StandsFor opening a.core → IsKeptOn opening a.core.log (seen view first) → KeepsOn opening a.core.log b.core.log (seen view first) (seen view second))
+  module _ (over found : List Op → Type 0) (a b c : DeskView) (first second third : Fused D) (goes : GoesOver over [] a b)
+      (kept : (opening : List Op) → over opening → StandsFor opening a.core → found opening → KeepsOn opening a.core.log b.core.log (seen view first) (seen view second))
       (faults : (view first.inner).faults ≤ (view second.inner).faults) where
-    pub halts_on : (halt : Halt) → HaltsBy view b c second third halt → HaltsOver view over a c first third halt
+    pub halts_on : (halt : Halt) → HaltsBy view b c second third halt → HaltsOver view over found a c first third halt
     halts_on halt h =
         record {
           goes = goes_trans over [] [] a b c goes h.goes;
@@ -195,9 +227,9 @@ module _ {D : Type 0} (view : D → DiskView) where
               leaves_after opening a.core.log b.core.log c.core.log (seen view first) (seen view second) (seen view third) so_far (h.left opening tt (goes.lawful opening is k) so_far.kept);
         }
       where
-        by : (halt : Halt) → IsHaltedBy view (λ opening. Unit {0}) b c second third halt → IsHaltedBy view over a c first third halt
+        by : (halt : Halt) → IsHaltedBy view (λ opening. Unit {0}) (λ opening. IsKeptOn opening b.core.log (seen view second)) b c second third halt → IsHaltedBy view over found a c first third halt
         by DiskFault why = (let rose = why.0 in omega (arith, faults, rose), λ opening is k. why.1 opening tt (goes.lawful opening is k))
         by (Full needed room) why = λ opening is k.
-            full_known (IsKeptOn opening b.core.log (seen view second)) (IsKeptOn opening a.core.log (seen view first)) opening c.core.log (view third.inner).size needed room
+            full_known (IsKeptOn opening b.core.log (seen view second)) (found opening) opening c.core.log (view third.inner).size needed room
             (λ has. (kept opening is k has).kept) (why opening tt (goes.lawful opening is k))
         by Memory why = tt

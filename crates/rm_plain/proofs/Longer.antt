@@ -1,7 +1,7 @@
 -- A run with one more entry.
 use Rattle.std.proofs.Common.{◌≡◌, ◌≢◌, List, [], ◌∷◌, ◌++◌, Bool, true, false, None, Some, Option, refl, sym, ◌∙◌, ap, subst}
 use Rattle.std.specs.List.{fold}
-use Rattle.std.specs.Prelude.{find}
+use Rattle.std.specs.Prelude.{find, slice_get}
 use Rattle.std.proofs.lemmas.List.{append-nil, append_assoc}
 use Rattle.std.proofs.lemmas.List.Sums.{fold_push}
 use Rattle.rm_types.specs.declared.entries.Entry.{Entry}
@@ -63,10 +63,11 @@ one_more opening script fallen more d next e run goes settings began chosen adde
           (policy_push (as_new d.core) script opening log e run.policy (first_told opening script d run.goes ∙ chosen)));
     }
 
--- entries by which nothing is kept, no life begins and none goes down
+-- entries by which nothing is kept or refused, no life begins and none goes down
 abbrev pub is_plain : Entry → Bool
 is_plain (Opened landed epoch stamp) = false
 is_plain (KeptEntry op) = false
+is_plain (Blown passed) = false
 is_plain Down = false
 is_plain _ = true
 
@@ -110,7 +111,7 @@ no_down Down settings s (Some life) h = absurd (h refl)
 kept_none : (e : Entry) (s : Manager) → is_plain e ≡ true → (after_where s None e).kept ≡ s.kept
 kept_none (Issued op) s h = refl
 kept_none Handed s h = refl
-kept_none (Blown passed) s h = refl
+kept_none (Blown passed) s h = cc
 kept_none (Served sender message reply) s h = refl
 kept_none (Accepted app) s h = refl
 kept_none (Queued attempt) s h = refl
@@ -127,7 +128,7 @@ kept_none Down s h = cc
 kept_some : (e : Entry) (s : Manager) (life : LifeState) → is_plain e ≡ true → (after_where s (Some life) e).kept ≡ s.kept
 kept_some (Issued op) s life h = refl
 kept_some Handed s life h = refl
-kept_some (Blown passed) s life h = refl
+kept_some (Blown passed) s life h = cc
 kept_some (Served sender message reply) s life h = refl
 kept_some (Accepted app) s life h = refl
 kept_some (Queued attempt) s life h = refl
@@ -150,6 +151,44 @@ pub kept_stays : (opening : List Op) (log : List Entry) (e : Entry) → is_plain
 kept_stays opening log e h =
     ap (λ (s : Manager). s.kept) (fold_push after (opening_state opening) log e) ∙ kept_where e (state_after opening log) (state_after opening log).life h
 
+-- and what awaits first does so still
+first_more : (ops : List Op) (more op : Op) → slice_get ops 0 ≡ Some op → slice_get (ops ++ more ∷ []) 0 ≡ Some op
+first_more [] more op h = cc
+first_more (one ∷ ops) more op h = h
+
+first_where : (e : Entry) (s : Manager) (life : Option LifeState) → is_plain e ≡ true → (op : Op) → slice_get s.awaiting 0 ≡ Some op → slice_get (after_where s life e).awaiting 0 ≡ Some op
+first_where (Opened landed epoch stamp) s life plain op h = cc
+first_where (KeptEntry one) s life plain op h = cc
+first_where (Blown passed) s life plain op h = cc
+first_where Down s life plain op h = cc
+first_where (Issued one) s None plain op h = h
+first_where (Issued one) s (Some life) plain op h = first_more s.awaiting one op h
+first_where Handed s None plain op h = h
+first_where Handed s (Some life) plain op h = h
+first_where (Served sender message reply) s None plain op h = h
+first_where (Served sender message reply) s (Some life) plain op h = h
+first_where (Accepted app) s None plain op h = h
+first_where (Accepted app) s (Some life) plain op h = h
+first_where (Queued attempt) s None plain op h = h
+first_where (Queued attempt) s (Some life) plain op h = h
+first_where (Absorbed node taken ended) s None plain op h = h
+first_where (Absorbed node taken ended) s (Some life) plain op h = h
+first_where (Pass node grants) s None plain op h = h
+first_where (Pass node grants) s (Some life) plain op h = h
+first_where (Ordered container node) s None plain op h = h
+first_where (Ordered container node) s (Some life) plain op h = h
+first_where (Ended cause list) s None plain op h = h
+first_where (Ended cause list) s (Some life) plain op h = h
+first_where Settled s None plain op h = h
+first_where Settled s (Some life) plain op h = h
+first_where (Quiet lane) s None plain op h = h
+first_where (Quiet lane) s (Some life) plain op h = h
+
+pub first_stays : (opening : List Op) (log : List Entry) (e : Entry) → is_plain e ≡ true → (op : Op) → slice_get (state_after opening log).awaiting 0 ≡ Some op → slice_get (state_after opening (log ++ e ∷ [])).awaiting 0 ≡ Some op
+first_stays opening log e plain op h =
+    let s = state_after opening log in
+    ap (λ (m : Manager). slice_get m.awaiting 0) (fold_push after (opening_state opening) log e) ∙ first_where e s s.life plain op h
+
 -- of the manager's own entries no life begins or goes down, and nothing is kept
 own_plain : (e : Entry) → IsOwn (lane_of_entry e) → is_plain e ≡ true
 own_plain (Issued op) h = refl
@@ -163,7 +202,7 @@ own_plain (Ended cause list) h = refl
 own_plain (Quiet lane) h = refl
 own_plain (Opened landed epoch stamp) h = absurd h
 own_plain (KeptEntry op) h = absurd h
-own_plain (Blown passed) h = refl
+own_plain (Blown passed) h = absurd h
 own_plain (Served sender message reply) h = refl
 own_plain Settled h = refl
 own_plain Down h = absurd h

@@ -1,17 +1,15 @@
 -- The moves of a desk, each a longer run.
-use Rattle.std.proofs.Common.{◌≡◌, ◌≢◌, ℕ, ◌<◌, ◌≤◌, List, [], ◌∷◌, ◌++◌, Bool, true, false, not, ◌&&◌, Some, None, Option, Ok, Err, Result, length, refl, sym, ◌∙◌, ap, subst, arith}
+use Rattle.std.proofs.Common.{◌≡◌, ◌≢◌, ℕ, ◌<◌, ◌≤◌, List, [], ◌∷◌, ◌++◌, Bool, true, false, not, ◌&&◌, Some, None, Option, Ok, Err, Result, if◌then◌else◌, length, refl, sym, ◌∙◌, ap, subst, arith}
 use Rattle.std.specs.Prelude.{OnErr, OnOk, find, is_ok, slice_get}
 use Rattle.std.proofs.lemmas.List.{append-nil}
 use Rattle.std.proofs.lemmas.List.Sums.{fold_push}
 use Rattle.rm_types.specs.declared.entries.Entry.{Entry}
-use Rattle.rm_types.specs.declared.entries.Entry.TheVariants.{Opened, Kept as KeptEntry, Served, Settled, Down}
+use Rattle.rm_types.specs.declared.entries.Entry.TheVariants.{Blown, Opened, Settled, Down}
 use Rattle.rm_types.specs.declared.messages.Lane.{Lane}
 use Rattle.rm_types.specs.declared.messages.Lane.TheVariants.{Client, Master, Node, Clock, Main, Sched, Hand, Write, End, Begin}
-use Rattle.rm_types.specs.declared.messages.Message.{Message}
 use Rattle.rm_types.specs.declared.messages.Sender.{Sender}
 use Rattle.rm_types.specs.declared.messages.Sender.TheVariants as senders
 use Rattle.rm_types.specs.declared.operations.Op.{Op}
-use Rattle.rm_types.specs.declared.replies.Reply.{Reply}
 use Rattle.rm_types.specs.declared.scripts.Close.{Close}
 use Rattle.rm_types.specs.declared.scripts.Close.TheVariants.{Settle, Crash}
 use Rattle.rm_types.specs.declared.scripts.Life.{Life}
@@ -22,28 +20,24 @@ use Rattle.rm_types.specs.Lists.{is_nil}
 use Rattle.rm_types.specs.Records.{Records}
 use Rattle.rm_disk.specs.declared.fallen.Fallen.{Fallen}
 use Rattle.rm_model.specs.State.{LifeState, Manager, opening_state}
-use Rattle.rm_model.specs.Changes.{after, after_where}
+use Rattle.rm_model.specs.Changes.{after, after_where, kept_after_landing}
 use Rattle.rm_model.specs.Downs.{GoesDownAtRest}
 use Rattle.rm_model.specs.Lawful.{IsAtRest, state_after}
-use Rattle.rm_model.specs.Place.{Place, begun, close_left, first_from, messages_left, moved, rest_of, segments_without, without_first}
-use Rattle.rm_core.specs.Adds.{AmountsTo}
+use Rattle.rm_model.specs.Place.{Place, begun, close_left, moved, rest_of, segments_without, stamp_of}
+use Rattle.rm_core.specs.Adds.{IsLeft}
 use Rattle.rm_core.specs.Seen.{StandsFor}
-use Rattle.rm_core.specs.Words.{has_rest, stands}
+use Rattle.rm_core.specs.Words.{has_rest, is_blown, landed_over, stands}
 use Rattle.rm_desk.specs.View.{DeskView}
-use Rattle.rm_desk.specs.Lanes.{IsStep, IsWork, is_ready_at, stands_after}
-use Rattle.rm_desk.specs.Runs.{IsUnblown, Tells}
-use Rattle.rm_desk.specs.Does.{Answers, Begins, Does, IsEntryOf}
+use Rattle.rm_desk.specs.Lanes.{HasNoWork, IsStep, IsWork, is_ready_at}
+use Rattle.rm_desk.specs.Runs.{HasBlown, IsLast, IsSound as IsDeskSound, Tells}
+use Rattle.rm_desk.specs.Does.{Answers, Begins, Blows, Does, DoesBy, IsEntryOf}
 use Rattle.rm_desk.proofs.Longer.{not_empty}
-use Rattle.rm_plain.specs.Along.{AllBare, AllSettle, IsBare, IsSound, SettlesFirst}
 use Rattle.rm_plain.specs.Falls.{fall, falls_at}
 use Rattle.rm_plain.specs.Goes.{Goes, GoesOver, IsRun}
-use Rattle.rm_plain.specs.Keeping.{IsBegun, IsUnkept}
+use Rattle.rm_plain.specs.Keeping.{IsBegun, IsUnkept, blown_in, has_blown}
 use Rattle.rm_plain.specs.Policy.{policy}
-use Rattle.rm_plain.proofs.Longer.{IsQuiet, falls_none, hand_quiet, is_plain, kept_stays, main_quiet, no_down, one_more, plain_stands, sched_quiet}
-
--- the current segment is no crash
-abbrev pub NoCrash : DeskView → Type 0
-NoCrash d = (calls image : ℕ) → close_left d.place.segments ≡ Some (Crash calls image) → ⊥
+use Rattle.rm_plain.proofs.Longer.{IsQuiet, falls_none, first_stays, hand_quiet, is_plain, kept_stays, main_quiet, no_down, one_more, plain_stands, sched_quiet}
+use Rattle.rm_plain.proofs.Stored.{holds_on}
 
 pub is_not : (b : Bool) → not b ≡ true → b ≡ false
 is_not true h = cc
@@ -83,22 +77,40 @@ ok_map (Ok x) f a = f a
 ok_map (Err e) f a = tt
 
 -- nothing is a part of a run, and nothing falls in it
-pub goes_same : (d : DeskView) → IsSound d → Goes [] d d
-goes_same d h =
-    record { sound = h; settings = refl; began = refl; lives = omega arith; some = λ was. was; lawful = λ opening over k. k; run = λ opening script fallen over run. subst (λ (l : List Fallen). IsRun opening script l d) (sym (append-nil fallen)) run }
+pub goes_same : (d : DeskView) → Goes [] d d
+goes_same d =
+    record { settings = refl; began = refl; lives = omega arith; some = λ was. was; lawful = λ opening over k. k; run = λ opening script fallen over run. subst (λ (l : List Fallen). IsRun opening script l d) (sym (append-nil fallen)) run }
 
 -- the lives that are left, where none began
 fewer : (before after : List Life) → after ≡ before → length after ≤ length before
 fewer before after e = let same = ap (λ (xs : List Life). length xs) e in omega arith
 
+-- what a desk tells of the state after its log
+abbrev pub TellsAll : DeskView → Type 0
+TellsAll d = (opening : List Op) → StandsFor opening d.core → Tells opening d
+
+-- the state is blown where the life is, or the last one was
+pub told_blown : (d : DeskView) → TellsAll d → (opening : List Op) → StandsFor opening d.core → has_blown (state_after opening d.core.log) ≡ is_blown d.core
+told_blown d tells opening k = by (stands d.core) refl
+  where
+    s : Manager
+    s = state_after opening d.core.log
+
+    standing : (o : Option LifeState) → s.life ≡ o → HasBlown (is_blown d.core) o → has_blown s ≡ is_blown d.core
+    standing None is h = absurd h
+    standing (Some life) is h = rw is h
+
+    by : (b : Bool) → stands d.core ≡ b → has_blown s ≡ is_blown d.core
+    by true alive = standing s.life refl ((tells opening k).life alive)
+    by false dead = ap (λ (o : Option LifeState). blown_in o s.blew) ((tells opening k).none dead) ∙ (tells opening k).blew dead
+
 -- what a lane's move does to a run, by which so much falls
-module _ (lane : Lane) (d next : DeskView) (does : Does lane d next) (chosen : find (is_ready_at d) policy ≡ Some lane) (sound : IsSound next) (lives : next.place.lives ≡ d.place.lives) (more : List Fallen)
+module _ (kind : Entry → Type 0) (blew : Bool) (lane : Lane) (d next : DeskView) (does : DoesBy kind blew lane d next) (chosen : find (is_ready_at d) policy ≡ Some lane) (lives : next.place.lives ≡ d.place.lives) (more : List Fallen)
     (down : (opening : List Op) → StandsFor opening d.core → GoesDownAtRest d.core.settings (state_after opening d.core.log) (state_after opening d.core.log).life does.adds.entry)
     (falls : (opening : List Op) → StandsFor opening d.core → falls_at does.adds.entry (state_after opening d.core.log).life (close_left d.place.segments) ≡ more) where
   falling_goes : Goes more d next
   falling_goes =
       record {
-        sound = sound;
         settings = does.goes.settings;
         began = does.goes.began;
         lives = fewer d.place.lives next.place.lives lives;
@@ -109,114 +121,98 @@ module _ (lane : Lane) (d next : DeskView) (does : Does lane d next) (chosen : f
       }
 
 -- a move by which no life goes down
-step_goes : (lane : Lane) (d next : DeskView) (does : Does lane d next) → find (is_ready_at d) policy ≡ Some lane → does.adds.entry ≢ Down → IsSound next → next.place.lives ≡ d.place.lives → Goes [] d next
-step_goes lane d next does chosen no_end sound lives =
-    falling_goes lane d next does chosen sound lives []
+step_goes : (kind : Entry → Type 0) (blew : Bool) (lane : Lane) (d next : DeskView) (does : DoesBy kind blew lane d next) → find (is_ready_at d) policy ≡ Some lane → does.adds.entry ≢ Down → next.place.lives ≡ d.place.lives → Goes [] d next
+step_goes kind blew lane d next does chosen no_end lives =
+    falling_goes kind blew lane d next does chosen lives []
     (λ opening k. no_down does.adds.entry d.core.settings (state_after opening d.core.log) (state_after opening d.core.log).life no_end)
     (λ opening k. falls_none does.adds.entry (state_after opening d.core.log).life (close_left d.place.segments) no_end)
 
--- and nothing is kept
-step_unkept : (lane : Lane) (d next : DeskView) (does : Does lane d next) → is_plain does.adds.entry ≡ true → IsUnkept d next
-step_unkept lane d next does plain =
-    record { kept = λ opening k. rw does.adds.added (kept_stays opening d.core.log does.adds.entry plain); more = does.adds.entry ∷ []; grows = does.adds.added }
+-- and nothing is kept or refused
+step_unkept : (lane : Lane) (d next : DeskView) (does : Does lane d next) → TellsAll d → TellsAll next → is_plain does.adds.entry ≡ true → IsUnkept d next
+step_unkept lane d next does tells told plain =
+    record {
+      kept = λ opening k image h.
+          let was = does.adds.added in
+          let kept : (state_after opening next.core.log).kept ≡ (state_after opening d.core.log).kept = rw was (kept_stays opening d.core.log does.adds.entry plain) in
+          holds_on (state_after opening d.core.log) (state_after opening next.core.log)
+          (told_blown next told opening (does.goes.lawful opening tt k) ∙ does.blown ∙ sym (told_blown d tells opening k)) kept
+          (λ op first. rw was (first_stays opening d.core.log does.adds.entry plain op first)) image h;
+      more = does.adds.entry ∷ [];
+      grows = does.adds.added;
+    }
 
 -- what a move does that touches neither the store nor the end of a segment
 pub record Works (d next : DeskView) : Type 0 where
   pub goes : Goes [] d next
   pub same : IsUnkept d next
   pub close : close_left next.place.segments ≡ close_left d.place.segments
+  pub blown : is_blown next.core ≡ is_blown d.core
 
--- where a lane of the manager's work moves, the current segment is no crash
-work_sound : (lane : Lane) (d next : DeskView) → Does lane d next → IsWork lane → IsSound d → next.place ≡ d.place → IsSound next
-work_sound lane d next does work h place =
-    record {
-      bare = rw place h.bare;
-      lives = rw place h.lives;
-      crashing = λ calls image c. absurd (does.busy work (h.crashing calls image (sym (ap (λ (p : Place). close_left p.segments) place) ∙ c)));
-    }
-
--- so its other entries leave the place as it is
-quiet_works : (lane : Lane) (d next : DeskView) (does : Does lane d next) → find (is_ready_at d) policy ≡ Some lane → IsWork lane → IsSound d → IsQuiet does.adds.entry → Works d next
-quiet_works lane d next does chosen work h quiet =
+-- where it is of the manager's own work, its entry leaves the place as it is
+quiet_works : (lane : Lane) (d next : DeskView) (does : Does lane d next) → TellsAll d → TellsAll next → find (is_ready_at d) policy ≡ Some lane → IsQuiet does.adds.entry → Works d next
+quiet_works lane d next does tells told chosen quiet =
     let place : next.place ≡ d.place = does.adds.place ∙ quiet.stays d.place in
     record {
-      goes = step_goes lane d next does chosen (plain_stands does.adds.entry quiet.plain) (work_sound lane d next does work h place) (ap (λ (p : Place). p.lives) place);
-      same = step_unkept lane d next does quiet.plain;
+      goes = step_goes (IsEntryOf lane d) (is_blown d.core) lane d next does chosen (plain_stands does.adds.entry quiet.plain) (ap (λ (p : Place). p.lives) place);
+      same = step_unkept lane d next does tells told quiet.plain;
       close = ap (λ (p : Place). close_left p.segments) place;
+      blown = does.blown;
     }
-
--- the first segment has one message less
-bare_without : (sender : Sender) (segments : List Segment) → ((calls image : ℕ) → close_left segments ≡ Some (Crash calls image) → ⊥) → AllBare segments → AllBare (segments_without sender segments)
-bare_without sender [] calm h = tt
-bare_without sender (segment ∷ more) calm h = (by segment.close refl, h.1)
-  where
-    by : (close : Close) → segment.close ≡ close → IsBare segment.close (without_first sender segment.messages)
-    by Settle e = rw e tt
-    by (Crash calls image) e = absurd (calm calls image (ap (λ (c : Close). Some c) e))
 
 close_without : (sender : Sender) (segments : List Segment) → close_left (segments_without sender segments) ≡ close_left segments
 close_without sender [] = refl
 close_without sender (segment ∷ more) = refl
 
--- a crash has no message left
-fed_calm : (sender : Sender) (segments : List Segment) (m : Message) → AllBare segments → first_from sender (messages_left segments) ≡ Some m → (calls image : ℕ) → close_left segments ≡ Some (Crash calls image) → ⊥
-fed_calm sender [] m h first calls image c = cc
-fed_calm sender (segment ∷ more) m h first calls image c =
-    let close : segment.close ≡ Crash calls image = some_same segment.close (Crash calls image) c in
-    let none : segment.messages ≡ [] = rw close at h.0 in
-    let x = rw none at first in
-    cc
-
 -- a message is answered
-serve_works : (sender : Sender) (lane : Lane) (d next : DeskView) (does : Does lane d next) → Answers sender d does.adds.entry → find (is_ready_at d) policy ≡ Some lane → IsSound d → Works d next
-serve_works sender lane d next does answers chosen h =
-    let m = answers.0 in
+serve_works : (sender : Sender) (lane : Lane) (d next : DeskView) (does : Does lane d next) → TellsAll d → TellsAll next → Answers sender d does.adds.entry → find (is_ready_at d) policy ≡ Some lane → Works d next
+serve_works sender lane d next does tells told answers chosen =
     let is = answers.3 in
-    let calm = fed_calm sender d.place.segments m h.bare answers.2 in
     let place : next.place ≡ record { lives = d.place.lives; segments = segments_without sender d.place.segments } =
     does.adds.place ∙ ap (λ (e : Entry). moved d.place e) is in
     let segments : next.place.segments ≡ segments_without sender d.place.segments = ap (λ (p : Place). p.segments) place in
-    let lives : next.place.lives ≡ d.place.lives = ap (λ (p : Place). p.lives) place in
-    let close : close_left next.place.segments ≡ close_left d.place.segments = ap close_left segments ∙ close_without sender d.place.segments in
     let plain : is_plain does.adds.entry ≡ true = ap is_plain is in
     record {
-      goes = step_goes lane d next does chosen (plain_stands does.adds.entry plain)
-          (record {
-            bare = subst AllBare (sym segments) (bare_without sender d.place.segments calm h.bare);
-            lives = subst AllSettle (sym lives) h.lives;
-            crashing = λ calls image c. absurd (calm calls image (sym close ∙ c));
-          })
-          lives;
-      same = step_unkept lane d next does plain;
-      close = close;
+      goes = step_goes (IsEntryOf lane d) (is_blown d.core) lane d next does chosen (plain_stands does.adds.entry plain) (ap (λ (p : Place). p.lives) place);
+      same = step_unkept lane d next does tells told plain;
+      close = ap close_left segments ∙ close_without sender d.place.segments;
+      blown = does.blown;
     }
 
-pub works : (lane : Lane) (d next : DeskView) → Does lane d next → find (is_ready_at d) policy ≡ Some lane → IsStep lane → lane ≢ End → IsSound d → Works d next
-works Client d next does chosen step goes h = serve_works senders.Client Client d next does does.adds.of_kind chosen h
-works Main d next does chosen step goes h = quiet_works Main d next does chosen tt h (main_quiet does.adds.entry does.adds.of_kind)
-works Sched d next does chosen step goes h = quiet_works Sched d next does chosen tt h (sched_quiet does.adds.entry does.adds.of_kind)
-works Hand d next does chosen step goes h = quiet_works Hand d next does chosen tt h (hand_quiet does.adds.entry does.adds.of_kind)
-works Master d next does chosen step goes h = serve_works senders.Master Master d next does does.adds.of_kind chosen h
-works Node d next does chosen step goes h = serve_works senders.Node Node d next does does.adds.of_kind chosen h
-works Clock d next does chosen step goes h = serve_works senders.Clock Clock d next does does.adds.of_kind chosen h
-works End d next does chosen step goes h = absurd (goes refl)
-works Write d next does chosen step goes h = absurd step
-works Begin d next does chosen step goes h = absurd step
+pub works : (lane : Lane) (d next : DeskView) → Does lane d next → TellsAll d → TellsAll next → find (is_ready_at d) policy ≡ Some lane → IsStep lane → lane ≢ End → Works d next
+works Client d next does tells told chosen step goes = serve_works senders.Client Client d next does tells told does.adds.of_kind chosen
+works Main d next does tells told chosen step goes = quiet_works Main d next does tells told chosen (main_quiet does.adds.entry does.adds.of_kind)
+works Sched d next does tells told chosen step goes = quiet_works Sched d next does tells told chosen (sched_quiet does.adds.entry does.adds.of_kind)
+works Hand d next does tells told chosen step goes = quiet_works Hand d next does tells told chosen (hand_quiet does.adds.entry does.adds.of_kind)
+works Master d next does tells told chosen step goes = serve_works senders.Master Master d next does tells told does.adds.of_kind chosen
+works Node d next does tells told chosen step goes = serve_works senders.Node Node d next does tells told does.adds.of_kind chosen
+works Clock d next does tells told chosen step goes = serve_works senders.Clock Clock d next does tells told does.adds.of_kind chosen
+works End d next does tells told chosen step goes = absurd (goes refl)
+works Write d next does tells told chosen step goes = absurd step
+works Begin d next does tells told chosen step goes = absurd step
+
+-- THE STORE
 
 -- the operation that is with the store is kept
-pub kept_goes : (d next : DeskView) → Does Write d next → find (is_ready_at d) policy ≡ Some Write → IsSound d → Goes [] d next
-kept_goes d next does chosen h =
+pub kept_goes : (d next : DeskView) → Does Write d next → find (is_ready_at d) policy ≡ Some Write → Goes [] d next
+kept_goes d next does chosen =
     let is = does.adds.of_kind.2 in
     let place : next.place ≡ d.place = does.adds.place ∙ ap (λ (e : Entry). moved d.place e) is in
-    step_goes Write d next does chosen (λ down. let x = sym is ∙ down in cc) (work_sound Write d next does tt h place) (ap (λ (p : Place). p.lives) place)
+    step_goes (IsEntryOf Write d) (is_blown d.core) Write d next does chosen (λ down. let x = sym is ∙ down in cc) (ap (λ (p : Place). p.lives) place)
 
 pub kept_close : (d next : DeskView) → Does Write d next → close_left next.place.segments ≡ close_left d.place.segments
 kept_close d next does = ap (λ (p : Place). close_left p.segments) (does.adds.place ∙ ap (λ (e : Entry). moved d.place e) does.adds.of_kind.2)
 
--- the segments behind the current one
-bare_rest : (segments : List Segment) → AllBare segments → AllBare (rest_of segments)
-bare_rest [] h = tt
-bare_rest (segment ∷ more) h = h.1
+-- or refused
+pub blown_goes : (d next : DeskView) (passed : ℕ) → Blows passed d next → find (is_ready_at d) policy ≡ Some Write → Goes [] d next
+blown_goes d next passed does chosen =
+    let is = does.adds.of_kind in
+    let place : next.place ≡ d.place = does.adds.place ∙ ap (λ (e : Entry). moved d.place e) is in
+    step_goes (λ e. e ≡ Blown passed) true Write d next does chosen (λ down. let x = sym is ∙ down in cc) (ap (λ (p : Place). p.lives) place)
+
+pub blown_close : (d next : DeskView) (passed : ℕ) → Blows passed d next → close_left next.place.segments ≡ close_left d.place.segments
+blown_close d next passed does = ap (λ (p : Place). close_left p.segments) (does.adds.place ∙ ap (λ (e : Entry). moved d.place e) does.adds.of_kind)
+
+-- A SEGMENT CLOSES
 
 -- the entry with which a segment closes
 settled_is : (d next : DeskView) (does : Does End d next) → close_left d.place.segments ≡ Some Settle → does.adds.entry ≡ Settled
@@ -226,81 +222,115 @@ down_is : (d next : DeskView) (does : Does End d next) (calls image : ℕ) → c
 down_is d next does calls image c = rw c at does.adds.of_kind
 
 -- the current segment settles
-pub settle_goes : (d next : DeskView) → Does End d next → find (is_ready_at d) policy ≡ Some End → IsSound d → close_left d.place.segments ≡ Some Settle → Goes [] d next × IsUnkept d next
-settle_goes d next does chosen h c =
+pub settle_goes : (d next : DeskView) → Does End d next → TellsAll d → TellsAll next → find (is_ready_at d) policy ≡ Some End → close_left d.place.segments ≡ Some Settle → Goes [] d next × IsUnkept d next
+settle_goes d next does tells told chosen c =
     let is = settled_is d next does c in
     let place : next.place ≡ record { lives = d.place.lives; segments = rest_of d.place.segments } = does.adds.place ∙ ap (λ (e : Entry). moved d.place e) is in
-    let segments : next.place.segments ≡ rest_of d.place.segments = ap (λ (p : Place). p.segments) place in
-    let lives : next.place.lives ≡ d.place.lives = ap (λ (p : Place). p.lives) place in
     let plain : is_plain does.adds.entry ≡ true = ap is_plain is in (
-      step_goes End d next does chosen (plain_stands does.adds.entry plain)
-          (record {
-            bare = subst AllBare (sym segments) (bare_rest d.place.segments h.bare);
-            lives = subst AllSettle (sym lives) h.lives;
-            crashing = λ calls image crash. does.settled refl c;
-          })
-          lives,
-      step_unkept End d next does plain,
+      step_goes (IsEntryOf End d) (is_blown d.core) End d next does chosen (plain_stands does.adds.entry plain) (ap (λ (p : Place). p.lives) place),
+      step_unkept End d next does tells told plain,
     )
 
--- a life that rests may go down
-at_rest_down : (settings : Settings) (s : Manager) (life : Option LifeState) → IsAtRest settings s life → GoesDownAtRest settings s life Down
-at_rest_down settings s None rest = tt
-at_rest_down settings s (Some life) rest = λ unblown. rest
+-- a segment of a life that blew doesn't settle
+pub settling_unblown : (d : DeskView) → IsDeskSound d → stands d.core ≡ true → close_left d.place.segments ≡ Some Settle → is_blown d.core ≡ false
+settling_unblown d sound alive c = by (is_blown d.core) refl
+  where
+    by : (b : Bool) → is_blown d.core ≡ b → b ≡ false
+    by true blown = absurd (subst IsLast c (sound.blown alive blown))
+    by false blown = refl
+
+-- a life that rests may go down, and so may one that blew
+at_rest_down : (settings : Settings) (s : Manager) (b : Bool) (life : Option LifeState) → HasBlown b life → (b ≡ false → IsAtRest settings s life) → GoesDownAtRest settings s life Down
+at_rest_down settings s b None has rest = tt
+at_rest_down settings s b (Some life) has rest = λ unblown. rest (sym has ∙ unblown)
 
 -- and the device falls as its crash says
-falls_down : (life : Option LifeState) (calls image : ℕ) → IsUnblown life → falls_at Down life (Some (Crash calls image)) ≡ fall calls image ∷ []
-falls_down None calls image h = absurd h
-falls_down (Some life) calls image h = rw h refl
+falls_down : (b : Bool) (life : Option LifeState) (calls image : ℕ) → HasBlown b life → falls_at Down life (Some (Crash calls image)) ≡ fall calls image b ∷ []
+falls_down b None calls image h = absurd h
+falls_down b (Some life) calls image h = rw h refl
 
--- what is kept stays
+-- what is kept stays, and what awaits
 down_kept : (s : Manager) (life : Option LifeState) → (after_where s life Down).kept ≡ s.kept
 down_kept s None = refl
 down_kept s (Some life) = refl
 
+down_awaits : (s : Manager) (life : Option LifeState) → (after_where s life Down).awaiting ≡ s.awaiting
+down_awaits s None = refl
+down_awaits s (Some life) = refl
+
+-- none of the lanes of the manager's work was ready where its end was chosen
+not_before : {X : Type 0} (b : Bool) (x : X) (rest : Option X) (y : X) → (x ≢ y) → (if b then Some x else rest) ≡ Some y → (b ≡ false) × (rest ≡ Some y)
+not_before true x rest y other h = absurd (other (some_same x y h))
+not_before false x rest y other h = (refl, h)
+
+end_idle : (d : DeskView) → find (is_ready_at d) policy ≡ Some End → HasNoWork d
+end_idle d h lane work =
+    let main = not_before (is_ready_at d Main) Main _ End (λ e. cc) h in
+    let sched = not_before (is_ready_at d Sched) Sched _ End (λ e. cc) main.1 in
+    let client = not_before (is_ready_at d Client) Client _ End (λ e. cc) sched.1 in
+    let master = not_before (is_ready_at d Master) Master _ End (λ e. cc) client.1 in
+    let node = not_before (is_ready_at d Node) Node _ End (λ e. cc) master.1 in
+    let clock = not_before (is_ready_at d Clock) Clock _ End (λ e. cc) node.1 in
+    let hand = not_before (is_ready_at d Hand) Hand _ End (λ e. cc) clock.1 in
+    let write = not_before (is_ready_at d Write) Write _ End (λ e. cc) hand.1 in
+    by lane work main.0 sched.0 hand.0 write.0
+  where
+    by : (lane : Lane) → IsWork lane → is_ready_at d Main ≡ false → is_ready_at d Sched ≡ false → is_ready_at d Hand ≡ false → is_ready_at d Write ≡ false → is_ready_at d lane ≡ false
+    by Main work main sched hand write = main
+    by Sched work main sched hand write = sched
+    by Hand work main sched hand write = hand
+    by Write work main sched hand write = write
+    by Client work main sched hand write = absurd work
+    by Master work main sched hand write = absurd work
+    by Node work main sched hand write = absurd work
+    by Clock work main sched hand write = absurd work
+    by End work main sched hand write = absurd work
+    by Begin work main sched hand write = absurd work
+
 -- the life goes down
-pub down_goes : (d next : DeskView) → Does End d next → find (is_ready_at d) policy ≡ Some End → IsSound d → ((opening : List Op) → StandsFor opening d.core → Tells opening d) → (calls image : ℕ)
-    → close_left d.place.segments ≡ Some (Crash calls image) → Goes (fall calls image ∷ []) d next × IsUnkept d next
-down_goes d next does chosen h tells calls image c =
-    let rest = h.crashing calls image c in
-    let is = down_is d next does calls image c in
-    let place : next.place ≡ record { lives = d.place.lives; segments = rest_of d.place.segments } = does.adds.place ∙ ap (λ (e : Entry). moved d.place e) is in
-    let dead : stands next.core ≡ false = does.standing ∙ ap (stands_after End) c in
-    let over : next.place.segments ≡ [] = does.goes.sound.between dead in
-    let lives : next.place.lives ≡ d.place.lives = ap (λ (p : Place). p.lives) place in (
-      falling_goes End d next does chosen
-          (record {
-            bare = subst AllBare (sym over) tt;
-            lives = subst AllSettle (sym lives) h.lives;
-            crashing = λ one other crash. let x = sym (ap close_left over) ∙ crash in cc;
-          })
-          lives (fall calls image ∷ [])
-          (λ opening k. subst (GoesDownAtRest d.core.settings (state_after opening d.core.log) (state_after opening d.core.log).life) (sym is)
-          (at_rest_down d.core.settings (state_after opening d.core.log) (state_after opening d.core.log).life ((tells opening k).at_rest rest)))
-          (λ opening k. ap (λ (e : Entry). falls_at e (state_after opening d.core.log).life (close_left d.place.segments)) is
-          ∙ ap (λ (close : Option Close). falls_at Down (state_after opening d.core.log).life close) c
-          ∙ falls_down (state_after opening d.core.log).life calls image ((tells opening k).life does.stood)),
+module _ (d next : DeskView) (does : Does End d next) (chosen : find (is_ready_at d) policy ≡ Some End) (tells : TellsAll d) (told : TellsAll next) (idle : is_blown d.core ≡ false → HasNoWork d → has_rest d.core)
+    (calls image : ℕ) (c : close_left d.place.segments ≡ Some (Crash calls image)) where
+  down_entry : does.adds.entry ≡ Down
+  down_entry = down_is d next does calls image c
+
+  down_place : next.place ≡ record { lives = d.place.lives; segments = rest_of d.place.segments }
+  down_place = does.adds.place ∙ ap (λ (e : Entry). moved d.place e) down_entry
+
+  down_log : next.core.log ≡ d.core.log ++ Down ∷ []
+  down_log = does.adds.added ∙ ap (λ (e : Entry). d.core.log ++ e ∷ []) down_entry
+
+  pub down_goes : Goes (fall calls image (is_blown d.core) ∷ []) d next
+  down_goes =
+      falling_goes (IsEntryOf End d) (is_blown d.core) End d next does chosen (ap (λ (p : Place). p.lives) down_place) (fall calls image (is_blown d.core) ∷ [])
+      (λ opening k.
+      let s = state_after opening d.core.log in
+      subst (GoesDownAtRest d.core.settings s s.life) (sym down_entry)
+      (at_rest_down d.core.settings s (is_blown d.core) s.life ((tells opening k).life does.stood) (λ unblown. (tells opening k).at_rest (idle unblown (end_idle d chosen)))))
+      (λ opening k. ap (λ (e : Entry). falls_at e (state_after opening d.core.log).life (close_left d.place.segments)) down_entry
+      ∙ ap (λ (close : Option Close). falls_at Down (state_after opening d.core.log).life close) c
+      ∙ falls_down (is_blown d.core) (state_after opening d.core.log).life calls image ((tells opening k).life does.stood))
+
+  pub down_unkept : IsUnkept d next
+  down_unkept =
       record {
-        kept = λ opening k.
-            ap (λ (l : List Entry). (state_after opening l).kept) (does.adds.added ∙ ap (λ (e : Entry). d.core.log ++ e ∷ []) is)
-            ∙ (ap (λ (s : Manager). s.kept) (fold_push after (opening_state opening) d.core.log Down) ∙ down_kept (state_after opening d.core.log) (state_after opening d.core.log).life);
+        kept = λ opening k image h.
+            let s = state_after opening d.core.log in
+            let now : state_after opening next.core.log ≡ after s Down = ap (λ (l : List Entry). state_after opening l) down_log ∙ fold_push after (opening_state opening) d.core.log Down in
+            holds_on s (state_after opening next.core.log) (told_blown next told opening (does.goes.lawful opening tt k) ∙ does.blown ∙ sym (told_blown d tells opening k))
+            (ap (λ (m : Manager). m.kept) now ∙ down_kept s s.life) (λ op first. ap (λ (m : Manager). slice_get m.awaiting 0) now ∙ ap (λ (ops : List Op). slice_get ops 0) (down_awaits s s.life) ∙ first) image h;
         more = does.adds.entry ∷ [];
         grows = does.adds.added;
-      },
-    )
-
--- the first segment of a life settles
-first_settles : (segments : List Segment) → SettlesFirst segments → (calls image : ℕ) → close_left segments ≡ Some (Crash calls image) → ⊥
-first_settles [] h calls image c = cc
-first_settles (segment ∷ more) h calls image c = let x = sym (some_same segment.close (Crash calls image) c) ∙ h in cc
+      }
 
 -- the first of a list
 first_of : {X : Type 0} (xs : List X) (x : X) → slice_get xs 0 ≡ Some x → (more : List X) × (xs ≡ x ∷ more)
 first_of [] x h = cc
 first_of (one ∷ more) x h = let same : one ≡ x = cc in (more, ap (λ y. y ∷ more) same)
 
--- a life begins over what is kept
-module _ (tree : Records) (d next : DeskView) (begins : Begins tree d next) (h : IsSound d) where
+-- A LIFE BEGINS
+
+-- over what the last one left
+module _ (tree : Records) (d next : DeskView) (begins : Begins tree d next) where
   abbrev life : Life
   life = begins.adds.of_kind.0
 
@@ -310,14 +340,8 @@ module _ (tree : Records) (d next : DeskView) (begins : Begins tree d next) (h :
   whole : d.place.lives ≡ life ∷ more
   whole = (first_of d.place.lives life begins.adds.of_kind.1).1
 
-  settling : AllSettle (life ∷ more)
-  settling = subst AllSettle whole h.lives
-
   place : next.place ≡ record { lives = more; segments = life.segments }
   place = begins.adds.place ∙ ap (λ (e : Entry). moved d.place e) begins.adds.of_kind.2 ∙ ap (λ (xs : List Life). begun xs d.place) whole
-
-  pub begin_settles : NoCrash next
-  begin_settles = λ calls image c. first_settles life.segments settling.1 calls image (sym (ap (λ (p : Place). close_left p.segments) place) ∙ c)
 
   pub begin_fewer : length next.place.lives < length d.place.lives
   begin_fewer = let now = ap (λ (p : Place). length p.lives) place in let were = ap (λ (xs : List Life). length xs) whole in omega (arith, now, were)
@@ -325,14 +349,9 @@ module _ (tree : Records) (d next : DeskView) (begins : Begins tree d next) (h :
   not_down : begins.adds.entry ≢ Down
   not_down = λ down. let x = sym begins.adds.of_kind.2 ∙ down in cc
 
-  pub begin_goes : find (is_ready_at d) policy ≡ Some Begin → GoesOver (λ opening. AmountsTo tree opening d.core) [] d next
+  pub begin_goes : find (is_ready_at d) policy ≡ Some Begin → GoesOver (λ opening. IsLeft tree (state_after opening d.core.log)) [] d next
   begin_goes chosen =
       record {
-        sound = record {
-          bare = subst AllBare (sym (ap (λ (p : Place). p.segments) place)) settling.0;
-          lives = subst AllSettle (sym (ap (λ (p : Place). p.lives) place)) settling.2;
-          crashing = λ calls image c. absurd (begin_settles calls image c);
-        };
         settings = begins.goes.settings;
         began = begins.goes.began;
         lives = let less = begin_fewer in omega (arith, less);
@@ -344,18 +363,28 @@ module _ (tree : Records) (d next : DeskView) (begins : Begins tree d next) (h :
             (falls_none begins.adds.entry (state_after opening d.core.log).life (close_left d.place.segments) not_down);
       }
 
-  landed : (s : Manager) (stood : Option LifeState) (epoch stamp : ℕ) → stood ≡ None → (after_where s stood (Opened 0 epoch stamp)).kept ≡ s.kept
-  landed s None epoch stamp e = append-nil s.kept
-  landed s (Some one) epoch stamp e = cc
+  -- the state that it begins with
+  opened_kept : (s : Manager) (stood : Option LifeState) (landed epoch stamp : ℕ) → stood ≡ None → (after_where s stood (Opened landed epoch stamp)).kept ≡ kept_after_landing s landed
+  opened_kept s None landed epoch stamp e = refl
+  opened_kept s (Some one) landed epoch stamp e = cc
 
-  pub begin_kept : ((opening : List Op) → StandsFor opening d.core → Tells opening d) → IsBegun tree d next
+  opened_unblown : (s : Manager) (stood : Option LifeState) (landed epoch stamp : ℕ) → stood ≡ None → has_blown (after_where s stood (Opened landed epoch stamp)) ≡ false
+  opened_unblown s None landed epoch stamp e = refl
+  opened_unblown s (Some one) landed epoch stamp e = cc
+
+  begin_state : (opening : List Op) → state_after opening next.core.log ≡ after (state_after opening d.core.log) (Opened (landed_over d.core tree) tree.next_epoch (stamp_of life tree.stamp))
+  begin_state opening =
+      ap (λ (l : List Entry). state_after opening l) begins.adds.added ∙ fold_push after (opening_state opening) d.core.log begins.adds.entry ∙ ap (λ (e : Entry). after (state_after opening d.core.log) e) begins.adds.of_kind.2
+
+  pub begin_kept : TellsAll d → IsBegun tree d next
   begin_kept tells =
       record {
-        kept = λ opening k amounts.
-            ap (λ (l : List Entry). (state_after opening l).kept) begins.adds.added
-            ∙ (ap (λ (s : Manager). s.kept) (fold_push after (opening_state opening) d.core.log begins.adds.entry)
-            ∙ (ap (λ (e : Entry). (after_where (state_after opening d.core.log) (state_after opening d.core.log).life e).kept) begins.adds.of_kind.2
-            ∙ landed (state_after opening d.core.log) (state_after opening d.core.log).life tree.next_epoch _ ((tells opening k).none begins.stood)));
+        kept = λ opening k.
+            let s = state_after opening d.core.log in
+            ap (λ (m : Manager). m.kept) (begin_state opening) ∙ opened_kept s s.life (landed_over d.core tree) tree.next_epoch (stamp_of life tree.stamp) ((tells opening k).none begins.stood);
+        unblown = λ opening k.
+            let s = state_after opening d.core.log in
+            ap has_blown (begin_state opening) ∙ opened_unblown s s.life (landed_over d.core tree) tree.next_epoch (stamp_of life tree.stamp) ((tells opening k).none begins.stood);
         more = begins.adds.entry ∷ [];
         grows = begins.adds.added;
         some = rw begins.adds.added (not_empty d.core.log begins.adds.entry);

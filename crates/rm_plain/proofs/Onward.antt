@@ -1,43 +1,54 @@
 -- The first life of a script, and one life after the other.
-use Rattle.std.proofs.Common.{◌≡◌, ◌≢◌, ◌⊎◌, ℕ, ◌^◌, ◌-◌, ◌<◌, ◌≤◌, List, [], ◌++◌, false, Some, None, Ok, Err, Result, refl, sym, ◌∙◌, ap, subst, inl, inr, ⊎_elim, arith}
+use Rattle.std.proofs.Common.{◌≡◌, ◌≢◌, ◌⊎◌, ℕ, ◌^◌, ◌-◌, ◌<◌, List, [], ◌∷◌, ◌++◌, Bool, true, false, Option, Some, None, Ok, Err, Result, take, slice_get, refl, sym, ◌∙◌, ap, subst, inl, inr, ⊎_elim, arith}
 use Rattle.std.proofs.lemmas.List.{append-nil, append_assoc}
 use Rattle.rm_types.specs.declared.operations.Op.{Op}
 use Rattle.rm_types.specs.declared.entries.Entry.{Entry}
-use Rattle.rm_types.specs.declared.records.AppRecord.{AppRecord}
 use Rattle.rm_types.specs.Records.{Records, records}
 use Rattle.rm_disk.specs.declared.fallen.Fallen.{Fallen}
-use Rattle.rm_disk.specs.Disk.{DiskView, Tells}
+use Rattle.rm_disk.specs.Disk.{DiskView, Leaves, Tells}
 use Rattle.rm_disk.specs.Fuse.{Fused}
 use Rattle.rm_disk.proofs.Views.{leaves_of, leaves_same, leaves_trans, quiet_trans}
 use Rattle.rm_formats.specs.Device.{Holds}
+use Rattle.rm_model.specs.Changes.{kept_after_landing}
 use Rattle.rm_model.specs.Lawful.{state_after}
-use Rattle.rm_plain.specs.Survives.{HoldsWithin, SurvivesAll, SurvivesNow}
+use Rattle.rm_model.specs.State.{LifeState, Manager}
+use Rattle.rm_plain.specs.Survives.{HoldsKept, HoldsWithin, SurvivesAll, SurvivesNow}
 use Rattle.rm_store.specs.Store.{StoreState, seen}
 use Rattle.rm_store.proofs.Faultless.{one_list, never_damaged, never_stray}
-use Rattle.rm_core.specs.Adds.{AmountsTo}
+use Rattle.rm_core.specs.Adds.{HasLanded, IsLeft}
 use Rattle.rm_core.specs.Seen.{Seen, StandsFor}
-use Rattle.rm_core.specs.Words.{stands}
+use Rattle.rm_core.specs.Words.{landed_over, stands}
+use Rattle.rm_core.proofs.Telling.{told_none_landed, told_one_landed}
 use Rattle.rm_desk.specs.View.{DeskView}
 use Rattle.rm_desk.specs.Does.{IsHanded}
 use Rattle.rm_plain.specs.declared.halts.Halt.{Halt}
 use Rattle.rm_plain.specs.declared.halts.Halt.TheVariants as halts
 use Rattle.rm_plain.specs.declared.halts.Stop.{Stop}
 use Rattle.rm_plain.specs.declared.halts.Stop.TheVariants.{DiskFault, Damaged, Full, EpochsSpent, Memory}
-use Rattle.rm_plain.specs.Along.{IsSound}
 use Rattle.rm_plain.specs.Goes.{GoesOver, IsOver}
 use Rattle.rm_plain.specs.Halted.{stop_of}
-use Rattle.rm_plain.specs.Keeping.{HaltsOver, IsHaltedBy, IsKeptOn}
+use Rattle.rm_plain.specs.Keeping.{HaltsOver, HoldsBy, IsFoundOn, IsHaltedBy, IsKeptOn, KeepsOn, LeavesOn, blown_in, has_blown}
 use Rattle.rm_plain.specs.Later.{FirstStopped, FirstTo, IsAgain, IsDueAt, IsFirst, IsLaterStop, IsReady, IsUnfounded, IsUnready, LaterTo, StopsLater}
 use Rattle.rm_plain.specs.Starts.{DiskStays, Halts, IsAtEase, IsGivenBack, IsOpened, IsRefusedBy, IsUnopenedBy, Lives, LivesTo}
 use Rattle.rm_plain.specs.Stops.{IsNoStore, IsStoppedBy, IsTold, NoneLeft}
 use Rattle.rm_plain.proofs.Ending.{goes_trans}
 use Rattle.rm_plain.proofs.Halting.{after_within, full_known, goes_any, leaves_after}
 use Rattle.rm_plain.proofs.Moving.{goes_same}
-use Rattle.rm_plain.proofs.Stored.{keeps_trans}
+use Rattle.rm_plain.proofs.Stored.{holds_kept, keeps_trans, within_longer}
 
 -- a device that holds operations is a store
 no_store_not : (bytes : List ℕ) (ops : List Op) (offset : ℕ) → Holds bytes ops → IsNoStore offset bytes → ⊥
 no_store_not bytes ops offset holds why = ⊎_elim (λ damaged. never_damaged bytes ops holds offset damaged) (λ stray. never_stray bytes ops holds stray.0 offset stray.1) why
+
+-- so is one that holds what is kept, or this and one more
+no_store_kept : (s : Manager) (bytes : List ℕ) (offset : ℕ) → HoldsKept s bytes → IsNoStore offset bytes → ⊥
+no_store_kept s bytes offset (inl holds) why = no_store_not bytes s.kept offset holds why
+no_store_kept s bytes offset (inr (op, first, holds)) why = no_store_not bytes (s.kept ++ op ∷ []) offset holds why
+
+-- the first of a list, taken
+take_first : (ops : List Op) (op : Op) → slice_get ops 0 ≡ Some op → take 1 ops ≡ op ∷ []
+take_first [] op h = cc
+take_first (one ∷ ops) op h = let same : one ≡ op = cc in ap (λ (x : Op). x ∷ []) same
 
 -- before the first life nothing is with the store
 never_handed : (opening : List Op) (op : Op) → IsHanded opening [] op → ⊥
@@ -45,15 +56,15 @@ never_handed opening op h = let never = h.first in cc
 
 module _ {D : Type 0} (view : D → DiskView) where
   pub stays_trans : (a b c : Fused D) → DiskStays view a b → DiskStays view b c → DiskStays view a c
-  stays_trans a b c ab bc = record { refused = bc.refused ∙ ab.refused; unarmed_falls = bc.unarmed_falls ∙ ab.unarmed_falls; size = bc.size ∙ ab.size; faults = (let one = ab.faults in let two = bc.faults in omega arith) }
+  stays_trans a b c ab bc = record { unarmed_falls = bc.unarmed_falls ∙ ab.unarmed_falls; size = bc.size ∙ ab.size; faults = (let one = ab.faults in let two = bc.faults in omega arith) }
 
   pub stays_same : (a : Fused D) → DiskStays view a a
-  stays_same a = record { refused = refl; unarmed_falls = refl; size = refl; faults = omega arith }
+  stays_same a = record { unarmed_falls = refl; size = refl; faults = omega arith }
 
   -- a later life whose store wasn't opened
   pub unopened_again : (opening : List Op) (log : List Entry) (disk now : Fused D) (why : Stop) → IsUnopenedBy view disk now why → IsUnready view opening log disk now why
   unopened_again opening log disk now DiskFault h = h
-  unopened_again opening log disk now (Damaged offset) h = λ has. absurd (no_store_not has.bytes (state_after opening log).kept offset has.holds (h has.bytes has.told))
+  unopened_again opening log disk now (Damaged offset) h = λ has. absurd (no_store_kept (state_after opening log) has.bytes offset (holds_kept (state_after opening log) has.bytes has.holds) (h has.bytes has.told))
   unopened_again opening log disk now Memory h = tt
   unopened_again opening log disk now (Full needed room) h = absurd h
   unopened_again opening log disk now EpochsSpent h = absurd h
@@ -67,13 +78,53 @@ module _ {D : Type 0} (view : D → DiskView) where
   unopened_first disk now EpochsSpent h = absurd h
 
   module _ (disk : Fused D) (store : StoreState D) (tree : Records) (ops : List Op) (o : IsOpened view disk store tree ops) where
-    -- what was opened is what was kept
-    same_ops : (opening : List Op) (log : List Entry) → IsKeptOn opening log (seen view disk) → ops ≡ (state_after opening log).kept
-    same_ops opening log has = one_list has.bytes ops (state_after opening log).kept (o.holds has.bytes has.told) has.holds
+    -- what was opened is what the last life left, and what the next one begins with
+    record Found (s : Manager) (core : Seen) : Type 0 where
+      left : IsLeft tree s
+      are : ops ≡ kept_after_landing s (landed_over core tree)
 
-    pub amounts_kept : (opening : List Op) (core : Seen) → IsKeptOn opening core.log (seen view disk) → AmountsTo tree opening core
-    amounts_kept opening core has =
-        o.read.amounts ∙ ap records (same_ops opening core.log has)
+    module _ (opening : List Op) (core : Seen) (k : StandsFor opening core) (dead : stands core ≡ false) (none : (state_after opening core.log).life ≡ None) (has : IsKeptOn opening core.log (seen view disk)) where
+      abbrev s : Manager
+      s = state_after opening core.log
+
+      -- just what is kept
+      kept_found : Holds has.bytes s.kept → Found s core
+      kept_found holds =
+          let same : ops ≡ s.kept = one_list has.bytes ops s.kept (o.holds has.bytes has.told) holds in
+          let amounts : tree ≡ records s.kept = o.read.amounts ∙ ap records same in
+          record { left = inl amounts; are = same ∙ sym (ap (λ (n : ℕ). kept_after_landing s n) (told_none_landed core opening k dead tree amounts) ∙ append-nil s.kept) }
+
+      -- or this and the operation that was refused
+      more_found : has_blown s ≡ true → (op : Op) → slice_get s.awaiting 0 ≡ Some op → Holds has.bytes (s.kept ++ op ∷ []) → Found s core
+      more_found blown op first holds =
+          let same : ops ≡ s.kept ++ op ∷ [] = one_list has.bytes ops (s.kept ++ op ∷ []) (o.holds has.bytes has.told) holds in
+          let blew : s.blew ≡ true = sym (ap (λ (life : Option LifeState). blown_in life s.blew) none) ∙ blown in
+          let landed : HasLanded tree s = record { blew = blew; op = op; first = first; amounts = o.read.amounts ∙ ap records same } in
+          record {
+            left = inr landed;
+            are = same ∙ sym (ap (λ (n : ℕ). kept_after_landing s n) (told_one_landed core opening k dead tree landed) ∙ ap (λ (l : List Op). s.kept ++ l) (take_first s.awaiting op first));
+          }
+
+      found_on : Found s core
+      found_on = by (has_blown s) refl has.holds
+        where
+          by : (b : Bool) → has_blown s ≡ b → HoldsBy b s has.bytes → Found s core
+          by false e holds = kept_found holds
+          by true e (inl holds) = kept_found holds
+          by true e (inr (op, first, holds)) = more_found e op first holds
+
+      pub left_found : IsLeft tree s
+      left_found = found_on.left
+
+      again_found : IsFoundOn opening core tree (seen view store.disk)
+      again_found =
+          let are = found_on.are in
+          record {
+            bytes = has.bytes;
+            told = o.quiet.told ∙ has.told;
+            holds = subst (λ (l : List Op). Holds has.bytes l) are (o.holds has.bytes has.told);
+            images = λ image is. subst (λ (l : List Op). Holds image l) are (o.images has.bytes has.told image is);
+          }
 
     ready : tree.next_epoch < 2 ^ 24 → tree.stamp < 2 ^ 63 - 1 → IsReady view disk store tree
     ready epoch stamp =
@@ -94,55 +145,44 @@ module _ {D : Type 0} (view : D → DiskView) where
     -- for its operations
     pub refused_first : (stop : Stop) → IsRefusedBy tree stop → IsUnfounded view ops disk store.disk stop
     refused_first (Damaged offset) h = absurd h
-    refused_first EpochsSpent h = (o.holds, subst (λ (r : Records). (2 ^ 24 ≤ r.next_epoch) ⊎ (2 ^ 63 - 1 ≤ r.stamp)) o.read.amounts h)
+    refused_first EpochsSpent h = (o.holds, (tree, inl o.read.amounts, h))
     refused_first DiskFault h = absurd h
     refused_first (Full needed room) h = absurd h
     refused_first Memory h = absurd h
 
-    -- or for those that are kept
-    pub refused_again : (opening : List Op) (core : Seen) → AmountsTo tree opening core → (stop : Stop) → IsRefusedBy tree stop → IsUnready view opening core.log disk store.disk stop
-    refused_again opening core amounts (Damaged offset) h = absurd h
-    refused_again opening core amounts EpochsSpent h = subst (λ (r : Records). (2 ^ 24 ≤ r.next_epoch) ⊎ (2 ^ 63 - 1 ≤ r.stamp)) amounts h
-    refused_again opening core amounts DiskFault h = absurd h
-    refused_again opening core amounts (Full needed room) h = absurd h
-    refused_again opening core amounts Memory h = absurd h
+    -- or for those that the last life left
+    pub refused_again : (opening : List Op) (core : Seen) → IsLeft tree (state_after opening core.log) → (stop : Stop) → IsRefusedBy tree stop → IsUnready view opening core.log disk store.disk stop
+    refused_again opening core left (Damaged offset) h = absurd h
+    refused_again opening core left EpochsSpent h = (tree, left, h)
+    refused_again opening core left DiskFault h = absurd h
+    refused_again opening core left (Full needed room) h = absurd h
+    refused_again opening core left Memory h = absurd h
 
     pub is_first : tree.next_epoch < 2 ^ 24 → tree.stamp < 2 ^ 63 - 1 → IsFirst view disk store tree ops
     is_first epoch stamp =
         record {
           ready = ready epoch stamp;
           amounts = o.read.amounts;
-          kept = λ bytes told. (o.holds bytes told, record { bytes = bytes; told = o.quiet.told ∙ told; holds = o.holds bytes told; images = o.images bytes told });
+          kept = λ bytes told. (o.holds bytes told, o.images bytes told);
           quiet = o.quiet;
         }
 
-    pub is_again : (core : Seen) → tree.next_epoch < 2 ^ 24 → tree.stamp < 2 ^ 63 - 1 → ((opening : List Op) → StandsFor opening core → AmountsTo tree opening core)
-        → IsAgain view core disk store tree
-    is_again core epoch stamp amounts =
+    pub is_again : (core : Seen) → stands core ≡ false → ((opening : List Op) → StandsFor opening core → (state_after opening core.log).life ≡ None) → tree.next_epoch < 2 ^ 24 → tree.stamp < 2 ^ 63 - 1
+        → ((opening : List Op) → StandsFor opening core → IsLeft tree (state_after opening core.log)) → IsAgain view core disk store tree
+    is_again core dead none epoch stamp left =
         record {
           ready = ready epoch stamp;
-          amounts = amounts;
-          kept = λ opening k has.
-              let same = same_ops opening core.log has in
-              record {
-                kept = record {
-                  bytes = has.bytes;
-                  told = o.quiet.told ∙ has.told;
-                  holds = has.holds;
-                  images = λ image is. subst (λ (l : List Op). Holds image l) same (o.images has.bytes has.told image is);
-                };
-                time = leaves_of (seen view disk) (seen view store.disk) (seen view disk).images (HoldsWithin opening core.log)
-                    (λ image is. record { before = core.log; later = []; whole = sym (append-nil core.log); holds = inl (has.images image is) }) o.quiet.time;
-                more = [];
-                grows = sym (append-nil core.log);
-              };
+          left = left;
+          found = λ opening k has. again_found opening core k dead (none opening k) has;
+          time = λ opening k has.
+              leaves_of (seen view disk) (seen view store.disk) (seen view disk).images (HoldsWithin opening core.log)
+              (λ image is. after_within opening core.log image (holds_kept (state_after opening core.log) image (has.images image is))) o.quiet.time;
         }
 
   -- a part of a run over fewer opening lists
   pub goes_over : (P Q : List Op → Type 0) (more : List Fallen) (a b : DeskView) → ((opening : List Op) → Q opening → StandsFor opening a.core → P opening) → GoesOver P more a b → GoesOver Q more a b
   goes_over P Q more a b from g =
       record {
-        sound = g.sound;
         settings = g.settings;
         began = g.began;
         lives = g.lives;
@@ -151,60 +191,82 @@ module _ {D : Type 0} (view : D → DiskView) where
         run = λ opening script fallen q run. g.run opening script fallen (from opening q run.goes.stands) run;
       }
 
+  -- what was done before a part of a run, in which the store wrote nothing
+  keeps_before : (opening : List Op) (log longer : List Entry) (a b c : DiskView) → Leaves a b (HoldsWithin opening log) → KeepsOn opening log longer b c → KeepsOn opening log longer a c
+  keeps_before opening log longer a b c time k =
+      record {
+        kept = k.kept;
+        time = leaves_trans a b c (HoldsWithin opening longer) (leaves_of a b (HoldsWithin opening log) (HoldsWithin opening longer) (within_longer opening log longer k.more k.grows) time) k.time;
+        more = k.more;
+        grows = k.grows;
+      }
+
+  leaves_before : (opening : List Op) (log longer : List Entry) (a b c : DiskView) → Leaves a b (HoldsWithin opening log) → LeavesOn opening log longer b c → LeavesOn opening log longer a c
+  leaves_before opening log longer a b c time l =
+      record {
+        time = leaves_trans a b c (HoldsWithin opening longer) (leaves_of a b (HoldsWithin opening log) (HoldsWithin opening longer) (within_longer opening log longer l.more l.grows) time) l.time;
+        now = l.now;
+        more = l.more;
+        grows = l.grows;
+      }
+
   -- a life after an earlier one
   module _ (d new : DeskView) (disk now : Fused D) (store : StoreState D) (tree : Records) (again : IsAgain view d.core disk store tree) where
-    halted_later : (stop : Stop) → Halts view (λ opening. AmountsTo tree opening d.core) d new store.disk now stop → (halt : Halt)
-        → IsHaltedBy view (λ opening. AmountsTo tree opening d.core) d new store.disk now halt
+    abbrev over : List Op → Type 0
+    over opening = IsLeft tree (state_after opening d.core.log)
+
+    abbrev found : List Op → Type 0
+    found opening = IsFoundOn opening d.core tree (seen view store.disk)
+
+    halted_later : (stop : Stop) → Halts view over found d new store.disk now stop → (halt : Halt) → IsHaltedBy view over found d new store.disk now halt
         → (opening : List Op) → StandsFor opening d.core → IsLaterStop view opening d new disk now (stop_of halt)
     halted_later stop h halts.DiskFault why opening k =
-        (let before = again.ready.stays.faults in let rose = why.0 in omega arith, inr (why.1 opening (again.amounts opening k) k))
+        (let before = again.ready.stays.faults in let rose = why.0 in omega arith, inr (why.1 opening (again.left opening k) k))
     halted_later stop h (halts.Full needed room) why opening k =
-        full_known (IsKeptOn opening d.core.log (seen view store.disk)) (IsKeptOn opening d.core.log (seen view disk)) opening new.core.log (view now.inner).size needed room
-        (λ has. (again.kept opening k has).kept) (why opening (again.amounts opening k) k)
+        full_known (found opening) (IsKeptOn opening d.core.log (seen view disk)) opening new.core.log (view now.inner).size needed room
+        (λ has. again.found opening k has) (why opening (again.left opening k) k)
     halted_later stop h halts.Memory why opening k = tt
 
-    pub again_to : (r : Result (Unit {0}) Stop) → LivesTo view (λ opening. AmountsTo tree opening d.core) d new store.disk now r → LaterTo view d new disk now r
+    pub again_to : (r : Result (Unit {0}) Stop) → LivesTo view over found d new store.disk now r → LaterTo view d new disk now r
     again_to (Ok x) l =
         record {
           fallen = l.fallen;
-          goes = goes_over (λ opening. AmountsTo tree opening d.core) (λ opening. Unit {0}) l.fallen d new (λ opening q k. again.amounts opening k) l.goes;
+          goes = goes_over over (λ opening. Unit {0}) l.fallen d new (λ opening q k. again.left opening k) l.goes;
           falls = l.falls ∙ ap (λ (xs : List Fallen). xs ++ l.fallen) again.ready.falls;
           at_ease = l.at_ease;
           disk_stays = stays_trans disk store.disk now again.ready.stays l.disk_stays;
           ends = l.ends;
           some = l.some;
           kept = λ opening q k has.
-              let first = again.kept opening k has in
-              keeps_trans opening d.core.log d.core.log new.core.log (seen view disk) (seen view store.disk) (seen view now) first (l.kept opening (again.amounts opening k) k first.kept);
+              keeps_before opening d.core.log new.core.log (seen view disk) (seen view store.disk) (seen view now) (again.time opening k has) (l.kept opening (again.left opening k) k (again.found opening k has));
         }
     again_to (Err stop) h =
         record {
           fallen = [];
-          goes = goes_over (λ opening. AmountsTo tree opening d.core) (λ opening. Unit {0}) [] d new (λ opening q k. again.amounts opening k) h.halted.goes;
+          goes = goes_over over (λ opening. Unit {0}) [] d new (λ opening q k. again.left opening k) h.halted.goes;
           falls = h.falls ∙ again.ready.falls ∙ sym (append-nil disk.falls);
           stays = stays_trans disk store.disk now again.ready.stays h.disk_stays;
           at_ease = h.at_ease;
           why = λ opening k. subst (λ (s : Stop). IsLaterStop view opening d new disk now s) (sym h.stops) (halted_later stop h h.halt h.halted.why opening k);
           left = λ opening q k has.
-              let first = again.kept opening k has in
-              leaves_after opening d.core.log d.core.log new.core.log (seen view disk) (seen view store.disk) (seen view now) first (h.halted.left opening (again.amounts opening k) k first.kept);
+              leaves_before opening d.core.log new.core.log (seen view disk) (seen view store.disk) (seen view now) (again.time opening k has) (h.halted.left opening (again.left opening k) k (again.found opening k has));
         }
 
   -- a later life that had no store to begin over
-  pub stopped_before : (d : DeskView) (disk now : Fused D) (stop : Stop) → IsSound d → stands d.core ≡ false → d.place.lives ≢ [] → IsGivenBack view disk now
+  pub stopped_before : (d : DeskView) (disk now : Fused D) (stop : Stop) → stands d.core ≡ false → d.place.lives ≢ [] → IsGivenBack view disk now
       → ((opening : List Op) → StandsFor opening d.core → IsUnready view opening d.core.log disk now stop) → StopsLater view d d disk now stop
-  stopped_before d disk now stop h dead lives back why =
+  stopped_before d disk now stop dead lives back why =
       record {
         fallen = [];
-        goes = goes_same d h;
+        goes = goes_same d;
         falls = back.falls ∙ sym (append-nil disk.falls);
         stays = back.stays;
         at_ease = back.at_ease;
         why = λ opening k. by opening stop (why opening k);
         left = λ opening q k has.
             record {
-              time = leaves_of (seen view disk) (seen view now) (seen view disk).images (HoldsWithin opening d.core.log) (λ image is. after_within opening d.core.log image (inl (has.images image is))) back.quiet.time;
-              now = λ image is. inl (has.images image (back.quiet.images image is));
+              time = leaves_of (seen view disk) (seen view now) (seen view disk).images (HoldsWithin opening d.core.log) (λ image is. after_within opening d.core.log image (holds_kept (state_after opening d.core.log) image (has.images image is))) back.quiet.time;
+              now = λ image is. holds_kept (state_after opening d.core.log) image (has.images image (back.quiet.images image is));
               more = [];
               grows = sym (append-nil d.core.log);
             };
@@ -220,12 +282,16 @@ module _ {D : Type 0} (view : D → DiskView) where
       by opening EpochsSpent why = (due, why)
       by opening Memory why = tt
 
+  -- lives over a disk that has what is kept
+  abbrev LivesLater : DeskView → DeskView → Fused D → Fused D → Type 0
+  LivesLater old new disk now = Lives view (λ opening. Unit {0}) (λ opening. IsKeptOn opening old.core.log (seen view disk)) old new disk now
+
   -- no life was lived yet
-  pub lives_same : (d : DeskView) (disk : Fused D) → IsSound d → IsAtEase disk → (stands d.core ≡ false) ⊎ IsOver d → d.core.log ≢ [] → Lives view (λ opening. Unit {0}) d d disk disk
-  lives_same d disk h at_ease ends some =
+  pub lives_same : (d : DeskView) (disk : Fused D) → IsAtEase disk → (stands d.core ≡ false) ⊎ IsOver d → d.core.log ≢ [] → LivesLater d d disk disk
+  lives_same d disk at_ease ends some =
       record {
         fallen = [];
-        goes = goes_same d h;
+        goes = goes_same d;
         falls = sym (append-nil disk.falls);
         at_ease = at_ease;
         disk_stays = stays_same disk;
@@ -235,8 +301,8 @@ module _ {D : Type 0} (view : D → DiskView) where
             record { kept = has; time = leaves_same (seen view disk) (HoldsWithin opening d.core.log); more = []; grows = sym (append-nil d.core.log) };
       }
 
-  module _ (a b c : DeskView) (first second third : Fused D) (ab : Lives view (λ opening. Unit {0}) a b first second) where
-    pub lives_trans : Lives view (λ opening. Unit {0}) b c second third → Lives view (λ opening. Unit {0}) a c first third
+  module _ (a b c : DeskView) (first second third : Fused D) (ab : LivesLater a b first second) where
+    pub lives_trans : LivesLater b c second third → LivesLater a c first third
     lives_trans bc =
         record {
           fallen = ab.fallen ++ bc.fallen;
@@ -275,50 +341,69 @@ module _ {D : Type 0} (view : D → DiskView) where
         }
 
   -- the first life
-  module _ (d new : DeskView) (disk now : Fused D) (store : StoreState D) (tree : Records) (opening : List Op) (first : IsFirst view disk store tree opening) (empty : d.core.log ≡ []) where
-    amounts_first : (ops : List Op) → ops ≡ opening → AmountsTo tree ops d.core
-    amounts_first ops same =
-        let kept : (state_after ops d.core.log).kept ≡ opening = ap (λ (l : List Entry). (state_after ops l).kept) empty ∙ same in
-        first.amounts ∙ sym (ap records kept)
+  module _ (d new : DeskView) (disk now : Fused D) (store : StoreState D) (tree : Records) (opening : List Op) (first : IsFirst view disk store tree opening) (empty : d.core.log ≡ []) (dead : stands d.core ≡ false) where
+    abbrev over_first : List Op → Type 0
+    over_first ops = IsLeft tree (state_after ops d.core.log)
 
-    kept_first : (bytes : List ℕ) → (seen view disk).told ≡ Some bytes → IsKeptOn opening d.core.log (seen view store.disk)
-    kept_first bytes told = rw empty (first.kept bytes told).1
+    abbrev found_first : List Op → Type 0
+    found_first ops = IsFoundOn ops d.core tree (seen view store.disk)
+
+    kept_first : (ops : List Op) → ops ≡ opening → (state_after ops d.core.log).kept ≡ opening
+    kept_first ops same = ap (λ (l : List Entry). (state_after ops l).kept) empty ∙ same
+
+    left_first : (ops : List Op) → ops ≡ opening → over_first ops
+    left_first ops same = inl (first.amounts ∙ sym (ap records (kept_first ops same)))
+
+    -- its disk holds just what it begins with
+    is_found : (bytes : List ℕ) → (seen view disk).told ≡ Some bytes → StandsFor opening d.core → found_first opening
+    is_found bytes told k =
+        let s = state_after opening d.core.log in
+        let kept = kept_first opening refl in
+        let are : kept_after_landing s (landed_over d.core tree) ≡ opening =
+        ap (λ (n : ℕ). kept_after_landing s n) (told_none_landed d.core opening k dead tree (first.amounts ∙ sym (ap records kept))) ∙ append-nil s.kept ∙ kept in
+        let held = first.kept bytes told in
+        record {
+          bytes = bytes;
+          told = first.quiet.told ∙ told;
+          holds = subst (λ (l : List Op). Holds bytes l) (sym are) held.0;
+          images = λ image is. subst (λ (l : List Op). Holds image l) (sym are) (held.1 image is);
+        }
 
     -- a halt of it stops the run
-    halted_first : (stop : Stop) → Halts view (λ ops. AmountsTo tree ops d.core) d new store.disk now stop → (halt : Halt)
-        → IsHaltedBy view (λ ops. AmountsTo tree ops d.core) d new store.disk now halt → StandsFor opening d.core
+    halted_first : (stop : Stop) → Halts view over_first found_first d new store.disk now stop → (halt : Halt)
+        → IsHaltedBy view over_first found_first d new store.disk now halt → StandsFor opening d.core
         → IsStoppedBy view (IsDueAt new) disk now opening new.core.log (stop_of halt)
     halted_first stop h halts.DiskFault why k =
-        let handed = why.1 opening (amounts_first opening refl) k in (
+        let handed = why.1 opening (left_first opening refl) k in (
           let before = first.ready.stays.faults in let rose = why.0 in omega arith,
           inr handed,
           λ none. absurd (never_handed opening handed.0 (subst (λ (l : List Entry). IsHanded opening l handed.0) none handed.1)),
         )
     halted_first stop h (halts.Full needed room) why k =
-        full_known (IsKeptOn opening d.core.log (seen view store.disk)) (IsTold (seen view disk)) opening new.core.log (view now.inner).size needed room
-        (λ told. kept_first told.0 told.1) (why opening (amounts_first opening refl) k)
+        full_known (found_first opening) (IsTold (seen view disk)) opening new.core.log (view now.inner).size needed room
+        (λ told. is_found told.0 told.1 k) (why opening (left_first opening refl) k)
     halted_first stop h halts.Memory why k = tt
 
     -- and what is left then
-    left_first : (halt : Halt) → HaltsOver view (λ ops. AmountsTo tree ops d.core) d new store.disk now halt → StandsFor opening d.core
+    survives_first : (halt : Halt) → HaltsOver view over_first found_first d new store.disk now halt → StandsFor opening d.core
         → SurvivesAll opening new.core.log (seen view disk) (seen view now) × SurvivesNow opening new.core.log (seen view disk) (seen view now)
-    left_first halt h k = (
+    survives_first halt h k = (
       λ bytes told.
-          let left = h.left opening (amounts_first opening refl) k (kept_first bytes told) in
+          let left = h.left opening (left_first opening refl) k (is_found bytes told k) in
           record {
             so_far = leaves_trans (seen view disk) (seen view store.disk) (seen view now) (λ image. (seen view disk).images image ⊎ HoldsWithin opening new.core.log image)
                 (leaves_of (seen view disk) (seen view store.disk) (seen view disk).images (λ image. (seen view disk).images image ⊎ HoldsWithin opening new.core.log image) (λ image is. inl is) first.quiet.time)
                 (leaves_of (seen view store.disk) (seen view now) (HoldsWithin opening new.core.log) (λ image. (seen view disk).images image ⊎ HoldsWithin opening new.core.log image) (λ image is. inr is) left.time);
             now = λ image is. inr (after_within opening new.core.log image (left.now image is));
           },
-      λ some bytes told. (h.left opening (amounts_first opening refl) k (kept_first bytes told)).now,
+      λ some bytes told. (h.left opening (left_first opening refl) k (is_found bytes told k)).now,
     )
 
-    pub first_to : (r : Result (Unit {0}) Stop) → LivesTo view (λ ops. AmountsTo tree ops d.core) d new store.disk now r → FirstTo view opening d new disk now r
+    pub first_to : (r : Result (Unit {0}) Stop) → LivesTo view over_first found_first d new store.disk now r → FirstTo view opening d new disk now r
     first_to (Ok x) l =
         record {
           fallen = l.fallen;
-          goes = goes_over (λ ops. AmountsTo tree ops d.core) (λ ops. ops ≡ opening) l.fallen d new (λ ops q k. amounts_first ops q) l.goes;
+          goes = goes_over over_first (λ ops. ops ≡ opening) l.fallen d new (λ ops q k. left_first ops q) l.goes;
           falls = l.falls ∙ ap (λ (xs : List Fallen). xs ++ l.fallen) first.ready.falls;
           at_ease = l.at_ease;
           stays = stays_trans disk store.disk now first.ready.stays l.disk_stays;
@@ -326,7 +411,7 @@ module _ {D : Type 0} (view : D → DiskView) where
           some = l.some;
           opened = λ bytes told. (first.kept bytes told).0;
           kept = λ bytes told k.
-              let on = l.kept opening (amounts_first opening refl) k (kept_first bytes told) in
+              let on = l.kept opening (left_first opening refl) k (is_found bytes told k) in
               record {
                 opened = (first.kept bytes told).0;
                 kept = on.kept;
@@ -337,23 +422,23 @@ module _ {D : Type 0} (view : D → DiskView) where
         }
     first_to (Err stop) h =
         record {
-          goes = goes_over (λ ops. AmountsTo tree ops d.core) (λ ops. ops ≡ opening) [] d new (λ ops q k. amounts_first ops q) h.halted.goes;
+          goes = goes_over over_first (λ ops. ops ≡ opening) [] d new (λ ops q k. left_first ops q) h.halted.goes;
           falls = h.falls ∙ first.ready.falls;
           stays = stays_trans disk store.disk now first.ready.stays h.disk_stays;
           at_ease = h.at_ease;
           held = λ some bytes told. (first.kept bytes told).0;
           found = inr (λ bytes told. (first.kept bytes told).0);
           quiet = λ none. quiet_trans (seen view disk) (seen view store.disk) (seen view now) first.quiet (h.quiet none);
-          left = λ k. left_first h.halt h.halted k;
+          left = λ k. survives_first h.halt h.halted k;
           why = λ k. subst (λ (s : Stop). IsStoppedBy view (IsDueAt new) disk now opening new.core.log s) (sym h.stops) (halted_first stop h h.halt h.halted.why k);
         }
 
   -- the first life had no store to begin over
-  pub unfounded_stops : (d : DeskView) (disk now : Fused D) (opening : List Op) (stop : Stop) → IsSound d → stands d.core ≡ false → d.place.lives ≢ [] → d.core.log ≡ [] → IsGivenBack view disk now
+  pub unfounded_stops : (d : DeskView) (disk now : Fused D) (opening : List Op) (stop : Stop) → stands d.core ≡ false → d.place.lives ≢ [] → d.core.log ≡ [] → IsGivenBack view disk now
       → (opening ≡ []) ⊎ Tells (seen view disk) (λ bytes. Holds bytes opening) → IsUnfounded view opening disk now stop → FirstStopped view opening d d disk now stop
-  unfounded_stops d disk now opening stop h dead lives empty back found why =
+  unfounded_stops d disk now opening stop dead lives empty back found why =
       record {
-        goes = goes_any (λ ops. ops ≡ opening) d d (goes_same d h);
+        goes = goes_any (λ ops. ops ≡ opening) d d (goes_same d);
         falls = back.falls;
         stays = back.stays;
         at_ease = back.at_ease;

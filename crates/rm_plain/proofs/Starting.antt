@@ -1,10 +1,9 @@
 -- A life starts over what its disk holds, and leaves what it kept there.
-use Rattle.std.proofs.Common.{◌≡◌, ℕ, suc, zero, ◌+◌, List, [], ◌∷◌, ◌++◌, Bool, true, false, Some, None, Option, Ok, Err, Result, take, refl, sym, ◌∙◌, ap, subst, inl, inr, arith}
-use Rattle.std.specs.Prelude.{OnOk, OnErr, IfOk, IfErr, slice_get}
+use Rattle.std.proofs.Common.{◌≡◌, ℕ, List, [], ◌∷◌, ◌++◌, Bool, true, false, Some, None, Option, Ok, Err, Result, refl, sym, ◌∙◌, ap, subst, inl, inr, arith}
+use Rattle.std.specs.Prelude.{IfOk, IfErr}
 use Rattle.std.proofs.lemmas.List.{append-nil}
 use Rattle.rm_types.specs.declared.operations.Op.{Op}
 use Rattle.rm_types.specs.declared.entries.Entry.{Entry}
-use Rattle.rm_types.specs.declared.records.AppRecord.{AppRecord}
 use Rattle.rm_types.specs.Records.{Records}
 use Rattle.rm_disk.specs.declared.fallen.Fallen.{Fallen}
 use Rattle.rm_disk.specs.Disk.{DiskView, EachImage, Falls, IsQuiet, Tells}
@@ -14,9 +13,8 @@ use Rattle.rm_formats.specs.Device.{Holds}
 use Rattle.rm_model.specs.Lawful.{state_after}
 use Rattle.rm_plain.specs.Survives.{HoldsWithin}
 use Rattle.rm_store.specs.Store.{StoreState, AreRead, IsSound as IsStoreSound, seen}
-use Rattle.rm_core.specs.Adds.{AmountsTo}
-use Rattle.std.proofs.lemmas.List.{take_more}
-use Rattle.std.proofs.lemmas.Option.{slice_get_within, get_or_from_slice_get}
+use Rattle.rm_core.specs.Adds.{IsLeft}
+use Rattle.rm_core.specs.Seen.{StandsFor}
 use Rattle.rm_core.specs.Words.{stands}
 use Rattle.rm_desk.specs.View.{DeskView}
 use Rattle.rm_plain.specs.declared.halts.Halt.{Halt}
@@ -25,25 +23,25 @@ use Rattle.rm_plain.specs.declared.halts.Stop.{Stop}
 use Rattle.rm_plain.specs.declared.lives.LifeEnd.{LifeEnd}
 use Rattle.rm_plain.specs.declared.lives.LifeEnd.TheVariants.{Rest, Down}
 use Rattle.rm_plain.specs.Falls.{fall}
-use Rattle.rm_plain.specs.Goes.{Goes, GoesOver}
+use Rattle.rm_plain.specs.Goes.{GoesOver}
 use Rattle.rm_plain.specs.Halted.{stop_of}
-use Rattle.rm_plain.specs.Keeping.{FuseStays, HaltsBy, HaltsOver, IsBegun, IsHaltedBy, IsKeptOn, KeepsOn, Serves, StoresOn}
+use Rattle.rm_plain.specs.Keeping.{FuseStays, HaltsBy, HaltsOver, HoldsIn, IsBegun, IsFoundOn, IsHaltedBy, IsKeptOn, KeepsOn, Serves, StoresOn}
 use Rattle.rm_plain.specs.Lives.{EndsBy, ComesToRest, WentDown}
 use Rattle.rm_plain.specs.Starts.{Begins, DiskStays, Halts, IsOpened, KeepsOver, Leaves, Lives, LivesTo, disarmed}
 use Rattle.rm_plain.proofs.Ending.{fuse_trans, goes_trans}
-use Rattle.rm_plain.proofs.Halting.{halts_on, keeps_leaves}
-use Rattle.rm_plain.proofs.Stored.{keeps_trans}
+use Rattle.rm_plain.proofs.Halting.{after_within, halts_on, keeps_leaves}
+use Rattle.rm_plain.proofs.Stored.{holds_kept, just_holds, keeps_trans}
 
 module _ {D : Type 0} (view : D → DiskView) where
   -- a store that was opened on a disarmed fuse
   pub opened : (inner : D → D → Type 0) (old disarmed : Fused D) (store : StoreState D) (tree : Records) (ops : List Op) → disarmed ≡ record old { armed = None; blown = false }
       → IsStoreSound view store → store.is_broken ≡ false → AreRead tree ops
       → Tells (seen view disarmed) (λ bytes. Holds bytes ops) → Tells (seen view disarmed) (λ bytes. EachImage (seen view store.disk) (λ image. Holds image ops))
-      → IsQuiet (seen view disarmed) (seen view store.disk) → KeepsFuse inner true disarmed store.disk → IsOpened view old store tree ops
+      → IsQuiet (seen view disarmed) (seen view store.disk) → KeepsFuse view inner true disarmed store.disk → IsOpened view old store tree ops
   opened inner old disarmed store tree ops is sound unbroken read =
       let F : Fused D → Type 0 = λ x.
       Tells (seen view x) (λ bytes. Holds bytes ops) → Tells (seen view x) (λ bytes. EachImage (seen view store.disk) (λ image. Holds image ops))
-      → IsQuiet (seen view x) (seen view store.disk) → KeepsFuse inner true x store.disk → IsOpened view old store tree ops in
+      → IsQuiet (seen view x) (seen view store.disk) → KeepsFuse view inner true x store.disk → IsOpened view old store tree ops in
       subst F (sym is) (λ holds images quiet kept.
       let unblown : store.disk.blown ≡ false = kept.success refl in
       record {
@@ -53,7 +51,6 @@ module _ {D : Type 0} (view : D → DiskView) where
         unblown = unblown;
         falls = kept.falls;
         disk = record {
-          refused = kept.unrefused unblown;
           unarmed_falls = kept.unarmed_falls;
           size = quiet.goes_on.size;
           faults = (let same = kept.unrefused unblown in let more = quiet.goes_on.faults in omega arith);
@@ -64,72 +61,82 @@ module _ {D : Type 0} (view : D → DiskView) where
         images = images;
       })
 
+  -- what a life begins with is on the disk on which it was found
+  begun_keeps : (d mid : DeskView) (tree : Records) → IsBegun tree d mid → (opening : List Op) → StandsFor opening d.core → (disk : DiskView) → IsFoundOn opening d.core tree disk → KeepsOn opening d.core.log mid.core.log disk disk
+  begun_keeps d mid tree begun opening k disk has =
+      let next = state_after opening mid.core.log in
+      let kept = begun.kept opening k in
+      let unblown = begun.unblown opening k in
+      record {
+        kept = record {
+          bytes = has.bytes;
+          told = has.told;
+          holds = just_holds next has.bytes unblown (subst (λ (ops : List Op). Holds has.bytes ops) (sym kept) has.holds);
+          images = λ image is. just_holds next image unblown (subst (λ (ops : List Op). Holds image ops) (sym kept) (has.images image is));
+        };
+        time = leaves_same disk (HoldsWithin opening mid.core.log);
+        more = begun.more;
+        grows = begun.grows;
+      }
+
   -- a life began, and its store serves it
   pub begins : (d mid : DeskView) (store now : StoreState D) (tree : Records) → IsBegun tree d mid → stands mid.core ≡ true → now.disk.inner ≡ store.disk.inner → now.disk.refused ≡ store.disk.refused
-      → Serves view mid now → Begins view (λ opening. AmountsTo tree opening d.core) d mid store now
+      → Serves view mid now → Begins view (λ opening. IsLeft tree (state_after opening d.core.log)) (λ opening. IsFoundOn opening d.core tree (seen view store.disk)) d mid store now
   begins d mid store now tree begun alive inner refused serves =
       record {
         stands = alive;
         some = begun.some;
         serves = serves;
-        kept = λ opening amounts k has.
-            let kept = begun.kept opening k amounts in
-            rw (inner, refused)
-            (record {
-              kept = record { bytes = has.bytes; told = has.told; holds = rw kept has.holds; images = λ image is. rw kept (has.images image is) };
-              time = leaves_same (seen view store.disk) (HoldsWithin opening mid.core.log);
-              more = begun.more;
-              grows = begun.grows;
-            });
+        kept = λ opening left k has. rw (inner, refused) (begun_keeps d mid tree begun opening k (seen view store.disk) has);
       }
 
   -- what is kept is on a disk that fell
   pub falls_keep : (opening : List Op) (log : List Entry) (before after : DiskView) → Falls before after → IsKeptOn opening log before → KeepsOn opening log log before after
   falls_keep opening log before after falls has =
       let now = told_after before after falls.goes_on has.bytes has.told in
-      let kept : Holds now.0 (state_after opening log).kept = has.images now.0 (falls.told now.0 now.1) in
+      let holds : HoldsIn (state_after opening log) now.0 = has.images now.0 (falls.told now.0 now.1) in
       record {
         kept = record {
           bytes = now.0;
           told = now.1;
-          holds = kept;
+          holds = holds;
           images = λ image is.
               let same : Some now.0 ≡ Some image = sym now.1 ∙ falls.durable image is in
               let one : now.0 ≡ image = cc in
-              subst (λ (bytes : List ℕ). Holds bytes (state_after opening log).kept) one kept;
+              subst (λ (bytes : List ℕ). HoldsIn (state_after opening log) bytes) one holds;
         };
         time = leaves_of before after before.images (HoldsWithin opening log)
-            (λ image is. record { before = log; later = []; whole = sym (append-nil log); holds = inl (has.images image is) }) falls.time;
+            (λ image is. after_within opening log image (holds_kept (state_after opening log) image (has.images image is))) falls.time;
         more = [];
         grows = sym (append-nil log);
       }
 
   -- disarming a fuse changes nothing of what is told of a halt
-  disarmed_halts : (over : List Op → Type 0) (d new : DeskView) (disk now : Fused D) (halt : Halt) → HaltsOver view over d new disk now halt → HaltsOver view over d new disk (disarmed now) halt
-  disarmed_halts over d new disk now halt h = record { goes = h.goes; why = why halt h.why; left = h.left }
+  disarmed_halts : (over found : List Op → Type 0) (d new : DeskView) (disk now : Fused D) (halt : Halt) → HaltsOver view over found d new disk now halt → HaltsOver view over found d new disk (disarmed now) halt
+  disarmed_halts over found d new disk now halt h = record { goes = h.goes; why = why halt h.why; left = h.left }
     where
-      why : (halt : Halt) → IsHaltedBy view over d new disk now halt → IsHaltedBy view over d new disk (disarmed now) halt
+      why : (halt : Halt) → IsHaltedBy view over found d new disk now halt → IsHaltedBy view over found d new disk (disarmed now) halt
       why halts.DiskFault is = is
       why (halts.Full needed room) is = is
       why halts.Memory is = tt
 
-  module _ (over : List Op → Type 0) (d mid new : DeskView) (store one two : StoreState D) (goes : GoesOver over [] d mid) (begun : Begins view over d mid store one)
+  module _ (over found : List Op → Type 0) (d mid new : DeskView) (store one two : StoreState D) (goes : GoesOver over [] d mid) (begun : Begins view over found d mid store one)
       (first : FuseStays view store.disk one.disk) (second : FuseStays view one.disk two.disk) where
     stays : FuseStays view store.disk two.disk
     stays = fuse_trans view store.disk one.disk two.disk first second
 
     disk_stays : DiskStays view store.disk two.disk
-    disk_stays = record { refused = stays.refused; unarmed_falls = stays.unarmed_falls; size = stays.size; faults = stays.faults }
+    disk_stays = record { unarmed_falls = stays.unarmed_falls; size = stays.size; faults = stays.faults }
 
-    kept_to : ((opening : List Op) → StoresOn opening mid new (seen view one.disk) (seen view two.disk)) → KeepsOver over d new (seen view store.disk) (seen view two.disk)
+    kept_to : ((opening : List Op) → StoresOn opening mid new (seen view one.disk) (seen view two.disk)) → KeepsOver over found d new (seen view store.disk) (seen view two.disk)
     kept_to stores = λ opening is k has.
         let first_part = begun.kept opening is k has in
         keeps_trans opening d.core.log mid.core.log new.core.log (seen view store.disk) (seen view one.disk) (seen view two.disk) first_part
         (stores opening (goes.lawful opening is k) first_part.kept)
 
-    rested : (disk : Fused D) → disk ≡ two.disk → ComesToRest view mid new one two → Lives view over d new store.disk disk
+    rested : (disk : Fused D) → disk ≡ two.disk → ComesToRest view mid new one two → Lives view over found d new store.disk disk
     rested disk same rest =
-        subst (λ (f : Fused D). Lives view over d new store.disk f) (sym same)
+        subst (λ (f : Fused D). Lives view over found d new store.disk f) (sym same)
         (record {
           fallen = [];
           goes = goes_trans over [] [] d mid new goes rest.goes;
@@ -142,23 +149,22 @@ module _ {D : Type 0} (view : D → DiskView) where
         })
 
     went_down : (disk : Fused D) (image : ℕ) → Falls (seen view two.disk) (seen view disk) → disk ≡ fallen_fuse two.disk disk.inner image → WentDown view mid new one two image
-        → Lives view over d new store.disk disk
+        → Lives view over found d new store.disk disk
     went_down disk image falls is down =
-        let fell : disk.falls ≡ store.disk.falls ++ fall down.calls image ∷ [] =
+        let fell : disk.falls ≡ store.disk.falls ++ fall down.calls image down.blew ∷ [] =
         ap (λ (f : Fused D). f.falls) is
         ∙ ap (λ (a : Option ℕ). falls_after two.disk.falls a image two.disk.blown) down.armed
-        ∙ ap (λ (b : Bool). two.disk.falls ++ record { calls = down.calls; image = image; blown = b } ∷ []) down.unblown
-        ∙ ap (λ (l : List Fallen). l ++ fall down.calls image ∷ []) stays.falls in
+        ∙ ap (λ (b : Bool). two.disk.falls ++ record { calls = down.calls; image = image; blown = b } ∷ []) down.blown
+        ∙ ap (λ (l : List Fallen). l ++ fall down.calls image down.blew ∷ []) stays.falls in
         record {
-          fallen = fall down.calls image ∷ [];
-          goes = goes_trans over [] (fall down.calls image ∷ []) d mid new goes down.goes;
+          fallen = fall down.calls image down.blew ∷ [];
+          goes = goes_trans over [] (fall down.calls image down.blew ∷ []) d mid new goes down.goes;
           falls = fell;
           at_ease = record {
             unarmed = ap (λ (f : Fused D). f.armed) is;
             unblown = ap (λ (f : Fused D). f.blown) is ∙ ap (λ (a : Option ℕ). blown_after_fall a two.disk.blown) down.armed;
           };
           disk_stays = record {
-            refused = ap (λ (f : Fused D). f.refused) is ∙ stays.refused;
             unarmed_falls = ap (λ (f : Fused D). f.unarmed_falls) is ∙ ap (λ (a : Option ℕ). unarmed_falls_after two.disk.unarmed_falls a) down.armed ∙ stays.unarmed_falls;
             size = falls.goes_on.size ∙ stays.size;
             faults = (let same = falls.faults in let refused = ap (λ (f : Fused D). f.refused) is in let before = stays.faults in omega arith);
@@ -171,59 +177,50 @@ module _ {D : Type 0} (view : D → DiskView) where
               (falls_keep opening new.core.log (seen view two.disk) (seen view disk) falls so_far.kept);
         }
 
-    halted : (disk : Fused D) (halt : Halt) → disk ≡ disarmed two.disk → HaltsBy view mid new one.disk two.disk halt → Halts view over d new store.disk disk (stop_of halt)
+    halted : (disk : Fused D) (halt : Halt) → disk ≡ disarmed two.disk → HaltsBy view mid new one.disk two.disk halt → Halts view over found d new store.disk disk (stop_of halt)
     halted disk halt same h =
-        subst (λ (f : Fused D). Halts view over d new store.disk f (stop_of halt)) (sym same)
+        subst (λ (f : Fused D). Halts view over found d new store.disk f (stop_of halt)) (sym same)
         (record {
           falls = stays.falls;
           at_ease = record { unarmed = refl; unblown = refl };
-          disk_stays = record { refused = stays.refused; unarmed_falls = stays.unarmed_falls; size = stays.size; faults = stays.faults };
+          disk_stays = record { unarmed_falls = stays.unarmed_falls; size = stays.size; faults = stays.faults };
           halt = halt;
           stops = refl;
-          halted = disarmed_halts over d new store.disk two.disk halt (halts_on view over d mid new store.disk one.disk two.disk goes begun.kept first.faults halt h);
+          halted = disarmed_halts over found d new store.disk two.disk halt (halts_on view over found d mid new store.disk one.disk two.disk goes begun.kept first.faults halt h);
           quiet = λ empty. absurd (h.goes.some begun.some empty);
         })
 
     -- how a life that began went
     pub lived : (inner : ℕ → D → D → Type 0) (disk : Fused D) (ended : Result LifeEnd Halt) (result : Result (Unit {0}) Stop) → IfOk ended (EndsBy view mid new one two)
-        → IfErr ended (HaltsBy view mid new one.disk two.disk) → Leaves view inner two.disk disk ended result → LivesTo view over d new store.disk disk result
+        → IfErr ended (HaltsBy view mid new one.disk two.disk) → Leaves view inner two.disk disk ended result → LivesTo view over found d new store.disk disk result
     lived inner disk (Ok Rest) result ends why leaves =
-        subst (λ (r : Result (Unit {0}) Stop). LivesTo view over d new store.disk disk r) (sym leaves.1) (rested disk leaves.0 ends)
+        subst (λ (r : Result (Unit {0}) Stop). LivesTo view over found d new store.disk disk r) (sym leaves.1) (rested disk leaves.0 ends)
     lived inner disk (Ok (Down image)) result ends why leaves =
-        subst (λ (r : Result (Unit {0}) Stop). LivesTo view over d new store.disk disk r) (sym leaves.1) (went_down disk image leaves.0.0 leaves.0.1.shown ends)
+        subst (λ (r : Result (Unit {0}) Stop). LivesTo view over found d new store.disk disk r) (sym leaves.1) (went_down disk image leaves.0.0 leaves.0.1.shown ends)
     lived inner disk (Err halt) result ends why leaves =
-        subst (λ (r : Result (Unit {0}) Stop). LivesTo view over d new store.disk disk r) (sym leaves.1) (halted disk halt leaves.0 why)
+        subst (λ (r : Result (Unit {0}) Stop). LivesTo view over found d new store.disk disk r) (sym leaves.1) (halted disk halt leaves.0 why)
 
   -- a life that did not begin stopped the run
-  pub unbegun : (over : List Op → Type 0) (d new : DeskView) (store two : StoreState D) (disk : Fused D) (halt : Halt) → HaltsOver view over d new store.disk two.disk halt → two.disk.inner ≡ store.disk.inner
-      → FuseStays view store.disk two.disk → disk ≡ disarmed two.disk → Halts view over d new store.disk disk (stop_of halt)
-  unbegun over d new store two disk halt h inner stays same =
-      subst (λ (f : Fused D). Halts view over d new store.disk f (stop_of halt)) (sym same)
+  pub unbegun : (over found : List Op → Type 0) (d new : DeskView) (store two : StoreState D) (disk : Fused D) (halt : Halt) → HaltsOver view over found d new store.disk two.disk halt → two.disk.inner ≡ store.disk.inner
+      → two.disk.refused ≡ store.disk.refused → FuseStays view store.disk two.disk → disk ≡ disarmed two.disk → Halts view over found d new store.disk disk (stop_of halt)
+  unbegun over found d new store two disk halt h inner refused stays same =
+      subst (λ (f : Fused D). Halts view over found d new store.disk f (stop_of halt)) (sym same)
       (record {
         falls = stays.falls;
         at_ease = record { unarmed = refl; unblown = refl };
-        disk_stays = record { refused = stays.refused; unarmed_falls = stays.unarmed_falls; size = stays.size; faults = stays.faults };
+        disk_stays = record { unarmed_falls = stays.unarmed_falls; size = stays.size; faults = stays.faults };
         halt = halt;
         stops = refl;
-        halted = disarmed_halts over d new store.disk two.disk halt h;
-        quiet = λ empty. rw (inner, stays.refused) (quiet_same (seen view store.disk));
+        halted = disarmed_halts over found d new store.disk two.disk halt h;
+        quiet = λ empty. rw (inner, refused) (quiet_same (seen view store.disk));
       })
 
   -- memory ran out directly after a life began
-  pub begun_halts : (d mid : DeskView) (disk now : Fused D) (tree : Records) → GoesOver (λ opening. AmountsTo tree opening d.core) [] d mid → IsBegun tree d mid → now.inner ≡ disk.inner → now.refused ≡ disk.refused
-      → HaltsOver view (λ opening. AmountsTo tree opening d.core) d mid disk now halts.Memory
+  pub begun_halts : (d mid : DeskView) (disk now : Fused D) (tree : Records) → GoesOver (λ opening. IsLeft tree (state_after opening d.core.log)) [] d mid → IsBegun tree d mid → now.inner ≡ disk.inner → now.refused ≡ disk.refused
+      → HaltsOver view (λ opening. IsLeft tree (state_after opening d.core.log)) (λ opening. IsFoundOn opening d.core tree (seen view disk)) d mid disk now halts.Memory
   begun_halts d mid disk now tree goes begun inner refused =
       record {
         goes = goes;
         why = tt;
-        left = λ opening amounts k has.
-            let kept = begun.kept opening k amounts in
-            rw (inner, refused)
-            (keeps_leaves opening d.core.log mid.core.log (seen view disk) (seen view disk)
-            (record {
-              kept = record { bytes = has.bytes; told = has.told; holds = rw kept has.holds; images = λ image is. rw kept (has.images image is) };
-              time = leaves_same (seen view disk) (HoldsWithin opening mid.core.log);
-              more = begun.more;
-              grows = begun.grows;
-            }));
+        left = λ opening left k has. rw (inner, refused) (keeps_leaves opening d.core.log mid.core.log (seen view disk) (seen view disk) (begun_keeps d mid tree begun opening k (seen view disk) has));
       }

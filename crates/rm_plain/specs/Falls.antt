@@ -1,5 +1,5 @@
 -- The falls of a run's device: one for each life that went down.
-use Rattle.std.specs.Prelude.{ℕ, false, List, [], ◌∷◌, ◌++◌, Option, Some}
+use Rattle.std.specs.Prelude.{ℕ, Bool, List, [], ◌∷◌, ◌++◌, Option, Some}
 use Rattle.rm_types.specs.declared.entries.Entry.{Entry}
 use Rattle.rm_types.specs.declared.entries.Entry.TheVariants.{Down}
 use Rattle.rm_types.specs.declared.operations.Op.{Op}
@@ -25,6 +25,6 @@ falls_from s p (e ∷ log) = falls_at e s.life (close_left p.segments) ++ falls_
 abbrev pub falls_of : Script → List Op → List Entry → List Fallen
 falls_of script opening log = falls_from (opening_state opening) (beginning script) log
 
--- a fall of a device whose fuse was not blown
-abbrev pub fall : ℕ → ℕ → Fallen
-fall calls image = record { calls = calls; image = image; blown = false }
+-- a fall of a device whose fuse was blown, or was not
+abbrev pub fall : ℕ → ℕ → Bool → Fallen
+fall calls image blown = record { calls = calls; image = image; blown = blown }

@@ -10,7 +10,6 @@ use Rattle.rm_core.specs.Seen.{StandsFor}
 use Rattle.rm_core.specs.Words.{as_new}
 use Rattle.rm_desk.specs.View.{DeskView}
 use Rattle.rm_desk.specs.Runs.{IsRun as GoesAlong}
-use Rattle.rm_plain.specs.Along.{IsSound}
 use Rattle.rm_plain.specs.Falls.{falls_of}
 use Rattle.rm_plain.specs.Policy.{MovesByPolicy}
 
@@ -23,9 +22,8 @@ pub record IsRun (opening : List Op) (script : Script) (fallen : List Fallen) (d
   pub policy : MovesByPolicy (as_new d.core) script opening d.core.log
 
 -- a part of a run, with these falls: whatever the run before it was, with it there is a longer one, over each opening list
--- for which this holds; the desk stays sound
+-- for which this holds
 pub record GoesOver (over : List Op → Type 0) (more : List Fallen) (old new : DeskView) : Type 0 where
-  pub sound : IsSound new
   pub settings : new.core.settings ≡ old.core.settings
   pub began : as_new new.core ≡ as_new old.core
   pub lives : length new.place.lives ≤ length old.place.lives

@@ -1,5 +1,5 @@
 -- What the store of a run holds, and what is told of its device.
-use Rattle.std.specs.Prelude.{◌≡◌, ◌≢◌, ◌≤◌, ◌<◌, ℕ, List, [], ◌++◌, true, false, Option, None, Some, slice_get}
+use Rattle.std.specs.Prelude.{◌≡◌, ◌≢◌, ◌≤◌, ◌<◌, ℕ, List, [], ◌++◌, Bool, true, false, Option, None, Some}
 use Rattle.rm_types.specs.declared.entries.Entry.{Entry}
 use Rattle.rm_types.specs.declared.operations.Op.{Op}
 use Rattle.rm_types.specs.declared.scripts.Close.{Close}
@@ -8,25 +8,51 @@ use Rattle.rm_types.specs.Counts.{Rose}
 use Rattle.rm_disk.specs.Disk.{DiskView, EachImage, Leaves}
 use Rattle.rm_disk.specs.Fuse.{Fused}
 use Rattle.rm_formats.specs.Device.{Holds}
+use Rattle.rm_model.specs.Changes.{kept_after_landing}
 use Rattle.rm_model.specs.Lawful.{state_after}
 use Rattle.rm_model.specs.Place.{close_left}
+use Rattle.rm_model.specs.State.{LifeState, Manager}
 use Rattle.rm_plain.specs.Goes.{GoesOver}
-use Rattle.rm_plain.specs.Survives.{HoldsAfter, HoldsWithin}
+use Rattle.rm_plain.specs.Survives.{HoldsAfter, HoldsKept, HoldsWithin}
 use Rattle.rm_store.specs.Store.{StoreState, IsSound, seen, needed_for, room_behind}
 use Rattle.rm_types.specs.Records.{Records}
-use Rattle.rm_core.specs.Adds.{AmountsTo}
-use Rattle.rm_core.specs.Seen.{StandsFor}
+use Rattle.rm_core.specs.Seen.{Seen, StandsFor}
+use Rattle.rm_core.specs.Words.{is_blown, landed_over}
 use Rattle.rm_desk.specs.Does.{IsHanded}
 use Rattle.rm_desk.specs.View.{DeskView}
 use Rattle.rm_plain.specs.declared.halts.Halt.{Halt}
 use Rattle.rm_plain.specs.declared.halts.Halt.TheVariants.{DiskFault, Full, Memory}
 
--- a disk tells its bytes, and they and each image hold the operations that are kept after a log
+-- the life that stands was blown; where none stands, the last one was
+abbrev pub blown_in : Option LifeState → Bool → Bool
+blown_in None blew = blew
+blown_in (Some life) blew = life.blown
+
+abbrev pub has_blown : Manager → Bool
+has_blown s = blown_in s.life s.blew
+
+-- the bytes hold the operations that are kept in a state; once its life was blown, or the last one, they may also hold these and the first that
+-- awaits
+abbrev pub HoldsBy : Bool → Manager → List ℕ → Type 0
+HoldsBy false s bytes = Holds bytes s.kept
+HoldsBy true s bytes = HoldsKept s bytes
+
+abbrev pub HoldsIn : Manager → List ℕ → Type 0
+HoldsIn s bytes = HoldsBy (has_blown s) s bytes
+
+-- a disk tells its bytes, and they and each image hold what they may after a log
 pub record IsKeptOn (opening : List Op) (log : List Entry) (disk : DiskView) : Type 0 where
   pub bytes : List ℕ
   pub told : disk.told ≡ Some bytes
-  pub holds : Holds bytes (state_after opening log).kept
-  pub images : EachImage disk (λ image. Holds image (state_after opening log).kept)
+  pub holds : HoldsIn (state_after opening log) bytes
+  pub images : EachImage disk (HoldsIn (state_after opening log))
+
+-- a disk tells its bytes, and they and each image hold just what the next life begins with over this tree
+pub record IsFoundOn (opening : List Op) (core : Seen) (tree : Records) (disk : DiskView) : Type 0 where
+  pub bytes : List ℕ
+  pub told : disk.told ≡ Some bytes
+  pub holds : Holds bytes (kept_after_landing (state_after opening core.log) (landed_over core tree))
+  pub images : EachImage disk (λ image. Holds image (kept_after_landing (state_after opening core.log) (landed_over core tree)))
 
 -- a disk that has what is kept after a log has what is kept after a longer one, and at each moment between a crash left
 -- what is kept after a part of it, or this and the operation that awaits there
@@ -40,15 +66,16 @@ pub record KeepsOn (opening : List Op) (log longer : List Entry) (old new : Disk
 abbrev pub StoresOn : List Op → DeskView → DeskView → DiskView → DiskView → Type 0
 StoresOn opening old new before now = StandsFor opening old.core → IsKeptOn opening old.core.log before → KeepsOn opening old.core.log new.core.log before now
 
--- a part of a run in which nothing was kept
+-- a part of a run in which the store wrote nothing: what held what it may before still does
 pub record IsUnkept (old new : DeskView) : Type 0 where
-  pub kept : (opening : List Op) → StandsFor opening old.core → (state_after opening new.core.log).kept ≡ (state_after opening old.core.log).kept
+  pub kept : (opening : List Op) → StandsFor opening old.core → (image : List ℕ) → HoldsIn (state_after opening old.core.log) image → HoldsIn (state_after opening new.core.log) image
   pub more : List Entry
   pub grows : new.core.log ≡ old.core.log ++ more
 
 -- a life began over a tree, and nothing else happened
 pub record IsBegun (tree : Records) (old new : DeskView) : Type 0 where
-  pub kept : (opening : List Op) → StandsFor opening old.core → AmountsTo tree opening old.core → (state_after opening new.core.log).kept ≡ (state_after opening old.core.log).kept
+  pub kept : (opening : List Op) → StandsFor opening old.core → (state_after opening new.core.log).kept ≡ kept_after_landing (state_after opening old.core.log) (landed_over old.core tree)
+  pub unblown : (opening : List Op) → StandsFor opening old.core → has_blown (state_after opening new.core.log) ≡ false
   pub more : List Entry
   pub grows : new.core.log ≡ old.core.log ++ more
   pub some : new.core.log ≢ []
@@ -58,19 +85,18 @@ abbrev pub armed_by : Option Close → Option ℕ
 armed_by (Some (Crash calls image)) = Some calls
 armed_by _ = None
 
--- the store serves the desk: nothing but the store changed its disk, no append failed, and the fuse is armed as the
--- current segment says, and not blown
+-- the store serves the desk: nothing but the store changed its disk, the fuse is armed as the current segment says and blown where the life is, and
+-- no append failed unless it is
 pub record Serves {D : Type 0} (view : D → DiskView) (d : DeskView) (store : StoreState D) : Type 0 where
   pub sound : IsSound view store
-  pub unbroken : store.is_broken ≡ false
+  pub unbroken : is_blown d.core ≡ false → store.is_broken ≡ false
   pub armed : store.disk.armed ≡ armed_by (close_left d.place.segments)
-  pub unblown : store.disk.blown ≡ false
+  pub blown : store.disk.blown ≡ is_blown d.core
 
--- a fuse after some of a run: it refused nothing and showed no fall, and its disk has its size and no fewer faults
+-- a fuse after some of a run: it showed no fall, and its disk has its size and no fewer faults
 pub record FuseStays {D : Type 0} (view : D → DiskView) (old new : Fused D) : Type 0 where
   pub falls : new.falls ≡ old.falls
   pub unarmed_falls : new.unarmed_falls ≡ old.unarmed_falls
-  pub refused : new.refused ≡ old.refused
   pub size : (view new.inner).size ≡ (view old.inner).size
   pub faults : (view old.inner).faults ≤ (view new.inner).faults
 
@@ -83,10 +109,10 @@ pub record LeavesOn (opening : List Op) (log longer : List Entry) (old new : Dis
   pub more : List Entry
   pub grows : longer ≡ log ++ more
 
--- the same, where what was kept before is there, over each opening list for which something holds
-abbrev pub LeftOver : (List Op → Type 0) → DeskView → DeskView → DiskView → DiskView → Type 0
-LeftOver over old new before now =
-    (opening : List Op) → over opening → StandsFor opening old.core → IsKeptOn opening old.core.log before → LeavesOn opening old.core.log new.core.log before now
+-- the same over each opening list for which something holds, where this was found on the disk before
+abbrev pub LeftOver : (List Op → Type 0) → (List Op → Type 0) → DeskView → DeskView → DiskView → DiskView → Type 0
+LeftOver over found old new before now =
+    (opening : List Op) → over opening → StandsFor opening old.core → found opening → LeavesOn opening old.core.log new.core.log before now
 
 -- the operation that is with the store needs so much, and a disk of so many bytes has less room; where the disk is known,
 -- the room is that behind what is kept
@@ -98,20 +124,20 @@ pub record IsFull (known : Type 0) (opening : List Op) (log : List Entry) (size 
   pub behind : known → room ≡ room_behind size (state_after opening log).kept
 
 -- why a part of a run halted: the disk inside the fuse counted a fault, while an operation was with the store; or it was full
-abbrev pub IsHaltedBy : {D : Type 0} → (D → DiskView) → (List Op → Type 0) → DeskView → DeskView → Fused D → Fused D → Halt → Type 0
-IsHaltedBy view over old new disk now DiskFault =
+abbrev pub IsHaltedBy : {D : Type 0} → (D → DiskView) → (List Op → Type 0) → (List Op → Type 0) → DeskView → DeskView → Fused D → Fused D → Halt → Type 0
+IsHaltedBy view over found old new disk now DiskFault =
     Rose (view disk.inner).faults (view now.inner).faults × ((opening : List Op) → over opening → StandsFor opening old.core → (op : Op) × IsHanded opening new.core.log op)
-IsHaltedBy view over old new disk now (Full needed room) =
+IsHaltedBy view over found old new disk now (Full needed room) =
     (opening : List Op) → over opening → StandsFor opening old.core
-    → IsFull (IsKeptOn opening old.core.log (seen view disk)) opening new.core.log (view now.inner).size needed room
-IsHaltedBy view over old new disk now Memory = Unit {0}
+    → IsFull (found opening) opening new.core.log (view now.inner).size needed room
+IsHaltedBy view over found old new disk now Memory = Unit {0}
 
 -- a part of a run halted: what was run, why, and what is left on the disk
-pub record HaltsOver {D : Type 0} (view : D → DiskView) (over : List Op → Type 0) (old new : DeskView) (disk now : Fused D) (halt : Halt) : Type 0 where
+pub record HaltsOver {D : Type 0} (view : D → DiskView) (over found : List Op → Type 0) (old new : DeskView) (disk now : Fused D) (halt : Halt) : Type 0 where
   pub goes : GoesOver over [] old new
-  pub why : IsHaltedBy view over old new disk now halt
-  pub left : LeftOver over old new (seen view disk) (seen view now)
+  pub why : IsHaltedBy view over found old new disk now halt
+  pub left : LeftOver over found old new (seen view disk) (seen view now)
 
--- the same over each opening list
+-- the same over each opening list, where the disk had what is kept
 abbrev pub HaltsBy : {D : Type 0} → (D → DiskView) → DeskView → DeskView → Fused D → Fused D → Halt → Type 0
-HaltsBy view old new disk now halt = HaltsOver view (λ opening. Unit {0}) old new disk now halt
+HaltsBy view old new disk now halt = HaltsOver view (λ opening. Unit {0}) (λ opening. IsKeptOn opening old.core.log (seen view disk)) old new disk now halt

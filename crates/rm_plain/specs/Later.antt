@@ -1,24 +1,25 @@
 -- The first life of a script, and those after it.
-use Rattle.std.specs.Prelude.{◌≡◌, ◌≢◌, ◌⊎◌, ◌-◌, ◌^◌, ℕ, List, [], ◌++◌, false, None, Some, Result, Ok, Err}
+use Rattle.std.specs.Prelude.{◌≡◌, ◌≢◌, ◌⊎◌, ℕ, List, [], ◌++◌, false, None, Some, Result, Ok, Err}
 use Rattle.rm_types.specs.declared.operations.Op.{Op}
 use Rattle.rm_types.specs.declared.entries.Entry.{Entry}
 use Rattle.rm_types.specs.Counts.{Rose}
 use Rattle.rm_types.specs.Records.{Records, records}
 use Rattle.rm_disk.specs.declared.fallen.Fallen.{Fallen}
-use Rattle.rm_disk.specs.Disk.{DiskView, IsQuiet, Leaves, Tells}
+use Rattle.rm_disk.specs.Disk.{DiskView, EachImage, IsQuiet, Leaves, Tells}
 use Rattle.rm_disk.specs.Fuse.{Fused}
 use Rattle.rm_formats.specs.Device.{Holds}
+use Rattle.rm_model.specs.Lawful.{state_after}
 use Rattle.rm_plain.specs.Survives.{HoldsWithin, SurvivesAll, SurvivesNow}
 use Rattle.rm_desk.specs.Does.{IsHanded}
 use Rattle.rm_store.specs.Store.{StoreState, IsSound, seen}
-use Rattle.rm_core.specs.Adds.{AmountsTo, CanBeginOver}
+use Rattle.rm_core.specs.Adds.{CanBeginOver, IsLeft}
 use Rattle.rm_core.specs.Seen.{Seen, StandsFor}
 use Rattle.rm_core.specs.Words.{stands}
 use Rattle.rm_desk.specs.View.{DeskView}
 use Rattle.rm_plain.specs.declared.halts.Stop.{Stop}
 use Rattle.rm_plain.specs.declared.halts.Stop.TheVariants.{DiskFault, Damaged, Full, EpochsSpent, Memory}
 use Rattle.rm_plain.specs.Goes.{GoesOver, IsOver}
-use Rattle.rm_plain.specs.Keeping.{IsFull, IsKeptOn, KeepsOn, LeftOver}
+use Rattle.rm_plain.specs.Keeping.{IsFoundOn, IsFull, IsKeptOn, LeftOver}
 use Rattle.rm_plain.specs.Starts.{DiskStays, IsAtEase, Lives}
 use Rattle.rm_plain.specs.Stops.{IsNoStore, IsSpent, IsStoppedBy, NoneLeft}
 
@@ -36,14 +37,15 @@ pub record IsReady {D : Type 0} (view : D → DiskView) (disk : Fused D) (store 
 pub record IsFirst {D : Type 0} (view : D → DiskView) (disk : Fused D) (store : StoreState D) (tree : Records) (opening : List Op) : Type 0 where
   pub ready : IsReady view disk store tree
   pub amounts : tree ≡ records opening
-  pub kept : (bytes : List ℕ) → (seen view disk).told ≡ Some bytes → Holds bytes opening × IsKeptOn opening [] (seen view store.disk)
+  pub kept : (bytes : List ℕ) → (seen view disk).told ≡ Some bytes → Holds bytes opening × EachImage (seen view store.disk) (λ image. Holds image opening)
   pub quiet : IsQuiet (seen view disk) (seen view store.disk)
 
--- the store of a later life, over what was kept
+-- the store of a later life, over what the last one left
 pub record IsAgain {D : Type 0} (view : D → DiskView) (core : Seen) (disk : Fused D) (store : StoreState D) (tree : Records) : Type 0 where
   pub ready : IsReady view disk store tree
-  pub amounts : (opening : List Op) → StandsFor opening core → AmountsTo tree opening core
-  pub kept : (opening : List Op) → StandsFor opening core → IsKeptOn opening core.log (seen view disk) → KeepsOn opening core.log core.log (seen view disk) (seen view store.disk)
+  pub left : (opening : List Op) → StandsFor opening core → IsLeft tree (state_after opening core.log)
+  pub found : (opening : List Op) → StandsFor opening core → IsKeptOn opening core.log (seen view disk) → IsFoundOn opening core tree (seen view store.disk)
+  pub time : (opening : List Op) → StandsFor opening core → IsKeptOn opening core.log (seen view disk) → Leaves (seen view disk) (seen view store.disk) (HoldsWithin opening core.log)
 
 -- no life stands, and one is left in the script
 pub record IsDueAt (d : DeskView) : Type 0 where
@@ -77,11 +79,11 @@ pub record StopsLater {D : Type 0} (view : D → DiskView) (old new : DeskView) 
   pub stays : DiskStays view disk now
   pub at_ease : IsAtEase now
   pub why : (opening : List Op) → StandsFor opening old.core → IsLaterStop view opening old new disk now stop
-  pub left : LeftOver (λ opening. Unit {0}) old new (seen view disk) (seen view now)
+  pub left : LeftOver (λ opening. Unit {0}) (λ opening. IsKeptOn opening old.core.log (seen view disk)) old new (seen view disk) (seen view now)
 
 -- how later lives went
 abbrev pub LaterTo : {D : Type 0} → (D → DiskView) → DeskView → DeskView → Fused D → Fused D → Result (Unit {0}) Stop → Type 0
-LaterTo view old new disk now (Ok _) = Lives view (λ opening. Unit {0}) old new disk now
+LaterTo view old new disk now (Ok _) = Lives view (λ opening. Unit {0}) (λ opening. IsKeptOn opening old.core.log (seen view disk)) old new disk now
 LaterTo view old new disk now (Err stop) = StopsLater view old new disk now stop
 
 -- what the disk held at first, holds now, and could be left of it between

@@ -22,7 +22,6 @@ pub use Rattle.rm_desk.specs.Runs
 pub use Rattle.rm_desk.specs.Does
 pub mod Halted
 pub mod Policy
-pub mod Along
 pub mod Falls
 pub mod Survives
 pub mod Keeping

@@ -1,5 +1,5 @@
 -- What one move of a life does, and how a life ends.
-use Rattle.std.specs.Prelude.{◌≡◌, ℕ, ◌<◌, List, [], ◌∷◌, true, false, None, Some}
+use Rattle.std.specs.Prelude.{◌≡◌, ℕ, ◌<◌, List, [], ◌∷◌, Bool, true, false, None, Some}
 use Rattle.rm_types.specs.declared.operations.Op.{Op}
 use Rattle.rm_disk.specs.Disk.{DiskView}
 use Rattle.rm_store.specs.Store.{StoreState, IsSound, seen}
@@ -38,9 +38,10 @@ pub record ComesToRest {D : Type 0} (view : D → DiskView) (old new : DeskView)
 -- the life went down, and the device is to fall to the image
 pub record WentDown {D : Type 0} (view : D → DiskView) (old new : DeskView) (store now : StoreState D) (image : ℕ) : Type 0 where
   pub calls : ℕ
+  pub blew : Bool
   pub armed : now.disk.armed ≡ Some calls
-  pub unblown : now.disk.blown ≡ false
-  pub goes : Goes (fall calls image ∷ []) old new
+  pub blown : now.disk.blown ≡ blew
+  pub goes : Goes (fall calls image blew ∷ []) old new
   pub down : stands new.core ≡ false
   pub stores : Stores view old new store now
 

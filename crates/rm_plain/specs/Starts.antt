@@ -16,14 +16,13 @@ use Rattle.rm_plain.specs.declared.halts.Stop.{Stop}
 use Rattle.rm_plain.specs.declared.halts.Stop.TheVariants.{DiskFault, Damaged, EpochsSpent, Memory}
 use Rattle.rm_plain.specs.Goes.{GoesOver, IsOver}
 use Rattle.rm_plain.specs.Halted.{stop_of}
-use Rattle.rm_plain.specs.Keeping.{HaltsOver, IsKeptOn, KeepsOn, Serves}
+use Rattle.rm_plain.specs.Keeping.{HaltsOver, KeepsOn, Serves}
 use Rattle.rm_plain.specs.declared.lives.LifeEnd.{LifeEnd}
 use Rattle.rm_plain.specs.declared.lives.LifeEnd.TheVariants.{Rest, Down}
 use Rattle.rm_plain.specs.Stops.{IsNoStore}
 
--- the fuse refused nothing and fell only while it was armed, and its disk has its size and no fewer faults
+-- the fuse fell only while it was armed, and its disk has its size and no fewer faults
 pub record DiskStays {D : Type 0} (view : D → DiskView) (old new : Fused D) : Type 0 where
-  pub refused : new.refused ≡ old.refused
   pub unarmed_falls : new.unarmed_falls ≡ old.unarmed_falls
   pub size : (view new.inner).size ≡ (view old.inner).size
   pub faults : (view old.inner).faults ≤ (view new.inner).faults
@@ -65,13 +64,13 @@ abbrev pub IsRefusedBy : Records → Stop → Type 0
 IsRefusedBy tree EpochsSpent = (2 ^ 24 ≤ tree.next_epoch) ⊎ (2 ^ 63 - 1 ≤ tree.stamp)
 IsRefusedBy tree _ = ⊥
 
--- where a life began over what is kept, and what was kept before it was on its disk, what is kept after it is there
-abbrev pub KeepsOver : (List Op → Type 0) → DeskView → DeskView → DiskView → DiskView → Type 0
-KeepsOver over old new before now =
-    (opening : List Op) → over opening → StandsFor opening old.core → IsKeptOn opening old.core.log before → KeepsOn opening old.core.log new.core.log before now
+-- where lives began over this, and this was found on their disk before, what is kept after them is there
+abbrev pub KeepsOver : (List Op → Type 0) → (List Op → Type 0) → DeskView → DeskView → DiskView → DiskView → Type 0
+KeepsOver over found old new before now =
+    (opening : List Op) → over opening → StandsFor opening old.core → found opening → KeepsOn opening old.core.log new.core.log before now
 
 -- lives were lived to their ends: the device fell so often, and the last life went down, or the run is over
-pub record Lives {D : Type 0} (view : D → DiskView) (over : List Op → Type 0) (old new : DeskView) (disk now : Fused D) : Type 0 where
+pub record Lives {D : Type 0} (view : D → DiskView) (over found : List Op → Type 0) (old new : DeskView) (disk now : Fused D) : Type 0 where
   pub fallen : List Fallen
   pub goes : GoesOver over fallen old new
   pub falls : now.falls ≡ disk.falls ++ fallen
@@ -79,29 +78,29 @@ pub record Lives {D : Type 0} (view : D → DiskView) (over : List Op → Type 0
   pub disk_stays : DiskStays view disk now
   pub ends : (stands new.core ≡ false) ⊎ IsOver new
   pub some : new.core.log ≢ []
-  pub kept : KeepsOver over old new (seen view disk) (seen view now)
+  pub kept : KeepsOver over found old new (seen view disk) (seen view now)
 
 -- a life halted, and stopped the run; where nothing was logged, its disk was left alone
-pub record Halts {D : Type 0} (view : D → DiskView) (over : List Op → Type 0) (old new : DeskView) (disk now : Fused D) (stop : Stop) : Type 0 where
+pub record Halts {D : Type 0} (view : D → DiskView) (over found : List Op → Type 0) (old new : DeskView) (disk now : Fused D) (stop : Stop) : Type 0 where
   pub falls : now.falls ≡ disk.falls
   pub at_ease : IsAtEase now
   pub disk_stays : DiskStays view disk now
   pub halt : Halt
   pub stops : stop ≡ stop_of halt
-  pub halted : HaltsOver view over old new disk now halt
+  pub halted : HaltsOver view over found old new disk now halt
   pub quiet : new.core.log ≡ [] → IsQuiet (seen view disk) (seen view now)
 
 -- how a life that began over a tree went
-abbrev pub LivesTo : {D : Type 0} → (D → DiskView) → (List Op → Type 0) → DeskView → DeskView → Fused D → Fused D → Result (Unit {0}) Stop → Type 0
-LivesTo view over old new disk now (Ok _) = Lives view over old new disk now
-LivesTo view over old new disk now (Err stop) = Halts view over old new disk now stop
+abbrev pub LivesTo : {D : Type 0} → (D → DiskView) → (List Op → Type 0) → (List Op → Type 0) → DeskView → DeskView → Fused D → Fused D → Result (Unit {0}) Stop → Type 0
+LivesTo view over found old new disk now (Ok _) = Lives view over found old new disk now
+LivesTo view over found old new disk now (Err stop) = Halts view over found old new disk now stop
 
 -- a life begins, and its store serves it
-pub record Begins {D : Type 0} (view : D → DiskView) (over : List Op → Type 0) (old new : DeskView) (store now : StoreState D) : Type 0 where
+pub record Begins {D : Type 0} (view : D → DiskView) (over found : List Op → Type 0) (old new : DeskView) (store now : StoreState D) : Type 0 where
   pub stands : stands new.core ≡ true
   pub some : new.core.log ≢ []
   pub serves : Serves view new now
-  pub kept : KeepsOver over old new (seen view store.disk) (seen view now.disk)
+  pub kept : KeepsOver over found old new (seen view store.disk) (seen view now.disk)
 
 -- a device falls to its image where its life went down, and else stays as it is
 abbrev pub FallsBy : {D : Type 0} → (D → DiskView) → (ℕ → D → D → Type 0) → Fused D → Fused D → LifeEnd → Type 0

@@ -3,7 +3,7 @@ use Rattle.std.specs.Prelude.{◌≡◌, ◌≢◌, ◌⊎◌, ◌-◌, ◌^◌,
 use Rattle.rm_types.specs.declared.entries.Entry.{Entry}
 use Rattle.rm_types.specs.declared.operations.Op.{Op}
 use Rattle.rm_types.specs.Counts.{Rose}
-use Rattle.rm_types.specs.Records.{records}
+use Rattle.rm_types.specs.Records.{Records}
 use Rattle.rm_types.specs.declared.scripts.Script.{Script}
 use Rattle.rm_disk.specs.Disk.{DiskView, Tells}
 use Rattle.rm_disk.specs.Fuse.{Fused}
@@ -11,6 +11,7 @@ use Rattle.rm_formats.specs.Device.{Holds}
 use Rattle.rm_model.specs.Lawful.{place_after, state_after}
 use Rattle.rm_store.specs.Causes.{IsWhy}
 use Rattle.rm_store.specs.declared.fault.StoreError.TheVariants as store
+use Rattle.rm_core.specs.Adds.{IsLeft}
 use Rattle.rm_desk.specs.Does.{IsHanded}
 use Rattle.rm_store.specs.Store.{seen}
 use Rattle.rm_plain.specs.Keeping.{IsFull}
@@ -25,9 +26,9 @@ IsNoStore offset bytes = IsWhy bytes (store.Damaged offset) ⊎ ((number : ℕ) 
 abbrev pub IsDamaged : DiskView → List Op → List Entry → ℕ → Type 0
 IsDamaged disk opening log offset = Tells disk (λ bytes. (log ≡ []) × (opening ≡ []) × IsNoStore offset bytes)
 
--- no epoch or no stamp is left for one more life over what is kept
+-- no epoch or no stamp is left for one more life over what the last one left
 abbrev pub NoneLeft : List Op → List Entry → Type 0
-NoneLeft opening log = (2 ^ 24 ≤ (records (state_after opening log).kept).next_epoch) ⊎ (2 ^ 63 - 1 ≤ (records (state_after opening log).kept).stamp)
+NoneLeft opening log = (tree : Records) × IsLeft tree (state_after opening log) × ((2 ^ 24 ≤ tree.next_epoch) ⊎ (2 ^ 63 - 1 ≤ tree.stamp))
 
 -- the disk held the opening list, and no epoch or no stamp is left for one more life
 abbrev pub IsSpent : DiskView → List Op → List Entry → Type 0

@@ -2,7 +2,6 @@
 use Rattle.std.specs.Prelude.{◌≡◌, ◌≢◌, ◌⊎◌, List, [], ◌++◌, None, false, Result, IsOk, OnOk, IfErr}
 use Rattle.rm_types.specs.declared.operations.Op.{Op}
 use Rattle.rm_disk.specs.declared.fallen.Fallen.{Fallen}
-use Rattle.rm_types.specs.Records.{records}
 use Rattle.rm_disk.specs.Disk.{DiskView, IsQuiet, Tells}
 use Rattle.rm_disk.specs.Fuse.{Fused}
 use Rattle.rm_formats.specs.Device.{Holds}

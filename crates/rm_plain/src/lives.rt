@@ -3,7 +3,6 @@ ghost use Rattle.rm_store.specs.Store.{IsSound as IsStoreSound, seen};
 ghost use Rattle.rm_model.specs.Place.{close_left};
 ghost use Rattle.rm_core.specs.Words.{stands};
 ghost use Rattle.rm_desk.specs.Lanes.{IsStep, is_ready_at};
-ghost use Rattle.rm_plain.specs.Along.{IsSound};
 ghost use Rattle.rm_plain.specs.Goes.{Goes};
 ghost use Rattle.rm_plain.specs.Keeping.{FuseStays, HaltsBy, Serves};
 ghost use Rattle.rm_types.specs.declared.messages.Lane.{Lane};
@@ -43,7 +42,6 @@ pub enum LifeEnd {
 
 /// The current segment settles, and the fuse is armed where the next one is to crash.
 fn settle_on<D: Disk>(d: &mut Desk, store: &mut Store<D>) -> Result<(), Halt>
-    requires sound { IsSound d.old }
     requires ready { is_ready_at d.old Lane.End ≡ true }
     requires chosen { find (is_ready_at d.old) policy ≡ Some Lane.End }
     requires settles { close_left d.old.place.segments ≡ Some Close.Settle }
@@ -52,13 +50,14 @@ fn settle_on<D: Disk>(d: &mut Desk, store: &mut Store<D>) -> Result<(), Halt>
     ensures fuse { FuseStays D.view store.old.disk store.new.disk }
     ensures halts { IfErr result (HaltsBy D.view d.old d.new store.old.disk store.new.disk) }
 {
+    d.law();
     memory_only(d.step(Lane::End))?;
+    d.law();
     arm(d, store)
 }
 
 /// A ready lane moves that doesn't touch the store.
 fn work_on<D: Disk>(d: &mut Desk, store: &Store<D>, lane: Lane) -> Result<(), Halt>
-    requires sound { IsSound d.old }
     requires ready { is_ready_at d.old lane ≡ true }
     requires chosen { find (is_ready_at d.old) policy ≡ Some lane }
     requires step { IsStep lane }
@@ -68,13 +67,14 @@ fn work_on<D: Disk>(d: &mut Desk, store: &Store<D>, lane: Lane) -> Result<(), Ha
     ensures halts { IfErr result (HaltsBy D.view d.old d.new store.now.disk store.now.disk) }
 {
     let _ = store;
+    d.law();
     memory_only(d.step(lane))?;
+    d.law();
     Ok(())
 }
 
 /// The current segment closes: it settles, or the life goes down.
 fn close<D: Disk>(d: &mut Desk, store: &mut Store<D>) -> Result<Moved, Halt>
-    requires sound { IsSound d.old }
     requires ready { is_ready_at d.old Lane.End ≡ true }
     requires chosen { find (is_ready_at d.old) policy ≡ Some Lane.End }
     requires serves { Serves D.view d.old store.old }
@@ -86,6 +86,7 @@ fn close<D: Disk>(d: &mut Desk, store: &mut Store<D>) -> Result<Moved, Halt>
         Some(Close::Crash { image, .. }) => {
             d.law();
             memory_only(d.step(Lane::End))?;
+            d.law();
             Ok(Moved::Down { image })
         }
         Some(Close::Settle) => {
@@ -98,7 +99,6 @@ fn close<D: Disk>(d: &mut Desk, store: &mut Store<D>) -> Result<Moved, Halt>
 
 /// A ready lane moves.
 fn advance<D: Disk>(d: &mut Desk, store: &mut Store<D>, lane: Lane) -> Result<Moved, Halt>
-    requires sound { IsSound d.old }
     requires ready { is_ready_at d.old lane ≡ true }
     requires chosen { find (is_ready_at d.old) policy ≡ Some lane }
     requires stands { stands d.old.core ≡ true }
@@ -123,7 +123,6 @@ fn advance<D: Disk>(d: &mut Desk, store: &mut Store<D>, lane: Lane) -> Result<Mo
 
 /// The first lane that is ready moves, in the policy's order.
 pub(crate) fn tick<D: Disk>(d: &mut Desk, store: &mut Store<D>) -> Result<Moved, Halt>
-    requires sound { IsSound d.old }
     requires stands { stands d.old.core ≡ true }
     requires serves { Serves D.view d.old store.old }
     ensures moves { IfOk result (MovesTo D.view d.old d.new store.old store.new) }
@@ -145,7 +144,6 @@ pub(crate) fn tick<D: Disk>(d: &mut Desk, store: &mut Store<D>) -> Result<Moved,
 /// only where the operation with the store needs more than the disk has left. After a halt the desk is as the
 /// moves made so far left it.
 pub fn run_life<D: Disk>(d: &mut Desk, store: &mut Store<D>) -> Result<LifeEnd, Halt>
-    requires sound { IsSound d.old }
     requires stands { stands d.old.core ≡ true }
     requires serves { Serves D.view d.old store.old }
     ensures ends { IfOk result (EndsBy D.view d.old d.new store.old store.new) }

@@ -7,11 +7,11 @@ ghost use Rattle.rm_model.specs.Downs.{AllGoDownAtRest};
 ghost use Rattle.rm_model.specs.Lawful.{Lawful, IsDone};
 ghost use Rattle.rm_model.specs.State.{opening_state};
 ghost use Rattle.rm_core.specs.Words.{new_manager, stands};
+ghost use Rattle.rm_desk.specs.Scripts.{CanGoAlong};
 ghost use Rattle.rm_plain.specs.Goes.{IsOver};
 ghost use Rattle.rm_types.specs.Records.{records};
 ghost use Rattle.rm_plain.specs.Survives.{SurvivesAll, SurvivesNow};
 ghost use Rattle.rm_store.specs.Store.{seen};
-ghost use Rattle.rm_plain.specs.Along.{CanRun, IsSound};
 ghost use Rattle.rm_plain.specs.Falls.{falls_of};
 ghost use Rattle.rm_plain.specs.Later.{FirstTo, LaterTo};
 ghost use Rattle.rm_plain.specs.Policy.{MovesByPolicy};
@@ -46,7 +46,6 @@ struct First<D: Disk> {
 
 /// The first life of a script, over whatever its disk holds.
 fn first_life<D: Disk>(alloc: Global, d: &mut Desk, disk: Fuse<D>) -> First<D>
-    requires sound { IsSound d.old }
     requires dead { stands d.old.core ≡ false }
     requires lives { d.old.place.lives ≢ [] }
     requires empty { d.old.core.log ≡ [] }
@@ -72,7 +71,6 @@ fn first_life<D: Disk>(alloc: Global, d: &mut Desk, disk: Fuse<D>) -> First<D>
 
 /// A later life of a script, over what was kept.
 fn next_life<D: Disk>(alloc: Global, d: &mut Desk, disk: Fuse<D>) -> Lived<D>
-    requires sound { IsSound d.old }
     requires dead { stands d.old.core ≡ false }
     requires lives { d.old.place.lives ≢ [] }
     requires some { d.old.core.log ≢ [] }
@@ -91,7 +89,6 @@ fn next_life<D: Disk>(alloc: Global, d: &mut Desk, disk: Fuse<D>) -> Lived<D>
 
 /// The lives that are left of a script, after one that ended.
 fn later_lives<D: Disk>(alloc: Global, d: &mut Desk, disk: Fuse<D>) -> Lived<D>
-    requires sound { IsSound d.old }
     requires ends { (stands d.old.core ≡ false) ⊎ IsOver d.old }
     requires some { d.old.core.log ≢ [] }
     requires at_ease { IsAtEase disk }
@@ -117,7 +114,6 @@ fn later_lives<D: Disk>(alloc: Global, d: &mut Desk, disk: Fuse<D>) -> Lived<D>
 
 /// All lives of a script, over whatever its disk holds. A script without lives leaves its disk as it is.
 fn all_lives<D: Disk>(alloc: Global, d: &mut Desk, disk: Fuse<D>) -> First<D>
-    requires sound { IsSound d.old }
     requires dead { stands d.old.core ≡ false }
     requires empty { d.old.core.log ≡ [] }
     requires unarmed { disk.armed ≡ None }
@@ -177,7 +173,7 @@ pub fn run_script<D: Disk>(
     script: Script,
     disk: Fuse<D>,
 ) -> Run<D>
-    requires script { CanRun script }
+    requires script { CanGoAlong script }
     requires queues { KeepsRules settings }
     requires limits { KeepsLimits settings }
     requires unarmed { disk.armed ≡ None }

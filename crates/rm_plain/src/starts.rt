@@ -4,16 +4,16 @@ ghost use Rattle.rm_disk.specs.Fuse.{Fused};
 ghost use Rattle.rm_formats.specs.Device.{Holds};
 ghost use Rattle.rm_store.specs.Errors.{IsOpenError};
 ghost use Rattle.rm_store.specs.Store.{IsSound as IsStoreSound, seen};
-ghost use Rattle.rm_core.specs.Adds.{AmountsTo, CanBeginOver};
+ghost use Rattle.rm_core.specs.Adds.{CanBeginOver, IsLeft};
+ghost use Rattle.rm_model.specs.Lawful.{state_after};
 ghost use Rattle.rm_core.specs.Words.{stands};
 ghost use Rattle.rm_types.specs.declared.operations.Op.{Op as AnyOp};
 ghost use Rattle.rm_core.specs.Seen.{StandsFor};
-ghost use Rattle.rm_plain.specs.Along.{IsSound};
 ghost use Rattle.rm_plain.specs.Later.{IsAgain, IsFirst, IsUnfounded, IsUnready};
 ghost use Rattle.rm_plain.specs.declared.halts.Halt.{Halt};
 ghost use Rattle.rm_plain.specs.Goes.{GoesOver};
 ghost use Rattle.rm_plain.specs.Halted.{stop_at_open};
-ghost use Rattle.rm_plain.specs.Keeping.{FuseStays, HaltsOver};
+ghost use Rattle.rm_plain.specs.Keeping.{FuseStays, HaltsOver, IsFoundOn};
 ghost use Rattle.rm_plain.specs.Starts.{Begins, FallsBy, IsGivenBack, IsOpened, IsRefusedBy, IsUnopenedBy, Leaves, LivesTo};
 
 use crate::halts::{Halt, Stop};
@@ -24,7 +24,7 @@ use rm_desk::Desk;
 use rm_disk::{Disk, Fuse};
 use rm_store::{OpenFail, Store, StoreError};
 use rm_tree::Tree;
-use rm_types::{Items, Op};
+use rm_types::{Items, NoMemory, Op};
 use std::alloc::Global;
 
 /// Why no store was opened, and its disk.
@@ -89,9 +89,8 @@ pub(crate) fn can_begin(tree: &Tree) -> Result<(), Stop>
     Ok(())
 }
 
-/// A life begins over what the store holds, and the fuse is armed where its first segment is to crash.
+/// A life begins over what the last one left in the store, and the fuse is armed where its first segment is to crash.
 fn begin_life<D: Disk>(d: &mut Desk, store: &mut Store<D>, tree: Tree) -> Result<(), Halt>
-    requires sound { IsSound d.old }
     requires dead { stands d.old.core ≡ false }
     requires lives { d.old.place.lives ≢ [] }
     requires over { CanBeginOver tree }
@@ -99,12 +98,13 @@ fn begin_life<D: Disk>(d: &mut Desk, store: &mut Store<D>, tree: Tree) -> Result
     requires unbroken { store.old.is_broken ≡ false }
     requires unarmed { store.old.disk.armed ≡ None }
     requires unblown { store.old.disk.blown ≡ false }
-    ensures goes { GoesOver (λ opening. AmountsTo tree opening d.old.core) [] d.old d.new }
-    ensures begun { OnOk result (Begins D.view (λ opening. AmountsTo tree opening d.old.core) d.old d.new store.old store.new) }
+    ensures goes { GoesOver (λ opening. IsLeft tree (state_after opening d.old.core.log)) [] d.old d.new }
+    ensures begun { OnOk result (Begins D.view (λ opening. IsLeft tree (state_after opening d.old.core.log)) (λ opening. IsFoundOn opening d.old.core tree (seen D.view store.old.disk)) d.old d.new store.old store.new) }
     ensures fuse { FuseStays D.view store.old.disk store.new.disk }
     ensures fewer { OnOk result (length d.new.place.lives < length d.old.place.lives) }
     ensures inner { store.new.disk.inner ≡ store.old.disk.inner }
-    ensures halts { IfErr result (HaltsOver D.view (λ opening. AmountsTo tree opening d.old.core) d.old d.new store.old.disk store.new.disk) }
+    ensures refused { store.new.disk.refused ≡ store.old.disk.refused }
+    ensures halts { IfErr result (HaltsOver D.view (λ opening. IsLeft tree (state_after opening d.old.core.log)) (λ opening. IsFoundOn opening d.old.core tree (seen D.view store.old.disk)) d.old d.new store.old.disk store.new.disk) }
 {
     d.law();
     memory_only(d.begin(tree))?;
@@ -142,9 +142,8 @@ fn leave<D: Disk>(store: Store<D>, ended: Result<LifeEnd, Halt>) -> Lived<D>
     }
 }
 
-/// A life begins over what the store holds, and lives to its end; where it went down, its device has fallen.
+/// A life begins over what the last one left in the store, and lives to its end; where it went down, its device has fallen.
 pub(crate) fn live<D: Disk>(d: &mut Desk, store: Store<D>, tree: Tree) -> Lived<D>
-    requires sound { IsSound d.old }
     requires dead { stands d.old.core ≡ false }
     requires lives { d.old.place.lives ≢ [] }
     requires over { CanBeginOver tree }
@@ -152,7 +151,7 @@ pub(crate) fn live<D: Disk>(d: &mut Desk, store: Store<D>, tree: Tree) -> Lived<
     requires unbroken { store.is_broken ≡ false }
     requires unarmed { store.disk.armed ≡ None }
     requires unblown { store.disk.blown ≡ false }
-    ensures lived { LivesTo D.view (λ opening. AmountsTo tree opening d.old.core) d.old d.new store.disk result.disk result.ended }
+    ensures lived { LivesTo D.view (λ opening. IsLeft tree (state_after opening d.old.core.log)) (λ opening. IsFoundOn opening d.old.core tree (seen D.view store.disk)) d.old d.new store.disk result.disk result.ended }
     ensures fewer { OnOk result.ended (length d.new.place.lives < length d.old.place.lives) }
 {
     let mut store = store;
@@ -204,14 +203,15 @@ pub(crate) fn open_first<D: Disk>(
     }
 }
 
-/// Opens the store of a later life: one that holds just what was kept, and that a life can begin over. A disk
-/// that tells its bytes never holds anything else.
+/// Opens the store of a later life: one that holds what was kept or, where the last life blew, this and the operation
+/// that awaited first, and that a life can begin over. A disk that tells its bytes never holds anything else.
 pub(crate) fn open_again<D: Disk>(
     alloc: Global,
     d: &Desk,
     disk: Fuse<D>,
 ) -> Result<(Store<D>, Tree), Unopened<D>>
     requires unarmed { disk.armed ≡ None }
+    requires dead { stands d.now.core ≡ false }
     requires some { d.now.core.log ≢ [] }
     ensures again { IfOk result (λ again. IsAgain D.view d.now.core disk again.0 again.1) }
     ensures why { IfErr result (λ none. (opening : List AnyOp) → StandsFor opening d.now.core → IsUnready D.view opening d.now.core.log disk none.disk none.why) }
@@ -221,11 +221,21 @@ pub(crate) fn open_again<D: Disk>(
         Ok((store, tree, _)) => (store, tree),
         Err(unopened) => return Err(unopened),
     };
-    if !d.is_known(&tree) {
-        return Err(Unopened {
-            why: Stop::Damaged { offset: 0 },
-            disk: store.close(),
-        });
+    d.law();
+    match d.is_left(&tree) {
+        Ok(true) => {}
+        Ok(false) => {
+            return Err(Unopened {
+                why: Stop::Damaged { offset: 0 },
+                disk: store.close(),
+            });
+        }
+        Err(NoMemory) => {
+            return Err(Unopened {
+                why: Stop::Memory,
+                disk: store.close(),
+            });
+        }
     }
     match can_begin(&tree) {
         Ok(()) => Ok((store, tree)),

@@ -2,10 +2,9 @@ ghost use Rattle.std.specs.Prelude.{◌≡◌, ◌<◌, List, [], find, OnOk, On
 ghost use Rattle.rm_types.specs.declared.messages.Lane.{Lane};
 ghost use Rattle.rm_types.specs.declared.operations.Op.{Op as AnyOp};
 ghost use Rattle.rm_store.specs.Store.{IsSound as IsStoreSound, seen};
-ghost use Rattle.rm_core.specs.Words.{stands};
+ghost use Rattle.rm_core.specs.Words.{is_blown, stands};
 ghost use Rattle.rm_desk.specs.Lanes.{is_ready_at};
 ghost use Rattle.rm_desk.specs.Runs.{left};
-ghost use Rattle.rm_plain.specs.Along.{IsSound};
 ghost use Rattle.rm_plain.specs.Goes.{Goes};
 ghost use Rattle.rm_plain.specs.Halted.{halt_of};
 ghost use Rattle.rm_plain.specs.Keeping.{FuseStays, HaltsBy, Serves, StoresOn};
@@ -29,9 +28,8 @@ fn halt_of(error: StoreError) -> Halt
     }
 }
 
-/// The store keeps the operation that is with it, and then the manager learns so.
+/// The store keeps the operation that is with it, or its fuse refuses it; then the manager learns so.
 pub(crate) fn keep<D: Disk>(d: &mut Desk, store: &mut Store<D>) -> Result<(), Halt>
-    requires sound { IsSound d.old }
     requires ready { is_ready_at d.old Lane.Write ≡ true }
     requires chosen { find (is_ready_at d.old) policy ≡ Some Lane.Write }
     requires serves { Serves D.view d.old store.old }
@@ -46,7 +44,12 @@ pub(crate) fn keep<D: Disk>(d: &mut Desk, store: &mut Store<D>) -> Result<(), Ha
     d.law();
     let Some(op) = d.handed() else { unreachable!() };
     if let Err(error) = store.append(op) {
-        return Err(halt_of(error));
+        if !store.fuse().blown() {
+            return Err(halt_of(error));
+        }
+        let passed = store.fuse().passed();
+        memory_only(d.blown(passed))?;
+        return Ok(());
     }
     memory_only(d.kept())?;
     Ok(())
@@ -58,8 +61,10 @@ pub(crate) fn arm<D: Disk>(d: &Desk, store: &mut Store<D>) -> Result<(), Halt>
     requires unbroken { store.old.is_broken ≡ false }
     requires unarmed { store.old.disk.armed ≡ None }
     requires unblown { store.old.disk.blown ≡ false }
+    requires whole { is_blown d.now.core ≡ false }
     ensures serves { OnOk result (Serves D.view d.now store.new) }
     ensures inner { store.new.disk.inner ≡ store.old.disk.inner }
+    ensures refused { store.new.disk.refused ≡ store.old.disk.refused }
     ensures fuse { FuseStays D.view store.old.disk store.new.disk }
     ensures halts { IfErr result (λ halt. halt ≡ Halt.Memory) }
 {

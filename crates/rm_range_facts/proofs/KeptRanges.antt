@@ -142,7 +142,7 @@ kept_ranged t r (ops.Remove id) rest front =
     (grants_less t.rows (without_row id t.rows) t.sched t.sched t.served t.served (grants_gone id t.rows) (omega arith) (omega arith) r.grants) r.asks r.ended
 
 -- what is with the store
-with_store : (t : Tables) → Ranged t → (handed blown : Bool) → Ranged (record t { handed = handed; blown = blown })
+pub with_store : (t : Tables) → Ranged t → (handed blown : Bool) → Ranged (record t { handed = handed; blown = blown })
 with_store t r handed blown =
     record {
       tree = r.tree;

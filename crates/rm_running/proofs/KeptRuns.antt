@@ -11,7 +11,7 @@ use Rattle.rm_types.specs.Records.{fits_records}
 use Rattle.rm_model.specs.Facts.{is_epoch_op}
 use Rattle.rm_tables.specs.declared.tables.Tables.{Tables}
 use Rattle.rm_tables.specs.KeptOps.{kept}
-use Rattle.rm_tables.specs.Lives.{handed_out}
+use Rattle.rm_tables.specs.Lives.{handed_out, refused}
 use Rattle.rm_facts.specs.Told.{History}
 use Rattle.rm_moves.specs.Messages.{KeepsLimits}
 use Rattle.rm_agreement_facts.specs.Whole.{Whole, WholeStep}
@@ -21,7 +21,7 @@ use Rattle.rm_message_facts.proofs.Marked.{still_on_way}
 use Rattle.rm_message_facts.proofs.MarkedOps.{kept_on_way}
 use Rattle.rm_life_facts.specs.Sides.{Sides}
 use Rattle.rm_life_facts.proofs.KeptSides.{app_sides, attempt_sides, end_sides, ended_sides, removed_sides}
-use Rattle.rm_range_facts.proofs.KeptRanges.{first_awaiting, handed_ranged, kept_ranged}
+use Rattle.rm_range_facts.proofs.KeptRanges.{first_awaiting, kept_ranged, with_store as store_ranged}
 use Rattle.rm_range_facts.proofs.NextFits.{next_fits}
 use Rattle.rm_rest_facts.proofs.Names.{step_apart}
 use Rattle.rm_weight_facts.proofs.Keeping.{kept_lighter}
@@ -49,16 +49,16 @@ module _ (h : History) (t : Tables) (r : Running h t) where
 
   -- HANDING
 
-  -- the first awaiting operation is handed to the store
-  pub hand_running : t.awaiting ≢ [] → Running h (handed_out t)
-  hand_running some =
+  -- whether an operation is with the store, or was refused, is nothing to what was gathered
+  with_store : (handed blown : Bool) → (handed ≡ true → t.awaiting ≢ []) → (blown ≡ true → handed ≡ false) → Running h (record t { handed = handed; blown = blown })
+  with_store handed blown awaits calm =
       let w = r.whole in
       let s = r.sides in
-      let g = r.ranged in
+      let next : Tables = record t { handed = handed; blown = blown } in
       record {
         alive = r.alive;
-        unblown = r.unblown;
-        handed = λ is. some;
+        calm = calm;
+        handed = awaits;
         limits = r.limits;
         whole = record {
           keeps = record { is_open = w.keeps.is_open; recorded = w.keeps.recorded; all = w.keeps.all };
@@ -86,27 +86,32 @@ module _ (h : History) (t : Tables) (r : Running h t) where
           retired = s.retired;
         };
         fits = r.fits;
-        ranged = handed_ranged t g;
+        ranged = store_ranged t r.ranged handed blown;
         reported = r.reported;
-        on_way = still_on_way h h t (handed_out t) refl refl refl r.on_way;
+        on_way = still_on_way h h t next refl refl refl r.on_way;
         apart = r.apart;
         begun = record { main = r.begun.main; awaiting = r.begun.awaiting };
       }
 
-  pub hand_runs : t.awaiting ≢ [] → t.handed ≡ false → GoesOwn h t Handed (handed_out t)
-  hand_runs some free =
-      let runs = hand_running some in
+  -- the first awaiting operation is handed to the store
+  pub hand_runs : t.awaiting ≢ [] → t.handed ≡ false → t.blown ≡ false → GoesOwn h t Handed (handed_out t)
+  hand_runs some free unblown =
+      let runs = with_store true t.blown (λ is. some) (λ blown. absurd (let x = sym unblown ∙ blown in cc)) in
       record {
         goes = record {
           history = h;
-          step = record { lawful = record { some_awaits = some; none_handed = free; not_blown = r.unblown }; same = refl; keeps = runs.whole.keeps };
+          step = record { lawful = record { some_awaits = some; none_handed = free; not_blown = unblown }; same = refl; keeps = runs.whole.keeps };
           runs = runs;
-          stays = record { settings = refl; alloc = refl; alive = refl; epoch = refl; blown = refl; handed = λ before is. some; begun = λ b. record { main = b.main; awaiting = b.awaiting } };
+          stays = record { settings = refl; alloc = refl; alive = refl; epoch = refl; blown = refl; calm = λ c. runs.calm; handed = λ before is. some; begun = λ b. record { main = b.main; awaiting = b.awaiting } };
         };
         lighter = hand_lighter t free some;
         given = refl;
         served = refl;
       }
+
+  -- the store refuses the operation that is with it
+  pub blow_running : Running h (refused t)
+  blow_running = with_store false true (λ is. cc) (λ blown. refl)
 
   -- KEEPING
 
@@ -151,7 +156,7 @@ module _ (h : History) (t : Tables) (r : Running h t) where
             step = s.step;
             runs = record {
               alive = stays.alive ∙ r.alive;
-              unblown = stays.blown ∙ r.unblown;
+              calm = stays.calm r.calm;
               handed = stays.handed r.handed;
               limits = subst KeepsLimits (sym stays.settings) r.limits;
               whole = subst (λ (one : Settings). Whole one s.next (kept op t)) (sym stays.settings) s.whole;

@@ -123,6 +123,7 @@ start_leads h t rest s front =
       lighter = epoch_start_lighter t rest front;
       stood = alive;
       stands = alive;
+      blown = refl;
       served = refl;
     }
 
@@ -182,7 +183,7 @@ module _ (h : History) (t : Tables) (s : Saving h t) (next stamp : ℕ) (rest : 
       let w = open_whole in
       record {
         alive = stands h t b;
-        unblown = unblown h t b;
+        calm = λ blown. refl;
         handed = λ is. cc;
         limits = b.limits;
         whole = w.whole;
@@ -215,5 +216,6 @@ module _ (h : History) (t : Tables) (s : Saving h t) (next stamp : ℕ) (rest : 
         lighter = epoch_lighter t next stamp rest front alive (closed h t b) s.main (no_sched h t b);
         stood = alive;
         stands = alive;
+        blown = refl;
         served = refl;
       }

@@ -1,36 +1,45 @@
 -- Each move of the manager's own, in each phase of a life.
-use Rattle.std.proofs.Common.{◌≡◌, ◌≢◌, ◌+◌, ◌<◌, ◌^◌, List, [], ◌∷◌, true, false, ◌||◌, length, refl, sym, ◌∙◌, ap, subst, arith}
+use Rattle.std.proofs.Common.{◌≡◌, ◌≢◌, ◌+◌, ◌<◌, ◌^◌, ℕ, List, [], ◌∷◌, Bool, true, false, length, refl, sym, ◌∙◌, ap, subst, arith}
 use Rattle.std.proofs.lemmas.Bool.Decides.{nat_tests}
 use Rattle.rm_types.specs.declared.entries.Entry.{Entry}
-use Rattle.rm_types.specs.declared.entries.Entry.TheVariants.{Down, Handed, Kept as KeptEntry}
+use Rattle.rm_types.specs.declared.entries.Entry.TheVariants.{Blown, Down, Handed, Kept as KeptEntry, Served}
 use Rattle.rm_types.specs.declared.ids.AppId.{AppId}
 use Rattle.rm_types.specs.declared.ids.ContainerId.{ContainerId}
+use Rattle.rm_types.specs.declared.messages.ClientAsk.TheVariants as clients
+use Rattle.rm_types.specs.declared.messages.ClockAsk.TheVariants as clocks
+use Rattle.rm_types.specs.declared.messages.MasterAsk.TheVariants as masters
+use Rattle.rm_types.specs.declared.messages.Message.{Message}
+use Rattle.rm_types.specs.declared.messages.Message.TheVariants as messages
+use Rattle.rm_types.specs.declared.messages.NodeAsk.TheVariants as nodes
 use Rattle.rm_types.specs.declared.operations.Op.{Op}
 use Rattle.rm_types.specs.declared.operations.Op.TheVariants as ops
+use Rattle.rm_types.specs.declared.replies.Reply.TheVariants.{NotOpen}
+use Rattle.rm_types.specs.Lanes.{sender_of}
 use Rattle.rm_types.specs.Ranges.{IsOperation}
 use Rattle.rm_types.specs.Records.{fits_records, records}
-use Rattle.rm_model.specs.Changes.{after}
+use Rattle.rm_model.specs.Changes.{after, in_life}
 use Rattle.rm_model.specs.Facts.{attempts_in}
+use Rattle.rm_model.specs.Replies.{life_after}
 use Rattle.rm_model.specs.Rules.{Allowed}
-use Rattle.rm_model.specs.State.{Manager}
+use Rattle.rm_model.specs.State.{LifeState, Manager, Scene, scene}
 use Rattle.rm_tables.specs.declared.events.MainEvent.{MainEvent}
 use Rattle.rm_tables.specs.declared.events.MainEvent.TheVariants as mains
 use Rattle.rm_tables.specs.declared.events.SchedEvent.{SchedEvent}
 use Rattle.rm_tables.specs.declared.tables.Tables.{Tables}
 use Rattle.rm_tables.specs.Actions.{found_in, main_worked, sched_worked}
 use Rattle.rm_tables.specs.KeptOps.{kept}
-use Rattle.rm_tables.specs.Lives.{gone_down, handed_out}
+use Rattle.rm_tables.specs.Lives.{gone_down, handed_out, refused}
 use Rattle.rm_tables.specs.MainEvents.{main_step}
 use Rattle.rm_tables.specs.SchedEvents.{EndsBy, sched_step}
-use Rattle.rm_facts.specs.Told.{History}
+use Rattle.rm_facts.specs.Told.{History, life_in, standing}
 use Rattle.rm_range_facts.proofs.Called.{epoch_few}
 use Rattle.rm_range_facts.proofs.Passable.{few_recorded}
 use Rattle.rm_weight_facts.proofs.Lives.{hand_lighter}
 use Rattle.rm_running.specs.Goes.{Goes, GoesOwn}
-use Rattle.rm_running.specs.Phases.{Leads, LeadsOwn, Phase, Saving, Starting, none, running, saving, starting}
+use Rattle.rm_running.specs.Phases.{Leads, LeadsOwn, Phase, Saving, Shut, Starting, none, running, saving, shut, starting}
 use Rattle.rm_running.specs.Running.{Running}
-use Rattle.rm_running.proofs.KeptRuns.{first_fits, first_framed, hand_runs, kept_runs}
-use Rattle.rm_running.proofs.OpeningRuns.{hand_saving, no_sched, open_leads, recorded, stands, start_leads, told_standing, unblown}
+use Rattle.rm_running.proofs.KeptRuns.{blow_running, first_fits, first_framed, hand_runs, kept_runs}
+use Rattle.rm_running.proofs.OpeningRuns.{closed, hand_saving, no_sched, open_leads, recorded, stands, start_leads, told_standing, unblown}
 use Rattle.rm_running.proofs.QueueRuns.{main_runs, sched_runs}
 
 -- a move of an open life, by its tables
@@ -50,7 +59,7 @@ goes_leads h t e next alive g =
 
 own_leads : (h : History) (t : Tables) (e : Entry) (next : Tables) → t.alive ≡ true → GoesOwn h t e next → LeadsOwn h t e next
 own_leads h t e next alive g =
-    record { leads = goes_leads h t e next alive g.goes; lighter = g.lighter; stood = alive; stands = g.goes.stays.alive ∙ alive; served = g.served }
+    record { leads = goes_leads h t e next alive g.goes; lighter = g.lighter; stood = alive; stands = g.goes.stays.alive ∙ alive; blown = g.goes.stays.blown; served = g.served }
 
 -- THE QUEUES
 
@@ -67,6 +76,7 @@ pub main_leads : (h : History) (t : Tables) (event : MainEvent) (rest : List Mai
 main_leads h t event rest (none n) front = absurd (let e = sym n.main ∙ front in cc)
 main_leads h t event rest (starting s) front = starting_main h t event rest s front
 main_leads h t event rest (saving s) front = absurd (let e = sym s.main ∙ front in cc)
+main_leads h t event rest (shut s) front = absurd (let e = sym s.main ∙ front in cc)
 main_leads h t event rest (running r) front = own_leads h t _ _ r.alive (main_runs h t r event rest front)
 
 -- where an event waits, the epoch and the attempts of each application leave room for one more
@@ -75,6 +85,7 @@ pub main_called : (h : History) (t : Tables) (event : MainEvent) (rest : List Ma
 main_called h t event rest (none n) front = absurd (let e = sym n.main ∙ front in cc)
 main_called h t event rest (starting s) front = (epoch_few t s.begins.ranged, few_recorded t s.begins.begun.stored.sound s.begins.ranged)
 main_called h t event rest (saving s) front = absurd (let e = sym s.main ∙ front in cc)
+main_called h t event rest (shut s) front = absurd (let e = sym s.main ∙ front in cc)
 main_called h t event rest (running r) front = (epoch_few t r.ranged, few_recorded t r.whole.sound r.ranged)
 
 -- only an open life has events for the scheduler
@@ -82,6 +93,7 @@ pub sched_open : (h : History) (t : Tables) (event : SchedEvent) (rest : List Sc
 sched_open h t event rest (none n) front = absurd (let e = sym n.sched ∙ front in cc)
 sched_open h t event rest (starting s) front = absurd (let e = sym (no_sched h t s.begins) ∙ front in cc)
 sched_open h t event rest (saving s) front = absurd (let e = sym (no_sched h t s.begins) ∙ front in cc)
+sched_open h t event rest (shut s) front = absurd (let e = sym s.sched ∙ front in cc)
 sched_open h t event rest (running r) front = r
 
 -- the first event of the scheduler's queue, whichever it is
@@ -93,18 +105,24 @@ sched_leads h t event list rest phase front ends = let r = sched_open h t event 
 
 -- THE STORE
 
--- no store has refused an operation
-pub unblown_of : (h : History) (t : Tables) → Phase h t → t.alive ≡ true → t.blown ≡ false
-unblown_of h t (none n) a = absurd (let x = n.alive in cc)
-unblown_of h t (starting s) a = unblown h t s.begins
-unblown_of h t (saving s) a = unblown h t s.begins
-unblown_of h t (running r) a = r.unblown
+-- an operation that is with the store was not refused
+pub unblown_of : (h : History) (t : Tables) → Phase h t → t.alive ≡ true → t.handed ≡ true → t.blown ≡ false
+unblown_of h t (none n) a handed = absurd (let x = n.alive in cc)
+unblown_of h t (starting s) a handed = unblown h t s.begins
+unblown_of h t (saving s) a handed = unblown h t s.begins
+unblown_of h t (shut s) a handed = absurd (let x = s.free in cc)
+unblown_of h t (running r) a handed = by t.blown refl
+  where
+    by : (b : Bool) → t.blown ≡ b → t.blown ≡ false
+    by true e = absurd (let x = sym (r.calm e) ∙ handed in cc)
+    by false e = e
 
 -- what is recorded by a life that stands
 pub recorded_of : (h : History) (t : Tables) → Phase h t → t.alive ≡ true → records h.kept ≡ t.tree
 recorded_of h t (none n) a = absurd (let x = n.alive in cc)
 recorded_of h t (starting s) a = recorded h t s.begins
 recorded_of h t (saving s) a = recorded h t s.begins
+recorded_of h t (shut s) a = s.recorded
 recorded_of h t (running r) a = r.whole.keeps.recorded
 
 saving_hand : (h : History) (t : Tables) → Saving h t → t.handed ≡ false → LeadsOwn h t Handed (handed_out t)
@@ -124,15 +142,17 @@ saving_hand h t s free =
       lighter = hand_lighter t free some;
       stood = alive;
       stands = alive;
+      blown = refl;
       served = refl;
     }
 
 -- the first awaiting operation is handed
-pub hand_leads : (h : History) (t : Tables) → Phase h t → t.alive ≡ true → t.awaiting ≢ [] → t.handed ≡ false → LeadsOwn h t Handed (handed_out t)
-hand_leads h t (none n) a some free = absurd (let x = n.alive in cc)
-hand_leads h t (starting s) a some free = absurd (some s.awaiting)
-hand_leads h t (saving s) a some free = saving_hand h t s free
-hand_leads h t (running r) a some free = own_leads h t _ _ a (hand_runs h t r some free)
+pub hand_leads : (h : History) (t : Tables) → Phase h t → t.alive ≡ true → t.awaiting ≢ [] → t.handed ≡ false → t.blown ≡ false → LeadsOwn h t Handed (handed_out t)
+hand_leads h t (none n) a some free b = absurd (let x = n.alive in cc)
+hand_leads h t (starting s) a some free b = absurd (some s.awaiting)
+hand_leads h t (saving s) a some free b = saving_hand h t s free
+hand_leads h t (shut s) a some free b = absurd (let x = s.blown in cc)
+hand_leads h t (running r) a some free b = own_leads h t _ _ a (hand_runs h t r some free b)
 
 -- and kept
 saving_kept : (h : History) (t : Tables) (op : Op) (rest : List Op) → Saving h t → t.awaiting ≡ op ∷ rest → t.handed ≡ true → LeadsOwn h t (KeptEntry op) (kept op t)
@@ -144,6 +164,7 @@ pub keep_leads : (h : History) (t : Tables) (op : Op) (rest : List Op) → Phase
 keep_leads h t op rest (none n) a handed front = absurd (let x = n.alive in cc)
 keep_leads h t op rest (starting s) a handed front = absurd (let e = sym s.awaiting ∙ front in cc)
 keep_leads h t op rest (saving s) a handed front = saving_kept h t op rest s front handed
+keep_leads h t op rest (shut s) a handed front = absurd (let x = s.free in cc)
 keep_leads h t op rest (running r) a handed front = own_leads h t _ _ a (kept_runs h t r handed op rest front)
 
 -- an operation that is with the store awaits
@@ -151,6 +172,7 @@ pub handed_awaits : (h : History) (t : Tables) → Phase h t → t.alive ≡ tru
 handed_awaits h t (none n) a handed = absurd (let x = n.alive in cc)
 handed_awaits h t (starting s) a handed = absurd (let x = s.handed in cc)
 handed_awaits h t (saving s) a handed = rw s.awaiting (λ e. cc)
+handed_awaits h t (shut s) a handed = s.awaiting
 handed_awaits h t (running r) a handed = r.handed handed
 
 -- it fits what is recorded
@@ -162,11 +184,12 @@ saving_fits h t op rest s front =
     let fits : fits_records t.tree (ops.Epoch (t.epoch + 1) t.stamp) ≡ true = grind (arith, nat_tests) in
     subst (λ (x : Op). fits_records t.tree x ≡ true) same fits
 
-pub fits_in : (h : History) (t : Tables) (op : Op) (rest : List Op) → Phase h t → t.alive ≡ true → t.awaiting ≡ op ∷ rest → fits_records t.tree op ≡ true
-fits_in h t op rest (none n) a front = absurd (let x = n.alive in cc)
-fits_in h t op rest (starting s) a front = absurd (let e = sym s.awaiting ∙ front in cc)
-fits_in h t op rest (saving s) a front = saving_fits h t op rest s front
-fits_in h t op rest (running r) a front = first_fits h t r op rest front
+pub fits_in : (h : History) (t : Tables) (op : Op) (rest : List Op) → Phase h t → t.alive ≡ true → t.handed ≡ true → t.awaiting ≡ op ∷ rest → fits_records t.tree op ≡ true
+fits_in h t op rest (none n) a handed front = absurd (let x = n.alive in cc)
+fits_in h t op rest (starting s) a handed front = absurd (let e = sym s.awaiting ∙ front in cc)
+fits_in h t op rest (saving s) a handed front = saving_fits h t op rest s front
+fits_in h t op rest (shut s) a handed front = absurd (let x = s.free in cc)
+fits_in h t op rest (running r) a handed front = first_fits h t r op rest front
 
 -- and its parts are in their ranges
 saving_framed : (h : History) (t : Tables) (op : Op) (rest : List Op) → Saving h t → t.awaiting ≡ op ∷ rest → IsOperation op
@@ -178,32 +201,122 @@ saving_framed h t op rest s front =
     let within : IsOperation (ops.Epoch (t.epoch + 1) t.stamp) = ((omega arith, omega arith), (omega arith, omega arith)) in
     subst IsOperation same within
 
-pub framed_in : (h : History) (t : Tables) (op : Op) (rest : List Op) → Phase h t → t.alive ≡ true → t.awaiting ≡ op ∷ rest → IsOperation op
-framed_in h t op rest (none n) a front = absurd (let x = n.alive in cc)
-framed_in h t op rest (starting s) a front = absurd (let e = sym s.awaiting ∙ front in cc)
-framed_in h t op rest (saving s) a front = saving_framed h t op rest s front
-framed_in h t op rest (running r) a front = first_framed h t r op rest front
+pub framed_in : (h : History) (t : Tables) (op : Op) (rest : List Op) → Phase h t → t.alive ≡ true → t.handed ≡ true → t.awaiting ≡ op ∷ rest → IsOperation op
+framed_in h t op rest (none n) a handed front = absurd (let x = n.alive in cc)
+framed_in h t op rest (starting s) a handed front = absurd (let e = sym s.awaiting ∙ front in cc)
+framed_in h t op rest (saving s) a handed front = saving_framed h t op rest s front
+framed_in h t op rest (shut s) a handed front = absurd (let x = s.free in cc)
+framed_in h t op rest (running r) a handed front = first_framed h t r op rest front
+
+-- AN OPERATION IS REFUSED
+
+-- the phase of a life after it
+blown_phase : (h : History) (t : Tables) → Phase h t → t.alive ≡ true → t.handed ≡ true → Phase h (refused t)
+blown_phase h t (none n) a handed = absurd (let x = n.alive in cc)
+blown_phase h t (starting s) a handed = absurd (let x = s.handed in cc)
+blown_phase h t (saving s) a handed =
+    shut (record {
+      alive = a;
+      blown = refl;
+      closed = closed h t s.begins;
+      free = refl;
+      main = s.main;
+      sched = no_sched h t s.begins;
+      awaiting = rw s.awaiting (λ e. cc);
+      fits = λ op rest front. saving_fits h t op rest s front;
+      recorded = recorded h t s.begins;
+    })
+blown_phase h t (shut s) a handed = absurd (let x = s.free in cc)
+blown_phase h t (running r) a handed = running (blow_running h t r)
+
+-- the store refused the operation that was with it
+pub blow_leads : (h : History) (t : Tables) (passed : ℕ) → Phase h t → t.alive ≡ true → t.handed ≡ true → Leads h t (Blown passed) (refused t)
+blow_leads h t passed phase a handed =
+    record {
+      history = h;
+      lawful = rw a (record { handed = handed });
+      same = rw a refl;
+      recorded = recorded_of h t phase a;
+      phase = blown_phase h t phase a handed;
+      settings = refl;
+      alloc = refl;
+    }
 
 -- A LIFE GOES DOWN
 
+-- what awaits in a life that blew fits what is recorded
+blown_fits : (h : History) (t : Tables) → Phase h t → t.alive ≡ true → t.blown ≡ true → (op : Op) (rest : List Op) → t.awaiting ≡ op ∷ rest → fits_records t.tree op ≡ true
+blown_fits h t (none n) a b op rest front = absurd (let x = n.alive in cc)
+blown_fits h t (starting s) a b op rest front = absurd (let x = unblown h t s.begins in cc)
+blown_fits h t (saving s) a b op rest front = absurd (let x = unblown h t s.begins in cc)
+blown_fits h t (shut s) a b op rest front = s.fits op rest front
+blown_fits h t (running r) a b op rest front = first_fits h t r op rest front
+
 -- with no operation with the store
-pub down_leads : (h : History) (t : Tables) → Phase h t → t.alive ≡ true → t.handed ≡ false → t.blown ≡ false → Leads h t Down (gone_down t)
-down_leads h t phase a free b =
+pub down_leads : (h : History) (t : Tables) → Phase h t → t.alive ≡ true → t.handed ≡ false → Leads h t Down (gone_down t)
+down_leads h t phase a free =
     record {
       history = h;
       lawful = rw a (record { none_handed = free });
-      same = rw (a, b) refl;
+      same = rw a refl;
       recorded = recorded_of h t phase a;
-      phase = none (record { alive = refl; main = refl; sched = refl });
+      phase =
+          none (record {
+            alive = refl;
+            main = refl;
+            sched = refl;
+            recorded = λ blown. recorded_of h t phase a;
+            fits = λ blown op rest front. blown_fits h t phase a blown op rest front;
+          });
       settings = refl;
       alloc = refl;
     }
 
 -- SERVING
 
--- a life that serves is open
-pub serving_open : (h : History) (t : Tables) → Phase h t → t.alive ≡ true → (t.is_open || t.blown) ≡ true → Running h t
+-- a life that serves is open, or was shut
+pub serving_open : (h : History) (t : Tables) → Phase h t → t.alive ≡ true → t.is_open ≡ true → Running h t
 serving_open h t (none n) a o = absurd (let x = n.alive in cc)
-serving_open h t (starting s) a o = absurd (let x = ap (λ (x : Tables). x.is_open) s.begins.begun.tables in let y = unblown h t s.begins in let z = rw (x, y) at o in cc)
-serving_open h t (saving s) a o = absurd (let x = ap (λ (x : Tables). x.is_open) s.begins.begun.tables in let y = unblown h t s.begins in let z = rw (x, y) at o in cc)
+serving_open h t (starting s) a o = absurd (let x = closed h t s.begins in cc)
+serving_open h t (saving s) a o = absurd (let x = closed h t s.begins in cc)
+serving_open h t (shut s) a o = absurd (let x = s.closed in cc)
 serving_open h t (running r) a o = r
+
+pub serving_shut : (h : History) (t : Tables) → Phase h t → t.alive ≡ true → t.is_open ≡ false → t.blown ≡ true → Shut h t
+serving_shut h t (none n) a o b = absurd (let x = n.alive in cc)
+serving_shut h t (starting s) a o b = absurd (let x = unblown h t s.begins in cc)
+serving_shut h t (saving s) a o b = absurd (let x = unblown h t s.begins in cc)
+serving_shut h t (shut s) a o b = s
+serving_shut h t (running r) a o b = absurd (let x = r.whole.keeps.is_open in cc)
+
+-- a life that was shut remembers nothing of a message that it answers by NOTOPEN
+forgets : (m : Scene) (message : Message) → life_after m message NotOpen ≡ m.life
+forgets m (messages.Client user clients.New) = refl
+forgets m (messages.Client user (clients.Submit id submission)) = refl
+forgets m (messages.Client user (clients.Report id)) = refl
+forgets m (messages.Client user (clients.Kill id)) = refl
+forgets m (messages.Master attempt masters.Register) = refl
+forgets m (messages.Master attempt (masters.Allocate id asks release)) = refl
+forgets m (messages.Master attempt (masters.Finish text)) = refl
+forgets m (messages.Node name (nodes.Register turn capability report)) = refl
+forgets m (messages.Node name (nodes.Beat id report done)) = refl
+forgets m (messages.Clock (clocks.Tick time)) = refl
+forgets m (messages.Clock (clocks.ExpireNode name)) = refl
+forgets m (messages.Clock (clocks.ExpireMaster attempt)) = refl
+
+pub shut_serves : (h : History) (t : Tables) (message : Message) → Shut h t → Leads h t (Served (sender_of message) message NotOpen) (record t { served = t.served + 1 })
+shut_serves h t message s =
+    let alive = s.alive in
+    let closed_ = s.closed in
+    let blown_ = s.blown in
+    record {
+      history = h;
+      lawful = rw alive (record { serving = rw (closed_, blown_) refl; of_sender = refl; answers = rw closed_ refl });
+      same =
+          ap (λ (m : Manager). after m (Served (sender_of message) message NotOpen)) (told_standing h t alive)
+          ∙ ap (λ (life : LifeState). in_life (standing h t) life) (forgets (scene (standing h t) (life_in h t)) message) ∙ sym (told_standing h (record t { served = t.served + 1 }) alive);
+      recorded = s.recorded;
+      phase = shut (record { alive = s.alive; blown = s.blown; closed = s.closed; free = s.free; main = s.main; sched = s.sched; awaiting = s.awaiting; fits = s.fits; recorded = s.recorded });
+      settings = refl;
+      alloc = refl;
+    }

@@ -61,7 +61,7 @@ module _ (h : History) (t : Tables) (r : Running h t) (e : MainEvent) (rest : Li
           step = s.step;
           runs = record {
             alive = stays.alive ∙ r.alive;
-            unblown = stays.blown ∙ r.unblown;
+            calm = stays.calm r.calm;
             handed = stays.handed r.handed;
             limits = subst KeepsLimits (sym stays.settings) r.limits;
             whole = subst (λ (one : Settings). Whole one s.next (main_worked (main_step e t)).1) (sym stays.settings) s.whole;
@@ -100,7 +100,7 @@ module _ (h : History) (t : Tables) (r : Running h t) (e : SchedEvent) (rest : L
           step = s.step;
           runs = record {
             alive = stays.alive ∙ r.alive;
-            unblown = stays.blown ∙ r.unblown;
+            calm = stays.calm r.calm;
             handed = stays.handed r.handed;
             limits = subst KeepsLimits (sym stays.settings) r.limits;
             whole = subst (λ (one : Settings). Whole one s.next (sched_worked (sched_step e list t)).1) (sym stays.settings) s.whole;

@@ -77,7 +77,7 @@ module _ (h : History) (t : Tables) (r : Running h t) where
         step = record { lawful = s.step.lawful; same = s.step.same; keeps = (counted_whole t.settings s.next next (t.served + 1) s.whole).keeps };
         runs = record {
           alive = stays.alive ∙ r.alive;
-          unblown = stays.blown ∙ r.unblown;
+          calm = stays.calm r.calm;
           handed = stays.handed r.handed;
           limits = subst KeepsLimits (sym stays.settings) r.limits;
           whole = subst (λ (one : Settings). Whole one s.next (counted next)) (sym stays.settings) (counted_whole t.settings s.next next (t.served + 1) s.whole);

@@ -8,7 +8,7 @@ use Rattle.rm_facts.specs.Told.{History, life_in}
 use Rattle.rm_agreement_facts.specs.Here.{AreServed}
 use Rattle.rm_message_facts.proofs.Marked.{none_marked, still_on_way}
 use Rattle.rm_rest_facts.proofs.Resting.{owes_nothing}
-use Rattle.rm_running.specs.Phases.{Leads, Phase, none, running, saving, starting}
+use Rattle.rm_running.specs.Phases.{Leads, Phase, none, running, saving, shut, starting}
 use Rattle.rm_running.specs.Running.{Running}
 
 -- where nothing is left to do the life is open
@@ -16,6 +16,7 @@ pub open_at_rest : (h : History) (t : Tables) → Phase h t → t.alive ≡ true
 open_at_rest h t (none n) a m w = absurd (let x = n.alive in cc)
 open_at_rest h t (starting s) a m w = absurd (let x = s.main in cc)
 open_at_rest h t (saving s) a m w = absurd (let x = s.awaiting in cc)
+open_at_rest h t (shut s) a m w = absurd (s.awaiting w)
 open_at_rest h t (running r) a m w = r
 
 -- and nothing is owed, by what is kept
@@ -36,7 +37,7 @@ settled_runs h t r n =
     let none : AreServed [] t.sched = rw n tt in
     record {
       alive = r.alive;
-      unblown = r.unblown;
+      calm = r.calm;
       handed = r.handed;
       limits = r.limits;
       whole = record {

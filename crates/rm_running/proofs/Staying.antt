@@ -1,5 +1,5 @@
 -- What each move of an open life leaves as it is.
-use Rattle.std.proofs.Common.{◌≡◌, ◌≢◌, ℕ, ◌==◌, ◌&&◌, ◌||◌, List, [], ◌∷◌, ◌++◌, Bool, true, false, nat_lt, drop, filter, map, Option, None, Some, refl, ◌∙◌}
+use Rattle.std.proofs.Common.{◌≡◌, ◌≢◌, ℕ, ◌==◌, ◌&&◌, ◌||◌, List, [], ◌∷◌, ◌++◌, Bool, true, false, nat_lt, drop, filter, map, Option, None, Some, refl, sym, ◌∙◌}
 use Rattle.std.specs.List.{list_any}
 use Rattle.std.proofs.lemmas.List.Folds.{list_any-append}
 use Rattle.rm_types.specs.declared.containers.Cause.{Cause}
@@ -77,13 +77,14 @@ main_popped_stays t next s =
       alive = s.alive;
       epoch = s.epoch;
       blown = s.blown;
+      calm = s.calm;
       handed = s.handed;
       begun = λ b. let after = s.begun b in record { main = none_less is_epoch_start next.main after.main; awaiting = after.awaiting };
     }
 
 sched_popped_stays : (t next : Tables) → Stays t next → Stays t (sched_popped next)
 sched_popped_stays t next s =
-    record { settings = s.settings; alloc = s.alloc; alive = s.alive; epoch = s.epoch; blown = s.blown; handed = s.handed; begun = λ b. let after = s.begun b in record { main = after.main; awaiting = after.awaiting } }
+    record { settings = s.settings; alloc = s.alloc; alive = s.alive; epoch = s.epoch; blown = s.blown; calm = s.calm; handed = s.handed; begun = λ b. let after = s.begun b in record { main = after.main; awaiting = after.awaiting } }
 
 module _ (t : Tables) where
   -- neither queue changes so that something begins
@@ -100,25 +101,25 @@ module _ (t : Tables) where
 
   -- what an event of the main queue comes to
   outcome_stays : (done : Entry × Tables) → Outcome t done → Stays t done.1
-  outcome_stays done idles = record { settings = refl; alloc = refl; alive = refl; epoch = refl; blown = refl; handed = λ before. before; begun = nothing_begins }
+  outcome_stays done idles = record { settings = refl; alloc = refl; alive = refl; epoch = refl; blown = refl; calm = λ c. c; handed = λ before. before; begun = nothing_begins }
   outcome_stays done (saves id row submission rest found waits front) =
-      record { settings = refl; alloc = refl; alive = refl; epoch = refl; blown = refl; handed = λ before is. some_more t.awaiting (ops.App id submission); begun = λ b. record { main = b.main; awaiting = op_begins (ops.App id submission) refl b } }
-  outcome_stays done (adds id row found st) = record { settings = refl; alloc = refl; alive = refl; epoch = refl; blown = refl; handed = λ before. before; begun = λ b. record { main = b.main; awaiting = b.awaiting } }
-  outcome_stays done (accepts id row found st) = record { settings = refl; alloc = refl; alive = refl; epoch = refl; blown = refl; handed = λ before. before; begun = λ b. record { main = b.main; awaiting = b.awaiting } }
+      record { settings = refl; alloc = refl; alive = refl; epoch = refl; blown = refl; calm = λ c. c; handed = λ before is. some_more t.awaiting (ops.App id submission); begun = λ b. record { main = b.main; awaiting = op_begins (ops.App id submission) refl b } }
+  outcome_stays done (adds id row found st) = record { settings = refl; alloc = refl; alive = refl; epoch = refl; blown = refl; calm = λ c. c; handed = λ before. before; begun = λ b. record { main = b.main; awaiting = b.awaiting } }
+  outcome_stays done (accepts id row found st) = record { settings = refl; alloc = refl; alive = refl; epoch = refl; blown = refl; calm = λ c. c; handed = λ before. before; begun = λ b. record { main = b.main; awaiting = b.awaiting } }
   outcome_stays done (ends id row how text found stopped is) =
-      record { settings = refl; alloc = refl; alive = refl; epoch = refl; blown = refl; handed = λ before is. some_more t.awaiting (ops.AppEnd id how text); begun = λ b. record { main = b.main; awaiting = op_begins (ops.AppEnd id how text) refl b } }
+      record { settings = refl; alloc = refl; alive = refl; epoch = refl; blown = refl; calm = λ c. c; handed = λ before is. some_more t.awaiting (ops.AppEnd id how text); begun = λ b. record { main = b.main; awaiting = op_begins (ops.AppEnd id how text) refl b } }
   outcome_stays done (kills id row current at_ number alive going) =
-      record { settings = refl; alloc = refl; alive = refl; epoch = refl; blown = refl; handed = λ before is. some_more t.awaiting _; begun = λ b. record { main = b.main; awaiting = op_begins _ refl b } }
-  outcome_stays done (delays id row current at_ waits going) = record { settings = refl; alloc = refl; alive = refl; epoch = refl; blown = refl; handed = λ before. before; begun = λ b. record { main = b.main; awaiting = b.awaiting } }
+      record { settings = refl; alloc = refl; alive = refl; epoch = refl; blown = refl; calm = λ c. c; handed = λ before is. some_more t.awaiting _; begun = λ b. record { main = b.main; awaiting = op_begins _ refl b } }
+  outcome_stays done (delays id row current at_ waits going) = record { settings = refl; alloc = refl; alive = refl; epoch = refl; blown = refl; calm = λ c. c; handed = λ before. before; begun = λ b. record { main = b.main; awaiting = b.awaiting } }
   outcome_stays done (issues container node row current at_ st number mine place) =
-      record { settings = refl; alloc = refl; alive = refl; epoch = refl; blown = refl; handed = λ before is. some_more t.awaiting _; begun = λ b. record { main = b.main; awaiting = op_begins _ refl b } }
-  outcome_stays done (requeues container row current at_ st number mine place) = record { settings = refl; alloc = refl; alive = refl; epoch = refl; blown = refl; handed = λ before. before; begun = λ b. record { main = b.main; awaiting = b.awaiting } }
+      record { settings = refl; alloc = refl; alive = refl; epoch = refl; blown = refl; calm = λ c. c; handed = λ before is. some_more t.awaiting _; begun = λ b. record { main = b.main; awaiting = op_begins _ refl b } }
+  outcome_stays done (requeues container row current at_ st number mine place) = record { settings = refl; alloc = refl; alive = refl; epoch = refl; blown = refl; calm = λ c. c; handed = λ before. before; begun = λ b. record { main = b.main; awaiting = b.awaiting } }
   outcome_stays done (orders id container node row current at_ number alive master place) =
-      record { settings = refl; alloc = refl; alive = refl; epoch = refl; blown = refl; handed = λ before. before; begun = λ b. record { main = b.main; awaiting = b.awaiting } }
+      record { settings = refl; alloc = refl; alive = refl; epoch = refl; blown = refl; calm = λ c. c; handed = λ before. before; begun = λ b. record { main = b.main; awaiting = b.awaiting } }
   outcome_stays done (ends_one id row current how text at_ number alive is) =
-      record { settings = refl; alloc = refl; alive = refl; epoch = refl; blown = refl; handed = λ before is. some_more t.awaiting (ops.AttemptEnd id how text); begun = λ b. record { main = b.main; awaiting = op_begins (ops.AttemptEnd id how text) refl b } }
-  outcome_stays done (loses container row current at_ st number mine) = record { settings = refl; alloc = refl; alive = refl; epoch = refl; blown = refl; handed = λ before. before; begun = λ b. record { main = b.main; awaiting = b.awaiting } }
-  outcome_stays done (follows id row current at_ going st none) = record { settings = refl; alloc = refl; alive = refl; epoch = refl; blown = refl; handed = λ before. before; begun = λ b. record { main = b.main; awaiting = b.awaiting } }
+      record { settings = refl; alloc = refl; alive = refl; epoch = refl; blown = refl; calm = λ c. c; handed = λ before is. some_more t.awaiting (ops.AttemptEnd id how text); begun = λ b. record { main = b.main; awaiting = op_begins (ops.AttemptEnd id how text) refl b } }
+  outcome_stays done (loses container row current at_ st number mine) = record { settings = refl; alloc = refl; alive = refl; epoch = refl; blown = refl; calm = λ c. c; handed = λ before. before; begun = λ b. record { main = b.main; awaiting = b.awaiting } }
+  outcome_stays done (follows id row current at_ going st none) = record { settings = refl; alloc = refl; alive = refl; epoch = refl; blown = refl; calm = λ c. c; handed = λ before. before; begun = λ b. record { main = b.main; awaiting = b.awaiting } }
   outcome_stays done (removes id more first many) =
       record {
         settings = refl;
@@ -126,6 +127,7 @@ module _ (t : Tables) where
         alive = refl;
         epoch = refl;
         blown = refl;
+        calm = λ c. c;
         handed = λ before is. some_more t.awaiting (ops.Remove id);
         begun = λ b. record { main = events_begin (mains.Retire ∷ []) refl b; awaiting = op_begins (ops.Remove id) refl b };
       }
@@ -169,12 +171,13 @@ module _ (t : Tables) where
         alive = alive;
         epoch = epoch;
         blown = blown;
+        calm = λ c b. handed ∙ c (sym blown ∙ b);
         handed = rw (handed, awaiting) (λ before. before);
         begun = λ b. let one = events_begin t events none b in let other = b.awaiting in record { main = rw main one; awaiting = rw awaiting other };
       }
 
   no_more : Stays t t
-  no_more = record { settings = refl; alloc = refl; alive = refl; epoch = refl; blown = refl; handed = λ before. before; begun = λ b. b }
+  no_more = record { settings = refl; alloc = refl; alive = refl; epoch = refl; blown = refl; calm = λ c. c; handed = λ before. before; begun = λ b. b }
 
   quiet_stays : SchedStays t t
   quiet_stays = record { stays = no_more; given = refl; served = refl }
@@ -190,7 +193,7 @@ module _ (t : Tables) where
     where
       at_state : (s : AttemptState) (b : Bool) → SchedStays t (queued_at s b id t).1
       at_state attempts.Scheduled true =
-          record { stays = record { settings = refl; alloc = refl; alive = refl; epoch = refl; blown = refl; handed = λ before. before; begun = λ b. record { main = b.main; awaiting = b.awaiting } }; given = refl; served = refl }
+          record { stays = record { settings = refl; alloc = refl; alive = refl; epoch = refl; blown = refl; calm = λ c. c; handed = λ before. before; begun = λ b. record { main = b.main; awaiting = b.awaiting } }; given = refl; served = refl }
       at_state attempts.Scheduled false = quiet_stays
       at_state _ b = quiet_stays
 
@@ -245,6 +248,7 @@ module _ (t : Tables) where
           alive = alive;
           epoch = epoch;
           blown = blown;
+          calm = λ c b. handed;
           handed = rw handed (λ before is. cc);
           begun = λ b. let one = events_begin t events none b in let other = none_less is_epoch_op t.awaiting b.awaiting in record { main = rw main one; awaiting = rw awaiting other };
         };
@@ -266,6 +270,7 @@ module _ (t : Tables) where
           alive = refl;
           epoch = refl;
           blown = refl;
+          calm = λ c b. refl;
           handed = λ before is. cc;
           begun = λ b. record { main = b.main; awaiting = none_less is_epoch_op t.awaiting b.awaiting };
         };
@@ -278,7 +283,7 @@ module _ (t : Tables) where
   -- a message is counted
   pub counted_stays : (next : Tables) (served : ℕ) → Stays t next → Stays t (record next { served = served })
   counted_stays next served s =
-      record { settings = s.settings; alloc = s.alloc; alive = s.alive; epoch = s.epoch; blown = s.blown; handed = s.handed; begun = λ b. let after = s.begun b in record { main = after.main; awaiting = after.awaiting } }
+      record { settings = s.settings; alloc = s.alloc; alive = s.alive; epoch = s.epoch; blown = s.blown; calm = s.calm; handed = s.handed; begun = λ b. let after = s.begun b in record { main = after.main; awaiting = after.awaiting } }
 
   -- neither queue that may begin something changes
   same_stays : (next : Tables) → next.main ≡ t.main → next.awaiting ≡ t.awaiting → next.handed ≡ t.handed → next.settings ≡ t.settings → next.alloc ≡ t.alloc → next.alive ≡ t.alive → next.epoch ≡ t.epoch → next.blown ≡ t.blown → Stays t next
@@ -289,6 +294,7 @@ module _ (t : Tables) where
         alive = alive;
         epoch = epoch;
         blown = blown;
+        calm = λ c b. handed ∙ c (sym blown ∙ b);
         handed = rw (handed, awaiting) (λ before. before);
         begun = λ b. let one = b.main in let other = b.awaiting in record { main = rw main one; awaiting = rw awaiting other };
       }

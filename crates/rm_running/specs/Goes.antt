@@ -5,16 +5,17 @@ use Rattle.rm_tables.specs.declared.tables.Tables.{Tables}
 use Rattle.rm_facts.specs.Step.{Step}
 use Rattle.rm_facts.specs.Told.{History}
 use Rattle.rm_weight_facts.specs.Weights.{weight}
-use Rattle.rm_running.specs.Running.{NoneBegins, Running}
+use Rattle.rm_running.specs.Running.{IsCalm, NoneBegins, Running}
 
--- a move leaves the life with its settings, its allocator and its epoch, and no operation refused; what is with the store awaits still, and
--- nothing begins
+-- a move leaves the life with its settings, its allocator and its epoch, and no more operations refused; a refused operation isn't with the store
+-- again, what is with it awaits still, and nothing begins
 pub record Stays (t next : Tables) : Type 0 where
   pub settings : next.settings ≡ t.settings
   pub alloc : next.alloc ≡ t.alloc
   pub alive : next.alive ≡ t.alive
   pub epoch : next.epoch ≡ t.epoch
   pub blown : next.blown ≡ t.blown
+  pub calm : IsCalm t → IsCalm next
   pub handed : (t.handed ≡ true → t.awaiting ≢ []) → next.handed ≡ true → next.awaiting ≢ []
   pub begun : NoneBegins t → NoneBegins next
 

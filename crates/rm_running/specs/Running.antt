@@ -35,11 +35,15 @@ pub record NoneBegins (t : Tables) : Type 0 where
   pub main : list_any is_epoch_start t.main ≡ false
   pub awaiting : list_any is_epoch_op t.awaiting ≡ false
 
--- the life stands, no store refused an operation of it, and what is with the store awaits; of its settings, its applications, masters, nodes,
--- containers and messages, all that was gathered holds
+-- an operation that the store refused isn't with it any more
+abbrev pub IsCalm : Tables → Type 0
+IsCalm t = t.blown ≡ true → t.handed ≡ false
+
+-- the life stands, whether or not the store refused an operation of it, and what is with the store awaits; of its settings, its applications,
+-- masters, nodes, containers and messages, all that was gathered holds
 pub record Running (h : History) (t : Tables) : Type 0 where
   pub alive : t.alive ≡ true
-  pub unblown : t.blown ≡ false
+  pub calm : IsCalm t
   pub handed : t.handed ≡ true → t.awaiting ≢ []
   pub limits : KeepsLimits t.settings
   pub whole : Whole t.settings h t

@@ -1,9 +1,8 @@
 -- Lines put together to a draft of a script, which is what was written so far.
-use Rattle.std.proofs.Common.{◌≡◌, ℕ, ◌<◌, Bool, true, false, not, List, [], ◌∷◌, ◌++◌, length, map, Some, refl, sym, ap, ◌∙◌, append_assoc, arith}
+use Rattle.std.proofs.Common.{◌≡◌, ℕ, Bool, true, false, not, List, [], ◌∷◌, ◌++◌, map, Some, refl, sym, ap, ◌∙◌, append_assoc}
 use Rattle.std.specs.Prelude.{codes, All}
 use Rattle.std.specs.List.{flat_map, AllByRecursion}
-use Rattle.std.proofs.lemmas.Bool.{and_parts}
-use Rattle.std.proofs.lemmas.Option.{cond_some, same_Some}
+use Rattle.std.proofs.lemmas.Option.{same_Some}
 use Rattle.std.proofs.lemmas.List.{append-nil, map-append}
 use Rattle.std.proofs.lemmas.List.Concat.{flat_map-append}
 use Rattle.std.proofs.lemmas.List.Elements.{All-nil, All-push}
@@ -19,9 +18,9 @@ use Rattle.rm_script.specs.declared.drafts.Draft.{Draft}
 use Rattle.rm_script.specs.declared.drafts.Draft.TheVariants as drafts
 use Rattle.rm_script.specs.Written.{Sent, Delivered, Lost, WrittenLife, delivered, settled_segment, life_of}
 use Rattle.rm_script.specs.Spelling.{sent_text, start_text, settled_lines, life_lines, script_lines}
-use Rattle.rm_script.specs.Scripts.{IsRead, IsSent, FollowsSettle, IsCrash, IsLife, Crashes}
+use Rattle.rm_script.specs.Scripts.{IsRead, IsSent, IsCrash, IsLife, Crashes}
 use Rattle.rm_script.specs.Limits.{greatest_stamp}
-use Rattle.rm_script.specs.Reading.{settled, follows_settle, crashed, crash_life, told, line_text, with_start, with_settle, with_crash, with_message, with_loss, with_line, with_lines, IsCrashLine, IsLine}
+use Rattle.rm_script.specs.Reading.{settled, crashed, told, line_text, with_start, with_settle, with_crash, with_message, with_loss, with_line, with_lines, IsCrashLine, IsLine}
 use Rattle.rm_script.proofs.Labels.{bound}
 
 -- a script as it is written, as far as its lines go: the lives that crashed, and the life that goes on
@@ -131,29 +130,14 @@ pub nothing_sent : (sent : List Sent) → not (is_nil sent) ≡ false → sent �
 nothing_sent [] e = refl
 nothing_sent (one ∷ sent) e = absurd cc
 
-some_settled : (done : List (List Sent)) → not (is_nil (map settled_segment done)) ≡ true → 0 < length done
-some_settled [] e = absurd cc
-some_settled (sent ∷ done) e = omega arith
-
-failing : (b : Bool) → not b ≡ true → b ≡ false
-failing true e = absurd cc
-failing false e = refl
-
--- nothing is sent behind a segment that settled
-follows : (stamp : ℕ) (done : List (List Sent)) (sent : List Sent) → follows_settle (living_of stamp done sent) ≡ true → FollowsSettle done sent
-follows stamp done sent e =
-    let tests = and_parts (not (not (is_nil sent))) (not (is_nil (map settled_segment done))) e in
-    record { bare = nothing_sent sent (failing (not (is_nil sent)) tests.0); after_settle = some_settled done tests.1 }
-
-crashed_fit : (lives : List WrittenLife) (stamp : ℕ) (done : List (List Sent)) (sent : List Sent) (calls image : ℕ) → IsGoing lives stamp done sent → FollowsSettle done sent
+crashed_fit : (lives : List WrittenLife) (stamp : ℕ) (done : List (List Sent)) (sent : List Sent) (calls image : ℕ) → IsGoing lives stamp done sent
     → IsCrashLine calls image → AreCrashed (lives ++ crashed_life stamp done sent calls image ∷ [])
-crashed_fit lives stamp done sent calls image fits place fine =
+crashed_fit lives stamp done sent calls image fits fine =
     let life : WrittenLife = crashed_life stamp done sent calls image in
-    let crash : IsCrash life (record { sent = sent; calls = calls; image = image }) = record {
+    let crash : IsCrash (record { sent = sent; calls = calls; image = image }) = record {
       sent = fits.sent_fit;
       calls = fine.calls_fit;
       image = fine.image_fits;
-      place = place;
     } in
     let is : IsLife life = record { stamp = fits.stamp_fits; settled = fits.done_fit; crash = crash } in
     record { each = All-push IsLife lives life fits.lives_fit.each is; crash = All-push Crashes lives life fits.lives_fit.crash refl }
@@ -168,16 +152,11 @@ grow_crash : (before : Written) (calls image : ℕ) (next : Draft) → with_cras
     → Grown before (line_text (Crash calls image) ∷ []) next
 grow_crash (Between lives) calls image next e fits fine = absurd cc
 grow_crash (Going lives stamp done sent) calls image next e fits fine =
-    let living : Living = living_of stamp done sent in
     let life : WrittenLife = crashed_life stamp done sent calls image in
-    let ended = bound (crash_life living calls image) (λ (l : Life). Some (drafts.Between (map life_of lives ++ l ∷ []))) next e in
-    let parts = cond_some (follows_settle living) (crashed living calls image) ended.0 ended.1 in
-    let life-is : life_of life ≡ ended.0 = parts.1 in
-    let next-is : drafts.Between (map life_of lives ++ ended.0 ∷ []) ≡ next = same_Some (drafts.Between (map life_of lives ++ ended.0 ∷ [])) next ended.2 in
     record {
       after = Between (lives ++ life ∷ []);
-      is = sym next-is ∙ ap (λ (l : Life). drafts.Between (map life_of lives ++ l ∷ [])) (sym life-is) ∙ crashed_is lives life;
-      fits = crashed_fit lives stamp done sent calls image fits (follows stamp done sent parts.0) fine;
+      is = sym (same_Some (drafts.Between (map life_of lives ++ crashed (living_of stamp done sent) calls image ∷ [])) next e) ∙ crashed_is lives life;
+      fits = crashed_fit lives stamp done sent calls image fits fine;
       lines = lines_of-push lives life
           ∙ crashed_lines (script_lines lives) (start_text stamp ∷ flat_map settled_lines done) (map sent_text sent) (line_text (Crash calls image) ∷ []);
     }

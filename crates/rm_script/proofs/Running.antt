@@ -1,25 +1,22 @@
 -- The lines of lives, put together to the script that these lives are.
-use Rattle.std.proofs.Common.{◌≡◌, ℕ, Bool, true, not, cond, ◌&&◌, List, [], ◌∷◌, ◌++◌, map, Option, Some, None, refl, sym, ap, ◌∙◌, append_assoc, arith}
+use Rattle.std.proofs.Common.{◌≡◌, ℕ, List, [], ◌∷◌, ◌++◌, map, Option, Some, None, refl, sym, ap, ◌∙◌, append_assoc}
 use Rattle.std.specs.Prelude.{codes, All, IfSome, IsSome}
 use Rattle.std.specs.List.{flat_map, AllByRecursion}
 use Rattle.std.proofs.lemmas.List.{append-nil, map-append}
 use Rattle.std.proofs.lemmas.List.Elements.{recursion_from_All}
-use Rattle.rm_types.specs.Lists.{is_nil}
 use Rattle.rm_types.specs.declared.scripts.Life.{Life}
 use Rattle.rm_types.specs.declared.scripts.Segment.{Segment}
 use Rattle.rm_script.specs.declared.lines.Line.{Line}
 use Rattle.rm_script.specs.declared.lines.Line.TheVariants.{Start, Settle, Crash, Deliver, Lose}
 use Rattle.rm_script.specs.declared.drafts.Draft.{Draft}
-use Rattle.rm_script.specs.declared.drafts.Draft.TheVariants as drafts
-use Rattle.rm_script.specs.declared.drafts.Living.{Living}
 use Rattle.rm_script.specs.Written.{Sent, Delivered, Lost, Crashing, WrittenLife, settled_segment, crash_segments, life_of, script_of_lives}
 use Rattle.rm_script.specs.Spelling.{sent_text, start_text, crash_text, settled_lines, crash_lines, life_lines, script_lines}
-use Rattle.rm_script.specs.Scripts.{IsSent, FollowsSettle, IsCrash, IsLife, Crashes, IsLineOf, EachButLast, AreLives}
+use Rattle.rm_script.specs.Scripts.{IsSent, IsCrash, IsLife, Crashes, IsLineOf, EachButLast, AreLives}
 use Rattle.rm_script.specs.Results.{◌>>=◌}
-use Rattle.rm_script.specs.Reading.{line_text, follows_settle, crashed, with_line, with_lines, script_of_draft, IsLine}
+use Rattle.rm_script.specs.Reading.{line_text, with_line, with_lines, script_of_draft, IsLine}
 use Rattle.rm_script.proofs.Parts.{heads}
 use Rattle.rm_script.proofs.OneLine.{one_line}
-use Rattle.rm_script.proofs.Drafting.{Between, Going, living_of, draft_of, crashed_life, delivered_is, lost_is, settled_is, crashed_is}
+use Rattle.rm_script.proofs.Drafting.{Between, Going, draft_of, crashed_life, delivered_is, lost_is, settled_is, crashed_is}
 
 -- ---- the lines of lives as values
 
@@ -87,15 +84,15 @@ marks-segments (sent ∷ done) fit =
     append_both IsLine (settled_marks sent) (flat_map settled_marks done)
     (append_both IsLine (map mark_of sent) (Settle ∷ []) (marks-sent sent (recursion_from_All IsSent sent fit.0)) (tt, tt)) (marks-segments done fit.1)
 
-marks-crash : (life : WrittenLife) (crash : Option Crashing) → IfSome crash (IsCrash life) → AllByRecursion IsLine (crash_marks crash)
-marks-crash life None fit = tt
-marks-crash life (Some crash) fit =
+marks-crash : (crash : Option Crashing) → IfSome crash IsCrash → AllByRecursion IsLine (crash_marks crash)
+marks-crash None fit = tt
+marks-crash (Some crash) fit =
     append_both IsLine (map mark_of crash.sent) (Crash crash.calls crash.image ∷ []) (marks-sent crash.sent (recursion_from_All IsSent crash.sent fit.sent)) (record { calls_fit = fit.calls; image_fits = fit.image }, tt)
 
 marks-life : (life : WrittenLife) → IsLife life → AllByRecursion IsLine (life_marks life)
 marks-life life fit =
     append_both IsLine (Start life.stamp ∷ flat_map settled_marks life.settled) (crash_marks life.crash)
-    (fit.stamp, marks-segments life.settled (recursion_from_All (All IsSent) life.settled fit.settled)) (marks-crash life life.crash fit.crash)
+    (fit.stamp, marks-segments life.settled (recursion_from_All (All IsSent) life.settled fit.settled)) (marks-crash life.crash fit.crash)
 
 -- each of them is such a line
 pub marks-lives : (lives : List WrittenLife) → AllByRecursion IsLife lives → AllByRecursion IsLine (script_marks lives)
@@ -154,17 +151,10 @@ run_segments lives stamp before (sent ∷ done) more =
     ∙ run_segments lives stamp (before ++ sent ∷ []) done more
     ∙ ap (λ (d : List (List Sent)). with_lines (draft_of (Going lives stamp d [])) more) (append_assoc before (sent ∷ []) done)
 
--- a crash where it may stand
-crash_stands : (stamp : ℕ) (done : List (List Sent)) (sent : List Sent) → FollowsSettle done sent → follows_settle (living_of stamp done sent) ≡ true
-crash_stands stamp [] sent follows = absurd (omega (arith, follows.after_settle))
-crash_stands stamp (first ∷ done) sent follows = ap (λ (s : List Sent). not (not (is_nil s)) && true) follows.bare
-
-run_crash : (lives : List WrittenLife) (stamp : ℕ) (done : List (List Sent)) (sent : List Sent) (calls image : ℕ) → FollowsSettle done sent
+-- the crash of the life that goes on
+run_crash : (lives : List WrittenLife) (stamp : ℕ) (done : List (List Sent)) (sent : List Sent) (calls image : ℕ)
     → with_line (draft_of (Going lives stamp done sent)) (Crash calls image) ≡ Some (draft_of (Between (lives ++ crashed_life stamp done sent calls image ∷ [])))
-run_crash lives stamp done sent calls image place =
-    let living : Living = living_of stamp done sent in
-    ap (λ (b : Bool). cond b (Some (crashed living calls image)) None >>= λ (l : Life). Some (drafts.Between (map life_of lives ++ l ∷ []))) (crash_stands stamp done sent place)
-    ∙ ap Some (crashed_is lives (crashed_life stamp done sent calls image))
+run_crash lives stamp done sent calls image = ap Some (crashed_is lives (crashed_life stamp done sent calls image))
 
 -- the lines of a life up to the segment that crashes
 run_life : (lives : List WrittenLife) (life : WrittenLife) (more : List Line)
@@ -173,7 +163,7 @@ run_life lives life more =
     ap (with_lines (draft_of (Between lives))) (append_assoc (Start life.stamp ∷ flat_map settled_marks life.settled) (crash_marks life.crash) more)
     ∙ run_segments lives life.stamp [] life.settled (crash_marks life.crash ++ more)
 
-run_end : (lives : List WrittenLife) (life : WrittenLife) (crash : Option Crashing) (more : List Line) → life.crash ≡ crash → IfSome crash (IsCrash life) → IsSome crash
+run_end : (lives : List WrittenLife) (life : WrittenLife) (crash : Option Crashing) (more : List Line) → life.crash ≡ crash → IfSome crash IsCrash → IsSome crash
     → with_lines (draft_of (Going lives life.stamp life.settled [])) (crash_marks crash ++ more) ≡ with_lines (draft_of (Between (lives ++ life ∷ []))) more
 run_end lives life None more e fit crashes = absurd cc
 run_end lives life (Some crash) more e fit crashes =
@@ -181,11 +171,11 @@ run_end lives life (Some crash) more e fit crashes =
     ap (with_lines (draft_of (Going lives life.stamp life.settled []))) marks
     ∙ run_sent lives life.stamp life.settled [] crash.sent (Crash crash.calls crash.image ∷ more)
     ∙ run_on (draft_of (Going lives life.stamp life.settled crash.sent)) (draft_of (Between (lives ++ crashed_life life.stamp life.settled crash.sent crash.calls crash.image ∷ []))) (Crash crash.calls crash.image) more
-    (run_crash lives life.stamp life.settled crash.sent crash.calls crash.image fit.place)
+    (run_crash lives life.stamp life.settled crash.sent crash.calls crash.image)
     ∙ ap (λ (c : Option Crashing). with_lines (draft_of (Between (lives ++ record { stamp = life.stamp; settled = life.settled; crash = c } ∷ []))) more) (sym e)
 
 -- the last life, with a crash or without
-run_last : (lives : List WrittenLife) (life : WrittenLife) (crash : Option Crashing) → life.crash ≡ crash → IfSome crash (IsCrash life)
+run_last : (lives : List WrittenLife) (life : WrittenLife) (crash : Option Crashing) → life.crash ≡ crash → IfSome crash IsCrash
     → (with_lines (draft_of (Going lives life.stamp life.settled [])) (crash_marks crash ++ []) >>= script_of_draft) ≡ Some (script_of_lives (lives ++ life ∷ []))
 run_last lives life None e fit =
     ap (λ (ls : List Life). Some (record { lives = ls }))

@@ -31,9 +31,9 @@ settled_read : (done : List (List Sent)) → AllByRecursion (All IsSent) done �
 settled_read [] fit = tt
 settled_read (sent ∷ done) fit = (All-from_recursion IsRead (flat_map delivered sent) (delivered_read sent (recursion_from_All IsSent sent fit.0)), settled_read done fit.1)
 
-crash_read : (life : WrittenLife) (crash : Option Crashing) → IfSome crash (IsCrash life) → All AreRead (crash_segments crash)
-crash_read life None fit = All-nil AreRead
-crash_read life (Some crash) fit =
+crash_read : (crash : Option Crashing) → IfSome crash IsCrash → All AreRead (crash_segments crash)
+crash_read None fit = All-nil AreRead
+crash_read (Some crash) fit =
     All-cons AreRead _ [] (All-from_recursion IsRead (flat_map delivered crash.sent) (delivered_read crash.sent (recursion_from_All IsSent crash.sent fit.sent))) (All-nil AreRead)
 
 -- ---- closes
@@ -42,20 +42,20 @@ all_settle : (done : List (List Sent)) → AllByRecursion Settles (map settled_s
 all_settle [] = tt
 all_settle (sent ∷ done) = (refl, all_settle done)
 
-ends : (life : WrittenLife) (crash : Option Crashing) → IfSome crash (IsCrash life) → IsSome crash → EndInCrash (map settled_segment life.settled ++ crash_segments crash)
+ends : (life : WrittenLife) (crash : Option Crashing) → IfSome crash IsCrash → IsSome crash → EndInCrash (map settled_segment life.settled ++ crash_segments crash)
 ends life None fit crashes = absurd cc
 ends life (Some crash) fit crashes = record {
   before = map settled_segment life.settled;
+  messages = flat_map delivered crash.sent;
   calls = crash.calls;
   image = crash.image;
-  apart = ap (λ (sent : List Sent). map settled_segment life.settled ++ record { messages = flat_map delivered sent; close = Crash crash.calls crash.image } ∷ []) fit.place.bare;
+  apart = refl;
   settle = All-from_recursion Settles (map settled_segment life.settled) (all_settle life.settled);
-  some = omega (arith, length-map life.settled settled_segment, fit.place.after_settle);
   calls_fit = fit.calls;
   image_fits = fit.image;
 }
 
-closes : (life : WrittenLife) (crash : Option Crashing) → IfSome crash (IsCrash life)
+closes : (life : WrittenLife) (crash : Option Crashing) → IfSome crash IsCrash
     → All Settles (map settled_segment life.settled ++ crash_segments crash) ⊎ EndInCrash (map settled_segment life.settled ++ crash_segments crash)
 closes life None fit =
     inl (All-append Settles (map settled_segment life.settled) [] (All-from_recursion Settles (map settled_segment life.settled) (all_settle life.settled)) (All-nil Settles))
@@ -109,7 +109,7 @@ told_life : (life : WrittenLife) → IsLife life → length (life_lines life) �
 told_life life fit few = record {
   stamp = fit.stamp;
   messages = All-append AreRead (map settled_segment life.settled) (crash_segments life.crash)
-      (All-from_recursion AreRead (map settled_segment life.settled) (settled_read life.settled (recursion_from_All (All IsSent) life.settled fit.settled))) (crash_read life life.crash fit.crash);
+      (All-from_recursion AreRead (map settled_segment life.settled) (settled_read life.settled (recursion_from_All (All IsSent) life.settled fit.settled))) (crash_read life.crash fit.crash);
   closes = closes life life.crash fit.crash;
   few = omega (arith, fewer_in_life life);
 }

@@ -1,7 +1,6 @@
 -- What reading gives: a line by itself, and the lines put together.
-use Rattle.std.specs.Prelude.{◌≡◌, ◌⊎◌, ℕ, ◌+◌, ◌<◌, ◌≤◌, List, [], ◌∷◌, ◌++◌, length, map, take, Option, Some, None, Result, Ok, Err, Bool, true, false, not, ◌&&◌, if◌then◌else◌, All, codes}
+use Rattle.std.specs.Prelude.{◌≡◌, ◌⊎◌, ℕ, ◌+◌, ◌<◌, ◌≤◌, List, [], ◌∷◌, ◌++◌, length, map, take, Option, Some, None, Result, Ok, Err, true, false, if◌then◌else◌, All, codes}
 use Rattle.std.specs.Fmt.{decimal}
-use Rattle.rm_types.specs.Lists.{is_nil}
 use Rattle.rm_types.specs.Ranges.{IsWithin}
 use Rattle.rm_types.specs.declared.messages.Message.{Message}
 use Rattle.rm_types.specs.declared.scripts.Close.TheVariants as closes
@@ -90,20 +89,10 @@ abbrev pub crashed : Living → ℕ → ℕ → Life
 crashed living calls image =
     record { stamp = living.stamp; segments = living.segments ++ record { messages = living.messages; close = closes.Crash calls image } ∷ [] }
 
--- a segment of the life settled, and no message was sent since: a crash may stand there
-abbrev pub follows_settle : Living → Bool
-follows_settle living = not living.is_sending && not (is_nil living.segments)
-
--- the life that ends so, where a crash may stand there
-abbrev pub crash_life : Living → ℕ → ℕ → Option Life
-crash_life living calls image = if follows_settle living then Some (crashed living calls image) else None
-
 -- a draft whose life crashes
 abbrev pub with_crash : Draft → ℕ → ℕ → Option Draft
 with_crash (drafts.Between lives) calls image = None
-with_crash (drafts.Living lives living) calls image = do
-  life ← crash_life living calls image
-  Some (drafts.Between (lives ++ life ∷ []))
+with_crash (drafts.Living lives living) calls image = Some (drafts.Between (lives ++ crashed living calls image ∷ []))
 
 -- a life that was told this message
 abbrev pub told : Living → Message → Living

@@ -1,6 +1,6 @@
 -- Which bytes are which script.
 pub use Rattle.rm_script.specs.Messages.{IsSubmission, IsClientAsk}
-use Rattle.std.specs.Prelude.{◌≡◌, ℕ, ◌<◌, List, [], ◌∷◌, length, IfSome, IsSome, All}
+use Rattle.std.specs.Prelude.{◌≡◌, ℕ, List, [], ◌∷◌, length, IfSome, IsSome, All}
 use Rattle.rm_types.specs.Ranges.{IsWithin}
 use Rattle.rm_types.specs.declared.messages.Message.{Message}
 use Rattle.rm_types.specs.declared.scripts.Script.{Script}
@@ -23,24 +23,17 @@ pub record IsLineOf (line : List ℕ) (sent : Sent) : Type 0 where
   pub fits : IsSent sent
   pub text : line ≡ sent_text sent
 
--- a crash stands directly after a `settle` of its life, for a time, since the layers above can't take another yet: a segment
--- settled, and nothing is sent since
-pub record FollowsSettle (settled : List (List Sent)) (sent : List Sent) : Type 0 where
-  pub bare : sent ≡ []
-  pub after_settle : 0 < length settled
-
--- the crash of a life, and what is sent before it, may stand there
-pub record IsCrash (life : WrittenLife) (crash : Crashing) : Type 0 where
+-- a crash, and what is sent in the segment that it closes, may stand in a script
+pub record IsCrash (crash : Crashing) : Type 0 where
   pub sent : All IsSent crash.sent
   pub calls : IsWithin 0 greatest_calls crash.calls
   pub image : IsWithin 0 greatest_image crash.image
-  pub place : FollowsSettle life.settled crash.sent
 
 -- a life that may stand in a script
 pub record IsLife (life : WrittenLife) : Type 0 where
   pub stamp : IsWithin 1 greatest_stamp life.stamp
   pub settled : All (All IsSent) life.settled
-  pub crash : IfSome life.crash (IsCrash life)
+  pub crash : IfSome life.crash IsCrash
 
 -- the life ends with a crash
 abbrev pub Crashes : WrittenLife → Type 0

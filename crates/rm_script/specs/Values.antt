@@ -1,6 +1,7 @@
 -- What holds of each script that is read: how its lives close, and the ranges of its values.
-use Rattle.std.specs.Prelude.{◌≡◌, ◌⊎◌, ℕ, ◌<◌, ◌≤◌, List, [], ◌∷◌, ◌++◌, length, sum_by, All}
+use Rattle.std.specs.Prelude.{◌≡◌, ◌⊎◌, ℕ, ◌≤◌, List, [], ◌∷◌, ◌++◌, length, sum_by, All}
 use Rattle.rm_types.specs.Ranges.{IsWithin}
+use Rattle.rm_types.specs.declared.messages.Message.{Message}
 use Rattle.rm_types.specs.declared.scripts.Close.TheVariants.{Settle, Crash}
 use Rattle.rm_types.specs.declared.scripts.Segment.{Segment}
 use Rattle.rm_types.specs.declared.scripts.Life.{Life}
@@ -12,14 +13,14 @@ use Rattle.rm_script.specs.Scripts.{IsRead, EachButLast}
 abbrev pub Settles : Segment → Type 0
 Settles segment = segment.close ≡ Settle
 
--- the last segment is a crash directly after a `settle`: it has no message, and there are segments before it, which settle
+-- the last segment ends in a crash, and those before it settle
 pub record EndInCrash (segments : List Segment) : Type 0 where
   pub before : List Segment
+  pub messages : List Message
   pub calls : ℕ
   pub image : ℕ
-  pub apart : segments ≡ before ++ record { messages = []; close = Crash calls image } ∷ []
+  pub apart : segments ≡ before ++ record { messages = messages; close = Crash calls image } ∷ []
   pub settle : All Settles before
-  pub some : 0 < length before
   pub calls_fit : IsWithin 0 greatest_calls calls
   pub image_fits : IsWithin 0 greatest_image image
 

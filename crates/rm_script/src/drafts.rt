@@ -1,6 +1,6 @@
 ghost use Rattle.std.specs.Prelude.{◌≡◌, Some};
 ghost use Rattle.rm_script.specs.Results.{Finds, Gives};
-ghost use Rattle.rm_script.specs.Reading.{settled, follows_settle, with_start, with_settle, crash_life, with_crash, with_message, with_loss, with_line, script_of_draft, Takes};
+ghost use Rattle.rm_script.specs.Reading.{settled, with_start, with_settle, crashed, with_crash, with_message, with_loss, with_line, script_of_draft, Takes};
 
 use crate::errors::LineError;
 use crate::lines::{Line, line_of};
@@ -37,21 +37,10 @@ impl Living {
         })
     }
 
-    /// Whether a segment settled, and no message was sent since.
-    fn follows_settle(&self) -> bool
-        ensures { result ≡ follows_settle self.now }
-    {
-        !self.is_sending && !self.segments.is_empty()
-    }
-
-    /// The life when it crashes. `Refused` comes where it may not: a crash stands directly after a `settle` of
-    /// its life, for a time, since the layers above can't take another yet.
+    /// The life when it crashes.
     fn crash(self, calls: u32, image: u32) -> Result<Life, LineError>
-        ensures { Gives result (crash_life self calls image) }
+        ensures { Gives result (Some (crashed self calls image)) }
     {
-        if !self.follows_settle() {
-            return Err(LineError::Refused);
-        }
         let mut segments = self.segments;
         segments.push(Segment {
             messages: self.messages,
@@ -125,8 +114,7 @@ impl Draft {
         }
     }
 
-    /// The draft whose life crashes. `Refused` comes where no life goes on, or no crash may
-    /// stand there.
+    /// The draft whose life crashes. `Refused` comes where no life goes on.
     fn with_crash(self, calls: u32, image: u32) -> Result<Draft, LineError>
         ensures { Gives result (with_crash self calls image) }
     {

@@ -7,9 +7,6 @@
 //! script, `Refusals` which line is refused first, and `Values` what holds of each script that is read; the
 //! others say what the private functions answer.
 //!
-//! The whole grammar is read, but for one rule that stands for a time, since the layers above can't take
-//! another crash yet: a crash stands directly after a `settle` of its life (`FollowsSettle` in `Scripts`).
-//!
 //! It stands on the values of `rm_types`, on the wording of messages in `rm_formats`, on `rm_ids`, which
 //! reads ids, and on the law of `rm_page` that no two messages have one text.
 #![tactic(auto)]

@@ -18,7 +18,7 @@ fn refused_line(alloc: Global, text: &[u8]) -> u32 {
 }
 
 /// Texts, and their first refused lines: 0 where they are scripts.
-const SCRIPTS: [(&str, u32); 47] = [
+const SCRIPTS: [(&str, u32); 44] = [
     ("", 0),
     ("\n# no life\n\n", 0),
     ("start 1", 0),
@@ -38,6 +38,10 @@ const SCRIPTS: [(&str, u32); 47] = [
         0,
     ),
     ("start 7\nsettle\ncrash 0 1\nstart 8", 0),
+    (
+        "start 7\nclock tick 1\ncrash 0 1\nstart 8\ncrash 2 0\nstart 9\nsettle\nclock tick 1\nlose clock tick 2\ncrash 3 4",
+        0,
+    ),
     ("start 1\nlose settle\nclient alice new\nsettle", 2),
     ("start 1\nclient alice new\nclient alice", 3),
     ("start 1\nclient alice new", 3),
@@ -61,9 +65,6 @@ const SCRIPTS: [(&str, u32); 47] = [
     ("start 1\r\nsettle\r\n", 1),
     ("start 1\n#\r\nsettle\n", 2),
     ("start 1\nsettle \n", 2),
-    ("start 1\ncrash 0 0", 2),
-    ("start 1\nsettle\nclient alice new\ncrash 0 0", 4),
-    ("start 1\nsettle\nlose client alice new\ncrash 0 0", 4),
     ("start 1\nsettle\ncrash 0 0\nsettle", 4),
     ("start 1\nsettle\ncrash 1000001 0", 3),
     ("start 1\nsettle\ncrash 0 4294967296", 3),
@@ -72,7 +73,6 @@ const SCRIPTS: [(&str, u32); 47] = [
         "start 1\nclient alice submit application_1_0001 queue=q name=n memory=1 vcores=1 attempts=0 modify=*\nsettle",
         0,
     ),
-    ("start 1\nsettle\nlose clock tick 1\ncrash 0 0", 4),
     (
         "start 1\nnode n1 register 1 memory=1 vcores=1\nnode n1 register 1 memory=1 vcores=1\nsettle",
         0,
@@ -420,5 +420,80 @@ fn are_told(lives: &[Life]) -> bool {
 fn values(rt: HostRuntime) -> Result<(), ScriptError> {
     let script = read_script(rt.alloc(), TOLD)?;
     assert!(rt; are_told(script.lives.as_slice()));
+    Ok(())
+}
+
+/// A script whose lives go down after a message in their first segment, right after their start, and amid messages.
+const CRASHING: &[u8] = b"\
+start 7\n\
+clock tick 10\n\
+crash 0 0\n\
+start 8\n\
+crash 3 2\n\
+start 9\n\
+clock expire node n1\n\
+settle\n\
+clock tick 10\n\
+lose clock tick 20\n\
+clock expire node n1\n\
+crash 1000000 4294967295\n";
+
+/// Whether the segments are those of the first life that goes down: one, which crashes after the clock ticked.
+fn is_ticked(segments: &[Segment]) -> bool {
+    match segments {
+        [crash] => {
+            matches!(crash.messages.as_slice(), [tick] if ticks(tick))
+                && crash.close == Close::Crash { calls: 0, image: 0 }
+        }
+        _ => false,
+    }
+}
+
+/// Whether they are those of the second: one, which crashes with no message.
+fn is_bare(segments: &[Segment]) -> bool {
+    match segments {
+        [crash] => {
+            crash.messages.is_empty() && crash.close == Close::Crash { calls: 3, image: 2 }
+        }
+        _ => false,
+    }
+}
+
+/// Whether they are those of the third: one that settles, and one that crashes after two messages, where a third was lost.
+fn is_amid(segments: &[Segment]) -> bool {
+    let close = Close::Crash {
+        calls: 1_000_000,
+        image: 4_294_967_295,
+    };
+    match segments {
+        [first, crash] => {
+            matches!(first.messages.as_slice(), [node] if expires_node(node))
+                && first.close == Close::Settle
+                && matches!(crash.messages.as_slice(), [tick, node] if ticks(tick) && expires_node(node))
+                && crash.close == close
+        }
+        _ => false,
+    }
+}
+
+/// Whether the lives are those that the script with these crashes tells.
+fn are_crashing(lives: &[Life]) -> bool {
+    match lives {
+        [first, second, third] => {
+            first.stamp == 7
+                && is_ticked(first.segments.as_slice())
+                && second.stamp == 8
+                && is_bare(second.segments.as_slice())
+                && third.stamp == 9
+                && is_amid(third.segments.as_slice())
+        }
+        _ => false,
+    }
+}
+
+#[test]
+fn crashes(rt: HostRuntime) -> Result<(), ScriptError> {
+    let script = read_script(rt.alloc(), CRASHING)?;
+    assert!(rt; are_crashing(script.lives.as_slice()));
     Ok(())
 }

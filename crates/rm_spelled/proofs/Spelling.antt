@@ -1,38 +1,122 @@
 -- A log that is allowed follows the script that it spells.
-use Rattle.std.proofs.Common.{◌≡◌, ◌+◌, ◌<◌, ℕ, List, [], ◌∷◌, Bool, true, Option, None, Some, max, refl, sym, ◌∙◌, ap, subst, arith}
+use Rattle.std.proofs.Common.{◌≡◌, ◌≢◌, ◌+◌, ◌++◌, ℕ, List, [], ◌∷◌, Bool, true, false, Option, None, Some, max, refl, sym, ◌∙◌, subst, arith}
+use Rattle.std.proofs.lemmas.Bool.{false≢true}
+use Rattle.std.specs.Prelude.{if◌then◌else◌}
 use Rattle.rm_types.specs.declared.entries.Entry.{Entry}
-use Rattle.rm_types.specs.declared.entries.Entry.TheVariants.{Absorbed, Accepted, Blown, Down, Ended, Handed, Issued, Kept, Opened, Ordered, Pass, Queued, Quiet, Served, Settled}
+use Rattle.rm_types.specs.declared.entries.Entry.TheVariants.{Blown, Down, Handed, Issued, Kept, Opened, Served, Settled}
+use Rattle.rm_types.specs.declared.ids.AttemptId.{AttemptId}
+use Rattle.rm_types.specs.declared.messages.ClientAsk.{ClientAsk}
+use Rattle.rm_types.specs.declared.messages.ClientAsk.TheVariants as clients
+use Rattle.rm_types.specs.declared.messages.ClockAsk.{ClockAsk}
+use Rattle.rm_types.specs.declared.messages.ClockAsk.TheVariants as clocks
+use Rattle.rm_types.specs.declared.messages.MasterAsk.{MasterAsk}
+use Rattle.rm_types.specs.declared.messages.MasterAsk.TheVariants as masters
 use Rattle.rm_types.specs.declared.messages.Message.{Message}
 use Rattle.rm_types.specs.declared.messages.Message.TheVariants as messages
+use Rattle.rm_types.specs.declared.messages.NodeAsk.{NodeAsk}
+use Rattle.rm_types.specs.declared.messages.NodeAsk.TheVariants as nodes
 use Rattle.rm_types.specs.declared.messages.Sender.{Sender}
 use Rattle.rm_types.specs.declared.operations.Op.{Op}
+use Rattle.rm_types.specs.declared.operations.Op.TheVariants.{AppEnd}
 use Rattle.rm_types.specs.declared.replies.Reply.{Reply}
-use Rattle.rm_types.specs.declared.scripts.Segment.{Segment}
+use Rattle.rm_types.specs.declared.replies.Reply.TheVariants as replies
+use Rattle.rm_types.specs.declared.scripts.Close.{Close}
+use Rattle.rm_types.specs.declared.scripts.Close.TheVariants.{Crash}
 use Rattle.rm_types.specs.declared.settings.Settings.{Settings}
 use Rattle.rm_types.specs.Lanes.{sender_of}
 use Rattle.rm_types.specs.Records.{records}
-use Rattle.rm_model.specs.Changes.{after, after_where, kept_after_landing}
+use Rattle.rm_model.specs.Attempts.{is_registered}
+use Rattle.rm_model.specs.Changes.{after, after_where, kept_after_landing, life_issues}
+use Rattle.rm_model.specs.ClientReplies.{life_after_client}
+use Rattle.rm_model.specs.Facts.{is_known}
 use Rattle.rm_model.specs.Lawful.{AllAllowed, Follows, Lawful}
-use Rattle.rm_model.specs.Place.{Place, first_from, is_from, without_first}
-use Rattle.rm_model.specs.Rules.{Allowed, AllowedWhere, MayOpen, MayServe}
-use Rattle.rm_model.specs.State.{LifeState, Manager, opening_state, scene}
-use Rattle.rm_spelled.specs.Spelled.{AllUnblown, first_in, lives_in, more_in, spelled}
+use Rattle.rm_model.specs.MasterReplies.{is_new_to_master, life_after_master}
+use Rattle.rm_model.specs.NodeReplies.{is_later_turn, is_new_to_node, life_after_clock, life_after_node}
+use Rattle.rm_model.specs.Nodes.{node_of}
+use Rattle.rm_model.specs.Place.{IsNext, Place, is_from, moved, without_first}
+use Rattle.rm_model.specs.Replies.{life_after}
+use Rattle.rm_model.specs.Rules.{AllowedWhere}
+use Rattle.rm_model.specs.State.{LifeState, Manager, Scene, opening_state, scene}
+use Rattle.rm_spelled.specs.Spelled.{first_in, lives_in, more_in, spelled}
 
--- the place where a life stands and this is left of the log, and where none does
-abbrev in_a_life : List Entry → Place
-in_a_life log = record { lives = lives_in log; segments = first_in log ∷ more_in log }
+-- after how many calls the life is blown, where it is; a life that begins isn't
+abbrev blown_after : Option ℕ → Entry → Option ℕ
+blown_after blown (Opened landed epoch stamp) = None
+blown_after blown (Blown passed) = Some passed
+blown_after blown _ = blown
 
-abbrev between_lives : List Entry → Place
-between_lives log = record { lives = lives_in log; segments = [] }
+-- how the segment closes that a life is in, by how the rest of the log closes it: where the life is blown already, that doesn't tell
+abbrev closed_at : Option ℕ → Close → Close
+closed_at None close = close
+closed_at (Some passed) close = Crash passed 0
 
--- what is allowed by the life that stands
-allowed_in : (settings : Settings) (s : Manager) (o : Option LifeState) → s.life ≡ o → (e : Entry) → Allowed settings s e → AllowedWhere settings s o e
-allowed_in settings s o is e allowed = subst (λ (x : Option LifeState). AllowedWhere settings s x e) is allowed
+-- the place where this is left of the log, by the life that stands, if one does, and by after how many calls it is blown
+abbrev place_at : Option LifeState → Option ℕ → List Entry → Place
+place_at None blown log = record { lives = lives_in log; segments = [] }
+place_at (Some life) blown log =
+    record { lives = lives_in log; segments = record (first_in log) { close = closed_at blown (first_in log).close } ∷ more_in log }
 
--- the place by the life that stands, if one does
-abbrev place_at : Option LifeState → List Entry → Place
-place_at None log = between_lives log
-place_at (Some life) log = in_a_life log
+-- what holds of a life, by what awaits, whether an operation is with the store, and whether the life is blown: what is with the store
+-- awaits; and in a blown life something awaits while nothing is with the store, so that no more is kept and no segment settles
+abbrev Holds : Option ℕ → List Op → Bool → Bool → Type 0
+Holds None awaiting handed blown = handed ≡ true → awaiting ≢ []
+Holds (Some passed) awaiting handed blown = (awaiting ≢ []) × (handed ≡ false) × (blown ≡ true)
+
+-- it holds of the life that stands, if one does
+abbrev HoldsIn : Manager → Option LifeState → Option ℕ → Type 0
+HoldsIn s None blown = Unit {0}
+HoldsIn s (Some life) blown = Holds blown s.awaiting life.handed life.blown
+
+-- neither a message nor an operation that is issued changes whether an operation is with the store and whether the life is blown
+module _ (P : Bool → Bool → Type 0) where
+  abbrev Says : LifeState → Type 0
+  Says life = P life.handed life.blown
+
+  of_either : (b : Bool) (one other : LifeState) → Says one → Says other → Says (if b then one else other)
+  of_either true one other h k = h
+  of_either false one other h k = k
+
+  of_client : (m : Scene) (ask : ClientAsk) (reply : Reply) → Says m.life → Says (life_after_client m ask reply)
+  of_client m clients.New (replies.New id) h = h
+  of_client m (clients.Submit id submission) replies.Submitted h = of_either (is_known m id) _ _ h h
+  of_client m (clients.Kill id) replies.Killing h = h
+  of_client m _ _ h = h
+
+  of_master : (m : Scene) (attempt : AttemptId) (ask : MasterAsk) (reply : Reply) → Says m.life → Says (life_after_master m attempt ask reply)
+  of_master m attempt masters.Register replies.MasterRegistered h = h
+  of_master m attempt (masters.Allocate id asks release) (replies.Allocated next grants ended) h = of_either (is_new_to_master m attempt id) _ _ h h
+  of_master m attempt (masters.Finish text) replies.Finishing h = of_either (is_registered m attempt) _ _ h h
+  of_master m attempt _ _ h = h
+
+  of_node : (m : Scene) (name : List ℕ) (ask : NodeAsk) (reply : Reply) → Says m.life → Says (life_after_node m name ask reply)
+  of_node m name (nodes.Register turn capability running) (replies.NodeRegistered told epoch) h = of_either (is_later_turn turn (node_of m.life.nodes name)) _ _ h h
+  of_node m name (nodes.Beat id running done) (replies.Beat next launch clean) h = of_either (is_new_to_node m name id) _ _ h h
+  of_node m name _ _ h = h
+
+  of_clock : (m : Scene) (ask : ClockAsk) (reply : Reply) → Says m.life → Says (life_after_clock m ask reply)
+  of_clock m (clocks.Tick time) replies.Ok h = h
+  of_clock m (clocks.ExpireNode name) replies.Ok h = h
+  of_clock m (clocks.ExpireMaster attempt) replies.Ok h = h
+  of_clock m _ _ h = h
+
+  of_served : (m : Scene) (message : Message) (reply : Reply) → Says m.life → Says (life_after m message reply)
+  of_served m (messages.Client user ask) reply h = of_client m ask reply h
+  of_served m (messages.Master attempt ask) reply h = of_master m attempt ask reply h
+  of_served m (messages.Node node ask) reply h = of_node m node ask reply h
+  of_served m (messages.Clock ask) reply h = of_clock m ask reply h
+
+  of_issued : (m : Scene) (op : Op) → Says m.life → Says (life_issues m op)
+  of_issued m (AppEnd id how text) h = h
+  of_issued m _ h = h
+
+-- where one more awaits, some await
+some_await : (ops : List Op) (op : Op) → ops ++ op ∷ [] ≢ []
+some_await [] op none = absurd (cc)
+some_await (first ∷ ops) op none = absurd (cc)
+
+one_more : (blown : Option ℕ) (awaiting : List Op) (op : Op) (handed is_blown : Bool) → Holds blown awaiting handed is_blown → Holds blown (awaiting ++ op ∷ []) handed is_blown
+one_more None awaiting op handed is_blown h = λ is. some_await awaiting op
+one_more (Some passed) awaiting op handed is_blown h = (some_await awaiting op, h.1, h.2)
 
 -- a message is of the sender as whose it is served
 own_message : (sender : Sender) (m : Message) → sender ≡ sender_of m → is_from sender m ≡ true
@@ -45,62 +129,48 @@ own_message sender m is = subst (λ (x : Sender). is_from x m ≡ true) (sym is)
     by (messages.Clock ask) = refl
 
 module _ (settings : Settings) where
-  -- the life goes on after an entry
-  abbrev life_after : Manager → LifeState → Entry → Option LifeState
-  life_after s life e = (after_where s (Some life) e).life
+  -- what holds of the life that stands holds on behind each entry that is allowed
+  holds_after : (e : Entry) (s : Manager) (o : Option LifeState) (blown : Option ℕ) → HoldsIn s o blown → AllowedWhere settings s o e → HoldsIn (after_where s o e) (after_where s o e).life (blown_after blown e)
+  holds_after (Opened landed epoch stamp) s None blown h may = λ handed. absurd (false≢true handed)
+  holds_after _ s None blown h may = absurd may
+  holds_after (Opened landed epoch stamp) s (Some life) blown h may = absurd may
+  holds_after (Issued op) s (Some life) blown h may = of_issued (Holds blown (s.awaiting ++ op ∷ [])) (scene s life) op (one_more blown s.awaiting op _ _ h)
+  holds_after Handed s (Some life) None h may = λ handed. may.some_awaits
+  holds_after Handed s (Some life) (Some passed) h may = absurd (false≢true (sym may.not_blown ∙ h.2))
+  holds_after (Kept op) s (Some life) None h may = λ handed. absurd (false≢true handed)
+  holds_after (Kept op) s (Some life) (Some passed) h may = absurd (false≢true (sym h.1 ∙ may.handed))
+  holds_after (Blown passed) s (Some life) None h may = (h may.handed, refl, refl)
+  holds_after (Blown passed) s (Some life) (Some before) h may = absurd (false≢true (sym h.1 ∙ may.handed))
+  holds_after (Served sender message reply) s (Some life) blown h may = of_served (Holds blown s.awaiting) (scene s life) message reply h
+  holds_after Down s (Some life) blown h may = tt
+  holds_after _ s (Some life) blown h may = h
 
-  goes_on : (s : Manager) (life : LifeState) (e : Entry) → s.life ≡ Some life → (after s e).life ≡ life_after s life e
-  goes_on s life e is = ap (λ (o : Option LifeState). (after_where s o e).life) is
-
-  opens : (s : Manager) (e : Entry) → s.life ≡ None → (after s e).life ≡ (after_where s None e).life
-  opens s e is = ap (λ (o : Option LifeState). (after_where s o e).life) is
+  -- each entry is what the script says next, and the script goes on behind it
+  step : (e : Entry) (log : List Entry) (s : Manager) (o : Option LifeState) (blown : Option ℕ) → HoldsIn s o blown → AllowedWhere settings s o e
+      → Follows (after_where s o e) (place_at (after_where s o e).life (blown_after blown e) log) log
+      → IsNext s (place_at o blown (e ∷ log)) e × Follows (after_where s o e) (moved (place_at o blown (e ∷ log)) e) log
+  step (Opened landed epoch stamp) log s None blown h may rest =
+      let rises = may.rises in
+      let stamped : stamp ≡ max stamp ((records (kept_after_landing s landed)).stamp + 1) = omega (arith, rises) in
+      (record { life = record { stamp = stamp; segments = first_in log ∷ more_in log }; more = lives_in log; next = refl; at_end = refl; stamped = stamped }, rest)
+  step _ log s None blown h may rest = absurd may
+  step (Opened landed epoch stamp) log s (Some life) blown h may rest = absurd may
+  step (Served sender message reply) log s (Some life) blown h may rest =
+      let own : is_from sender message ≡ true = own_message sender message may.of_sender in
+      (rw own refl, rw (own, without_first) rest)
+  step (Blown passed) log s (Some life) None h may rest = (record { image = 0; closes = refl }, rest)
+  step (Blown passed) log s (Some life) (Some before) h may rest = absurd (false≢true (sym h.1 ∙ may.handed))
+  step Settled log s (Some life) None h may rest = (record { none_left = refl; closes = refl }, rest)
+  step Settled log s (Some life) (Some passed) h may rest = absurd (h.0 may.none_awaits)
+  step Down log s (Some life) None h may rest = (record { none_left = refl; calls = 0; image = 0; closes = refl }, rest)
+  step Down log s (Some life) (Some passed) h may rest = (record { none_left = refl; calls = passed; image = 0; closes = refl }, rest)
+  step _ log s (Some life) blown h may rest = (tt, rest)
 
   -- a log that is allowed is along what it spells
-  follows : (log : List Entry) (s : Manager) (o : Option LifeState) → s.life ≡ o → AllAllowed settings s log → AllUnblown log → Follows s (place_at o log) log
-  follows [] s o is allowed unblown = tt
-  follows (Opened landed epoch stamp ∷ log) s None is allowed unblown =
-      let may : MayOpen s landed epoch stamp = allowed_in settings s None is (Opened landed epoch stamp) allowed.0 in
-      let rises = may.rises in
-      let stamped : stamp ≡ max stamp ((records (kept_after_landing s landed)).stamp + 1) = omega (arith, rises) in (
-        record { life = record { stamp = stamp; segments = first_in log ∷ more_in log }; more = lives_in log; next = refl; at_end = refl; stamped = stamped },
-        follows log (after s (Opened landed epoch stamp)) _ (opens s (Opened landed epoch stamp) is) allowed.1 unblown.1,
-      )
-  follows (Opened landed epoch stamp ∷ log) s (Some life) is allowed unblown = absurd (allowed_in settings s (Some life) is (Opened landed epoch stamp) allowed.0)
-  follows (Served sender message reply ∷ log) s (Some life) is allowed unblown =
-      let may : MayServe settings (scene s life) sender message reply = allowed_in settings s (Some life) is (Served sender message reply) allowed.0 in
-      let own : is_from sender message ≡ true = own_message sender message may.of_sender in
-      let rest : Follows (after s (Served sender message reply)) (in_a_life log) log = follows log (after s (Served sender message reply)) _ (goes_on s life (Served sender message reply) is) allowed.1 unblown.1 in
-      let left : without_first sender (message ∷ (first_in log).messages) ≡ (first_in log).messages = rw (own, without_first) refl in
-      (rw own refl, subst (λ (l : List Message). Follows (after s (Served sender message reply)) (record { lives = lives_in log; segments = record (first_in log) { messages = l } ∷ more_in log }) log) (sym left) rest)
-  follows (Settled ∷ log) s (Some life) is allowed unblown =
-      (record { none_left = refl; closes = refl }, follows log (after s Settled) _ (goes_on s life Settled is) allowed.1 unblown.1)
-  follows (Down ∷ log) s (Some life) is allowed unblown =
-      (record { none_left = refl; calls = 0; image = 0; closes = refl }, follows log (after s Down) _ (goes_on s life Down is) allowed.1 unblown.1)
-  follows (Issued op ∷ log) s (Some life) is allowed unblown = (tt, follows log (after s (Issued op)) _ (goes_on s life (Issued op) is) allowed.1 unblown.1)
-  follows (Handed ∷ log) s (Some life) is allowed unblown = (tt, follows log (after s Handed) _ (goes_on s life Handed is) allowed.1 unblown.1)
-  follows (Kept op ∷ log) s (Some life) is allowed unblown = (tt, follows log (after s (Kept op)) _ (goes_on s life (Kept op) is) allowed.1 unblown.1)
-  follows (Blown passed ∷ log) s (Some life) is allowed unblown = absurd unblown.0
-  follows (Accepted app ∷ log) s (Some life) is allowed unblown = (tt, follows log (after s (Accepted app)) _ (goes_on s life (Accepted app) is) allowed.1 unblown.1)
-  follows (Queued attempt ∷ log) s (Some life) is allowed unblown = (tt, follows log (after s (Queued attempt)) _ (goes_on s life (Queued attempt) is) allowed.1 unblown.1)
-  follows (Absorbed node taken ended ∷ log) s (Some life) is allowed unblown = (tt, follows log (after s (Absorbed node taken ended)) _ (goes_on s life (Absorbed node taken ended) is) allowed.1 unblown.1)
-  follows (Pass node grants ∷ log) s (Some life) is allowed unblown = (tt, follows log (after s (Pass node grants)) _ (goes_on s life (Pass node grants) is) allowed.1 unblown.1)
-  follows (Ordered container node ∷ log) s (Some life) is allowed unblown = (tt, follows log (after s (Ordered container node)) _ (goes_on s life (Ordered container node) is) allowed.1 unblown.1)
-  follows (Ended cause list ∷ log) s (Some life) is allowed unblown = (tt, follows log (after s (Ended cause list)) _ (goes_on s life (Ended cause list) is) allowed.1 unblown.1)
-  follows (Quiet lane ∷ log) s (Some life) is allowed unblown = (tt, follows log (after s (Quiet lane)) _ (goes_on s life (Quiet lane) is) allowed.1 unblown.1)
-  follows (Served sender message reply ∷ log) s None is allowed unblown = absurd (allowed_in settings s None is (Served sender message reply) allowed.0)
-  follows (Settled ∷ log) s None is allowed unblown = absurd (allowed_in settings s None is Settled allowed.0)
-  follows (Down ∷ log) s None is allowed unblown = absurd (allowed_in settings s None is Down allowed.0)
-  follows (Issued op ∷ log) s None is allowed unblown = absurd (allowed_in settings s None is (Issued op) allowed.0)
-  follows (Handed ∷ log) s None is allowed unblown = absurd (allowed_in settings s None is Handed allowed.0)
-  follows (Kept op ∷ log) s None is allowed unblown = absurd (allowed_in settings s None is (Kept op) allowed.0)
-  follows (Blown passed ∷ log) s None is allowed unblown = absurd unblown.0
-  follows (Accepted app ∷ log) s None is allowed unblown = absurd (allowed_in settings s None is (Accepted app) allowed.0)
-  follows (Queued attempt ∷ log) s None is allowed unblown = absurd (allowed_in settings s None is (Queued attempt) allowed.0)
-  follows (Absorbed node taken ended ∷ log) s None is allowed unblown = absurd (allowed_in settings s None is (Absorbed node taken ended) allowed.0)
-  follows (Pass node grants ∷ log) s None is allowed unblown = absurd (allowed_in settings s None is (Pass node grants) allowed.0)
-  follows (Ordered container node ∷ log) s None is allowed unblown = absurd (allowed_in settings s None is (Ordered container node) allowed.0)
-  follows (Ended cause list ∷ log) s None is allowed unblown = absurd (allowed_in settings s None is (Ended cause list) allowed.0)
-  follows (Quiet lane ∷ log) s None is allowed unblown = absurd (allowed_in settings s None is (Quiet lane) allowed.0)
+  follows : (log : List Entry) (s : Manager) (blown : Option ℕ) → HoldsIn s s.life blown → AllAllowed settings s log → Follows s (place_at s.life blown log) log
+  follows [] s blown h allowed = tt
+  follows (e ∷ log) s blown h allowed =
+      step e log s s.life blown h allowed.0 (follows log (after s e) (blown_after blown e) (holds_after e s s.life blown h allowed.0) allowed.1)
 
-  pub spelled_lawful : (opening : List Op) (log : List Entry) → AllAllowed settings (opening_state opening) log → AllUnblown log → Lawful settings (spelled log) opening log
-  spelled_lawful opening log allowed unblown = record { allowed = allowed; along = follows log (opening_state opening) None refl allowed unblown }
+  pub spelled_lawful : (opening : List Op) (log : List Entry) → AllAllowed settings (opening_state opening) log → Lawful settings (spelled log) opening log
+  spelled_lawful opening log allowed = record { allowed = allowed; along = follows log (opening_state opening) None tt allowed }

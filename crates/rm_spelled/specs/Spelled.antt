@@ -12,7 +12,8 @@ abbrev pub closing : Segment
 closing = record { messages = []; close = Crash 0 0 }
 
 -- the segment that a life is in where this is left of the log: the messages that are served yet, and how it closes; where the log ends
--- amid it, it closes as if the life went down there
+-- amid it, it closes as if the life went down there. Where the life is blown, the segment closes with a crash before whose fuse as many
+-- calls pass
 abbrev pub first_in : List Entry → Segment
 first_in [] = closing
 first_in (Served sender message reply ∷ log) = record (first_in log) { messages = message ∷ (first_in log).messages }
@@ -22,7 +23,7 @@ first_in (Opened landed epoch stamp ∷ log) = closing
 first_in (Issued op ∷ log) = first_in log
 first_in (Handed ∷ log) = first_in log
 first_in (Kept op ∷ log) = first_in log
-first_in (Blown passed ∷ log) = first_in log
+first_in (Blown passed ∷ log) = record (first_in log) { close = Crash passed 0 }
 first_in (Accepted app ∷ log) = first_in log
 first_in (Queued attempt ∷ log) = first_in log
 first_in (Absorbed node taken ended ∷ log) = first_in log
@@ -72,13 +73,3 @@ lives_in (Quiet lane ∷ log) = lives_in log
 -- the script that a log spells
 abbrev pub spelled : List Entry → Script
 spelled log = record { lives = lives_in log }
-
--- the entry isn't that of an operation that the store refused
-abbrev pub IsUnblown : Entry → Type 0
-IsUnblown (Blown passed) = ⊥
-IsUnblown _ = Unit {0}
-
--- so are all of these
-abbrev pub AllUnblown : List Entry → Type 0
-AllUnblown [] = Unit {0}
-AllUnblown (e ∷ log) = IsUnblown e × AllUnblown log

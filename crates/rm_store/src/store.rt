@@ -66,7 +66,7 @@ impl<D: Disk> Store<D> {
         ensures faultless { OnOk result (Tells (seen D.view disk) IsFaultless) }
         ensures why { IfErr result (λ refused. Tells (seen D.view disk) (λ bytes. IsWhy bytes refused.why)) }
         ensures quiet { MatchResult result (λ opened. IsQuiet (seen D.view disk) (seen D.view opened.0.disk)) (λ refused. IsQuiet (seen D.view disk) (seen D.view refused.disk)) }
-        ensures kept { MatchResult result (λ opened. KeepsFuse (D.keeps true) true disk opened.0.disk) (λ refused. KeepsFuse (D.keeps false) false disk refused.disk) }
+        ensures kept { MatchResult result (λ opened. KeepsFuse D.view (D.keeps true) true disk opened.0.disk) (λ refused. KeepsFuse D.view (D.keeps false) false disk refused.disk) }
         ensures fault { IfErr result (λ refused. refused.why ≡ StoreError.DiskFault → FaultedFuse D.view D.faulted disk refused.disk) }
         ensures errors { IfErr result (λ refused. IsOpenError refused.why) }
     {
@@ -103,7 +103,7 @@ impl<D: Disk> Store<D> {
         // A crash at any moment leaves the operations from before, or these and the new one.
         ensures any_moment { self.old.is_broken ≡ false → (ops : List AnyOp) → Has (seen D.view self.old.disk) ops → fits_records (records ops) op.now ≡ true → LeavesOps (seen D.view self.old.disk) (seen D.view self.new.disk) ops op.now }
         ensures added { OnOk result ((ops : List AnyOp) → Has (seen D.view self.old.disk) ops → fits_records (records ops) op.now ≡ true → AddsOp (seen D.view self.new.disk) ops op.now) }
-        ensures kept { KeepsFuse (D.keeps (is_ok result)) (is_ok result) self.old.disk self.new.disk }
+        ensures kept { KeepsFuse D.view (D.keeps (is_ok result)) (is_ok result) self.old.disk self.new.disk }
         ensures goes_on { GoesOn (seen D.view self.old.disk) (seen D.view self.new.disk) }
 
         // When each error comes, and what it leaves.

@@ -134,6 +134,28 @@ fn a_ready_node_is_told_what_to_launch_and_to_clean(rt: HostRuntime) -> Result<(
     is_answered(&rt, &mut tables)
 }
 
+/// The reply to a beat tells to launch nothing and to clean nothing.
+fn is_told_nothing(rt: &impl Abort, reply: &Reply) {
+    assert!(rt; matches!(reply, Reply::Beat { id: 1, .. }));
+    if let Reply::Beat { launch, clean, .. } = reply {
+        assert!(rt; launch.is_empty());
+        assert!(rt; clean.is_empty());
+    }
+}
+
+fn is_waiting(rt: &impl Abort, tables: &mut Tables) -> Result<(), Fail> {
+    let name = Text::from_bytes(tables.alloc, b"n1:1")?;
+    register(tables, &name, 7)?;
+    is_told_nothing(rt, &beat(tables, &name)?);
+    Ok(())
+}
+
+#[test]
+fn a_node_that_waits_is_told_nothing(rt: HostRuntime) -> Result<(), Fail> {
+    let mut tables = tables(rt.alloc());
+    is_waiting(&rt, &mut tables)
+}
+
 fn is_lost(rt: &impl Abort, tables: &mut Tables) -> Result<(), Fail> {
     let name = Text::from_bytes(tables.alloc, b"n1:1")?;
     let node = Text::from_bytes(tables.alloc, b"n1:1")?;

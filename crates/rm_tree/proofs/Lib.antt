@@ -1,3 +1,4 @@
 pub mod Changes
+pub mod Copying
 pub mod Shows
 pub mod Slots

@@ -17,7 +17,7 @@ use Rattle.rm_types.specs.Records.{record_of, with_record, is_some_and}
 use Rattle.rm_tree.specs.Numbers.{AreAttemptsFrom, AreApart, AreNumbered}
 use Rattle.rm_tree.specs.Slots.{Slot, present, IsOwn, AreOwn, AreSlots, joined}
 
-flips : (a b : AppId) → is_app a b ≡ is_app b a
+pub flips : (a b : AppId) → is_app a b ≡ is_app b a
 flips a b = grind (arith, nat_tests)
 
 different : (y key id : AppId) → is_app key id ≡ true → is_app y key ≡ false → is_app y id ≡ false

@@ -1,16 +1,16 @@
-ghost use Rattle.std.specs.Prelude.{◌≡◌, ◌+◌, ◌<◌, List, [], ◌∷◌, ◌++◌, length, filter, not, slice_get, Some, None, OnOk, OnErr, IfSome, IsTrue, is_some};
+ghost use Rattle.std.specs.Prelude.{◌≡◌, ◌+◌, ◌<◌, List, [], ◌∷◌, ◌++◌, length, filter, not, slice_get, Some, None, OnOk, OnErr, IfOk, IfSome, IsTrue, is_some};
 ghost use Rattle.std.specs.Option.{option_copied, option_map};
 ghost use Rattle.std.specs.Map.{lookup, set_value};
 ghost use Rattle.rm_types.specs.Ids.{is_app};
 ghost use Rattle.rm_types.specs.Records.{record_of, with_record, is_some_and};
 ghost use Rattle.rm_tree.specs.Changes.{with_attempt, with_ended, with_ending, is_next, is_unended_last};
-ghost use Rattle.indexmap.specs.IndexMap.{values};
+ghost use Rattle.indexmap.specs.IndexMap.{insert_entry, values};
 ghost use Rattle.rm_tree.specs.Numbers.{AreAttemptsFrom, AreApart, AreNumbered};
 ghost use Rattle.rm_tree.specs.Slots.{joined, present};
 
 use crate::attempts::end_in_slot;
 use indexmap::IndexMap;
-use rm_types::{AppId, AppRecord, AttemptId, AttemptRecord, How, NoMemory, Text};
+use rm_types::{AppId, AppRecord, AttemptId, AttemptRecord, Duplicate, How, NoMemory, Text};
 use std::alloc::Global;
 use std::marker::Model;
 
@@ -44,6 +44,16 @@ impl Apps {
             slots: IndexMap::new(alloc),
             count: 0,
         }
+    }
+
+    /// A copy, which equals its source. `NoMemory` where no memory was found for it.
+    pub fn copy(&self, alloc: Global) -> Result<Apps, NoMemory>
+        ensures { IfOk result (λ copy. copy ≡ self.now) }
+    {
+        Ok(Apps {
+            slots: copied_slots(&self.slots, alloc)?,
+            count: self.count,
+        })
     }
 
     /// How many records there are. No two are of one application, and the attempts of each are numbered
@@ -157,6 +167,32 @@ impl Apps {
             { slot.is_some() },
         );
     }
+}
+
+/// A copy of the slots, the gaps among them.
+fn copied_slots(
+    slots: &IndexMap<AppId, Option<AppRecord>>,
+    alloc: Global,
+) -> Result<IndexMap<AppId, Option<AppRecord>>, NoMemory>
+    ensures { IfOk result (λ copy. copy.entries ≡ slots.now.entries) }
+{
+    let mut copied = IndexMap::with_capacity(alloc, slots.len())?;
+    for (id, slot) in slots.iter() {
+        insert_copy(&mut copied, *id, slot)?;
+    }
+    Ok(copied)
+}
+
+/// Inserts a copy of a slot under its id.
+fn insert_copy(
+    slots: &mut IndexMap<AppId, Option<AppRecord>>,
+    id: AppId,
+    slot: &Option<AppRecord>,
+) -> Result<(), NoMemory>
+    ensures { OnOk result (slots.new.entries ≡ insert_entry is_app slots.old.entries id slot.now) }
+{
+    slots.insert(id, slot.copy()?)?;
+    Ok(())
 }
 
 /// The record of the slot at a place, if both are there.

@@ -148,6 +148,7 @@ fn a_job_is_kept_from_its_submission_to_its_removal(rt: HostRuntime) -> Result<(
     for (step, wanted) in life {
         assert_eq!(rt; applied(alloc, &mut tree, &[(JOB, step)])?, 1);
         assert_eq!(rt; shown(alloc, &tree)?.as_str(), wanted);
+        assert_eq!(rt; shown(alloc, &tree.copy()?)?.as_str(), wanted);
     }
     Ok(())
 }

@@ -1,4 +1,4 @@
-ghost use Rattle.std.specs.Prelude.{◌≡◌, ◌<◌, length, slice_get, Some, Err, true, false, OnOk, OnErr, IfErr, IfSome};
+ghost use Rattle.std.specs.Prelude.{◌≡◌, ◌<◌, length, slice_get, Some, Err, true, false, OnOk, OnErr, IfOk, IfErr, IfSome};
 ghost use Rattle.std.specs.Option.{option_copied};
 ghost use Rattle.rm_tree.specs.declared.tree.TreeError.TheVariants.{Memory, Stray};
 ghost use Rattle.rm_tree.specs.Numbers.{AreAttemptsFrom, AreApart, AreNumbered};
@@ -58,6 +58,19 @@ impl Tree {
             applied: 0,
             apps: Apps::new(alloc),
         }
+    }
+
+    /// A copy, which equals its source. `NoMemory` where no memory was found for it.
+    pub fn copy(&self) -> Result<Tree, NoMemory>
+        ensures { IfOk result (λ copy. copy ≡ self.now) }
+    {
+        Ok(Tree {
+            alloc: self.alloc,
+            next_epoch: self.next_epoch,
+            stamp: self.stamp,
+            applied: self.applied,
+            apps: self.apps.copy(self.alloc)?,
+        })
     }
 
     /// The epoch that the next life has: 0 before the first `Epoch`.

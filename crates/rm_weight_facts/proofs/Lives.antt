@@ -1,4 +1,4 @@
--- What a life begins with, that nothing is left of one that goes down, and that an operation that is handed weighs less.
+-- What a life begins with, that nothing is left of one that goes down, and that an operation that is handed, or refused, weighs less.
 use Rattle.std.proofs.Common.{◌≡◌, ℕ, ◌+◌, ◌*◌, ◌<◌, ◌≤◌, ◌≢◌, zero, suc, List, [], ◌∷◌, Bool, true, false, None, Some, Option, is_some, nat_le, fold, length, refl, ap, arith}
 use Rattle.std.specs.Prelude.{option_map}
 use Rattle.std.specs.Map.{values_of}
@@ -12,7 +12,7 @@ use Rattle.rm_tables.specs.declared.completed.Completion.{Completion}
 use Rattle.rm_tables.specs.declared.events.MainEvent.TheVariants as mains
 use Rattle.rm_tables.specs.declared.tables.Tables.{Tables}
 use Rattle.rm_tables.specs.Completed.{completion_of, completions_in, ended_in, put_completion, with_completed}
-use Rattle.rm_tables.specs.Lives.{begun, gone_down, handed_out}
+use Rattle.rm_tables.specs.Lives.{begun, gone_down, handed_out, refused}
 use Rattle.rm_tables.specs.Opening.{recovered_attempt, recovered_row, recovered_rows}
 use Rattle.rm_weight_facts.specs.Weights.{begin_weight, current_weight, main_weight, number_in, row_weight, rows_weight, slot_weight, untried_weight, weight}
 use Rattle.rm_weight_facts.proofs.Rows.{app_most}
@@ -20,6 +20,10 @@ use Rattle.rm_weight_facts.proofs.Rows.{app_most}
 -- an operation is handed
 pub hand_lighter : (t : Tables) → t.handed ≡ false → t.awaiting ≢ [] → weight (handed_out t) < weight t
 hand_lighter t h some = rw h (omega arith)
+
+-- and one that the store refuses
+pub blow_lighter : (t : Tables) → t.handed ≡ true → t.blown ≡ false → weight (refused t) < weight t
+blow_lighter t h b = rw (h, b) (omega arith)
 
 -- nothing is left to do of a life that goes down
 pub down_weighs : (t : Tables) → t.handed ≡ false → weight (gone_down t) ≤ weight t

@@ -139,7 +139,7 @@ slot_weight most (Some row) = row_weight most row
 abbrev pub rows_weight : ℕ → List (AppId × Option AppRow) → ℕ
 rows_weight most rows = sum_by (slot_weight most) (values_of rows)
 
--- an operation weighs 1 more until it is handed
+-- an operation weighs 1 more until it is handed, and the store 2 until it refuses one
 abbrev pub one_unless : Bool → ℕ
 one_unless true = 0
 one_unless false = 1
@@ -161,14 +161,14 @@ weight_with most t =
     + (rows_weight most t.rows
     + (completed_weight * length t.ended
     + (length t.book.rows
-    + (one_unless t.handed + opening_weight t.is_open t.alive t.tree.apps))))))
+    + (one_unless t.handed + (2 * one_unless t.blown + opening_weight t.is_open t.alive t.tree.apps)))))))
 
 abbrev pub weight : Tables → ℕ
 weight t = weight_with t.settings.max_attempts t
 
 -- a life begins with at most so much, whatever is recorded: its EpochStart, and for each recorded application what it opens with, its row, and its removal
 abbrev pub begin_weight : Settings → Records → ℕ
-begin_weight settings tree = 5 + (10 + untried_weight settings.max_attempts) * length tree.apps
+begin_weight settings tree = 7 + (10 + untried_weight settings.max_attempts) * length tree.apps
 
 -- a message adds at most so much: the most is where a node registers, whose report is to be absorbed
 abbrev pub message_weight : ℕ

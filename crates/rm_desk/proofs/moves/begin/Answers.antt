@@ -21,5 +21,5 @@ returns-clause-begins c =
     let ready = both (not (stands core)) (not (is_nil f.lives)) c.requires.ready in
     let life = c.in-Some.life.now in
     let first = first_of f.lives life (sym c.in-Some.ensures.first) in
-    begin_does (at core f) c.step.new.self (place_of c.enter_life.new.self) c.requires.sound c.args.tree step.settings step.began step.lawful (is_not (stands core) ready.0) step.stands.1 step.served life
+    begin_does (at core f) c.step.new.self (place_of c.enter_life.new.self) c.requires.sound c.args.tree step.settings step.began step.lawful (is_not (stands core) ready.0) step.stands.1 step.served step.blown life
     (step.added.added ∙ ap (λ (e : Entry). core.log ++ e ∷ []) step.added.of_move) first.0 first.1 c.enter_life.ensures.place

@@ -32,5 +32,5 @@ returns-clause-does c =
     let close = fed_in f c.requires.entered (found_some sender f.feed m first) f.close refl in
     let step = c.in_ok-step.ensures.does in
     serve_does core c.step.new.self f c.requires.sound c.requires.entered step.settings step.began (λ ops k. step.lawful ops k tt) close.0 close.1 sender m first
-    step.added.of_move.0 (step.added.added ∙ ap (λ (e : Entry). core.log ++ e ∷ []) step.added.of_move.1) step.weighs step.stands step.served
+    step.added.of_move.0 (step.added.added ∙ ap (λ (e : Entry). core.log ++ e ∷ []) step.added.of_move.1) step.weighs step.stands step.served step.blown
     c.take.new.self c.take.ensures

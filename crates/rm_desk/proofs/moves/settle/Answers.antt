@@ -15,5 +15,5 @@ returns-clause-does c =
     let ready : (ready_at core End && is_nil f.feed) ≡ true = rw c.requires.settles at c.requires.ready in
     let parts = both (ready_at core End) (is_nil f.feed) ready in
     settle_does core c.step.new.self f c.requires.sound c.requires.entered step.settings step.began (λ ops k. step.lawful ops k tt) c.enter.new.self c.requires.settles (nil_is f.feed parts.1)
-    (step.added.added ∙ ap (λ (e : Entry). core.log ++ e ∷ []) step.added.of_move) step.weighs step.stands step.served c.enter.ensures.place
+    (step.added.added ∙ ap (λ (e : Entry). core.log ++ e ∷ []) step.added.of_move) step.weighs step.stands step.served step.blown c.enter.ensures.place
     (rest_stays core c.step.new.self step.tables (end_rests core parts.0 c.rest.ensures))

@@ -2,6 +2,7 @@ use Rattle.std.proofs.Common.{[], Err, ◌∙◌, ap}
 use Rattle.std.proofs.lemmas.Result.{err_from_is_err_and}
 use Rattle.rm_store.specs.Store.{seen}
 use Rattle.rm_plain.specs.declared.halts.Halt.{Halt}
+use Rattle.rm_plain.specs.Keeping.{IsKeptOn}
 use Rattle.rm_plain.proofs.Ending.{goes_trans, stores_trans, fuse_trans, rest_on, down_on}
 use Rattle.rm_plain.proofs.Halting.{halts_on}
 use Rattle.rm_plain.proofs.lives.run_life.Goals as goal
@@ -11,7 +12,7 @@ returns-in_err-tick-clause-halts g c =
     let m = c.moves.invariant in
     let p = err_from_is_err_and c.from_residual.result c.from_residual.ensures.1 in
     rw (p.1 ∙ ap (λ (e : Halt). Err e) p.2)
-    (halts_on g.D.Disk.view (λ ops. Unit {0}) c.args.d.now c.moves.d c.tick.new.d c.args.store.now.disk c.moves.store.disk c.tick.new.store.disk m.goes (λ ops is k has. m.stores ops k has) m.fuse.faults
+    (halts_on g.D.Disk.view (λ ops. Unit {0}) (λ ops. IsKeptOn ops c.args.d.now.core.log (seen g.D.Disk.view c.args.store.now.disk)) c.args.d.now c.moves.d c.tick.new.d c.args.store.now.disk c.moves.store.disk c.tick.new.store.disk m.goes (λ ops is k has. m.stores ops k has) m.fuse.faults
     c.in_err-tick.field-0.0 c.in_err-tick.ensures.halts)
 
 pub moves-preserved : goal.moves-preserved
@@ -19,7 +20,6 @@ moves-preserved g c =
     let m = c.moves.invariant in
     let on = rw c.in-On.is at c.in_ok-tick.ensures.moves in
     record {
-      sound = on.goes.sound;
       standing = on.stands;
       serves = on.serves;
       goes = goes_trans (λ ops. Unit {0}) [] [] c.args.d.now c.moves.d c.tick.new.d m.goes on.goes;

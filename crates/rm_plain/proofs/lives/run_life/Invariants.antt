@@ -3,14 +3,12 @@ use Rattle.rm_types.specs.declared.operations.Op.{Op}
 use Rattle.rm_store.specs.Store.{seen}
 use Rattle.rm_core.specs.Words.{stands}
 use Rattle.rm_desk.specs.Runs.{left}
-use Rattle.rm_plain.specs.Along.{IsSound}
 use Rattle.rm_plain.specs.Goes.{Goes}
 use Rattle.rm_plain.specs.Keeping.{FuseStays, Serves, StoresOn}
 use Rattle.rm_plain.proofs.lives.run_life.Given as goal
 
 abbrev pub invariant-moves : goal.invariant-moves
 invariant-moves g l = record {
-  sound : IsSound l.d;
   standing : stands l.d.core ≡ true;
   serves : Serves g.D.Disk.view l.d l.store;
   goes : Goes [] l.fn.d l.d;

@@ -1,24 +1,63 @@
-use Rattle.std.proofs.Common.{◌≡◌, true, refl, sym, ◌∙◌}
+use Rattle.std.proofs.Common.{◌≡◌, true, false, Err, Some, refl, sym, ◌∙◌, ap}
+use Rattle.std.proofs.lemmas.Result.{err_from_is_err_and}
 use Rattle.std.specs.Prelude.{is_ok}
+use Rattle.rm_types.specs.declared.messages.Lane.TheVariants.{End}
+use Rattle.rm_types.specs.declared.scripts.Close.TheVariants.{Settle}
+use Rattle.rm_model.specs.Place.{close_left}
+use Rattle.rm_core.specs.Words.{is_blown}
+use Rattle.rm_desk.specs.Does.{Does}
+use Rattle.rm_desk.specs.Runs.{IsSound}
+use Rattle.rm_desk.specs.View.{DeskView}
 use Rattle.rm_plain.specs.declared.halts.Halt.{Halt}
-use Rattle.rm_plain.specs.Keeping.{HaltsBy}
-use Rattle.rm_plain.proofs.Moving.{ok_holds, ok_map, settle_goes}
+use Rattle.rm_plain.specs.Keeping.{HaltsBy, armed_by}
+use Rattle.rm_plain.proofs.Moving.{err_holds, ok_holds, ok_map, settle_goes, settling_unblown}
 use Rattle.rm_plain.proofs.Ending.{settles_on}
-use Rattle.rm_plain.proofs.Halting.{halts_unkept, if_memory}
+use Rattle.rm_plain.proofs.Halting.{halts_still, halts_unkept, if_memory}
 use Rattle.rm_plain.proofs.lives.settle_on.Goals as goal
+
+-- the life didn't blow
+whole : (d next : DeskView) → Does End d next → IsSound d → close_left d.place.segments ≡ Some Settle → is_blown d.core ≡ false
+whole d next does sound settles = settling_unblown d sound does.stood settles
+
+pub arm-requires-clause-unbroken : goal.arm-requires-clause-unbroken
+arm-requires-clause-unbroken g c =
+    let made : is_ok c.step.result ≡ true = sym c.memory_only.ensures ∙ rw c.in_ok-memory_only.was refl in
+    c.requires.serves.unbroken (whole c.args.d.now c.step.new.self (ok_holds c.step.result made c.step.ensures.does) c.law.ensures.sound c.requires.settles)
+
+pub arm-requires-clause-unarmed : goal.arm-requires-clause-unarmed
+arm-requires-clause-unarmed g c = c.requires.serves.armed ∙ ap armed_by c.requires.settles
+
+pub arm-requires-clause-unblown : goal.arm-requires-clause-unblown
+arm-requires-clause-unblown g c =
+    let made : is_ok c.step.result ≡ true = sym c.memory_only.ensures ∙ rw c.in_ok-memory_only.was refl in
+    c.requires.serves.blown ∙ whole c.args.d.now c.step.new.self (ok_holds c.step.result made c.step.ensures.does) c.law.ensures.sound c.requires.settles
+
+pub arm-requires-clause-whole : goal.arm-requires-clause-whole
+arm-requires-clause-whole g c =
+    let made : is_ok c.step.result ≡ true = sym c.memory_only.ensures ∙ rw c.in_ok-memory_only.was refl in
+    let does = ok_holds c.step.result made c.step.ensures.does in
+    does.blown ∙ whole c.args.d.now c.step.new.self does c.law.ensures.sound c.requires.settles
 
 pub returns-clause-on : goal.returns-clause-on
 returns-clause-on g c =
     let d = c.args.d.now in
     let made : is_ok c.step.result ≡ true = sym c.memory_only.ensures ∙ rw c.in_ok-memory_only.was refl in
     let does = ok_holds c.step.result made c.step.ensures.does in
-    let settled = settle_goes d c.step.new.self does c.requires.chosen c.requires.sound c.requires.settles in
-    ok_map c.arm.result (settles_on g.D.Disk.view d c.step.new.self c.args.store.now c.arm.new.store does settled.0 settled.1 c.requires.settles c.arm.ensures.inner c.arm.ensures.fuse.refused) c.arm.ensures.serves
+    let settled = settle_goes d c.step.new.self does c.law.ensures.tells c.law-2.ensures.tells c.requires.chosen c.requires.settles in
+    ok_map c.arm.result (settles_on g.D.Disk.view d c.step.new.self c.args.store.now c.arm.new.store does settled.0 settled.1 c.requires.settles c.arm.ensures.inner c.arm.ensures.refused) c.arm.ensures.serves
 
 pub returns-clause-halts : goal.returns-clause-halts
 returns-clause-halts g c =
     let d = c.args.d.now in
     let made : is_ok c.step.result ≡ true = sym c.memory_only.ensures ∙ rw c.in_ok-memory_only.was refl in
-    let settled = settle_goes d c.step.new.self (ok_holds c.step.result made c.step.ensures.does) c.requires.chosen c.requires.sound c.requires.settles in
+    let settled = settle_goes d c.step.new.self (ok_holds c.step.result made c.step.ensures.does) c.law.ensures.tells c.law-2.ensures.tells c.requires.chosen c.requires.settles in
     let P : Halt → Type 0 = λ halt. HaltsBy g.D.Disk.view d c.step.new.self c.args.store.now.disk c.arm.new.store.disk halt in
-    if_memory P c.arm.result (halts_unkept g.D.Disk.view d c.step.new.self c.args.store.now.disk c.arm.new.store.disk settled.0 settled.1 c.arm.ensures.inner c.arm.ensures.fuse.refused) c.arm.ensures.halts
+    if_memory P c.arm.result (halts_unkept g.D.Disk.view d c.step.new.self c.args.store.now.disk c.arm.new.store.disk settled.0 settled.1 c.arm.ensures.inner c.arm.ensures.refused) c.arm.ensures.halts
+
+pub returns-in_err-memory_only-clause-halts : goal.returns-in_err-memory_only-clause-halts
+returns-in_err-memory_only-clause-halts g c =
+    let d = c.args.d.now in
+    let failed : is_ok c.step.result ≡ false = sym c.memory_only.ensures ∙ rw c.in_err-memory_only.was refl in
+    let same : c.step.new.self ≡ d = err_holds c.step.result failed c.step.ensures.err in
+    let p = err_from_is_err_and c.from_residual.result c.from_residual.ensures.1 in
+    rw (p.1 ∙ ap (λ (e : Halt). Err e) p.2, same) (halts_still g.D.Disk.view d c.args.store.now.disk)

@@ -18,4 +18,4 @@ prove-unreachable-requires g c =
 
 pub returns-in-None-clause-moves : goal.returns-in-None-clause-moves
 returns-in-None-clause-moves g c =
-    comes_to_rest g.D.Disk.view c.args.d.now c.args.store.now c.requires.sound c.requires.serves c.requires.stands (c.is_at_end-end.ensures.over.0 c.if-prove.false) c.law.ensures.tells
+    comes_to_rest g.D.Disk.view c.args.d.now c.args.store.now c.law.ensures.sound c.requires.serves c.requires.stands (c.is_at_end-end.ensures.over.0 c.if-prove.false) c.law.ensures.tells

@@ -1,11 +1,11 @@
-use Rattle.std.proofs.Common.{subst, refl, sym, ◌∙◌}
+use Rattle.std.proofs.Common.{subst, sym, ◌∙◌}
 use Rattle.rm_plain.specs.Later.{FirstTo}
 use Rattle.rm_plain.proofs.Finishing.{all_lived, first_stops, none_lived, none_left, some_left}
 use Rattle.rm_plain.proofs.runs.all_lives.Goals as goal
 
 pub returns-then-not-ready : goal.returns-then-not-ready
 returns-then-not-ready g c =
-    record { all = none_lived g.D.Disk.view c.new.result c.args.d.now c.args.disk c.requires.sound c.requires.dead c.requires.empty (none_left c.args.d.now c.requires.dead (sym c.ready.ensures ∙ c.if-not-ready.true)) c.requires.unarmed c.new.ensures }
+    record { all = none_lived g.D.Disk.view c.new.result c.args.d.now c.args.disk c.requires.dead c.requires.empty (none_left c.args.d.now c.requires.dead (sym c.ready.ensures ∙ c.if-not-ready.true)) c.requires.unarmed c.new.ensures }
 
 pub returns-in-Ok : goal.returns-in-Ok
 returns-in-Ok g c =

@@ -4,7 +4,7 @@ use Rattle.rm_plain.proofs.runs.first_life.Goals as goal
 pub returns-in-Ok : goal.returns-in-Ok
 returns-in-Ok g c =
     record {
-      first = first_to g.D.Disk.view c.args.d.now c.live-disk.new.d c.args.disk c.live-disk.result.disk c.in-Ok.store c.in-Ok.tree c.in-Ok.opening c.in-Ok.ensures.first c.requires.empty
+      first = first_to g.D.Disk.view c.args.d.now c.live-disk.new.d c.args.disk c.live-disk.result.disk c.in-Ok.store c.in-Ok.tree c.in-Ok.opening c.in-Ok.ensures.first c.requires.empty c.requires.dead
           c.live-disk.result.ended c.live-disk.ensures.lived;
     }
 
@@ -12,5 +12,5 @@ pub returns-in-Err : goal.returns-in-Err
 returns-in-Err g c =
     let none = c.in-Err.ensures in
     record {
-      first = unfounded_stops g.D.Disk.view c.args.d.now c.args.disk c.in-Err.field-0.disk c.in-Err.field-0.opening c.in-Err.field-0.why c.requires.sound c.requires.dead c.requires.lives c.requires.empty none.given_back none.found none.why;
+      first = unfounded_stops g.D.Disk.view c.args.d.now c.args.disk c.in-Err.field-0.disk c.in-Err.field-0.opening c.in-Err.field-0.why c.requires.dead c.requires.lives c.requires.empty none.given_back none.found none.why;
     }

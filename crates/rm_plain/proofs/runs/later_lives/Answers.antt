@@ -6,10 +6,9 @@ use Rattle.rm_plain.proofs.runs.later_lives.Goals as goal
 pub lives-init : goal.lives-init
 lives-init g c =
     record {
-      sound = c.requires.sound;
       some = c.requires.some;
       at_ease = c.requires.at_ease;
-      lived = lives_same g.D.Disk.view c.args.d.now c.args.disk c.requires.sound c.requires.at_ease c.requires.ends c.requires.some;
+      lived = lives_same g.D.Disk.view c.args.d.now c.args.disk c.requires.at_ease c.requires.ends c.requires.some;
     }
 
 pub returns-in-Err-clause-later : goal.returns-in-Err-clause-later
@@ -22,4 +21,4 @@ lives-preserved g c =
     let view = g.D.Disk.view in
     let lived = subst (LaterTo view c.lives.d c.next_life-lived.new.d c.lives.disk c.next_life-lived.result.disk) c.in_default.is c.next_life-lived.ensures.later in
     let all = lives_trans view c.args.d.now c.lives.d c.next_life-lived.new.d c.args.disk c.lives.disk c.next_life-lived.result.disk c.lives.invariant.lived lived in
-    record { sound = all.goes.sound; some = all.some; at_ease = all.at_ease; lived = all }
+    record { some = all.some; at_ease = all.at_ease; lived = all }

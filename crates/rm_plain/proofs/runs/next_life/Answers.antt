@@ -7,4 +7,4 @@ returns-in-Ok-clause-later g c =
 
 pub returns-in-Err-clause-later : goal.returns-in-Err-clause-later
 returns-in-Err-clause-later g c =
-    stopped_before g.D.Disk.view c.args.d.now c.args.disk c.in-Err.field-0.disk c.in-Err.field-0.why c.requires.sound c.requires.dead c.requires.lives c.in-Err.ensures.given_back c.in-Err.ensures.why
+    stopped_before g.D.Disk.view c.args.d.now c.args.disk c.in-Err.field-0.disk c.in-Err.field-0.why c.requires.dead c.requires.lives c.in-Err.ensures.given_back c.in-Err.ensures.why

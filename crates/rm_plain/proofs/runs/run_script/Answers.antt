@@ -1,9 +1,6 @@
 use Rattle.rm_core.specs.Words.{new_manager}
-use Rattle.rm_plain.proofs.Finishing.{downs_on, falls_on, first_sound, is_done, lawful_on, ok_of, policy_on, stopped_on, whole_run}
+use Rattle.rm_plain.proofs.Finishing.{downs_on, falls_on, is_done, lawful_on, ok_of, policy_on, stopped_on, whole_run}
 use Rattle.rm_plain.proofs.runs.run_script.Goals as goal
-
-pub all_lives-opening-requires-clause-sound : goal.all_lives-opening-requires-clause-sound
-all_lives-opening-requires-clause-sound g c = first_sound c.in-Ok.d c.args.script c.requires.script c.in-Ok.ensures.place
 
 pub returns-clause-lawful : goal.returns-clause-lawful
 returns-clause-lawful g c =

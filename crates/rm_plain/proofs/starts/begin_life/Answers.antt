@@ -2,9 +2,11 @@ use Rattle.std.proofs.Common.{◌≡◌, List, true, false, Err, refl, sym, ◌�
 use Rattle.std.proofs.lemmas.Result.{err_from_is_err_and}
 use Rattle.std.specs.Prelude.{is_ok}
 use Rattle.rm_types.specs.declared.operations.Op.{Op}
-use Rattle.rm_core.specs.Adds.{AmountsTo}
+use Rattle.rm_model.specs.Lawful.{state_after}
+use Rattle.rm_store.specs.Store.{seen}
+use Rattle.rm_core.specs.Adds.{IsLeft}
 use Rattle.rm_plain.specs.declared.halts.Halt.{Halt}
-use Rattle.rm_plain.specs.Keeping.{HaltsOver}
+use Rattle.rm_plain.specs.Keeping.{HaltsOver, IsFoundOn}
 use Rattle.rm_plain.proofs.Choosing.{begin_chosen}
 use Rattle.rm_plain.proofs.Halting.{goes_any, halts_same, if_memory}
 use Rattle.rm_plain.proofs.Moving.{begin_fewer, begin_goes, begin_kept, err_holds, goes_same, ok_holds, ok_map, on_ok}
@@ -17,7 +19,12 @@ returns-in_err-memory_only-clause-halts g c =
     let failed : is_ok c.begin.result ≡ false = sym c.memory_only.ensures ∙ rw c.in_err-memory_only.was refl in
     let same : c.begin.new.self ≡ d = err_holds c.begin.result failed c.begin.ensures.err in
     let p = err_from_is_err_and c.from_residual.result c.from_residual.ensures.1 in
-    rw (p.1 ∙ ap (λ (e : Halt). Err e) p.2, same) (halts_same g.D.Disk.view (λ ops. AmountsTo c.args.tree ops d.core) d c.args.store.now.disk c.requires.sound)
+    rw (p.1 ∙ ap (λ (e : Halt). Err e) p.2, same) (halts_same g.D.Disk.view (λ ops. IsLeft c.args.tree (state_after ops d.core.log)) d c.args.store.now.disk c.args.tree)
+
+pub arm-requires-clause-whole : goal.arm-requires-clause-whole
+arm-requires-clause-whole g c =
+    let made : is_ok c.begin.result ≡ true = sym c.memory_only.ensures ∙ rw c.in_ok-memory_only.was refl in
+    (ok_holds c.begin.result made c.begin.ensures.begins).unblown
 
 pub returns-clause-halts : goal.returns-clause-halts
 returns-clause-halts g c =
@@ -25,11 +32,12 @@ returns-clause-halts g c =
     let mid = c.begin.new.self in
     let made : is_ok c.begin.result ≡ true = sym c.memory_only.ensures ∙ rw c.in_ok-memory_only.was refl in
     let begun = ok_holds c.begin.result made c.begin.ensures.begins in
-    let over : List Op → Type 0 = λ ops. AmountsTo c.args.tree ops d.core in
-    let P : Halt → Type 0 = λ halt. HaltsOver g.D.Disk.view over d mid c.args.store.now.disk c.arm.new.store.disk halt in
+    let over : List Op → Type 0 = λ ops. IsLeft c.args.tree (state_after ops d.core.log) in
+    let found : List Op → Type 0 = λ ops. IsFoundOn ops d.core c.args.tree (seen g.D.Disk.view c.args.store.now.disk) in
+    let P : Halt → Type 0 = λ halt. HaltsOver g.D.Disk.view over found d mid c.args.store.now.disk c.arm.new.store.disk halt in
     if_memory P c.arm.result
-    (begun_halts g.D.Disk.view d mid c.args.store.now.disk c.arm.new.store.disk c.args.tree (begin_goes c.args.tree d mid begun c.requires.sound (begin_chosen d c.requires.dead c.requires.lives (c.law.ensures.dead c.requires.dead))) (begin_kept c.args.tree d mid begun c.requires.sound c.law.ensures.tells)
-    c.arm.ensures.inner c.arm.ensures.fuse.refused)
+    (begun_halts g.D.Disk.view d mid c.args.store.now.disk c.arm.new.store.disk c.args.tree (begin_goes c.args.tree d mid begun (begin_chosen d c.requires.dead c.requires.lives (c.law.ensures.dead c.requires.dead))) (begin_kept c.args.tree d mid begun c.law.ensures.tells)
+    c.arm.ensures.inner c.arm.ensures.refused)
     c.arm.ensures.halts
 
 pub returns-clause-begun : goal.returns-clause-begun
@@ -37,14 +45,14 @@ returns-clause-begun g c =
     let made : is_ok c.begin.result ≡ true = sym c.memory_only.ensures ∙ rw c.in_ok-memory_only.was refl in
     let begun = ok_holds c.begin.result made c.begin.ensures.begins in
     ok_map c.arm.result
-    (begins g.D.Disk.view c.args.d.now c.begin.new.self c.args.store.now c.arm.new.store c.args.tree (begin_kept c.args.tree c.args.d.now c.begin.new.self begun c.requires.sound c.law.ensures.tells)
-    begun.standing c.arm.ensures.inner c.arm.ensures.fuse.refused)
+    (begins g.D.Disk.view c.args.d.now c.begin.new.self c.args.store.now c.arm.new.store c.args.tree (begin_kept c.args.tree c.args.d.now c.begin.new.self begun c.law.ensures.tells)
+    begun.standing c.arm.ensures.inner c.arm.ensures.refused)
     c.arm.ensures.serves
 
 pub returns-clause-goes : goal.returns-clause-goes
 returns-clause-goes g c =
     let made : is_ok c.begin.result ≡ true = sym c.memory_only.ensures ∙ rw c.in_ok-memory_only.was refl in
-    begin_goes c.args.tree c.args.d.now c.begin.new.self (ok_holds c.begin.result made c.begin.ensures.begins) c.requires.sound
+    begin_goes c.args.tree c.args.d.now c.begin.new.self (ok_holds c.begin.result made c.begin.ensures.begins)
     (begin_chosen c.args.d.now c.requires.dead c.requires.lives (c.law.ensures.dead c.requires.dead))
 
 pub returns-in_err-memory_only-clause-goes : goal.returns-in_err-memory_only-clause-goes
@@ -52,9 +60,9 @@ returns-in_err-memory_only-clause-goes g c =
     let d = c.args.d.now in
     let failed : is_ok c.begin.result ≡ false = sym c.memory_only.ensures ∙ rw c.in_err-memory_only.was refl in
     let same : c.begin.new.self ≡ d = err_holds c.begin.result failed c.begin.ensures.err in
-    rw same (goes_any (λ ops. AmountsTo c.args.tree ops d.core) d d (goes_same d c.requires.sound))
+    rw same (goes_any (λ ops. IsLeft c.args.tree (state_after ops d.core.log)) d d (goes_same d))
 
 pub returns-clause-fewer : goal.returns-clause-fewer
 returns-clause-fewer g c =
     let made : is_ok c.begin.result ≡ true = sym c.memory_only.ensures ∙ rw c.in_ok-memory_only.was refl in
-    on_ok c.arm.result (begin_fewer c.args.tree c.args.d.now c.begin.new.self (ok_holds c.begin.result made c.begin.ensures.begins) c.requires.sound)
+    on_ok c.arm.result (begin_fewer c.args.tree c.args.d.now c.begin.new.self (ok_holds c.begin.result made c.begin.ensures.begins))

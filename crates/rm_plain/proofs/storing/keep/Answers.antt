@@ -1,76 +1,107 @@
-use Rattle.std.proofs.Common.{◌≡◌, ◌++◌, ◌∷◌, [], true, false, Err, refl, sym, ◌∙◌, ap}
+use Rattle.std.proofs.Common.{◌≡◌, ◌++◌, ◌∷◌, [], Bool, true, false, Option, Err, refl, sym, ◌∙◌, ap, subst}
 use Rattle.std.proofs.lemmas.Result.{err_from_is_err_and}
 use Rattle.std.specs.Prelude.{is_ok}
 use Rattle.rm_types.specs.declared.entries.Entry.{Entry}
 use Rattle.rm_types.specs.declared.entries.Entry.TheVariants.{Kept as KeptEntry}
 use Rattle.rm_types.specs.declared.operations.Op.{Op}
+use Rattle.rm_disk.specs.Fuse.{Fused}
+use Rattle.rm_model.specs.Lawful.{state_after}
+use Rattle.rm_model.specs.State.{LifeState}
 use Rattle.rm_store.specs.declared.fault.StoreError.{StoreError}
+use Rattle.rm_store.specs.Store.{seen}
+use Rattle.rm_desk.specs.Runs.{HasBlown}
 use Rattle.rm_plain.specs.declared.halts.Halt.{Halt}
-use Rattle.rm_plain.proofs.Moving.{goes_same, kept_close, kept_goes, ok_holds, err_holds, some_same, no_err}
-use Rattle.rm_plain.proofs.Stored.{op_stores}
-use Rattle.rm_plain.proofs.Ending.{kept_serves}
-use Rattle.rm_plain.proofs.Halting.{append_halts, stays_unblown, unlearned_halts}
+use Rattle.rm_plain.proofs.Moving.{blown_goes, err_holds, kept_goes, no_err, ok_holds, some_same, told_blown}
+use Rattle.rm_plain.proofs.Stored.{blown_stores, op_stores}
+use Rattle.rm_plain.proofs.Ending.{fuse_kept}
+use Rattle.rm_plain.proofs.Halting.{append_halts, unlearned_halts}
 use Rattle.rm_plain.proofs.storing.keep.Goals as goal
 
-pub returns-in-Err-clause-halts : goal.returns-in-Err-clause-halts
-returns-in-Err-clause-halts g c =
+-- a life that is told to have blown as the manager says
+unblown_life : (b : Bool) (o : Option LifeState) → b ≡ false → HasBlown b o → HasBlown false o
+unblown_life b o is h = subst (λ (x : Bool). HasBlown x o) is h
+
+-- THE FUSE LET THE APPEND THROUGH, AND IT FAILED
+
+pub returns-then-not-blown-clause-halts : goal.returns-then-not-blown-clause-halts
+returns-then-not-blown-clause-halts g c =
     let d = c.args.d.now in
     let store = c.args.store.now in
     let now = c.append.new.self in
     let tried = c.append.ensures in
     let refused = c.in-Err.ensures in
-    let unblown = stays_unblown (g.D.Disk.keeps (is_ok c.append.result)) (is_ok c.append.result) d store.disk now.disk c.requires.sound c.in-Some.ensures.busy c.requires.serves.armed c.requires.serves.unblown tried.kept in
-    rw c.halt_of.ensures
-    (append_halts g.D.Disk.view g.D.Disk.faulted g.met.D.Disk.faulted_counts d store.disk now.disk c.in-Some.op.now c.requires.sound c.in-Some.ensures.next c.in-Some.ensures.handed
-    (tried.any_moment c.requires.serves.unbroken) tried.goes_on.size c.in-Err.error (λ is. (refused.fault (ap (λ (e : StoreError). Err e) is)).inside unblown)
+    let unblown = c.in-Some.ensures.unblown in
+    let whole : now.disk.blown ≡ false = sym (ap (λ (f : Fused _). f.blown) c.fuse.ensures.value) ∙ sym c.blown.ensures.value ∙ c.if-not-blown.true in
+    rw (c.halt_of.ensures, c.fuse.ensures.value)
+    (append_halts g.D.Disk.view g.D.Disk.faulted g.met.D.Disk.faulted_counts d store.disk now.disk c.in-Some.op.now (λ opening k. told_blown d c.law.ensures.tells opening k ∙ unblown) c.in-Some.ensures.next c.in-Some.ensures.handed
+    (tried.any_moment (c.requires.serves.unbroken unblown)) tried.goes_on.size c.in-Err.error (λ is. (refused.fault (ap (λ (e : StoreError). Err e) is)).inside whole)
     (λ needed room is. refused.only_full needed room (ap (λ (e : StoreError). Err e) is)))
+
+-- THE FUSE REFUSED IT
+
+pub returns-in_err-memory_only-clause-fuse : goal.returns-in_err-memory_only-clause-fuse
+returns-in_err-memory_only-clause-fuse g c =
+    rw (c.fuse-in-Err.ensures.value, c.fuse.ensures.value)
+    (fuse_kept g.D.Disk.view (g.D.Disk.keeps (is_ok c.append.result)) (is_ok c.append.result) c.args.store.now.disk c.append.new.self.disk c.append.ensures.kept c.append.ensures.goes_on.size)
+
+pub returns-in-Err-clause-fuse : goal.returns-in-Err-clause-fuse
+returns-in-Err-clause-fuse g c =
+    rw (c.fuse-in-Err.ensures.value, c.fuse.ensures.value)
+    (fuse_kept g.D.Disk.view (g.D.Disk.keeps (is_ok c.append.result)) (is_ok c.append.result) c.args.store.now.disk c.append.new.self.disk c.append.ensures.kept c.append.ensures.goes_on.size)
 
 pub returns-in_err-memory_only-clause-halts : goal.returns-in_err-memory_only-clause-halts
 returns-in_err-memory_only-clause-halts g c =
     let d = c.args.d.now in
-    let failed : is_ok c.kept.result ≡ false = sym c.memory_only.ensures ∙ rw c.in_err-memory_only.was refl in
-    let same : c.kept.new.self ≡ d = err_holds c.kept.result failed c.kept.ensures.err in
+    let failed : is_ok c.blown-in-Err.result ≡ false = sym c.memory_only.ensures ∙ rw c.in_err-memory_only.was refl in
+    let same : c.blown-in-Err.new.self ≡ d = err_holds c.blown-in-Err.result failed c.blown-in-Err.ensures.err in
     let p = err_from_is_err_and c.from_residual.result c.from_residual.ensures.1 in
-    rw (p.1 ∙ ap (λ (e : Halt). Err e) p.2, same)
-    (unlearned_halts g.D.Disk.view d c.args.store.now.disk c.append.new.self.disk c.in-Some.op.now c.requires.sound c.in-Some.ensures.next
-    (c.append.ensures.any_moment c.requires.serves.unbroken))
+    rw (p.1 ∙ ap (λ (e : Halt). Err e) p.2, same, c.fuse-in-Err.ensures.value, c.fuse.ensures.value)
+    (unlearned_halts g.D.Disk.view d c.args.store.now.disk c.append.new.self.disk c.in-Some.op.now (λ opening k. told_blown d c.law.ensures.tells opening k ∙ c.in-Some.ensures.unblown) c.in-Some.ensures.next
+    (c.append.ensures.any_moment (c.requires.serves.unbroken c.in-Some.ensures.unblown)))
 
-pub returns-in_err-memory_only-clause-goes : goal.returns-in_err-memory_only-clause-goes
-returns-in_err-memory_only-clause-goes g c =
+pub returns-in-Err-clause-goes : goal.returns-in-Err-clause-goes
+returns-in-Err-clause-goes g c =
+    let made : is_ok c.blown-in-Err.result ≡ true = sym c.memory_only.ensures ∙ rw c.in_ok-memory_only.was refl in
+    blown_goes c.args.d.now c.blown-in-Err.new.self c.passed-passed.result (ok_holds c.blown-in-Err.result made c.blown-in-Err.ensures.does) c.requires.chosen
+
+pub returns-in-Err-clause-stores : goal.returns-in-Err-clause-stores
+returns-in-Err-clause-stores g c = λ ops k has.
     let d = c.args.d.now in
-    let failed : is_ok c.kept.result ≡ false = sym c.memory_only.ensures ∙ rw c.in_err-memory_only.was refl in
+    let now = c.append.new.self.disk in
+    let made : is_ok c.blown-in-Err.result ≡ true = sym c.memory_only.ensures ∙ rw c.in_ok-memory_only.was refl in
+    let does = ok_holds c.blown-in-Err.result made c.blown-in-Err.ensures.does in
+    let s = state_after ops d.core.log in
+    rw (c.fuse-in-Err.ensures.value, c.fuse.ensures.value)
+    (blown_stores ops d.core c.blown-in-Err.new.self.core c.in-Some.op.now c.passed-passed.result (seen g.D.Disk.view c.args.store.now.disk) (seen g.D.Disk.view now)
+    (unblown_life _ s.life c.in-Some.ensures.unblown ((c.law.ensures.tells ops k).life does.stood)) (c.in-Some.ensures.next ops k)
+    (does.adds.added ∙ ap (λ (e : Entry). d.core.log ++ e ∷ []) does.adds.of_kind) c.append.ensures.goes_on (λ bytes told. g.met.D.Disk.as_it_reads now.inner bytes told)
+    (c.append.ensures.any_moment (c.requires.serves.unbroken c.in-Some.ensures.unblown)) has)
+
+-- THE STORE HAS THE OPERATION
+
+pub returns-in_err-memory_only-2-clause-halts : goal.returns-in_err-memory_only-2-clause-halts
+returns-in_err-memory_only-2-clause-halts g c =
+    let d = c.args.d.now in
+    let failed : is_ok c.kept.result ≡ false = sym c.memory_only-2.ensures ∙ rw c.in_err-memory_only-2.was refl in
     let same : c.kept.new.self ≡ d = err_holds c.kept.result failed c.kept.ensures.err in
-    rw same (goes_same d c.requires.sound)
+    let p = err_from_is_err_and c.from_residual-in_err-memory_only-2.result c.from_residual-in_err-memory_only-2.ensures.1 in
+    rw (p.1 ∙ ap (λ (e : Halt). Err e) p.2, same)
+    (unlearned_halts g.D.Disk.view d c.args.store.now.disk c.append.new.self.disk c.in-Some.op.now (λ opening k. told_blown d c.law.ensures.tells opening k ∙ c.in-Some.ensures.unblown) c.in-Some.ensures.next
+    (c.append.ensures.any_moment (c.requires.serves.unbroken c.in-Some.ensures.unblown)))
 
 pub returns-clause-goes : goal.returns-clause-goes
 returns-clause-goes g c =
-    let made : is_ok c.kept.result ≡ true = sym c.memory_only.ensures ∙ rw c.in_ok-memory_only.was refl in
-    kept_goes c.args.d.now c.kept.new.self (ok_holds c.kept.result made c.kept.ensures.does) c.requires.chosen c.requires.sound
-
-pub returns-clause-less : goal.returns-clause-less
-returns-clause-less g c =
-    let made : is_ok c.kept.result ≡ true = sym c.memory_only.ensures ∙ rw c.in_ok-memory_only.was refl in
-    (ok_holds c.kept.result made c.kept.ensures.does).less
-
-pub returns-clause-stands : goal.returns-clause-stands
-returns-clause-stands g c =
-    let made : is_ok c.kept.result ≡ true = sym c.memory_only.ensures ∙ rw c.in_ok-memory_only.was refl in
-    (ok_holds c.kept.result made c.kept.ensures.does).standing
+    let made : is_ok c.kept.result ≡ true = sym c.memory_only-2.ensures ∙ rw c.in_ok-memory_only-2.was refl in
+    kept_goes c.args.d.now c.kept.new.self (ok_holds c.kept.result made c.kept.ensures.does) c.requires.chosen
 
 pub returns-clause-stores : goal.returns-clause-stores
 returns-clause-stores g c = λ ops k has.
     let d = c.args.d.now in
-    let made : is_ok c.kept.result ≡ true = sym c.memory_only.ensures ∙ rw c.in_ok-memory_only.was refl in
+    let made : is_ok c.kept.result ≡ true = sym c.memory_only-2.ensures ∙ rw c.in_ok-memory_only-2.was refl in
     let does = ok_holds c.kept.result made c.kept.ensures.does in
     let op : Op = c.in-Some.op.now in
     let same : does.adds.of_kind.0 ≡ op = some_same does.adds.of_kind.0 op (sym does.adds.of_kind.1 ∙ sym c.in-Some.ensures.op) in
-    op_stores ops d.core c.kept.new.self.core op _ _ ((c.law.ensures.tells ops k).life does.stood) (c.in-Some.ensures.next ops k)
+    let s = state_after ops d.core.log in
+    op_stores ops d.core c.kept.new.self.core op _ _ (unblown_life _ s.life c.in-Some.ensures.unblown ((c.law.ensures.tells ops k).life does.stood)) (c.in-Some.ensures.next ops k)
     (does.adds.added ∙ ap (λ (e : Entry). d.core.log ++ e ∷ []) (does.adds.of_kind.2 ∙ ap (λ (x : Op). KeptEntry x) same))
-    (no_err c.append.result c.in_default-append.not-Err c.append.ensures.added) (c.append.ensures.any_moment c.requires.serves.unbroken) has
-
-pub returns-clause-serves : goal.returns-clause-serves
-returns-clause-serves g c =
-    let d = c.args.d.now in
-    let made : is_ok c.kept.result ≡ true = sym c.memory_only.ensures ∙ rw c.in_ok-memory_only.was refl in
-    kept_serves g.D.Disk.view (g.D.Disk.keeps (is_ok c.append.result)) d c.kept.new.self c.args.store.now c.append.new.self c.append.result (kept_close d c.kept.new.self (ok_holds c.kept.result made c.kept.ensures.does))
-    c.requires.serves c.in_default-append.not-Err c.append.ensures.sound c.append.ensures.broken c.append.ensures.kept
+    (no_err c.append.result c.in_default-append.not-Err c.append.ensures.added) (c.append.ensures.any_moment (c.requires.serves.unbroken c.in-Some.ensures.unblown)) has

@@ -6,12 +6,12 @@ use Rattle.rm_range_facts.proofs.Called.{attempts_few}
 use Rattle.rm_core.proofs.manager.Core.serve.Goals as goal
 
 pub answer_message-requires-clause-ranged : goal.answer_message-requires-clause-ranged
-answer_message-requires-clause-ranged c = λ ready. (serving_runs c.self.inside.tables c.self.inside.log c.self.invariant.sound ready).ranged
+answer_message-requires-clause-ranged c = λ ready open_. (serving_runs c.self.inside.tables c.self.inside.log c.self.invariant.sound ready open_).ranged
 
 pub answer_message-requires-clause-attempts : goal.answer_message-requires-clause-attempts
-answer_message-requires-clause-attempts c = λ ready.
+answer_message-requires-clause-attempts c = λ ready open_.
     let t = c.self.inside.tables in
-    let r = serving_runs t c.self.inside.log c.self.invariant.sound ready in
+    let r = serving_runs t c.self.inside.log c.self.invariant.sound ready open_ in
     attempts_few t.settings c.self.invariant.sound.history t r.whole r.ranged
 
 done : (c : goal.After-answer_message) → Done (Serve c.args.message) c.self.inside.tables c.answer_message.new.t c.self.inside.log c.answer_message.new.log c.answer_message.result
