@@ -1,4 +1,5 @@
 pub mod Scripts
 pub mod Outcomes
 pub mod Completing
+pub mod Laws
 mod Rooted

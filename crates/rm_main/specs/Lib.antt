@@ -4,3 +4,4 @@ pub mod Inputs
 pub mod Statuses
 pub mod Ways
 pub mod Complete
+pub mod Laws

@@ -25,6 +25,7 @@ use Rattle.rm_plain.specs.Falls.{falls_of}
 use Rattle.rm_plain.specs.Stops.{IsDue, IsNoStore, IsStoppedBy}
 use Rattle.rm_plain.specs.declared.halts.Stop.TheVariants as stops
 use Rattle.rm_store.specs.Store.{seen}
+use Rattle.rm_main.specs.Laws.{MeetsLaws}
 use Rattle.rm_main.specs.Words.{Asked, Run, Listing}
 
 -- what a shelf tells of each name
@@ -83,7 +84,7 @@ IsListed view made Done = Tells (seen view made.before) (λ bytes. Holds bytes m
 IsListed view made _ = Unit {0}
 
 -- a run was made: it was asked for by the names of two files; the log is lawful for the settings and the script that these
--- hold, over the opening list; lives went down at rest, and each that went down let the device fall once more; where the
+-- hold, over the opening list, and so meets the laws; lives went down at rest, and each that went down let the device fall once more; where the
 -- outcome is Done the run came to its end, and where the device or the store stopped it, it had its cause; a script without
 -- lives makes no call of the device
 pub record Ran {D : Type 0} (view : D → DiskView) (told : Told) (asked : Option Asked) (made : Made D) (outcome : Outcome) : Type 0 where
@@ -95,6 +96,7 @@ pub record Ran {D : Type 0} (view : D → DiskView) (told : Told) (asked : Optio
   pub script : Script
   pub of_script : IsScriptOf (told script_file) script
   pub lawful : Lawful settings script made.opening made.log
+  pub laws : MeetsLaws made.opening made.log
   pub downs : AllGoDownAtRest settings (opening_state made.opening) made.log
   pub fallen : made.after.falls ≡ made.before.falls ++ falls_of script made.opening made.log
   pub done : outcome ≡ Done → IsDone settings script made.opening made.log

@@ -16,6 +16,7 @@ ghost use Rattle.rm_plain.specs.Stops.{IsDue};
 ghost use Rattle.rm_plain.specs.Survives.{SurvivesAll, SurvivesNow};
 ghost use Rattle.rm_store.specs.Store.{seen};
 ghost use Rattle.rm_main.specs.Complete.{HasPlace, IsAccepted, NoneRose};
+ghost use Rattle.rm_main.specs.Laws.{MeetsLaws};
 ghost use Rattle.rm_main.specs.Runs.{AreRead, Ends, IsCausedBy, IsListed, StopsBefore, Writes, page_for};
 ghost use Rattle.rm_main.specs.Ways.{IsOfListing, IsOfRun};
 ghost use Rattle.rm_main.specs.Words.{Run, Listing, mode_of};
@@ -96,6 +97,7 @@ fn run<K: Sink, D: Disk>(
     requires limits { KeepsLimits settings }
     requires unarmed { disk.armed ≡ None }
     ensures lawful { Lawful settings script result.opening result.log }
+    ensures laws { MeetsLaws result.opening result.log }
     ensures done { result.outcome ≡ Outcome.Done → IsDone settings script result.opening result.log }
     ensures downs { AllGoDownAtRest settings (opening_state result.opening) result.log }
     ensures of_run { IsOfRun result.outcome }
@@ -162,17 +164,17 @@ fn plain<F: Shelf, K: Sink, D: Disk>(
 /// cluster file and the script by these names, runs the script and writes the page of the run to the sink;
 /// `store` writes what the device's store keeps.
 ///
-/// - `ends`: by the outcome, what was run. The log of a run is lawful for the settings and the script of
-///   the two files, over what the device held; each life that went down did so at rest, unless it was
-///   blown, and let the device fall as its crash says. The log is empty where nothing was run. `Done`: the
-///   script is at its end, nothing awaits and nothing is owed. `Usage`: exactly where the words are of
-///   another form. `ClusterRefused` and `ScriptRefused`: exactly where the file, as the shelf tells it,
-///   breaks a rule or is no script, with the first rule's place or the first line; the cluster file is read
-///   first. `DiskFault`: the device inside the fuse counted a fault, while a life was due or an operation was
-///   with the store. `StoreDamaged`: the first life was due, and the device holds no store, at the offset of a
-///   fault that the store names. `StoreFull`: the operation
-///   that is with the store needs more than is left behind what is kept. `EpochsSpent`: a life was due, and
-///   no epoch or stamp is left. `Memory` is free. Of a script without lives no call of the device is made.
+/// - `ends`: by the outcome, what was run. The log of a run is lawful for the settings and the script of the
+///   two files, over what the device held; each life that went down did so at rest, unless it was blown, and
+///   let the device fall as its crash says; and the log meets the laws of `rm_laws`. The log is empty where
+///   nothing was run. `Done`: the script is at its end, nothing awaits and nothing is owed. `Usage`: exactly
+///   where the words are of another form. `ClusterRefused` and `ScriptRefused`: exactly where the file, as the
+///   shelf tells it, breaks a rule or is no script, with the first rule's place or the first line; the cluster
+///   file is read first. `DiskFault`: the device inside the fuse counted a fault, while a life was due or an
+///   operation was with the store. `StoreDamaged`: the first life was due, and the device holds no store, at
+///   the offset of a fault that the store names. `StoreFull`: the operation that is with the store needs more
+///   than is left behind what is kept. `EpochsSpent`: a life was due, and no epoch or stamp is left. `Memory`
+///   is free. Of a script without lives no call of the device is made.
 /// - `complete`: where the files are accepted, the device holds a store with place for the run, and no count
 ///   rises, the outcome is `Done` or `Memory`.
 /// - `reads`: the cluster file was read, and then the script's file, or the first alone; else no file.
@@ -183,8 +185,8 @@ fn plain<F: Shelf, K: Sink, D: Disk>(
 ///   `WriteFault` or `Memory` a beginning of it; where nothing was run, nothing. `untouched`: where that
 ///   page is empty, the sink is as it was.
 /// - `unused`: where the words or a file stop the call, the device is as it was. `quiet`: where nothing was
-///   logged, and so by `store`, no byte of it changed. `stays`: it fell only where a life went down, and the
-///   fuse, which is given back unarmed, refused nothing.
+///   logged, and so by `store`, no byte of it changed. `stays` and `unarmed`: it fell only while its fuse was
+///   armed, it has its size, and the fuse is given back unarmed.
 /// - `opening`: a device on which something was logged held the opening list. `held`: the opening list is empty, or
 ///   the device held it.
 /// - `images` and `images_now`, for every outcome: at each moment of the call a crash left what could be left

@@ -9,7 +9,7 @@ ghost use Rattle.rm_model.specs.State.{opening_state};
 ghost use Rattle.rm_core.specs.Words.{new_manager, stands};
 ghost use Rattle.rm_desk.specs.Scripts.{CanGoAlong};
 ghost use Rattle.rm_plain.specs.Goes.{IsOver};
-ghost use Rattle.rm_types.specs.Records.{records};
+ghost use Rattle.rm_types.specs.Records.{records, stray};
 ghost use Rattle.rm_plain.specs.Survives.{SurvivesAll, SurvivesNow};
 ghost use Rattle.rm_store.specs.Store.{seen};
 ghost use Rattle.rm_plain.specs.Falls.{falls_of};
@@ -51,6 +51,7 @@ fn first_life<D: Disk>(alloc: Global, d: &mut Desk, disk: Fuse<D>) -> First<D>
     requires empty { d.old.core.log ≡ [] }
     requires unarmed { disk.armed ≡ None }
     ensures first { FirstTo D.view result.opening d.old d.new disk result.disk result.ended }
+    ensures read_back { stray result.opening ≡ None }
 {
     match open_first(alloc, disk) {
         Ok((store, tree, opening)) => {
@@ -118,6 +119,7 @@ fn all_lives<D: Disk>(alloc: Global, d: &mut Desk, disk: Fuse<D>) -> First<D>
     requires empty { d.old.core.log ≡ [] }
     requires unarmed { disk.armed ≡ None }
     ensures all { AllLived D.view result.opening d.old d.new disk result.disk result.ended }
+    ensures read_back { stray result.opening ≡ None }
 {
     if !d.ready(Lane::Begin) {
         return First {
@@ -189,6 +191,7 @@ pub fn run_script<D: Disk>(
     ensures begun { script.lives ≢ [] → OnOk result.ended (result.log ≢ []) }
     ensures opening { result.log ≢ [] → Tells (seen D.view disk) (λ bytes. Holds bytes result.opening) }
     ensures found { (result.opening ≡ []) ⊎ Tells (seen D.view disk) (λ bytes. Holds bytes result.opening) }
+    ensures read_back { stray result.opening ≡ None }
     ensures quiet { result.log ≡ [] → IsQuiet (seen D.view disk) (seen D.view result.disk) }
     ensures images { SurvivesAll result.opening result.log (seen D.view disk) (seen D.view result.disk) }
     ensures images_now { SurvivesNow result.opening result.log (seen D.view disk) (seen D.view result.disk) }

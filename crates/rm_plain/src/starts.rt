@@ -9,6 +9,7 @@ ghost use Rattle.rm_model.specs.Lawful.{state_after};
 ghost use Rattle.rm_core.specs.Words.{stands};
 ghost use Rattle.rm_types.specs.declared.operations.Op.{Op as AnyOp};
 ghost use Rattle.rm_core.specs.Seen.{StandsFor};
+ghost use Rattle.rm_types.specs.Records.{stray};
 ghost use Rattle.rm_plain.specs.Later.{IsAgain, IsFirst, IsUnfounded, IsUnready};
 ghost use Rattle.rm_plain.specs.declared.halts.Halt.{Halt};
 ghost use Rattle.rm_plain.specs.Goes.{GoesOver};
@@ -180,6 +181,8 @@ pub(crate) fn open_first<D: Disk>(
     requires { disk.armed ≡ None }
     ensures first { IfOk result (λ first. IsFirst D.view disk first.0 first.1 first.2) }
     ensures why { IfErr result (λ none. IsUnfounded D.view none.opening disk none.disk none.why) }
+    ensures read_back { IfOk result (λ first. stray first.2 ≡ None) }
+    ensures read_back_yet { IfErr result (λ none. stray none.opening ≡ None) }
     ensures found { IfErr result (λ none. (none.opening ≡ []) ⊎ Tells (seen D.view disk) (λ bytes. Holds bytes none.opening)) }
     ensures given_back { IfErr result (λ none. IsGivenBack D.view disk none.disk) }
 {

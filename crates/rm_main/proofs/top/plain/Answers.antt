@@ -19,6 +19,7 @@ returns-in-Ok-clause-ends g c =
       script = c.in-Ok.script;
       of_script = c.in-Ok.ensures.script;
       lawful = run.lawful;
+      laws = run.laws;
       downs = run.downs;
       fallen = run.falls;
       done = run.done;

@@ -1,6 +1,7 @@
 use Rattle.std.proofs.Common.{false}
 use Rattle.rm_formats.specs.Page.{page}
 use Rattle.rm_plain.specs.Stops.{IsDue}
+use Rattle.rm_main.proofs.Laws.{meets_laws}
 use Rattle.rm_main.proofs.Outcomes.{caused, still_writes}
 use Rattle.rm_main.proofs.top.run.Goals as goal
 
@@ -11,6 +12,11 @@ returns-clause-causes g c =
     rw c.outcome_of.ensures
     (caused g.D.Disk.view (IsDue c.args.script made.opening made.log) (record { opening = made.opening; log = made.log; before = c.args.disk; after = made.disk }) made.ended written.result
     written.ensures.of_writing c.run_script-made.ensures.stopped)
+
+pub returns-clause-laws : goal.returns-clause-laws
+returns-clause-laws g c =
+    let made = c.run_script-made in
+    meets_laws c.args.settings c.args.script made.result.opening made.result.log made.ensures.lawful made.ensures.read_back
 
 pub returns-clause-writes : goal.returns-clause-writes
 returns-clause-writes g c =

@@ -6,6 +6,7 @@ returns-in-Ok g c =
     record {
       first = first_to g.D.Disk.view c.args.d.now c.live-disk.new.d c.args.disk c.live-disk.result.disk c.in-Ok.store c.in-Ok.tree c.in-Ok.opening c.in-Ok.ensures.first c.requires.empty c.requires.dead
           c.live-disk.result.ended c.live-disk.ensures.lived;
+      read_back = c.in-Ok.ensures.read_back;
     }
 
 pub returns-in-Err : goal.returns-in-Err
@@ -13,4 +14,5 @@ returns-in-Err g c =
     let none = c.in-Err.ensures in
     record {
       first = unfounded_stops g.D.Disk.view c.args.d.now c.args.disk c.in-Err.field-0.disk c.in-Err.field-0.opening c.in-Err.field-0.why c.requires.dead c.requires.lives c.requires.empty none.given_back none.found none.why;
+      read_back = none.read_back_yet;
     }
