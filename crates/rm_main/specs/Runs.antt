@@ -1,5 +1,5 @@
 -- What a call of the program leaves: by its outcome, the log, the device's falls and what the sink took.
-use Rattle.std.specs.Prelude.{◌≡◌, ◌⊎◌, ℕ, ◌≤◌, List, [], ◌++◌, false, Option, None, Some, IfSome, length, take}
+use Rattle.std.specs.Prelude.{◌≡◌, ◌⊎◌, ℕ, ◌≤◌, List, [], ◌++◌, Bool, Option, None, Some, IfSome, length, take}
 use Rattle.std.specs.Io.KnownBytes.{Appends}
 use Rattle.rm_types.specs.declared.entries.Entry.{Entry}
 use Rattle.rm_types.specs.declared.operations.Op.{Op}
@@ -167,10 +167,10 @@ StopsBefore (ClusterRefused place) = Unit {0}
 StopsBefore (ScriptRefused line) = Unit {0}
 StopsBefore _ = ⊥
 
--- what a call has to write: the page of its log, or what the store keeps
-abbrev pub page_for : Option Asked → List Op → List Entry → List ℕ
-page_for (Some Listing) opening log = store_page opening
-page_for _ opening log = page log false
+-- what a call has to write: the page of its log, with the moves or without, or what the store keeps
+abbrev pub page_for : Bool → Option Asked → List Op → List Entry → List ℕ
+page_for moves (Some Listing) opening log = store_page opening
+page_for moves _ opening log = page log moves
 
 -- the sink took a beginning of the bytes
 abbrev pub AppendsPrefix : Option (List ℕ) → Option (List ℕ) → List ℕ → Type 0

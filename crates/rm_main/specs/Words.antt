@@ -1,5 +1,6 @@
 -- The words of the program. This project's own.
-use Rattle.std.specs.Prelude.{ℕ, List, [], ◌∷◌, Bool, false, ◌&&◌, not, ◌==◌, Option, None, Some, if◌then◌else◌, codes}
+use Rattle.std.specs.Prelude.{ℕ, List, [], ◌∷◌, filter, Bool, false, ◌&&◌, ◌||◌, not, ◌==◌, nat_lt, Option, None, Some, if◌then◌else◌, codes}
+use Rattle.std.specs.List.{count_by}
 use Rattle.std.specs.Str.{bytes_eq}
 use Rattle.rm_main.specs.declared.words.Mode.{Mode}
 use Rattle.rm_main.specs.declared.words.Mode.TheVariants as modes
@@ -19,8 +20,36 @@ abbrev pub is_flag : List ℕ → Bool
 is_flag [] = false
 is_flag (byte ∷ bytes) = byte == 45
 
--- what the words ask for: `plain` and two words that don't begin with `-` a run, `store` alone a listing, and others nothing
+-- the words that name something: those that are no flags
+abbrev pub names : List (List ℕ) → List (List ℕ)
+names words = filter (λ word. not (is_flag word)) words
+
+-- how often a word stands among the words
+abbrev pub times : List ℕ → List (List ℕ) → ℕ
+times word words = count_by (λ one. bytes_eq one word) words
+
+-- a word that begins with `-` and is none of the two flags that there are
+abbrev pub is_unknown : List ℕ → Bool
+is_unknown word = is_flag word && not (bytes_eq word (codes "--file") || bytes_eq word (codes "--moves"))
+
+-- a word stands once at most
+abbrev pub stands_once : List ℕ → List (List ℕ) → Bool
+stands_once word words = nat_lt (times word words) 2
+
+-- no flag is unknown, and each stands once at most; where among the words is free
+abbrev pub has_flags : List (List ℕ) → Bool
+has_flags words = (count_by is_unknown words == 0) && (stands_once (codes "--file") words && stands_once (codes "--moves") words)
+
+-- whether the page of a run is to show its moves
+abbrev pub shows_moves : List (List ℕ) → Bool
+shows_moves words = not (times (codes "--moves") words == 0)
+
+-- what names ask for: `plain` and two others a run, and `store` alone, which has no moves, a listing
+abbrev pub asked_by : Bool → List (List ℕ) → Option Asked
+asked_by moves (mode ∷ cluster ∷ script ∷ []) = if bytes_eq mode (codes "plain") then Some (Run cluster script) else None
+asked_by moves (mode ∷ []) = if bytes_eq mode (codes "store") && not moves then Some Listing else None
+asked_by moves _ = None
+
+-- what the words ask for; with another flag, or one that is repeated, nothing
 abbrev pub mode_of : List (List ℕ) → Option Asked
-mode_of (mode ∷ cluster ∷ script ∷ []) = if bytes_eq mode (codes "plain") && not (is_flag cluster) && not (is_flag script) then Some (Run cluster script) else None
-mode_of (mode ∷ []) = if bytes_eq mode (codes "store") then Some Listing else None
-mode_of _ = None
+mode_of words = if has_flags words then asked_by (shows_moves words) (names words) else None

@@ -1,8 +1,8 @@
-//! The program: it reads a cluster file and a script, runs the script over a device in memory, and
+//! The program: it reads a cluster file and a script, runs the script over a device in memory or in a file, and
 //! writes the page of the run to standard output; or it writes what the device's store keeps.
 //!
-//! `top_plain` is the call that does this, over any shelf, sink and device; `main` hands it the system's
-//! files, the standard output and an empty device of 4 MiB. It promises that the log of a run is lawful for
+//! `top_plain` is the call that does this, over any shelf, sink and device; `main` hands it the system's files, the
+//! standard output and a device of 4 MiB: an empty one in memory, or that in the file `rm.store`. It promises that the log of a run is lawful for
 //! the settings and the script of these files and for what the device held, that what was written is the
 //! log's page or a beginning of it, that a run that is Done has come to its script's end with nothing owed,
 //! that at each moment of a run, also of one that was stopped, a crash leaves what is kept, or this and the
@@ -23,17 +23,21 @@ mod words;
 mod writing;
 
 use hints::{cluster_hint, script_hint};
-use rm_disk::{Fuse, MemDisk};
+use rm_disk::{Disk, FileDisk, Fuse, MemDisk};
 use rm_outside::{FileShelf, OutSink};
-use rm_types::{Items, Outcome};
+use rm_types::{Items, NoMemory, Outcome};
 use statuses::{Told, explain, status_of};
 use std::process::ExitCode;
 use std::rt::Env;
 use std::{env, io};
-use top::top_plain;
+use top::{Ended, top_plain};
+use words::{is_in_file, name_at};
 
 /// The size of the device, in bytes.
 const DEVICE_SIZE: u64 = 4_194_304;
+
+/// The file of the device that lasts, in the folder in which the program runs.
+const STORE_FILE: &str = "rm.store";
 
 /// The program's path as these pages have it, where the system tells none.
 const PROGRAM: &str = "crates/rm_main/out/rm_main";
@@ -47,25 +51,63 @@ fn words_of<R: Env + AllocGlobal>(rt: &R) -> io::Result<Vec<String>> {
     Ok(words)
 }
 
-/// The word at a place, or none.
-fn word_at(words: &[String], place: usize) -> &str {
-    match words.get(place) {
-        Some(word) => word.as_str(),
-        None => "",
+/// What a call came to, for the texts about it.
+#[derive(Drop)]
+struct Came {
+    outcome: Outcome,
+    /// How many files were read whole.
+    answered: u64,
+    /// Why the device failed, empty where it didn't or where that isn't known.
+    fault: String,
+}
+
+/// What the program does by these words over a device, which is given back.
+fn run_over<D: Disk>(rt: HostRuntime, words: &[String], device: D) -> (Came, D) {
+    let alloc = rt.alloc();
+    let mut shelf = FileShelf::new(rt);
+    let mut sink = OutSink::new(rt);
+    let Ended {
+        outcome,
+        opening: _,
+        log: _,
+        disk,
+    } = top_plain(
+        alloc,
+        words,
+        &mut shelf,
+        &mut sink,
+        Fuse::new(alloc, device),
+    );
+    let came = Came {
+        outcome,
+        answered: shelf.answered(),
+        fault: String::new(alloc),
+    };
+    (came, disk.inner())
+}
+
+/// What it does over a new device in memory.
+fn run_in_memory(rt: HostRuntime, words: &[String]) -> Came {
+    let alloc = rt.alloc();
+    match MemDisk::new(alloc, DEVICE_SIZE, Items::new(alloc)) {
+        Ok(device) => run_over(rt, words, device).0,
+        Err(NoMemory) => Came {
+            outcome: Outcome::Memory,
+            answered: 0,
+            fault: String::new(alloc),
+        },
     }
 }
 
-/// What the program does by these words, and how many files it read whole.
-fn outcome_by(rt: HostRuntime, words: &[String]) -> (Outcome, u64) {
-    let alloc = rt.alloc();
-    let Ok(device) = MemDisk::new(alloc, DEVICE_SIZE, Items::new(alloc)) else {
-        return (Outcome::Memory, 0);
-    };
-    let mut shelf = FileShelf::new(rt);
-    let mut sink = OutSink::new(rt);
-    let disk = Fuse::new(alloc, device);
-    let outcome = top_plain(alloc, words, &mut shelf, &mut sink, disk).outcome;
-    (outcome, shelf.answered())
+/// What it does over the device in the store's file, which is made where there is none.
+fn run_in_file(rt: HostRuntime, words: &[String]) -> Came {
+    let (mut came, device) = run_over(rt, words, FileDisk::new(&rt, STORE_FILE));
+    if let Some(fault) = device.last_fault() {
+        if let Ok(text) = format!(in rt.alloc(); "{STORE_FILE}: {fault}") {
+            came.fault = text;
+        }
+    }
+    came
 }
 
 /// What the program does by the words behind its path; it tells on standard error what stopped it.
@@ -74,19 +116,25 @@ fn run_by(rt: HostRuntime, all: &[String]) -> Outcome {
         Some((first, rest)) => (first.as_str(), rest),
         None => (PROGRAM, all),
     };
-    let (outcome, answered) = outcome_by(rt, words);
-    let cluster = word_at(words, 1);
-    let script = word_at(words, 2);
+    let came = if is_in_file(words) {
+        run_in_file(rt, words)
+    } else {
+        run_in_memory(rt, words)
+    };
+    let (outcome, fault) = (came.outcome, came.fault.as_str());
+    let cluster = name_at(words, 1);
+    let script = name_at(words, 2);
     let hint = match outcome {
         Outcome::ClusterRefused { place } => cluster_hint(place),
         Outcome::ScriptRefused { line } => script_hint(&rt, script, line),
+        Outcome::DiskFault => fault,
         _ => "",
     };
     let told = Told {
         program: path,
         cluster,
         script,
-        unread: if answered == 0 { cluster } else { script },
+        unread: if came.answered == 0 { cluster } else { script },
         hint,
     };
     explain(&rt, outcome, told);

@@ -33,7 +33,7 @@ pub struct Told<'a> {
     pub script: &'a str,
     /// The file that could not be read.
     pub unread: &'a str,
-    /// What should stand in the place of what was refused.
+    /// What should stand in the place of what was refused, or why the device failed.
     pub hint: &'a str,
 }
 
@@ -50,7 +50,7 @@ pub fn explain<R: Eprint>(rt: &R, outcome: Outcome, told: Told<'_>) {
     let _ = match outcome {
         Outcome::Done => return,
         Outcome::Usage => eprintln!(rt;
-            "{program}: usage: {program} plain CLUSTER SCRIPT | {program} store"
+            "{program}: usage: {program} plain CLUSTER SCRIPT [--file] [--moves] | {program} store [--file]"
         ),
         Outcome::ReadFault => eprintln!(rt; "{program}: the file could not be read: {unread}"),
         Outcome::WriteFault {
@@ -65,20 +65,20 @@ pub fn explain<R: Eprint>(rt: &R, outcome: Outcome, told: Told<'_>) {
         Outcome::ScriptRefused { line } => eprintln!(rt;
             "{program}: the script {script} is refused at line {line}: {hint}"
         ),
-        other => return explain_device(rt, other, program),
+        other => return explain_device(rt, other, program, hint),
     };
 }
 
 /// The same of what the device, its store or memory stopped.
-fn explain_device<R: Eprint>(rt: &R, outcome: Outcome, program: &str) {
+fn explain_device<R: Eprint>(rt: &R, outcome: Outcome, program: &str, fault: &str) {
     let _ = match outcome {
         Outcome::ScheduleRefused { place } => eprintln!(rt;
             "{program}: the schedule is refused at byte {place}"
         ),
-        Outcome::DiskFault => eprintln!(rt; "{program}: the store's device failed"),
-        Outcome::StoreDamaged { offset: u64::MAX } => eprintln!(rt;
-            "{program}: an application in the store has an attempt, over which no life can begin yet"
+        Outcome::DiskFault if fault.is_empty() => eprintln!(rt;
+            "{program}: the store's device failed"
         ),
+        Outcome::DiskFault => eprintln!(rt; "{program}: the store's device failed: {fault}"),
         Outcome::StoreDamaged { offset } => eprintln!(rt;
             "{program}: the device holds no store: it is damaged at offset {offset}"
         ),

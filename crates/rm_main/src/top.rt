@@ -19,11 +19,11 @@ ghost use Rattle.rm_main.specs.Complete.{HasPlace, IsAccepted, NoneRose};
 ghost use Rattle.rm_main.specs.Laws.{MeetsLaws};
 ghost use Rattle.rm_main.specs.Runs.{AreRead, Ends, IsCausedBy, IsListed, StopsBefore, Writes, page_for};
 ghost use Rattle.rm_main.specs.Ways.{IsOfListing, IsOfRun};
-ghost use Rattle.rm_main.specs.Words.{Run, Listing, mode_of};
+ghost use Rattle.rm_main.specs.Words.{Run, Listing, mode_of, shows_moves};
 
 use crate::inputs::read_inputs;
 use crate::listing::list_store;
-use crate::words::{Mode, mode_of};
+use crate::words::{Mode, mode_of, shows_moves};
 use crate::writing::{outcome_of, write_page, write_store};
 use rm_disk::{Disk, Fuse};
 use rm_outside::{Shelf, Sink};
@@ -84,11 +84,12 @@ fn list<K: Sink, D: Disk>(alloc: Global, sink: &mut K, disk: Fuse<D>) -> Ended<D
     }
 }
 
-/// Runs a script and writes the page of its log.
+/// Runs a script and writes the page of its log, with its moves or without.
 fn run<K: Sink, D: Disk>(
     alloc: Global,
     settings: Settings,
     script: Script,
+    moves: bool,
     sink: &mut K,
     disk: Fuse<D>,
 ) -> Ended<D>
@@ -102,10 +103,10 @@ fn run<K: Sink, D: Disk>(
     ensures downs { AllGoDownAtRest settings (opening_state result.opening) result.log }
     ensures of_run { IsOfRun result.outcome }
     ensures causes { IsCausedBy D.view (IsDue script result.opening result.log) (record { opening = result.opening; log = result.log; before = disk; after = result.disk }) result.outcome }
-    ensures writes { Writes result.outcome (K.taken sink.old) (K.taken sink.new) (page result.log false) }
+    ensures writes { Writes result.outcome (K.taken sink.old) (K.taken sink.new) (page result.log moves) }
     ensures write_fault { result.outcome ≡ Outcome.WriteFault false → Rose (K.faults sink.old) (K.faults sink.new) }
     ensures took_nothing { result.outcome ≡ Outcome.WriteFault true → Rose (K.idle sink.old) (K.idle sink.new) }
-    ensures untouched { page result.log false ≡ [] → sink.new ≡ sink.old }
+    ensures untouched { page result.log moves ≡ [] → sink.new ≡ sink.old }
     ensures falls { result.disk.falls ≡ disk.falls ++ falls_of script result.opening result.log }
     ensures idle { script.lives ≡ [] → (result.log ≡ []) × (result.disk ≡ disk) }
     ensures stays { DiskStays D.view disk result.disk }
@@ -118,7 +119,7 @@ fn run<K: Sink, D: Disk>(
     ensures images_now { SurvivesNow result.opening result.log (seen D.view disk) (seen D.view result.disk) }
 {
     let made = run_script(alloc, settings, script, disk);
-    let written = write_page(alloc, sink, &made.log);
+    let written = write_page(alloc, sink, &made.log, moves);
     Ended {
         outcome: outcome_of(made.ended, written),
         opening: made.opening,
@@ -127,11 +128,13 @@ fn run<K: Sink, D: Disk>(
     }
 }
 
-/// Reads the cluster file and the script by these names, runs the script, and writes the page of the run.
+/// Reads the cluster file and the script by these names, runs the script, and writes the page of the run, with its
+/// moves or without.
 fn plain<F: Shelf, K: Sink, D: Disk>(
     alloc: Global,
     cluster: &str,
     script: &str,
+    moves: bool,
     shelf: &mut F,
     sink: &mut K,
     disk: Fuse<D>,
@@ -139,11 +142,11 @@ fn plain<F: Shelf, K: Sink, D: Disk>(
     requires { disk.armed ≡ None }
     ensures ends { Ends D.view (F.bytes_of shelf.old) (Some (Run cluster.now script.now)) (record { opening = result.opening; log = result.log; before = disk; after = result.disk }) result.outcome }
     ensures reads { AreRead F.reads (Some (Run cluster.now script.now)) shelf.old shelf.new }
-    ensures writes { Writes result.outcome (K.taken sink.old) (K.taken sink.new) (page result.log false) }
+    ensures writes { Writes result.outcome (K.taken sink.old) (K.taken sink.new) (page result.log moves) }
     ensures read_fault { result.outcome ≡ Outcome.ReadFault → Rose (F.faults shelf.old) (F.faults shelf.new) }
     ensures write_fault { result.outcome ≡ Outcome.WriteFault false → Rose (K.faults sink.old) (K.faults sink.new) }
     ensures took_nothing { result.outcome ≡ Outcome.WriteFault true → Rose (K.idle sink.old) (K.idle sink.new) }
-    ensures untouched { page result.log false ≡ [] → sink.new ≡ sink.old }
+    ensures untouched { page result.log moves ≡ [] → sink.new ≡ sink.old }
     ensures unused { StopsBefore result.outcome → result.disk ≡ disk }
     ensures stays { DiskStays D.view disk result.disk }
     ensures unarmed { result.disk.armed ≡ None }
@@ -155,7 +158,7 @@ fn plain<F: Shelf, K: Sink, D: Disk>(
     ensures images_now { SurvivesNow result.opening result.log (seen D.view disk) (seen D.view result.disk) }
 {
     match read_inputs(alloc, shelf, cluster, script) {
-        Ok((settings, script)) => run(alloc, settings, script, sink, disk),
+        Ok((settings, script)) => run(alloc, settings, script, moves, sink, disk),
         Err(outcome) => nothing(alloc, outcome, disk),
     }
 }
@@ -205,11 +208,11 @@ pub fn top_plain<F: Shelf, K: Sink, D: Disk>(
         → NoneRose (F.faults shelf.old) (F.faults shelf.new) (K.faults sink.old) (K.faults sink.new) (K.idle sink.old) (K.idle sink.new)
         → (result.outcome ≡ Outcome.Done) ⊎ (result.outcome ≡ Outcome.Memory) }
     ensures reads { AreRead F.reads (mode_of (map string_bytes words.now)) shelf.old shelf.new }
-    ensures writes { Writes result.outcome (K.taken sink.old) (K.taken sink.new) (page_for (mode_of (map string_bytes words.now)) result.opening result.log) }
+    ensures writes { Writes result.outcome (K.taken sink.old) (K.taken sink.new) (page_for (shows_moves (map string_bytes words.now)) (mode_of (map string_bytes words.now)) result.opening result.log) }
     ensures read_fault { result.outcome ≡ Outcome.ReadFault → Rose (F.faults shelf.old) (F.faults shelf.new) }
     ensures write_fault { result.outcome ≡ Outcome.WriteFault false → Rose (K.faults sink.old) (K.faults sink.new) }
     ensures took_nothing { result.outcome ≡ Outcome.WriteFault true → Rose (K.idle sink.old) (K.idle sink.new) }
-    ensures untouched { page_for (mode_of (map string_bytes words.now)) result.opening result.log ≡ [] → sink.new ≡ sink.old }
+    ensures untouched { page_for (shows_moves (map string_bytes words.now)) (mode_of (map string_bytes words.now)) result.opening result.log ≡ [] → sink.new ≡ sink.old }
 
     // What becomes of the device.
     ensures unused { StopsBefore result.outcome → result.disk ≡ disk }
@@ -223,7 +226,17 @@ pub fn top_plain<F: Shelf, K: Sink, D: Disk>(
     ensures images_now { SurvivesNow result.opening result.log (seen D.view disk) (seen D.view result.disk) }
 {
     match mode_of(words) {
-        Some(Mode::Plain { cluster, script }) => plain(alloc, cluster, script, shelf, sink, disk),
+        Some(Mode::Plain { cluster, script }) => {
+            plain(
+                alloc,
+                cluster,
+                script,
+                shows_moves(words),
+                shelf,
+                sink,
+                disk,
+            )
+        }
         Some(Mode::Store) => list(alloc, sink, disk),
         None => nothing(alloc, Outcome::Usage, disk),
     }

@@ -28,15 +28,15 @@ fn write<K: Sink>(sink: &mut K, page: &[u8]) -> Outcome
     }
 }
 
-/// Writes the page of a log.
-pub fn write_page<K: Sink>(alloc: Global, sink: &mut K, log: &Items<Entry>) -> Outcome
+/// Writes the page of a log, with its moves or without.
+pub fn write_page<K: Sink>(alloc: Global, sink: &mut K, log: &Items<Entry>, moves: bool) -> Outcome
     ensures of_writing { IsOfWriting result }
-    ensures writes { Writes result (K.taken sink.old) (K.taken sink.new) (page log.now false) }
+    ensures writes { Writes result (K.taken sink.old) (K.taken sink.new) (page log.now moves) }
     ensures write_fault { result ≡ Outcome.WriteFault false → Rose (K.faults sink.old) (K.faults sink.new) }
     ensures took_nothing { result ≡ Outcome.WriteFault true → Rose (K.idle sink.old) (K.idle sink.new) }
-    ensures untouched { page log.now false ≡ [] → sink.new ≡ sink.old }
+    ensures untouched { page log.now moves ≡ [] → sink.new ≡ sink.old }
 {
-    let Ok(bytes) = page(alloc, log, false) else {
+    let Ok(bytes) = page(alloc, log, moves) else {
         return Outcome::Memory;
     };
     write(sink, bytes.as_slice())

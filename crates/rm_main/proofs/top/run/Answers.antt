@@ -1,4 +1,3 @@
-use Rattle.std.proofs.Common.{false}
 use Rattle.rm_formats.specs.Page.{page}
 use Rattle.rm_plain.specs.Stops.{IsDue}
 use Rattle.rm_main.proofs.Laws.{meets_laws}
@@ -23,4 +22,4 @@ returns-clause-writes g c =
     let made = c.run_script-made.result in
     let written = c.write_page-written in
     rw c.outcome_of.ensures
-    (still_writes (g.K.Sink.taken c.args.sink.now) (g.K.Sink.taken written.new.sink) (page made.log false) made.ended written.result written.ensures.of_writing written.ensures.writes)
+    (still_writes (g.K.Sink.taken c.args.sink.now) (g.K.Sink.taken written.new.sink) (page made.log c.args.moves) made.ended written.result written.ensures.of_writing written.ensures.writes)
