@@ -14,7 +14,8 @@ use Rattle.rm_types.specs.declared.settings.Settings.{Settings}
 use Rattle.rm_types.specs.declared.settings.UserGroups.{UserGroups}
 use Rattle.rm_types.specs.declared.texts.TextKind.{TextKind}
 use Rattle.rm_types.specs.declared.texts.TextKind.TheVariants.{Name, AclText, Queue}
-use Rattle.rm_cluster.specs.Limits.{longest_wait_ms, most_apps, most_attempts, most_completed, most_memory_mb, most_queues, most_vcores}
+use Rattle.rm_types.specs.Limits.{greatest_attempts, greatest_memory_mb, greatest_vcores}
+use Rattle.rm_cluster.specs.Limits.{longest_wait_ms, most_apps, most_completed, most_queues}
 use Rattle.rm_cluster.specs.Readings.{number_within, text_of, string_of, names_of, name_list_of, user_of, users_of, user_groups_of}
 use Rattle.rm_cluster.specs.Rules.{max_attempts_of, max_completed_of, max_apps_of, wait_ms_of, admin_acl_of, max_memory_of, max_vcores_of, groups_of, queues_of, bare_queue, default_queues, IsSettingsOf}
 use Rattle.rm_cluster.specs.Queues.{has_queue_keys, is_tree, list_at, name_of, queue_list_of, queue_of, queue_tree_of, queue_with, some_list_of}
@@ -201,13 +202,13 @@ default_are = record {
 pub in_range : (file : Data) (settings : Settings) → IsSettingsOf file settings → IsInRange settings
 unfolding max_attempts_of max_completed_of max_apps_of wait_ms_of admin_acl_of max_memory_of max_vcores_of groups_of queues_of
 in_range file settings kept = record {
-  max_attempts = kept_at_key (IsWithin 1 most_attempts) _ _ _ _ (within 1 most_attempts) (lit≤ tt, lit≤ tt) kept.max_attempts;
+  max_attempts = kept_at_key (IsWithin 1 greatest_attempts) _ _ _ _ (within 1 greatest_attempts) (lit≤ tt, lit≤ tt) kept.max_attempts;
   max_completed = kept_at_key (IsWithin 0 most_completed) _ _ _ _ (within 0 most_completed) (lit≤ tt, lit≤ tt) kept.max_completed;
   max_apps = kept_at_key (IsWithin 1 most_apps) _ _ _ _ (within 1 most_apps) (lit≤ tt, lit≤ tt) kept.max_apps;
   wait_ms = kept_at_key (IsWithin 0 longest_wait_ms) _ _ _ _ (within 0 longest_wait_ms) (lit≤ tt, lit≤ tt) kept.wait_ms;
   admin_acl = kept_at_key (IsText AclText) _ _ _ _ (string_is AclText) refl kept.admin_acl;
-  max_memory = kept_at_key (IsWithin 1 most_memory_mb) _ _ _ _ (within 1 most_memory_mb) (lit≤ tt, lit≤ tt) kept.max_memory;
-  max_vcores = kept_at_key (IsWithin 1 most_vcores) _ _ _ _ (within 1 most_vcores) (lit≤ tt, lit≤ tt) kept.max_vcores;
+  max_memory = kept_at_key (IsWithin 1 greatest_memory_mb) _ _ _ _ (within 1 greatest_memory_mb) (lit≤ tt, lit≤ tt) kept.max_memory;
+  max_vcores = kept_at_key (IsWithin 1 greatest_vcores) _ _ _ _ (within 1 greatest_vcores) (lit≤ tt, lit≤ tt) kept.max_vcores;
   groups = kept_at_key (All HasNames) _ _ _ _ groups_are (All-nil HasNames) kept.groups;
   queues = kept_at_key AreQueues _ _ _ _ tree_is default_are kept.queues;
 }

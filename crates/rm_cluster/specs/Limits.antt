@@ -1,9 +1,5 @@
--- The greatest values that a cluster file may set. This project's own.
+-- The greatest values that a cluster file alone may set. This project's own.
 use Rattle.std.specs.Prelude.{ℕ}
-
--- how many attempts an application may have
-abbrev pub most_attempts : ℕ
-most_attempts = 100
 
 -- how many completed applications are remembered
 abbrev pub most_completed : ℕ
@@ -16,14 +12,6 @@ most_apps = 100000
 -- how long a recovered manager waits, in milliseconds
 abbrev pub longest_wait_ms : ℕ
 longest_wait_ms = 1000000000
-
--- the memory of the greatest container, in megabytes
-abbrev pub most_memory_mb : ℕ
-most_memory_mb = 16777216
-
--- its virtual cores
-abbrev pub most_vcores : ℕ
-most_vcores = 256
 
 -- how many queues a tree may have
 abbrev pub most_queues : ℕ

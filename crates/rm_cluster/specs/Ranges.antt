@@ -5,7 +5,8 @@ use Rattle.rm_types.specs.declared.settings.QueueSpec.{QueueSpec}
 use Rattle.rm_types.specs.declared.settings.Settings.{Settings}
 use Rattle.rm_types.specs.declared.settings.UserGroups.{UserGroups}
 use Rattle.rm_types.specs.declared.texts.TextKind.TheVariants.{Name, AclText, Queue}
-use Rattle.rm_cluster.specs.Limits.{longest_wait_ms, most_apps, most_attempts, most_completed, most_memory_mb, most_queues, most_vcores}
+use Rattle.rm_types.specs.Limits.{greatest_attempts, greatest_memory_mb, greatest_vcores}
+use Rattle.rm_cluster.specs.Limits.{longest_wait_ms, most_apps, most_completed, most_queues}
 use Rattle.rm_cluster.specs.Queues.{is_tree}
 
 -- the user and each of its groups are names
@@ -32,12 +33,12 @@ pub record AreQueues (queues : List QueueSpec) : Type 0 where
 
 -- each of the settings is in its range
 pub record IsInRange (settings : Settings) : Type 0 where
-  pub max_attempts : IsWithin 1 most_attempts settings.max_attempts
+  pub max_attempts : IsWithin 1 greatest_attempts settings.max_attempts
   pub max_completed : IsWithin 0 most_completed settings.max_completed
   pub max_apps : IsWithin 1 most_apps settings.max_apps
   pub wait_ms : IsWithin 0 longest_wait_ms settings.wait_ms
   pub admin_acl : IsText AclText settings.admin_acl
-  pub max_memory : IsWithin 1 most_memory_mb settings.greatest.memory_mb
-  pub max_vcores : IsWithin 1 most_vcores settings.greatest.vcores
+  pub max_memory : IsWithin 1 greatest_memory_mb settings.greatest.memory_mb
+  pub max_vcores : IsWithin 1 greatest_vcores settings.greatest.vcores
   pub groups : All HasNames settings.groups
   pub queues : AreQueues settings.queues

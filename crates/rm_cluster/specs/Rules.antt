@@ -9,7 +9,8 @@ use Rattle.rm_types.specs.declared.settings.QueueSpec.{QueueSpec}
 use Rattle.rm_types.specs.declared.settings.Settings.{Settings}
 use Rattle.rm_types.specs.declared.settings.UserGroups.{UserGroups}
 use Rattle.rm_types.specs.declared.texts.TextKind.TheVariants.{AclText}
-use Rattle.rm_cluster.specs.Limits.{longest_wait_ms, most_apps, most_attempts, most_completed, most_memory_mb, most_vcores}
+use Rattle.rm_types.specs.Limits.{greatest_attempts, greatest_memory_mb, greatest_vcores}
+use Rattle.rm_cluster.specs.Limits.{longest_wait_ms, most_apps, most_completed}
 use Rattle.rm_cluster.specs.Queues.{queue_tree_of}
 use Rattle.rm_cluster.specs.Readings.{at_key, number_within, string_of, user_groups_of, has_only}
 
@@ -29,7 +30,7 @@ has_known_keys = has_only is_known
 
 -- the global bound on attempts: 1 to the most, and 2 where the key is absent
 unfoldable pub max_attempts_of : Data → Option ℕ
-max_attempts_of = at_key (codes "max_attempts") (number_within 1 most_attempts) 2
+max_attempts_of = at_key (codes "max_attempts") (number_within 1 greatest_attempts) 2
 
 -- how many completed applications are remembered: 0 to the most, and 1000 where the key is absent
 unfoldable pub max_completed_of : Data → Option ℕ
@@ -53,11 +54,11 @@ admin_acl_of = at_key (codes "admin_acl") (string_of AclText) (codes "*")
 
 -- the memory of the greatest container, in MB: 1 to the most, and 8192 where the key is absent
 unfoldable pub max_memory_of : Data → Option ℕ
-max_memory_of = at_key (codes "max_memory_mb") (number_within 1 most_memory_mb) 8192
+max_memory_of = at_key (codes "max_memory_mb") (number_within 1 greatest_memory_mb) 8192
 
 -- the cores of the greatest container: 1 to the most, and 8 where the key is absent
 unfoldable pub max_vcores_of : Data → Option ℕ
-max_vcores_of = at_key (codes "max_vcores") (number_within 1 most_vcores) 8
+max_vcores_of = at_key (codes "max_vcores") (number_within 1 greatest_vcores) 8
 
 -- the groups of users: none where the key is absent
 unfoldable pub groups_of : Data → Option (List UserGroups)

@@ -7,7 +7,10 @@ ghost use Rattle.rm_cluster.specs.Rules.{is_known, has_known_keys, max_attempts_
 use crate::groups::user_groups_of;
 use crate::queues::queue_tree_of;
 use crate::readings::{number_at, string_of};
-use rm_types::{Items, NoMemory, QueueSpec, Text, TextKind, UserGroups};
+use rm_types::{
+    GREATEST_ATTEMPTS, GREATEST_MEMORY_MB, GREATEST_VCORES, Items, NoMemory, QueueSpec, Text,
+    TextKind, UserGroups,
+};
 use serde_json::{Map, Value};
 use std::alloc::Global;
 
@@ -52,7 +55,7 @@ pub(crate) fn has_known_keys(file: &Value) -> bool
 pub(crate) fn max_attempts_of(file: &Value) -> Option<u32>
     ensures { result ≡ max_attempts_of (view file.now) }
 {
-    number_at(file, "max_attempts", 1, 100, 2)
+    number_at(file, "max_attempts", 1, GREATEST_ATTEMPTS, 2)
 }
 
 /// How many completed applications are remembered.
@@ -106,7 +109,7 @@ pub(crate) fn admin_acl_of(alloc: Global, file: &Value) -> Result<Option<Text>, 
 pub(crate) fn max_memory_of(file: &Value) -> Option<u32>
     ensures { result ≡ max_memory_of (view file.now) }
 {
-    number_at(file, "max_memory_mb", 1, 16_777_216, 8192)
+    number_at(file, "max_memory_mb", 1, GREATEST_MEMORY_MB, 8192)
 }
 
 /// The cores of the greatest container.
@@ -114,7 +117,7 @@ pub(crate) fn max_memory_of(file: &Value) -> Option<u32>
 pub(crate) fn max_vcores_of(file: &Value) -> Option<u32>
     ensures { result ≡ max_vcores_of (view file.now) }
 {
-    number_at(file, "max_vcores", 1, 256, 8)
+    number_at(file, "max_vcores", 1, GREATEST_VCORES, 8)
 }
 
 /// The groups of users.

@@ -16,6 +16,7 @@ use Rattle.rm_types.specs.Lanes.{feed_lane, sender_of}
 use Rattle.rm_types.specs.Lists.{is_nil}
 use Rattle.rm_types.specs.Ranges.{IsOperation}
 use Rattle.rm_types.specs.Records.{Records, fits_records, records}
+use Rattle.rm_types.specs.Limits.{greatest_stamp, most_served}
 use Rattle.rm_queues.specs.Rules.{KeepsRules}
 use Rattle.rm_model.specs.Facts.{attempts_in}
 use Rattle.rm_model.specs.State.{Manager}
@@ -313,7 +314,7 @@ module _ (t : Tables) (log : List Entry) (s : IsSound t) where
       })
 
   -- a life begins
-  pub begin_done : KeepsLimits t.settings → (tree : Records) (handed : ℕ) → t.alive ≡ false → CanBeginOver tree → handed ≤ 1000000000000000 → (next : Tables) (longer : List Entry) (r : Result (Unit {0}) Refused)
+  pub begin_done : KeepsLimits t.settings → (tree : Records) (handed : ℕ) → t.alive ≡ false → CanBeginOver tree → handed ≤ greatest_stamp → (next : Tables) (longer : List Entry) (r : Result (Unit {0}) Refused)
       → OnOk r ((next ≡ begun tree (max handed (tree.stamp + 1)) t) × (longer ≡ log ++ Opened (landed_in t tree) tree.next_epoch (max handed (tree.stamp + 1)) ∷ []))
       → OnErr r ((next ≡ t) × (longer ≡ log)) → Done (Begin tree handed) t next log longer r
   begin_done limits tree handed a over high next longer (Err e) ok err = refused (Begin tree handed) t next log longer e s err.0
@@ -350,7 +351,7 @@ module _ (t : Tables) (log : List Entry) (s : IsSound t) where
   serving_runs ready open_ = serving_open s.history t s.phase (both t.alive (t.is_open || t.blown) ready).0 open_
 
   -- a message of an open life is answered
-  open_made : (message : Message) → IsMessage message → t.served < 100000 → is_ready t Client ≡ true → t.is_open ≡ true → (reply : Reply) → IsReply t message reply → (x : Unit {0})
+  open_made : (message : Message) → IsMessage message → t.served < most_served → is_ready t Client ≡ true → t.is_open ≡ true → (reply : Reply) → IsReply t message reply → (x : Unit {0})
       → Done (Serve message) t (served_moved message reply t) log (log ++ Served (sender_of message) message reply ∷ []) (Ok x)
   open_made message in_range few ready open_ reply answers x =
       let lives = both t.alive (t.is_open || t.blown) ready in
@@ -404,7 +405,7 @@ module _ (t : Tables) (log : List Entry) (s : IsSound t) where
       }
 
   -- a message is answered
-  serve_made : (message : Message) → IsMessage message → t.served < 100000 → is_ready t Client ≡ true → (b : Bool) → t.is_open ≡ b → (reply : Reply) → IsReply t message reply → (x : Unit {0})
+  serve_made : (message : Message) → IsMessage message → t.served < most_served → is_ready t Client ≡ true → (b : Bool) → t.is_open ≡ b → (reply : Reply) → IsReply t message reply → (x : Unit {0})
       → Done (Serve message) t (served_moved message reply t) log (log ++ Served (sender_of message) message reply ∷ []) (Ok x)
   serve_made message in_range few ready true open_ reply answers x = open_made message in_range few ready open_ reply answers x
   serve_made message in_range few ready false closed reply answers x =
@@ -413,7 +414,7 @@ module _ (t : Tables) (log : List Entry) (s : IsSound t) where
       subst (λ (next : Tables). Done (Serve message) t next log (log ++ Served (sender_of message) message reply ∷ []) (Ok x)) (sym same)
       (subst (λ (r : Reply). Done (Serve message) t (record t { served = t.served + 1 }) log (log ++ Served (sender_of message) message r ∷ []) (Ok x)) (sym is) (shut_made message ready closed x))
 
-  pub serve_done : (message : Message) → IsMessage message → t.served < 100000 → (next : Tables) (longer : List Entry) (r : Result (Unit {0}) Refused)
+  pub serve_done : (message : Message) → IsMessage message → t.served < most_served → (next : Tables) (longer : List Entry) (r : Result (Unit {0}) Refused)
       → OnOk r (IsServed t next log longer message) → OnOk r (is_ready t Client ≡ true) → OnErr r ((next ≡ t) × (longer ≡ log)) → Done (Serve message) t next log longer r
   serve_done message in_range few next longer (Err e) ok ready err = refused (Serve message) t next log longer e s err.0
   serve_done message in_range few next longer (Ok x) ok ready err = rw (ok.2, ok.3) (serve_made message in_range few ready t.is_open refl ok.0 ok.1 x)
@@ -432,10 +433,6 @@ handed_front t op h false b a c ops w = absurd (let x = rw a at h in cc)
 -- it can be framed
 pub handed_framed : (t : Tables) → IsSound t → (op : Op) → handed_op t ≡ Some op → IsOperation op
 handed_framed t s op h = let is = handed_front t op h t.alive t.handed refl refl t.awaiting refl in framed_in s.history t op is.1.1.0 s.phase is.0 is.1.0 is.1.1.1
-
--- it was not refused
-pub handed_unblown : (t : Tables) → IsSound t → (op : Op) → handed_op t ≡ Some op → t.blown ≡ false
-handed_unblown t s op h = let is = handed_front t op h t.alive t.handed refl refl t.awaiting refl in unblown_of s.history t s.phase is.0 is.1.0
 
 -- and fits what is kept
 pub handed_next : (t : Tables) (op : Op) → handed_op t ≡ Some op → (opening : List Op) (log : List Entry) → Keeps opening log t → IsToBeKept opening (seen_of t log) op

@@ -5,6 +5,7 @@ use Rattle.rm_types.specs.declared.messages.Message.{Message}
 use Rattle.rm_types.specs.declared.messages.Message.TheVariants as messages
 use Rattle.rm_types.specs.declared.replies.Reply.{Reply}
 use Rattle.rm_types.specs.Lanes.{sender_of}
+use Rattle.rm_types.specs.Limits.{most_served}
 use Rattle.rm_tables.specs.declared.tables.Tables.{Tables}
 use Rattle.rm_facts.specs.Told.{History, scene_in}
 use Rattle.rm_client.specs.Shows.{Shows}
@@ -22,14 +23,14 @@ shows : (h : History) (t : Tables) → Running h t → Shows (scene_in h t) t
 shows h t r = let c = client_shown h t r in record { records = c.records; stamp = c.stamp; given = c.given; going = c.going; live = c.live; retired = c.retired; at = c.at }
 
 -- the life goes on
-open_goes : (h : History) (t : Tables) → Running h t → t.served < 100000 → (message : Message) (reply : Reply) → IsMessage message → IsOpenReply t message reply
+open_goes : (h : History) (t : Tables) → Running h t → t.served < most_served → (message : Message) (reply : Reply) → IsMessage message → IsOpenReply t message reply
     → Goes h t (Served (sender_of message) message reply) (record (answered message reply t) { served = t.served + 1 })
 open_goes h t r few (messages.Client user ask) reply in_range answers = client_runs h t r few user ask reply in_range (answers (scene_in h t) (shows h t r))
 open_goes h t r few (messages.Master attempt ask) reply in_range answers = master_runs h t r few attempt ask reply in_range (answers (scene_in h t) (life_shown h t r))
 open_goes h t r few (messages.Node name ask) reply in_range answers = node_runs h t r few name ask reply in_range.0 in_range.1 (answers (scene_in h t) (life_shown h t r))
 open_goes h t r few (messages.Clock ask) reply in_range answers = clock_runs h t r few ask reply in_range (answers (scene_in h t) (life_shown h t r))
 
-pub serve_goes : (h : History) (t : Tables) → Running h t → t.served < 100000 → (message : Message) (reply : Reply) → IsMessage message → IsReply t message reply → Goes h t (Served (sender_of message) message reply) (served_moved message reply t)
+pub serve_goes : (h : History) (t : Tables) → Running h t → t.served < most_served → (message : Message) (reply : Reply) → IsMessage message → IsReply t message reply → Goes h t (Served (sender_of message) message reply) (served_moved message reply t)
 serve_goes h t r few message reply in_range answers =
     let open_ = r.whole.keeps.is_open in
     let open_answers : IsOpenReply t message reply = subst (λ (b : Bool). IsReplyWhere b t message reply) open_ answers in

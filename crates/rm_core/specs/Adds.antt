@@ -12,6 +12,7 @@ use Rattle.rm_types.specs.Records.{Records, records, stray}
 use Rattle.rm_model.specs.Lawful.{state_after}
 use Rattle.rm_model.specs.State.{Manager}
 use Rattle.rm_types.specs.Lanes.{feed_lane, lane_of_entry, sender_of}
+use Rattle.rm_types.specs.Limits.{greatest_stamp, most_served}
 use Rattle.rm_core.specs.Seen.{Seen, StandsFor, handed_op}
 use Rattle.rm_core.specs.Queues.{landed_in}
 use Rattle.rm_core.specs.Words.{as_new}
@@ -38,8 +39,8 @@ pub record CanBeginOver (tree : Records) : Type 0 where
 -- a move may be asked for: the number that is handed to a life is 1 to 10^15; the parts of a message are in their ranges, and
 -- not more than 100,000 are served in a life
 abbrev pub CanMake : Tables → Move → Type 0
-CanMake t (Begin tree handed) = CanBeginOver tree × (1 ≤ handed) × (handed ≤ 1000000000000000)
-CanMake t (Serve message) = IsMessage message × (t.served < 100000)
+CanMake t (Begin tree handed) = CanBeginOver tree × (1 ≤ handed) × (handed ≤ greatest_stamp)
+CanMake t (Serve message) = IsMessage message × (t.served < most_served)
 CanMake t _ = Unit {0}
 
 -- the lane of a move

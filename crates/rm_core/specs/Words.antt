@@ -33,10 +33,6 @@ landed_over seen tree = landed_in seen.tables tree
 abbrev pub served_in : Seen → ℕ
 served_in seen = seen.tables.served
 
--- at most so many messages are served in a life
-abbrev pub most_served : ℕ
-most_served = 100000
-
 -- the parts of the message are in their ranges
 abbrev pub IsServable : Message → Type 0
 IsServable message = IsMessage message

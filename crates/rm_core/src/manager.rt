@@ -4,6 +4,7 @@ ghost use Rattle.rm_types.specs.declared.entries.Entry.{Entry};
 ghost use Rattle.rm_types.specs.declared.messages.Lane.{Lane};
 ghost use Rattle.rm_types.specs.declared.operations.Op.{Op as AnyOp};
 ghost use Rattle.rm_types.specs.Ranges.{IsOperation};
+ghost use Rattle.rm_types.specs.Limits.{greatest_stamp, most_served};
 ghost use Rattle.rm_queues.specs.Rules.{KeepsRules};
 ghost use Rattle.rm_model.specs.State.{opening_state};
 ghost use Rattle.rm_model.specs.Lawful.{AllAllowed, state_after};
@@ -193,7 +194,7 @@ impl Core {
     fn begin(&mut self, tree: Tree, handed: u64) -> Result<(), Refused>
         requires over { CanBeginOver tree }
         requires low { 1 ≤ handed }
-        requires high { handed ≤ 1000000000000000 }
+        requires high { handed ≤ greatest_stamp }
         ensures does { OnOk result (Does (Move.Begin tree handed) self.old self.new) }
         ensures not_ready { IsErrOf result Refused.NotReady → is_ready self.old.tables Lane.Begin ≡ false }
         ensures err { OnErr result (self.new ≡ self.old) }
@@ -248,7 +249,7 @@ impl Core {
 
     fn serve(&mut self, message: Message) -> Result<(), Refused>
         requires message { IsMessage message }
-        requires few { self.old.tables.served < 100000 }
+        requires few { self.old.tables.served < most_served }
         ensures does { OnOk result (Does (Move.Serve message) self.old self.new) }
         ensures not_ready { IsErrOf result Refused.NotReady → may_make self.old.tables (Move.Serve message) ≡ false }
         ensures err { OnErr result (self.new ≡ self.old) }

@@ -6,6 +6,7 @@ ghost use Rattle.rm_types.specs.declared.messages.Lane.{Lane};
 ghost use Rattle.rm_types.specs.declared.operations.Op.{Op};
 ghost use Rattle.rm_types.specs.Lanes.{sender_of};
 ghost use Rattle.rm_types.specs.Records.{fits_records};
+ghost use Rattle.rm_types.specs.Limits.{most_served};
 ghost use Rattle.rm_model.specs.Facts.{attempts_in};
 ghost use Rattle.rm_tables.specs.declared.events.MainEvent.{MainEvent};
 ghost use Rattle.rm_tables.specs.declared.events.SchedEvent.{SchedEvent};
@@ -210,7 +211,7 @@ fn sender_of(message: &Message) -> Sender
 fn answer(queues: &QueueTree, t: &mut Tables, message: &Message) -> Result<Reply, NoMemory>
     requires settings { queues.now ≡ t.old.settings }
     requires message { IsMessage message.now }
-    requires few { t.old.served < 100000 }
+    requires few { t.old.served < most_served }
     requires ranged { t.old.is_open ≡ true → Ranged t.old }
     requires attempts { t.old.is_open ≡ true → (id : AppId) → length (attempts_in (found_in t.old id)) < 2 ^ 32 }
     ensures reply { IfOk result (λ reply. IsReply t.old message.now reply) }
@@ -257,7 +258,7 @@ pub fn answer_message(
 ) -> Result<(), Refused>
     requires settings { queues.now ≡ t.old.settings }
     requires message { IsMessage message }
-    requires few { t.old.served < 100000 }
+    requires few { t.old.served < most_served }
     requires ranged { is_ready t.old Lane.Client ≡ true → t.old.is_open ≡ true → Ranged t.old }
     requires attempts { is_ready t.old Lane.Client ≡ true → t.old.is_open ≡ true → (id : AppId) → length (attempts_in (found_in t.old id)) < 2 ^ 32 }
     ensures ok { OnOk result (IsServed t.old t.new log.old log.new message) }

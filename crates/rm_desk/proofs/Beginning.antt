@@ -5,6 +5,7 @@ use Rattle.rm_types.specs.declared.entries.Entry.TheVariants.{Opened}
 use Rattle.rm_types.specs.declared.operations.Op.{Op}
 use Rattle.rm_types.specs.declared.scripts.Life.{Life}
 use Rattle.rm_types.specs.Records.{Records, records}
+use Rattle.rm_types.specs.Limits.{greatest_stamp}
 use Rattle.rm_model.specs.Changes.{kept_after_landing}
 use Rattle.rm_model.specs.Lawful.{state_after}
 use Rattle.rm_model.specs.Place.{Begins as BeginsAt, Place, begun, stamp_of}
@@ -19,7 +20,7 @@ use Rattle.rm_desk.specs.Does.{Begins}
 use Rattle.rm_desk.proofs.Longer.{one_more}
 
 -- the next life can begin: its stamp is in its range
-pub next_stamp : (d : DeskView) → IsSound d → (lives : List Life) → d.place.lives ≡ lives → (life : Life) → slice_get lives 0 ≡ Some life → (1 ≤ life.stamp) × (life.stamp ≤ 1000000000000000)
+pub next_stamp : (d : DeskView) → IsSound d → (lives : List Life) → d.place.lives ≡ lives → (life : Life) → slice_get lives 0 ≡ Some life → (1 ≤ life.stamp) × (life.stamp ≤ greatest_stamp)
 next_stamp d h [] e life first = cc
 next_stamp d h (one ∷ more) e life first =
     let same : one ≡ life = cc in

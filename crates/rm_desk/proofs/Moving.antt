@@ -22,7 +22,8 @@ use Rattle.rm_core.specs.Adds.{Does as CoreDoes, GoesOnFrom, IsOf, Stands, Weigh
 use Rattle.rm_tables.specs.declared.events.Refused.{Refused}
 use Rattle.rm_core.specs.declared.manager.Move.{Move}
 use Rattle.rm_core.specs.Seen.{Seen, StandsFor}
-use Rattle.rm_core.specs.Words.{IsServable, as_new, can_go_down, handed_of, has_rest, is_blown, message_weight, most_served, ready_at, served_in, stands, weight_of}
+use Rattle.rm_types.specs.Limits.{most_served}
+use Rattle.rm_core.specs.Words.{IsServable, as_new, can_go_down, handed_of, has_rest, is_blown, message_weight, ready_at, served_in, stands, weight_of}
 use Rattle.rm_desk.specs.declared.feeds.Feeds.{Feeds}
 use Rattle.rm_desk.specs.View.{DeskView}
 use Rattle.rm_desk.specs.Scripts.{AllLive, CanFollow, EndsInCrash, messages_in}
@@ -37,11 +38,6 @@ use Rattle.rm_desk.proofs.Words.{both, nil_is, rest_idle}
 -- the place where the current segment is left behind
 abbrev pub behind : Feeds → Place
 behind f = record { lives = f.lives; segments = f.segments }
-
--- how the feeds show the current segment
-pub feed_is : (f : Feeds) → IsEntered f → (close : Option Close) → f.close ≡ close → messages_left (place_of f).segments ≡ f.feed
-feed_is f entered None e = let none = entered e in rw (e, none.0, none.1) refl
-feed_is f entered (Some close) e = rw e refl
 
 pub close_is : (f : Feeds) → IsEntered f → (close : Option Close) → f.close ≡ close → close_left (place_of f).segments ≡ close
 close_is f entered None e = let none = entered e in rw (e, none.0) refl

@@ -28,24 +28,6 @@ pub tells : (d : DeskView) → Rests d.core → (opening : List Op) → StandsFo
 tells d rests opening k =
     record { life = life_stands d.core opening k; none = life_none d.core opening k; blew = life_blew d.core opening k; at_rest = λ rest. rest_owes d.core rest rests opening k }
 
-none_lives : (settings : Settings) (s : Manager) → s.life ≡ None → IsAtRest settings s s.life
-none_lives settings s h = rw h tt
-
--- a run that is over is done
-pub over_done : (d : DeskView) → Rests d.core → IsOver d → (opening : List Op) (script : Script) → IsRun opening script d → IsDone d.core.settings script opening d.core.log
-over_done d rests over opening script run =
-    record {
-      place = record { lives = ap (λ (p : Place). p.lives) run.along.at ∙ over.lives; segments = ap (λ (p : Place). p.segments) run.along.at ∙ over.segments };
-      rest = by (stands d.core) refl;
-    }
-  where
-    told : Tells opening d
-    told = tells d rests opening run.stands
-
-    by : (b : Bool) → stands d.core ≡ b → IsAtRest d.core.settings (state_after opening d.core.log) (state_after opening d.core.log).life
-    by true alive = told.at_rest (over.rest alive)
-    by false dead = none_lives d.core.settings (state_after opening d.core.log) (told.none dead)
-
 -- some lane is ready
 abbrev pub SomeReady : DeskView → Type 0
 SomeReady d = (lane : Lane) × (is_ready_at d lane ≡ true)

@@ -10,7 +10,8 @@ use Rattle.rm_model.specs.State.{LifeState, opening_state}
 use Rattle.rm_model.specs.Place.{Place, beginning, close_left}
 use Rattle.rm_model.specs.Lawful.{Follows, IsAtRest, place_after, state_after}
 use Rattle.rm_core.specs.Seen.{StandsFor}
-use Rattle.rm_core.specs.Words.{has_rest, is_blown, message_weight, most_served, served_in, stands, weight_of}
+use Rattle.rm_types.specs.Limits.{most_served}
+use Rattle.rm_core.specs.Words.{has_rest, is_blown, message_weight, served_in, stands, weight_of}
 use Rattle.rm_desk.specs.View.{DeskView}
 use Rattle.rm_desk.specs.Scripts.{AllLive, CanFollow, EndsInCrash, IsCrash, messages_in}
 

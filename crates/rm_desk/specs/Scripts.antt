@@ -7,7 +7,8 @@ use Rattle.rm_types.specs.declared.scripts.Close.TheVariants.{Settle, Crash}
 use Rattle.rm_types.specs.declared.scripts.Life.{Life}
 use Rattle.rm_types.specs.declared.scripts.Segment.{Segment}
 use Rattle.rm_types.specs.declared.scripts.Script.{Script}
-use Rattle.rm_core.specs.Words.{IsServable, most_served}
+use Rattle.rm_types.specs.Limits.{greatest_stamp, most_served}
+use Rattle.rm_core.specs.Words.{IsServable}
 
 -- each message is of a kind that is served
 abbrev pub AllServed : List Message → Type 0
@@ -43,7 +44,7 @@ messages_in segments = sum_by (λ segment. length segment.messages) segments
 -- served in a life
 pub record CanLive (life : Life) : Type 0 where
   pub low : 1 ≤ life.stamp
-  pub high : life.stamp ≤ 1000000000000000
+  pub high : life.stamp ≤ greatest_stamp
   pub segments : CanFollow life.segments
   pub few : messages_in life.segments ≤ most_served
 

@@ -46,14 +46,3 @@ module _ (at : ℕ) (bytes old : List ℕ) (fits : at + length bytes ≤ length 
 
 pub get_or-put : (at x : ℕ) (old : List ℕ) → at + 1 ≤ length old → get_or (put at (x ∷ []) old) at 0 ≡ x
 get_or-put at x old fits = rw (append_assoc) (get_or_at (take at old) x (drop (at + 1) old) 0 at (length-take-le at old (omega arith)))
-
--- A part of the bytes that ends behind the range.
-pub elsewhere_cut : (at many end : ℕ) (old new : List ℕ) → at + many ≤ end → SameElsewhere at many old new → SameElsewhere at many (take end old) (take end new)
-elsewhere_cut at many end old new inside same =
-    let cut : end ≡ at + many + (end - (at + many)) = omega arith in
-    let part = λ (l : List ℕ). ap (λ (k : ℕ). drop (at + many) (take k l)) cut ∙ drop-take (at + many) (end - (at + many)) l in
-    record {
-      before = take-take at end new (omega arith) ∙ same.before ∙ sym (take-take at end old (omega arith));
-      after = part new ∙ ap (λ (l : List ℕ). take (end - (at + many)) l) same.after ∙ sym (part old);
-      size = simp length-take (rw same.size refl);
-    }

@@ -73,15 +73,6 @@ quiet_trans a b c ab bc = record {
   time = leaves_trans a b c a.images ab.time (leaves_of b c b.images a.images ab.images bc.time);
 }
 
--- a write that is followed by a call that changes no byte
-pub write_quiet : (at n : ℕ) (a b c : DiskView) → MayWrite at n a b → IsQuiet b c → MayWrite at n a c
-write_quiet at n a b c ab bc = record {
-  goes_on = goes_on_trans a b c ab.time.later ab.goes_on bc.goes_on;
-  told = rw bc.told ab.told;
-  images = λ image now. ab.images image (bc.images image now);
-  time = leaves_trans a b c (AnyIn at n a) ab.time (leaves_of b c b.images (AnyIn at n a) ab.images bc.time);
-}
-
 -- a write is a write in a larger range
 pub write_wider : (at n from m : ℕ) (a b : DiskView) → at ≤ from → from + m ≤ at + n → MayWrite from m a b → MayWrite at n a b
 write_wider at n from m a b low high ab =

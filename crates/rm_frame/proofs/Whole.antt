@@ -15,7 +15,8 @@ use Rattle.rm_types.specs.declared.texts.TextKind.TheVariants.{Name, Node, Queue
 use Rattle.rm_formats.specs.Frames.{frame, text_frame, app_id_frame, attempt_id_frame, master_frame, submission_frame, how_code}
 use Rattle.rm_types.specs.Ranges.{IsOperation, IsText, IsSubmission}
 use Rattle.rm_types.specs.Ranges.{IsWithin, IsAppId, IsAttemptId, IsContainerId}
-use Rattle.rm_frame.specs.Fields.{Field, ByteFrom, NumberFrom, TextOf, told_length, left_at_fault, stamp_field, number_field, app_id_fields, attempt_id_fields, master_fields, submission_fields, end_fields, epoch_fields, layout}
+use Rattle.rm_types.specs.Limits.{greatest_attempts, greatest_memory_mb, greatest_vcores}
+use Rattle.rm_frame.specs.Fields.{Field, ByteFrom, NumberFrom, TextOf, told_length, left_at_fault, stamp_field, number_field, app_id_fields, attempt_id_fields, master_fields, submission_fields, end_fields, epoch_fields, layout, attempts_field, cores_field, memory_field}
 use Rattle.rm_frame.specs.Framed.{IsFramed}
 use Rattle.rm_frame.specs.Reads.{Reads, Stops}
 use Rattle.rm_frame.proofs.Numbers.{IsWide, wide16, wide32, wide64, again_before}
@@ -101,22 +102,22 @@ end_written how text rest h =
 submission_written : (one : Submission) (rest : List ℕ) → IsSubmission one → Reads submission_fields (submission_frame one ++ rest) (submission_frame one) rest
 submission_written one rest h =
     let modify = text_written AclText one.modify rest h.modify in
-    let bound = written_then (NumberFrom w32 0 100 ∷ []) (TextOf AclText ∷ []) (to_be_bytes w32 one.attempts) (text_frame one.modify) rest
-    (number32_written 0 100 one.attempts (text_frame one.modify ++ rest) (omega arith) h.attempts) modify in
+    let bound = written_then (attempts_field ∷ []) (TextOf AclText ∷ []) (to_be_bytes w32 one.attempts) (text_frame one.modify) rest
+    (number32_written 0 greatest_attempts one.attempts (text_frame one.modify ++ rest) (omega arith) h.attempts) modify in
     let back1 : List ℕ = to_be_bytes w32 one.attempts ++ text_frame one.modify in
-    let cores = written_then (NumberFrom w32 1 256 ∷ []) (NumberFrom w32 0 100 ∷ TextOf AclText ∷ []) (to_be_bytes w32 one.master.vcores) back1 rest
-    (number32_written 1 256 one.master.vcores (back1 ++ rest) (omega arith) h.vcores) bound in
+    let cores = written_then (cores_field ∷ []) (attempts_field ∷ TextOf AclText ∷ []) (to_be_bytes w32 one.master.vcores) back1 rest
+    (number32_written 1 greatest_vcores one.master.vcores (back1 ++ rest) (omega arith) h.vcores) bound in
     let back2 : List ℕ = to_be_bytes w32 one.master.vcores ++ back1 in
-    let memory = written_then (NumberFrom w32 1 16777216 ∷ []) (NumberFrom w32 1 256 ∷ NumberFrom w32 0 100 ∷ TextOf AclText ∷ []) (to_be_bytes w32 one.master.memory_mb) back2 rest
-    (number32_written 1 16777216 one.master.memory_mb (back2 ++ rest) (omega arith) h.memory_mb) cores in
+    let memory = written_then (memory_field ∷ []) (cores_field ∷ attempts_field ∷ TextOf AclText ∷ []) (to_be_bytes w32 one.master.memory_mb) back2 rest
+    (number32_written 1 greatest_memory_mb one.master.memory_mb (back2 ++ rest) (omega arith) h.memory_mb) cores in
     let back3 : List ℕ = to_be_bytes w32 one.master.memory_mb ++ back2 in
-    let name = written_then (TextOf Name ∷ []) (NumberFrom w32 1 16777216 ∷ NumberFrom w32 1 256 ∷ NumberFrom w32 0 100 ∷ TextOf AclText ∷ []) (text_frame one.name) back3 rest
+    let name = written_then (TextOf Name ∷ []) (memory_field ∷ cores_field ∷ attempts_field ∷ TextOf AclText ∷ []) (text_frame one.name) back3 rest
     (text_written Name one.name (back3 ++ rest) h.name) memory in
     let back4 : List ℕ = text_frame one.name ++ back3 in
-    let queue = written_then (TextOf Queue ∷ []) (TextOf Name ∷ NumberFrom w32 1 16777216 ∷ NumberFrom w32 1 256 ∷ NumberFrom w32 0 100 ∷ TextOf AclText ∷ []) (text_frame one.queue) back4 rest
+    let queue = written_then (TextOf Queue ∷ []) (TextOf Name ∷ memory_field ∷ cores_field ∷ attempts_field ∷ TextOf AclText ∷ []) (text_frame one.queue) back4 rest
     (text_written Queue one.queue (back4 ++ rest) h.queue) name in
     let back5 : List ℕ = text_frame one.queue ++ back4 in
-    written_then (TextOf Name ∷ []) (TextOf Queue ∷ TextOf Name ∷ NumberFrom w32 1 16777216 ∷ NumberFrom w32 1 256 ∷ NumberFrom w32 0 100 ∷ TextOf AclText ∷ []) (text_frame one.user) back5 rest
+    written_then (TextOf Name ∷ []) (TextOf Queue ∷ TextOf Name ∷ memory_field ∷ cores_field ∷ attempts_field ∷ TextOf AclText ∷ []) (text_frame one.user) back5 rest
     (text_written Name one.user (back5 ++ rest) h.user) queue
 
 -- ---- operations

@@ -3,6 +3,7 @@ use Rattle.std.specs.Prelude.{ℕ, ◌+◌, ◌-◌, ◌^◌, ◌==◌, List, []
 use Rattle.std.specs.Int.{Width, byte_len, from_be_bytes, w16, w32, w64}
 use Rattle.rm_types.specs.declared.texts.TextKind.{TextKind}
 use Rattle.rm_types.specs.declared.texts.TextKind.TheVariants.{Name, Node, Queue, Note, AclText}
+use Rattle.rm_types.specs.Limits.{greatest_attempts, greatest_memory_mb, greatest_vcores}
 use Rattle.rm_types.specs.Texts.{fault_of}
 
 -- a field: a byte or a number, from the least to the greatest, or a text of a kind behind its length
@@ -61,10 +62,21 @@ attempt_id_fields = app_id_fields ++ number_field ∷ []
 abbrev pub master_fields : List Field
 master_fields = NumberFrom w32 0 (2 ^ 24 - 1) ∷ NumberFrom w64 1 (2 ^ 40 - 1) ∷ []
 
+-- the memory, in megabytes, and the virtual cores of a container
+abbrev pub memory_field : Field
+memory_field = NumberFrom w32 1 greatest_memory_mb
+
+abbrev pub cores_field : Field
+cores_field = NumberFrom w32 1 greatest_vcores
+
+-- how many attempts were asked for
+abbrev pub attempts_field : Field
+attempts_field = NumberFrom w32 0 greatest_attempts
+
 -- what was submitted
 abbrev pub submission_fields : List Field
 submission_fields =
-    TextOf Name ∷ TextOf Queue ∷ TextOf Name ∷ NumberFrom w32 1 16777216 ∷ NumberFrom w32 1 256 ∷ NumberFrom w32 0 100 ∷ TextOf AclText ∷ []
+    TextOf Name ∷ TextOf Queue ∷ TextOf Name ∷ memory_field ∷ cores_field ∷ attempts_field ∷ TextOf AclText ∷ []
 
 -- how something ended, and its diagnostics
 abbrev pub end_fields : List Field

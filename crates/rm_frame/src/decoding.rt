@@ -12,7 +12,10 @@ use crate::fields::{
     End, FieldError, MAX_STAMP, app_id_at, attempt_id_at, byte_within, end_at, text_at, u32_within,
     u64_within,
 };
-use rm_types::{ContainerId, Op, Resource, Submission, TextKind};
+use rm_types::{
+    ContainerId, GREATEST_ATTEMPTS, GREATEST_MEMORY_MB, GREATEST_VCORES, Op, Resource, Submission,
+    TextKind,
+};
 use std::alloc::Global;
 
 /// Why no operation was read.
@@ -92,9 +95,9 @@ fn submission_at(alloc: Global, bytes: &[u8]) -> Result<(Submission, &[u8]), Fie
     let (user, rest) = text_at(alloc, bytes, TextKind::Name)?;
     let (queue, rest) = text_at(alloc, rest, TextKind::Queue)?;
     let (name, rest) = text_at(alloc, rest, TextKind::Name)?;
-    let (memory_mb, rest) = u32_within(rest, 1, 1 << 24)?;
-    let (vcores, rest) = u32_within(rest, 1, 256)?;
-    let (attempts, rest) = u32_within(rest, 0, 100)?;
+    let (memory_mb, rest) = u32_within(rest, 1, GREATEST_MEMORY_MB)?;
+    let (vcores, rest) = u32_within(rest, 1, GREATEST_VCORES)?;
+    let (attempts, rest) = u32_within(rest, 0, GREATEST_ATTEMPTS)?;
     let (modify, rest) = text_at(alloc, rest, TextKind::AclText)?;
     let master = Resource { memory_mb, vcores };
     let submission = Submission {

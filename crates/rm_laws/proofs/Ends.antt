@@ -103,9 +103,6 @@ landed_end kept (op ∷ ops) landed id ending (inr some) one ended none =
     let none_at_one : list_any (is_remove_op id) (op ∷ []) ≡ false = ap (λ (n : ℕ). list_any (is_remove_op id) (take n (op ∷ ops))) (sym some) ∙ none in
     rw some (end_kept kept op ops id ending one ended (not_either (is_remove_op id op) false none_at_one).0)
 
-same_end : (kept : List Op) (id : AppId) (ending : How × List ℕ) → end_of (records kept).apps id ≡ Some ending → end_of (records kept).apps id ≡ Some ending
-same_end kept id ending h = h
-
 entry_end : (settings : Settings) (kept awaiting : List Op) (blew : Bool) (life : Option LifeState) (e : Entry) (id : AppId) (ending : How × List ℕ) → OneEnd kept awaiting
     → Allowed settings (state kept awaiting blew life) e → end_of (records kept).apps id ≡ Some ending → list_any (is_remove_op id) (grow kept awaiting blew life e).0 ≡ false
     → end_of (records (after (state kept awaiting blew life) e).kept).apps id ≡ Some ending

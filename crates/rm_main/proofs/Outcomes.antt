@@ -127,11 +127,6 @@ pub listed_held : {D : Type 0} (view : D → DiskView) (disk : Fused D) (ops : L
 listed_held view disk ops (Ok done) empty holds = inr (holds refl)
 listed_held view disk ops (Err stop) empty holds = inl empty
 
--- a call of the disk that changes no byte leaves what could have been left
-pub quiet_survives : (opening : List Op) (log : List Entry) (old new : DiskView) → IsQuiet old new → SurvivesAll opening log old new
-quiet_survives opening log old new quiet = λ bytes told.
-    record { so_far = leaves_of old new old.images (λ image. old.images image ⊎ HoldsWithin opening log image) (λ image is. inl is) quiet.time; now = λ image is. inl (quiet.images image is) }
-
 -- how a run that was made ends
 pub run_ends : {D : Type 0} (view : D → DiskView) (told : Told) (asked : Option Asked) (made : Made D) (outcome : Outcome) → IsOfRun outcome → Ran view told asked made outcome → Ends view told asked made outcome
 run_ends view told asked made Done h ran = inl ran

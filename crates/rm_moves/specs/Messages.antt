@@ -16,16 +16,17 @@ use Rattle.rm_types.specs.declared.operations.Op.TheVariants.{App}
 use Rattle.rm_types.specs.declared.resources.Resource.{Resource}
 use Rattle.rm_types.specs.declared.settings.Settings.{Settings}
 use Rattle.rm_types.specs.declared.texts.TextKind.TheVariants.{Node, Note}
+use Rattle.rm_types.specs.Limits.{greatest_attempts, greatest_memory_mb, greatest_vcores}
 use Rattle.rm_types.specs.Ranges.{IsContainerId, IsOperation, IsText, IsWithin}
 
--- the settings allow from 1 to 100 attempts of an application
+-- the settings allow at least one attempt of an application, and no more than the most
 abbrev pub KeepsLimits : Settings → Type 0
-KeepsLimits settings = IsWithin 1 100 settings.max_attempts
+KeepsLimits settings = IsWithin 1 greatest_attempts settings.max_attempts
 
 -- the size of a container or a node: up to 16 TiB and 256 cores
 pub record IsSize (size : Resource) : Type 0 where
-  pub memory : IsWithin 1 16777216 size.memory_mb
-  pub vcores : IsWithin 1 256 size.vcores
+  pub memory : IsWithin 1 greatest_memory_mb size.memory_mb
+  pub vcores : IsWithin 1 greatest_vcores size.vcores
 
 -- a list of at most a thousand
 pub record IsList {X : Type 0} (Fits : X → Type 0) (items : List X) : Type 0 where

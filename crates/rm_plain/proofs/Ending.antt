@@ -140,11 +140,6 @@ module _ {D : Type 0} (view : D → DiskView) where
         stores = record { sound = serves.sound; kept = λ opening. unkept_stores opening d next (down_unkept d next does chosen tells told idle calls image crash) (seen view store.disk) };
       }
 
--- what holds is said of an error too
-pub on_err_of : {A E : Type 0} {P : Type 0} (r : Result A E) → P → OnErr r P
-on_err_of (Ok x) p = tt
-on_err_of (Err x) p = p
-
 not_first : {X : Type 0} (b : Bool) (x : X) (rest : Option X) → (if b then Some x else rest) ≡ None → (b ≡ false) × (rest ≡ None)
 not_first true x rest h = cc
 not_first false x rest h = (refl, h)

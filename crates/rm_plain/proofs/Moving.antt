@@ -199,9 +199,6 @@ kept_goes d next does chosen =
     let place : next.place ≡ d.place = does.adds.place ∙ ap (λ (e : Entry). moved d.place e) is in
     step_goes (IsEntryOf Write d) (is_blown d.core) Write d next does chosen (λ down. let x = sym is ∙ down in cc) (ap (λ (p : Place). p.lives) place)
 
-pub kept_close : (d next : DeskView) → Does Write d next → close_left next.place.segments ≡ close_left d.place.segments
-kept_close d next does = ap (λ (p : Place). close_left p.segments) (does.adds.place ∙ ap (λ (e : Entry). moved d.place e) does.adds.of_kind.2)
-
 -- or refused
 pub blown_goes : (d next : DeskView) (passed : ℕ) → Blows passed d next → find (is_ready_at d) policy ≡ Some Write → Goes [] d next
 blown_goes d next passed does chosen =

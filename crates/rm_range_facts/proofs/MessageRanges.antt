@@ -20,6 +20,7 @@ use Rattle.rm_types.specs.declared.resources.Resource.{Resource}
 use Rattle.rm_types.specs.declared.settings.Settings.{Settings}
 use Rattle.rm_types.specs.declared.texts.TextKind.TheVariants.{Node}
 use Rattle.rm_types.specs.Ranges.{IsText}
+use Rattle.rm_types.specs.Limits.{most_served}
 use Rattle.rm_book.specs.AskTables.{AsksOf}
 use Rattle.rm_book.specs.Books.{BookOf}
 use Rattle.rm_book.specs.ManyAsks.{all_asked}
@@ -56,7 +57,7 @@ use Rattle.rm_range_facts.proofs.RowRanges.{NoMoreGranted, grants_answered, gran
 abbrev pub served_after : Tables → Tables → Tables
 served_after t next = record next { served = t.served + 1 }
 
-module _ (t : Tables) (r : Ranged t) (few : t.served < 100000) where
+module _ (t : Tables) (r : Ranged t) (few : t.served < most_served) where
   -- where these parts of them may have changed
   served_parts : (rows : List (AppId × Option AppRow)) (asks : List AsksOf) (book : BookOf) (nodes : List (List ℕ × NodeRow)) (going given clock : ℕ) (main : List MainEvent) (sched : List SchedEvent) → AreRows rows
       → AreGrants rows sched (t.served + 1) → AreAsked asks → All IsBooked book.rows → All IsOffer book.nodes → AreNodes nodes → given ≤ t.served + 1 → clock ≤ t.clock + 1000000000
@@ -237,7 +238,7 @@ module _ (t : Tables) (r : Ranged t) (few : t.served < 100000) where
   clock_served (clocks.ExpireMaster attempt) _ is = served_same
 
 -- a client is answered as the judge says
-pub client_judged : (settings : Settings) (h : History) (t : Tables) → Ranged t → t.served < 100000 → (user : List ℕ) (ask : ClientAsk) (reply : Reply) → IsClientAsk ask → reply ≡ client_reply settings (scene_in h t) user ask
+pub client_judged : (settings : Settings) (h : History) (t : Tables) → Ranged t → t.served < most_served → (user : List ℕ) (ask : ClientAsk) (reply : Reply) → IsClientAsk ask → reply ≡ client_reply settings (scene_in h t) user ask
     → Ranged (served_after t (after_client ask reply t))
 client_judged settings h t r few user ask reply is judged = client_served t r few ask reply is next
   where

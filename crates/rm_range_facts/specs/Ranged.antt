@@ -11,6 +11,7 @@ use Rattle.rm_types.specs.declared.records.AttemptRecord.{AttemptRecord}
 use Rattle.rm_book.specs.declared.plain.NodeCapability.{NodeCapability}
 use Rattle.rm_types.specs.declared.texts.TextKind.TheVariants.{Node, Note}
 use Rattle.rm_types.specs.Ranges.{IsAppId, IsAttemptId, IsContainerId, IsMasterOf, IsOperation, IsSubmission, IsText, IsWithin}
+use Rattle.rm_types.specs.Limits.{most_served}
 use Rattle.rm_book.specs.AskTables.{AsksOf, asks_of}
 use Rattle.rm_tables.specs.declared.events.SchedEvent.{SchedEvent}
 use Rattle.rm_tables.specs.declared.events.SchedEvent.TheVariants as scheds
@@ -117,7 +118,7 @@ pub record AreNodes (nodes : List (List ℕ × NodeRow)) : Type 0 where
 -- the numbers of a life that rise by its messages, of which there are at most a hundred thousand
 pub record AreCounts (t : Tables) : Type 0 where
   pub epoch : t.epoch < 2 ^ 24
-  pub served : t.served ≤ 100000
+  pub served : t.served ≤ most_served
   pub given : t.given ≤ t.served
   pub clock : t.clock ≤ 1000000000 * t.served
 

@@ -14,6 +14,7 @@ use Rattle.rm_types.specs.declared.replies.Reply.{Reply}
 use Rattle.rm_types.specs.declared.settings.Settings.{Settings}
 use Rattle.rm_types.specs.declared.texts.TextKind.TheVariants.{Node}
 use Rattle.rm_types.specs.Ranges.{IsText}
+use Rattle.rm_types.specs.Limits.{most_served}
 use Rattle.rm_model.specs.ClientReplies.{client_reply}
 use Rattle.rm_model.specs.Facts.{is_known}
 use Rattle.rm_model.specs.MasterReplies.{master_reply}
@@ -112,7 +113,7 @@ module _ (h : History) (t : Tables) (r : Running h t) where
 
   -- EACH MESSAGE
 
-  module _ (few : t.served < 100000) where
+  module _ (few : t.served < most_served) where
     pub client_runs : (user : List ℕ) (ask : ClientAsk) (reply : Reply) → IsClientAsk ask → reply ≡ client_reply t.settings (scene_in h t) user ask
         → Goes h t (Served senders.Client (messages.Client user ask) reply) (counted (after_client ask reply t))
     client_runs user ask reply in_range is =

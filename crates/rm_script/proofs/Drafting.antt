@@ -19,7 +19,7 @@ use Rattle.rm_script.specs.declared.drafts.Draft.TheVariants as drafts
 use Rattle.rm_script.specs.Written.{Sent, Delivered, Lost, WrittenLife, delivered, settled_segment, life_of}
 use Rattle.rm_script.specs.Spelling.{sent_text, start_text, settled_lines, life_lines, script_lines}
 use Rattle.rm_script.specs.Scripts.{IsRead, IsSent, IsCrash, IsLife, Crashes}
-use Rattle.rm_script.specs.Limits.{greatest_stamp}
+use Rattle.rm_types.specs.Limits.{greatest_stamp}
 use Rattle.rm_script.specs.Reading.{settled, crashed, told, line_text, with_start, with_settle, with_crash, with_message, with_loss, with_line, with_lines, IsCrashLine, IsLine}
 use Rattle.rm_script.proofs.Labels.{bound}
 

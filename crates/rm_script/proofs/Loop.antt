@@ -13,7 +13,8 @@ use Rattle.rm_script.specs.declared.errors.ScriptError.TheVariants as scripts
 use Rattle.rm_script.specs.declared.drafts.Draft.{Draft}
 use Rattle.rm_script.specs.declared.lines.Line.{Line}
 use Rattle.rm_script.specs.declared.lines.Line.TheVariants.{Skipped}
-use Rattle.rm_script.specs.Limits.{most_bytes, most_lines}
+use Rattle.rm_types.specs.Limits.{most_lines}
+use Rattle.rm_script.specs.Limits.{most_bytes}
 use Rattle.rm_script.specs.Lines.{lines_of, ended, size_of_first, is_skipped, kept_lines, IsLineText}
 use Rattle.rm_script.specs.Results.{◌>>=◌, Fails, FindsNone, at_line}
 use Rattle.rm_script.specs.Reading.{line_text, with_line, with_lines, no_lines, script_of_draft, IsLine, IsTextOf, Takes, Reads, Tells}

@@ -21,7 +21,7 @@ use Rattle.rm_script.specs.Spelling.{start_text, life_lines, script_lines}
 use Rattle.rm_script.specs.Scripts.{IsSent, IsLife, Crashes, EachButLast, AreLives, Spell, IsScript}
 use Rattle.rm_script.specs.Refusals.{CanBegin, Stand}
 use Rattle.rm_script.specs.Results.{◌>>=◌}
-use Rattle.rm_script.specs.Limits.{greatest_stamp}
+use Rattle.rm_types.specs.Limits.{greatest_stamp}
 use Rattle.rm_script.specs.Reading.{told_life, line_text, with_lines, no_lines, script_of_draft, IsLine, Reads, ReadsAll}
 use Rattle.rm_script.proofs.Labels.{bound, not_chosen}
 use Rattle.rm_script.proofs.Drafting.{Written, Between, Going, living_of, draft_of, written_lines, AreCrashed, Fits, Grown, nothing_sent, settled_text, lines_of-push, with_lines_are}

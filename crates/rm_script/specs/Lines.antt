@@ -2,7 +2,8 @@
 use Rattle.std.specs.Prelude.{◌≡◌, ℕ, ◌<◌, ◌≤◌, List, [], ◌∷◌, ◌++◌, length, take, min, Bool, true, false, not, ◌==◌, if◌then◌else◌, ◌⊎◌, All, codes}
 use Rattle.std.specs.List.{filter, flat_map, onto_first}
 use Rattle.rm_types.specs.Ranges.{IsWithin}
-use Rattle.rm_script.specs.Limits.{most_bytes, most_lines, most_line_bytes}
+use Rattle.rm_types.specs.Limits.{most_lines}
+use Rattle.rm_script.specs.Limits.{most_bytes, most_line_bytes}
 
 -- the lines of the bytes: each ends with a line feed (10), which the last may lack
 abbrev pub lines_of : List ℕ → List (List ℕ)

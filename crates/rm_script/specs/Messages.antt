@@ -16,7 +16,8 @@ use Rattle.rm_types.specs.declared.messages.Message.TheVariants as messages
 use Rattle.rm_types.specs.declared.operations.Submission.{Submission}
 use Rattle.rm_types.specs.declared.resources.Resource.{Resource}
 use Rattle.rm_types.specs.declared.texts.TextKind.TheVariants.{Name, Node, Queue, Note, AclText}
-use Rattle.rm_script.specs.Limits.{greatest_memory_mb, greatest_vcores, greatest_attempts, most_listed, greatest_priority, greatest_count, greatest_response, greatest_turn, greatest_tick}
+use Rattle.rm_types.specs.Limits.{greatest_attempts, greatest_memory_mb, greatest_vcores}
+use Rattle.rm_script.specs.Limits.{most_listed, greatest_priority, greatest_count, greatest_response, greatest_turn, greatest_tick}
 
 -- the size of a container or a node
 pub record IsSize (size : Resource) : Type 0 where

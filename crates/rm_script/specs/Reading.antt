@@ -14,7 +14,8 @@ use Rattle.rm_script.specs.declared.lines.Line.TheVariants.{Skipped, Start, Sett
 use Rattle.rm_script.specs.declared.drafts.Living.{Living}
 use Rattle.rm_script.specs.declared.drafts.Draft.{Draft}
 use Rattle.rm_script.specs.declared.drafts.Draft.TheVariants as drafts
-use Rattle.rm_script.specs.Limits.{most_bytes, most_lines, greatest_stamp, greatest_calls, greatest_image}
+use Rattle.rm_types.specs.Limits.{greatest_stamp, most_lines}
+use Rattle.rm_script.specs.Limits.{most_bytes, greatest_calls, greatest_image}
 use Rattle.rm_script.specs.Lines.{lines_of, size_of_first, is_skipped, kept_lines, IsLineText}
 use Rattle.rm_script.specs.Messages.{IsMessage}
 use Rattle.rm_script.specs.Results.{◌>>=◌}

@@ -4,7 +4,8 @@ use Rattle.std.specs.Prelude.{◌≡◌, ℕ, List, [], ◌∷◌, length, IfSom
 use Rattle.rm_types.specs.Ranges.{IsWithin}
 use Rattle.rm_types.specs.declared.messages.Message.{Message}
 use Rattle.rm_types.specs.declared.scripts.Script.{Script}
-use Rattle.rm_script.specs.Limits.{greatest_stamp, greatest_calls, greatest_image}
+use Rattle.rm_types.specs.Limits.{greatest_stamp}
+use Rattle.rm_script.specs.Limits.{greatest_calls, greatest_image}
 use Rattle.rm_script.specs.Lines.{lines_of, kept_lines, KeepLimits}
 use Rattle.rm_script.specs.Messages.{IsMessage}
 use Rattle.rm_script.specs.Written.{Sent, message_of, Crashing, WrittenLife, script_of_lives}

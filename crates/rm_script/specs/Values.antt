@@ -6,7 +6,8 @@ use Rattle.rm_types.specs.declared.scripts.Close.TheVariants.{Settle, Crash}
 use Rattle.rm_types.specs.declared.scripts.Segment.{Segment}
 use Rattle.rm_types.specs.declared.scripts.Life.{Life}
 use Rattle.rm_types.specs.declared.scripts.Script.{Script}
-use Rattle.rm_script.specs.Limits.{most_lines, greatest_stamp, greatest_calls, greatest_image}
+use Rattle.rm_types.specs.Limits.{greatest_stamp, most_lines}
+use Rattle.rm_script.specs.Limits.{greatest_calls, greatest_image}
 use Rattle.rm_script.specs.Scripts.{IsRead, EachButLast}
 
 -- the segment settles

@@ -8,11 +8,8 @@ ghost use Rattle.rm_script.specs.Results.{Finds, IsOf};
 use crate::errors::LineError;
 use crate::fields::{app_id, size_fields, text, text_field};
 use crate::numbers::number_field;
-use rm_types::{AppId, ClientAsk, Message, Submission, Text, TextKind};
+use rm_types::{AppId, ClientAsk, GREATEST_ATTEMPTS, Message, Submission, Text, TextKind};
 use std::alloc::Global;
-
-/// The most attempts that are asked for.
-const GREATEST_ATTEMPTS: u32 = 100;
 
 /// Who else may modify an application, by the word that may say it.
 fn modify(alloc: Global, words: &[&[u8]]) -> Result<Text, LineError>

@@ -9,14 +9,11 @@ use crate::errors::LineError;
 use crate::numbers::{number, number_field};
 use crate::words::after_label;
 use rm_ids::{read_app, read_attempt, read_container};
-use rm_types::{AppId, AttemptId, ContainerId, Resource, Text, TextError, TextKind};
+use rm_types::{
+    AppId, AttemptId, ContainerId, GREATEST_MEMORY_MB, GREATEST_VCORES, Resource, Text, TextError,
+    TextKind,
+};
 use std::alloc::Global;
-
-/// The most memory, in megabytes, of a container or a node.
-const GREATEST_MEMORY_MB: u32 = 16_777_216;
-
-/// The most virtual cores.
-const GREATEST_VCORES: u32 = 256;
 
 /// The text of this kind that the word is.
 pub(crate) fn text(alloc: Global, word: &[u8], kind: TextKind) -> Result<Text, LineError>

@@ -14,14 +14,11 @@ use crate::masters::master_message;
 use crate::nodes::node_message;
 use crate::numbers::{long_number, number};
 use crate::words::words_of;
-use rm_types::Message;
+use rm_types::{GREATEST_STAMP, Message};
 use std::alloc::Global;
 
 /// How many bytes a line may have, without its line feed.
 const MOST_LINE_BYTES: usize = 65536;
-
-/// The greatest stamp that a life starts with.
-const GREATEST_STAMP: u64 = 1_000_000_000_000_000;
 
 /// How many device calls a crash lets pass at most.
 const GREATEST_CALLS: u32 = 1_000_000;

@@ -7,14 +7,11 @@ ghost use Rattle.rm_script.specs.Reading.{Tells};
 use crate::drafts::Draft;
 use crate::errors::ScriptError;
 use crate::lines::cut_line;
-use rm_types::{Items, Script};
+use rm_types::{Items, MOST_LINES, Script};
 use std::alloc::Global;
 
 /// How many bytes a script may have.
 const MOST_BYTES: usize = 16_777_216;
-
-/// How many lines a script may have.
-const MOST_LINES: u32 = 100_000;
 
 /// Reads a script: the one that the bytes are. `Refused` names the first line that is refused, where they
 /// are none. `Memory` may come of any bytes. Time and memory are linear in their number.

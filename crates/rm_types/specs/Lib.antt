@@ -2,6 +2,7 @@ pub mod AclTexts
 pub mod Counts
 pub mod Ids
 pub mod Lanes
+pub mod Limits
 pub mod Lists
 pub mod Order
 pub mod Passes

@@ -9,6 +9,7 @@ use Rattle.rm_types.specs.declared.operations.Op.TheVariants.{Epoch, App, Attemp
 use Rattle.rm_types.specs.declared.operations.Submission.{Submission}
 use Rattle.rm_types.specs.declared.texts.TextKind.{TextKind}
 use Rattle.rm_types.specs.declared.texts.TextKind.TheVariants.{Name, Node, Queue, Note, AclText}
+use Rattle.rm_types.specs.Limits.{greatest_attempts, greatest_memory_mb, greatest_vcores}
 use Rattle.rm_types.specs.Texts.{fault_of}
 
 -- a number from the least to the greatest, both included
@@ -40,9 +41,9 @@ pub record IsSubmission (submission : Submission) : Type 0 where
   pub user : IsText Name submission.user
   pub queue : IsText Queue submission.queue
   pub name : IsText Name submission.name
-  pub memory_mb : IsWithin 1 16777216 submission.master.memory_mb
-  pub vcores : IsWithin 1 256 submission.master.vcores
-  pub attempts : IsWithin 0 100 submission.attempts
+  pub memory_mb : IsWithin 1 greatest_memory_mb submission.master.memory_mb
+  pub vcores : IsWithin 1 greatest_vcores submission.master.vcores
+  pub attempts : IsWithin 0 greatest_attempts submission.attempts
   pub modify : IsText AclText submission.modify
 
 -- the container is one of this attempt

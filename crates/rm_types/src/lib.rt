@@ -15,6 +15,7 @@ mod duplicate;
 mod entries;
 mod ids;
 mod items;
+mod limits;
 mod messages;
 mod operations;
 mod outcomes;
@@ -36,6 +37,9 @@ pub use duplicate::{Duplicate, NoMemory};
 pub use entries::Entry;
 pub use ids::{AppId, AttemptId, ContainerId};
 pub use items::{Items, push_both};
+pub use limits::{
+    GREATEST_ATTEMPTS, GREATEST_MEMORY_MB, GREATEST_STAMP, GREATEST_VCORES, MOST_LINES,
+};
 pub use messages::{ClientAsk, ClockAsk, Lane, MasterAsk, Message, NodeAsk, Sender};
 pub use operations::{How, Op, Submission, Submitted};
 pub use outcomes::Outcome;

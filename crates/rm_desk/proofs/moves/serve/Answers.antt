@@ -3,7 +3,8 @@ use Rattle.rm_types.specs.declared.entries.Entry.{Entry}
 use Rattle.rm_types.specs.declared.messages.Message.{Message}
 use Rattle.rm_types.specs.Lanes.{feed_lane}
 use Rattle.rm_model.specs.Place.{first_from, messages_left}
-use Rattle.rm_core.specs.Words.{IsServable, most_served, ready_at, served_in}
+use Rattle.rm_types.specs.Limits.{most_served}
+use Rattle.rm_core.specs.Words.{IsServable, ready_at, served_in}
 use Rattle.rm_desk.specs.Feeds.{place_of}
 use Rattle.rm_desk.proofs.Feeding.{feed_ready}
 use Rattle.rm_desk.proofs.Moving.{fed_in, first_served, found_some, serve_does}
