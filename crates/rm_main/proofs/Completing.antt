@@ -1,5 +1,5 @@
 -- A run that nothing stands in the way of is Done, or memory ran out.
-use Rattle.std.proofs.Common.{◌≡◌, ◌⊎◌, ◌<◌, ◌≤◌, ℕ, List, [], Option, Some, None, Bool, true, false, inl, inr, refl, sym, ◌∙◌, ap, subst, arith, ⊎_elim}
+use Rattle.std.proofs.Common.{◌≡◌, ◌⊎◌, ◌<◌, ◌≤◌, ℕ, List, [], ◌∷◌, Option, Some, None, Bool, true, false, inl, inr, refl, sym, ◌∙◌, ap, subst, arith, ⊎_elim}
 use Rattle.rm_types.specs.declared.operations.Op.{Op}
 use Rattle.rm_types.specs.declared.outcomes.Outcome.{Outcome}
 use Rattle.rm_types.specs.declared.outcomes.Outcome.TheVariants.{Done, Usage, ReadFault, WriteFault, ClusterRefused, ScriptRefused, ScheduleRefused, DiskFault, StoreDamaged, StoreFull, EpochsSpent, Memory}
@@ -18,20 +18,17 @@ use Rattle.rm_script.specs.Scripts.{IsScript}
 use Rattle.rm_script.proofs.Answered.{not_both}
 use Rattle.rm_store.proofs.Faultless.{never_damaged, never_stray}
 use Rattle.rm_store.specs.Store.{needed_for, room_behind}
+use Rattle.rm_types.specs.declared.entries.Entry.{Entry}
+use Rattle.rm_core.specs.Words.{new_manager}
+use Rattle.rm_desk.specs.View.{DeskView}
+use Rattle.rm_plain.specs.declared.schedule.Step.{Step}
 use Rattle.rm_plain.specs.Keeping.{IsFull}
+use Rattle.rm_plain.specs.Policy.{run_after}
+use Rattle.rm_plain.specs.Schedule.{StopsAt, left_after, steps_from, steps_of}
 use Rattle.rm_plain.specs.Stops.{IsDue, IsNoStore, IsTold}
-use Rattle.rm_main.specs.Complete.{IsAccepted, HasPlace, NoneRose}
-use Rattle.rm_main.specs.Runs.{Ends, HasNoScript, HasNoSettings, Made, Ran, Told, WasToList, WereRead}
-use Rattle.rm_main.specs.Words.{Asked, Run, Listing}
-
--- the names that are asked for
-abbrev cluster_of : Option Asked → List ℕ
-cluster_of (Some (Run cluster script)) = cluster
-cluster_of _ = []
-
-abbrev script_of : Option Asked → List ℕ
-script_of (Some (Run cluster script)) = script
-script_of _ = []
+use Rattle.rm_main.specs.Complete.{AreAccepted, IsAccepted, IsFollowed, HasPlace, NoneRose}
+use Rattle.rm_main.specs.Runs.{AreMoves, Ends, HasNoScript, HasNoSettings, Made, Ran, Told, WasToList, WereRead}
+use Rattle.rm_main.specs.Words.{Asked, Run, Soak, Listing}
 
 -- what was read of a file whose bytes are told
 read_is : (told : Option (List ℕ)) (bytes all : List ℕ) → told ≡ Some all → WereRead told bytes → bytes ≡ bytes_read all
@@ -50,58 +47,80 @@ apart bytes settings place is (inr breaks) =
 a_store : (bytes : List ℕ) (ops : List Op) (offset : ℕ) → Holds bytes ops → IsNoStore offset bytes → ⊥
 a_store bytes ops offset holds why = ⊎_elim (λ damaged. never_damaged bytes ops holds offset damaged) (λ stray. never_stray bytes ops holds stray.0 offset stray.1) why
 
-module _ {D : Type 0} (view : D → DiskView) (told : Told) (asked : Option Asked) (made : Made D) (accepted : IsAccepted told asked) (place : HasPlace view made) where
-  no_list : {P : Type 0} → asked ≡ Some Listing → P
-  no_list is = absurd (let never = sym accepted.asks ∙ is in cc)
+-- where a schedule has no byte, no letter of it stops a run
+left_none : (log : List Entry) → left_after [] log ≡ []
+left_none [] = refl
+left_none (e ∷ log) = left_none log
 
-  same_names : (cluster script : List ℕ) → asked ≡ Some (Run cluster script) → (cluster ≡ accepted.cluster_file) × (script ≡ accepted.script_file)
-  same_names cluster script is = (ap cluster_of (sym is ∙ accepted.asks), ap script_of (sym is ∙ accepted.asks))
+no_steps : steps_of [] ≡ []
+unfolding steps_from
+no_steps = refl
 
-  no_bad_cluster : (cluster script : List ℕ) → asked ≡ Some (Run cluster script) → (at : ℕ) → HasNoSettings (told cluster) at → ⊥
-  no_bad_cluster cluster script is at none =
-      let same : told cluster ≡ Some accepted.cluster_bytes = ap told (same_names cluster script is).0 ∙ accepted.cluster_told in
-      let read = read_is (told cluster) none.bytes accepted.cluster_bytes same none.read in
+no_letters : (schedule : List ℕ) (log : List Entry) (d : DeskView) (at : ℕ) → schedule ≡ [] → StopsAt (left_after (steps_of schedule) log) d at → ⊥
+no_letters schedule log d at none stops =
+    let steps : steps_of schedule ≡ [] = ap steps_of none ∙ no_steps in
+    subst (λ (l : List Step). StopsAt l d at) (ap (λ (all : List Step). left_after all log) steps ∙ left_none log) stops
+
+module _ {D : Type 0} (view : D → DiskView) (told : Told) (made : Made D) (place : HasPlace view made) where
+  no_bad_cluster : (cluster script : List ℕ) → AreAccepted told cluster script → (at : ℕ) → HasNoSettings (told cluster) at → ⊥
+  no_bad_cluster cluster script accepted at none =
+      let read = read_is (told cluster) none.bytes accepted.cluster_bytes accepted.cluster_told none.read in
       apart (bytes_read accepted.cluster_bytes) accepted.settings at accepted.of_cluster (subst (λ (l : List ℕ). IsNoCluster l (Refused at)) read none.none)
 
-  no_bad_script : (cluster script : List ℕ) → asked ≡ Some (Run cluster script) → (line : ℕ) → HasNoScript (told script) line → ⊥
-  no_bad_script cluster script is line none =
-      let same : told script ≡ Some accepted.script_bytes = ap told (same_names cluster script is).1 ∙ accepted.script_told in
-      let read = read_is (told script) none.bytes accepted.script_bytes same none.read in
+  no_bad_script : (cluster script : List ℕ) → AreAccepted told cluster script → (line : ℕ) → HasNoScript (told script) line → ⊥
+  no_bad_script cluster script accepted line none =
+      let read = read_is (told script) none.bytes accepted.script_bytes accepted.script_told none.read in
       not_both (bytes_read accepted.script_bytes) accepted.script line accepted.of_script (subst (λ (l : List ℕ). IsFirstRefused l line) read none.none)
 
-  no_fault : Ran view told asked made DiskFault → ⊥
-  no_fault ran = place.faultless ran.caused.0
+  module _ (asked : Option Asked) where
+    no_fault : Ran view told asked made DiskFault → ⊥
+    no_fault ran = place.faultless ran.caused.0
 
-  no_damage : (offset : ℕ) → Ran view told asked made (StoreDamaged offset) → ⊥
-  no_damage offset ran =
-      let none = ran.caused.1 place.bytes place.told in
-      a_store place.bytes place.ops offset place.holds none.2
+    no_damage : (offset : ℕ) → Ran view told asked made (StoreDamaged offset) → ⊥
+    no_damage offset ran =
+        let none = ran.caused.1 place.bytes place.told in
+        a_store place.bytes place.ops offset place.holds none.2
 
-  no_full : (needed room : ℕ) → Ran view told asked made (StoreFull needed room) → ⊥
-  no_full needed room ran =
-      let full : IsFull (IsTold (view made.before.inner)) made.opening made.log (view made.after.inner).size needed room = ran.caused in
-      let behind = ran.caused.behind (place.bytes, place.told) in
-      let enough = place.room ran.caused.op ran.caused.handed.first in
-      let less = ran.caused.less in
-      let needs = ran.caused.needs in
-      absurd (omega (arith, behind, enough, less, needs))
+    no_full : (needed room : ℕ) → Ran view told asked made (StoreFull needed room) → ⊥
+    no_full needed room ran =
+        let full : IsFull (IsTold (view made.before.inner)) made.opening made.log (view made.after.inner).size needed room = ran.caused in
+        let behind = ran.caused.behind (place.bytes, place.told) in
+        let enough = place.room ran.caused.op ran.caused.handed.first in
+        let less = ran.caused.less in
+        let needs = ran.caused.needs in
+        absurd (omega (arith, behind, enough, less, needs))
 
-  no_spent : Ran view told asked made EpochsSpent → ⊥
-  no_spent ran = place.some_left ran.caused.1.1
+    no_spent : Ran view told asked made EpochsSpent → ⊥
+    no_spent ran = place.some_left ran.caused.1.1
 
-  module _ (read_old read_new write_old write_new idle_old idle_new : ℕ) (none : NoneRose read_old read_new write_old write_new idle_old idle_new) where
+  -- no letter stops a run
+  no_letter : (asked : Option Asked) → IsFollowed told asked made → (at : ℕ) → Ran view told asked made (ScheduleRefused at) → ⊥
+  no_letter None followed at ran = absurd ran.inputs
+  no_letter (Some Listing) followed at ran = absurd ran.inputs
+  no_letter (Some (Soak number)) followed at ran = no_letters ran.schedule made.log (run_after (new_manager ran.alloc ran.settings) ran.script made.opening made.log) at ran.inputs.2 ran.caused.0
+  no_letter (Some (Run cluster script None)) followed at ran = no_letters ran.schedule made.log (run_after (new_manager ran.alloc ran.settings) ran.script made.opening made.log) at ran.inputs.2 ran.caused.0
+  no_letter (Some (Run cluster script (Some schedule))) followed at ran = followed ran.alloc ran.settings ran.script ran.schedule at ran.inputs.0 ran.inputs.1 ran.inputs.2 ran.caused.0
+
+  -- words that ask for a listing aren't accepted
+  no_list : (asked : Option Asked) → IsAccepted told asked → asked ≡ Some Listing → ⊥
+  no_list asked accepted is = subst (IsAccepted told) is accepted
+
+  files_of : (asked : Option Asked) (cluster script : List ℕ) (schedule : Option (List ℕ)) → IsAccepted told asked → asked ≡ Some (Run cluster script schedule) → AreAccepted told cluster script
+  files_of asked cluster script schedule accepted is = subst (IsAccepted told) is accepted
+
+  module _ (asked : Option Asked) (accepted : IsAccepted told asked) (followed : IsFollowed told asked made) (read_old read_new write_old write_new idle_old idle_new : ℕ) (none : NoneRose read_old read_new write_old write_new idle_old idle_new) where
     pub complete : (outcome : Outcome) → Ends view told asked made outcome → (outcome ≡ ReadFault → Rose read_old read_new) → (outcome ≡ WriteFault false → Rose write_old write_new)
         → (outcome ≡ WriteFault true → Rose idle_old idle_new) → (outcome ≡ Done) ⊎ (outcome ≡ Memory)
     complete Done ends read write idle = inl refl
     complete Memory ends read write idle = inr refl
-    complete Usage ends read write idle = absurd (let never = sym accepted.asks ∙ ends.0 in cc)
+    complete Usage ends read write idle = absurd (subst (IsAccepted told) ends.0 accepted)
     complete ReadFault ends read write idle = absurd (none.reads (read refl))
     complete (WriteFault true) ends read write idle = absurd (none.idle (idle refl))
     complete (WriteFault false) ends read write idle = absurd (none.writes (write refl))
-    complete (ClusterRefused at) ends read write idle = absurd (no_bad_cluster ends.cluster_file ends.script_file ends.asks at ends.refused)
-    complete (ScriptRefused line) ends read write idle = absurd (no_bad_script ends.cluster_file ends.script_file ends.asks line ends.refused)
-    complete (ScheduleRefused at) ends read write idle = absurd ends
-    complete DiskFault ends read write idle = ⊎_elim (λ ran. absurd (no_fault ran)) (λ list. no_list list.asks) ends
-    complete (StoreDamaged offset) ends read write idle = ⊎_elim (λ ran. absurd (no_damage offset ran)) (λ list. no_list list.asks) ends
-    complete (StoreFull needed room) ends read write idle = absurd (no_full needed room ends)
-    complete EpochsSpent ends read write idle = absurd (no_spent ends)
+    complete (ClusterRefused at) ends read write idle = absurd (no_bad_cluster ends.cluster_file ends.script_file (files_of asked ends.cluster_file ends.script_file ends.schedule_file accepted ends.asks) at ends.refused)
+    complete (ScriptRefused line) ends read write idle = absurd (no_bad_script ends.cluster_file ends.script_file (files_of asked ends.cluster_file ends.script_file ends.schedule_file accepted ends.asks) line ends.refused)
+    complete (ScheduleRefused at) ends read write idle = absurd (no_letter asked followed at ends)
+    complete DiskFault ends read write idle = ⊎_elim (λ ran. absurd (no_fault asked ran)) (λ list. absurd (no_list asked accepted list.asks)) ends
+    complete (StoreDamaged offset) ends read write idle = ⊎_elim (λ ran. absurd (no_damage asked offset ran)) (λ list. absurd (no_list asked accepted list.asks)) ends
+    complete (StoreFull needed room) ends read write idle = absurd (no_full asked needed room ends)
+    complete EpochsSpent ends read write idle = absurd (no_spent asked ends)

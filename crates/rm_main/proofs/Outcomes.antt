@@ -43,6 +43,7 @@ still_writes old new bytes (Ok done) Memory h w = w
 still_writes old new bytes (Err stops.DiskFault) Done h w = w
 still_writes old new bytes (Err (stops.Damaged offset)) Done h w = w
 still_writes old new bytes (Err (stops.Full needed room)) Done h w = w
+still_writes old new bytes (Err (stops.Schedule place)) Done h w = w
 still_writes old new bytes (Err stops.EpochsSpent) Done h w = w
 still_writes old new bytes (Err stops.Memory) Done h w = whole old new bytes w
 still_writes old new bytes (Err stop) Usage h w = absurd h
@@ -58,36 +59,37 @@ still_writes old new bytes (Err stop) EpochsSpent h w = absurd h
 still_writes old new bytes (Err stop) Memory h w = w
 
 -- why a run stopped is why its outcome came
-pub caused : {D : Type 0} (view : D → DiskView) (due : Type 0) (made : Made D) (ended : Result (Unit {0}) Stop) (written : Outcome) → IsOfWriting written → IfErr ended (IsStoppedBy view due made.before made.after made.opening made.log)
-    → IsCausedBy view due made (outcome_of ended written)
-caused view due made (Ok done) Done h why = tt
-caused view due made (Ok done) Usage h why = absurd h
-caused view due made (Ok done) ReadFault h why = absurd h
-caused view due made (Ok done) (WriteFault took_nothing) h why = tt
-caused view due made (Ok done) (ClusterRefused place) h why = absurd h
-caused view due made (Ok done) (ScriptRefused line) h why = absurd h
-caused view due made (Ok done) (ScheduleRefused place) h why = absurd h
-caused view due made (Ok done) DiskFault h why = absurd h
-caused view due made (Ok done) (StoreDamaged offset) h why = absurd h
-caused view due made (Ok done) (StoreFull needed room) h why = absurd h
-caused view due made (Ok done) EpochsSpent h why = absurd h
-caused view due made (Ok done) Memory h why = tt
-caused view due made (Err stops.DiskFault) Done h why = why
-caused view due made (Err (stops.Damaged offset)) Done h why = why
-caused view due made (Err (stops.Full needed room)) Done h why = why
-caused view due made (Err stops.EpochsSpent) Done h why = why
-caused view due made (Err stops.Memory) Done h why = tt
-caused view due made (Err stop) Usage h why = absurd h
-caused view due made (Err stop) ReadFault h why = absurd h
-caused view due made (Err stop) (WriteFault took_nothing) h why = tt
-caused view due made (Err stop) (ClusterRefused place) h why = absurd h
-caused view due made (Err stop) (ScriptRefused line) h why = absurd h
-caused view due made (Err stop) (ScheduleRefused place) h why = absurd h
-caused view due made (Err stop) DiskFault h why = absurd h
-caused view due made (Err stop) (StoreDamaged offset) h why = absurd h
-caused view due made (Err stop) (StoreFull needed room) h why = absurd h
-caused view due made (Err stop) EpochsSpent h why = absurd h
-caused view due made (Err stop) Memory h why = tt
+pub caused : {D : Type 0} (view : D → DiskView) (due : Type 0) (refuses : ℕ → Type 0) (made : Made D) (ended : Result (Unit {0}) Stop) (written : Outcome) → IsOfWriting written → IfErr ended (IsStoppedBy view due refuses made.before made.after made.opening made.log)
+    → IsCausedBy view due refuses made (outcome_of ended written)
+caused view due refuses made (Ok done) Done h why = tt
+caused view due refuses made (Ok done) Usage h why = absurd h
+caused view due refuses made (Ok done) ReadFault h why = absurd h
+caused view due refuses made (Ok done) (WriteFault took_nothing) h why = tt
+caused view due refuses made (Ok done) (ClusterRefused place) h why = absurd h
+caused view due refuses made (Ok done) (ScriptRefused line) h why = absurd h
+caused view due refuses made (Ok done) (ScheduleRefused place) h why = absurd h
+caused view due refuses made (Ok done) DiskFault h why = absurd h
+caused view due refuses made (Ok done) (StoreDamaged offset) h why = absurd h
+caused view due refuses made (Ok done) (StoreFull needed room) h why = absurd h
+caused view due refuses made (Ok done) EpochsSpent h why = absurd h
+caused view due refuses made (Ok done) Memory h why = tt
+caused view due refuses made (Err stops.DiskFault) Done h why = why
+caused view due refuses made (Err (stops.Damaged offset)) Done h why = why
+caused view due refuses made (Err (stops.Full needed room)) Done h why = why
+caused view due refuses made (Err (stops.Schedule place)) Done h why = why
+caused view due refuses made (Err stops.EpochsSpent) Done h why = why
+caused view due refuses made (Err stops.Memory) Done h why = tt
+caused view due refuses made (Err stop) Usage h why = absurd h
+caused view due refuses made (Err stop) ReadFault h why = absurd h
+caused view due refuses made (Err stop) (WriteFault took_nothing) h why = tt
+caused view due refuses made (Err stop) (ClusterRefused place) h why = absurd h
+caused view due refuses made (Err stop) (ScriptRefused line) h why = absurd h
+caused view due refuses made (Err stop) (ScheduleRefused place) h why = absurd h
+caused view due refuses made (Err stop) DiskFault h why = absurd h
+caused view due refuses made (Err stop) (StoreDamaged offset) h why = absurd h
+caused view due refuses made (Err stop) (StoreFull needed room) h why = absurd h
+caused view due refuses made (Err stop) EpochsSpent h why = absurd h
+caused view due refuses made (Err stop) Memory h why = tt
 
 -- what is listed is what the store holds, and nothing where it wasn't opened
 pub listed : {D : Type 0} (view : D → DiskView) (made : Made D) (ended : Result (Unit {0}) Stop) (written : Outcome) → IsOfWriting written → IfErr ended (IsUnopenedBy view made.before made.after) → IfErr ended (λ stop. made.opening ≡ [])
@@ -107,6 +109,7 @@ listed view made (Ok done) EpochsSpent h why empty holds = absurd h
 listed view made (Err stops.DiskFault) Done h why empty holds = (empty, why)
 listed view made (Err (stops.Damaged offset)) Done h why empty holds = (empty, why)
 listed view made (Err (stops.Full needed room)) Done h why empty holds = absurd why
+listed view made (Err (stops.Schedule place)) Done h why empty holds = absurd why
 listed view made (Err stops.EpochsSpent) Done h why empty holds = absurd why
 listed view made (Err stops.Memory) Done h why empty holds = tt
 listed view made (Err stop) (WriteFault took_nothing) h why empty holds = tt
@@ -135,7 +138,7 @@ run_ends view told asked made ReadFault h ran = absurd h
 run_ends view told asked made (WriteFault took_nothing) h ran = inl ran
 run_ends view told asked made (ClusterRefused place) h ran = absurd h
 run_ends view told asked made (ScriptRefused line) h ran = absurd h
-run_ends view told asked made (ScheduleRefused place) h ran = absurd h
+run_ends view told asked made (ScheduleRefused place) h ran = ran
 run_ends view told asked made DiskFault h ran = inl ran
 run_ends view told asked made (StoreDamaged offset) h ran = inl ran
 run_ends view told asked made (StoreFull needed room) h ran = ran

@@ -153,7 +153,8 @@ all_live [] each crash = tt
 all_live (life ∷ []) each crash = (can_live life each.0, λ more. absurd (more refl), tt)
 all_live (life ∷ next ∷ lives) each crash = (can_live life each.0, λ more. ends life.segments crash.0, all_live (next ∷ lives) each.1 crash.1)
 
+pub can_be_run : (script : Script) → IsToldScript script → CanGoAlong script
+can_be_run script told = record { lives = all_live script.lives (recursion_from_All IsToldLife script.lives told.each) told.crash }
+
 pub can_run : (bytes : List ℕ) (script : Script) → IsScript bytes script → CanGoAlong script
-can_run bytes script h =
-    let told : IsToldScript script = told_values bytes script h in
-    record { lives = all_live script.lives (recursion_from_All IsToldLife script.lives told.each) told.crash }
+can_run bytes script h = can_be_run script (told_values bytes script h)

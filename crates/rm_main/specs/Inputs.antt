@@ -1,9 +1,12 @@
 -- Why an input stops the program before anything is run.
-use Rattle.std.specs.Prelude.{ℕ, List, Option}
+use Rattle.std.specs.Prelude.{◌≡◌, ℕ, List, Option, None, Some}
+use Rattle.std.specs.Option.{option_copied}
 use Rattle.rm_types.specs.declared.outcomes.Outcome.{Outcome}
 use Rattle.rm_types.specs.declared.outcomes.Outcome.TheVariants.{ReadFault, ClusterRefused, ScriptRefused, Memory}
 use Rattle.rm_types.specs.declared.settings.Settings.{Settings}
+use Rattle.rm_main.specs.declared.inputs.Files.{Files}
 use Rattle.rm_main.specs.Runs.{Told, AreSettings, HasNoSettings, HasNoScript}
+use Rattle.rm_main.specs.Words.{Asked, Run}
 
 -- the cluster file couldn't be read, or breaks a rule, the first of them at the place
 abbrev pub StopsAtCluster : Option (List ℕ) → Outcome → Type 0
@@ -19,7 +22,22 @@ StopsAtScript bytes (ScriptRefused line) = HasNoScript bytes line
 StopsAtScript bytes Memory = Unit {0}
 StopsAtScript bytes _ = ⊥
 
--- one of the two inputs stops the program: a file couldn't be read, the cluster file breaks a rule, or it holds settings and
+-- the file couldn't be read
+abbrev pub IsUnread : Outcome → Type 0
+IsUnread ReadFault = Unit {0}
+IsUnread Memory = Unit {0}
+IsUnread _ = ⊥
+
+-- one more file was read, if there is one
+abbrev pub IsOneMore : {F : Type 0} → (List ℕ → F → F → Type 0) → Option (List ℕ) → F → F → Type 0
+IsOneMore reads None old new = new ≡ old
+IsOneMore reads (Some name) old new = reads name old new
+
+-- a run by these files is asked for
+abbrev pub asked_of : Files → Asked
+asked_of files = Run files.cluster.now files.script.now (option_copied files.schedule)
+
+-- one of the inputs stops the program: a file couldn't be read, the cluster file breaks a rule, or it holds settings and
 -- the script's file no script
 abbrev pub StopsEarly : Told → List ℕ → List ℕ → Outcome → Type 0
 StopsEarly told cluster script ReadFault = Unit {0}

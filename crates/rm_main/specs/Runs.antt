@@ -1,6 +1,7 @@
 -- What a call of the program leaves: by its outcome, the log, the device's falls and what the sink took.
 use Rattle.std.specs.Prelude.{◌≡◌, ◌⊎◌, ℕ, ◌≤◌, List, [], ◌++◌, Bool, Option, None, Some, IfSome, length, take}
 use Rattle.std.specs.Io.KnownBytes.{Appends}
+use Rattle.std.specs.declared.alloc.Global.{Global}
 use Rattle.rm_types.specs.declared.entries.Entry.{Entry}
 use Rattle.rm_types.specs.declared.operations.Op.{Op}
 use Rattle.rm_types.specs.declared.outcomes.Outcome.{Outcome}
@@ -22,11 +23,17 @@ use Rattle.rm_cluster.specs.declared.clusters.ClusterError.TheVariants.{Refused}
 use Rattle.rm_script.specs.Refusals.{IsFirstRefused}
 use Rattle.rm_script.specs.Scripts.{IsScript}
 use Rattle.rm_plain.specs.Falls.{falls_of}
+use Rattle.rm_core.specs.Words.{new_manager}
+use Rattle.rm_plain.specs.Policy.{run_after}
+use Rattle.rm_plain.specs.Schedule.{MovesBy, StopsAt, left_after, steps_of}
 use Rattle.rm_plain.specs.Stops.{IsDue, IsNoStore, IsStoppedBy}
-use Rattle.rm_plain.specs.declared.halts.Stop.TheVariants as stops
+use Rattle.rm_plain.specs.declared.halts.Stop.TheVariants as halted
+use Rattle.rm_soak.specs.Lines.{soak_page}
+use Rattle.rm_soak.specs.Scripts.{soak_of}
+use Rattle.rm_soak.specs.Settings.{soak_settings}
 use Rattle.rm_store.specs.Store.{seen}
 use Rattle.rm_main.specs.Laws.{MeetsLaws}
-use Rattle.rm_main.specs.Words.{Asked, Run, Listing}
+use Rattle.rm_main.specs.Words.{Asked, Run, Listing, Soak}
 
 -- what a shelf tells of each name
 abbrev pub Told : Type 0
@@ -48,6 +55,11 @@ pub record IsScriptOf (told : Option (List ℕ)) (script : Script) : Type 0 wher
   pub read : WereRead told bytes
   pub spelled : IsScript bytes script
 
+-- the bytes are those that were read of a schedule; without one there are none
+abbrev pub AreMoves : Told → Option (List ℕ) → List ℕ → Type 0
+AreMoves told None bytes = bytes ≡ []
+AreMoves told (Some schedule) bytes = WereRead (told schedule) bytes
+
 -- the bytes that were read of a file break a rule of the cluster file, and this is the first one's place
 pub record HasNoSettings (told : Option (List ℕ)) (place : ℕ) : Type 0 where
   pub bytes : List ℕ
@@ -67,13 +79,14 @@ pub record Made (D : Type 0) : Type 0 where
   pub before : Fused D
   pub after : Fused D
 
--- why the device or the store stopped a run, by its outcome
-abbrev pub IsCausedBy : {D : Type 0} → (D → DiskView) → Type 0 → Made D → Outcome → Type 0
-IsCausedBy view due made DiskFault = IsStoppedBy view due made.before made.after made.opening made.log stops.DiskFault
-IsCausedBy view due made (StoreDamaged offset) = IsStoppedBy view due made.before made.after made.opening made.log (stops.Damaged offset)
-IsCausedBy view due made (StoreFull needed room) = IsStoppedBy view due made.before made.after made.opening made.log (stops.Full needed room)
-IsCausedBy view due made EpochsSpent = IsStoppedBy view due made.before made.after made.opening made.log stops.EpochsSpent
-IsCausedBy view due made _ = Unit {0}
+-- why the device, the store or the schedule stopped a run, by its outcome
+abbrev pub IsCausedBy : {D : Type 0} → (D → DiskView) → Type 0 → (ℕ → Type 0) → Made D → Outcome → Type 0
+IsCausedBy view due stops made DiskFault = IsStoppedBy view due stops made.before made.after made.opening made.log halted.DiskFault
+IsCausedBy view due stops made (StoreDamaged offset) = IsStoppedBy view due stops made.before made.after made.opening made.log (halted.Damaged offset)
+IsCausedBy view due stops made (StoreFull needed room) = IsStoppedBy view due stops made.before made.after made.opening made.log (halted.Full needed room)
+IsCausedBy view due stops made (ScheduleRefused place) = IsStoppedBy view due stops made.before made.after made.opening made.log (halted.Schedule place)
+IsCausedBy view due stops made EpochsSpent = IsStoppedBy view due stops made.before made.after made.opening made.log halted.EpochsSpent
+IsCausedBy view due stops made _ = Unit {0}
 
 -- what a listing shows, by its outcome: the disk inside the fuse counted a fault, or it holds no store, and then nothing is
 -- listed; or it holds what is listed
@@ -83,24 +96,30 @@ IsListed view made (StoreDamaged offset) = (made.opening ≡ []) × Tells (seen 
 IsListed view made Done = Tells (seen view made.before) (λ bytes. Holds bytes made.opening)
 IsListed view made _ = Unit {0}
 
--- a run was made: it was asked for by the names of two files; the log is lawful for the settings and the script that these
--- hold, over the opening list, and so meets the laws; lives went down at rest, and each that went down let the device fall once more; where the
--- outcome is Done the run came to its end, and where the device or the store stopped it, it had its cause; a script without
--- lives makes no call of the device
+-- what a run is made from: the settings, the script and the schedule that the named files hold, or those of a soak, which has no schedule
+abbrev pub AreInputs : Told → Option Asked → Settings → Script → List ℕ → Type 0
+AreInputs told (Some (Run cluster_file script_file schedule_file)) settings script schedule =
+    AreSettings (told cluster_file) settings × IsScriptOf (told script_file) script × AreMoves told schedule_file schedule
+AreInputs told (Some (Soak number)) settings script schedule = (settings ≡ soak_settings) × (script ≡ soak_of number) × (schedule ≡ [])
+AreInputs told _ settings script schedule = ⊥
+
+-- a run was made from what was asked for: the log is lawful for these settings and this script, over the opening list, and so meets the laws; each move was of the lane that the schedule's letter or, after the last one, the plain policy says; without a schedule
+-- lives went down at rest; each that went down let the device fall once more; where the outcome is Done the run came to its end and used up the
+-- schedule, and where the device, the store or the schedule stopped it, it had its cause; a script without lives makes no call of the device
 pub record Ran {D : Type 0} (view : D → DiskView) (told : Told) (asked : Option Asked) (made : Made D) (outcome : Outcome) : Type 0 where
-  pub cluster_file : List ℕ
-  pub script_file : List ℕ
-  pub asks : asked ≡ Some (Run cluster_file script_file)
   pub settings : Settings
-  pub of_cluster : AreSettings (told cluster_file) settings
   pub script : Script
-  pub of_script : IsScriptOf (told script_file) script
+  pub schedule : List ℕ
+  pub inputs : AreInputs told asked settings script schedule
   pub lawful : Lawful settings script made.opening made.log
   pub laws : MeetsLaws made.opening made.log
-  pub downs : AllGoDownAtRest settings (opening_state made.opening) made.log
+  pub alloc : Global
+  pub moves : MovesBy (steps_of schedule) (new_manager alloc settings) script made.opening made.log
+  pub used_up : outcome ≡ Done → left_after (steps_of schedule) made.log ≡ []
+  pub downs : steps_of schedule ≡ [] → AllGoDownAtRest settings (opening_state made.opening) made.log
   pub fallen : made.after.falls ≡ made.before.falls ++ falls_of script made.opening made.log
   pub done : outcome ≡ Done → IsDone settings script made.opening made.log
-  pub caused : IsCausedBy view (IsDue script made.opening made.log) made outcome
+  pub caused : IsCausedBy view (IsDue script made.opening made.log) (StopsAt (left_after (steps_of schedule) made.log) (run_after (new_manager alloc settings) script made.opening made.log)) made outcome
   pub idle : script.lives ≡ [] → (made.log ≡ []) × (made.after ≡ made.before)
 
 -- nothing was run, and the device did not fall
@@ -112,7 +131,14 @@ pub record RanNothing {D : Type 0} (made : Made D) : Type 0 where
 pub record WasToRun {D : Type 0} (asked : Option Asked) (made : Made D) : Type 0 where
   pub cluster_file : List ℕ
   pub script_file : List ℕ
-  pub asks : asked ≡ Some (Run cluster_file script_file)
+  pub schedule_file : Option (List ℕ)
+  pub asks : asked ≡ Some (Run cluster_file script_file schedule_file)
+  pub nothing : RanNothing made
+
+-- a soak was asked for, and nothing was run
+pub record WasToSoak {D : Type 0} (asked : Option Asked) (made : Made D) : Type 0 where
+  pub number : ℕ
+  pub asks : asked ≡ Some (Soak number)
   pub nothing : RanNothing made
 
 -- a listing was asked for, and nothing was run
@@ -125,7 +151,8 @@ pub record WasToList {D : Type 0} (view : D → DiskView) (asked : Option Asked)
 pub record RefusedCluster {D : Type 0} (told : Told) (asked : Option Asked) (made : Made D) (place : ℕ) : Type 0 where
   pub cluster_file : List ℕ
   pub script_file : List ℕ
-  pub asks : asked ≡ Some (Run cluster_file script_file)
+  pub schedule_file : Option (List ℕ)
+  pub asks : asked ≡ Some (Run cluster_file script_file schedule_file)
   pub refused : HasNoSettings (told cluster_file) place
   pub nothing : RanNothing made
 
@@ -133,7 +160,8 @@ pub record RefusedCluster {D : Type 0} (told : Told) (asked : Option Asked) (mad
 pub record RefusedScript {D : Type 0} (told : Told) (asked : Option Asked) (made : Made D) (line : ℕ) : Type 0 where
   pub cluster_file : List ℕ
   pub script_file : List ℕ
-  pub asks : asked ≡ Some (Run cluster_file script_file)
+  pub schedule_file : Option (List ℕ)
+  pub asks : asked ≡ Some (Run cluster_file script_file schedule_file)
   pub settings : Settings
   pub of_cluster : AreSettings (told cluster_file) settings
   pub refused : HasNoScript (told script_file) line
@@ -147,16 +175,21 @@ Ends view told asked made ReadFault = WasToRun asked made
 Ends view told asked made (WriteFault took_nothing) = Ran view told asked made (WriteFault took_nothing) ⊎ WasToList view asked made (WriteFault took_nothing)
 Ends view told asked made (ClusterRefused place) = RefusedCluster told asked made place
 Ends view told asked made (ScriptRefused line) = RefusedScript told asked made line
-Ends view told asked made (ScheduleRefused place) = ⊥
+Ends view told asked made (ScheduleRefused place) = Ran view told asked made (ScheduleRefused place)
 Ends view told asked made DiskFault = Ran view told asked made DiskFault ⊎ WasToList view asked made DiskFault
 Ends view told asked made (StoreDamaged offset) = Ran view told asked made (StoreDamaged offset) ⊎ WasToList view asked made (StoreDamaged offset)
 Ends view told asked made (StoreFull needed room) = Ran view told asked made (StoreFull needed room)
 Ends view told asked made EpochsSpent = Ran view told asked made EpochsSpent
-Ends view told asked made Memory = Ran view told asked made Memory ⊎ (WasToList view asked made Memory ⊎ WasToRun asked made)
+Ends view told asked made Memory = Ran view told asked made Memory ⊎ (WasToList view asked made Memory ⊎ (WasToRun asked made ⊎ WasToSoak asked made))
 
--- which files were read: of a run the cluster file, or it and then the script's file; else none
+-- which were read behind the cluster file
+abbrev pub AreReadBehind : {F : Type 0} → (List ℕ → F → F → Type 0) → List ℕ → Option (List ℕ) → F → F → Type 0
+AreReadBehind reads script None old new = reads script old new
+AreReadBehind {F = F} reads script (Some schedule) old new = reads script old new ⊎ ((mid : F) × reads script old mid × reads schedule mid new)
+
+-- which files were read: of a run the cluster file, or it and then the script's file, or these and then that of the schedule, if there is one; else none
 abbrev pub AreRead : {F : Type 0} → (List ℕ → F → F → Type 0) → Option Asked → F → F → Type 0
-AreRead {F = F} reads (Some (Run cluster script)) old new = reads cluster old new ⊎ ((mid : F) × reads cluster old mid × reads script mid new)
+AreRead {F = F} reads (Some (Run cluster script schedule)) old new = reads cluster old new ⊎ ((mid : F) × reads cluster old mid × AreReadBehind reads script schedule mid new)
 AreRead reads _ old new = new ≡ old
 
 -- the outcome of a call that stopped before it used the device
@@ -167,8 +200,9 @@ StopsBefore (ClusterRefused place) = Unit {0}
 StopsBefore (ScriptRefused line) = Unit {0}
 StopsBefore _ = ⊥
 
--- what a call has to write: the page of its log, with the moves or without, or what the store keeps
+-- what a call has to write: the page of its log, with the moves or without; the line of a soak; or what the store keeps
 abbrev pub page_for : Bool → Option Asked → List Op → List Entry → List ℕ
+page_for moves (Some (Soak number)) opening log = soak_page number log
 page_for moves (Some Listing) opening log = store_page opening
 page_for moves _ opening log = page log moves
 
@@ -176,7 +210,7 @@ page_for moves _ opening log = page log moves
 abbrev pub AppendsPrefix : Option (List ℕ) → Option (List ℕ) → List ℕ → Type 0
 AppendsPrefix old new bytes = (n : ℕ) × (n ≤ length bytes) × Appends old new (take n bytes)
 
--- what the sink took in the call: the page, where the call is Done or its store stopped it; a part of it, where the sink
+-- what the sink took in the call: the page, where the call is Done or its store or its schedule stopped it; a part of it, where the sink
 -- failed; a beginning of it, or all of it, where memory ran out; and else nothing
 abbrev pub Writes : Outcome → Option (List ℕ) → Option (List ℕ) → List ℕ → Type 0
 Writes Done old new bytes = Appends old new bytes
@@ -184,6 +218,7 @@ Writes (WriteFault took_nothing) old new bytes = AppendsPart old new bytes
 Writes DiskFault old new bytes = Appends old new bytes
 Writes (StoreDamaged offset) old new bytes = Appends old new bytes
 Writes (StoreFull needed room) old new bytes = Appends old new bytes
+Writes (ScheduleRefused place) old new bytes = Appends old new bytes
 Writes EpochsSpent old new bytes = Appends old new bytes
 Writes Memory old new bytes = AppendsPrefix old new bytes
 Writes _ old new bytes = Appends old new []

@@ -1,7 +1,7 @@
 -- The outcomes that a call and the writing of its page may have.
 use Rattle.std.specs.Prelude.{Result, Ok, Err}
 use Rattle.rm_types.specs.declared.outcomes.Outcome.{Outcome}
-use Rattle.rm_types.specs.declared.outcomes.Outcome.TheVariants.{Done, WriteFault, DiskFault, StoreDamaged, StoreFull, EpochsSpent, Memory}
+use Rattle.rm_types.specs.declared.outcomes.Outcome.TheVariants.{Done, WriteFault, ScheduleRefused, DiskFault, StoreDamaged, StoreFull, EpochsSpent, Memory}
 use Rattle.rm_plain.specs.declared.halts.Stop.{Stop}
 use Rattle.rm_plain.specs.declared.halts.Stop.TheVariants as stops
 
@@ -23,6 +23,7 @@ abbrev pub outcome_of_stop : Stop → Outcome
 outcome_of_stop stops.DiskFault = DiskFault
 outcome_of_stop (stops.Damaged offset) = StoreDamaged offset
 outcome_of_stop (stops.Full needed room) = StoreFull needed room
+outcome_of_stop (stops.Schedule place) = ScheduleRefused place
 outcome_of_stop stops.EpochsSpent = EpochsSpent
 outcome_of_stop stops.Memory = Memory
 
@@ -40,4 +41,5 @@ outcome_of (Err stop) written = outcome_stopped stop written
 abbrev pub IsOfRun : Outcome → Type 0
 IsOfRun EpochsSpent = Unit {0}
 IsOfRun (StoreFull needed room) = Unit {0}
+IsOfRun (ScheduleRefused place) = Unit {0}
 IsOfRun outcome = IsOfListing outcome

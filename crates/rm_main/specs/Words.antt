@@ -1,19 +1,31 @@
 -- The words of the program. This project's own.
-use Rattle.std.specs.Prelude.{ℕ, List, [], ◌∷◌, filter, Bool, false, ◌&&◌, ◌||◌, not, ◌==◌, nat_lt, Option, None, Some, if◌then◌else◌, codes}
+use Rattle.std.specs.Prelude.{ℕ, List, [], ◌∷◌, filter, Bool, false, ◌&&◌, ◌||◌, not, ◌==◌, nat_lt, Option, None, Some, option_map, if◌then◌else◌, codes}
 use Rattle.std.specs.List.{count_by}
 use Rattle.std.specs.Str.{bytes_eq}
+use Rattle.rm_types.specs.Ranges.{IsWithin}
+use Rattle.rm_script.specs.Numbers.{number_in}
+use Rattle.rm_soak.specs.Limits.{most_soaked}
 use Rattle.rm_main.specs.declared.words.Mode.{Mode}
 use Rattle.rm_main.specs.declared.words.Mode.TheVariants as modes
 
--- what the words ask for: a run of a script under a cluster file, by the names of the two files, or what the store keeps
+-- what the words ask for: a run of a script under a cluster file, by the names of the two files and, where its moves are told, of that of
+-- their schedule; a soak of so many applications; or what the store keeps
 pub data Asked : Type 0 where
-  Run : (cluster script : List ℕ) → Asked
+  Run : (cluster script : List ℕ) (schedule : Option (List ℕ)) → Asked
+  Soak : (number : ℕ) → Asked
   Listing : Asked
 
 -- a mode as it is asked for, with names as lists of bytes
 abbrev pub asked : Mode → Asked
-asked (modes.Plain cluster script) = Run cluster.now script.now
+asked (modes.Plain cluster script) = Run cluster.now script.now None
+asked (modes.Replay cluster script schedule) = Run cluster.now script.now (Some schedule.now)
+asked (modes.Soak number) = Soak number
 asked modes.Store = Listing
+
+-- a soak is of at least one application, and of no more than the most
+abbrev pub IsWithinSoak : Mode → Type 0
+IsWithinSoak (modes.Soak number) = IsWithin 1 most_soaked number
+IsWithinSoak mode = Unit {0}
 
 -- a word that begins with `-`
 abbrev pub is_flag : List ℕ → Bool
@@ -44,9 +56,13 @@ has_flags words = (count_by is_unknown words == 0) && (stands_once (codes "--fil
 abbrev pub shows_moves : List (List ℕ) → Bool
 shows_moves words = not (times (codes "--moves") words == 0)
 
--- what names ask for: `plain` and two others a run, and `store` alone, which has no moves, a listing
+-- what names ask for: `plain` and two others a run, `replay` and three others one by a schedule, `soak` and a number, from 1 to the most and with no
+-- zero before it, a soak, and `store` alone a listing; these two have no moves
 abbrev pub asked_by : Bool → List (List ℕ) → Option Asked
-asked_by moves (mode ∷ cluster ∷ script ∷ []) = if bytes_eq mode (codes "plain") then Some (Run cluster script) else None
+asked_by moves (mode ∷ cluster ∷ script ∷ schedule ∷ []) = if bytes_eq mode (codes "replay") then Some (Run cluster script (Some schedule)) else None
+asked_by moves (mode ∷ cluster ∷ script ∷ []) = if bytes_eq mode (codes "plain") then Some (Run cluster script None) else None
+asked_by moves (mode ∷ number ∷ []) =
+    if bytes_eq mode (codes "soak") && not moves then option_map (λ n. Soak n) (number_in 1 most_soaked number) else None
 asked_by moves (mode ∷ []) = if bytes_eq mode (codes "store") && not moves then Some Listing else None
 asked_by moves _ = None
 

@@ -3,9 +3,9 @@ ghost use Rattle.rm_types.specs.Counts.{Rose};
 ghost use Rattle.rm_queues.specs.Rules.{KeepsRules};
 ghost use Rattle.rm_moves.specs.Messages.{KeepsLimits};
 ghost use Rattle.rm_desk.specs.Scripts.{CanGoAlong};
-ghost use Rattle.rm_main.specs.Runs.{AreRead, AreSettings, IsScriptOf};
-ghost use Rattle.rm_main.specs.Words.{Run};
-ghost use Rattle.rm_main.specs.Inputs.{StopsAtCluster, StopsAtScript, StopsEarly};
+ghost use Rattle.std.specs.Option.{option_copied};
+ghost use Rattle.rm_main.specs.Runs.{AreMoves, AreRead, AreSettings, IsScriptOf, WereRead};
+ghost use Rattle.rm_main.specs.Inputs.{IsOneMore, IsUnread, StopsAtCluster, StopsAtScript, StopsEarly, asked_of};
 
 use rm_cluster::{ClusterError, read_cluster};
 use rm_outside::{Shelf, ShelfError};
@@ -42,7 +42,9 @@ fn read_lives<F: Shelf>(alloc: Global, shelf: &mut F, name: &str) -> Result<Scri
     ensures can_run { IfOk result CanGoAlong }
     ensures refused { IfErr result (StopsAtScript (F.bytes_of shelf.old name.now)) }
     ensures one { F.reads name.now shelf.old shelf.new }
+    ensures told { F.bytes_of shelf.new ≡ F.bytes_of shelf.old }
     ensures fault { result ≡ Err Outcome.ReadFault → Rose (F.faults shelf.old) (F.faults shelf.new) }
+    ensures quiet { OnOk result (F.faults shelf.new ≡ F.faults shelf.old) }
 {
     let bytes = match shelf.read(name) {
         Ok(bytes) => bytes,
@@ -56,24 +58,78 @@ fn read_lives<F: Shelf>(alloc: Global, shelf: &mut F, name: &str) -> Result<Scri
     }
 }
 
-/// Reads the settings and the script of two files, the settings first, and no other file. A refusal is the
-/// outcome that it makes.
+/// Reads the schedule of a file, whatever its bytes are. A refusal is the outcome that it makes.
+fn read_moves<F: Shelf>(shelf: &mut F, name: &str) -> Result<Vec<u8>, Outcome>
+    ensures read { IfOk result (λ bytes. WereRead (F.bytes_of shelf.old name.now) bytes.items) }
+    ensures refused { IfErr result IsUnread }
+    ensures one { F.reads name.now shelf.old shelf.new }
+    ensures fault { result ≡ Err Outcome.ReadFault → Rose (F.faults shelf.old) (F.faults shelf.new) }
+{
+    match shelf.read(name) {
+        Ok(bytes) => Ok(bytes),
+        Err(ShelfError::Failed) => Err(Outcome::ReadFault),
+        Err(ShelfError::Memory) => Err(Outcome::Memory),
+    }
+}
+
+/// The names of the files that a run is to read.
+#[derive(Clone, Copy, Debug)]
+pub struct Files<'a> {
+    pub cluster: &'a str,
+    pub script: &'a str,
+    /// That of the schedule, where the moves are told.
+    pub schedule: Option<&'a str>,
+}
+
+/// What a run is made from.
+#[derive(Drop)]
+pub struct Inputs {
+    pub settings: Settings,
+    pub script: Script,
+    /// The bytes of the schedule; none where the moves aren't told.
+    pub schedule: Vec<u8>,
+}
+
+/// Reads the schedule, if there is one.
+fn read_schedule<F: Shelf>(
+    alloc: Global,
+    shelf: &mut F,
+    schedule: Option<&str>,
+) -> Result<Vec<u8>, Outcome>
+    ensures read { IfOk result (λ bytes. AreMoves (F.bytes_of shelf.old) (option_copied schedule.entry) bytes.items) }
+    ensures refused { IfErr result IsUnread }
+    ensures one { IsOneMore F.reads (option_copied schedule.entry) shelf.old shelf.new }
+    ensures fault { result ≡ Err Outcome.ReadFault → Rose (F.faults shelf.old) (F.faults shelf.new) }
+{
+    match schedule {
+        Some(name) => read_moves(shelf, name),
+        None => Ok(Vec::new(alloc)),
+    }
+}
+
+/// Reads the settings, the script and the schedule of a run, in this order, and no other file. A refusal is the outcome that
+/// it makes.
 pub fn read_inputs<F: Shelf>(
     alloc: Global,
     shelf: &mut F,
-    cluster: &str,
-    script: &str,
-) -> Result<(Settings, Script), Outcome>
-    ensures settings { IfOk result (λ inputs. AreSettings (F.bytes_of shelf.old cluster.now) inputs.0) }
-    ensures queues { IfOk result (λ inputs. KeepsRules inputs.0) }
-    ensures limits { IfOk result (λ inputs. KeepsLimits inputs.0) }
-    ensures script { IfOk result (λ inputs. IsScriptOf (F.bytes_of shelf.old script.now) inputs.1) }
-    ensures can_run { IfOk result (λ inputs. CanGoAlong inputs.1) }
-    ensures refused { IfErr result (StopsEarly (F.bytes_of shelf.old) cluster.now script.now) }
-    ensures order { AreRead F.reads (Some (Run cluster.now script.now)) shelf.old shelf.new }
+    files: Files<'_>,
+) -> Result<Inputs, Outcome>
+    ensures settings { IfOk result (λ inputs. AreSettings (F.bytes_of shelf.old files.entry.cluster.now) inputs.settings) }
+    ensures queues { IfOk result (λ inputs. KeepsRules inputs.settings) }
+    ensures limits { IfOk result (λ inputs. KeepsLimits inputs.settings) }
+    ensures script { IfOk result (λ inputs. IsScriptOf (F.bytes_of shelf.old files.entry.script.now) inputs.script) }
+    ensures can_run { IfOk result (λ inputs. CanGoAlong inputs.script) }
+    ensures schedule { IfOk result (λ inputs. AreMoves (F.bytes_of shelf.old) (option_copied files.entry.schedule) inputs.schedule.items) }
+    ensures refused { IfErr result (StopsEarly (F.bytes_of shelf.old) files.entry.cluster.now files.entry.script.now) }
+    ensures order { AreRead F.reads (Some (asked_of files.entry)) shelf.old shelf.new }
     ensures fault { result ≡ Err Outcome.ReadFault → Rose (F.faults shelf.old) (F.faults shelf.new) }
 {
-    let settings = read_settings(alloc, shelf, cluster)?;
-    let script = read_lives(alloc, shelf, script)?;
-    Ok((settings, script))
+    let settings = read_settings(alloc, shelf, files.cluster)?;
+    let script = read_lives(alloc, shelf, files.script)?;
+    let schedule = read_schedule(alloc, shelf, files.schedule)?;
+    Ok(Inputs {
+        settings,
+        script,
+        schedule,
+    })
 }

@@ -2,9 +2,9 @@
 //! writes the page of the run to standard output; or it writes what the device's store keeps.
 //!
 //! `top_plain` is the call that does this, over any shelf, sink and device; `main` hands it the system's files, the
-//! standard output and a device of 4 MiB: an empty one in memory, or that in the file `rm.store`. It promises that the log of a run is lawful for
-//! the settings and the script of these files and for what the device held, that what was written is the
-//! log's page or a beginning of it, that a run that is Done has come to its script's end with nothing owed,
+//! standard output and a device of 4 MiB: an empty one in memory, or that in the file `rm.store`. It promises that
+//! the log of a run is lawful for the settings and the script of these files and for what the device held, that its moves
+//! are those of the schedule and then the plain policy's, that what was written is the log's page or a beginning of it, that a run that is Done has come to its script's end with nothing owed,
 //! that at each moment of a run, also of one that was stopped, a crash leaves what is kept, or this and the
 //! operation that awaits, and that a run that nothing stands in the way of is Done or finds no memory.
 //!
@@ -53,7 +53,7 @@ fn words_of<R: Env + AllocGlobal>(rt: &R) -> io::Result<Vec<String>> {
 
 /// What a call came to, for the texts about it.
 #[derive(Drop)]
-struct Came {
+struct Call {
     outcome: Outcome,
     /// How many files were read whole.
     answered: u64,
@@ -62,7 +62,7 @@ struct Came {
 }
 
 /// What the program does by these words over a device, which is given back.
-fn run_over<D: Disk>(rt: HostRuntime, words: &[String], device: D) -> (Came, D) {
+fn run_over<D: Disk>(rt: HostRuntime, words: &[String], device: D) -> (Call, D) {
     let alloc = rt.alloc();
     let mut shelf = FileShelf::new(rt);
     let mut sink = OutSink::new(rt);
@@ -78,20 +78,20 @@ fn run_over<D: Disk>(rt: HostRuntime, words: &[String], device: D) -> (Came, D) 
         &mut sink,
         Fuse::new(alloc, device),
     );
-    let came = Came {
+    let call = Call {
         outcome,
         answered: shelf.answered(),
         fault: String::new(alloc),
     };
-    (came, disk.inner())
+    (call, disk.inner())
 }
 
 /// What it does over a new device in memory.
-fn run_in_memory(rt: HostRuntime, words: &[String]) -> Came {
+fn run_in_memory(rt: HostRuntime, words: &[String]) -> Call {
     let alloc = rt.alloc();
     match MemDisk::new(alloc, DEVICE_SIZE, Items::new(alloc)) {
         Ok(device) => run_over(rt, words, device).0,
-        Err(NoMemory) => Came {
+        Err(NoMemory) => Call {
             outcome: Outcome::Memory,
             answered: 0,
             fault: String::new(alloc),
@@ -100,14 +100,14 @@ fn run_in_memory(rt: HostRuntime, words: &[String]) -> Came {
 }
 
 /// What it does over the device in the store's file, which is made where there is none.
-fn run_in_file(rt: HostRuntime, words: &[String]) -> Came {
-    let (mut came, device) = run_over(rt, words, FileDisk::new(&rt, STORE_FILE));
+fn run_in_file(rt: HostRuntime, words: &[String]) -> Call {
+    let (mut call, device) = run_over(rt, words, FileDisk::new(&rt, STORE_FILE));
     if let Some(fault) = device.last_fault() {
         if let Ok(text) = format!(in rt.alloc(); "{STORE_FILE}: {fault}") {
-            came.fault = text;
+            call.fault = text;
         }
     }
-    came
+    call
 }
 
 /// What the program does by the words behind its path; it tells on standard error what stopped it.
@@ -116,14 +116,16 @@ fn run_by(rt: HostRuntime, all: &[String]) -> Outcome {
         Some((first, rest)) => (first.as_str(), rest),
         None => (PROGRAM, all),
     };
-    let came = if is_in_file(words) {
+    let call = if is_in_file(words) {
         run_in_file(rt, words)
     } else {
         run_in_memory(rt, words)
     };
-    let (outcome, fault) = (came.outcome, came.fault.as_str());
+    let (outcome, answered, fault) = (call.outcome, call.answered, call.fault.as_str());
     let cluster = name_at(words, 1);
     let script = name_at(words, 2);
+    let schedule = name_at(words, 3);
+    let unread = name_at(words, (answered.min(2) + 1) as usize);
     let hint = match outcome {
         Outcome::ClusterRefused { place } => cluster_hint(place),
         Outcome::ScriptRefused { line } => script_hint(&rt, script, line),
@@ -134,7 +136,8 @@ fn run_by(rt: HostRuntime, all: &[String]) -> Outcome {
         program: path,
         cluster,
         script,
-        unread: if came.answered == 0 { cluster } else { script },
+        schedule,
+        unread,
         hint,
     };
     explain(&rt, outcome, told);
@@ -154,6 +157,7 @@ fn main(rt: HostRuntime) -> ExitCode {
                 program: PROGRAM,
                 cluster: "",
                 script: "",
+                schedule: "",
                 unread: "",
                 hint: "",
             };

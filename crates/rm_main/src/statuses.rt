@@ -28,9 +28,10 @@ pub fn status_of(outcome: Outcome) -> u8
 pub struct Told<'a> {
     /// The program's path, as it was called.
     pub program: &'a str,
-    /// The names of the cluster file and of the script's, empty where the words don't have them.
+    /// The names of the cluster file, of the script's and of the schedule's, empty where the words don't have them.
     pub cluster: &'a str,
     pub script: &'a str,
+    pub schedule: &'a str,
     /// The file that could not be read.
     pub unread: &'a str,
     /// What should stand in the place of what was refused, or why the device failed.
@@ -44,13 +45,14 @@ pub fn explain<R: Eprint>(rt: &R, outcome: Outcome, told: Told<'_>) {
         program,
         cluster,
         script,
+        schedule,
         unread,
         hint,
     } = told;
     let _ = match outcome {
         Outcome::Done => return,
         Outcome::Usage => eprintln!(rt;
-            "{program}: usage: {program} plain CLUSTER SCRIPT [--file] [--moves] | {program} store [--file]"
+            "{program}: usage: {program} plain CLUSTER SCRIPT [--file] [--moves] | {program} replay CLUSTER SCRIPT SCHEDULE [--file] [--moves] | {program} soak N [--file] | {program} store [--file]"
         ),
         Outcome::ReadFault => eprintln!(rt; "{program}: the file could not be read: {unread}"),
         Outcome::WriteFault {
@@ -65,6 +67,9 @@ pub fn explain<R: Eprint>(rt: &R, outcome: Outcome, told: Told<'_>) {
         Outcome::ScriptRefused { line } => eprintln!(rt;
             "{program}: the script {script} is refused at line {line}: {hint}"
         ),
+        Outcome::ScheduleRefused { place } => eprintln!(rt;
+            "{program}: the schedule {schedule} is refused at byte {place}: expected the letter of a lane that is ready"
+        ),
         other => return explain_device(rt, other, program, hint),
     };
 }
@@ -72,9 +77,6 @@ pub fn explain<R: Eprint>(rt: &R, outcome: Outcome, told: Told<'_>) {
 /// The same of what the device, its store or memory stopped.
 fn explain_device<R: Eprint>(rt: &R, outcome: Outcome, program: &str, fault: &str) {
     let _ = match outcome {
-        Outcome::ScheduleRefused { place } => eprintln!(rt;
-            "{program}: the schedule is refused at byte {place}"
-        ),
         Outcome::DiskFault if fault.is_empty() => eprintln!(rt;
             "{program}: the store's device failed"
         ),

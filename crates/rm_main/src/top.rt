@@ -1,4 +1,4 @@
-ghost use Rattle.std.specs.Prelude.{◌≡◌, ◌≢◌, ◌⊎◌, ◌++◌, [], map, string_bytes, false, true, None, Some};
+ghost use Rattle.std.specs.Prelude.{◌≡◌, ◌≢◌, ◌⊎◌, ◌++◌, ◌≤◌, IfOk, [], map, string_bytes, false, true, None, Some};
 ghost use Rattle.rm_disk.specs.Disk.{IsQuiet, Tells};
 ghost use Rattle.rm_formats.specs.Device.{Holds};
 ghost use Rattle.rm_model.specs.Downs.{AllGoDownAtRest};
@@ -11,24 +11,34 @@ ghost use Rattle.rm_plain.specs.Falls.{falls_of};
 ghost use Rattle.rm_types.specs.Records.{records};
 ghost use Rattle.rm_queues.specs.Rules.{KeepsRules};
 ghost use Rattle.rm_moves.specs.Messages.{KeepsLimits};
+ghost use Rattle.rm_core.specs.Words.{new_manager};
+ghost use Rattle.rm_plain.specs.Policy.{run_after};
+ghost use Rattle.rm_plain.specs.Schedule.{MovesBy, StopsAt, left_after, steps_of};
 ghost use Rattle.rm_plain.specs.Starts.{DiskStays, IsAtEase};
 ghost use Rattle.rm_plain.specs.Stops.{IsDue};
 ghost use Rattle.rm_plain.specs.Survives.{SurvivesAll, SurvivesNow};
 ghost use Rattle.rm_store.specs.Store.{seen};
-ghost use Rattle.rm_main.specs.Complete.{HasPlace, IsAccepted, NoneRose};
+ghost use Rattle.rm_main.specs.Complete.{HasPlace, IsAccepted, IsFollowed, NoneRose};
+ghost use Rattle.rm_main.specs.Inputs.{asked_of};
 ghost use Rattle.rm_main.specs.Laws.{MeetsLaws};
-ghost use Rattle.rm_main.specs.Runs.{AreRead, Ends, IsCausedBy, IsListed, StopsBefore, Writes, page_for};
+ghost use Rattle.rm_main.specs.Runs.{AreRead, Ends, IsCausedBy, IsListed, StopsBefore, Told, Writes, page_for};
+ghost use Rattle.rm_main.specs.Shown.{shown_in};
+ghost use Rattle.rm_soak.specs.Limits.{most_soaked};
+ghost use Rattle.rm_soak.specs.Lines.{soak_page};
+ghost use Rattle.rm_soak.specs.Scripts.{soak_of};
+ghost use Rattle.rm_soak.specs.Settings.{soak_settings};
 ghost use Rattle.rm_main.specs.Ways.{IsOfListing, IsOfRun};
-ghost use Rattle.rm_main.specs.Words.{Run, Listing, mode_of, shows_moves};
+ghost use Rattle.rm_main.specs.Words.{Listing, Soak, mode_of, shows_moves};
 
-use crate::inputs::read_inputs;
+use crate::inputs::{Files, Inputs, read_inputs};
 use crate::listing::list_store;
 use crate::words::{Mode, mode_of, shows_moves};
-use crate::writing::{outcome_of, write_page, write_store};
+use crate::writing::{Shown, outcome_of, write_shown, write_store};
 use rm_disk::{Disk, Fuse};
 use rm_outside::{Shelf, Sink};
 use rm_plain::run_script;
-use rm_types::{Entry, Items, Op, Outcome, Script, Settings};
+use rm_soak::{soak_script, soak_settings};
+use rm_types::{Entry, Items, NoMemory, Op, Outcome};
 use std::alloc::Global;
 
 /// How a call of the program ended, and what it left.
@@ -84,31 +94,32 @@ fn list<K: Sink, D: Disk>(alloc: Global, sink: &mut K, disk: Fuse<D>) -> Ended<D
     }
 }
 
-/// Runs a script and writes the page of its log, with its moves or without.
+/// Makes a run of these inputs and writes what is to be shown of it.
 fn run<K: Sink, D: Disk>(
     alloc: Global,
-    settings: Settings,
-    script: Script,
-    moves: bool,
+    inputs: Inputs,
+    shown: Shown,
     sink: &mut K,
     disk: Fuse<D>,
 ) -> Ended<D>
-    requires script { CanGoAlong script }
-    requires queues { KeepsRules settings }
-    requires limits { KeepsLimits settings }
+    requires script { CanGoAlong inputs.script }
+    requires queues { KeepsRules inputs.settings }
+    requires limits { KeepsLimits inputs.settings }
     requires unarmed { disk.armed ≡ None }
-    ensures lawful { Lawful settings script result.opening result.log }
+    ensures lawful { Lawful inputs.settings inputs.script result.opening result.log }
     ensures laws { MeetsLaws result.opening result.log }
-    ensures done { result.outcome ≡ Outcome.Done → IsDone settings script result.opening result.log }
-    ensures downs { AllGoDownAtRest settings (opening_state result.opening) result.log }
+    ensures done { result.outcome ≡ Outcome.Done → IsDone inputs.settings inputs.script result.opening result.log }
+    ensures moves { MovesBy (steps_of inputs.schedule.items) (new_manager alloc inputs.settings) inputs.script result.opening result.log }
+    ensures used_up { result.outcome ≡ Outcome.Done → left_after (steps_of inputs.schedule.items) result.log ≡ [] }
+    ensures downs { steps_of inputs.schedule.items ≡ [] → AllGoDownAtRest inputs.settings (opening_state result.opening) result.log }
     ensures of_run { IsOfRun result.outcome }
-    ensures causes { IsCausedBy D.view (IsDue script result.opening result.log) (record { opening = result.opening; log = result.log; before = disk; after = result.disk }) result.outcome }
-    ensures writes { Writes result.outcome (K.taken sink.old) (K.taken sink.new) (page result.log moves) }
+    ensures causes { IsCausedBy D.view (IsDue inputs.script result.opening result.log) (StopsAt (left_after (steps_of inputs.schedule.items) result.log) (run_after (new_manager alloc inputs.settings) inputs.script result.opening result.log)) (record { opening = result.opening; log = result.log; before = disk; after = result.disk }) result.outcome }
+    ensures writes { Writes result.outcome (K.taken sink.old) (K.taken sink.new) (shown_in shown result.log) }
     ensures write_fault { result.outcome ≡ Outcome.WriteFault false → Rose (K.faults sink.old) (K.faults sink.new) }
     ensures took_nothing { result.outcome ≡ Outcome.WriteFault true → Rose (K.idle sink.old) (K.idle sink.new) }
-    ensures untouched { page result.log moves ≡ [] → sink.new ≡ sink.old }
-    ensures falls { result.disk.falls ≡ disk.falls ++ falls_of script result.opening result.log }
-    ensures idle { script.lives ≡ [] → (result.log ≡ []) × (result.disk ≡ disk) }
+    ensures untouched { shown_in shown result.log ≡ [] → sink.new ≡ sink.old }
+    ensures falls { result.disk.falls ≡ disk.falls ++ falls_of inputs.script result.opening result.log }
+    ensures idle { inputs.script.lives ≡ [] → (result.log ≡ []) × (result.disk ≡ disk) }
     ensures stays { DiskStays D.view disk result.disk }
     ensures unarmed { result.disk.armed ≡ None }
     ensures unblown { disk.blown ≡ false → result.disk.blown ≡ false }
@@ -118,8 +129,13 @@ fn run<K: Sink, D: Disk>(
     ensures images { SurvivesAll result.opening result.log (seen D.view disk) (seen D.view result.disk) }
     ensures images_now { SurvivesNow result.opening result.log (seen D.view disk) (seen D.view result.disk) }
 {
-    let made = run_script(alloc, settings, script, disk);
-    let written = write_page(alloc, sink, &made.log, moves);
+    let Inputs {
+        settings,
+        script,
+        schedule,
+    } = inputs;
+    let made = run_script(alloc, settings, script, schedule.as_slice(), disk);
+    let written = write_shown(alloc, sink, &made.log, shown);
     Ended {
         outcome: outcome_of(made.ended, written),
         opening: made.opening,
@@ -128,20 +144,18 @@ fn run<K: Sink, D: Disk>(
     }
 }
 
-/// Reads the cluster file and the script by these names, runs the script, and writes the page of the run, with its
-/// moves or without.
-fn plain<F: Shelf, K: Sink, D: Disk>(
+/// Reads the files of a run by their names, makes the run, and writes its page, with its moves or without.
+fn run_files<F: Shelf, K: Sink, D: Disk>(
     alloc: Global,
-    cluster: &str,
-    script: &str,
+    files: Files<'_>,
     moves: bool,
     shelf: &mut F,
     sink: &mut K,
     disk: Fuse<D>,
 ) -> Ended<D>
     requires { disk.armed ≡ None }
-    ensures ends { Ends D.view (F.bytes_of shelf.old) (Some (Run cluster.now script.now)) (record { opening = result.opening; log = result.log; before = disk; after = result.disk }) result.outcome }
-    ensures reads { AreRead F.reads (Some (Run cluster.now script.now)) shelf.old shelf.new }
+    ensures ends { Ends D.view (F.bytes_of shelf.old) (Some (asked_of files.entry)) (record { opening = result.opening; log = result.log; before = disk; after = result.disk }) result.outcome }
+    ensures reads { AreRead F.reads (Some (asked_of files.entry)) shelf.old shelf.new }
     ensures writes { Writes result.outcome (K.taken sink.old) (K.taken sink.new) (page result.log moves) }
     ensures read_fault { result.outcome ≡ Outcome.ReadFault → Rose (F.faults shelf.old) (F.faults shelf.new) }
     ensures write_fault { result.outcome ≡ Outcome.WriteFault false → Rose (K.faults sink.old) (K.faults sink.new) }
@@ -157,30 +171,78 @@ fn plain<F: Shelf, K: Sink, D: Disk>(
     ensures images { SurvivesAll result.opening result.log (seen D.view disk) (seen D.view result.disk) }
     ensures images_now { SurvivesNow result.opening result.log (seen D.view disk) (seen D.view result.disk) }
 {
-    match read_inputs(alloc, shelf, cluster, script) {
-        Ok((settings, script)) => run(alloc, settings, script, moves, sink, disk),
+    match read_inputs(alloc, shelf, files) {
+        Ok(inputs) => run(alloc, inputs, Shown::Page { moves }, sink, disk),
         Err(outcome) => nothing(alloc, outcome, disk),
+    }
+}
+
+/// What a soak of so many applications is made from.
+fn soak_inputs(alloc: Global, number: u32) -> Result<Inputs, NoMemory>
+    requires some { 1 ≤ number }
+    requires few { number ≤ most_soaked }
+    ensures settings { IfOk result (λ inputs. inputs.settings ≡ soak_settings) }
+    ensures queues { IfOk result (λ inputs. KeepsRules inputs.settings) }
+    ensures limits { IfOk result (λ inputs. KeepsLimits inputs.settings) }
+    ensures script { IfOk result (λ inputs. inputs.script ≡ soak_of number) }
+    ensures can_run { IfOk result (λ inputs. CanGoAlong inputs.script) }
+    ensures schedule { IfOk result (λ inputs. inputs.schedule.items ≡ []) }
+{
+    Ok(Inputs {
+        settings: soak_settings(alloc)?,
+        script: soak_script(alloc, number)?,
+        schedule: Vec::new(alloc),
+    })
+}
+
+/// Makes the run of a soak of so many applications, and writes its line.
+fn soak<K: Sink, D: Disk>(alloc: Global, number: u32, sink: &mut K, disk: Fuse<D>) -> Ended<D>
+    requires some { 1 ≤ number }
+    requires few { number ≤ most_soaked }
+    requires unarmed { disk.armed ≡ None }
+    ensures ends { (told : Told) → Ends D.view told (Some (Soak number)) (record { opening = result.opening; log = result.log; before = disk; after = result.disk }) result.outcome }
+    ensures read { result.outcome ≡ Outcome.ReadFault → ⊥ }
+    ensures writes { Writes result.outcome (K.taken sink.old) (K.taken sink.new) (soak_page number result.log) }
+    ensures write_fault { result.outcome ≡ Outcome.WriteFault false → Rose (K.faults sink.old) (K.faults sink.new) }
+    ensures took_nothing { result.outcome ≡ Outcome.WriteFault true → Rose (K.idle sink.old) (K.idle sink.new) }
+    ensures untouched { soak_page number result.log ≡ [] → sink.new ≡ sink.old }
+    ensures unused { StopsBefore result.outcome → result.disk ≡ disk }
+    ensures stays { DiskStays D.view disk result.disk }
+    ensures unarmed { result.disk.armed ≡ None }
+    ensures unblown { disk.blown ≡ false → result.disk.blown ≡ false }
+    ensures opening { result.log ≢ [] → Tells (seen D.view disk) (λ bytes. Holds bytes result.opening) }
+    ensures held { (result.opening ≡ []) ⊎ Tells (seen D.view disk) (λ bytes. Holds bytes result.opening) }
+    ensures quiet { result.log ≡ [] → IsQuiet (seen D.view disk) (seen D.view result.disk) }
+    ensures images { SurvivesAll result.opening result.log (seen D.view disk) (seen D.view result.disk) }
+    ensures images_now { SurvivesNow result.opening result.log (seen D.view disk) (seen D.view result.disk) }
+{
+    match soak_inputs(alloc, number) {
+        Ok(inputs) => run(alloc, inputs, Shown::Line { number }, sink, disk),
+        Err(NoMemory) => nothing(alloc, Outcome::Memory, disk),
     }
 }
 
 /// Does what the words say, over a device under a fuse that isn't armed. `plain CLUSTER SCRIPT` reads the
 /// cluster file and the script by these names, runs the script and writes the page of the run to the sink;
-/// `store` writes what the device's store keeps.
+/// `replay CLUSTER SCRIPT SCHEDULE` does so by the letters of the schedule's file; `soak N` runs a script made from the number N
+/// and writes one line about it; `store` writes what the device's store keeps.
 ///
 /// - `ends`: by the outcome, what was run. The log of a run is lawful for the settings and the script of the
-///   two files, over what the device held; each life that went down did so at rest, unless it was blown, and
-///   let the device fall as its crash says; and the log meets the laws of `rm_laws`. The log is empty where
-///   nothing was run. `Done`: the script is at its end, nothing awaits and nothing is owed. `Usage`: exactly
+///   two files, over what the device held; each move was of the lane that the schedule's letter or, after the last one,
+///   the plain policy says; by `plain` each life that went down did so at rest, unless it was blown; each let the device
+///   fall as its crash says; and the log meets the laws of `rm_laws`. The log is empty where nothing was run. `Done`: the script is at its end, nothing awaits and nothing is owed. `Usage`: exactly
 ///   where the words are of another form. `ClusterRefused` and `ScriptRefused`: exactly where the file, as the
 ///   shelf tells it, breaks a rule or is no script, with the first rule's place or the first line; the cluster
 ///   file is read first. `DiskFault`: the device inside the fuse counted a fault, while a life was due or an
 ///   operation was with the store. `StoreDamaged`: the first life was due, and the device holds no store, at
 ///   the offset of a fault that the store names. `StoreFull`: the operation that is with the store needs more
 ///   than is left behind what is kept. `EpochsSpent`: a life was due, and no epoch or stamp is left. `Memory`
-///   is free. Of a script without lives no call of the device is made.
-/// - `complete`: where the files are accepted, the device holds a store with place for the run, and no count
-///   rises, the outcome is `Done` or `Memory`.
-/// - `reads`: the cluster file was read, and then the script's file, or the first alone; else no file.
+///   is free. `ScheduleRefused`: exactly where a letter of the schedule is reached that is unknown or whose lane isn't
+///   ready, with its byte. Of a script without lives no call of the device is made.
+/// - `complete`: where the files are accepted, the device holds a store with place for the run, each letter of the
+///   schedule is known and ready, and no count rises, the outcome is `Done` or `Memory`.
+/// - `reads`: the cluster file was read, and then the script's file, and then the schedule's, or fewer of them in this
+///   order; else no file.
 ///   `read_fault`: a `ReadFault` comes only where the shelf's count of faults rose; `write_fault` and
 ///   `took_nothing`: a `WriteFault` only where one of the sink's counts did, that of faults, or that of idle
 ///   writes.
@@ -205,6 +267,7 @@ pub fn top_plain<F: Shelf, K: Sink, D: Disk>(
     requires { disk.armed ≡ None }
     ensures ends { Ends D.view (F.bytes_of shelf.old) (mode_of (map string_bytes words.now)) (record { opening = result.opening; log = result.log; before = disk; after = result.disk }) result.outcome }
     ensures complete { IsAccepted (F.bytes_of shelf.old) (mode_of (map string_bytes words.now)) → HasPlace D.view (record { opening = result.opening; log = result.log; before = disk; after = result.disk })
+        → IsFollowed (F.bytes_of shelf.old) (mode_of (map string_bytes words.now)) (record { opening = result.opening; log = result.log; before = disk; after = result.disk })
         → NoneRose (F.faults shelf.old) (F.faults shelf.new) (K.faults sink.old) (K.faults sink.new) (K.idle sink.old) (K.idle sink.new)
         → (result.outcome ≡ Outcome.Done) ⊎ (result.outcome ≡ Outcome.Memory) }
     ensures reads { AreRead F.reads (mode_of (map string_bytes words.now)) shelf.old shelf.new }
@@ -227,16 +290,28 @@ pub fn top_plain<F: Shelf, K: Sink, D: Disk>(
 {
     match mode_of(words) {
         Some(Mode::Plain { cluster, script }) => {
-            plain(
-                alloc,
+            let files = Files {
                 cluster,
                 script,
-                shows_moves(words),
-                shelf,
-                sink,
-                disk,
-            )
+                schedule: None,
+            };
+            run_files(alloc, files, shows_moves(words), shelf, sink, disk)
         }
+        Some(
+            Mode::Replay {
+                cluster,
+                script,
+                schedule,
+            },
+        ) => {
+            let files = Files {
+                cluster,
+                script,
+                schedule: Some(schedule),
+            };
+            run_files(alloc, files, shows_moves(words), shelf, sink, disk)
+        }
+        Some(Mode::Soak { number }) => soak(alloc, number, sink, disk),
         Some(Mode::Store) => list(alloc, sink, disk),
         None => nothing(alloc, Outcome::Usage, disk),
     }

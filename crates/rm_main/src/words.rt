@@ -1,12 +1,31 @@
 ghost use Rattle.std.specs.Prelude.{◌≡◌, [], ◌∷◌, map, string_bytes, true, not, codes, ◌==◌, Some, None, IfSome, IfNone};
 ghost use Rattle.std.specs.List.{count_by};
-ghost use Rattle.rm_main.specs.Words.{asked, asked_by, has_flags, is_flag, is_unknown, mode_of, names, shows_moves, stands_once, times};
+ghost use Rattle.rm_script.specs.Numbers.{number_in};
+ghost use Rattle.rm_soak.specs.Limits.{most_soaked};
+ghost use Rattle.rm_types.specs.Ranges.{IsWithin};
+ghost use Rattle.rm_main.specs.Words.{IsWithinSoak, asked, asked_by, has_flags, is_flag, is_unknown, mode_of, names, shows_moves, stands_once, times};
+
+use rm_script::number_in;
+use rm_soak::MOST_SOAKED;
 
 /// What the program is to do.
 #[derive(Clone, Copy, Debug)]
 pub enum Mode<'a> {
     /// Runs a script under a cluster file; these are the files' names.
-    Plain { cluster: &'a str, script: &'a str },
+    Plain {
+        cluster: &'a str,
+        script: &'a str,
+    },
+    /// The same by a schedule, which is in the file of this name.
+    Replay {
+        cluster: &'a str,
+        script: &'a str,
+        schedule: &'a str,
+    },
+    /// Runs a soak of so many applications.
+    Soak {
+        number: u32,
+    },
     /// Lists what the store keeps.
     Store,
 }
@@ -103,6 +122,7 @@ fn next_name(words: &[String]) -> Option<(&str, &[String])>
 /// The mode that one name asks for: `store`, which has no moves.
 fn mode_of_one<'a>(mode: &str, moves: bool) -> Option<Mode<'a>>
     ensures some { IfSome result (λ asks. asked_by moves (mode.now ∷ []) ≡ Some (asked asks)) }
+    ensures within { IfSome result IsWithinSoak }
     ensures none { IfNone result (asked_by moves (mode.now ∷ []) ≡ None) }
 {
     if mode == "store" && !moves {
@@ -112,9 +132,33 @@ fn mode_of_one<'a>(mode: &str, moves: bool) -> Option<Mode<'a>>
     }
 }
 
+/// The number of applications that a word says a soak is to have.
+fn soaked(number: &str) -> Option<u32>
+    ensures read { result ≡ number_in 1 most_soaked number.now }
+    ensures within { IfSome result (λ n. IsWithin 1 most_soaked n) }
+{
+    let number = number_in(number.as_bytes(), 1, u64::from(MOST_SOAKED))?;
+    Some(number as u32)
+}
+
+/// The mode that two names ask for: `soak` and a number, which has no moves.
+fn mode_of_two<'a>(mode: &str, number: &str, moves: bool) -> Option<Mode<'a>>
+    ensures some { IfSome result (λ asks. asked_by moves (mode.now ∷ number.now ∷ []) ≡ Some (asked asks)) }
+    ensures within { IfSome result IsWithinSoak }
+    ensures none { IfNone result (asked_by moves (mode.now ∷ number.now ∷ []) ≡ None) }
+{
+    if mode == "soak" && !moves {
+        let number = soaked(number)?;
+        Some(Mode::Soak { number })
+    } else {
+        None
+    }
+}
+
 /// The mode that three names ask for: `plain`, with a cluster file and a script.
 fn mode_of_three<'a>(mode: &str, cluster: &'a str, script: &'a str) -> Option<Mode<'a>>
     ensures some { IfSome result (λ asks. asked_by true (mode.now ∷ cluster.now ∷ script.now ∷ []) ≡ Some (asked asks)) }
+    ensures within { IfSome result IsWithinSoak }
     ensures none { IfNone result (asked_by true (mode.now ∷ cluster.now ∷ script.now ∷ []) ≡ None) }
 {
     if mode == "plain" {
@@ -124,26 +168,56 @@ fn mode_of_three<'a>(mode: &str, cluster: &'a str, script: &'a str) -> Option<Mo
     }
 }
 
+/// The mode that four names ask for: `replay`, with a cluster file, a script and a schedule.
+fn mode_of_four<'a>(
+    mode: &str,
+    cluster: &'a str,
+    script: &'a str,
+    schedule: &'a str,
+) -> Option<Mode<'a>>
+    ensures some { IfSome result (λ asks. asked_by true (mode.now ∷ cluster.now ∷ script.now ∷ schedule.now ∷ []) ≡ Some (asked asks)) }
+    ensures within { IfSome result IsWithinSoak }
+    ensures none { IfNone result (asked_by true (mode.now ∷ cluster.now ∷ script.now ∷ schedule.now ∷ []) ≡ None) }
+{
+    if mode == "replay" {
+        Some(Mode::Replay {
+            cluster,
+            script,
+            schedule,
+        })
+    } else {
+        None
+    }
+}
+
 /// The mode that the names among the words ask for.
 fn mode_by(words: &[String], moves: bool) -> Option<Mode<'_>>
     ensures some { IfSome result (λ mode. asked_by moves (names (map string_bytes words.now)) ≡ Some (asked mode)) }
+    ensures within { IfSome result IsWithinSoak }
     ensures none { IfNone result (asked_by moves (names (map string_bytes words.now)) ≡ None) }
 {
     let (mode, words) = next_name(words)?;
     let Some((cluster, words)) = next_name(words) else {
         return mode_of_one(mode, moves);
     };
-    let (script, words) = next_name(words)?;
+    let Some((script, words)) = next_name(words) else {
+        return mode_of_two(mode, cluster, moves);
+    };
+    let Some((schedule, words)) = next_name(words) else {
+        return mode_of_three(mode, cluster, script);
+    };
     match next_name(words) {
         Some(_) => None,
-        None => mode_of_three(mode, cluster, script),
+        None => mode_of_four(mode, cluster, script, schedule),
     }
 }
 
 /// The mode that the program's words ask for. But for the flags `--file` and `--moves`, each of which may stand anywhere and
-/// once, they are `plain` and two names; or `store` alone, which has no `--moves`. Other words that begin with `-` are none.
+/// once, they are `plain` and two names; `replay` and three names; `soak` and a number from 1
+/// to 1000; or `store` alone. The last two have no `--moves`. Other words that begin with `-` are none.
 pub fn mode_of(words: &[String]) -> Option<Mode<'_>>
     ensures some { IfSome result (λ mode. mode_of (map string_bytes words.now) ≡ Some (asked mode)) }
+    ensures within { IfSome result IsWithinSoak }
     ensures none { IfNone result (mode_of (map string_bytes words.now) ≡ None) }
 {
     if has_flags(words) {

@@ -1,13 +1,15 @@
-ghost use Rattle.std.specs.Prelude.{◌≡◌, [], false, true};
-ghost use Rattle.rm_formats.specs.Page.{page, store_page};
+ghost use Rattle.std.specs.Prelude.{◌≡◌, [], IfOk, false, true};
+ghost use Rattle.rm_formats.specs.Page.{store_page};
 ghost use Rattle.rm_types.specs.Counts.{Rose};
 ghost use Rattle.rm_main.specs.Runs.{Writes};
+ghost use Rattle.rm_main.specs.Shown.{shown_in};
 ghost use Rattle.rm_main.specs.Ways.{IsOfWriting, outcome_of, outcome_of_stop};
 
 use rm_outside::{Sink, Written, write_all};
 use rm_page::{page, store_page};
 use rm_plain::Stop;
-use rm_types::{Entry, Items, Op, Outcome};
+use rm_soak::soak_page;
+use rm_types::{Entry, Items, NoMemory, Op, Outcome};
 use std::alloc::Global;
 
 /// Writes a page.
@@ -28,15 +30,39 @@ fn write<K: Sink>(sink: &mut K, page: &[u8]) -> Outcome
     }
 }
 
-/// Writes the page of a log, with its moves or without.
-pub fn write_page<K: Sink>(alloc: Global, sink: &mut K, log: &Items<Entry>, moves: bool) -> Outcome
+/// What is to be written of a run.
+#[derive(Clone, Copy, Debug)]
+pub enum Shown {
+    /// The page of its log, with its moves or without.
+    Page { moves: bool },
+    /// The line of a soak of so many applications.
+    Line { number: u32 },
+}
+
+/// The bytes that are to be written of a log.
+fn shown_in(alloc: Global, log: &Items<Entry>, shown: Shown) -> Result<Vec<u8>, NoMemory>
+    ensures { IfOk result (λ bytes. bytes.items ≡ shown_in shown log.now) }
+{
+    match shown {
+        Shown::Page { moves } => page(alloc, log, moves),
+        Shown::Line { number } => soak_page(alloc, number, log),
+    }
+}
+
+/// Writes what is to be shown of a log.
+pub fn write_shown<K: Sink>(
+    alloc: Global,
+    sink: &mut K,
+    log: &Items<Entry>,
+    shown: Shown,
+) -> Outcome
     ensures of_writing { IsOfWriting result }
-    ensures writes { Writes result (K.taken sink.old) (K.taken sink.new) (page log.now moves) }
+    ensures writes { Writes result (K.taken sink.old) (K.taken sink.new) (shown_in shown log.now) }
     ensures write_fault { result ≡ Outcome.WriteFault false → Rose (K.faults sink.old) (K.faults sink.new) }
     ensures took_nothing { result ≡ Outcome.WriteFault true → Rose (K.idle sink.old) (K.idle sink.new) }
-    ensures untouched { page log.now moves ≡ [] → sink.new ≡ sink.old }
+    ensures untouched { shown_in shown log.now ≡ [] → sink.new ≡ sink.old }
 {
-    let Ok(bytes) = page(alloc, log, moves) else {
+    let Ok(bytes) = shown_in(alloc, log, shown) else {
         return Outcome::Memory;
     };
     write(sink, bytes.as_slice())
@@ -64,6 +90,7 @@ fn outcome_of_stop(stop: Stop) -> Outcome
         Stop::DiskFault => Outcome::DiskFault,
         Stop::Damaged { offset } => Outcome::StoreDamaged { offset },
         Stop::Full { needed, room } => Outcome::StoreFull { needed, room },
+        Stop::Schedule { place } => Outcome::ScheduleRefused { place },
         Stop::EpochsSpent => Outcome::EpochsSpent,
         Stop::Memory => Outcome::Memory,
     }

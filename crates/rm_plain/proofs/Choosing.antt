@@ -1,22 +1,31 @@
--- The first ready lane moves, each time.
-use Rattle.std.proofs.Common.{◌≡◌, ◌≢◌, ◌⊎◌, inl, inr, ⊎_elim, List, [], ◌∷◌, ◌++◌, Bool, true, false, None, Some, Option, if◌then◌else◌, refl, sym, ◌∙◌, ap}
-use Rattle.std.specs.Prelude.{find}
+-- Which lane moves next: the one that the letters say, and behind them the first that is ready.
+use Rattle.std.proofs.Common.{ℕ, ◌≡◌, ◌≢◌, ◌⊎◌, inl, inr, ⊎_elim, List, [], ◌∷◌, ◌++◌, Bool, true, false, None, Some, Option, if◌then◌else◌, refl, sym, ◌∙◌, ap, subst}
+use Rattle.std.specs.Prelude.{IfNone, find, is_some}
+use Rattle.std.proofs.lemmas.List.Sums.{fold_push}
 use Rattle.rm_types.specs.declared.entries.Entry.{Entry}
 use Rattle.rm_types.specs.declared.messages.Lane.{Lane}
 use Rattle.rm_types.specs.declared.messages.Lane.TheVariants.{Client, Master, Node, Clock, Main, Sched, Hand, Write, End, Begin}
 use Rattle.rm_types.specs.declared.operations.Op.{Op}
+use Rattle.rm_types.specs.declared.scripts.Close.{Close}
 use Rattle.rm_types.specs.declared.scripts.Life.{Life}
 use Rattle.rm_types.specs.declared.scripts.Script.{Script}
 use Rattle.rm_types.specs.Lanes.{lane_of_entry}
-use Rattle.rm_model.specs.Place.{Place}
+use Rattle.rm_types.specs.Records.{Records}
+use Rattle.rm_model.specs.Place.{Place, close_left}
 use Rattle.rm_tables.specs.declared.tables.Tables.{Tables}
+use Rattle.rm_model.specs.Lawful.{place_after}
 use Rattle.rm_core.specs.Seen.{Seen}
 use Rattle.rm_core.specs.Words.{as_new, manager_after, stands}
-use Rattle.rm_core.proofs.Telling.{TablesTold, tables_told}
-use Rattle.rm_desk.specs.Lanes.{is_ready_at}
+use Rattle.rm_core.proofs.Telling.{tables_told}
+use Rattle.rm_desk.specs.Lanes.{HasNoWork, IsWork, is_ready_at}
 use Rattle.rm_desk.specs.View.{DeskView}
 use Rattle.rm_desk.specs.Runs.{IsRun as GoesAlong}
-use Rattle.rm_plain.specs.Policy.{MovesByPolicy, policy, run_after}
+use Rattle.rm_plain.specs.declared.schedule.Letter.{Letter}
+use Rattle.rm_plain.specs.declared.schedule.Letter.TheVariants.{Moves, Plain, Unknown}
+use Rattle.rm_plain.specs.declared.schedule.Step.{Step}
+use Rattle.rm_plain.specs.Order.{May}
+use Rattle.rm_plain.specs.Policy.{first_ready, policy, run_after}
+use Rattle.rm_plain.specs.Schedule.{MovesBy, StopsAt, by_letters, chosen, left_after, moved_by, used_by}
 
 -- where an entry of a longer log stands: at its end, or among those before
 abbrev pub Among : List Entry → List Entry → Entry → Entry → Type 0
@@ -36,22 +45,67 @@ split_push (l ∷ log) (y ∷ past) e x more h =
     ⊎_elim (λ end. inl (ap (λ (z : Entry). z ∷ past) (sym same) ∙ ap (λ (zs : List Entry). l ∷ zs) end.0, end.1))
     (λ before. inr (before.0, ap (λ (z : Entry). z ∷ log) same ∙ ap (λ (zs : List Entry). y ∷ zs) before.1)) (split_push log past e x more rest)
 
--- an entry of the lane that comes first may be added
-pub policy_push : (new : Seen) (script : Script) (opening : List Op) (log : List Entry) (e : Entry) → MovesByPolicy new script opening log
-    → find (is_ready_at (run_after new script opening log)) policy ≡ Some (lane_of_entry e) → MovesByPolicy new script opening (log ++ e ∷ [])
-policy_push new script opening log e h chosen = λ past x more is.
-    ⊎_elim (λ end. rw (end.0, end.1) chosen) (λ before. h past x before.0 before.1) (split_push log past e x more is)
+-- a move leaves of the letters what it doesn't use up
+pub left_push : (steps : List Step) (log : List Entry) (e : Entry) → left_after steps (log ++ e ∷ []) ≡ used_by (lane_of_entry e) (left_after steps log)
+left_push steps log e = fold_push (λ left x. used_by (lane_of_entry x) left) steps log e
 
--- the first lane that is ready on the desk is the one that its log tells
-pub first_told : (opening : List Op) (script : Script) (d : DeskView) → GoesAlong opening script d
-    → find (is_ready_at (run_after (as_new d.core) script opening d.core.log)) policy ≡ find (is_ready_at d) policy
-first_told opening script d run = ap (λ (p : Place). first (manager_after (as_new d.core) opening d.core.log).tables p) run.along.at ∙ ap (λ (t : Tables). first t d.place) (sym told.is)
-  where
-    first : Tables → Place → Option Lane
-    first t place = find (is_ready_at (record { core = record { settings = d.core.settings; tables = t; log = d.core.log }; place = place })) policy
+left_none : (log : List Entry) → left_after [] log ≡ []
+left_none [] = refl
+left_none (e ∷ log) = left_none log
 
-    told : TablesTold opening d.core
-    told = tables_told d.core opening run.stands
+-- an entry of the lane that was to move may be added
+moves_push : (steps : List Step) (new : Seen) (script : Script) (opening : List Op) (log : List Entry) (e : Entry) → MovesBy steps new script opening log
+    → chosen (left_after steps log) (run_after new script opening log) ≡ Some (lane_of_entry e) → MovesBy steps new script opening (log ++ e ∷ [])
+moves_push steps new script opening log e h next = λ past x more is.
+    ⊎_elim (λ end. rw (end.0, end.1) next) (λ before. h past x before.0 before.1) (split_push log past e x more is)
+
+-- what is told of a desk is told of the run after its log, where the store's records have no part in it
+module _ (opening : List Op) (script : Script) (d : DeskView) (run : GoesAlong opening script d) where
+  abbrev pub after_log : DeskView
+  after_log = run_after (as_new d.core) script opening d.core.log
+
+  abbrev at : Tables → Place → DeskView
+  at t place = record { core = record { settings = d.core.settings; tables = t; log = d.core.log }; place = place }
+
+  told_by : {X : Type 0} (of : DeskView → X) → ((t : Tables) (tree : Records) (place : Place) → of (at (record t { tree = tree }) place) ≡ of (at t place))
+      → of (at (manager_after (as_new d.core) opening d.core.log).tables (place_after script d.core.log)) ≡ of d
+  told_by of ignores =
+      let told = tables_told d.core opening run.stands in
+      let t = (manager_after (as_new d.core) opening d.core.log).tables in
+      ap (λ (p : Place). of (at t p)) run.along.at ∙ sym (ignores t told.tree d.place) ∙ ap (λ (x : Tables). of (at x d.place)) (sym told.is)
+
+  ready_told : (lane : Lane) → is_ready_at after_log lane ≡ is_ready_at d lane
+  ready_told Client = told_by (λ x. is_ready_at x Client) (λ t tree place. refl)
+  ready_told Master = told_by (λ x. is_ready_at x Master) (λ t tree place. refl)
+  ready_told Node = told_by (λ x. is_ready_at x Node) (λ t tree place. refl)
+  ready_told Clock = told_by (λ x. is_ready_at x Clock) (λ t tree place. refl)
+  ready_told Main = told_by (λ x. is_ready_at x Main) (λ t tree place. refl)
+  ready_told Sched = told_by (λ x. is_ready_at x Sched) (λ t tree place. refl)
+  ready_told Hand = told_by (λ x. is_ready_at x Hand) (λ t tree place. refl)
+  ready_told Write = told_by (λ x. is_ready_at x Write) (λ t tree place. refl)
+  ready_told End = told_by (λ x. is_ready_at x End) (λ t tree place. refl)
+  ready_told Begin = told_by (λ x. is_ready_at x Begin) (λ t tree place. refl)
+
+  close_told : close_left after_log.place.segments ≡ close_left d.place.segments
+  close_told = ap (λ (p : Place). close_left p.segments) run.along.at
+
+  first_told : first_ready after_log ≡ first_ready d
+  first_told = told_by first_ready (λ t tree place. refl)
+
+  moved_told : (letter : Letter) → moved_by letter after_log ≡ moved_by letter d
+  moved_told (Moves lane) = ap (λ (b : Bool). if b then Some lane else None) (ready_told lane)
+  moved_told Plain =
+      ap (λ (close : Option Close). if is_some close then first_ready after_log else None) close_told ∙ ap (λ (o : Option Lane). if is_some (close_left d.place.segments) then o else None) first_told
+  moved_told Unknown = refl
+
+  pub chosen_told : (steps : List Step) → chosen steps after_log ≡ chosen steps d
+  chosen_told [] = first_told
+  chosen_told (step ∷ more) = moved_told step.letter
+
+  -- so a letter that can't move its lane can't do so after the log
+  pub stops_told : (steps : List Step) (place : ℕ) → StopsAt steps d place → StopsAt steps after_log place
+  stops_told [] place stops = stops
+  stops_told (step ∷ more) place stops = (stops.0, moved_told step.letter ∙ stops.1)
 
 -- where nothing else passes, the last of a list is found
 found_or : {X : Type 0} (b : Bool) (x y : X) (rest : Option X) → (b ≡ true → y ≡ x) → rest ≡ Some x → (if b then Some y else rest) ≡ Some x
@@ -62,11 +116,145 @@ find_only : {X : Type 0} (p : X → Bool) (x : X) → ((y : X) → p y ≡ true 
 find_only p x only passes [] = ap (λ (b : Bool). if b then Some x else None) passes
 find_only p x only passes (y ∷ before) = found_or (p y) x y (find p (before ++ x ∷ [])) (only y) (find_only p x only passes before)
 
+not_first : {X : Type 0} (b : Bool) (x : X) (rest : Option X) → (if b then Some x else rest) ≡ None → (b ≡ false) × (rest ≡ None)
+not_first true x rest h = cc
+not_first false x rest h = (refl, h)
+
+found_here : {X : Type 0} (b : Bool) (p : X → Bool) (rest : Option X) (x y : X) → p y ≡ b → (if b then Some y else rest) ≡ Some x
+    → (rest ≡ Some x → p x ≡ true) → p x ≡ true
+found_here true p rest x y e h more = let same : y ≡ x = cc in rw (sym same) e
+found_here false p rest x y e h more = more h
+
+-- what is found passes
+pub found_passes : {X : Type 0} (p : X → Bool) (xs : List X) (x : X) → find p xs ≡ Some x → p x ≡ true
+found_passes p [] x h = cc
+found_passes p (y ∷ ys) x h = found_here (p y) p (find p ys) x y refl h (found_passes p ys x)
+
+-- where no lane is found, none is ready
+pub none_ready : (d : DeskView) → first_ready d ≡ None → (lane : Lane) → is_ready_at d lane ≡ false
+none_ready d h lane =
+    let main = not_first (is_ready_at d Main) Main _ h in
+    let sched = not_first (is_ready_at d Sched) Sched _ main.1 in
+    let client = not_first (is_ready_at d Client) Client _ sched.1 in
+    let master = not_first (is_ready_at d Master) Master _ client.1 in
+    let node = not_first (is_ready_at d Node) Node _ master.1 in
+    let clock = not_first (is_ready_at d Clock) Clock _ node.1 in
+    let hand = not_first (is_ready_at d Hand) Hand _ clock.1 in
+    let write = not_first (is_ready_at d Write) Write _ hand.1 in
+    let end = not_first (is_ready_at d End) End _ write.1 in
+    let begin = not_first (is_ready_at d Begin) Begin _ end.1 in
+    elim lane as (λ (k : Lane). is_ready_at d k ≡ false) [
+      | Client ↦ client.0
+      | Master ↦ master.0
+      | Node ↦ node.0
+      | Clock ↦ clock.0
+      | Main ↦ main.0
+      | Sched ↦ sched.0
+      | Hand ↦ hand.0
+      | Write ↦ write.0
+      | End ↦ end.0
+      | Begin ↦ begin.0
+    ]
+
+pub some_same : {X : Type 0} (x y : X) → Some x ≡ Some y → x ≡ y
+some_same x y h = cc
+
+-- none of the lanes of the manager's work was ready where its end was chosen
+not_before : {X : Type 0} (b : Bool) (x : X) (rest : Option X) (y : X) → (x ≢ y) → (if b then Some x else rest) ≡ Some y → (b ≡ false) × (rest ≡ Some y)
+not_before true x rest y other h = absurd (other (some_same x y h))
+not_before false x rest y other h = (refl, h)
+
+end_idle : (d : DeskView) → first_ready d ≡ Some End → HasNoWork d
+end_idle d h lane work =
+    let main = not_before (is_ready_at d Main) Main _ End (λ e. cc) h in
+    let sched = not_before (is_ready_at d Sched) Sched _ End (λ e. cc) main.1 in
+    let client = not_before (is_ready_at d Client) Client _ End (λ e. cc) sched.1 in
+    let master = not_before (is_ready_at d Master) Master _ End (λ e. cc) client.1 in
+    let node = not_before (is_ready_at d Node) Node _ End (λ e. cc) master.1 in
+    let clock = not_before (is_ready_at d Clock) Clock _ End (λ e. cc) node.1 in
+    let hand = not_before (is_ready_at d Hand) Hand _ End (λ e. cc) clock.1 in
+    let write = not_before (is_ready_at d Write) Write _ End (λ e. cc) hand.1 in
+    by lane work main.0 sched.0 hand.0 write.0
+  where
+    by : (lane : Lane) → IsWork lane → is_ready_at d Main ≡ false → is_ready_at d Sched ≡ false → is_ready_at d Hand ≡ false → is_ready_at d Write ≡ false → is_ready_at d lane ≡ false
+    by Main work main sched hand write = main
+    by Sched work main sched hand write = sched
+    by Hand work main sched hand write = hand
+    by Write work main sched hand write = write
+    by Client work main sched hand write = absurd work
+    by Master work main sched hand write = absurd work
+    by Node work main sched hand write = absurd work
+    by Clock work main sched hand write = absurd work
+    by End work main sched hand write = absurd work
+    by Begin work main sched hand write = absurd work
+
+-- the lane that is to move is ready
+if_ready : (b : Bool) (d : DeskView) (lane next : Lane) → is_ready_at d lane ≡ b → (if b then Some lane else None) ≡ Some next → is_ready_at d next ≡ true
+if_ready true d lane next ready is = subst (λ (l : Lane). is_ready_at d l ≡ true) (some_same lane next is) ready
+if_ready false d lane next ready is = cc
+
+if_first : (b : Bool) (d : DeskView) (next : Lane) → (if b then first_ready d else None) ≡ Some next → is_ready_at d next ≡ true
+if_first true d next is = found_passes (is_ready_at d) policy next is
+if_first false d next is = cc
+
+moved_ready : (letter : Letter) (d : DeskView) (lane : Lane) → moved_by letter d ≡ Some lane → is_ready_at d lane ≡ true
+moved_ready (Moves own) d lane is = if_ready (is_ready_at d own) d own lane refl is
+moved_ready Plain d lane is = if_first (is_some (close_left d.place.segments)) d lane is
+moved_ready Unknown d lane is = cc
+
+pub chosen_ready : (steps : List Step) (d : DeskView) (lane : Lane) → chosen steps d ≡ Some lane → is_ready_at d lane ≡ true
+chosen_ready [] d lane is = found_passes (is_ready_at d) policy lane is
+chosen_ready (step ∷ more) d lane is = moved_ready step.letter d lane is
+
+-- and may move by the letters' order
+pub letters_may : (steps : List Step) (d : DeskView) (lane : Lane) → chosen (left_after steps d.core.log) d ≡ Some lane → May (by_letters steps) lane d
+letters_may steps d lane is =
+    record {
+      keeps = λ opening script e run of_lane h.
+          moves_push steps (as_new d.core) script opening d.core.log e h (chosen_told opening script d run (left_after steps d.core.log) ∙ is ∙ ap (λ (l : Lane). Some l) (sym of_lane));
+      rests = λ none end unblown.
+          end_idle d (ap (λ (left : List Step). chosen left d) (sym (left_none d.core.log) ∙ ap (λ (all : List Step). left_after all d.core.log) (sym none)) ∙ is ∙ ap (λ (l : Lane). Some l) end);
+    }
+
 -- where no life stands and one is left, it begins
-pub begin_chosen : (d : DeskView) → stands d.core ≡ false → d.place.lives ≢ [] → ((lane : Lane) → is_ready_at d lane ≡ true → lane ≡ Begin) → find (is_ready_at d) policy ≡ Some Begin
+begin_chosen : (d : DeskView) → stands d.core ≡ false → d.place.lives ≢ [] → ((lane : Lane) → is_ready_at d lane ≡ true → lane ≡ Begin) → first_ready d ≡ Some Begin
 begin_chosen d dead lives only =
     find_only (is_ready_at d) Begin only (ready d.place.lives refl) (Main ∷ Sched ∷ Client ∷ Master ∷ Node ∷ Clock ∷ Hand ∷ Write ∷ End ∷ [])
   where
     ready : (left : List Life) → d.place.lives ≡ left → is_ready_at d Begin ≡ true
     ready [] e = absurd (lives e)
     ready (life ∷ more) e = rw (dead, e) refl
+
+-- so where a choice was made, it is to begin one
+pub chosen_begin : (steps : List Step) (d : DeskView) (o : Option Lane) → o ≡ chosen steps d → IfNone o (steps ≡ []) → stands d.core ≡ false → d.place.lives ≢ [] → ((lane : Lane) → is_ready_at d lane ≡ true → lane ≡ Begin)
+    → chosen steps d ≡ Some Begin
+chosen_begin steps d None is none dead lives only =
+    let plain : chosen steps d ≡ first_ready d = ap (λ (left : List Step). chosen left d) none in
+    plain ∙ begin_chosen d dead lives only
+chosen_begin steps d (Some lane) is none dead lives only = sym is ∙ ap (λ (l : Lane). Some l) (only lane (chosen_ready steps d lane (sym is)))
+
+pub no_step : (step : Step) (more : List Step) → step ∷ more ≡ [] → ⊥
+no_step step more h = cc
+
+-- where no lane is ready none is found
+found_none : {X : Type 0} (p : X → Bool) → ((x : X) → p x ≡ false) → (xs : List X) → find p xs ≡ None
+found_none p none [] = refl
+found_none p none (x ∷ xs) = ap (λ (b : Bool). if b then Some x else find p xs) (none x) ∙ found_none p none xs
+
+if_none : {X : Type 0} (b : Bool) (o : Option X) → o ≡ None → (if b then o else None) ≡ None
+if_none true o is = is
+if_none false o is = refl
+
+-- so no letter can move its own
+pub none_moved : (d : DeskView) → ((lane : Lane) → is_ready_at d lane ≡ false) → (letter : Letter) → moved_by letter d ≡ None
+none_moved d none (Moves lane) = ap (λ (b : Bool). if b then Some lane else None) (none lane)
+none_moved d none Plain = if_none (is_some (close_left d.place.segments)) (first_ready d) (found_none (is_ready_at d) none policy)
+none_moved d none Unknown = refl
+
+-- where no life stands and none is left in the script, no lane is ready
+pub dead_over : (d : DeskView) → ((lane : Lane) → is_ready_at d lane ≡ true → lane ≡ Begin) → is_ready_at d Begin ≡ false → (lane : Lane) → is_ready_at d lane ≡ false
+dead_over d only begin lane = by (is_ready_at d lane) refl
+  where
+    by : (b : Bool) → is_ready_at d lane ≡ b → b ≡ false
+    by true ready = let is = only lane ready in let x = sym begin ∙ ap (λ (l : Lane). is_ready_at d l) (sym is) ∙ ready in cc
+    by false ready = refl

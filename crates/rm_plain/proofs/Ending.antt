@@ -1,5 +1,5 @@
 -- How parts of a run follow each other, and how a run comes to its end.
-use Rattle.std.proofs.Common.{◌≡◌, ◌≢◌, ℕ, List, [], ◌∷◌, ◌++◌, Bool, true, false, Some, None, Option, Ok, Err, Result, find, if◌then◌else◌, refl, sym, ◌∙◌, ap, subst, arith}
+use Rattle.std.proofs.Common.{◌≡◌, ◌≢◌, ◌≤◌, ℕ, List, [], ◌∷◌, ◌++◌, Bool, true, false, Some, None, Option, Ok, Err, Result, find, if◌then◌else◌, refl, sym, ◌∙◌, ap, subst, arith}
 use Rattle.std.specs.Prelude.{OnErr, is_ok}
 use Rattle.std.proofs.lemmas.List.{append-nil, append_assoc}
 use Rattle.rm_types.specs.declared.messages.Lane.{Lane}
@@ -24,13 +24,15 @@ use Rattle.rm_plain.specs.Falls.{fall}
 use Rattle.rm_plain.specs.Goes.{GoesOver, Goes, IsRun}
 use Rattle.rm_plain.specs.Keeping.{FuseStays, IsUnkept, Serves, StoresOn, armed_by}
 use Rattle.rm_plain.specs.Lives.{ComesToRest, GoesOn, WentDown, Stores}
-use Rattle.rm_plain.specs.Policy.{policy}
+use Rattle.rm_plain.specs.Order.{May, Order}
+use Rattle.rm_plain.specs.Policy.{first_ready}
+use Rattle.rm_plain.proofs.Choosing.{none_ready, some_same}
 use Rattle.rm_plain.proofs.Moving.{TellsAll, Works, down_goes, down_unkept, goes_same}
 use Rattle.rm_plain.proofs.Stored.{keeps_trans, unkept_stores}
 
 -- one part of a run after the other
-pub goes_trans : (over : List Op → Type 0) (some more : List Fallen) (a b c : DeskView) → GoesOver over some a b → Goes more b c → GoesOver over (some ++ more) a c
-goes_trans over some more a b c ab bc =
+pub goes_trans : {order : Order} (over : List Op → Type 0) (some more : List Fallen) (a b c : DeskView) → GoesOver order over some a b → Goes order more b c → GoesOver order over (some ++ more) a c
+goes_trans {order = order} over some more a b c ab bc =
     record {
       settings = bc.settings ∙ ab.settings;
       began = bc.began ∙ ab.began;
@@ -38,13 +40,27 @@ goes_trans over some more a b c ab bc =
       some = λ was. bc.some (ab.some was);
       lawful = λ opening is k. bc.lawful opening tt (ab.lawful opening is k);
       run = λ opening script fallen is run.
-          subst (λ (l : List Fallen). IsRun opening script l c) (append_assoc fallen some more) (bc.run opening script (fallen ++ some) tt (ab.run opening script fallen is run));
+          subst (λ (l : List Fallen). IsRun order opening script l c) (append_assoc fallen some more) (bc.run opening script (fallen ++ some) tt (ab.run opening script fallen is run));
     }
 
-pub stores_trans : (opening : List Op) (a b c : DeskView) (one two three : DiskView) → Goes [] a b → StoresOn opening a b one two → StoresOn opening b c two three → StoresOn opening a c one three
+pub stores_trans : {order : Order} (opening : List Op) (a b c : DeskView) (one two three : DiskView) → Goes order [] a b → StoresOn opening a b one two → StoresOn opening b c two three → StoresOn opening a c one three
 stores_trans opening a b c one two three goes ab bc = λ k has.
     let first = ab k has in
     keeps_trans opening a.core.log b.core.log c.core.log one two three first (bc (goes.lawful opening tt k) first.kept)
+
+-- a fuse lets no more pass than it is armed with, over any call of the disk
+within_kept : {D : Type 0} (view : D → DiskView) (keeps : D → D → Type 0) (succeeds : Bool) (old new : Fused D) → ((calls : ℕ) → old.armed ≡ Some calls → old.passed ≤ calls) → KeepsFuse view keeps succeeds old new
+    → (calls : ℕ) → new.armed ≡ Some calls → new.passed ≤ calls
+within_kept view keeps succeeds old new within kept calls armed = let was = sym kept.armed ∙ armed in kept.within calls was (within calls was)
+
+-- and just as many where it is blown
+spent_kept : {D : Type 0} (view : D → DiskView) (keeps : D → D → Type 0) (succeeds : Bool) (old new : Fused D) → (old.blown ≡ true → old.armed ≡ Some old.passed) → KeepsFuse view keeps succeeds old new
+    → new.blown ≡ true → new.armed ≡ Some new.passed
+spent_kept view keeps succeeds old new spent kept blown = by old.blown refl
+  where
+    by : (b : Bool) → old.blown ≡ b → new.armed ≡ Some new.passed
+    by true was = kept.armed ∙ spent was ∙ ap (λ (n : ℕ). Some n) (sym (kept.halted was))
+    by false was = kept.blew was blown
 
 module _ {D : Type 0} (view : D → DiskView) where
   pub fuse_same : (a : Fused D) → FuseStays view a a
@@ -58,34 +74,64 @@ module _ {D : Type 0} (view : D → DiskView) where
   pub fuse_kept : (keeps : D → D → Type 0) (succeeds : Bool) (a b : Fused D) → KeepsFuse view keeps succeeds a b → (view b.inner).size ≡ (view a.inner).size → FuseStays view a b
   fuse_kept keeps succeeds a b kept size = record { falls = kept.falls; unarmed_falls = kept.unarmed_falls; size = size; faults = kept.faults }
 
-  module _ (a b c : DeskView) (first second third : StoreState D) (goes : Goes [] a b) (kept : (opening : List Op) → StoresOn opening a b (seen view first.disk) (seen view second.disk)) where
+  -- an operation was kept
+  pub kept_serves : (keeps : D → D → Type 0) (d next : DeskView) (store now : StoreState D) (r : Result (Unit {0}) StoreError) → close_left next.place.segments ≡ close_left d.place.segments → is_blown d.core ≡ false → is_blown next.core ≡ is_blown d.core
+      → Serves view d store → ((e : StoreError) → r ≡ Err e → ⊥) → IsStoreSound view now → now.is_broken ≡ broken_after r store.is_broken → KeepsFuse view keeps (is_ok r) store.disk now.disk → Serves view next now
+  kept_serves keeps d next store now (Ok x) close unblown same serves none sound broken kept =
+      record {
+        sound = sound;
+        unbroken = λ whole. broken ∙ serves.unbroken unblown;
+        armed = rw close (kept.armed ∙ serves.armed);
+        blown = kept.success refl ∙ serves.blown ∙ sym same;
+        within = within_kept view keeps true store.disk now.disk serves.within kept;
+        spent = spent_kept view keeps true store.disk now.disk serves.spent kept;
+      }
+  kept_serves keeps d next store now (Err e) close unblown same serves none sound broken kept = absurd (none e refl)
+
+  -- or refused, by a fuse that blew
+  pub blown_serves : (keeps : D → D → Type 0) (succeeds : Bool) (d next : DeskView) (store now : StoreState D) → close_left next.place.segments ≡ close_left d.place.segments → is_blown next.core ≡ true → Serves view d store → IsStoreSound view now
+      → now.disk.blown ≡ true → KeepsFuse view keeps succeeds store.disk now.disk → Serves view next now
+  blown_serves keeps succeeds d next store now close blew serves sound blown kept =
+      record {
+        sound = sound;
+        unbroken = λ unblown. let x = sym unblown ∙ blew in cc;
+        armed = rw close (kept.armed ∙ serves.armed);
+        blown = blown ∙ sym blew;
+        within = within_kept view keeps succeeds store.disk now.disk serves.within kept;
+        spent = spent_kept view keeps succeeds store.disk now.disk serves.spent kept;
+      }
+
+module _ {order : Order} {D : Type 0} (view : D → DiskView) where
+  module _ (a b c : DeskView) (first second third : StoreState D) (goes : Goes order [] a b) (kept : (opening : List Op) → StoresOn opening a b (seen view first.disk) (seen view second.disk)) where
     pub stores_on : Stores view b c second third → Stores view a c first third
     stores_on h =
         record { sound = h.sound; kept = λ opening. stores_trans opening a b c (seen view first.disk) (seen view second.disk) (seen view third.disk) goes (kept opening) (h.kept opening) }
 
-    pub rest_on : ComesToRest view b c second third → ComesToRest view a c first third
-    rest_on h = record { goes = goes_trans (λ opening. Unit {0}) [] [] a b c goes h.goes; over = h.over; unarmed = h.unarmed; unblown = h.unblown; stores = stores_on h.stores }
+    pub rest_on : ComesToRest order view b c second third → ComesToRest order view a c first third
+    rest_on h = record { used_up = h.used_up; goes = goes_trans (λ opening. Unit {0}) [] [] a b c goes h.goes; over = h.over; unarmed = h.unarmed; unblown = h.unblown; stores = stores_on h.stores }
 
-    pub down_on : (image : ℕ) → WentDown view b c second third image → WentDown view a c first third image
+    pub down_on : (image : ℕ) → WentDown order view b c second third image → WentDown order view a c first third image
     down_on image h =
         record {
           calls = h.calls;
           blew = h.blew;
           armed = h.armed;
           blown = h.blown;
+          within = h.within;
+          spent = h.spent;
           goes = goes_trans (λ opening. Unit {0}) [] (fall h.calls image h.blew ∷ []) a b c goes h.goes;
           down = h.down;
           stores = stores_on h.stores;
         }
 
   -- a move that doesn't touch the store
-  pub works_on : (lane : Lane) (d next : DeskView) (store : StoreState D) → Does lane d next → Works d next → IsStep lane → lane ≢ End → Serves view d store → GoesOn view d next store store
+  pub works_on : (lane : Lane) (d next : DeskView) (store : StoreState D) → Does lane d next → Works order d next → IsStep lane → lane ≢ End → Serves view d store → GoesOn order view d next store store
   works_on lane d next store does works step goes serves =
       record {
         goes = works.goes;
         less = does.less;
         stands = does.standing ∙ stays lane step goes (close_left d.place.segments);
-        serves = record { sound = serves.sound; unbroken = λ unblown. serves.unbroken (sym works.blown ∙ unblown); armed = rw works.close serves.armed; blown = serves.blown ∙ sym works.blown };
+        serves = record { sound = serves.sound; unbroken = λ unblown. serves.unbroken (sym works.blown ∙ unblown); armed = rw works.close serves.armed; blown = serves.blown ∙ sym works.blown; within = serves.within; spent = serves.spent };
         stores = record { sound = serves.sound; kept = λ opening. unkept_stores opening d next works.same (seen view store.disk) };
       }
     where
@@ -101,22 +147,9 @@ module _ {D : Type 0} (view : D → DiskView) where
       stays End step goes close = absurd (goes refl)
       stays Begin step goes close = refl
 
-  -- an operation was kept
-  pub kept_serves : (keeps : D → D → Type 0) (d next : DeskView) (store now : StoreState D) (r : Result (Unit {0}) StoreError) → close_left next.place.segments ≡ close_left d.place.segments → is_blown d.core ≡ false → is_blown next.core ≡ is_blown d.core
-      → Serves view d store → ((e : StoreError) → r ≡ Err e → ⊥) → IsStoreSound view now → now.is_broken ≡ broken_after r store.is_broken → KeepsFuse view keeps (is_ok r) store.disk now.disk → Serves view next now
-  kept_serves keeps d next store now (Ok x) close unblown same serves none sound broken kept =
-      record { sound = sound; unbroken = λ whole. broken ∙ serves.unbroken unblown; armed = rw close (kept.armed ∙ serves.armed); blown = kept.success refl ∙ serves.blown ∙ sym same }
-  kept_serves keeps d next store now (Err e) close unblown same serves none sound broken kept = absurd (none e refl)
-
-  -- or refused, by a fuse that blew
-  pub blown_serves : (keeps : D → D → Type 0) (succeeds : Bool) (d next : DeskView) (store now : StoreState D) → close_left next.place.segments ≡ close_left d.place.segments → is_blown next.core ≡ true → Serves view d store → IsStoreSound view now
-      → now.disk.blown ≡ true → KeepsFuse view keeps succeeds store.disk now.disk → Serves view next now
-  blown_serves keeps succeeds d next store now close blew serves sound blown kept =
-      record { sound = sound; unbroken = λ unblown. let x = sym unblown ∙ blew in cc; armed = rw close (kept.armed ∙ serves.armed); blown = blown ∙ sym blew }
-
   -- a segment settled, and the fuse is armed as the next one says
-  pub settles_on : (d next : DeskView) (store now : StoreState D) → Does End d next → Goes [] d next → IsUnkept d next → close_left d.place.segments ≡ Some Settle
-      → now.disk.inner ≡ store.disk.inner → now.disk.refused ≡ store.disk.refused → Serves view next now → GoesOn view d next store now
+  pub settles_on : (d next : DeskView) (store now : StoreState D) → Does End d next → Goes order [] d next → IsUnkept d next → close_left d.place.segments ≡ Some Settle
+      → now.disk.inner ≡ store.disk.inner → now.disk.refused ≡ store.disk.refused → Serves view next now → GoesOn order view d next store now
   settles_on d next store now does goes same settles inner refused serves =
       record {
         goes = goes;
@@ -127,61 +160,23 @@ module _ {D : Type 0} (view : D → DiskView) where
       }
 
   -- a life went down
-  pub goes_down_on : (d next : DeskView) (store : StoreState D) → Does End d next → find (is_ready_at d) policy ≡ Some End → TellsAll d → TellsAll next → (is_blown d.core ≡ false → HasNoWork d → has_rest d.core) → (calls image : ℕ)
-      → close_left d.place.segments ≡ Some (Crash calls image) → Serves view d store → WentDown view d next store store image
+  pub goes_down_on : (d next : DeskView) (store : StoreState D) → Does End d next → May order End d → TellsAll d → TellsAll next → (is_blown d.core ≡ false → HasNoWork d → has_rest d.core) → (calls image : ℕ)
+      → close_left d.place.segments ≡ Some (Crash calls image) → Serves view d store → WentDown order view d next store store image
   goes_down_on d next store does chosen tells told idle calls image crash serves =
       record {
         calls = calls;
         blew = is_blown d.core;
         armed = serves.armed ∙ ap armed_by crash;
         blown = serves.blown;
+        within = serves.within calls (serves.armed ∙ ap armed_by crash);
+        spent = λ blew. some_same store.disk.passed calls (sym (serves.spent (serves.blown ∙ blew)) ∙ serves.armed ∙ ap armed_by crash);
         goes = down_goes d next does chosen tells told idle calls image crash;
         down = does.standing ∙ ap (stands_after End) crash;
         stores = record { sound = serves.sound; kept = λ opening. unkept_stores opening d next (down_unkept d next does chosen tells told idle calls image crash) (seen view store.disk) };
       }
 
-not_first : {X : Type 0} (b : Bool) (x : X) (rest : Option X) → (if b then Some x else rest) ≡ None → (b ≡ false) × (rest ≡ None)
-not_first true x rest h = cc
-not_first false x rest h = (refl, h)
-
-found_here : {X : Type 0} (b : Bool) (p : X → Bool) (rest : Option X) (x y : X) → p y ≡ b → (if b then Some y else rest) ≡ Some x
-    → (rest ≡ Some x → p x ≡ true) → p x ≡ true
-found_here true p rest x y e h more = let same : y ≡ x = cc in rw (sym same) e
-found_here false p rest x y e h more = more h
-
--- what is found passes
-pub found_passes : {X : Type 0} (p : X → Bool) (xs : List X) (x : X) → find p xs ≡ Some x → p x ≡ true
-found_passes p [] x h = cc
-found_passes p (y ∷ ys) x h = found_here (p y) p (find p ys) x y refl h (found_passes p ys x)
-
--- where no lane is found, none is ready
-pub none_ready : (d : DeskView) → find (is_ready_at d) policy ≡ None → (lane : Lane) → is_ready_at d lane ≡ false
-none_ready d h lane =
-    let main = not_first (is_ready_at d Main) Main _ h in
-    let sched = not_first (is_ready_at d Sched) Sched _ main.1 in
-    let client = not_first (is_ready_at d Client) Client _ sched.1 in
-    let master = not_first (is_ready_at d Master) Master _ client.1 in
-    let node = not_first (is_ready_at d Node) Node _ master.1 in
-    let clock = not_first (is_ready_at d Clock) Clock _ node.1 in
-    let hand = not_first (is_ready_at d Hand) Hand _ clock.1 in
-    let write = not_first (is_ready_at d Write) Write _ hand.1 in
-    let end = not_first (is_ready_at d End) End _ write.1 in
-    let begin = not_first (is_ready_at d Begin) Begin _ end.1 in
-    elim lane as (λ (k : Lane). is_ready_at d k ≡ false) [
-      | Client ↦ client.0
-      | Master ↦ master.0
-      | Node ↦ node.0
-      | Clock ↦ clock.0
-      | Main ↦ main.0
-      | Sched ↦ sched.0
-      | Hand ↦ hand.0
-      | Write ↦ write.0
-      | End ↦ end.0
-      | Begin ↦ begin.0
-    ]
-
 -- so the run is at its end, where some lane is ready unless it is
-pub at_end : (d : DeskView) → find (is_ready_at d) policy ≡ None → (b : Bool) → (b ≡ false → (lane : Lane) × (is_ready_at d lane ≡ true)) → b ≡ true
+pub at_end : (d : DeskView) → first_ready d ≡ None → (b : Bool) → (b ≡ false → (lane : Lane) × (is_ready_at d lane ≡ true)) → b ≡ true
 at_end d h true some = refl
 at_end d h false some = let ready = some refl in let none = none_ready d h ready.0 in let x = sym none ∙ ready.1 in cc
 
@@ -194,10 +189,11 @@ over_unblown d sound alive none = by (is_blown d.core) refl
     by false blown = refl
 
 -- where the run is over it comes to rest
-pub comes_to_rest : {D : Type 0} (view : D → DiskView) (d : DeskView) (store : StoreState D) → IsDeskSound d → Serves view d store → stands d.core ≡ true → IsDeskOver d → TellsAll d → ComesToRest view d d store store
-comes_to_rest view d store sound serves alive over tells =
+pub comes_to_rest : {order : Order} {D : Type 0} (view : D → DiskView) (d : DeskView) (store : StoreState D) → IsDeskSound d → Serves view d store → stands d.core ≡ true → IsDeskOver d → TellsAll d → order.ends d.core.log → ComesToRest order view d d store store
+comes_to_rest view d store sound serves alive over tells ends =
     record {
       goes = goes_same d;
+      used_up = ends;
       over = record { lives = over.lives; segments = over.segments; rest = λ opening k. (tells opening k).at_rest (over.rest alive) };
       unarmed = serves.armed ∙ ap (λ (s : List Segment). armed_by (close_left s)) over.segments;
       unblown = serves.blown ∙ over_unblown d sound alive over.segments;

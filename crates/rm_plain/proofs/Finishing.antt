@@ -23,27 +23,51 @@ use Rattle.rm_core.specs.Seen.{Seen, StandsFor}
 use Rattle.rm_core.specs.Words.{as_new, stands}
 use Rattle.rm_desk.specs.View.{DeskView}
 use Rattle.rm_plain.specs.declared.halts.Stop.{Stop}
-use Rattle.rm_plain.specs.declared.halts.Stop.TheVariants.{DiskFault, Damaged, Full, EpochsSpent, Memory}
+use Rattle.rm_plain.specs.declared.halts.Stop.TheVariants.{DiskFault, Damaged, Full, Schedule, EpochsSpent, Memory}
 use Rattle.rm_desk.specs.Lanes.{is_ready_at}
 use Rattle.rm_desk.specs.Runs.{IsRun as GoesAlong, IsSound as IsDeskSound, Tells}
 use Rattle.rm_plain.specs.Falls.{falls_of}
 use Rattle.rm_plain.specs.Goes.{IsOver, IsRun}
-use Rattle.rm_plain.specs.Policy.{MovesByPolicy}
+use Rattle.rm_plain.specs.declared.halts.Halt.{Halt}
+use Rattle.rm_plain.specs.declared.halts.Halt.TheVariants as halts
+use Rattle.rm_plain.specs.declared.schedule.Step.{Step}
+use Rattle.rm_plain.specs.Halted.{stop_of}
+use Rattle.rm_desk.specs.Does.{IsHanded}
+use Rattle.rm_plain.specs.Opens.{IsOfStart, StartsOver}
+use Rattle.rm_plain.specs.Order.{Order}
+use Rattle.rm_plain.specs.Policy.{run_after}
+use Rattle.rm_plain.specs.Schedule.{MovesBy, Stops, StopsAt, by_letters, left_after}
 use Rattle.rm_plain.specs.Keeping.{IsKeptOn, LeftOver}
 use Rattle.rm_plain.specs.Later.{FirstLived, FirstStopped, IsDueAt, IsLaterStop, LaterTo}
 use Rattle.rm_plain.specs.Stops.{IsDue, IsStoppedBy, IsTold}
 use Rattle.rm_plain.specs.Whole.{AllLived, Ends}
-use Rattle.rm_plain.proofs.Choosing.{none_split}
+use Rattle.rm_plain.proofs.Choosing.{none_split, stops_told}
 use Rattle.rm_plain.proofs.Ending.{goes_trans}
 use Rattle.rm_plain.proofs.Halting.{after_within, full_known, goes_any, keeps_leaves}
-use Rattle.rm_plain.proofs.Moving.{both, goes_same, is_not, not_nil}
-use Rattle.rm_plain.proofs.Onward.{stays_same, stays_trans}
+use Rattle.rm_plain.proofs.Moving.{both, goes_same, is_not, not_nil, ok_map, on_ok}
+use Rattle.rm_plain.proofs.Onward.{never_handed, no_store_not, stays_same, stays_trans}
 use Rattle.rm_plain.proofs.Stored.{within_longer}
 
-module _ {D : Type 0} (view : D → DiskView) (opening : List Op) where
+-- what follows for an error, where the error was told
+if_err : {A E : Type 0} {P Q : E → Type 0} (r : Result A E) → ((e : E) → P e → Q e) → IfErr r P → IfErr r Q
+if_err (Ok x) by h = tt
+if_err (Err e) by h = by e h
+
+module _ (order : Order) {D : Type 0} (view : D → DiskView) (opening : List Op) where
+  -- a disk of which no call was made
+  still_images : (d : DeskView) (disk : Fused D) → SurvivesAll opening d.core.log (seen view disk) (seen view disk)
+  still_images d disk = λ bytes told.
+      record { so_far = leaves_same (seen view disk) (λ image. (seen view disk).images image ⊎ HoldsWithin opening d.core.log image); now = λ image is. inl is }
+
+  -- why no life was begun
+  unstarted : (d : DeskView) (disk : Fused D) → opening ≡ [] → (stop : Stop) → (place : ℕ) × (stop ≡ Schedule place) × order.stops d place → IsStoppedBy view (IsDueAt d) (order.stops d) disk disk opening d.core.log stop
+  unstarted d disk nothing stop why =
+      subst (λ (s : Stop). IsStoppedBy view (IsDueAt d) (order.stops d) disk disk opening d.core.log s) (sym why.1) (why.2, λ none. nothing)
+
   -- a script without lives
-  pub none_lived : (d : DeskView) (disk : Fused D) → stands d.core ≡ false → d.core.log ≡ [] → d.place.lives ≡ [] → disk.armed ≡ None → opening ≡ [] → AllLived view opening d d disk disk (Ok tt)
-  none_lived d disk dead empty none unarmed nothing =
+  pub none_lived : (d : DeskView) (disk : Fused D) → stands d.core ≡ false → d.core.log ≡ [] → d.place.lives ≡ [] → disk.armed ≡ None → opening ≡ [] → (r : Result (Unit {0}) Stop) → OnOk r (order.ends d.core.log)
+      → IfErr r (λ stop. (place : ℕ) × (stop ≡ Schedule place) × order.stops d place) → (order.ends d.core.log → IsOk r) → AllLived order view opening d d disk disk r
+  none_lived d disk dead empty none unarmed nothing r used why ends =
       record {
         fallen = [];
         goes = goes_any (λ ops. ops ≡ opening) d d (goes_same d);
@@ -53,18 +77,40 @@ module _ {D : Type 0} (view : D → DiskView) (opening : List Op) where
         unblown = λ was. was;
         opened = λ some. absurd (some empty);
         found = inl nothing;
-        ends = record { lives = none; over = inl dead };
+        ends = on_ok r (record { lives = none; over = inl dead });
+        used_up = used;
         quiet = λ no. quiet_same (seen view disk);
-        idle = λ no. (empty, refl, refl);
+        idle = λ no. (empty, refl, ends);
         begun = λ some. absurd (some none);
-        images = λ k bytes told.
-            record { so_far = leaves_same (seen view disk) (λ image. (seen view disk).images image ⊎ HoldsWithin opening d.core.log image); now = λ image is. inl is };
+        images = λ k. still_images d disk;
         images_now = λ k some. absurd (some empty);
-        stopped = λ k. tt;
+        stopped = λ k. if_err r (λ stop is. unstarted d disk nothing stop is) why;
+      }
+
+  -- the schedule's letter stopped the run before the first life
+  pub unchosen : (d : DeskView) (disk : Fused D) (halt : Halt) → d.core.log ≡ [] → d.place.lives ≢ [] → disk.armed ≡ None → opening ≡ [] → (place : ℕ) × (halt ≡ halts.Schedule place) × order.stops d place → AllLived order view opening d d disk disk (Err (stop_of halt))
+  unchosen d disk halt empty lives unarmed nothing why =
+      record {
+        fallen = [];
+        goes = goes_any (λ ops. ops ≡ opening) d d (goes_same d);
+        falls = sym (append-nil disk.falls);
+        stays = stays_same view disk;
+        unarmed = unarmed;
+        unblown = λ was. was;
+        opened = λ some. absurd (some empty);
+        found = inl nothing;
+        ends = tt;
+        used_up = tt;
+        quiet = λ no. quiet_same (seen view disk);
+        idle = λ no. absurd (lives no);
+        begun = λ some. tt;
+        images = λ k. still_images d disk;
+        images_now = λ k some. absurd (some empty);
+        stopped = λ k. unstarted d disk nothing (stop_of halt) (why.0, ap stop_of why.1, why.2);
       }
 
   -- the first life stopped the run
-  pub first_stops : (a b : DeskView) (disk now : Fused D) (stop : Stop) → a.place.lives ≢ [] → FirstStopped view opening a b disk now stop → AllLived view opening a b disk now (Err stop)
+  pub first_stops : (a b : DeskView) (disk now : Fused D) (stop : Stop) → a.place.lives ≢ [] → FirstStopped order view opening a b disk now stop → AllLived order view opening a b disk now (Err stop)
   first_stops a b disk now stop lives h =
       record {
         fallen = [];
@@ -76,6 +122,7 @@ module _ {D : Type 0} (view : D → DiskView) (opening : List Op) where
         opened = h.held;
         found = h.found;
         ends = tt;
+        used_up = tt;
         quiet = h.quiet;
         idle = λ none. absurd (lives none);
         begun = λ some. tt;
@@ -85,11 +132,11 @@ module _ {D : Type 0} (view : D → DiskView) (opening : List Op) where
       }
 
   -- the first life was lived, and others behind it
-  module _ (a b c : DeskView) (first second third : Fused D) (lives : a.place.lives ≢ []) (ab : FirstLived view opening a b first second) where
+  module _ (a b c : DeskView) (first second third : Fused D) (lives : a.place.lives ≢ []) (ab : FirstLived order view opening a b first second) where
     held : IsTold (seen view first) → StandsFor opening a.core → IsKeptOn opening b.core.log (seen view second)
     held told k = (ab.kept told.0 told.1 k).kept
 
-    later_stop : StandsFor opening a.core → c.core.log ≢ [] → (stop : Stop) → IsLaterStop view opening b c second third stop → IsStoppedBy view (IsDueAt c) first third opening c.core.log stop
+    later_stop : StandsFor opening a.core → c.core.log ≢ [] → (stop : Stop) → IsLaterStop order view opening b c second third stop → IsStoppedBy view (IsDueAt c) (order.stops c) first third opening c.core.log stop
     later_stop k some DiskFault why = (let before = ab.stays.faults in let rose = why.0 in omega arith, why.1, λ none. absurd (some none))
     later_stop k some (Damaged offset) why = (
       why.0,
@@ -98,6 +145,7 @@ module _ {D : Type 0} (view : D → DiskView) (opening : List Op) where
     )
     later_stop k some (Full needed room) why =
         full_known (IsKeptOn opening b.core.log (seen view second)) (IsTold (seen view first)) opening c.core.log (view third.inner).size needed room (λ told. held told k) why
+    later_stop k some (Schedule place) why = (why, λ none. absurd (some none))
     later_stop k some EpochsSpent why = (why.0, (λ bytes told. (ab.kept bytes told k).opened, why.1))
     later_stop k some Memory why = tt
 
@@ -118,8 +166,8 @@ module _ {D : Type 0} (view : D → DiskView) (opening : List Op) where
     all_images_now : StandsFor opening a.core → LeftOver (λ ops. Unit {0}) (λ ops. IsKeptOn ops b.core.log (seen view second)) b c (seen view second) (seen view third) → SurvivesNow opening c.core.log (seen view first) (seen view third)
     all_images_now k left = λ some bytes told. (left opening tt (ab.goes.lawful opening refl k) (ab.kept bytes told k).kept).now
 
-    pub all_lived : (r : Result (Unit {0}) Stop) → LaterTo view b c second third r → OnOk r (c.place.lives ≡ []) → AllLived view opening a c first third r
-    all_lived (Ok x) bc none =
+    pub all_lived : (r : Result (Unit {0}) Stop) → LaterTo order view b c second third r → OnOk r (c.place.lives ≡ []) → OnOk r (order.ends c.core.log) → AllLived order view opening a c first third r
+    all_lived (Ok x) bc none used =
         let left : LeftOver (λ ops. Unit {0}) (λ ops. IsKeptOn ops b.core.log (seen view second)) b c (seen view second) (seen view third) =
         λ ops is k has. keeps_leaves ops b.core.log c.core.log (seen view second) (seen view third) (bc.kept ops is k has) in
         record {
@@ -132,6 +180,7 @@ module _ {D : Type 0} (view : D → DiskView) (opening : List Op) where
           opened = λ some. ab.opened;
           found = inr ab.opened;
           ends = record { lives = none; over = bc.ends };
+          used_up = used;
           quiet = λ empty. absurd (bc.some empty);
           idle = λ no. absurd (lives no);
           begun = λ some. bc.some;
@@ -139,7 +188,7 @@ module _ {D : Type 0} (view : D → DiskView) (opening : List Op) where
           images_now = λ k. all_images_now k left;
           stopped = λ k. tt;
         }
-    all_lived (Err stop) bc none =
+    all_lived (Err stop) bc none used =
         record {
           fallen = ab.fallen ++ bc.fallen;
           goes = goes_trans (λ ops. ops ≡ opening) ab.fallen bc.fallen a b c ab.goes bc.goes;
@@ -150,6 +199,7 @@ module _ {D : Type 0} (view : D → DiskView) (opening : List Op) where
           opened = λ some. ab.opened;
           found = inr ab.opened;
           ends = tt;
+          used_up = tt;
           quiet = λ empty. absurd (bc.goes.some ab.some empty);
           idle = λ no. absurd (lives no);
           begun = λ some. tt;
@@ -157,6 +207,31 @@ module _ {D : Type 0} (view : D → DiskView) (opening : List Op) where
           images_now = λ k. all_images_now k bc.left;
           stopped = λ k. later_stop k (bc.goes.some ab.some) stop (bc.why opening (ab.goes.lawful opening refl k));
         }
+
+-- what is told of the letters that are left is told of those that the order leaves after the log
+module _ (steps left : List Step) (d : DeskView) (at : left ≡ left_after steps d.core.log) (r : Result (Unit {0}) Stop) where
+  pub used_as : OnOk r (left ≡ []) → OnOk r ((by_letters steps).ends d.core.log)
+  used_as used = ok_map r (λ none. sym at ∙ none) used
+
+  pub stops_as : IfErr r (λ stop. (place : ℕ) × (stop ≡ Schedule place) × StopsAt left d place) → IfErr r (λ stop. (place : ℕ) × (stop ≡ Schedule place) × (by_letters steps).stops d place)
+  stops_as stops = if_err r (λ stop is. (is.0, is.1, subst (λ (l : List Step). StopsAt l d is.0) at is.2)) stops
+
+  -- where none is left, none stops the run
+  pub all_used_up : IfErr r (λ stop. (place : ℕ) × (stop ≡ Schedule place) × StopsAt left d place) → (by_letters steps).ends d.core.log → IsOk r
+  all_used_up stops none = by r stops
+    where
+      by : (x : Result (Unit {0}) Stop) → IfErr x (λ stop. (place : ℕ) × (stop ≡ Schedule place) × StopsAt left d place) → IsOk x
+      by (Ok x) stops = refl
+      by (Err stop) stops = absurd (subst (λ (l : List Step). StopsAt l d stops.0) (at ∙ none) stops.2)
+
+-- a letter stopped the run before its first life
+pub letter_refused : {D : Type 0} (view : D → DiskView) (opening : List Op) (steps left : List Step) (d : DeskView) (disk : Fused D) (halt : Halt) → d.core.log ≡ [] → d.place.lives ≢ [] → disk.armed ≡ None → opening ≡ [] → left ≡ left_after steps d.core.log
+    → Stops left d halt → AllLived (by_letters steps) view opening d d disk disk (Err (stop_of halt))
+letter_refused view opening steps left d disk halts.DiskFault empty lives unarmed nothing at stops = absurd stops
+letter_refused view opening steps left d disk (halts.Full needed room) empty lives unarmed nothing at stops = absurd stops
+letter_refused view opening steps left d disk (halts.Schedule place) empty lives unarmed nothing at stops =
+    unchosen (by_letters steps) view opening d disk (halts.Schedule place) empty lives unarmed nothing (place, refl, subst (λ (l : List Step). StopsAt l d place) at stops)
+letter_refused view opening steps left d disk halts.Memory empty lives unarmed nothing at stops = absurd stops
 
 -- whether a life is left, where none stands
 pub none_left : (d : DeskView) → stands d.core ≡ false → is_ready_at d Begin ≡ false → d.place.lives ≡ []
@@ -180,26 +255,35 @@ none_after d ends h = ⊎_elim (λ dead. none_left d dead h) (λ (o : IsOver d).
 at_rest : (settings : Settings) (s : Manager) → s.life ≡ None → IsAtRest settings s s.life
 at_rest settings s h = rw h tt
 
--- what follows for an error, where the error was told
-if_err : {A E : Type 0} {P Q : E → Type 0} (r : Result A E) → ((e : E) → P e → Q e) → IfErr r P → IfErr r Q
-if_err (Ok x) by h = tt
-if_err (Err e) by h = by e h
-
 -- why a run stopped, where what says that a life was due is told otherwise
-due_is : {D : Type 0} (view : D → DiskView) (opening : List Op) (log : List Entry) (disk now : Fused D) (one other : Type 0) → (one → other)
-    → (stop : Stop) → IsStoppedBy view one disk now opening log stop → IsStoppedBy view other disk now opening log stop
-due_is view opening log disk now one other by DiskFault why = (why.0, ⊎_elim (λ due. inl (by due)) (λ handed. inr handed) why.1, why.2)
-due_is view opening log disk now one other by (Damaged offset) why = (by why.0, why.1, why.2)
-due_is view opening log disk now one other by (Full needed room) why = why
-due_is view opening log disk now one other by EpochsSpent why = (by why.0, why.1)
-due_is view opening log disk now one other by Memory why = tt
+due_is : {D : Type 0} (view : D → DiskView) (opening : List Op) (log : List Entry) (disk now : Fused D) (one other : Type 0) (stops told : ℕ → Type 0) → (one → other) → ((place : ℕ) → stops place → told place)
+    → (stop : Stop) → IsStoppedBy view one stops disk now opening log stop → IsStoppedBy view other told disk now opening log stop
+due_is view opening log disk now one other stops told by at DiskFault why = (why.0, ⊎_elim (λ due. inl (by due)) (λ handed. inr handed) why.1, why.2)
+due_is view opening log disk now one other stops told by at (Damaged offset) why = (by why.0, why.1, why.2)
+due_is view opening log disk now one other stops told by at (Full needed room) why = why
+due_is view opening log disk now one other stops told by at (Schedule place) why = (at place why.0, why.1)
+due_is view opening log disk now one other stops told by at EpochsSpent why = (by why.0, why.1)
+due_is view opening log disk now one other stops told by at Memory why = tt
+
+-- over a device that holds a store, a run that logged nothing did not find it damaged or full
+pub starts_over : {D : Type 0} (view : D → DiskView) (opening : List Op) (log : List Entry) (disk now : Fused D) (due : Type 0) (stops : ℕ → Type 0) (ended : Result (Unit {0}) Stop)
+    → IfErr ended (IsStoppedBy view due stops disk now opening log) → StartsOver (seen view disk) log ended
+starts_over view opening log disk now due stops ended stopped bytes ops told holds empty = if_err ended by stopped
+  where
+    by : (stop : Stop) → IsStoppedBy view due stops disk now opening log stop → IsOfStart stop
+    by DiskFault why = tt
+    by (Damaged offset) why = no_store_not bytes ops offset holds (why.1 bytes told).2
+    by (Full needed room) why = never_handed opening why.op (subst (λ (l : List Entry). IsHanded opening l why.op) empty why.handed)
+    by (Schedule place) why = tt
+    by EpochsSpent why = tt
+    by Memory why = tt
 
 -- a run from before the first life
-module _ {D : Type 0} (view : D → DiskView) (opening : List Op) (script : Script) (first new : DeskView) (disk now : Fused D) (ended : Result (Unit {0}) Stop)
-    (all : AllLived view opening first new disk now ended) (empty : first.core.log ≡ []) (along : GoesAlong opening script first)
+module _ (steps : List Step) {D : Type 0} (view : D → DiskView) (opening : List Op) (script : Script) (first new : DeskView) (disk now : Fused D) (ended : Result (Unit {0}) Stop)
+    (all : AllLived (by_letters steps) view opening first new disk now ended) (empty : first.core.log ≡ []) (along : GoesAlong opening script first)
     (sound : IsDeskSound new) (tells : (ops : List Op) → StandsFor ops new.core → Tells ops new) where
-  pub whole_run : IsRun opening script all.fallen new
-  whole_run = all.goes.run opening script [] refl (record { goes = along; downs = rw empty tt; falls = rw empty refl; policy = rw empty (λ past e more h. absurd (none_split past e more h)) })
+  pub whole_run : IsRun (by_letters steps) opening script all.fallen new
+  whole_run = all.goes.run opening script [] refl (record { goes = along; downs = λ rests. rw empty tt; falls = rw empty refl; moves = rw empty (λ past e more h. absurd (none_split past e more h)) })
 
   told : Tells opening new
   told = tells opening whole_run.goes.stands
@@ -215,13 +299,21 @@ module _ {D : Type 0} (view : D → DiskView) (opening : List Op) (script : Scri
   pub due_on : IsDueAt new → IsDue script opening new.core.log
   due_on due = record { dead = told.none due.dead; lives = λ none. due.lives (sym (ap (λ (p : Place). p.lives) whole_run.goes.along.at) ∙ none) }
 
-  pub stopped_on : IfErr ended (IsStoppedBy view (IsDue script opening new.core.log) disk now opening new.core.log)
-  stopped_on =
-      if_err ended (λ stop why. due_is view opening new.core.log disk now (IsDueAt new) (IsDue script opening new.core.log) due_on stop why) (all.stopped along.stands)
+  -- and where a letter stopped the desk, it stops the run that the log tells
+  stops_on : (made : Seen) → as_new first.core ≡ made → (place : ℕ) → (by_letters steps).stops new place → StopsAt (left_after steps new.core.log) (run_after made script opening new.core.log) place
+  stops_on made is place stops =
+      subst (λ (s : Seen). StopsAt (left_after steps new.core.log) (run_after s script opening new.core.log) place) (all.goes.began ∙ is)
+      (stops_told opening script new whole_run.goes (left_after steps new.core.log) place stops)
 
-  -- the lanes moved by the policy, from the new manager on
-  pub policy_on : (made : Seen) → as_new first.core ≡ made → MovesByPolicy made script opening new.core.log
-  policy_on made is = subst (λ (s : Seen). MovesByPolicy s script opening new.core.log) (all.goes.began ∙ is) whole_run.policy
+  pub stopped_on : (made : Seen) → as_new first.core ≡ made
+      → IfErr ended (IsStoppedBy view (IsDue script opening new.core.log) (StopsAt (left_after steps new.core.log) (run_after made script opening new.core.log)) disk now opening new.core.log)
+  stopped_on made is =
+      let told : ℕ → Type 0 = StopsAt (left_after steps new.core.log) (run_after made script opening new.core.log) in
+      if_err ended (λ stop why. due_is view opening new.core.log disk now (IsDueAt new) (IsDue script opening new.core.log) ((by_letters steps).stops new) told due_on (stops_on made is) stop why) (all.stopped along.stands)
+
+  -- the lanes moved as the letters and the policy say, from the new manager on
+  pub moves_on : (made : Seen) → as_new first.core ≡ made → MovesBy steps made script opening new.core.log
+  moves_on made is = subst (λ (s : Seen). MovesBy steps s script opening new.core.log) (all.goes.began ∙ is) whole_run.moves
 
   module _ (settings : Settings) (same : first.core.settings ≡ settings) where
     settings_on : new.core.settings ≡ settings
@@ -234,8 +326,8 @@ module _ {D : Type 0} (view : D → DiskView) (opening : List Op) (script : Scri
           rest = subst (λ (s : Settings). IsAtRest s (state_after opening new.core.log) (state_after opening new.core.log).life) settings_on (rest_on ends.over);
         }
 
-    pub downs_on : AllGoDownAtRest settings (opening_state opening) new.core.log
-    downs_on = subst (λ (s : Settings). AllGoDownAtRest s (opening_state opening) new.core.log) settings_on whole_run.downs
+    pub downs_on : steps ≡ [] → AllGoDownAtRest settings (opening_state opening) new.core.log
+    downs_on none = subst (λ (s : Settings). AllGoDownAtRest s (opening_state opening) new.core.log) settings_on (whole_run.downs none)
 
     pub lawful_on : Lawful new.core.settings script opening new.core.log → Lawful settings script opening new.core.log
     lawful_on lawful = subst (λ (s : Settings). Lawful s script opening new.core.log) settings_on lawful

@@ -17,6 +17,9 @@ use Rattle.rm_model.specs.Lawful.{state_after}
 use Rattle.rm_model.specs.Place.{close_left}
 use Rattle.rm_model.specs.State.{Manager}
 use Rattle.rm_tree.specs.Shows.{shows}
+use Rattle.rm_plain.specs.declared.schedule.Step.{Step}
+use Rattle.rm_plain.specs.Order.{Order}
+use Rattle.rm_plain.specs.Schedule.{Stops, StopsAt, by_letters, left_after}
 use Rattle.rm_plain.specs.Survives.{HoldsAfter, HoldsKept, HoldsWithin}
 use Rattle.rm_store.specs.declared.fault.StoreError.{StoreError}
 use Rattle.rm_store.specs.declared.fault.StoreError.TheVariants as store
@@ -26,7 +29,7 @@ use Rattle.rm_core.specs.Words.{landed_over}
 use Rattle.rm_desk.specs.Does.{IsHanded}
 use Rattle.rm_desk.specs.View.{DeskView}
 use Rattle.rm_plain.specs.declared.halts.Halt.{Halt}
-use Rattle.rm_plain.specs.declared.halts.Halt.TheVariants.{DiskFault, Full, Memory}
+use Rattle.rm_plain.specs.declared.halts.Halt.TheVariants.{DiskFault, Full, Schedule, Memory}
 use Rattle.rm_plain.specs.Goes.{Goes, GoesOver}
 use Rattle.rm_plain.specs.Halted.{halt_of}
 use Rattle.rm_plain.specs.Keeping.{HaltsBy, HaltsOver, IsFoundOn, IsFull, IsHaltedBy, IsKeptOn, IsUnkept, KeepsOn, LeavesOn, armed_by, has_blown}
@@ -93,7 +96,7 @@ full_known known less opening log size needed room by full =
     record { op = full.op; handed = full.handed; needs = full.needs; less = full.less; behind = λ is. full.behind (by is) }
 
 -- a part of a run over some opening lists alone
-pub goes_any : (over : List Op → Type 0) (a b : DeskView) → Goes [] a b → GoesOver over [] a b
+pub goes_any : {order : Order} (over : List Op → Type 0) (a b : DeskView) → Goes order [] a b → GoesOver order over [] a b
 goes_any over a b g =
     record {
       settings = g.settings;
@@ -134,9 +137,9 @@ landed_holds s core tree image h = ⊎_elim none one (landed_number core tree)
         by [] w holds = inl (subst (λ (ops : List Op). Holds image ops) (ap (λ (l : List Op). s.kept ++ take 1 l) w ∙ append-nil s.kept) holds)
         by (op ∷ rest) w holds = inr (op, ap (λ (l : List Op). slice_get l 0) w, subst (λ (ops : List Op). Holds image ops) (ap (λ (l : List Op). s.kept ++ take 1 l) w) holds)
 
-module _ {D : Type 0} (view : D → DiskView) where
+module _ {order : Order} {D : Type 0} (view : D → DiskView) where
   -- memory ran out where nothing was kept
-  pub halts_unkept : (d next : DeskView) (disk now : Fused D) → Goes [] d next → IsUnkept d next → now.inner ≡ disk.inner → now.refused ≡ disk.refused → HaltsBy view d next disk now Memory
+  pub halts_unkept : (d next : DeskView) (disk now : Fused D) → Goes order [] d next → IsUnkept d next → now.inner ≡ disk.inner → now.refused ≡ disk.refused → HaltsBy order view d next disk now Memory
   halts_unkept d next disk now goes same inner refused =
       record {
         goes = goes;
@@ -147,11 +150,19 @@ module _ {D : Type 0} (view : D → DiskView) where
       }
 
   -- or nothing was done at all
-  pub halts_still : (d : DeskView) (disk : Fused D) → HaltsBy view d d disk disk Memory
-  halts_still d disk = halts_unkept d d disk disk (goes_same d) (unkept_same d) refl refl
+  pub halts_as : (d : DeskView) (disk : Fused D) (halt : Halt) → IsHaltedBy order view (λ opening. Unit {0}) (λ opening. IsKeptOn opening d.core.log (seen view disk)) d d disk disk halt → HaltsBy order view d d disk disk halt
+  halts_as d disk halt why =
+      record {
+        goes = goes_same d;
+        why = why;
+        left = λ opening is k has. keeps_leaves opening d.core.log d.core.log (seen view disk) (seen view disk) (unkept_stores opening d d (unkept_same d) (seen view disk) k has);
+      }
+
+  pub halts_still : (d : DeskView) (disk : Fused D) → HaltsBy order view d d disk disk Memory
+  halts_still d disk = halts_as d disk Memory tt
 
   -- where no life began
-  pub halts_same : (over : List Op → Type 0) (d : DeskView) (disk : Fused D) (tree : Records) → HaltsOver view over (λ opening. IsFoundOn opening d.core tree (seen view disk)) d d disk disk Memory
+  pub halts_same : (over : List Op → Type 0) (d : DeskView) (disk : Fused D) (tree : Records) → HaltsOver order view over (λ opening. IsFoundOn opening d.core tree (seen view disk)) d d disk disk Memory
   halts_same over d disk tree =
       record {
         goes = goes_any over d d (goes_same d);
@@ -173,7 +184,7 @@ module _ {D : Type 0} (view : D → DiskView) where
       → (view now.inner).size ≡ (view disk.inner).size
       → (error : StoreError) → (error ≡ store.DiskFault → faulted disk.inner now.inner)
       → ((needed room : ℕ) → error ≡ store.Full needed room → (room < needed) × (needed ≡ needed_for op) × ((ops : List Op) → Has (seen view disk) ops → room ≡ room_behind (view disk.inner).size ops))
-      → HaltsBy view d d disk now (halt_of error)
+      → HaltsBy order view d d disk now (halt_of error)
   append_halts faulted counts d disk now op unblown next is_handed leaves size error fault full =
       record {
         goes = goes_same d;
@@ -183,7 +194,7 @@ module _ {D : Type 0} (view : D → DiskView) where
     where
       by : (error : StoreError) → (error ≡ store.DiskFault → faulted disk.inner now.inner)
           → ((needed room : ℕ) → error ≡ store.Full needed room → (room < needed) × (needed ≡ needed_for op) × ((ops : List Op) → Has (seen view disk) ops → room ≡ room_behind (view disk.inner).size ops))
-          → IsHaltedBy view (λ opening. Unit {0}) (λ opening. IsKeptOn opening d.core.log (seen view disk)) d d disk now (halt_of error)
+          → IsHaltedBy order view (λ opening. Unit {0}) (λ opening. IsKeptOn opening d.core.log (seen view disk)) d d disk now (halt_of error)
       by store.DiskFault fault full = (counts disk.inner now.inner (fault refl), λ opening is k. (op, is_handed opening k))
       by (store.Full needed room) fault full = λ opening is k.
           let told = full needed room refl in
@@ -205,7 +216,7 @@ module _ {D : Type 0} (view : D → DiskView) where
   pub unlearned_halts : (d : DeskView) (disk now : Fused D) (op : Op) → ((opening : List Op) → StandsFor opening d.core → has_blown (state_after opening d.core.log) ≡ false)
       → ((opening : List Op) → StandsFor opening d.core → IsToBeKept opening d.core op)
       → ((ops : List Op) → Has (seen view disk) ops → fits_records (records ops) op ≡ true → LeavesOps (seen view disk) (seen view now) ops op)
-      → HaltsBy view d d disk now Memory
+      → HaltsBy order view d d disk now Memory
   unlearned_halts d disk now op unblown next leaves =
       record {
         goes = goes_same d;
@@ -214,10 +225,10 @@ module _ {D : Type 0} (view : D → DiskView) where
       }
 
   -- a part of a run, and one after it that halted
-  module _ (over found : List Op → Type 0) (a b c : DeskView) (first second third : Fused D) (goes : GoesOver over [] a b)
+  module _ (over found : List Op → Type 0) (a b c : DeskView) (first second third : Fused D) (goes : GoesOver order over [] a b)
       (kept : (opening : List Op) → over opening → StandsFor opening a.core → found opening → KeepsOn opening a.core.log b.core.log (seen view first) (seen view second))
       (faults : (view first.inner).faults ≤ (view second.inner).faults) where
-    pub halts_on : (halt : Halt) → HaltsBy view b c second third halt → HaltsOver view over found a c first third halt
+    pub halts_on : (halt : Halt) → HaltsBy order view b c second third halt → HaltsOver order view over found a c first third halt
     halts_on halt h =
         record {
           goes = goes_trans over [] [] a b c goes h.goes;
@@ -227,9 +238,18 @@ module _ {D : Type 0} (view : D → DiskView) where
               leaves_after opening a.core.log b.core.log c.core.log (seen view first) (seen view second) (seen view third) so_far (h.left opening tt (goes.lawful opening is k) so_far.kept);
         }
       where
-        by : (halt : Halt) → IsHaltedBy view (λ opening. Unit {0}) (λ opening. IsKeptOn opening b.core.log (seen view second)) b c second third halt → IsHaltedBy view over found a c first third halt
+        by : (halt : Halt) → IsHaltedBy order view (λ opening. Unit {0}) (λ opening. IsKeptOn opening b.core.log (seen view second)) b c second third halt → IsHaltedBy order view over found a c first third halt
         by DiskFault why = (let rose = why.0 in omega (arith, faults, rose), λ opening is k. why.1 opening tt (goes.lawful opening is k))
         by (Full needed room) why = λ opening is k.
             full_known (IsKeptOn opening b.core.log (seen view second)) (found opening) opening c.core.log (view third.inner).size needed room
             (λ has. (kept opening is k has).kept) (why opening tt (goes.lawful opening is k))
+        by (Schedule place) why = why
         by Memory why = tt
+
+-- a letter that can't move its lane halts the life where the schedule has come as far as the log
+pub stops_halt : {D : Type 0} (view : D → DiskView) (steps left : List Step) (d : DeskView) (disk : Fused D) → left ≡ left_after steps d.core.log → (halt : Halt) → Stops left d halt
+    → IsHaltedBy (by_letters steps) view (λ opening. Unit {0}) (λ opening. IsKeptOn opening d.core.log (seen view disk)) d d disk disk halt
+stops_halt view steps left d disk at DiskFault stops = absurd stops
+stops_halt view steps left d disk at (Full needed room) stops = absurd stops
+stops_halt view steps left d disk at (Schedule place) stops = subst (λ (l : List Step). StopsAt l d place) at stops
+stops_halt view steps left d disk at Memory stops = absurd stops

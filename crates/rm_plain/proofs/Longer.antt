@@ -1,7 +1,7 @@
 -- A run with one more entry.
 use Rattle.std.proofs.Common.{◌≡◌, ◌≢◌, List, [], ◌∷◌, ◌++◌, Bool, true, false, None, Some, Option, refl, sym, ◌∙◌, ap, subst}
 use Rattle.std.specs.List.{fold}
-use Rattle.std.specs.Prelude.{find, slice_get}
+use Rattle.std.specs.Prelude.{slice_get}
 use Rattle.std.proofs.lemmas.List.{append-nil, append_assoc}
 use Rattle.std.proofs.lemmas.List.Sums.{fold_push}
 use Rattle.rm_types.specs.declared.entries.Entry.{Entry}
@@ -21,13 +21,11 @@ use Rattle.rm_model.specs.Place.{Place, beginning, close_left, moved}
 use Rattle.rm_core.specs.Seen.{Seen}
 use Rattle.rm_core.specs.Words.{as_new}
 use Rattle.rm_desk.specs.View.{DeskView}
-use Rattle.rm_desk.specs.Lanes.{is_ready_at}
 use Rattle.rm_desk.specs.Runs.{IsRun as GoesAlong}
 use Rattle.rm_desk.proofs.Longer.{IsOwn, own_silent}
 use Rattle.rm_plain.specs.Falls.{falls_at, falls_from}
 use Rattle.rm_plain.specs.Goes.{IsRun}
-use Rattle.rm_plain.specs.Policy.{MovesByPolicy, policy}
-use Rattle.rm_plain.proofs.Choosing.{first_told, policy_push}
+use Rattle.rm_plain.specs.Order.{Order}
 
 -- a life that goes down at rest may be added
 downs-push : (settings : Settings) (s : Manager) (log : List Entry) (e : Entry) → AllGoDownAtRest settings s log → GoesDownAtRest settings (after_all s log) (after_all s log).life e
@@ -43,11 +41,11 @@ falls-push s p (x ∷ log) e =
     ∙ sym (append_assoc (falls_at x s.life (close_left p.segments)) (falls_from (after s x) (moved p x) log) (falls_at e (after_all (after s x) log).life (close_left (fold moved (moved p x) log).segments)))
 
 -- the run with one more entry, at which so much falls
-pub one_more : (opening : List Op) (script : Script) (fallen more : List Fallen) (d next : DeskView) (e : Entry) → IsRun opening script fallen d → GoesAlong opening script next
-    → next.core.settings ≡ d.core.settings → as_new next.core ≡ as_new d.core → find (is_ready_at d) policy ≡ Some (lane_of_entry e) → next.core.log ≡ d.core.log ++ e ∷ []
-    → GoesDownAtRest d.core.settings (state_after opening d.core.log) (state_after opening d.core.log).life e
-    → falls_at e (state_after opening d.core.log).life (close_left d.place.segments) ≡ more → IsRun opening script (fallen ++ more) next
-one_more opening script fallen more d next e run goes settings began chosen added down falls =
+pub one_more : {order : Order} (opening : List Op) (script : Script) (fallen more : List Fallen) (d next : DeskView) (e : Entry) → IsRun order opening script fallen d → GoesAlong opening script next
+    → next.core.settings ≡ d.core.settings → as_new next.core ≡ as_new d.core → (order.keeps (as_new d.core) script opening d.core.log → order.keeps (as_new d.core) script opening (d.core.log ++ e ∷ [])) → next.core.log ≡ d.core.log ++ e ∷ []
+    → (order.rests → GoesDownAtRest d.core.settings (state_after opening d.core.log) (state_after opening d.core.log).life e)
+    → falls_at e (state_after opening d.core.log).life (close_left d.place.segments) ≡ more → IsRun order opening script (fallen ++ more) next
+one_more {order} opening script fallen more d next e run goes settings began keeps added down falls =
     let log = d.core.log in
     let fell : falls_from (opening_state opening) (beginning script) (log ++ e ∷ []) ≡ fallen ++ more =
     falls-push (opening_state opening) (beginning script) log e
@@ -56,11 +54,10 @@ one_more opening script fallen more d next e run goes settings began chosen adde
     ∙ ap (λ (l : List Fallen). fallen ++ l) falls in
     record {
       goes = goes;
-      downs = rw (settings, added) (downs-push d.core.settings (opening_state opening) log e run.downs down);
+      downs = λ rests. rw (settings, added) (downs-push d.core.settings (opening_state opening) log e (run.downs rests) (down rests));
       falls = subst (λ (l : List Entry). falls_from (opening_state opening) (beginning script) l ≡ fallen ++ more) (sym added) fell;
-      policy = subst (λ (new : Seen). MovesByPolicy new script opening next.core.log) (sym began)
-          (subst (λ (l : List Entry). MovesByPolicy (as_new d.core) script opening l) (sym added)
-          (policy_push (as_new d.core) script opening log e run.policy (first_told opening script d run.goes ∙ chosen)));
+      moves = subst (λ (new : Seen). order.keeps new script opening next.core.log) (sym began)
+          (subst (λ (l : List Entry). order.keeps (as_new d.core) script opening l) (sym added) (keeps run.moves));
     }
 
 -- entries by which nothing is kept or refused, no life begins and none goes down

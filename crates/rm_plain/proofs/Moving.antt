@@ -1,6 +1,6 @@
 -- The moves of a desk, each a longer run.
 use Rattle.std.proofs.Common.{◌≡◌, ◌≢◌, ℕ, ◌<◌, ◌≤◌, List, [], ◌∷◌, ◌++◌, Bool, true, false, not, ◌&&◌, Some, None, Option, Ok, Err, Result, if◌then◌else◌, length, refl, sym, ◌∙◌, ap, subst, arith}
-use Rattle.std.specs.Prelude.{OnErr, OnOk, find, is_ok, slice_get}
+use Rattle.std.specs.Prelude.{OnErr, OnOk, is_ok, slice_get}
 use Rattle.std.proofs.lemmas.List.{append-nil}
 use Rattle.std.proofs.lemmas.List.Sums.{fold_push}
 use Rattle.rm_types.specs.declared.entries.Entry.{Entry}
@@ -35,7 +35,7 @@ use Rattle.rm_desk.proofs.Longer.{not_empty}
 use Rattle.rm_plain.specs.Falls.{fall, falls_at}
 use Rattle.rm_plain.specs.Goes.{Goes, GoesOver, IsRun}
 use Rattle.rm_plain.specs.Keeping.{IsBegun, IsUnkept, blown_in, has_blown}
-use Rattle.rm_plain.specs.Policy.{policy}
+use Rattle.rm_plain.specs.Order.{May, Order}
 use Rattle.rm_plain.proofs.Longer.{IsQuiet, falls_none, first_stays, hand_quiet, is_plain, kept_stays, main_quiet, no_down, one_more, plain_stands, sched_quiet}
 use Rattle.rm_plain.proofs.Stored.{holds_on}
 
@@ -60,9 +60,6 @@ pub err_holds : {A E : Type 0} {P : Type 0} (r : Result A E) → is_ok r ≡ fal
 err_holds (Ok x) e p = cc
 err_holds (Err x) e p = p
 
-pub some_same : {X : Type 0} (x y : X) → Some x ≡ Some y → x ≡ y
-some_same x y h = cc
-
 -- what is said of a call that gave no error
 pub no_err : {A E : Type 0} {P : Type 0} (r : Result A E) → ((e : E) → r ≡ Err e → ⊥) → OnOk r P → P
 no_err (Ok x) none p = p
@@ -76,10 +73,14 @@ pub ok_map : {X E A B : Type 0} (r : Result X E) → (A → B) → OnOk r A → 
 ok_map (Ok x) f a = f a
 ok_map (Err e) f a = tt
 
+pub both_ok : {X E A B C : Type 0} (r : Result X E) → (A → B → C) → OnOk r A → OnOk r B → OnOk r C
+both_ok (Ok x) f a b = f a b
+both_ok (Err e) f a b = tt
+
 -- nothing is a part of a run, and nothing falls in it
-pub goes_same : (d : DeskView) → Goes [] d d
-goes_same d =
-    record { settings = refl; began = refl; lives = omega arith; some = λ was. was; lawful = λ opening over k. k; run = λ opening script fallen over run. subst (λ (l : List Fallen). IsRun opening script l d) (sym (append-nil fallen)) run }
+pub goes_same : {order : Order} (d : DeskView) → Goes order [] d d
+goes_same {order = order} d =
+    record { settings = refl; began = refl; lives = omega arith; some = λ was. was; lawful = λ opening over k. k; run = λ opening script fallen over run. subst (λ (l : List Fallen). IsRun order opening script l d) (sym (append-nil fallen)) run }
 
 -- the lives that are left, where none began
 fewer : (before after : List Life) → after ≡ before → length after ≤ length before
@@ -105,10 +106,10 @@ told_blown d tells opening k = by (stands d.core) refl
     by false dead = ap (λ (o : Option LifeState). blown_in o s.blew) ((tells opening k).none dead) ∙ (tells opening k).blew dead
 
 -- what a lane's move does to a run, by which so much falls
-module _ (kind : Entry → Type 0) (blew : Bool) (lane : Lane) (d next : DeskView) (does : DoesBy kind blew lane d next) (chosen : find (is_ready_at d) policy ≡ Some lane) (lives : next.place.lives ≡ d.place.lives) (more : List Fallen)
-    (down : (opening : List Op) → StandsFor opening d.core → GoesDownAtRest d.core.settings (state_after opening d.core.log) (state_after opening d.core.log).life does.adds.entry)
+module _ {order : Order} (kind : Entry → Type 0) (blew : Bool) (lane : Lane) (d next : DeskView) (does : DoesBy kind blew lane d next) (may : May order lane d) (lives : next.place.lives ≡ d.place.lives) (more : List Fallen)
+    (down : (opening : List Op) → StandsFor opening d.core → order.rests → GoesDownAtRest d.core.settings (state_after opening d.core.log) (state_after opening d.core.log).life does.adds.entry)
     (falls : (opening : List Op) → StandsFor opening d.core → falls_at does.adds.entry (state_after opening d.core.log).life (close_left d.place.segments) ≡ more) where
-  falling_goes : Goes more d next
+  falling_goes : Goes order more d next
   falling_goes =
       record {
         settings = does.goes.settings;
@@ -117,14 +118,14 @@ module _ (kind : Entry → Type 0) (blew : Bool) (lane : Lane) (d next : DeskVie
         some = λ was. rw does.adds.added (not_empty d.core.log does.adds.entry);
         lawful = λ opening over k. does.goes.lawful opening over k;
         run = λ opening script fallen over run.
-            one_more opening script fallen more d next does.adds.entry run (does.goes.run opening script over run.goes) does.goes.settings does.goes.began (chosen ∙ ap (λ (l : Lane). Some l) (sym does.of_lane)) does.adds.added (down opening run.goes.stands) (falls opening run.goes.stands);
+            one_more opening script fallen more d next does.adds.entry run (does.goes.run opening script over run.goes) does.goes.settings does.goes.began (may.keeps opening script does.adds.entry run.goes does.of_lane) does.adds.added (down opening run.goes.stands) (falls opening run.goes.stands);
       }
 
 -- a move by which no life goes down
-step_goes : (kind : Entry → Type 0) (blew : Bool) (lane : Lane) (d next : DeskView) (does : DoesBy kind blew lane d next) → find (is_ready_at d) policy ≡ Some lane → does.adds.entry ≢ Down → next.place.lives ≡ d.place.lives → Goes [] d next
+step_goes : {order : Order} (kind : Entry → Type 0) (blew : Bool) (lane : Lane) (d next : DeskView) (does : DoesBy kind blew lane d next) → May order lane d → does.adds.entry ≢ Down → next.place.lives ≡ d.place.lives → Goes order [] d next
 step_goes kind blew lane d next does chosen no_end lives =
     falling_goes kind blew lane d next does chosen lives []
-    (λ opening k. no_down does.adds.entry d.core.settings (state_after opening d.core.log) (state_after opening d.core.log).life no_end)
+    (λ opening k rests. no_down does.adds.entry d.core.settings (state_after opening d.core.log) (state_after opening d.core.log).life no_end)
     (λ opening k. falls_none does.adds.entry (state_after opening d.core.log).life (close_left d.place.segments) no_end)
 
 -- and nothing is kept or refused
@@ -142,14 +143,14 @@ step_unkept lane d next does tells told plain =
     }
 
 -- what a move does that touches neither the store nor the end of a segment
-pub record Works (d next : DeskView) : Type 0 where
-  pub goes : Goes [] d next
+pub record Works (order : Order) (d next : DeskView) : Type 0 where
+  pub goes : Goes order [] d next
   pub same : IsUnkept d next
   pub close : close_left next.place.segments ≡ close_left d.place.segments
   pub blown : is_blown next.core ≡ is_blown d.core
 
 -- where it is of the manager's own work, its entry leaves the place as it is
-quiet_works : (lane : Lane) (d next : DeskView) (does : Does lane d next) → TellsAll d → TellsAll next → find (is_ready_at d) policy ≡ Some lane → IsQuiet does.adds.entry → Works d next
+quiet_works : {order : Order} (lane : Lane) (d next : DeskView) (does : Does lane d next) → TellsAll d → TellsAll next → May order lane d → IsQuiet does.adds.entry → Works order d next
 quiet_works lane d next does tells told chosen quiet =
     let place : next.place ≡ d.place = does.adds.place ∙ quiet.stays d.place in
     record {
@@ -164,7 +165,7 @@ close_without sender [] = refl
 close_without sender (segment ∷ more) = refl
 
 -- a message is answered
-serve_works : (sender : Sender) (lane : Lane) (d next : DeskView) (does : Does lane d next) → TellsAll d → TellsAll next → Answers sender d does.adds.entry → find (is_ready_at d) policy ≡ Some lane → Works d next
+serve_works : {order : Order} (sender : Sender) (lane : Lane) (d next : DeskView) (does : Does lane d next) → TellsAll d → TellsAll next → Answers sender d does.adds.entry → May order lane d → Works order d next
 serve_works sender lane d next does tells told answers chosen =
     let is = answers.3 in
     let place : next.place ≡ record { lives = d.place.lives; segments = segments_without sender d.place.segments } =
@@ -178,7 +179,7 @@ serve_works sender lane d next does tells told answers chosen =
       blown = does.blown;
     }
 
-pub works : (lane : Lane) (d next : DeskView) → Does lane d next → TellsAll d → TellsAll next → find (is_ready_at d) policy ≡ Some lane → IsStep lane → lane ≢ End → Works d next
+pub works : {order : Order} (lane : Lane) (d next : DeskView) → Does lane d next → TellsAll d → TellsAll next → May order lane d → IsStep lane → lane ≢ End → Works order d next
 works Client d next does tells told chosen step goes = serve_works senders.Client Client d next does tells told does.adds.of_kind chosen
 works Main d next does tells told chosen step goes = quiet_works Main d next does tells told chosen (main_quiet does.adds.entry does.adds.of_kind)
 works Sched d next does tells told chosen step goes = quiet_works Sched d next does tells told chosen (sched_quiet does.adds.entry does.adds.of_kind)
@@ -193,14 +194,14 @@ works Begin d next does tells told chosen step goes = absurd step
 -- THE STORE
 
 -- the operation that is with the store is kept
-pub kept_goes : (d next : DeskView) → Does Write d next → find (is_ready_at d) policy ≡ Some Write → Goes [] d next
+pub kept_goes : {order : Order} (d next : DeskView) → Does Write d next → May order Write d → Goes order [] d next
 kept_goes d next does chosen =
     let is = does.adds.of_kind.2 in
     let place : next.place ≡ d.place = does.adds.place ∙ ap (λ (e : Entry). moved d.place e) is in
     step_goes (IsEntryOf Write d) (is_blown d.core) Write d next does chosen (λ down. let x = sym is ∙ down in cc) (ap (λ (p : Place). p.lives) place)
 
 -- or refused
-pub blown_goes : (d next : DeskView) (passed : ℕ) → Blows passed d next → find (is_ready_at d) policy ≡ Some Write → Goes [] d next
+pub blown_goes : {order : Order} (d next : DeskView) (passed : ℕ) → Blows passed d next → May order Write d → Goes order [] d next
 blown_goes d next passed does chosen =
     let is = does.adds.of_kind in
     let place : next.place ≡ d.place = does.adds.place ∙ ap (λ (e : Entry). moved d.place e) is in
@@ -219,7 +220,7 @@ down_is : (d next : DeskView) (does : Does End d next) (calls image : ℕ) → c
 down_is d next does calls image c = rw c at does.adds.of_kind
 
 -- the current segment settles
-pub settle_goes : (d next : DeskView) → Does End d next → TellsAll d → TellsAll next → find (is_ready_at d) policy ≡ Some End → close_left d.place.segments ≡ Some Settle → Goes [] d next × IsUnkept d next
+pub settle_goes : {order : Order} (d next : DeskView) → Does End d next → TellsAll d → TellsAll next → May order End d → close_left d.place.segments ≡ Some Settle → Goes order [] d next × IsUnkept d next
 settle_goes d next does tells told chosen c =
     let is = settled_is d next does c in
     let place : next.place ≡ record { lives = d.place.lives; segments = rest_of d.place.segments } = does.adds.place ∙ ap (λ (e : Entry). moved d.place e) is in
@@ -255,37 +256,8 @@ down_awaits : (s : Manager) (life : Option LifeState) → (after_where s life Do
 down_awaits s None = refl
 down_awaits s (Some life) = refl
 
--- none of the lanes of the manager's work was ready where its end was chosen
-not_before : {X : Type 0} (b : Bool) (x : X) (rest : Option X) (y : X) → (x ≢ y) → (if b then Some x else rest) ≡ Some y → (b ≡ false) × (rest ≡ Some y)
-not_before true x rest y other h = absurd (other (some_same x y h))
-not_before false x rest y other h = (refl, h)
-
-end_idle : (d : DeskView) → find (is_ready_at d) policy ≡ Some End → HasNoWork d
-end_idle d h lane work =
-    let main = not_before (is_ready_at d Main) Main _ End (λ e. cc) h in
-    let sched = not_before (is_ready_at d Sched) Sched _ End (λ e. cc) main.1 in
-    let client = not_before (is_ready_at d Client) Client _ End (λ e. cc) sched.1 in
-    let master = not_before (is_ready_at d Master) Master _ End (λ e. cc) client.1 in
-    let node = not_before (is_ready_at d Node) Node _ End (λ e. cc) master.1 in
-    let clock = not_before (is_ready_at d Clock) Clock _ End (λ e. cc) node.1 in
-    let hand = not_before (is_ready_at d Hand) Hand _ End (λ e. cc) clock.1 in
-    let write = not_before (is_ready_at d Write) Write _ End (λ e. cc) hand.1 in
-    by lane work main.0 sched.0 hand.0 write.0
-  where
-    by : (lane : Lane) → IsWork lane → is_ready_at d Main ≡ false → is_ready_at d Sched ≡ false → is_ready_at d Hand ≡ false → is_ready_at d Write ≡ false → is_ready_at d lane ≡ false
-    by Main work main sched hand write = main
-    by Sched work main sched hand write = sched
-    by Hand work main sched hand write = hand
-    by Write work main sched hand write = write
-    by Client work main sched hand write = absurd work
-    by Master work main sched hand write = absurd work
-    by Node work main sched hand write = absurd work
-    by Clock work main sched hand write = absurd work
-    by End work main sched hand write = absurd work
-    by Begin work main sched hand write = absurd work
-
 -- the life goes down
-module _ (d next : DeskView) (does : Does End d next) (chosen : find (is_ready_at d) policy ≡ Some End) (tells : TellsAll d) (told : TellsAll next) (idle : is_blown d.core ≡ false → HasNoWork d → has_rest d.core)
+module _ {order : Order} (d next : DeskView) (does : Does End d next) (may : May order End d) (tells : TellsAll d) (told : TellsAll next) (idle : is_blown d.core ≡ false → HasNoWork d → has_rest d.core)
     (calls image : ℕ) (c : close_left d.place.segments ≡ Some (Crash calls image)) where
   down_entry : does.adds.entry ≡ Down
   down_entry = down_is d next does calls image c
@@ -296,13 +268,13 @@ module _ (d next : DeskView) (does : Does End d next) (chosen : find (is_ready_a
   down_log : next.core.log ≡ d.core.log ++ Down ∷ []
   down_log = does.adds.added ∙ ap (λ (e : Entry). d.core.log ++ e ∷ []) down_entry
 
-  pub down_goes : Goes (fall calls image (is_blown d.core) ∷ []) d next
+  pub down_goes : Goes order (fall calls image (is_blown d.core) ∷ []) d next
   down_goes =
-      falling_goes (IsEntryOf End d) (is_blown d.core) End d next does chosen (ap (λ (p : Place). p.lives) down_place) (fall calls image (is_blown d.core) ∷ [])
-      (λ opening k.
+      falling_goes (IsEntryOf End d) (is_blown d.core) End d next does may (ap (λ (p : Place). p.lives) down_place) (fall calls image (is_blown d.core) ∷ [])
+      (λ opening k rests.
       let s = state_after opening d.core.log in
       subst (GoesDownAtRest d.core.settings s s.life) (sym down_entry)
-      (at_rest_down d.core.settings s (is_blown d.core) s.life ((tells opening k).life does.stood) (λ unblown. (tells opening k).at_rest (idle unblown (end_idle d chosen)))))
+      (at_rest_down d.core.settings s (is_blown d.core) s.life ((tells opening k).life does.stood) (λ unblown. (tells opening k).at_rest (idle unblown (may.rests rests refl unblown)))))
       (λ opening k. ap (λ (e : Entry). falls_at e (state_after opening d.core.log).life (close_left d.place.segments)) down_entry
       ∙ ap (λ (close : Option Close). falls_at Down (state_after opening d.core.log).life close) c
       ∙ falls_down (is_blown d.core) (state_after opening d.core.log).life calls image ((tells opening k).life does.stood))
@@ -346,8 +318,8 @@ module _ (tree : Records) (d next : DeskView) (begins : Begins tree d next) wher
   not_down : begins.adds.entry ≢ Down
   not_down = λ down. let x = sym begins.adds.of_kind.2 ∙ down in cc
 
-  pub begin_goes : find (is_ready_at d) policy ≡ Some Begin → GoesOver (λ opening. IsLeft tree (state_after opening d.core.log)) [] d next
-  begin_goes chosen =
+  pub begin_goes : {order : Order} → May order Begin d → GoesOver order (λ opening. IsLeft tree (state_after opening d.core.log)) [] d next
+  begin_goes may =
       record {
         settings = begins.goes.settings;
         began = begins.goes.began;
@@ -355,8 +327,8 @@ module _ (tree : Records) (d next : DeskView) (begins : Begins tree d next) wher
         some = λ was. rw begins.adds.added (not_empty d.core.log begins.adds.entry);
         lawful = λ opening over k. begins.goes.lawful opening over k;
         run = λ opening script fallen over run.
-            one_more opening script fallen [] d next begins.adds.entry run (begins.goes.run opening script over run.goes) begins.goes.settings begins.goes.began (chosen ∙ ap (λ (l : Lane). Some l) (sym (ap lane_of_entry begins.adds.of_kind.2))) begins.adds.added
-            (no_down begins.adds.entry d.core.settings (state_after opening d.core.log) (state_after opening d.core.log).life not_down)
+            one_more opening script fallen [] d next begins.adds.entry run (begins.goes.run opening script over run.goes) begins.goes.settings begins.goes.began (may.keeps opening script begins.adds.entry run.goes (ap lane_of_entry begins.adds.of_kind.2)) begins.adds.added
+            (λ rests. no_down begins.adds.entry d.core.settings (state_after opening d.core.log) (state_after opening d.core.log).life not_down)
             (falls_none begins.adds.entry (state_after opening d.core.log).life (close_left d.place.segments) not_down);
       }
 

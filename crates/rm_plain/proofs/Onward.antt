@@ -1,5 +1,6 @@
 -- The first life of a script, and one life after the other.
 use Rattle.std.proofs.Common.{◌≡◌, ◌≢◌, ◌⊎◌, ℕ, ◌^◌, ◌-◌, ◌<◌, List, [], ◌∷◌, ◌++◌, Bool, true, false, Option, Some, None, Ok, Err, Result, take, slice_get, refl, sym, ◌∙◌, ap, subst, inl, inr, ⊎_elim, arith}
+use Rattle.std.specs.Prelude.{IfErr}
 use Rattle.std.proofs.lemmas.List.{append-nil, append_assoc}
 use Rattle.rm_types.specs.declared.operations.Op.{Op}
 use Rattle.rm_types.specs.declared.entries.Entry.{Entry}
@@ -12,6 +13,14 @@ use Rattle.rm_formats.specs.Device.{Holds}
 use Rattle.rm_model.specs.Changes.{kept_after_landing}
 use Rattle.rm_model.specs.Lawful.{state_after}
 use Rattle.rm_model.specs.State.{LifeState, Manager}
+use Rattle.rm_plain.specs.declared.schedule.Step.{Step}
+use Rattle.rm_store.specs.Causes.{IsWhy}
+use Rattle.rm_store.specs.Errors.{IsOpenError}
+use Rattle.rm_store.specs.declared.fault.StoreError.{StoreError}
+use Rattle.rm_store.specs.declared.fault.StoreError.TheVariants as store
+use Rattle.rm_plain.specs.Opens.{IsOfDevice, OpensAgain}
+use Rattle.rm_plain.specs.Order.{Order}
+use Rattle.rm_plain.specs.Schedule.{Stops, StopsAt, by_letters, left_after}
 use Rattle.rm_plain.specs.Survives.{HoldsKept, HoldsWithin, SurvivesAll, SurvivesNow}
 use Rattle.rm_store.specs.Store.{StoreState, seen}
 use Rattle.rm_store.proofs.Faultless.{one_list, never_damaged, never_stray}
@@ -24,7 +33,7 @@ use Rattle.rm_desk.specs.Does.{IsHanded}
 use Rattle.rm_plain.specs.declared.halts.Halt.{Halt}
 use Rattle.rm_plain.specs.declared.halts.Halt.TheVariants as halts
 use Rattle.rm_plain.specs.declared.halts.Stop.{Stop}
-use Rattle.rm_plain.specs.declared.halts.Stop.TheVariants.{DiskFault, Damaged, Full, EpochsSpent, Memory}
+use Rattle.rm_plain.specs.declared.halts.Stop.TheVariants.{DiskFault, Damaged, Full, Schedule, EpochsSpent, Memory}
 use Rattle.rm_plain.specs.Goes.{GoesOver, IsOver}
 use Rattle.rm_plain.specs.Halted.{stop_of}
 use Rattle.rm_plain.specs.Keeping.{HaltsOver, HoldsBy, IsFoundOn, IsHaltedBy, IsKeptOn, KeepsOn, LeavesOn, blown_in, has_blown}
@@ -37,7 +46,7 @@ use Rattle.rm_plain.proofs.Moving.{goes_same}
 use Rattle.rm_plain.proofs.Stored.{holds_kept, keeps_trans, within_longer}
 
 -- a device that holds operations is a store
-no_store_not : (bytes : List ℕ) (ops : List Op) (offset : ℕ) → Holds bytes ops → IsNoStore offset bytes → ⊥
+pub no_store_not : (bytes : List ℕ) (ops : List Op) (offset : ℕ) → Holds bytes ops → IsNoStore offset bytes → ⊥
 no_store_not bytes ops offset holds why = ⊎_elim (λ damaged. never_damaged bytes ops holds offset damaged) (λ stray. never_stray bytes ops holds stray.0 offset stray.1) why
 
 -- so is one that holds what is kept, or this and one more
@@ -45,13 +54,25 @@ no_store_kept : (s : Manager) (bytes : List ℕ) (offset : ℕ) → HoldsKept s 
 no_store_kept s bytes offset (inl holds) why = no_store_not bytes s.kept offset holds why
 no_store_kept s bytes offset (inr (op, first, holds)) why = no_store_not bytes (s.kept ++ op ∷ []) offset holds why
 
+-- so what a run left opens again
+pub opens_again : (opening : List Op) (log : List Entry) → OpensAgain opening log
+opens_again opening log image holds why is_open cause = by why is_open cause
+  where
+    by : (why : StoreError) → IsOpenError why → IsWhy image why → IsOfDevice why
+    by store.DiskFault is_open cause = tt
+    by (store.Damaged offset) is_open cause = no_store_kept (state_after opening log) image offset holds (inl cause)
+    by (store.Stray number offset) is_open cause = no_store_kept (state_after opening log) image offset holds (inr (number, cause))
+    by (store.Full needed room) is_open cause = absurd is_open
+    by store.NeedsReopen is_open cause = absurd is_open
+    by store.Memory is_open cause = tt
+
 -- the first of a list, taken
 take_first : (ops : List Op) (op : Op) → slice_get ops 0 ≡ Some op → take 1 ops ≡ op ∷ []
 take_first [] op h = cc
 take_first (one ∷ ops) op h = let same : one ≡ op = cc in ap (λ (x : Op). x ∷ []) same
 
 -- before the first life nothing is with the store
-never_handed : (opening : List Op) (op : Op) → IsHanded opening [] op → ⊥
+pub never_handed : (opening : List Op) (op : Op) → IsHanded opening [] op → ⊥
 never_handed opening op h = let never = h.first in cc
 
 module _ {D : Type 0} (view : D → DiskView) where
@@ -67,6 +88,7 @@ module _ {D : Type 0} (view : D → DiskView) where
   unopened_again opening log disk now (Damaged offset) h = λ has. absurd (no_store_kept (state_after opening log) has.bytes offset (holds_kept (state_after opening log) has.bytes has.holds) (h has.bytes has.told))
   unopened_again opening log disk now Memory h = tt
   unopened_again opening log disk now (Full needed room) h = absurd h
+  unopened_again opening log disk now (Schedule place) h = absurd h
   unopened_again opening log disk now EpochsSpent h = absurd h
 
   -- the first life's store wasn't opened
@@ -75,6 +97,7 @@ module _ {D : Type 0} (view : D → DiskView) where
   unopened_first disk now (Damaged offset) h = (refl, h)
   unopened_first disk now Memory h = tt
   unopened_first disk now (Full needed room) h = absurd h
+  unopened_first disk now (Schedule place) h = absurd h
   unopened_first disk now EpochsSpent h = absurd h
 
   module _ (disk : Fused D) (store : StoreState D) (tree : Records) (ops : List Op) (o : IsOpened view disk store tree ops) where
@@ -148,6 +171,7 @@ module _ {D : Type 0} (view : D → DiskView) where
     refused_first EpochsSpent h = (o.holds, (tree, inl o.read.amounts, h))
     refused_first DiskFault h = absurd h
     refused_first (Full needed room) h = absurd h
+    refused_first (Schedule place) h = absurd h
     refused_first Memory h = absurd h
 
     -- or for those that the last life left
@@ -156,6 +180,7 @@ module _ {D : Type 0} (view : D → DiskView) where
     refused_again opening core left EpochsSpent h = (tree, left, h)
     refused_again opening core left DiskFault h = absurd h
     refused_again opening core left (Full needed room) h = absurd h
+    refused_again opening core left (Schedule place) h = absurd h
     refused_again opening core left Memory h = absurd h
 
     pub is_first : tree.next_epoch < 2 ^ 24 → tree.stamp < 2 ^ 63 - 1 → IsFirst view disk store tree ops
@@ -179,18 +204,6 @@ module _ {D : Type 0} (view : D → DiskView) where
               (λ image is. after_within opening core.log image (holds_kept (state_after opening core.log) image (has.images image is))) o.quiet.time;
         }
 
-  -- a part of a run over fewer opening lists
-  pub goes_over : (P Q : List Op → Type 0) (more : List Fallen) (a b : DeskView) → ((opening : List Op) → Q opening → StandsFor opening a.core → P opening) → GoesOver P more a b → GoesOver Q more a b
-  goes_over P Q more a b from g =
-      record {
-        settings = g.settings;
-        began = g.began;
-        lives = g.lives;
-        some = g.some;
-        lawful = λ opening q k. g.lawful opening (from opening q k) k;
-        run = λ opening script fallen q run. g.run opening script fallen (from opening q run.goes.stands) run;
-      }
-
   -- what was done before a part of a run, in which the store wrote nothing
   keeps_before : (opening : List Op) (log longer : List Entry) (a b c : DiskView) → Leaves a b (HoldsWithin opening log) → KeepsOn opening log longer b c → KeepsOn opening log longer a c
   keeps_before opening log longer a b c time k =
@@ -210,6 +223,19 @@ module _ {D : Type 0} (view : D → DiskView) where
         grows = l.grows;
       }
 
+module _ (order : Order) {D : Type 0} (view : D → DiskView) where
+  -- a part of a run over fewer opening lists
+  pub goes_over : (P Q : List Op → Type 0) (more : List Fallen) (a b : DeskView) → ((opening : List Op) → Q opening → StandsFor opening a.core → P opening) → GoesOver order P more a b → GoesOver order Q more a b
+  goes_over P Q more a b from g =
+      record {
+        settings = g.settings;
+        began = g.began;
+        lives = g.lives;
+        some = g.some;
+        lawful = λ opening q k. g.lawful opening (from opening q k) k;
+        run = λ opening script fallen q run. g.run opening script fallen (from opening q run.goes.stands) run;
+      }
+
   -- a life after an earlier one
   module _ (d new : DeskView) (disk now : Fused D) (store : StoreState D) (tree : Records) (again : IsAgain view d.core disk store tree) where
     abbrev over : List Op → Type 0
@@ -218,43 +244,44 @@ module _ {D : Type 0} (view : D → DiskView) where
     abbrev found : List Op → Type 0
     found opening = IsFoundOn opening d.core tree (seen view store.disk)
 
-    halted_later : (stop : Stop) → Halts view over found d new store.disk now stop → (halt : Halt) → IsHaltedBy view over found d new store.disk now halt
-        → (opening : List Op) → StandsFor opening d.core → IsLaterStop view opening d new disk now (stop_of halt)
+    halted_later : (stop : Stop) → Halts order view over found d new store.disk now stop → (halt : Halt) → IsHaltedBy order view over found d new store.disk now halt
+        → (opening : List Op) → StandsFor opening d.core → IsLaterStop order view opening d new disk now (stop_of halt)
     halted_later stop h halts.DiskFault why opening k =
         (let before = again.ready.stays.faults in let rose = why.0 in omega arith, inr (why.1 opening (again.left opening k) k))
     halted_later stop h (halts.Full needed room) why opening k =
         full_known (found opening) (IsKeptOn opening d.core.log (seen view disk)) opening new.core.log (view now.inner).size needed room
         (λ has. again.found opening k has) (why opening (again.left opening k) k)
+    halted_later stop h (halts.Schedule place) why opening k = why
     halted_later stop h halts.Memory why opening k = tt
 
-    pub again_to : (r : Result (Unit {0}) Stop) → LivesTo view over found d new store.disk now r → LaterTo view d new disk now r
+    pub again_to : (r : Result (Unit {0}) Stop) → LivesTo order view over found d new store.disk now r → LaterTo order view d new disk now r
     again_to (Ok x) l =
         record {
           fallen = l.fallen;
           goes = goes_over over (λ opening. Unit {0}) l.fallen d new (λ opening q k. again.left opening k) l.goes;
           falls = l.falls ∙ ap (λ (xs : List Fallen). xs ++ l.fallen) again.ready.falls;
           at_ease = l.at_ease;
-          disk_stays = stays_trans disk store.disk now again.ready.stays l.disk_stays;
+          disk_stays = stays_trans view disk store.disk now again.ready.stays l.disk_stays;
           ends = l.ends;
           some = l.some;
           kept = λ opening q k has.
-              keeps_before opening d.core.log new.core.log (seen view disk) (seen view store.disk) (seen view now) (again.time opening k has) (l.kept opening (again.left opening k) k (again.found opening k has));
+              keeps_before view opening d.core.log new.core.log (seen view disk) (seen view store.disk) (seen view now) (again.time opening k has) (l.kept opening (again.left opening k) k (again.found opening k has));
         }
     again_to (Err stop) h =
         record {
           fallen = [];
           goes = goes_over over (λ opening. Unit {0}) [] d new (λ opening q k. again.left opening k) h.halted.goes;
           falls = h.falls ∙ again.ready.falls ∙ sym (append-nil disk.falls);
-          stays = stays_trans disk store.disk now again.ready.stays h.disk_stays;
+          stays = stays_trans view disk store.disk now again.ready.stays h.disk_stays;
           at_ease = h.at_ease;
-          why = λ opening k. subst (λ (s : Stop). IsLaterStop view opening d new disk now s) (sym h.stops) (halted_later stop h h.halt h.halted.why opening k);
+          why = λ opening k. subst (λ (s : Stop). IsLaterStop order view opening d new disk now s) (sym h.stops) (halted_later stop h h.halt h.halted.why opening k);
           left = λ opening q k has.
-              leaves_before opening d.core.log new.core.log (seen view disk) (seen view store.disk) (seen view now) (again.time opening k has) (h.halted.left opening (again.left opening k) k (again.found opening k has));
+              leaves_before view opening d.core.log new.core.log (seen view disk) (seen view store.disk) (seen view now) (again.time opening k has) (h.halted.left opening (again.left opening k) k (again.found opening k has));
         }
 
   -- a later life that had no store to begin over
   pub stopped_before : (d : DeskView) (disk now : Fused D) (stop : Stop) → stands d.core ≡ false → d.place.lives ≢ [] → IsGivenBack view disk now
-      → ((opening : List Op) → StandsFor opening d.core → IsUnready view opening d.core.log disk now stop) → StopsLater view d d disk now stop
+      → ((opening : List Op) → StandsFor opening d.core → IsUnready view opening d.core.log disk now stop) → StopsLater order view d d disk now stop
   stopped_before d disk now stop dead lives back why =
       record {
         fallen = [];
@@ -275,16 +302,17 @@ module _ {D : Type 0} (view : D → DiskView) where
       due : IsDueAt d
       due = record { dead = dead; lives = lives }
 
-      by : (opening : List Op) (stop : Stop) → IsUnready view opening d.core.log disk now stop → IsLaterStop view opening d d disk now stop
+      by : (opening : List Op) (stop : Stop) → IsUnready view opening d.core.log disk now stop → IsLaterStop order view opening d d disk now stop
       by opening DiskFault why = (why, inl due)
       by opening (Damaged offset) why = (due, why)
       by opening (Full needed room) why = absurd why
+      by opening (Schedule place) why = absurd why
       by opening EpochsSpent why = (due, why)
       by opening Memory why = tt
 
   -- lives over a disk that has what is kept
   abbrev LivesLater : DeskView → DeskView → Fused D → Fused D → Type 0
-  LivesLater old new disk now = Lives view (λ opening. Unit {0}) (λ opening. IsKeptOn opening old.core.log (seen view disk)) old new disk now
+  LivesLater old new disk now = Lives order view (λ opening. Unit {0}) (λ opening. IsKeptOn opening old.core.log (seen view disk)) old new disk now
 
   -- no life was lived yet
   pub lives_same : (d : DeskView) (disk : Fused D) → IsAtEase disk → (stands d.core ≡ false) ⊎ IsOver d → d.core.log ≢ [] → LivesLater d d disk disk
@@ -294,11 +322,30 @@ module _ {D : Type 0} (view : D → DiskView) where
         goes = goes_same d;
         falls = sym (append-nil disk.falls);
         at_ease = at_ease;
-        disk_stays = stays_same disk;
+        disk_stays = stays_same view disk;
         ends = ends;
         some = some;
         kept = λ opening q k has.
             record { kept = has; time = leaves_same (seen view disk) (HoldsWithin opening d.core.log); more = []; grows = sym (append-nil d.core.log) };
+      }
+
+  -- a later life that did not begin, of whose disk no call was made
+  stops_here : (d : DeskView) (disk : Fused D) (stop : Stop) → IsAtEase disk → ((opening : List Op) → StandsFor opening d.core → IsLaterStop order view opening d d disk disk stop) → StopsLater order view d d disk disk stop
+  stops_here d disk stop at_ease why =
+      record {
+        fallen = [];
+        goes = goes_same d;
+        falls = sym (append-nil disk.falls);
+        stays = stays_same view disk;
+        at_ease = at_ease;
+        why = why;
+        left = λ opening q k has.
+            record {
+              time = leaves_same (seen view disk) (HoldsWithin opening d.core.log);
+              now = λ image is. holds_kept (state_after opening d.core.log) image (has.images image is);
+              more = [];
+              grows = sym (append-nil d.core.log);
+            };
       }
 
   module _ (a b c : DeskView) (first second third : Fused D) (ab : LivesLater a b first second) where
@@ -309,7 +356,7 @@ module _ {D : Type 0} (view : D → DiskView) where
           goes = goes_trans (λ opening. Unit {0}) ab.fallen bc.fallen a b c ab.goes bc.goes;
           falls = bc.falls ∙ ap (λ (xs : List Fallen). xs ++ bc.fallen) ab.falls ∙ append_assoc first.falls ab.fallen bc.fallen;
           at_ease = bc.at_ease;
-          disk_stays = stays_trans first second third ab.disk_stays bc.disk_stays;
+          disk_stays = stays_trans view first second third ab.disk_stays bc.disk_stays;
           ends = bc.ends;
           some = bc.some;
           kept = λ opening q k has.
@@ -317,22 +364,23 @@ module _ {D : Type 0} (view : D → DiskView) where
               keeps_trans opening a.core.log b.core.log c.core.log (seen view first) (seen view second) (seen view third) one (bc.kept opening q (ab.goes.lawful opening q k) one.kept);
         }
 
-    later_stop : (opening : List Op) → StandsFor opening a.core → (stop : Stop) → IsLaterStop view opening b c second third stop → IsLaterStop view opening a c first third stop
+    later_stop : (opening : List Op) → StandsFor opening a.core → (stop : Stop) → IsLaterStop order view opening b c second third stop → IsLaterStop order view opening a c first third stop
     later_stop opening k DiskFault why = (let before = ab.disk_stays.faults in let rose = why.0 in omega arith, why.1)
     later_stop opening k (Damaged offset) why = (why.0, λ has. why.1 (ab.kept opening tt k has).kept)
     later_stop opening k (Full needed room) why =
         full_known (IsKeptOn opening b.core.log (seen view second)) (IsKeptOn opening a.core.log (seen view first)) opening c.core.log (view third.inner).size needed room
         (λ has. (ab.kept opening tt k has).kept) why
+    later_stop opening k (Schedule place) why = why
     later_stop opening k EpochsSpent why = why
     later_stop opening k Memory why = tt
 
-    pub stops_after : (stop : Stop) → StopsLater view b c second third stop → StopsLater view a c first third stop
+    pub stops_after : (stop : Stop) → StopsLater order view b c second third stop → StopsLater order view a c first third stop
     stops_after stop bc =
         record {
           fallen = ab.fallen ++ bc.fallen;
           goes = goes_trans (λ opening. Unit {0}) ab.fallen bc.fallen a b c ab.goes bc.goes;
           falls = bc.falls ∙ ap (λ (xs : List Fallen). xs ++ bc.fallen) ab.falls ∙ append_assoc first.falls ab.fallen bc.fallen;
-          stays = stays_trans first second third ab.disk_stays bc.stays;
+          stays = stays_trans view first second third ab.disk_stays bc.stays;
           at_ease = bc.at_ease;
           why = λ opening k. later_stop opening k stop (bc.why opening (ab.goes.lawful opening tt k));
           left = λ opening q k has.
@@ -370,22 +418,23 @@ module _ {D : Type 0} (view : D → DiskView) where
         }
 
     -- a halt of it stops the run
-    halted_first : (stop : Stop) → Halts view over_first found_first d new store.disk now stop → (halt : Halt)
-        → IsHaltedBy view over_first found_first d new store.disk now halt → StandsFor opening d.core
-        → IsStoppedBy view (IsDueAt new) disk now opening new.core.log (stop_of halt)
-    halted_first stop h halts.DiskFault why k =
+    halted_first : (stop : Stop) (h : Halts order view over_first found_first d new store.disk now stop) (halt : Halt)
+        → IsHaltedBy order view over_first found_first d new store.disk now halt → h.halt ≡ halt → StandsFor opening d.core
+        → IsStoppedBy view (IsDueAt new) (order.stops new) disk now opening new.core.log (stop_of halt)
+    halted_first stop h halts.DiskFault why is k =
         let handed = why.1 opening (left_first opening refl) k in (
           let before = first.ready.stays.faults in let rose = why.0 in omega arith,
           inr handed,
           λ none. absurd (never_handed opening handed.0 (subst (λ (l : List Entry). IsHanded opening l handed.0) none handed.1)),
         )
-    halted_first stop h (halts.Full needed room) why k =
+    halted_first stop h (halts.Full needed room) why is k =
         full_known (found_first opening) (IsTold (seen view disk)) opening new.core.log (view now.inner).size needed room
         (λ told. is_found told.0 told.1 k) (why opening (left_first opening refl) k)
-    halted_first stop h halts.Memory why k = tt
+    halted_first stop h (halts.Schedule place) why is k = (why, λ none. let x = sym is ∙ h.unbegun none in cc)
+    halted_first stop h halts.Memory why is k = tt
 
     -- and what is left then
-    survives_first : (halt : Halt) → HaltsOver view over_first found_first d new store.disk now halt → StandsFor opening d.core
+    survives_first : (halt : Halt) → HaltsOver order view over_first found_first d new store.disk now halt → StandsFor opening d.core
         → SurvivesAll opening new.core.log (seen view disk) (seen view now) × SurvivesNow opening new.core.log (seen view disk) (seen view now)
     survives_first halt h k = (
       λ bytes told.
@@ -399,14 +448,14 @@ module _ {D : Type 0} (view : D → DiskView) where
       λ some bytes told. (h.left opening (left_first opening refl) k (is_found bytes told k)).now,
     )
 
-    pub first_to : (r : Result (Unit {0}) Stop) → LivesTo view over_first found_first d new store.disk now r → FirstTo view opening d new disk now r
+    pub first_to : (r : Result (Unit {0}) Stop) → LivesTo order view over_first found_first d new store.disk now r → FirstTo order view opening d new disk now r
     first_to (Ok x) l =
         record {
           fallen = l.fallen;
           goes = goes_over over_first (λ ops. ops ≡ opening) l.fallen d new (λ ops q k. left_first ops q) l.goes;
           falls = l.falls ∙ ap (λ (xs : List Fallen). xs ++ l.fallen) first.ready.falls;
           at_ease = l.at_ease;
-          stays = stays_trans disk store.disk now first.ready.stays l.disk_stays;
+          stays = stays_trans view disk store.disk now first.ready.stays l.disk_stays;
           ends = l.ends;
           some = l.some;
           opened = λ bytes told. (first.kept bytes told).0;
@@ -424,18 +473,18 @@ module _ {D : Type 0} (view : D → DiskView) where
         record {
           goes = goes_over over_first (λ ops. ops ≡ opening) [] d new (λ ops q k. left_first ops q) h.halted.goes;
           falls = h.falls ∙ first.ready.falls;
-          stays = stays_trans disk store.disk now first.ready.stays h.disk_stays;
+          stays = stays_trans view disk store.disk now first.ready.stays h.disk_stays;
           at_ease = h.at_ease;
           held = λ some bytes told. (first.kept bytes told).0;
           found = inr (λ bytes told. (first.kept bytes told).0);
           quiet = λ none. quiet_trans (seen view disk) (seen view store.disk) (seen view now) first.quiet (h.quiet none);
           left = λ k. survives_first h.halt h.halted k;
-          why = λ k. subst (λ (s : Stop). IsStoppedBy view (IsDueAt new) disk now opening new.core.log s) (sym h.stops) (halted_first stop h h.halt h.halted.why k);
+          why = λ k. subst (λ (s : Stop). IsStoppedBy view (IsDueAt new) (order.stops new) disk now opening new.core.log s) (sym h.stops) (halted_first stop h h.halt h.halted.why refl k);
         }
 
   -- the first life had no store to begin over
   pub unfounded_stops : (d : DeskView) (disk now : Fused D) (opening : List Op) (stop : Stop) → stands d.core ≡ false → d.place.lives ≢ [] → d.core.log ≡ [] → IsGivenBack view disk now
-      → (opening ≡ []) ⊎ Tells (seen view disk) (λ bytes. Holds bytes opening) → IsUnfounded view opening disk now stop → FirstStopped view opening d d disk now stop
+      → (opening ≡ []) ⊎ Tells (seen view disk) (λ bytes. Holds bytes opening) → IsUnfounded view opening disk now stop → FirstStopped order view opening d d disk now stop
   unfounded_stops d disk now opening stop dead lives empty back found why =
       record {
         goes = goes_any (λ ops. ops ≡ opening) d d (goes_same d);
@@ -459,9 +508,29 @@ module _ {D : Type 0} (view : D → DiskView) where
       due : IsDueAt d
       due = record { dead = dead; lives = lives }
 
-      by : (stop : Stop) → IsUnfounded view opening disk now stop → IsStoppedBy view (IsDueAt d) disk now opening d.core.log stop
+      by : (stop : Stop) → IsUnfounded view opening disk now stop → IsStoppedBy view (IsDueAt d) (order.stops d) disk now opening d.core.log stop
       by DiskFault why = (why.1, inl due, λ none. why.0)
       by (Damaged offset) why = (due, λ bytes told. (empty, why.0, why.1 bytes told), λ none. why.0)
       by (Full needed room) why = absurd why
+      by (Schedule place) why = absurd why
       by EpochsSpent why = (due, (why.0, subst (λ (l : List Entry). NoneLeft opening l) (sym empty) why.1))
       by Memory why = tt
+
+-- the letters stopped the run before a later life
+module _ {D : Type 0} (view : D → DiskView) (steps left : List Step) (a b : DeskView) (first second : Fused D) (lived : Lives (by_letters steps) view (λ opening. Unit {0}) (λ opening. IsKeptOn opening a.core.log (seen view first)) a b first second)
+    (at : left ≡ left_after steps b.core.log) where
+  at_place : (stop : Stop) (place : ℕ) → stop ≡ Schedule place → StopsAt left b place → StopsLater (by_letters steps) view a b first second stop
+  at_place stop place is stops =
+      stops_after (by_letters steps) view a b b first second second lived stop
+      (subst (λ (s : Stop). StopsLater (by_letters steps) view b b second second s) (sym is)
+      (stops_here (by_letters steps) view b second (Schedule place) lived.at_ease (λ opening k. subst (λ (l : List Step). StopsAt l b place) at stops)))
+
+  pub letter_stops : (halt : Halt) → Stops left b halt → StopsLater (by_letters steps) view a b first second (stop_of halt)
+  letter_stops halts.DiskFault stops = absurd stops
+  letter_stops (halts.Full needed room) stops = absurd stops
+  letter_stops (halts.Schedule place) stops = at_place (Schedule place) place refl stops
+  letter_stops halts.Memory stops = absurd stops
+
+  pub lives_end : (r : Result (Unit {0}) Stop) → IfErr r (λ stop. (place : ℕ) × (stop ≡ Schedule place) × StopsAt left b place) → LaterTo (by_letters steps) view a b first second r
+  lives_end (Ok x) stops = lived
+  lives_end (Err stop) stops = at_place stop stops.0 stops.1 stops.2

@@ -1,6 +1,6 @@
 -- A life starts over what its disk holds, and leaves what it kept there.
 use Rattle.std.proofs.Common.{◌≡◌, ℕ, List, [], ◌∷◌, ◌++◌, Bool, true, false, Some, None, Option, Ok, Err, Result, refl, sym, ◌∙◌, ap, subst, inl, inr, arith}
-use Rattle.std.specs.Prelude.{IfOk, IfErr}
+use Rattle.std.specs.Prelude.{IfOk, IfErr, OnOk}
 use Rattle.std.proofs.lemmas.List.{append-nil}
 use Rattle.rm_types.specs.declared.operations.Op.{Op}
 use Rattle.rm_types.specs.declared.entries.Entry.{Entry}
@@ -11,6 +11,7 @@ use Rattle.rm_disk.specs.Fuse.{Fused, KeepsFuse, blown_after_fall, fallen_fuse, 
 use Rattle.rm_disk.proofs.Views.{leaves_of, leaves_same, quiet_same, told_after}
 use Rattle.rm_formats.specs.Device.{Holds}
 use Rattle.rm_model.specs.Lawful.{state_after}
+use Rattle.rm_plain.specs.Order.{Order}
 use Rattle.rm_plain.specs.Survives.{HoldsWithin}
 use Rattle.rm_store.specs.Store.{StoreState, AreRead, IsSound as IsStoreSound, seen}
 use Rattle.rm_core.specs.Adds.{IsLeft}
@@ -111,16 +112,18 @@ module _ {D : Type 0} (view : D → DiskView) where
         grows = sym (append-nil log);
       }
 
+module _ {order : Order} {D : Type 0} (view : D → DiskView) where
   -- disarming a fuse changes nothing of what is told of a halt
-  disarmed_halts : (over found : List Op → Type 0) (d new : DeskView) (disk now : Fused D) (halt : Halt) → HaltsOver view over found d new disk now halt → HaltsOver view over found d new disk (disarmed now) halt
+  disarmed_halts : (over found : List Op → Type 0) (d new : DeskView) (disk now : Fused D) (halt : Halt) → HaltsOver order view over found d new disk now halt → HaltsOver order view over found d new disk (disarmed now) halt
   disarmed_halts over found d new disk now halt h = record { goes = h.goes; why = why halt h.why; left = h.left }
     where
-      why : (halt : Halt) → IsHaltedBy view over found d new disk now halt → IsHaltedBy view over found d new disk (disarmed now) halt
+      why : (halt : Halt) → IsHaltedBy order view over found d new disk now halt → IsHaltedBy order view over found d new disk (disarmed now) halt
       why halts.DiskFault is = is
       why (halts.Full needed room) is = is
+      why (halts.Schedule place) is = is
       why halts.Memory is = tt
 
-  module _ (over found : List Op → Type 0) (d mid new : DeskView) (store one two : StoreState D) (goes : GoesOver over [] d mid) (begun : Begins view over found d mid store one)
+  module _ (over found : List Op → Type 0) (d mid new : DeskView) (store one two : StoreState D) (goes : GoesOver order over [] d mid) (begun : Begins view over found d mid store one)
       (first : FuseStays view store.disk one.disk) (second : FuseStays view one.disk two.disk) where
     stays : FuseStays view store.disk two.disk
     stays = fuse_trans view store.disk one.disk two.disk first second
@@ -134,9 +137,9 @@ module _ {D : Type 0} (view : D → DiskView) where
         keeps_trans opening d.core.log mid.core.log new.core.log (seen view store.disk) (seen view one.disk) (seen view two.disk) first_part
         (stores opening (goes.lawful opening is k) first_part.kept)
 
-    rested : (disk : Fused D) → disk ≡ two.disk → ComesToRest view mid new one two → Lives view over found d new store.disk disk
+    rested : (disk : Fused D) → disk ≡ two.disk → ComesToRest order view mid new one two → Lives order view over found d new store.disk disk
     rested disk same rest =
-        subst (λ (f : Fused D). Lives view over found d new store.disk f) (sym same)
+        subst (λ (f : Fused D). Lives order view over found d new store.disk f) (sym same)
         (record {
           fallen = [];
           goes = goes_trans over [] [] d mid new goes rest.goes;
@@ -148,8 +151,8 @@ module _ {D : Type 0} (view : D → DiskView) where
           kept = kept_to rest.stores.kept;
         })
 
-    went_down : (disk : Fused D) (image : ℕ) → Falls (seen view two.disk) (seen view disk) → disk ≡ fallen_fuse two.disk disk.inner image → WentDown view mid new one two image
-        → Lives view over found d new store.disk disk
+    went_down : (disk : Fused D) (image : ℕ) → Falls (seen view two.disk) (seen view disk) → disk ≡ fallen_fuse two.disk disk.inner image → WentDown order view mid new one two image
+        → Lives order view over found d new store.disk disk
     went_down disk image falls is down =
         let fell : disk.falls ≡ store.disk.falls ++ fall down.calls image down.blew ∷ [] =
         ap (λ (f : Fused D). f.falls) is
@@ -174,12 +177,12 @@ module _ {D : Type 0} (view : D → DiskView) where
           kept = λ opening over_it k has.
               let so_far = kept_to down.stores.kept opening over_it k has in
               keeps_trans opening d.core.log new.core.log new.core.log (seen view store.disk) (seen view two.disk) (seen view disk) so_far
-              (falls_keep opening new.core.log (seen view two.disk) (seen view disk) falls so_far.kept);
+              (falls_keep view opening new.core.log (seen view two.disk) (seen view disk) falls so_far.kept);
         }
 
-    halted : (disk : Fused D) (halt : Halt) → disk ≡ disarmed two.disk → HaltsBy view mid new one.disk two.disk halt → Halts view over found d new store.disk disk (stop_of halt)
+    halted : (disk : Fused D) (halt : Halt) → disk ≡ disarmed two.disk → HaltsBy order view mid new one.disk two.disk halt → Halts order view over found d new store.disk disk (stop_of halt)
     halted disk halt same h =
-        subst (λ (f : Fused D). Halts view over found d new store.disk f (stop_of halt)) (sym same)
+        subst (λ (f : Fused D). Halts order view over found d new store.disk f (stop_of halt)) (sym same)
         (record {
           falls = stays.falls;
           at_ease = record { unarmed = refl; unblown = refl };
@@ -188,23 +191,24 @@ module _ {D : Type 0} (view : D → DiskView) where
           stops = refl;
           halted = disarmed_halts over found d new store.disk two.disk halt (halts_on view over found d mid new store.disk one.disk two.disk goes begun.kept first.faults halt h);
           quiet = λ empty. absurd (h.goes.some begun.some empty);
+          unbegun = λ empty. absurd (h.goes.some begun.some empty);
         })
 
     -- how a life that began went
-    pub lived : (inner : ℕ → D → D → Type 0) (disk : Fused D) (ended : Result LifeEnd Halt) (result : Result (Unit {0}) Stop) → IfOk ended (EndsBy view mid new one two)
-        → IfErr ended (HaltsBy view mid new one.disk two.disk) → Leaves view inner two.disk disk ended result → LivesTo view over found d new store.disk disk result
+    pub lived : (inner : ℕ → D → D → Type 0) (disk : Fused D) (ended : Result LifeEnd Halt) (result : Result (Unit {0}) Stop) → IfOk ended (EndsBy order view mid new one two)
+        → IfErr ended (HaltsBy order view mid new one.disk two.disk) → Leaves view inner two.disk disk ended result → LivesTo order view over found d new store.disk disk result
     lived inner disk (Ok Rest) result ends why leaves =
-        subst (λ (r : Result (Unit {0}) Stop). LivesTo view over found d new store.disk disk r) (sym leaves.1) (rested disk leaves.0 ends)
+        subst (λ (r : Result (Unit {0}) Stop). LivesTo order view over found d new store.disk disk r) (sym leaves.1) (rested disk leaves.0 ends)
     lived inner disk (Ok (Down image)) result ends why leaves =
-        subst (λ (r : Result (Unit {0}) Stop). LivesTo view over found d new store.disk disk r) (sym leaves.1) (went_down disk image leaves.0.0 leaves.0.1.shown ends)
+        subst (λ (r : Result (Unit {0}) Stop). LivesTo order view over found d new store.disk disk r) (sym leaves.1) (went_down disk image leaves.0.0 leaves.0.1.shown ends)
     lived inner disk (Err halt) result ends why leaves =
-        subst (λ (r : Result (Unit {0}) Stop). LivesTo view over found d new store.disk disk r) (sym leaves.1) (halted disk halt leaves.0 why)
+        subst (λ (r : Result (Unit {0}) Stop). LivesTo order view over found d new store.disk disk r) (sym leaves.1) (halted disk halt leaves.0 why)
 
   -- a life that did not begin stopped the run
-  pub unbegun : (over found : List Op → Type 0) (d new : DeskView) (store two : StoreState D) (disk : Fused D) (halt : Halt) → HaltsOver view over found d new store.disk two.disk halt → two.disk.inner ≡ store.disk.inner
-      → two.disk.refused ≡ store.disk.refused → FuseStays view store.disk two.disk → disk ≡ disarmed two.disk → Halts view over found d new store.disk disk (stop_of halt)
-  unbegun over found d new store two disk halt h inner refused stays same =
-      subst (λ (f : Fused D). Halts view over found d new store.disk f (stop_of halt)) (sym same)
+  pub unbegun : (over found : List Op → Type 0) (d new : DeskView) (store two : StoreState D) (disk : Fused D) (halt : Halt) → HaltsOver order view over found d new store.disk two.disk halt → two.disk.inner ≡ store.disk.inner
+      → two.disk.refused ≡ store.disk.refused → FuseStays view store.disk two.disk → disk ≡ disarmed two.disk → halt ≡ halts.Memory → Halts order view over found d new store.disk disk (stop_of halt)
+  unbegun over found d new store two disk halt h inner refused stays same memory =
+      subst (λ (f : Fused D). Halts order view over found d new store.disk f (stop_of halt)) (sym same)
       (record {
         falls = stays.falls;
         at_ease = record { unarmed = refl; unblown = refl };
@@ -213,14 +217,26 @@ module _ {D : Type 0} (view : D → DiskView) where
         stops = refl;
         halted = disarmed_halts over found d new store.disk two.disk halt h;
         quiet = λ empty. rw (inner, refused) (quiet_same (seen view store.disk));
+        unbegun = λ empty. memory;
       })
 
   -- memory ran out directly after a life began
-  pub begun_halts : (d mid : DeskView) (disk now : Fused D) (tree : Records) → GoesOver (λ opening. IsLeft tree (state_after opening d.core.log)) [] d mid → IsBegun tree d mid → now.inner ≡ disk.inner → now.refused ≡ disk.refused
-      → HaltsOver view (λ opening. IsLeft tree (state_after opening d.core.log)) (λ opening. IsFoundOn opening d.core tree (seen view disk)) d mid disk now halts.Memory
+  pub begun_halts : (d mid : DeskView) (disk now : Fused D) (tree : Records) → GoesOver order (λ opening. IsLeft tree (state_after opening d.core.log)) [] d mid → IsBegun tree d mid → now.inner ≡ disk.inner → now.refused ≡ disk.refused
+      → HaltsOver order view (λ opening. IsLeft tree (state_after opening d.core.log)) (λ opening. IsFoundOn opening d.core tree (seen view disk)) d mid disk now halts.Memory
   begun_halts d mid disk now tree goes begun inner refused =
       record {
         goes = goes;
         why = tt;
-        left = λ opening left k has. rw (inner, refused) (keeps_leaves opening d.core.log mid.core.log (seen view disk) (seen view disk) (begun_keeps d mid tree begun opening k (seen view disk) has));
+        left = λ opening left k has. rw (inner, refused) (keeps_leaves opening d.core.log mid.core.log (seen view disk) (seen view disk) (begun_keeps view d mid tree begun opening k (seen view disk) has));
       }
+
+-- what is told of a life that ended is told of what it left
+pub left_ok : {D : Type 0} (P : Type 0) (view : D → DiskView) (inner : ℕ → D → D → Type 0) (old new : Fused D) (ended : Result LifeEnd Halt) (result : Result (Unit {0}) Stop) → Leaves view inner old new ended result → OnOk ended P → OnOk result P
+left_ok P view inner old new (Ok end) result leaves p = subst (λ (r : Result (Unit {0}) Stop). OnOk r P) (sym leaves.1) p
+left_ok P view inner old new (Err halt) result leaves p = subst (λ (r : Result (Unit {0}) Stop). OnOk r P) (sym leaves.1) tt
+
+-- where a life stands that came to rest, nothing is left of the schedule
+pub rest_used : {D : Type 0} (view : D → DiskView) (order : Order) (mid new : DeskView) (one two : StoreState D) (ended : Result LifeEnd Halt) → IfOk ended (EndsBy order view mid new one two) → OnOk ended (stands new.core ≡ true → order.ends new.core.log)
+rest_used view order mid new one two (Ok Rest) ends = λ alive. ends.used_up
+rest_used view order mid new one two (Ok (Down image)) ends = λ alive. let x = sym ends.down ∙ alive in cc
+rest_used view order mid new one two (Err halt) ends = tt

@@ -11,29 +11,29 @@ use Rattle.rm_core.specs.Words.{as_new}
 use Rattle.rm_desk.specs.View.{DeskView}
 use Rattle.rm_desk.specs.Runs.{IsRun as GoesAlong}
 use Rattle.rm_plain.specs.Falls.{falls_of}
-use Rattle.rm_plain.specs.Policy.{MovesByPolicy}
+use Rattle.rm_plain.specs.Order.{Order}
 
--- over a store that held the opening list, the log is lawful along the script, lives went down at rest, the falls are these, and
--- the lanes moved by the policy
-pub record IsRun (opening : List Op) (script : Script) (fallen : List Fallen) (d : DeskView) : Type 0 where
+-- over a store that held the opening list, the log is lawful along the script, lives went down at rest where the order says so, the falls
+-- are these, and the lanes moved in this order
+pub record IsRun (order : Order) (opening : List Op) (script : Script) (fallen : List Fallen) (d : DeskView) : Type 0 where
   pub goes : GoesAlong opening script d
-  pub downs : AllGoDownAtRest d.core.settings (opening_state opening) d.core.log
+  pub downs : order.rests → AllGoDownAtRest d.core.settings (opening_state opening) d.core.log
   pub falls : falls_of script opening d.core.log ≡ fallen
-  pub policy : MovesByPolicy (as_new d.core) script opening d.core.log
+  pub moves : order.keeps (as_new d.core) script opening d.core.log
 
 -- a part of a run, with these falls: whatever the run before it was, with it there is a longer one, over each opening list
 -- for which this holds
-pub record GoesOver (over : List Op → Type 0) (more : List Fallen) (old new : DeskView) : Type 0 where
+pub record GoesOver (order : Order) (over : List Op → Type 0) (more : List Fallen) (old new : DeskView) : Type 0 where
   pub settings : new.core.settings ≡ old.core.settings
   pub began : as_new new.core ≡ as_new old.core
   pub lives : length new.place.lives ≤ length old.place.lives
   pub some : old.core.log ≢ [] → new.core.log ≢ []
   pub lawful : (opening : List Op) → over opening → StandsFor opening old.core → StandsFor opening new.core
-  pub run : (opening : List Op) (script : Script) (fallen : List Fallen) → over opening → IsRun opening script fallen old → IsRun opening script (fallen ++ more) new
+  pub run : (opening : List Op) (script : Script) (fallen : List Fallen) → over opening → IsRun order opening script fallen old → IsRun order opening script (fallen ++ more) new
 
 -- the same over each opening list
-abbrev pub Goes : List Fallen → DeskView → DeskView → Type 0
-Goes more old new = GoesOver (λ opening. Unit {0}) more old new
+abbrev pub Goes : Order → List Fallen → DeskView → DeskView → Type 0
+Goes order more old new = GoesOver order (λ opening. Unit {0}) more old new
 
 -- the run is at its end: nothing is left of the script, and where a life stands nothing awaits and nothing is owed
 pub record IsOver (d : DeskView) : Type 0 where

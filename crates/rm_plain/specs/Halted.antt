@@ -4,11 +4,12 @@ use Rattle.rm_store.specs.declared.fault.StoreError.TheVariants as store
 use Rattle.rm_plain.specs.declared.halts.Halt.{Halt}
 use Rattle.rm_plain.specs.declared.halts.Halt.TheVariants as halts
 use Rattle.rm_plain.specs.declared.halts.Stop.{Stop}
-use Rattle.rm_plain.specs.declared.halts.Stop.TheVariants.{DiskFault, Damaged, Full, Memory}
+use Rattle.rm_plain.specs.declared.halts.Stop.TheVariants.{DiskFault, Damaged, Full, Schedule, Memory}
 
 abbrev pub stop_of : Halt → Stop
 stop_of halts.DiskFault = DiskFault
 stop_of (halts.Full needed room) = Full needed room
+stop_of (halts.Schedule place) = Schedule place
 stop_of halts.Memory = Memory
 
 -- what halts a life where an append is refused by a store that isn't broken

@@ -13,6 +13,7 @@ use Rattle.rm_model.specs.Lawful.{state_after}
 use Rattle.rm_model.specs.Place.{close_left}
 use Rattle.rm_model.specs.State.{LifeState, Manager}
 use Rattle.rm_plain.specs.Goes.{GoesOver}
+use Rattle.rm_plain.specs.Order.{Order}
 use Rattle.rm_plain.specs.Survives.{HoldsAfter, HoldsKept, HoldsWithin}
 use Rattle.rm_store.specs.Store.{StoreState, IsSound, seen, needed_for, room_behind}
 use Rattle.rm_types.specs.Records.{Records}
@@ -21,7 +22,7 @@ use Rattle.rm_core.specs.Words.{is_blown, landed_over}
 use Rattle.rm_desk.specs.Does.{IsHanded}
 use Rattle.rm_desk.specs.View.{DeskView}
 use Rattle.rm_plain.specs.declared.halts.Halt.{Halt}
-use Rattle.rm_plain.specs.declared.halts.Halt.TheVariants.{DiskFault, Full, Memory}
+use Rattle.rm_plain.specs.declared.halts.Halt.TheVariants.{DiskFault, Full, Schedule, Memory}
 
 -- the life that stands was blown; where none stands, the last one was
 abbrev pub blown_in : Option LifeState → Bool → Bool
@@ -85,13 +86,15 @@ abbrev pub armed_by : Option Close → Option ℕ
 armed_by (Some (Crash calls image)) = Some calls
 armed_by _ = None
 
--- the store serves the desk: nothing but the store changed its disk, the fuse is armed as the current segment says and blown where the life is, and
--- no append failed unless it is
+-- the store serves the desk: nothing but the store changed its disk, the fuse is armed as the current segment says and blown where the life is,
+-- no append failed unless it is, no more calls passed than the fuse is armed with, and just as many where it is blown
 pub record Serves {D : Type 0} (view : D → DiskView) (d : DeskView) (store : StoreState D) : Type 0 where
   pub sound : IsSound view store
   pub unbroken : is_blown d.core ≡ false → store.is_broken ≡ false
   pub armed : store.disk.armed ≡ armed_by (close_left d.place.segments)
   pub blown : store.disk.blown ≡ is_blown d.core
+  pub within : (calls : ℕ) → store.disk.armed ≡ Some calls → store.disk.passed ≤ calls
+  pub spent : store.disk.blown ≡ true → store.disk.armed ≡ Some store.disk.passed
 
 -- a fuse after some of a run: it showed no fall, and its disk has its size and no fewer faults
 pub record FuseStays {D : Type 0} (view : D → DiskView) (old new : Fused D) : Type 0 where
@@ -123,21 +126,22 @@ pub record IsFull (known : Type 0) (opening : List Op) (log : List Entry) (size 
   pub less : room < needed
   pub behind : known → room ≡ room_behind size (state_after opening log).kept
 
--- why a part of a run halted: the disk inside the fuse counted a fault, while an operation was with the store; or it was full
-abbrev pub IsHaltedBy : {D : Type 0} → (D → DiskView) → (List Op → Type 0) → (List Op → Type 0) → DeskView → DeskView → Fused D → Fused D → Halt → Type 0
-IsHaltedBy view over found old new disk now DiskFault =
+-- why a part of a run halted: the disk inside the fuse counted a fault, while an operation was with the store; or it was full; or the order stopped it
+abbrev pub IsHaltedBy : Order → {D : Type 0} → (D → DiskView) → (List Op → Type 0) → (List Op → Type 0) → DeskView → DeskView → Fused D → Fused D → Halt → Type 0
+IsHaltedBy order view over found old new disk now DiskFault =
     Rose (view disk.inner).faults (view now.inner).faults × ((opening : List Op) → over opening → StandsFor opening old.core → (op : Op) × IsHanded opening new.core.log op)
-IsHaltedBy view over found old new disk now (Full needed room) =
+IsHaltedBy order view over found old new disk now (Full needed room) =
     (opening : List Op) → over opening → StandsFor opening old.core
     → IsFull (found opening) opening new.core.log (view now.inner).size needed room
-IsHaltedBy view over found old new disk now Memory = Unit {0}
+IsHaltedBy order view over found old new disk now (Schedule place) = order.stops new place
+IsHaltedBy order view over found old new disk now Memory = Unit {0}
 
 -- a part of a run halted: what was run, why, and what is left on the disk
-pub record HaltsOver {D : Type 0} (view : D → DiskView) (over found : List Op → Type 0) (old new : DeskView) (disk now : Fused D) (halt : Halt) : Type 0 where
-  pub goes : GoesOver over [] old new
-  pub why : IsHaltedBy view over found old new disk now halt
+pub record HaltsOver (order : Order) {D : Type 0} (view : D → DiskView) (over found : List Op → Type 0) (old new : DeskView) (disk now : Fused D) (halt : Halt) : Type 0 where
+  pub goes : GoesOver order over [] old new
+  pub why : IsHaltedBy order view over found old new disk now halt
   pub left : LeftOver over found old new (seen view disk) (seen view now)
 
 -- the same over each opening list, where the disk had what is kept
-abbrev pub HaltsBy : {D : Type 0} → (D → DiskView) → DeskView → DeskView → Fused D → Fused D → Halt → Type 0
-HaltsBy view old new disk now halt = HaltsOver view (λ opening. Unit {0}) (λ opening. IsKeptOn opening old.core.log (seen view disk)) old new disk now halt
+abbrev pub HaltsBy : Order → {D : Type 0} → (D → DiskView) → DeskView → DeskView → Fused D → Fused D → Halt → Type 0
+HaltsBy order view old new disk now halt = HaltsOver order view (λ opening. Unit {0}) (λ opening. IsKeptOn opening old.core.log (seen view disk)) old new disk now halt

@@ -17,7 +17,8 @@ use Rattle.rm_core.specs.Seen.{Seen, StandsFor}
 use Rattle.rm_core.specs.Words.{stands}
 use Rattle.rm_desk.specs.View.{DeskView}
 use Rattle.rm_plain.specs.declared.halts.Stop.{Stop}
-use Rattle.rm_plain.specs.declared.halts.Stop.TheVariants.{DiskFault, Damaged, Full, EpochsSpent, Memory}
+use Rattle.rm_plain.specs.declared.halts.Stop.TheVariants.{DiskFault, Damaged, Full, Schedule, EpochsSpent, Memory}
+use Rattle.rm_plain.specs.Order.{Order}
 use Rattle.rm_plain.specs.Goes.{GoesOver, IsOver}
 use Rattle.rm_plain.specs.Keeping.{IsFoundOn, IsFull, IsKeptOn, LeftOver}
 use Rattle.rm_plain.specs.Starts.{DiskStays, IsAtEase, Lives}
@@ -57,34 +58,36 @@ abbrev pub IsUnready : {D : Type 0} → (D → DiskView) → List Op → List En
 IsUnready view opening log disk now DiskFault = Rose (view disk.inner).faults (view now.inner).faults
 IsUnready view opening log disk now (Damaged offset) = IsKeptOn opening log (seen view disk) → ⊥
 IsUnready view opening log disk now (Full needed room) = ⊥
+IsUnready view opening log disk now (Schedule place) = ⊥
 IsUnready view opening log disk now EpochsSpent = NoneLeft opening log
 IsUnready view opening log disk now Memory = Unit {0}
 
 -- why a later life stopped the run, over a disk that held what was kept
-abbrev pub IsLaterStop : {D : Type 0} → (D → DiskView) → List Op → DeskView → DeskView → Fused D → Fused D → Stop → Type 0
-IsLaterStop view opening old new disk now DiskFault =
+abbrev pub IsLaterStop : Order → {D : Type 0} → (D → DiskView) → List Op → DeskView → DeskView → Fused D → Fused D → Stop → Type 0
+IsLaterStop order view opening old new disk now DiskFault =
     Rose (view disk.inner).faults (view now.inner).faults × (IsDueAt new ⊎ ((op : Op) × IsHanded opening new.core.log op))
-IsLaterStop view opening old new disk now (Damaged offset) =
+IsLaterStop order view opening old new disk now (Damaged offset) =
     IsDueAt new × (IsKeptOn opening old.core.log (seen view disk) → ⊥)
-IsLaterStop view opening old new disk now (Full needed room) =
+IsLaterStop order view opening old new disk now (Full needed room) =
     IsFull (IsKeptOn opening old.core.log (seen view disk)) opening new.core.log (view now.inner).size needed room
-IsLaterStop view opening old new disk now EpochsSpent = IsDueAt new × NoneLeft opening new.core.log
-IsLaterStop view opening old new disk now Memory = Unit {0}
+IsLaterStop order view opening old new disk now (Schedule place) = order.stops new place
+IsLaterStop order view opening old new disk now EpochsSpent = IsDueAt new × NoneLeft opening new.core.log
+IsLaterStop order view opening old new disk now Memory = Unit {0}
 
 -- some lives were lived, and one stopped the run
-pub record StopsLater {D : Type 0} (view : D → DiskView) (old new : DeskView) (disk now : Fused D) (stop : Stop) : Type 0 where
+pub record StopsLater (order : Order) {D : Type 0} (view : D → DiskView) (old new : DeskView) (disk now : Fused D) (stop : Stop) : Type 0 where
   pub fallen : List Fallen
-  pub goes : GoesOver (λ opening. Unit {0}) fallen old new
+  pub goes : GoesOver order (λ opening. Unit {0}) fallen old new
   pub falls : now.falls ≡ disk.falls ++ fallen
   pub stays : DiskStays view disk now
   pub at_ease : IsAtEase now
-  pub why : (opening : List Op) → StandsFor opening old.core → IsLaterStop view opening old new disk now stop
+  pub why : (opening : List Op) → StandsFor opening old.core → IsLaterStop order view opening old new disk now stop
   pub left : LeftOver (λ opening. Unit {0}) (λ opening. IsKeptOn opening old.core.log (seen view disk)) old new (seen view disk) (seen view now)
 
 -- how later lives went
-abbrev pub LaterTo : {D : Type 0} → (D → DiskView) → DeskView → DeskView → Fused D → Fused D → Result (Unit {0}) Stop → Type 0
-LaterTo view old new disk now (Ok _) = Lives view (λ opening. Unit {0}) (λ opening. IsKeptOn opening old.core.log (seen view disk)) old new disk now
-LaterTo view old new disk now (Err stop) = StopsLater view old new disk now stop
+abbrev pub LaterTo : Order → {D : Type 0} → (D → DiskView) → DeskView → DeskView → Fused D → Fused D → Result (Unit {0}) Stop → Type 0
+LaterTo order view old new disk now (Ok _) = Lives order view (λ opening. Unit {0}) (λ opening. IsKeptOn opening old.core.log (seen view disk)) old new disk now
+LaterTo order view old new disk now (Err stop) = StopsLater order view old new disk now stop
 
 -- what the disk held at first, holds now, and could be left of it between
 pub record HeldFirst {D : Type 0} (view : D → DiskView) (opening : List Op) (new : DeskView) (disk now : Fused D) (bytes : List ℕ) : Type 0 where
@@ -93,9 +96,9 @@ pub record HeldFirst {D : Type 0} (view : D → DiskView) (opening : List Op) (n
   pub time : Leaves (seen view disk) (seen view now) (λ image. (seen view disk).images image ⊎ HoldsWithin opening new.core.log image)
 
 -- the first life was lived
-pub record FirstLived {D : Type 0} (view : D → DiskView) (opening : List Op) (old new : DeskView) (disk now : Fused D) : Type 0 where
+pub record FirstLived (order : Order) {D : Type 0} (view : D → DiskView) (opening : List Op) (old new : DeskView) (disk now : Fused D) : Type 0 where
   pub fallen : List Fallen
-  pub goes : GoesOver (λ ops. ops ≡ opening) fallen old new
+  pub goes : GoesOver order (λ ops. ops ≡ opening) fallen old new
   pub falls : now.falls ≡ disk.falls ++ fallen
   pub at_ease : IsAtEase now
   pub stays : DiskStays view disk now
@@ -105,8 +108,8 @@ pub record FirstLived {D : Type 0} (view : D → DiskView) (opening : List Op) (
   pub kept : (bytes : List ℕ) → (seen view disk).told ≡ Some bytes → StandsFor opening old.core → HeldFirst view opening new disk now bytes
 
 -- the first life stopped the run; where nothing was logged, its disk was left alone
-pub record FirstStopped {D : Type 0} (view : D → DiskView) (opening : List Op) (old new : DeskView) (disk now : Fused D) (stop : Stop) : Type 0 where
-  pub goes : GoesOver (λ ops. ops ≡ opening) [] old new
+pub record FirstStopped (order : Order) {D : Type 0} (view : D → DiskView) (opening : List Op) (old new : DeskView) (disk now : Fused D) (stop : Stop) : Type 0 where
+  pub goes : GoesOver order (λ ops. ops ≡ opening) [] old new
   pub falls : now.falls ≡ disk.falls
   pub stays : DiskStays view disk now
   pub at_ease : IsAtEase now
@@ -114,17 +117,18 @@ pub record FirstStopped {D : Type 0} (view : D → DiskView) (opening : List Op)
   pub found : (opening ≡ []) ⊎ Tells (seen view disk) (λ bytes. Holds bytes opening)
   pub quiet : new.core.log ≡ [] → IsQuiet (seen view disk) (seen view now)
   pub left : StandsFor opening old.core → SurvivesAll opening new.core.log (seen view disk) (seen view now) × SurvivesNow opening new.core.log (seen view disk) (seen view now)
-  pub why : StandsFor opening old.core → IsStoppedBy view (IsDueAt new) disk now opening new.core.log stop
+  pub why : StandsFor opening old.core → IsStoppedBy view (IsDueAt new) (order.stops new) disk now opening new.core.log stop
 
 -- how the first life went
-abbrev pub FirstTo : {D : Type 0} → (D → DiskView) → List Op → DeskView → DeskView → Fused D → Fused D → Result (Unit {0}) Stop → Type 0
-FirstTo view opening old new disk now (Ok _) = FirstLived view opening old new disk now
-FirstTo view opening old new disk now (Err stop) = FirstStopped view opening old new disk now stop
+abbrev pub FirstTo : Order → {D : Type 0} → (D → DiskView) → List Op → DeskView → DeskView → Fused D → Fused D → Result (Unit {0}) Stop → Type 0
+FirstTo order view opening old new disk now (Ok _) = FirstLived order view opening old new disk now
+FirstTo order view opening old new disk now (Err stop) = FirstStopped order view opening old new disk now stop
 
 -- why the first life had no store that it can begin over, and what its disk held, if it held a store
 abbrev pub IsUnfounded : {D : Type 0} → (D → DiskView) → List Op → Fused D → Fused D → Stop → Type 0
 IsUnfounded view opening disk now DiskFault = (opening ≡ []) × Rose (view disk.inner).faults (view now.inner).faults
 IsUnfounded view opening disk now (Damaged offset) = (opening ≡ []) × Tells (seen view disk) (IsNoStore offset)
 IsUnfounded view opening disk now (Full needed room) = ⊥
+IsUnfounded view opening disk now (Schedule place) = ⊥
 IsUnfounded view opening disk now EpochsSpent = IsSpent (seen view disk) opening []
 IsUnfounded view opening disk now Memory = Unit {0}

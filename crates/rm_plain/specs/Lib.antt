@@ -22,12 +22,15 @@ pub use Rattle.rm_desk.specs.Runs
 pub use Rattle.rm_desk.specs.Does
 pub mod Halted
 pub mod Policy
+pub mod Order
+pub mod Schedule
 pub mod Falls
 pub mod Survives
 pub mod Keeping
 pub mod Goes
 pub mod Lives
 pub mod Stops
+pub mod Opens
 pub mod Starts
 pub mod Later
 pub mod Whole

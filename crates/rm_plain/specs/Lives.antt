@@ -1,6 +1,9 @@
 -- What one move of a life does, and how a life ends.
-use Rattle.std.specs.Prelude.{◌≡◌, ℕ, ◌<◌, List, [], ◌∷◌, Bool, true, false, None, Some}
+use Rattle.std.specs.Prelude.{◌≡◌, ℕ, ◌<◌, ◌≤◌, List, [], ◌∷◌, ◌++◌, Bool, true, false, None, Some}
+use Rattle.rm_types.specs.declared.entries.Entry.{Entry}
+use Rattle.rm_types.specs.declared.messages.Lane.{Lane}
 use Rattle.rm_types.specs.declared.operations.Op.{Op}
+use Rattle.rm_types.specs.Lanes.{lane_of_entry}
 use Rattle.rm_disk.specs.Disk.{DiskView}
 use Rattle.rm_store.specs.Store.{StoreState, IsSound, seen}
 use Rattle.rm_core.specs.Words.{stands}
@@ -12,7 +15,12 @@ use Rattle.rm_plain.specs.declared.lives.Moved.TheVariants as moved
 use Rattle.rm_desk.specs.Runs.{left}
 use Rattle.rm_plain.specs.Falls.{fall}
 use Rattle.rm_plain.specs.Goes.{Goes, IsOver}
+use Rattle.rm_plain.specs.Order.{Order}
 use Rattle.rm_plain.specs.Keeping.{Serves, StoresOn}
+
+-- the log has one more entry, which is of this lane
+abbrev pub AddsOneOf : Lane → DeskView → DeskView → Type 0
+AddsOneOf lane old new = (e : Entry) × (lane_of_entry e ≡ lane) × (new.core.log ≡ old.core.log ++ e ∷ [])
 
 -- the store after a part of a run has what is kept, and is whole
 pub record Stores {D : Type 0} (view : D → DiskView) (old new : DeskView) (store now : StoreState D) : Type 0 where
@@ -20,38 +28,42 @@ pub record Stores {D : Type 0} (view : D → DiskView) (old new : DeskView) (sto
   pub kept : (opening : List Op) → StoresOn opening old new (seen view store.disk) (seen view now.disk)
 
 -- the life goes on: a lane moved, and less is left
-pub record GoesOn {D : Type 0} (view : D → DiskView) (old new : DeskView) (store now : StoreState D) : Type 0 where
-  pub goes : Goes [] old new
+pub record GoesOn (order : Order) {D : Type 0} (view : D → DiskView) (old new : DeskView) (store now : StoreState D) : Type 0 where
+  pub goes : Goes order [] old new
   pub less : left new < left old
   pub stands : stands new.core ≡ true
   pub serves : Serves view new now
   pub stores : Stores view old new store now
 
 -- the run is at its end: no lane can move
-pub record ComesToRest {D : Type 0} (view : D → DiskView) (old new : DeskView) (store now : StoreState D) : Type 0 where
-  pub goes : Goes [] old new
+pub record ComesToRest (order : Order) {D : Type 0} (view : D → DiskView) (old new : DeskView) (store now : StoreState D) : Type 0 where
+  pub goes : Goes order [] old new
   pub over : IsOver new
+  pub used_up : order.ends new.core.log
   pub unarmed : now.disk.armed ≡ None
   pub unblown : now.disk.blown ≡ false
   pub stores : Stores view old new store now
 
--- the life went down, and the device is to fall to the image
-pub record WentDown {D : Type 0} (view : D → DiskView) (old new : DeskView) (store now : StoreState D) (image : ℕ) : Type 0 where
+-- the life went down, and the device is to fall to the image: its fuse is armed with the calls of the segment's crash, let no more pass, and just as
+-- many where it blew
+pub record WentDown (order : Order) {D : Type 0} (view : D → DiskView) (old new : DeskView) (store now : StoreState D) (image : ℕ) : Type 0 where
   pub calls : ℕ
   pub blew : Bool
   pub armed : now.disk.armed ≡ Some calls
   pub blown : now.disk.blown ≡ blew
-  pub goes : Goes (fall calls image blew ∷ []) old new
+  pub within : now.disk.passed ≤ calls
+  pub spent : blew ≡ true → now.disk.passed ≡ calls
+  pub goes : Goes order (fall calls image blew ∷ []) old new
   pub down : stands new.core ≡ false
   pub stores : Stores view old new store now
 
 -- what a move does
-abbrev pub MovesTo : {D : Type 0} → (D → DiskView) → DeskView → DeskView → StoreState D → StoreState D → Moved → Type 0
-MovesTo view old new store now moved.On = GoesOn view old new store now
-MovesTo view old new store now moved.Rest = ComesToRest view old new store now
-MovesTo view old new store now (moved.Down image) = WentDown view old new store now image
+abbrev pub MovesTo : Order → {D : Type 0} → (D → DiskView) → DeskView → DeskView → StoreState D → StoreState D → Moved → Type 0
+MovesTo order view old new store now moved.On = GoesOn order view old new store now
+MovesTo order view old new store now moved.Rest = ComesToRest order view old new store now
+MovesTo order view old new store now (moved.Down image) = WentDown order view old new store now image
 
 -- how a life ends
-abbrev pub EndsBy : {D : Type 0} → (D → DiskView) → DeskView → DeskView → StoreState D → StoreState D → LifeEnd → Type 0
-EndsBy view old new store now Rest = ComesToRest view old new store now
-EndsBy view old new store now (Down image) = WentDown view old new store now image
+abbrev pub EndsBy : Order → {D : Type 0} → (D → DiskView) → DeskView → DeskView → StoreState D → StoreState D → LifeEnd → Type 0
+EndsBy order view old new store now Rest = ComesToRest order view old new store now
+EndsBy order view old new store now (Down image) = WentDown order view old new store now image

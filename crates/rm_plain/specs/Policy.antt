@@ -1,11 +1,10 @@
 -- The plain policy: each time the first lane that is ready moves, in this order.
-use Rattle.std.specs.Prelude.{◌≡◌, List, [], ◌∷◌, ◌++◌, Some, find}
+use Rattle.std.specs.Prelude.{List, [], ◌∷◌, Option, find}
 use Rattle.rm_types.specs.declared.entries.Entry.{Entry}
 use Rattle.rm_types.specs.declared.messages.Lane.{Lane}
 use Rattle.rm_types.specs.declared.messages.Lane.TheVariants.{Client, Master, Node, Clock, Main, Sched, Hand, Write, End, Begin}
 use Rattle.rm_types.specs.declared.operations.Op.{Op}
 use Rattle.rm_types.specs.declared.scripts.Script.{Script}
-use Rattle.rm_types.specs.Lanes.{lane_of_entry}
 use Rattle.rm_model.specs.Lawful.{place_after}
 use Rattle.rm_core.specs.Seen.{Seen}
 use Rattle.rm_core.specs.Words.{manager_after}
@@ -20,8 +19,6 @@ policy = Main ∷ Sched ∷ Client ∷ Master ∷ Node ∷ Clock ∷ Hand ∷ Wr
 abbrev pub run_after : Seen → Script → List Op → List Entry → DeskView
 run_after new script opening log = record { core = manager_after new opening log; place = place_after script log }
 
--- each entry of the log is of the first lane, in the policy's order, that was ready after the entries before it
-abbrev pub MovesByPolicy : Seen → Script → List Op → List Entry → Type 0
-MovesByPolicy new script opening log =
-    (past : List Entry) (e : Entry) (more : List Entry) → log ≡ past ++ e ∷ more
-    → find (is_ready_at (run_after new script opening past)) policy ≡ Some (lane_of_entry e)
+-- the first lane that is ready, in this order
+abbrev pub first_ready : DeskView → Option Lane
+first_ready d = find (is_ready_at d) policy

@@ -12,8 +12,10 @@ use Rattle.rm_core.specs.Seen.{StandsFor}
 use Rattle.rm_core.specs.Words.{stands}
 use Rattle.rm_desk.specs.View.{DeskView}
 use Rattle.rm_plain.specs.declared.halts.Halt.{Halt}
+use Rattle.rm_plain.specs.declared.halts.Halt.TheVariants as halts
 use Rattle.rm_plain.specs.declared.halts.Stop.{Stop}
 use Rattle.rm_plain.specs.declared.halts.Stop.TheVariants.{DiskFault, Damaged, EpochsSpent, Memory}
+use Rattle.rm_plain.specs.Order.{Order}
 use Rattle.rm_plain.specs.Goes.{GoesOver, IsOver}
 use Rattle.rm_plain.specs.Halted.{stop_of}
 use Rattle.rm_plain.specs.Keeping.{HaltsOver, KeepsOn, Serves}
@@ -70,9 +72,9 @@ KeepsOver over found old new before now =
     (opening : List Op) → over opening → StandsFor opening old.core → found opening → KeepsOn opening old.core.log new.core.log before now
 
 -- lives were lived to their ends: the device fell so often, and the last life went down, or the run is over
-pub record Lives {D : Type 0} (view : D → DiskView) (over found : List Op → Type 0) (old new : DeskView) (disk now : Fused D) : Type 0 where
+pub record Lives (order : Order) {D : Type 0} (view : D → DiskView) (over found : List Op → Type 0) (old new : DeskView) (disk now : Fused D) : Type 0 where
   pub fallen : List Fallen
-  pub goes : GoesOver over fallen old new
+  pub goes : GoesOver order over fallen old new
   pub falls : now.falls ≡ disk.falls ++ fallen
   pub at_ease : IsAtEase now
   pub disk_stays : DiskStays view disk now
@@ -81,19 +83,20 @@ pub record Lives {D : Type 0} (view : D → DiskView) (over found : List Op → 
   pub kept : KeepsOver over found old new (seen view disk) (seen view now)
 
 -- a life halted, and stopped the run; where nothing was logged, its disk was left alone
-pub record Halts {D : Type 0} (view : D → DiskView) (over found : List Op → Type 0) (old new : DeskView) (disk now : Fused D) (stop : Stop) : Type 0 where
+pub record Halts (order : Order) {D : Type 0} (view : D → DiskView) (over found : List Op → Type 0) (old new : DeskView) (disk now : Fused D) (stop : Stop) : Type 0 where
   pub falls : now.falls ≡ disk.falls
   pub at_ease : IsAtEase now
   pub disk_stays : DiskStays view disk now
   pub halt : Halt
   pub stops : stop ≡ stop_of halt
-  pub halted : HaltsOver view over found old new disk now halt
+  pub halted : HaltsOver order view over found old new disk now halt
   pub quiet : new.core.log ≡ [] → IsQuiet (seen view disk) (seen view now)
+  pub unbegun : new.core.log ≡ [] → halt ≡ halts.Memory
 
 -- how a life that began over a tree went
-abbrev pub LivesTo : {D : Type 0} → (D → DiskView) → (List Op → Type 0) → (List Op → Type 0) → DeskView → DeskView → Fused D → Fused D → Result (Unit {0}) Stop → Type 0
-LivesTo view over found old new disk now (Ok _) = Lives view over found old new disk now
-LivesTo view over found old new disk now (Err stop) = Halts view over found old new disk now stop
+abbrev pub LivesTo : Order → {D : Type 0} → (D → DiskView) → (List Op → Type 0) → (List Op → Type 0) → DeskView → DeskView → Fused D → Fused D → Result (Unit {0}) Stop → Type 0
+LivesTo order view over found old new disk now (Ok _) = Lives order view over found old new disk now
+LivesTo order view over found old new disk now (Err stop) = Halts order view over found old new disk now stop
 
 -- a life begins, and its store serves it
 pub record Begins {D : Type 0} (view : D → DiskView) (over found : List Op → Type 0) (old new : DeskView) (store now : StoreState D) : Type 0 where

@@ -16,7 +16,7 @@ use Rattle.rm_desk.specs.Does.{IsHanded}
 use Rattle.rm_store.specs.Store.{seen}
 use Rattle.rm_plain.specs.Keeping.{IsFull}
 use Rattle.rm_plain.specs.declared.halts.Stop.{Stop}
-use Rattle.rm_plain.specs.declared.halts.Stop.TheVariants.{DiskFault, Damaged, Full, EpochsSpent, Memory}
+use Rattle.rm_plain.specs.declared.halts.Stop.TheVariants.{DiskFault, Damaged, Full, Schedule, EpochsSpent, Memory}
 
 -- the bytes are no store: at the offset stands an open gate before no record, no frame, or a stray operation
 abbrev pub IsNoStore : ℕ → List ℕ → Type 0
@@ -45,13 +45,14 @@ pub record IsDue (script : Script) (opening : List Op) (log : List Entry) : Type
 
 -- why a run stopped, between the handed disk and the one given back. The disk inside the fuse counted a fault, while a life
 -- was due or an operation was with the store; a life was due, and the disk held no store, or its epochs
--- or stamps were used up; the store was full; or memory ran out. Where nothing was logged and the store wasn't opened, there
+-- or stamps were used up; the store was full; the schedule stopped it; or memory ran out. Where nothing was logged and the store wasn't opened, there
 -- is no opening list.
-abbrev pub IsStoppedBy : {D : Type 0} → (D → DiskView) → Type 0 → Fused D → Fused D → List Op → List Entry → Stop → Type 0
-IsStoppedBy view due old new opening log DiskFault =
+abbrev pub IsStoppedBy : {D : Type 0} → (D → DiskView) → Type 0 → (ℕ → Type 0) → Fused D → Fused D → List Op → List Entry → Stop → Type 0
+IsStoppedBy view due stops old new opening log DiskFault =
     Rose (view old.inner).faults (view new.inner).faults × (due ⊎ ((op : Op) × IsHanded opening log op)) × (log ≡ [] → opening ≡ [])
-IsStoppedBy view due old new opening log (Damaged offset) =
+IsStoppedBy view due stops old new opening log (Damaged offset) =
     due × IsDamaged (seen view old) opening log offset × (log ≡ [] → opening ≡ [])
-IsStoppedBy view due old new opening log (Full needed room) = IsFull (IsTold (seen view old)) opening log (view new.inner).size needed room
-IsStoppedBy view due old new opening log EpochsSpent = due × IsSpent (seen view old) opening log
-IsStoppedBy view due old new opening log Memory = Unit {0}
+IsStoppedBy view due stops old new opening log (Full needed room) = IsFull (IsTold (seen view old)) opening log (view new.inner).size needed room
+IsStoppedBy view due stops old new opening log (Schedule place) = stops place × (log ≡ [] → opening ≡ [])
+IsStoppedBy view due stops old new opening log EpochsSpent = due × IsSpent (seen view old) opening log
+IsStoppedBy view due stops old new opening log Memory = Unit {0}

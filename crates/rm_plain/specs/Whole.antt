@@ -12,6 +12,7 @@ use Rattle.rm_core.specs.Seen.{StandsFor}
 use Rattle.rm_core.specs.Words.{stands}
 use Rattle.rm_desk.specs.View.{DeskView}
 use Rattle.rm_plain.specs.declared.halts.Stop.{Stop}
+use Rattle.rm_plain.specs.Order.{Order}
 use Rattle.rm_plain.specs.Goes.{GoesOver, IsOver}
 use Rattle.rm_plain.specs.Starts.{DiskStays}
 use Rattle.rm_plain.specs.Stops.{IsStoppedBy}
@@ -23,9 +24,9 @@ pub record Ends (d : DeskView) : Type 0 where
 
 -- the lives were lived, or one of them stopped the run; where nothing was logged, the disk was left alone, and so it was where
 -- there was no life
-pub record AllLived {D : Type 0} (view : D → DiskView) (opening : List Op) (old new : DeskView) (disk now : Fused D) (ended : Result (Unit {0}) Stop) : Type 0 where
+pub record AllLived (order : Order) {D : Type 0} (view : D → DiskView) (opening : List Op) (old new : DeskView) (disk now : Fused D) (ended : Result (Unit {0}) Stop) : Type 0 where
   pub fallen : List Fallen
-  pub goes : GoesOver (λ ops. ops ≡ opening) fallen old new
+  pub goes : GoesOver order (λ ops. ops ≡ opening) fallen old new
   pub falls : now.falls ≡ disk.falls ++ fallen
   pub stays : DiskStays view disk now
   pub unarmed : now.armed ≡ None
@@ -33,9 +34,10 @@ pub record AllLived {D : Type 0} (view : D → DiskView) (opening : List Op) (ol
   pub opened : new.core.log ≢ [] → Tells (seen view disk) (λ bytes. Holds bytes opening)
   pub found : (opening ≡ []) ⊎ Tells (seen view disk) (λ bytes. Holds bytes opening)
   pub ends : OnOk ended (Ends new)
+  pub used_up : OnOk ended (order.ends new.core.log)
   pub quiet : new.core.log ≡ [] → IsQuiet (seen view disk) (seen view now)
-  pub idle : old.place.lives ≡ [] → (new.core.log ≡ []) × (now ≡ disk) × IsOk ended
+  pub idle : old.place.lives ≡ [] → (new.core.log ≡ []) × (now ≡ disk) × (order.ends new.core.log → IsOk ended)
   pub begun : old.place.lives ≢ [] → OnOk ended (new.core.log ≢ [])
   pub images : StandsFor opening old.core → SurvivesAll opening new.core.log (seen view disk) (seen view now)
   pub images_now : StandsFor opening old.core → SurvivesNow opening new.core.log (seen view disk) (seen view now)
-  pub stopped : StandsFor opening old.core → IfErr ended (IsStoppedBy view (IsDueAt new) disk now opening new.core.log)
+  pub stopped : StandsFor opening old.core → IfErr ended (IsStoppedBy view (IsDueAt new) (order.stops new) disk now opening new.core.log)

@@ -9,6 +9,8 @@ pub enum Halt {
     DiskFault,
     /// The next operation needs so many bytes behind those that are stored, and the disk has only this room.
     Full { needed: u64, room: u64 },
+    /// The schedule has a letter at this byte that is unknown, or whose lane isn't ready.
+    Schedule { place: u64 },
     /// No memory was found.
     Memory,
 }
@@ -33,6 +35,8 @@ pub enum Stop {
     Damaged { offset: u64 },
     /// The next operation needs so many bytes behind those that are stored, and the disk has only this room.
     Full { needed: u64, room: u64 },
+    /// The schedule has a letter at this byte that is unknown, or whose lane isn't ready.
+    Schedule { place: u64 },
     /// No epoch or no stamp is left for one more life.
     EpochsSpent,
     /// No memory was found.
@@ -48,6 +52,7 @@ impl From<Halt> for Stop {
         match halt {
             Halt::DiskFault => Stop::DiskFault,
             Halt::Full { needed, room } => Stop::Full { needed, room },
+            Halt::Schedule { place } => Stop::Schedule { place },
             Halt::Memory => Stop::Memory,
         }
     }

@@ -1,4 +1,4 @@
-ghost use Rattle.std.specs.Prelude.{◌≡◌, ◌≢◌, ◌<◌, [], find, OnOk, OnErr, IfOk, IfErr, None, Some, true, false};
+ghost use Rattle.std.specs.Prelude.{◌≡◌, ◌≢◌, ◌<◌, [], OnOk, OnErr, IfOk, IfErr, None, Some, true, false};
 ghost use Rattle.rm_store.specs.Store.{IsSound as IsStoreSound, seen};
 ghost use Rattle.rm_model.specs.Place.{close_left};
 ghost use Rattle.rm_core.specs.Words.{stands};
@@ -8,12 +8,13 @@ ghost use Rattle.rm_plain.specs.Keeping.{FuseStays, HaltsBy, Serves};
 ghost use Rattle.rm_types.specs.declared.messages.Lane.{Lane};
 ghost use Rattle.rm_types.specs.declared.scripts.Close.{Close};
 ghost use Rattle.rm_plain.specs.declared.halts.Halt.{Halt};
-ghost use Rattle.rm_plain.specs.Lives.{EndsBy, GoesOn, MovesTo};
-ghost use Rattle.rm_plain.specs.Policy.{policy};
+ghost use Rattle.rm_plain.specs.Lives.{AddsOneOf, EndsBy, GoesOn, MovesTo};
+ghost use Rattle.rm_plain.specs.Order.{May};
+ghost use Rattle.rm_plain.specs.Schedule.{IsAt, order_of};
 
 use crate::halts::Halt;
-use crate::policy::first_ready;
 use crate::refusals::memory_only;
+use crate::schedule::Schedule;
 use crate::storing::{arm, keep};
 use rm_desk::Desk;
 use rm_disk::Disk;
@@ -41,15 +42,21 @@ pub enum LifeEnd {
 }
 
 /// The current segment settles, and the fuse is armed where the next one is to crash.
-fn settle_on<D: Disk>(d: &mut Desk, store: &mut Store<D>) -> Result<(), Halt>
+fn settle_on<D: Disk>(
+    d: &mut Desk,
+    store: &mut Store<D>,
+    schedule: &Schedule<'_>,
+) -> Result<(), Halt>
     requires ready { is_ready_at d.old Lane.End ≡ true }
-    requires chosen { find (is_ready_at d.old) policy ≡ Some Lane.End }
+    requires chosen { May (order_of schedule.now) Lane.End d.old }
     requires settles { close_left d.old.place.segments ≡ Some Close.Settle }
     requires serves { Serves D.view d.old store.old }
-    ensures on { OnOk result (GoesOn D.view d.old d.new store.old store.new) }
+    ensures on { OnOk result (GoesOn (order_of schedule.now) D.view d.old d.new store.old store.new) }
     ensures fuse { FuseStays D.view store.old.disk store.new.disk }
-    ensures halts { IfErr result (HaltsBy D.view d.old d.new store.old.disk store.new.disk) }
+    ensures one { OnOk result (AddsOneOf Lane.End d.old d.new) }
+    ensures halts { IfErr result (HaltsBy (order_of schedule.now) D.view d.old d.new store.old.disk store.new.disk) }
 {
+    let _ = schedule;
     d.law();
     memory_only(d.step(Lane::End))?;
     d.law();
@@ -57,16 +64,23 @@ fn settle_on<D: Disk>(d: &mut Desk, store: &mut Store<D>) -> Result<(), Halt>
 }
 
 /// A ready lane moves that doesn't touch the store.
-fn work_on<D: Disk>(d: &mut Desk, store: &Store<D>, lane: Lane) -> Result<(), Halt>
+fn work_on<D: Disk>(
+    d: &mut Desk,
+    store: &Store<D>,
+    schedule: &Schedule<'_>,
+    lane: Lane,
+) -> Result<(), Halt>
     requires ready { is_ready_at d.old lane ≡ true }
-    requires chosen { find (is_ready_at d.old) policy ≡ Some lane }
+    requires chosen { May (order_of schedule.now) lane d.old }
     requires step { IsStep lane }
     requires goes { lane ≢ Lane.End }
     requires serves { Serves D.view d.old store.now }
-    ensures on { OnOk result (GoesOn D.view d.old d.new store.now store.now) }
-    ensures halts { IfErr result (HaltsBy D.view d.old d.new store.now.disk store.now.disk) }
+    ensures on { OnOk result (GoesOn (order_of schedule.now) D.view d.old d.new store.now store.now) }
+    ensures one { OnOk result (AddsOneOf lane d.old d.new) }
+    ensures halts { IfErr result (HaltsBy (order_of schedule.now) D.view d.old d.new store.now.disk store.now.disk) }
 {
     let _ = store;
+    let _ = schedule;
     d.law();
     memory_only(d.step(lane))?;
     d.law();
@@ -74,13 +88,18 @@ fn work_on<D: Disk>(d: &mut Desk, store: &Store<D>, lane: Lane) -> Result<(), Ha
 }
 
 /// The current segment closes: it settles, or the life goes down.
-fn close<D: Disk>(d: &mut Desk, store: &mut Store<D>) -> Result<Moved, Halt>
+fn close<D: Disk>(
+    d: &mut Desk,
+    store: &mut Store<D>,
+    schedule: &Schedule<'_>,
+) -> Result<Moved, Halt>
     requires ready { is_ready_at d.old Lane.End ≡ true }
-    requires chosen { find (is_ready_at d.old) policy ≡ Some Lane.End }
+    requires chosen { May (order_of schedule.now) Lane.End d.old }
     requires serves { Serves D.view d.old store.old }
-    ensures moves { IfOk result (MovesTo D.view d.old d.new store.old store.new) }
+    ensures moves { IfOk result (MovesTo (order_of schedule.now) D.view d.old d.new store.old store.new) }
     ensures fuse { FuseStays D.view store.old.disk store.new.disk }
-    ensures halts { IfErr result (HaltsBy D.view d.old d.new store.old.disk store.new.disk) }
+    ensures one { OnOk result (AddsOneOf Lane.End d.old d.new) }
+    ensures halts { IfErr result (HaltsBy (order_of schedule.now) D.view d.old d.new store.old.disk store.new.disk) }
 {
     match d.close_of() {
         Some(Close::Crash { image, .. }) => {
@@ -90,7 +109,7 @@ fn close<D: Disk>(d: &mut Desk, store: &mut Store<D>) -> Result<Moved, Halt>
             Ok(Moved::Down { image })
         }
         Some(Close::Settle) => {
-            settle_on(d, store)?;
+            settle_on(d, store, schedule)?;
             Ok(Moved::On)
         }
         None => unreachable!(),
@@ -98,41 +117,58 @@ fn close<D: Disk>(d: &mut Desk, store: &mut Store<D>) -> Result<Moved, Halt>
 }
 
 /// A ready lane moves.
-fn advance<D: Disk>(d: &mut Desk, store: &mut Store<D>, lane: Lane) -> Result<Moved, Halt>
+fn advance<D: Disk>(
+    d: &mut Desk,
+    store: &mut Store<D>,
+    schedule: &Schedule<'_>,
+    lane: Lane,
+) -> Result<Moved, Halt>
     requires ready { is_ready_at d.old lane ≡ true }
-    requires chosen { find (is_ready_at d.old) policy ≡ Some lane }
+    requires chosen { May (order_of schedule.now) lane d.old }
     requires stands { stands d.old.core ≡ true }
     requires serves { Serves D.view d.old store.old }
-    ensures moves { IfOk result (MovesTo D.view d.old d.new store.old store.new) }
+    ensures moves { IfOk result (MovesTo (order_of schedule.now) D.view d.old d.new store.old store.new) }
     ensures fuse { FuseStays D.view store.old.disk store.new.disk }
-    ensures halts { IfErr result (HaltsBy D.view d.old d.new store.old.disk store.new.disk) }
+    ensures one { OnOk result (AddsOneOf lane d.old d.new) }
+    ensures halts { IfErr result (HaltsBy (order_of schedule.now) D.view d.old d.new store.old.disk store.new.disk) }
 {
     match lane {
-        Lane::End => close(d, store),
+        Lane::End => close(d, store, schedule),
         Lane::Write => {
-            keep(d, store)?;
+            keep(d, store, schedule)?;
             Ok(Moved::On)
         }
         Lane::Begin => unreachable!(),
         _ => {
-            work_on(d, store, lane)?;
+            work_on(d, store, schedule, lane)?;
             Ok(Moved::On)
         }
     }
 }
 
-/// The first lane that is ready moves, in the policy's order.
-pub(crate) fn tick<D: Disk>(d: &mut Desk, store: &mut Store<D>) -> Result<Moved, Halt>
+/// The lane moves that the schedule says or, after its end, the first one that is ready in the policy's order.
+fn tick<D: Disk>(
+    d: &mut Desk,
+    store: &mut Store<D>,
+    schedule: &mut Schedule<'_>,
+) -> Result<Moved, Halt>
     requires stands { stands d.old.core ≡ true }
     requires serves { Serves D.view d.old store.old }
-    ensures moves { IfOk result (MovesTo D.view d.old d.new store.old store.new) }
+    requires at { IsAt schedule.old d.old.core.log }
+    ensures moves { IfOk result (MovesTo (order_of schedule.old) D.view d.old d.new store.old store.new) }
+    ensures whole { schedule.new.whole ≡ schedule.old.whole }
+    ensures at { OnOk result (IsAt schedule.new d.new.core.log) }
     ensures fuse { FuseStays D.view store.old.disk store.new.disk }
-    ensures halts { IfErr result (HaltsBy D.view d.old d.new store.old.disk store.new.disk) }
+    ensures halts { IfErr result (HaltsBy (order_of schedule.old) D.view d.old d.new store.old.disk store.new.disk) }
 {
-    match first_ready(d) {
-        Some(lane) => advance(d, store, lane),
+    d.law();
+    match schedule.choice(d)? {
+        Some(lane) => {
+            let moved = advance(d, store, schedule, lane)?;
+            schedule.pass(lane);
+            Ok(moved)
+        }
         None => {
-            d.law();
             let end = d.is_at_end();
             prove!(end);
             Ok(Moved::Rest)
@@ -141,17 +177,24 @@ pub(crate) fn tick<D: Disk>(d: &mut Desk, store: &mut Store<D>) -> Result<Moved,
 }
 
 /// Runs the life that stands, to its end. `DiskFault` comes only where the disk's count of faults rose, `Full`
-/// only where the operation with the store needs more than the disk has left. After a halt the desk is as the
-/// moves made so far left it.
-pub fn run_life<D: Disk>(d: &mut Desk, store: &mut Store<D>) -> Result<LifeEnd, Halt>
+/// only where the operation with the store needs more than the disk has left, and `Schedule` exactly where a letter is
+/// reached that is unknown or whose lane isn't ready. After a halt the desk is as the moves made so far left it.
+pub fn run_life<D: Disk>(
+    d: &mut Desk,
+    store: &mut Store<D>,
+    schedule: &mut Schedule<'_>,
+) -> Result<LifeEnd, Halt>
     requires stands { stands d.old.core ≡ true }
     requires serves { Serves D.view d.old store.old }
-    ensures ends { IfOk result (EndsBy D.view d.old d.new store.old store.new) }
+    requires at { IsAt schedule.old d.old.core.log }
+    ensures ends { IfOk result (EndsBy (order_of schedule.old) D.view d.old d.new store.old store.new) }
+    ensures whole { schedule.new.whole ≡ schedule.old.whole }
+    ensures at { OnOk result (IsAt schedule.new d.new.core.log) }
     ensures fuse { FuseStays D.view store.old.disk store.new.disk }
-    ensures halts { IfErr result (HaltsBy D.view d.old d.new store.old.disk store.new.disk) }
+    ensures halts { IfErr result (HaltsBy (order_of schedule.old) D.view d.old d.new store.old.disk store.new.disk) }
 {
     'moves: loop {
-        match tick(d, store)? {
+        match tick(d, store, schedule)? {
             Moved::On => {}
             Moved::Rest => return Ok(LifeEnd::Rest),
             Moved::Down { image } => return Ok(LifeEnd::Down { image }),

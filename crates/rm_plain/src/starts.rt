@@ -1,4 +1,4 @@
-ghost use Rattle.std.specs.Prelude.{◌≡◌, ◌≢◌, ◌⊎◌, ◌<◌, ◌-◌, ◌^◌, ◌↔◌, List, [], length, IfOk, IfErr, OnOk, OnErr, IsTrue, None, false};
+ghost use Rattle.std.specs.Prelude.{◌≡◌, ◌≢◌, ◌⊎◌, ◌<◌, ◌-◌, ◌^◌, ◌↔◌, List, [], length, IfOk, IfErr, OnOk, OnErr, IsTrue, None, Some, true, false};
 ghost use Rattle.rm_disk.specs.Disk.{Tells};
 ghost use Rattle.rm_disk.specs.Fuse.{Fused};
 ghost use Rattle.rm_formats.specs.Device.{Holds};
@@ -7,6 +7,7 @@ ghost use Rattle.rm_store.specs.Store.{IsSound as IsStoreSound, seen};
 ghost use Rattle.rm_core.specs.Adds.{CanBeginOver, IsLeft};
 ghost use Rattle.rm_model.specs.Lawful.{state_after};
 ghost use Rattle.rm_core.specs.Words.{stands};
+ghost use Rattle.rm_types.specs.declared.messages.Lane.{Lane};
 ghost use Rattle.rm_types.specs.declared.operations.Op.{Op as AnyOp};
 ghost use Rattle.rm_core.specs.Seen.{StandsFor};
 ghost use Rattle.rm_types.specs.Records.{stray};
@@ -15,17 +16,19 @@ ghost use Rattle.rm_plain.specs.declared.halts.Halt.{Halt};
 ghost use Rattle.rm_plain.specs.Goes.{GoesOver};
 ghost use Rattle.rm_plain.specs.Halted.{stop_at_open};
 ghost use Rattle.rm_plain.specs.Keeping.{FuseStays, HaltsOver, IsFoundOn};
+ghost use Rattle.rm_plain.specs.Schedule.{IsAt, chosen, left_of, order_of};
 ghost use Rattle.rm_plain.specs.Starts.{Begins, FallsBy, IsGivenBack, IsOpened, IsRefusedBy, IsUnopenedBy, Leaves, LivesTo};
 
 use crate::halts::{Halt, Stop};
 use crate::lives::{LifeEnd, run_life};
 use crate::refusals::memory_only;
+use crate::schedule::Schedule;
 use crate::storing::arm;
 use rm_desk::Desk;
 use rm_disk::{Disk, Fuse};
 use rm_store::{OpenFail, Store, StoreError};
 use rm_tree::Tree;
-use rm_types::{Items, NoMemory, Op};
+use rm_types::{Items, Lane, NoMemory, Op};
 use std::alloc::Global;
 
 /// Why no store was opened, and its disk.
@@ -91,7 +94,14 @@ pub(crate) fn can_begin(tree: &Tree) -> Result<(), Stop>
 }
 
 /// A life begins over what the last one left in the store, and the fuse is armed where its first segment is to crash.
-fn begin_life<D: Disk>(d: &mut Desk, store: &mut Store<D>, tree: Tree) -> Result<(), Halt>
+fn begin_life<D: Disk>(
+    d: &mut Desk,
+    store: &mut Store<D>,
+    schedule: &mut Schedule<'_>,
+    tree: Tree,
+) -> Result<(), Halt>
+    requires at { IsAt schedule.old d.old.core.log }
+    requires chosen { chosen (left_of schedule.old) d.old ≡ Some Lane.Begin }
     requires dead { stands d.old.core ≡ false }
     requires lives { d.old.place.lives ≢ [] }
     requires over { CanBeginOver tree }
@@ -99,16 +109,20 @@ fn begin_life<D: Disk>(d: &mut Desk, store: &mut Store<D>, tree: Tree) -> Result
     requires unbroken { store.old.is_broken ≡ false }
     requires unarmed { store.old.disk.armed ≡ None }
     requires unblown { store.old.disk.blown ≡ false }
-    ensures goes { GoesOver (λ opening. IsLeft tree (state_after opening d.old.core.log)) [] d.old d.new }
+    ensures whole { schedule.new.whole ≡ schedule.old.whole }
+    ensures at { OnOk result (IsAt schedule.new d.new.core.log) }
+    ensures goes { GoesOver (order_of schedule.old) (λ opening. IsLeft tree (state_after opening d.old.core.log)) [] d.old d.new }
     ensures begun { OnOk result (Begins D.view (λ opening. IsLeft tree (state_after opening d.old.core.log)) (λ opening. IsFoundOn opening d.old.core tree (seen D.view store.old.disk)) d.old d.new store.old store.new) }
     ensures fuse { FuseStays D.view store.old.disk store.new.disk }
     ensures fewer { OnOk result (length d.new.place.lives < length d.old.place.lives) }
     ensures inner { store.new.disk.inner ≡ store.old.disk.inner }
     ensures refused { store.new.disk.refused ≡ store.old.disk.refused }
-    ensures halts { IfErr result (HaltsOver D.view (λ opening. IsLeft tree (state_after opening d.old.core.log)) (λ opening. IsFoundOn opening d.old.core tree (seen D.view store.old.disk)) d.old d.new store.old.disk store.new.disk) }
+    ensures memory { IfErr result (λ halt. halt ≡ Halt.Memory) }
+    ensures halts { IfErr result (HaltsOver (order_of schedule.old) D.view (λ opening. IsLeft tree (state_after opening d.old.core.log)) (λ opening. IsFoundOn opening d.old.core tree (seen D.view store.old.disk)) d.old d.new store.old.disk store.new.disk) }
 {
     d.law();
     memory_only(d.begin(tree))?;
+    schedule.pass(Lane::Begin);
     arm(d, store)
 }
 
@@ -144,7 +158,14 @@ fn leave<D: Disk>(store: Store<D>, ended: Result<LifeEnd, Halt>) -> Lived<D>
 }
 
 /// A life begins over what the last one left in the store, and lives to its end; where it went down, its device has fallen.
-pub(crate) fn live<D: Disk>(d: &mut Desk, store: Store<D>, tree: Tree) -> Lived<D>
+pub(crate) fn live<D: Disk>(
+    d: &mut Desk,
+    store: Store<D>,
+    schedule: &mut Schedule<'_>,
+    tree: Tree,
+) -> Lived<D>
+    requires at { IsAt schedule.old d.old.core.log }
+    requires chosen { chosen (left_of schedule.old) d.old ≡ Some Lane.Begin }
     requires dead { stands d.old.core ≡ false }
     requires lives { d.old.place.lives ≢ [] }
     requires over { CanBeginOver tree }
@@ -152,13 +173,16 @@ pub(crate) fn live<D: Disk>(d: &mut Desk, store: Store<D>, tree: Tree) -> Lived<
     requires unbroken { store.is_broken ≡ false }
     requires unarmed { store.disk.armed ≡ None }
     requires unblown { store.disk.blown ≡ false }
-    ensures lived { LivesTo D.view (λ opening. IsLeft tree (state_after opening d.old.core.log)) (λ opening. IsFoundOn opening d.old.core tree (seen D.view store.disk)) d.old d.new store.disk result.disk result.ended }
+    ensures whole { schedule.new.whole ≡ schedule.old.whole }
+    ensures at { OnOk result.ended (IsAt schedule.new d.new.core.log) }
+    ensures used { OnOk result.ended (stands d.new.core ≡ true → left_of schedule.new ≡ []) }
+    ensures lived { LivesTo (order_of schedule.old) D.view (λ opening. IsLeft tree (state_after opening d.old.core.log)) (λ opening. IsFoundOn opening d.old.core tree (seen D.view store.disk)) d.old d.new store.disk result.disk result.ended }
     ensures fewer { OnOk result.ended (length d.new.place.lives < length d.old.place.lives) }
 {
     let mut store = store;
-    match begin_life(d, &mut store, tree) {
+    match begin_life(d, &mut store, schedule, tree) {
         Ok(()) => {
-            let ended = run_life(d, &mut store);
+            let ended = run_life(d, &mut store, schedule);
             leave(store, ended)
         }
         Err(halt) => leave(store, Err(halt)),

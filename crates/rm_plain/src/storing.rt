@@ -1,4 +1,4 @@
-ghost use Rattle.std.specs.Prelude.{◌≡◌, ◌<◌, List, [], find, OnOk, OnErr, IfErr, None, Some, true, false};
+ghost use Rattle.std.specs.Prelude.{◌≡◌, ◌<◌, List, [], OnOk, OnErr, IfErr, None, Some, true, false};
 ghost use Rattle.rm_types.specs.declared.messages.Lane.{Lane};
 ghost use Rattle.rm_types.specs.declared.operations.Op.{Op as AnyOp};
 ghost use Rattle.rm_store.specs.Store.{IsSound as IsStoreSound, seen};
@@ -8,10 +8,13 @@ ghost use Rattle.rm_desk.specs.Runs.{left};
 ghost use Rattle.rm_plain.specs.Goes.{Goes};
 ghost use Rattle.rm_plain.specs.Halted.{halt_of};
 ghost use Rattle.rm_plain.specs.Keeping.{FuseStays, HaltsBy, Serves, StoresOn};
-ghost use Rattle.rm_plain.specs.Policy.{policy};
+ghost use Rattle.rm_plain.specs.Lives.{AddsOneOf};
+ghost use Rattle.rm_plain.specs.Order.{May};
+ghost use Rattle.rm_plain.specs.Schedule.{order_of};
 
 use crate::halts::Halt;
 use crate::refusals::memory_only;
+use crate::schedule::Schedule;
 use rm_desk::Desk;
 use rm_disk::Disk;
 use rm_store::{Store, StoreError};
@@ -29,18 +32,24 @@ fn halt_of(error: StoreError) -> Halt
 }
 
 /// The store keeps the operation that is with it, or its fuse refuses it; then the manager learns so.
-pub(crate) fn keep<D: Disk>(d: &mut Desk, store: &mut Store<D>) -> Result<(), Halt>
+pub(crate) fn keep<D: Disk>(
+    d: &mut Desk,
+    store: &mut Store<D>,
+    schedule: &Schedule<'_>,
+) -> Result<(), Halt>
     requires ready { is_ready_at d.old Lane.Write ≡ true }
-    requires chosen { find (is_ready_at d.old) policy ≡ Some Lane.Write }
+    requires chosen { May (order_of schedule.now) Lane.Write d.old }
     requires serves { Serves D.view d.old store.old }
-    ensures goes { Goes [] d.old d.new }
+    ensures goes { Goes (order_of schedule.now) [] d.old d.new }
     ensures less { OnOk result (left d.new < left d.old) }
     ensures stands { OnOk result (stands d.new.core ≡ true) }
     ensures serves { OnOk result (Serves D.view d.new store.new) }
     ensures stores { OnOk result ((opening : List AnyOp) → StoresOn opening d.old d.new (seen D.view store.old.disk) (seen D.view store.new.disk)) }
+    ensures one { OnOk result (AddsOneOf Lane.Write d.old d.new) }
     ensures fuse { FuseStays D.view store.old.disk store.new.disk }
-    ensures halts { IfErr result (HaltsBy D.view d.old d.new store.old.disk store.new.disk) }
+    ensures halts { IfErr result (HaltsBy (order_of schedule.now) D.view d.old d.new store.old.disk store.new.disk) }
 {
+    let _ = schedule;
     d.law();
     let Some(op) = d.handed() else { unreachable!() };
     if let Err(error) = store.append(op) {

@@ -52,8 +52,9 @@ fn number_within(number: u64, least: u64, greatest: u64) -> Option<u64>
     }
 }
 
-/// The number that the text writes, where it is neither below the least nor above the greatest.
-fn number_in(text: &[u8], least: u64, greatest: u64) -> Option<u64>
+/// The number that the text writes in decimal digits, with no zero before them, where it is neither below the least nor above the
+/// greatest; `None` where it writes no such number.
+pub fn number_in(text: &[u8], least: u64, greatest: u64) -> Option<u64>
     ensures { result ≡ number_in least greatest text.now }
 {
     let number = number_of(text)?;

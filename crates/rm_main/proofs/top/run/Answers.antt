@@ -1,5 +1,8 @@
-use Rattle.rm_formats.specs.Page.{page}
+use Rattle.rm_core.specs.Words.{new_manager}
+use Rattle.rm_plain.specs.Policy.{run_after}
+use Rattle.rm_plain.specs.Schedule.{StopsAt, left_after, steps_of}
 use Rattle.rm_plain.specs.Stops.{IsDue}
+use Rattle.rm_main.specs.Shown.{shown_in}
 use Rattle.rm_main.proofs.Laws.{meets_laws}
 use Rattle.rm_main.proofs.Outcomes.{caused, still_writes}
 use Rattle.rm_main.proofs.top.run.Goals as goal
@@ -7,19 +10,19 @@ use Rattle.rm_main.proofs.top.run.Goals as goal
 pub returns-clause-causes : goal.returns-clause-causes
 returns-clause-causes g c =
     let made = c.run_script-made.result in
-    let written = c.write_page-written in
+    let written = c.write_shown-written in
     rw c.outcome_of.ensures
-    (caused g.D.Disk.view (IsDue c.args.script made.opening made.log) (record { opening = made.opening; log = made.log; before = c.args.disk; after = made.disk }) made.ended written.result
-    written.ensures.of_writing c.run_script-made.ensures.stopped)
+    (caused g.D.Disk.view (IsDue c.args.inputs.script made.opening made.log) (StopsAt (left_after (steps_of c.args.inputs.schedule.items) made.log) (run_after (new_manager c.args.alloc c.args.inputs.settings) c.args.inputs.script made.opening made.log)) (record { opening = made.opening; log = made.log; before = c.args.disk; after = made.disk }) made.ended written.result
+    written.ensures.of_writing (rw c.as_slice.ensures.value at c.run_script-made.ensures.stopped))
 
 pub returns-clause-laws : goal.returns-clause-laws
 returns-clause-laws g c =
     let made = c.run_script-made in
-    meets_laws c.args.settings c.args.script made.result.opening made.result.log made.ensures.lawful made.ensures.read_back
+    meets_laws c.args.inputs.settings c.args.inputs.script made.result.opening made.result.log made.ensures.lawful made.ensures.read_back
 
 pub returns-clause-writes : goal.returns-clause-writes
 returns-clause-writes g c =
     let made = c.run_script-made.result in
-    let written = c.write_page-written in
+    let written = c.write_shown-written in
     rw c.outcome_of.ensures
-    (still_writes (g.K.Sink.taken c.args.sink.now) (g.K.Sink.taken written.new.sink) (page made.log c.args.moves) made.ended written.result written.ensures.of_writing written.ensures.writes)
+    (still_writes (g.K.Sink.taken c.args.sink.now) (g.K.Sink.taken written.new.sink) (shown_in c.args.shown made.log) made.ended written.result written.ensures.of_writing written.ensures.writes)

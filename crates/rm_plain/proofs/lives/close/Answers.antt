@@ -21,3 +21,9 @@ returns-in_err-memory_only-in-Some-Crash-clause-halts g c =
     let same : c.step.new.self ≡ d = err_holds c.step.result failed c.step.ensures.err in
     let p = err_from_is_err_and c.from_residual.result c.from_residual.ensures.1 in
     rw (p.1 ∙ ap (λ (e : Halt). Err e) p.2, same) (halts_still g.D.Disk.view d c.args.store.now.disk)
+
+pub returns-in_ok-memory_only-in-Some-Crash-clause-one : goal.returns-in_ok-memory_only-in-Some-Crash-clause-one
+returns-in_ok-memory_only-in-Some-Crash-clause-one g c =
+    let made : is_ok c.step.result ≡ true = sym c.memory_only.ensures ∙ rw c.in_ok-memory_only-in-Some-Crash.was refl in
+    let does = ok_holds c.step.result made c.step.ensures.does in
+    (does.adds.entry, does.of_lane, does.adds.added)

@@ -10,7 +10,8 @@ use Rattle.rm_desk.specs.Runs.{IsSound}
 use Rattle.rm_desk.specs.View.{DeskView}
 use Rattle.rm_plain.specs.declared.halts.Halt.{Halt}
 use Rattle.rm_plain.specs.Keeping.{HaltsBy, armed_by}
-use Rattle.rm_plain.proofs.Moving.{err_holds, ok_holds, ok_map, settle_goes, settling_unblown}
+use Rattle.rm_plain.specs.Schedule.{order_of}
+use Rattle.rm_plain.proofs.Moving.{err_holds, ok_holds, ok_map, on_ok, settle_goes, settling_unblown}
 use Rattle.rm_plain.proofs.Ending.{settles_on}
 use Rattle.rm_plain.proofs.Halting.{halts_still, halts_unkept, if_memory}
 use Rattle.rm_plain.proofs.lives.settle_on.Goals as goal
@@ -51,7 +52,7 @@ returns-clause-halts g c =
     let d = c.args.d.now in
     let made : is_ok c.step.result ≡ true = sym c.memory_only.ensures ∙ rw c.in_ok-memory_only.was refl in
     let settled = settle_goes d c.step.new.self (ok_holds c.step.result made c.step.ensures.does) c.law.ensures.tells c.law-2.ensures.tells c.requires.chosen c.requires.settles in
-    let P : Halt → Type 0 = λ halt. HaltsBy g.D.Disk.view d c.step.new.self c.args.store.now.disk c.arm.new.store.disk halt in
+    let P : Halt → Type 0 = λ halt. HaltsBy (order_of c.args.schedule.now) g.D.Disk.view d c.step.new.self c.args.store.now.disk c.arm.new.store.disk halt in
     if_memory P c.arm.result (halts_unkept g.D.Disk.view d c.step.new.self c.args.store.now.disk c.arm.new.store.disk settled.0 settled.1 c.arm.ensures.inner c.arm.ensures.refused) c.arm.ensures.halts
 
 pub returns-in_err-memory_only-clause-halts : goal.returns-in_err-memory_only-clause-halts
@@ -61,3 +62,9 @@ returns-in_err-memory_only-clause-halts g c =
     let same : c.step.new.self ≡ d = err_holds c.step.result failed c.step.ensures.err in
     let p = err_from_is_err_and c.from_residual.result c.from_residual.ensures.1 in
     rw (p.1 ∙ ap (λ (e : Halt). Err e) p.2, same) (halts_still g.D.Disk.view d c.args.store.now.disk)
+
+pub returns-clause-one : goal.returns-clause-one
+returns-clause-one g c =
+    let made : is_ok c.step.result ≡ true = sym c.memory_only.ensures ∙ rw c.in_ok-memory_only.was refl in
+    let does = ok_holds c.step.result made c.step.ensures.does in
+    on_ok c.arm.result (does.adds.entry, does.of_lane, does.adds.added)

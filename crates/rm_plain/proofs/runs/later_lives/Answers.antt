@@ -1,6 +1,16 @@
-use Rattle.std.proofs.Common.{subst}
+use Rattle.std.proofs.Common.{◌≡◌, ◌≢◌, ◌⊎◌, ℕ, List, [], Bool, true, false, Err, Ok, inl, inr, ⊎_elim, refl, sym, ◌∙◌, ap, subst}
+use Rattle.std.specs.Prelude.{OnOk, IfErr}
+use Rattle.rm_types.specs.declared.messages.Lane.{Lane}
+use Rattle.rm_types.specs.declared.messages.Lane.TheVariants.{Begin}
+use Rattle.rm_core.specs.Words.{stands}
+use Rattle.rm_desk.specs.Lanes.{is_ready_at}
+use Rattle.rm_desk.specs.View.{DeskView}
 use Rattle.rm_plain.specs.Later.{LaterTo}
-use Rattle.rm_plain.proofs.Onward.{lives_same, lives_trans, stops_after}
+use Rattle.rm_plain.specs.Schedule.{by_letters, chosen, left_after, left_of, order_of, steps_of}
+use Rattle.rm_plain.specs.declared.schedule.Step.{Step}
+use Rattle.rm_plain.proofs.Choosing.{chosen_begin, dead_over}
+use Rattle.rm_plain.proofs.Finishing.{none_after, none_stands, some_left}
+use Rattle.rm_plain.proofs.Onward.{letter_stops, lives_end, lives_same, lives_trans, stops_after}
 use Rattle.rm_plain.proofs.runs.later_lives.Goals as goal
 
 pub lives-init : goal.lives-init
@@ -8,17 +18,59 @@ lives-init g c =
     record {
       some = c.requires.some;
       at_ease = c.requires.at_ease;
-      lived = lives_same g.D.Disk.view c.args.d.now c.args.disk c.requires.at_ease c.requires.ends c.requires.some;
+      at = c.requires.at;
+      used = c.requires.used;
+      whole = refl;
+      lived = lives_same _ g.D.Disk.view c.args.d.now c.args.disk c.requires.at_ease c.requires.ends c.requires.some;
     }
 
+pub next_life-lived-requires-clause-chosen : goal.next_life-lived-requires-clause-chosen
+next_life-lived-requires-clause-chosen g c =
+    let ready = sym c.ready.ensures ∙ c.lives-test.true in
+    let dead = none_stands c.lives.d ready in
+    chosen_begin (left_of c.lives.schedule) c.lives.d c.in_default.field-0 c.in_default.ensures.chosen c.in_default.ensures.over dead (some_left c.lives.d ready) (c.law.ensures.dead dead)
+
+-- the letters stopped the run
 pub returns-in-Err-clause-later : goal.returns-in-Err-clause-later
 returns-in-Err-clause-later g c =
-    stops_after g.D.Disk.view c.args.d.now c.lives.d c.next_life-lived.new.d c.args.disk c.lives.disk c.next_life-lived.result.disk c.lives.invariant.lived c.in-Err.stop
-    (subst (LaterTo g.D.Disk.view c.lives.d c.next_life-lived.new.d c.lives.disk c.next_life-lived.result.disk) c.in-Err.is c.next_life-lived.ensures.later)
+    let m = c.lives.invariant in
+    rw c.from.ensures
+    (letter_stops g.D.Disk.view (steps_of c.args.schedule.now.whole) (left_of c.lives.schedule) c.args.d.now c.lives.d c.args.disk c.lives.disk m.lived
+    (m.at ∙ ap (λ (w : List ℕ). left_after (steps_of w) c.lives.d.core.log) m.whole) c.in-Err.halt c.in-Err.ensures.stops)
+
+-- or a later life did
+pub returns-in-Err-ended-clause-later : goal.returns-in-Err-ended-clause-later
+returns-in-Err-ended-clause-later g c =
+    stops_after _ g.D.Disk.view c.args.d.now c.lives.d c.next_life-lived.new.d c.args.disk c.lives.disk c.next_life-lived.result.disk c.lives.invariant.lived c.in-Err-ended.stop
+    (subst (λ (w : List ℕ). LaterTo (by_letters (steps_of w)) g.D.Disk.view c.lives.d c.next_life-lived.new.d c.lives.disk c.next_life-lived.result.disk (Err c.in-Err-ended.stop)) c.lives.invariant.whole
+    (subst (LaterTo (order_of c.lives.schedule) g.D.Disk.view c.lives.d c.next_life-lived.new.d c.lives.disk c.next_life-lived.result.disk) c.in-Err-ended.is c.next_life-lived.ensures.later))
 
 pub lives-preserved : goal.lives-preserved
 lives-preserved g c =
     let view = g.D.Disk.view in
-    let lived = subst (LaterTo view c.lives.d c.next_life-lived.new.d c.lives.disk c.next_life-lived.result.disk) c.in_default.is c.next_life-lived.ensures.later in
-    let all = lives_trans view c.args.d.now c.lives.d c.next_life-lived.new.d c.args.disk c.lives.disk c.next_life-lived.result.disk c.lives.invariant.lived lived in
-    record { some = all.some; at_ease = all.at_ease; lived = all }
+    let later = subst (LaterTo (order_of c.lives.schedule) view c.lives.d c.next_life-lived.new.d c.lives.disk c.next_life-lived.result.disk) c.in_default-ended.is c.next_life-lived.ensures.later in
+    let lived = subst (λ (w : List ℕ). LaterTo (by_letters (steps_of w)) view c.lives.d c.next_life-lived.new.d c.lives.disk c.next_life-lived.result.disk (Ok tt)) c.lives.invariant.whole later in
+    let all = lives_trans _ view c.args.d.now c.lives.d c.next_life-lived.new.d c.args.disk c.lives.disk c.next_life-lived.result.disk c.lives.invariant.lived lived in
+    record {
+      some = all.some;
+      at_ease = all.at_ease;
+      at = rw c.in_default-ended.is at c.next_life-lived.ensures.at;
+      used = rw c.in_default-ended.is at c.next_life-lived.ensures.used;
+      whole = c.next_life-lived.ensures.whole ∙ c.lives.invariant.whole;
+      lived = all;
+    }
+
+-- no letter is left, or one is that no lane follows
+idle : (left : List Step) (d : DeskView) (b : Bool) → stands d.core ≡ b → (stands d.core ≡ true → left ≡ []) → (stands d.core ≡ false → (lane : Lane) → is_ready_at d lane ≡ true → lane ≡ Begin) → is_ready_at d Begin ≡ false
+    → (left ≡ []) ⊎ ((lane : Lane) → is_ready_at d lane ≡ false)
+idle left d true alive used only none = inl (used alive)
+idle left d false dead used only none = inr (dead_over d (only dead) none)
+
+pub all_used-requires : goal.all_used-requires
+all_used-requires g c = record { idle = idle (left_of c.lives.schedule) c.lives.d (stands c.lives.d.core) refl c.lives.invariant.used c.law-2.ensures.dead (sym c.ready.ensures ∙ c.lives-test.false) }
+
+pub returns-clause-later : goal.returns-clause-later
+returns-clause-later g c =
+    let m = c.lives.invariant in
+    lives_end g.D.Disk.view (steps_of c.args.schedule.now.whole) (left_of c.lives.schedule) c.args.d.now c.lives.d c.args.disk c.lives.disk m.lived
+    (m.at ∙ ap (λ (w : List ℕ). left_after (steps_of w) c.lives.d.core.log) m.whole) c.all_used.result c.all_used.ensures.stops

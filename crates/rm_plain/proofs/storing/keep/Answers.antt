@@ -11,7 +11,8 @@ use Rattle.rm_store.specs.declared.fault.StoreError.{StoreError}
 use Rattle.rm_store.specs.Store.{seen}
 use Rattle.rm_desk.specs.Runs.{HasBlown}
 use Rattle.rm_plain.specs.declared.halts.Halt.{Halt}
-use Rattle.rm_plain.proofs.Moving.{blown_goes, err_holds, kept_goes, no_err, ok_holds, some_same, told_blown}
+use Rattle.rm_plain.proofs.Moving.{blown_goes, err_holds, kept_goes, no_err, ok_holds, told_blown}
+use Rattle.rm_plain.proofs.Choosing.{some_same}
 use Rattle.rm_plain.proofs.Stored.{blown_stores, op_stores}
 use Rattle.rm_plain.proofs.Ending.{fuse_kept}
 use Rattle.rm_plain.proofs.Halting.{append_halts, unlearned_halts}
@@ -105,3 +106,17 @@ returns-clause-stores g c = λ ops k has.
     op_stores ops d.core c.kept.new.self.core op _ _ (unblown_life _ s.life c.in-Some.ensures.unblown ((c.law.ensures.tells ops k).life does.stood)) (c.in-Some.ensures.next ops k)
     (does.adds.added ∙ ap (λ (e : Entry). d.core.log ++ e ∷ []) (does.adds.of_kind.2 ∙ ap (λ (x : Op). KeptEntry x) same))
     (no_err c.append.result c.in_default-append.not-Err c.append.ensures.added) (c.append.ensures.any_moment (c.requires.serves.unbroken c.in-Some.ensures.unblown)) has
+
+-- AND THE LOG HAS ONE ENTRY MORE
+
+pub returns-in-Err-clause-one : goal.returns-in-Err-clause-one
+returns-in-Err-clause-one g c =
+    let made : is_ok c.blown-in-Err.result ≡ true = sym c.memory_only.ensures ∙ rw c.in_ok-memory_only.was refl in
+    let does = ok_holds c.blown-in-Err.result made c.blown-in-Err.ensures.does in
+    (does.adds.entry, does.of_lane, does.adds.added)
+
+pub returns-clause-one : goal.returns-clause-one
+returns-clause-one g c =
+    let made : is_ok c.kept.result ≡ true = sym c.memory_only-2.ensures ∙ rw c.in_ok-memory_only-2.was refl in
+    let does = ok_holds c.kept.result made c.kept.ensures.does in
+    (does.adds.entry, does.of_lane, does.adds.added)

@@ -1,0 +1,61 @@
+-- The line of a soak, with its counts over the log. This project's own.
+use Rattle.std.specs.Prelude.{ℕ, List, [], ◌++◌, Bool, true, false, if◌then◌else◌, length, count_by, sum_by, codes}
+use Rattle.std.specs.Fmt.{decimal}
+use Rattle.rm_types.specs.declared.entries.Entry.{Entry}
+use Rattle.rm_types.specs.declared.entries.Entry.TheVariants.{Opened, Served, Kept, Pass}
+use Rattle.rm_types.specs.declared.operations.How.{How}
+use Rattle.rm_types.specs.declared.operations.How.TheVariants.{Finished}
+use Rattle.rm_types.specs.declared.operations.Op.{Op}
+use Rattle.rm_types.specs.declared.operations.Op.TheVariants.{AppEnd}
+use Rattle.rm_types.specs.Lists.{is_nil}
+
+-- the entry begins a life
+abbrev pub is_opened : Entry → Bool
+is_opened (Opened landed epoch stamp) = true
+is_opened entry = false
+
+-- the entry answers a message
+abbrev pub is_served : Entry → Bool
+is_served (Served sender message reply) = true
+is_served entry = false
+
+-- the entry keeps an operation
+abbrev pub is_kept : Entry → Bool
+is_kept (Kept op) = true
+is_kept entry = false
+
+-- the containers that the entry grants
+abbrev pub granted_in : Entry → ℕ
+granted_in (Pass node grants) = length grants
+granted_in entry = 0
+
+-- it ended as finished
+abbrev pub is_finish : How → Bool
+is_finish Finished = true
+is_finish how = false
+
+-- the operation says that an application finished
+abbrev pub is_finished : Op → Bool
+is_finished (AppEnd id how text) = is_finish how
+is_finished op = false
+
+-- the entry keeps such an operation
+abbrev pub keeps_finished : Entry → Bool
+keeps_finished (Kept op) = is_finished op
+keeps_finished entry = false
+
+-- the line of a soak of so many applications: the lives that were opened, the messages that were served, the containers
+-- that passes granted, the applications that were kept as finished, and the operations that were kept
+abbrev pub soak_line : ℕ → List Entry → List ℕ
+soak_line number log =
+    codes "soak " ++ decimal number
+    ++ codes " lives=" ++ decimal (count_by is_opened log)
+    ++ codes " served=" ++ decimal (count_by is_served log)
+    ++ codes " grants=" ++ decimal (sum_by granted_in log)
+    ++ codes " finished=" ++ decimal (count_by keeps_finished log)
+    ++ codes " kept=" ++ decimal (count_by is_kept log)
+    ++ codes "\n"
+
+-- what a soak writes: its line, and nothing where the log is empty
+abbrev pub soak_page : ℕ → List Entry → List ℕ
+soak_page number log = if is_nil log then [] else soak_line number log
