@@ -1,0 +1,6 @@
+pub mod Coming
+pub mod Knowing
+pub mod Lasting
+pub mod Turning
+pub mod Making
+pub mod Finishing

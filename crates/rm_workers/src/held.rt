@@ -1,0 +1,153 @@
+ghost use Rattle.std.specs.Prelude.{◌≡◌, ◌≢◌, ◌⊎◌, ℕ, List, [], ◌∷◌, ◌++◌, OnOk, OnErr, IsErrOf, IsTrue, None, Some, true, false};
+ghost use Rattle.rm_types.specs.declared.entries.Entry.TheVariants.{Kept as WasKept};
+ghost use Rattle.rm_types.specs.declared.messages.Lane.{Lane};
+ghost use Rattle.rm_types.specs.declared.operations.Op.{Op as AnyOp};
+ghost use Rattle.rm_types.specs.declared.scripts.Close.{Close};
+ghost use Rattle.rm_model.specs.Place.{close_left};
+ghost use Rattle.rm_core.specs.Seen.{StandsFor, IsToBeKept};
+ghost use Rattle.rm_core.specs.Words.{has_rest, is_blown, stands};
+ghost use Rattle.rm_tables.specs.declared.events.Refused.{Refused};
+ghost use Rattle.rm_desk.specs.Does.{Blows, Does};
+ghost use Rattle.rm_desk.specs.Lanes.{IsStep, is_ready_at};
+ghost use Rattle.rm_desk.specs.Runs.{IsOver};
+ghost use Rattle.rm_workers.specs.Came.{Moves, Went, came};
+
+use crate::since::Since;
+use rm_baton::Carries;
+use rm_core::Refused;
+use rm_desk::Desk;
+use rm_plain::Halt;
+use rm_types::Lane;
+use std::marker::{Model, PhantomData};
+
+/// What the workers hand on: the desk, which goes on from the one with which the life began, and the first halt of a worker.
+#[derive(Drop)]
+pub(crate) struct Held<S: Since> {
+    desk: Desk,
+    halt: Option<Halt>,
+    since: PhantomData<S>,
+}
+
+impl<S: Since> Model for Held<S> {
+    ghost use Rattle.rm_workers.specs.Came.{Went};
+    ghost use Rattle.rm_workers.specs.Carried.{HeldView};
+
+    ghost Value = { HeldView };
+
+    ghost view = { λ h. record { desk = h.desk; halt = h.halt } };
+
+    ghost invariant = { λ h. Went S.began.desk h.desk };
+}
+
+impl<S: Since> Carries for Held<S> {
+    type Run = ();
+
+    ghost use Rattle.rm_workers.specs.Carried.{log_of, run_of};
+
+    ghost run = { run_of };
+
+    ghost log = { log_of };
+}
+
+impl<S: Since> Held<S> {
+    /// The desk with which a life began.
+    pub(crate) fn new(desk: Desk) -> Held<S>
+        requires began { desk ≡ S.began.desk }
+        requires stands { stands desk.core ≡ true }
+        ensures desk { result.desk ≡ desk }
+        ensures halt { result.halt ≡ None }
+    {
+        Held {
+            desk,
+            halt: None,
+            since: PhantomData,
+        }
+    }
+
+    /// The desk, which goes on from the one with which the life began.
+    pub(crate) fn desk(&self) -> &Desk
+        ensures desk { result.now ≡ self.now.desk }
+        ensures went { Went S.began.desk self.now.desk }
+    {
+        &self.desk
+    }
+
+    /// The first halt of a worker.
+    pub(crate) fn halt(&self) -> Option<Halt>
+        ensures { result ≡ self.now.halt }
+    {
+        self.halt
+    }
+
+    /// The desk, handed out.
+    pub(crate) fn into_desk(self) -> Desk
+        ensures desk { result ≡ self.desk }
+        ensures went { Went S.began.desk result }
+    {
+        let Held {
+            desk,
+            halt: _,
+            since: _,
+        } = self;
+        desk
+    }
+
+    /// A worker halts the life. The first halt stays.
+    pub(crate) fn stop(&mut self, halt: Halt)
+        ensures desk { self.new.desk ≡ self.old.desk }
+        ensures halt { self.new.halt ≢ None }
+    {
+        if self.halt.is_none() {
+            self.halt = Some(halt);
+        }
+    }
+
+    /// Whether the workers have nothing left to do: a halt stands, the life went down, or the run is at its end.
+    pub(crate) fn is_over(&self) -> bool
+        ensures over { IsTrue result → self.now.halt ≡ None → (stands self.now.desk.core ≡ false) ⊎ IsOver self.now.desk }
+        ensures going { result ≡ false → (self.now.halt ≡ None) × (stands self.now.desk.core ≡ true) }
+    {
+        self.halt.is_some() || self.desk.is_down() || self.desk.is_at_end()
+    }
+
+    /// One move of a lane, as the desk makes it. A segment closes only at rest, unless the life blew.
+    pub(crate) fn step(&mut self, lane: Lane) -> Result<(), Refused>
+        requires step { IsStep lane }
+        requires rests { lane ≡ Lane.End → is_blown self.old.desk.core ≡ false → has_rest self.old.desk.core }
+        ensures moves { OnOk result (Moves S.began.desk lane self.old.desk self.new.desk) }
+        ensures ready { OnOk result (is_ready_at self.old.desk lane ≡ true) }
+        ensures not_ready { IsErrOf result Refused.NotReady → is_ready_at self.old.desk lane ≡ false }
+        ensures halt { OnOk result (self.new.halt ≡ self.old.halt) }
+        ensures err { OnErr result (self.new ≡ self.old) }
+    {
+        self.desk.law();
+        let made = self.desk.step(lane);
+        self.desk.law();
+        made
+    }
+
+    /// The operation that is with the store is kept.
+    pub(crate) fn kept(&mut self) -> Result<(), Refused>
+        ensures does { OnOk result (Does Lane.Write self.old.desk self.new.desk) }
+        ensures went { OnOk result (Went S.began.desk self.old.desk × Went S.began.desk self.new.desk) }
+        ensures kept { OnOk result ((opening : List AnyOp) → StandsFor opening self.old.desk.core → (op : AnyOp) × IsToBeKept opening self.old.desk.core op × (self.new.desk.core.log ≡ self.old.desk.core.log ++ WasKept op ∷ [])) }
+        ensures halt { OnOk result (self.new.halt ≡ self.old.halt) }
+        ensures err { OnErr result (self.new ≡ self.old) }
+    {
+        let Some(_) = self.desk.handed() else {
+            return Err(Refused::NotReady);
+        };
+        self.desk.kept()
+    }
+
+    /// The store refused the operation that is with it, after so many calls.
+    pub(crate) fn blown(&mut self, passed: u32) -> Result<(), Refused>
+        requires closes { (image : ℕ) × (close_left (came S.began.desk self.old.desk.core.log).place.segments ≡ Some (Close.Crash passed image)) }
+        ensures does { OnOk result (Blows passed self.old.desk self.new.desk) }
+        ensures went { OnOk result (Went S.began.desk self.old.desk × Went S.began.desk self.new.desk) }
+        ensures halt { OnOk result (self.new.halt ≡ self.old.halt) }
+        ensures err { OnErr result (self.new ≡ self.old) }
+    {
+        self.desk.blown(passed)
+    }
+}

@@ -1,0 +1,172 @@
+//! The workers' holds: each takes the value that the baton carries, makes its turn, and puts the value back.
+ghost use Rattle.std.specs.Prelude.{◌≡◌, ◌⊎◌, false, None};
+ghost use Rattle.rm_core.specs.Words.{stands};
+ghost use Rattle.rm_desk.specs.Runs.{IsOver};
+ghost use Rattle.rm_baton.specs.Entries.{AddsCommon};
+ghost use Rattle.rm_baton.specs.Passes.{IsPassOf};
+ghost use Rattle.rm_baton.specs.Views.{IsIdle, Meets, took, view};
+ghost use Rattle.rm_workers.specs.Carried.{log_of, run_of};
+ghost use Rattle.rm_workers.specs.Turns.{EndFact, IsHelpers, LearnedFact, TurnFact, TurnOp};
+ghost use Rattle.rm_workers.specs.Work.{Halting, IsHelper, Knows, Refused as WasRefused, Serving, Wrote};
+
+use crate::held::Held;
+use crate::moves::{blow, help, keep, turn};
+use crate::since::Since;
+use crate::turns::{End, Helped, Turn};
+use rm_baton::{Baton, Pass};
+use rm_disk::Disk;
+use rm_plain::Halt;
+use rm_store::Store;
+use rm_types::{Lane, Op};
+use std::sync::Wait;
+use std::thread;
+
+/// A helper's hold. `None` where another worker has the baton.
+pub(crate) fn hold_help<S: Since, R: Wait>(
+    rt: &R,
+    baton: &Baton<Held<S>>,
+    pass: &mut Pass<Held<S>>,
+    lane: Lane,
+) -> Option<Helped>
+    requires of { IsPassOf baton.now pass.old }
+    requires helper { IsHelper (view pass.old) }
+    requires lane { IsHelpers lane }
+    ensures of { IsPassOf baton.now pass.new }
+    ensures helper { IsHelper (view pass.new) }
+{
+    let Some(mut held) = baton.take(rt, pass) else {
+        return None;
+    };
+    let helped = help(&mut held, lane);
+    baton.put(rt, pass, held);
+    Some(helped)
+}
+
+/// A hold in which the store's worker makes a turn.
+pub(crate) fn hold_turn<S: Since, D: Disk, R: Wait>(
+    rt: &R,
+    baton: &Baton<Held<S>>,
+    pass: &mut Pass<Held<S>>,
+    store: &mut Store<D>,
+) -> Turn
+    requires of { IsPassOf baton.now pass.old }
+    requires knows { Knows (Serving D.view S.began store.old) (view pass.old) }
+    ensures of { IsPassOf baton.now pass.new }
+    ensures knows { Knows (TurnFact D.view S.began store.new result) (view pass.new) }
+    ensures op { TurnOp result }
+{
+    let Some(mut held) = baton.take(rt, pass) else {
+        return Turn::Out;
+    };
+    let turn = turn(&mut held, store);
+    baton.put(rt, pass, held);
+    turn
+}
+
+// Waits for the baton.
+fn wait_for<S: Since, R: Wait>(
+    rt: &R,
+    baton: &Baton<Held<S>>,
+    pass: Pass<Held<S>>,
+) -> (Pass<Held<S>>, Held<S>)
+    requires of { IsPassOf baton.now pass }
+    requires idle { IsIdle (view pass) }
+    ensures of { IsPassOf baton.now result.0 }
+    ensures took { view result.0 ≡ took log_of (view pass) result.1 }
+    ensures meets { Meets run_of log_of (view pass) result.1 }
+{
+    let mut mine = pass;
+    'holds: for _ in rt.forever() {
+        if let Some(held) = baton.take(rt, &mut mine) {
+            return (mine, held);
+        }
+        thread::yield_now();
+    }
+    unreachable!()
+}
+
+/// The hold after a write: the manager learns that the operation is kept, or the life is halted.
+pub(crate) fn hold_kept<S: Since, D: Disk, R: Wait>(
+    rt: &R,
+    baton: &Baton<Held<S>>,
+    pass: Pass<Held<S>>,
+    store: &Store<D>,
+    op: &Op,
+) -> (Pass<Held<S>>, Option<Halt>)
+    requires of { IsPassOf baton.now pass }
+    requires knows { Knows (Wrote D.view S.began store.now op.now) (view pass) }
+    ensures of { IsPassOf baton.now result.0 }
+    ensures knows { Knows (LearnedFact D.view S.began store.now result.1) (view result.0) }
+{
+    let (mut pass, mut held) = wait_for(rt, baton, pass);
+    let halt = keep(&mut held, store, op);
+    baton.put(rt, &mut pass, held);
+    (pass, halt)
+}
+
+/// The hold after a write that the fuse refused: the manager learns of it, or the life is halted.
+pub(crate) fn hold_blown<S: Since, D: Disk, R: Wait>(
+    rt: &R,
+    baton: &Baton<Held<S>>,
+    pass: Pass<Held<S>>,
+    store: &Store<D>,
+    passed: u32,
+) -> (Pass<Held<S>>, Option<Halt>)
+    requires of { IsPassOf baton.now pass }
+    requires knows { Knows (WasRefused D.view S.began store.now passed) (view pass) }
+    ensures of { IsPassOf baton.now result.0 }
+    ensures knows { Knows (LearnedFact D.view S.began store.now result.1) (view result.0) }
+{
+    let (mut pass, mut held) = wait_for(rt, baton, pass);
+    let halt = blow(&mut held, store, passed);
+    baton.put(rt, &mut pass, held);
+    (pass, halt)
+}
+
+/// The hold after a write that failed: the other workers learn of the halt.
+pub(crate) fn hold_halt<S: Since, D: Disk, R: Wait>(
+    rt: &R,
+    baton: &Baton<Held<S>>,
+    pass: Pass<Held<S>>,
+    store: &Store<D>,
+    halt: Halt,
+) -> Pass<Held<S>>
+    requires of { IsPassOf baton.now pass }
+    requires knows { Knows (Halting D.view S.began store.now halt) (view pass) }
+    ensures of { IsPassOf baton.now result }
+    ensures knows { Knows (Halting D.view S.began store.now halt) (view result) }
+{
+    let _ = store;
+    let (mut pass, mut held) = wait_for(rt, baton, pass);
+    held.stop(halt);
+    baton.put(rt, &mut pass, held);
+    pass
+}
+
+/// The last hold, by the only pass that is left: the value as the workers left it, which is over.
+pub(crate) fn hold_last<S: Since, D: Disk, R: Wait>(
+    rt: &R,
+    baton: &Baton<Held<S>>,
+    pass: Pass<Held<S>>,
+    store: &Store<D>,
+    end: End,
+) -> Held<S>
+    requires of { IsPassOf baton.now pass }
+    requires knows { Knows (EndFact D.view S.began store.now end) (view pass) }
+    ensures ended { EndFact D.view S.began store.now end result.desk.core.log }
+    ensures over { result.halt ≡ None → (stands result.desk.core ≡ false) ⊎ IsOver result.desk }
+{
+    let _ = store;
+    let _ = end;
+    let mut mine = pass;
+    'holds: for _ in rt.forever() {
+        let (next, held) = wait_for(rt, baton, mine);
+        mine = next;
+        if held.is_over() {
+            return held;
+        }
+        // No worker ends before the life is over, and none adds anything behind it.
+        baton.put(rt, &mut mine, held);
+    }
+    unreachable!()
+}

@@ -1,0 +1,106 @@
+//! The store's worker, which alone owns the device.
+ghost use Rattle.std.specs.Prelude.{◌≡◌};
+ghost use Rattle.rm_types.specs.Ranges.{IsOperation};
+ghost use Rattle.rm_baton.specs.Passes.{IsPassOf};
+ghost use Rattle.rm_baton.specs.Views.{view};
+ghost use Rattle.rm_workers.specs.Turns.{EndFact, LearnedFact};
+ghost use Rattle.rm_workers.specs.Work.{Knows, Owing, Serving};
+
+use crate::bells::Bell;
+use crate::gates::Gate;
+use crate::held::Held;
+use crate::holds::{hold_blown, hold_halt, hold_kept, hold_turn};
+use crate::since::Since;
+use crate::storing::write;
+use crate::turns::{End, Turn, Written};
+use rm_baton::{Baton, Pass};
+use rm_disk::Disk;
+use rm_plain::Halt;
+use rm_store::Store;
+use rm_types::{Lane, Op};
+use std::sync::Wait;
+use std::thread;
+
+// Writes the operation outside the baton, and lets the manager learn what came of it, unless that halts the life.
+fn write_on<S: Since, D: Disk, R: Wait>(
+    rt: &R,
+    baton: &Baton<Held<S>>,
+    pass: Pass<Held<S>>,
+    store: &mut Store<D>,
+    op: &Op,
+) -> (Pass<Held<S>>, Option<Halt>)
+    requires of { IsPassOf baton.now pass }
+    requires knows { Knows (Owing D.view S.began store.old op.now) (view pass) }
+    requires op { IsOperation op.now }
+    ensures of { IsPassOf baton.now result.0 }
+    ensures knows { Knows (LearnedFact D.view S.began store.new result.1) (view result.0) }
+{
+    match write::<S, D>(store, op) {
+        Written::Kept => hold_kept(rt, baton, pass, store, op),
+        Written::Blown(passed) => hold_blown(rt, baton, pass, store, passed),
+        Written::Failed(halt) => (hold_halt(rt, baton, pass, store, halt), Some(halt)),
+    }
+}
+
+// The lane of the entry that the last hold added, and `Hand` where it added none.
+fn lane_of(end: End) -> Lane {
+    match end {
+        End::Over => Lane::Hand,
+        End::Down { .. } | End::Halted(_) => Lane::End,
+    }
+}
+
+/// The store's worker: it is handed operations, writes and keeps them, and closes segments, until the life is over or a halt
+/// stands.
+pub(crate) fn keeper<S: Since, D: Disk, G: Gate, R: Wait>(
+    rt: &R,
+    baton: &Baton<Held<S>>,
+    gate: &G,
+    bell: &Bell,
+    mut pass: Pass<Held<S>>,
+    mut store: Store<D>,
+) -> (Pass<Held<S>>, Store<D>, End)
+    requires of { IsPassOf baton.now pass }
+    requires knows { Knows (Serving D.view S.began store) (view pass) }
+    ensures of { IsPassOf baton.now result.0 }
+    ensures knows { Knows (EndFact D.view S.began result.1 result.2) (view result.0) }
+{
+    let mut number: u64 = 0;
+    'turns: for _ in rt.forever() {
+        let told = bell.told(rt);
+        match hold_turn(rt, baton, &mut pass, &mut store) {
+            Turn::Out => thread::yield_now(),
+            Turn::Wait => {
+                gate.after_hold(Lane::Hand);
+                bell.wait_past(rt, told);
+            }
+            Turn::Moved(lane) => {
+                gate.after_hold(lane);
+                bell.tell(rt);
+            }
+            Turn::Write(op) => {
+                gate.after_hold(Lane::Hand);
+                bell.tell(rt);
+                number = number.saturating_add(1);
+                gate.before_append(number);
+                let (next, halt) = write_on(rt, baton, pass, &mut store, &op);
+                gate.after_hold(if halt.is_none() {
+                    Lane::Write
+                } else {
+                    Lane::Hand
+                });
+                bell.tell(rt);
+                if let Some(halt) = halt {
+                    return (next, store, End::Halted(halt));
+                }
+                pass = next;
+            }
+            Turn::Ends(end) => {
+                gate.after_hold(lane_of(end));
+                bell.tell(rt);
+                return (pass, store, end);
+            }
+        }
+    }
+    unreachable!()
+}
