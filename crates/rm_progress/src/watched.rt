@@ -1,0 +1,126 @@
+ghost use Rattle.std.specs.Prelude.{◌≡◌};
+
+use rm_disk::{Disk, DiskError};
+use std::marker::Model;
+
+// An operation is kept by one append to a journal, which makes two syncs.
+const SYNCS_PER_OPERATION: u64 = 2;
+
+// How many more operations are kept from one line to the next.
+const OPERATIONS_PER_LINE: u64 = 1000;
+
+/// A disk that passes each call on to an inner one, and tells on standard error how many operations are kept so far,
+/// in one line for each 1,000 of them.
+///
+/// It sees calls alone: two syncs that succeed count as one operation, as an append to a journal makes them. A line
+/// that can't be written is lost, and changes no answer.
+///
+/// Contracts see of it the inner disk.
+#[derive(Drop)]
+pub struct Watched<'a, D, R> {
+    device: D,
+    rt: R,
+    program: &'a str,
+    syncs: u64,
+    tells: bool,
+}
+
+impl<'a, D, R> Model for Watched<'a, D, R> {
+    ghost Value = { D };
+
+    ghost view = { λ w. w.device };
+}
+
+impl<'a, D, R: Drop> Watched<'a, D, R> {
+    /// A disk over this one, with nothing counted yet. Its lines begin with the path of the program; where it isn't
+    /// to tell anything there are none.
+    pub fn new(device: D, rt: R, program: &'a str, tells: bool) -> Watched<'a, D, R>
+        ensures { result ≡ device }
+    {
+        Watched {
+            device,
+            rt,
+            program,
+            syncs: 0,
+            tells,
+        }
+    }
+
+    /// The inner disk, as the last call left it.
+    pub fn inner(self) -> D
+        ensures { result ≡ self.entry }
+    {
+        let Watched {
+            device,
+            rt: _,
+            program: _,
+            syncs: _,
+            tells: _,
+        } = self;
+        device
+    }
+}
+
+impl<D, R: Eprint> Watched<'_, D, R> {
+    // Counts a sync that succeeded, and tells where it ends as many operations as a line stands for.
+    fn count(&mut self)
+        ensures { self.new ≡ self.old }
+    {
+        self.syncs = self.syncs.saturating_add(1);
+        if self.tells && self.syncs % (SYNCS_PER_OPERATION * OPERATIONS_PER_LINE) == 0 {
+            let program = self.program;
+            let operations = self.syncs / SYNCS_PER_OPERATION;
+            let _ = eprintln!(self.rt; "{program}: {operations} operations kept");
+        }
+    }
+}
+
+impl<D: Disk, R: Eprint> Disk for Watched<'_, D, R> {
+    ghost view = { λ w. D.view w };
+
+    ghost keeps = { λ succeeds w v. D.keeps succeeds w v };
+
+    ghost keeps_same = { λ succeeds w. D.keeps_same succeeds w };
+
+    ghost keeps_on = { λ one two x y z xy yz. D.keeps_on one two x y z xy yz };
+
+    ghost faulted = { λ w v. D.faulted w v };
+
+    ghost falls_to = { λ image w v. D.falls_to image w v };
+
+    ghost faulted_later = { λ succeeds x y z xy le yz. D.faulted_later succeeds x y z xy le yz };
+
+    ghost faulted_counts = { λ x y fault. D.faulted_counts x y fault };
+
+    ghost image_size = { λ w image is. D.image_size w image is };
+
+    ghost as_it_reads = { λ w bytes told. D.as_it_reads w bytes told };
+
+    ghost counts_now = { λ w from image le is. D.counts_now w from image le is };
+
+    ghost only_now = { λ w image left. D.only_now w image left };
+
+    fn size(&self) -> u64 {
+        self.device.size()
+    }
+
+    fn read(&mut self, at: u64, into: &mut [u8]) -> Result<(), DiskError> {
+        self.device.read(at, into)
+    }
+
+    fn write(&mut self, at: u64, bytes: &[u8]) -> Result<(), DiskError> {
+        self.device.write(at, bytes)
+    }
+
+    fn sync(&mut self) -> Result<(), DiskError> {
+        let outcome = self.device.sync();
+        if outcome.is_ok() {
+            self.count();
+        }
+        outcome
+    }
+
+    fn fall(&mut self, image: u32) {
+        self.device.fall(image)
+    }
+}
