@@ -15,7 +15,7 @@ use Rattle.rm_model.specs.Place.{Place, close_left}
 use Rattle.rm_tables.specs.declared.tables.Tables.{Tables}
 use Rattle.rm_model.specs.Lawful.{place_after}
 use Rattle.rm_core.specs.Seen.{Seen}
-use Rattle.rm_core.specs.Words.{as_new, manager_after, stands}
+use Rattle.rm_core.specs.Words.{as_new, is_blown, manager_after, stands}
 use Rattle.rm_core.proofs.Telling.{tables_told}
 use Rattle.rm_desk.specs.Lanes.{HasNoWork, IsWork, is_ready_at}
 use Rattle.rm_desk.specs.View.{DeskView}
@@ -23,9 +23,11 @@ use Rattle.rm_desk.specs.Runs.{IsRun as GoesAlong}
 use Rattle.rm_plain.specs.declared.schedule.Letter.{Letter}
 use Rattle.rm_plain.specs.declared.schedule.Letter.TheVariants.{Moves, Plain, Unknown}
 use Rattle.rm_plain.specs.declared.schedule.Step.{Step}
-use Rattle.rm_plain.specs.Order.{May}
+use Rattle.rm_plain.specs.declared.halts.Halt.{Halt}
+use Rattle.rm_plain.specs.declared.halts.Halt.TheVariants.{DiskFault, Full, Schedule, Memory}
+use Rattle.rm_plain.specs.Order.{AllReady, HaltsHere, May, Order, StopsHere}
 use Rattle.rm_plain.specs.Policy.{first_ready, policy, run_after}
-use Rattle.rm_plain.specs.Schedule.{MovesBy, StopsAt, by_letters, chosen, left_after, moved_by, used_by}
+use Rattle.rm_plain.specs.Schedule.{MovesBy, Stops, StopsAt, by_letters, chosen, left_after, moved_by, used_by}
 
 -- where an entry of a longer log stands: at its end, or among those before
 abbrev pub Among : List Entry → List Entry → Entry → Entry → Type 0
@@ -52,6 +54,12 @@ left_push steps log e = fold_push (λ left x. used_by (lane_of_entry x) left) st
 left_none : (log : List Entry) → left_after [] log ≡ []
 left_none [] = refl
 left_none (e ∷ log) = left_none log
+
+-- an entry of a lane that was ready may be added
+ready_push : (new : Seen) (script : Script) (opening : List Op) (log : List Entry) (e : Entry) → AllReady new script opening log → is_ready_at (run_after new script opening log) (lane_of_entry e) ≡ true
+    → AllReady new script opening (log ++ e ∷ [])
+ready_push new script opening log e h ready = λ past x more is.
+    ⊎_elim (λ end. rw (end.0, end.1) ready) (λ before. h past x before.0 before.1) (split_push log past e x more is)
 
 -- an entry of the lane that was to move may be added
 moves_push : (steps : List Step) (new : Seen) (script : Script) (opening : List Op) (log : List Entry) (e : Entry) → MovesBy steps new script opening log
@@ -106,6 +114,31 @@ module _ (opening : List Op) (script : Script) (d : DeskView) (run : GoesAlong o
   pub stops_told : (steps : List Step) (place : ℕ) → StopsAt steps d place → StopsAt steps after_log place
   stops_told [] place stops = stops
   stops_told (step ∷ more) place stops = (stops.0, moved_told step.letter ∙ stops.1)
+
+-- so it stops the run, by the letters' order
+pub letters_stop : (steps : List Step) (d : DeskView) (place : ℕ) → StopsAt (left_after steps d.core.log) d place → StopsHere (by_letters steps) d place
+letters_stop steps d place stops = λ opening script run. stops_told opening script d run (left_after steps d.core.log) place stops
+
+-- and halts a life, where the schedule has come as far as the log
+pub letters_halt : (steps left : List Step) (d : DeskView) → left ≡ left_after steps d.core.log → (halt : Halt) → Stops left d halt → HaltsHere (by_letters steps) d halt
+letters_halt steps left d at DiskFault stops = absurd stops
+letters_halt steps left d at (Full needed room) stops = absurd stops
+letters_halt steps left d at (Schedule place) stops = letters_stop steps d place (subst (λ (l : List Step). StopsAt l d place) at stops)
+letters_halt steps left d at Memory stops = absurd stops
+
+-- a lane that is ready may move by an order that asks for no more
+pub ready_may : (order : Order) (lane : Lane) (d : DeskView) → is_ready_at d lane ≡ true
+    → ((new : Seen) (script : Script) (opening : List Op) (log : List Entry) → AllReady new script opening log → order.keeps new script opening log)
+    → ((new : Seen) (script : Script) (opening : List Op) (log : List Entry) → order.keeps new script opening log → AllReady new script opening log)
+    → (order.rests → lane ≡ End → is_blown d.core ≡ false → HasNoWork d) → May order lane d
+ready_may order lane d ready is asks rests =
+    record {
+      keeps = λ opening script e run of_lane h.
+          is (as_new d.core) script opening (d.core.log ++ e ∷ [])
+          (ready_push (as_new d.core) script opening d.core.log e (asks (as_new d.core) script opening d.core.log h)
+          (ready_told opening script d run (lane_of_entry e) ∙ ap (λ (l : Lane). is_ready_at d l) of_lane ∙ ready));
+      rests = rests;
+    }
 
 -- where nothing else passes, the last of a list is found
 found_or : {X : Type 0} (b : Bool) (x y : X) (rest : Option X) → (b ≡ true → y ≡ x) → rest ≡ Some x → (if b then Some y else rest) ≡ Some x

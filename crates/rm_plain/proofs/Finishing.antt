@@ -34,14 +34,13 @@ use Rattle.rm_plain.specs.declared.schedule.Step.{Step}
 use Rattle.rm_plain.specs.Halted.{stop_of}
 use Rattle.rm_desk.specs.Does.{IsHanded}
 use Rattle.rm_plain.specs.Opens.{IsOfStart, StartsOver}
-use Rattle.rm_plain.specs.Order.{Order}
-use Rattle.rm_plain.specs.Policy.{run_after}
-use Rattle.rm_plain.specs.Schedule.{MovesBy, Stops, StopsAt, by_letters, left_after}
+use Rattle.rm_plain.specs.Order.{AllReady, HaltsHere, Order, StopsHere}
+use Rattle.rm_plain.specs.Schedule.{MovesBy, StopsAt, by_letters, left_after}
 use Rattle.rm_plain.specs.Keeping.{IsKeptOn, LeftOver}
 use Rattle.rm_plain.specs.Later.{FirstLived, FirstStopped, IsDueAt, IsLaterStop, LaterTo}
 use Rattle.rm_plain.specs.Stops.{IsDue, IsStoppedBy, IsTold}
 use Rattle.rm_plain.specs.Whole.{AllLived, Ends}
-use Rattle.rm_plain.proofs.Choosing.{none_split, stops_told}
+use Rattle.rm_plain.proofs.Choosing.{letters_stop, none_split}
 use Rattle.rm_plain.proofs.Ending.{goes_trans}
 use Rattle.rm_plain.proofs.Halting.{after_within, full_known, goes_any, keeps_leaves}
 use Rattle.rm_plain.proofs.Moving.{both, goes_same, is_not, not_nil, ok_map, on_ok}
@@ -60,13 +59,13 @@ module _ (order : Order) {D : Type 0} (view : D → DiskView) (opening : List Op
       record { so_far = leaves_same (seen view disk) (λ image. (seen view disk).images image ⊎ HoldsWithin opening d.core.log image); now = λ image is. inl is }
 
   -- why no life was begun
-  unstarted : (d : DeskView) (disk : Fused D) → opening ≡ [] → (stop : Stop) → (place : ℕ) × (stop ≡ Schedule place) × order.stops d place → IsStoppedBy view (IsDueAt d) (order.stops d) disk disk opening d.core.log stop
+  unstarted : (d : DeskView) (disk : Fused D) → opening ≡ [] → (stop : Stop) → (place : ℕ) × (stop ≡ Schedule place) × StopsHere order d place → IsStoppedBy view (IsDueAt d) (StopsHere order d) disk disk opening d.core.log stop
   unstarted d disk nothing stop why =
-      subst (λ (s : Stop). IsStoppedBy view (IsDueAt d) (order.stops d) disk disk opening d.core.log s) (sym why.1) (why.2, λ none. nothing)
+      subst (λ (s : Stop). IsStoppedBy view (IsDueAt d) (StopsHere order d) disk disk opening d.core.log s) (sym why.1) (why.2, λ none. nothing)
 
   -- a script without lives
   pub none_lived : (d : DeskView) (disk : Fused D) → stands d.core ≡ false → d.core.log ≡ [] → d.place.lives ≡ [] → disk.armed ≡ None → opening ≡ [] → (r : Result (Unit {0}) Stop) → OnOk r (order.ends d.core.log)
-      → IfErr r (λ stop. (place : ℕ) × (stop ≡ Schedule place) × order.stops d place) → (order.ends d.core.log → IsOk r) → AllLived order view opening d d disk disk r
+      → IfErr r (λ stop. (place : ℕ) × (stop ≡ Schedule place) × StopsHere order d place) → (order.ends d.core.log → IsOk r) → AllLived order view opening d d disk disk r
   none_lived d disk dead empty none unarmed nothing r used why ends =
       record {
         fallen = [];
@@ -88,7 +87,7 @@ module _ (order : Order) {D : Type 0} (view : D → DiskView) (opening : List Op
       }
 
   -- the schedule's letter stopped the run before the first life
-  pub unchosen : (d : DeskView) (disk : Fused D) (halt : Halt) → d.core.log ≡ [] → d.place.lives ≢ [] → disk.armed ≡ None → opening ≡ [] → (place : ℕ) × (halt ≡ halts.Schedule place) × order.stops d place → AllLived order view opening d d disk disk (Err (stop_of halt))
+  pub unchosen : (d : DeskView) (disk : Fused D) (halt : Halt) → d.core.log ≡ [] → d.place.lives ≢ [] → disk.armed ≡ None → opening ≡ [] → (place : ℕ) × (halt ≡ halts.Schedule place) × StopsHere order d place → AllLived order view opening d d disk disk (Err (stop_of halt))
   unchosen d disk halt empty lives unarmed nothing why =
       record {
         fallen = [];
@@ -136,7 +135,7 @@ module _ (order : Order) {D : Type 0} (view : D → DiskView) (opening : List Op
     held : IsTold (seen view first) → StandsFor opening a.core → IsKeptOn opening b.core.log (seen view second)
     held told k = (ab.kept told.0 told.1 k).kept
 
-    later_stop : StandsFor opening a.core → c.core.log ≢ [] → (stop : Stop) → IsLaterStop order view opening b c second third stop → IsStoppedBy view (IsDueAt c) (order.stops c) first third opening c.core.log stop
+    later_stop : StandsFor opening a.core → c.core.log ≢ [] → (stop : Stop) → IsLaterStop order view opening b c second third stop → IsStoppedBy view (IsDueAt c) (StopsHere order c) first third opening c.core.log stop
     later_stop k some DiskFault why = (let before = ab.stays.faults in let rose = why.0 in omega arith, why.1, λ none. absurd (some none))
     later_stop k some (Damaged offset) why = (
       why.0,
@@ -208,13 +207,13 @@ module _ (order : Order) {D : Type 0} (view : D → DiskView) (opening : List Op
           stopped = λ k. later_stop k (bc.goes.some ab.some) stop (bc.why opening (ab.goes.lawful opening refl k));
         }
 
--- what is told of the letters that are left is told of those that the order leaves after the log
+-- what is told of the letters that are left is told of the order that they give
 module _ (steps left : List Step) (d : DeskView) (at : left ≡ left_after steps d.core.log) (r : Result (Unit {0}) Stop) where
   pub used_as : OnOk r (left ≡ []) → OnOk r ((by_letters steps).ends d.core.log)
   used_as used = ok_map r (λ none. sym at ∙ none) used
 
-  pub stops_as : IfErr r (λ stop. (place : ℕ) × (stop ≡ Schedule place) × StopsAt left d place) → IfErr r (λ stop. (place : ℕ) × (stop ≡ Schedule place) × (by_letters steps).stops d place)
-  stops_as stops = if_err r (λ stop is. (is.0, is.1, subst (λ (l : List Step). StopsAt l d is.0) at is.2)) stops
+  pub stops_as : IfErr r (λ stop. (place : ℕ) × (stop ≡ Schedule place) × StopsAt left d place) → IfErr r (λ stop. (place : ℕ) × (stop ≡ Schedule place) × StopsHere (by_letters steps) d place)
+  stops_as stops = if_err r (λ stop is. (is.0, is.1, letters_stop steps d is.0 (subst (λ (l : List Step). StopsAt l d is.0) at is.2))) stops
 
   -- where none is left, none stops the run
   pub all_used_up : IfErr r (λ stop. (place : ℕ) × (stop ≡ Schedule place) × StopsAt left d place) → (by_letters steps).ends d.core.log → IsOk r
@@ -224,14 +223,13 @@ module _ (steps left : List Step) (d : DeskView) (at : left ≡ left_after steps
       by (Ok x) stops = refl
       by (Err stop) stops = absurd (subst (λ (l : List Step). StopsAt l d stops.0) (at ∙ none) stops.2)
 
--- a letter stopped the run before its first life
-pub letter_refused : {D : Type 0} (view : D → DiskView) (opening : List Op) (steps left : List Step) (d : DeskView) (disk : Fused D) (halt : Halt) → d.core.log ≡ [] → d.place.lives ≢ [] → disk.armed ≡ None → opening ≡ [] → left ≡ left_after steps d.core.log
-    → Stops left d halt → AllLived (by_letters steps) view opening d d disk disk (Err (stop_of halt))
-letter_refused view opening steps left d disk halts.DiskFault empty lives unarmed nothing at stops = absurd stops
-letter_refused view opening steps left d disk (halts.Full needed room) empty lives unarmed nothing at stops = absurd stops
-letter_refused view opening steps left d disk (halts.Schedule place) empty lives unarmed nothing at stops =
-    unchosen (by_letters steps) view opening d disk (halts.Schedule place) empty lives unarmed nothing (place, refl, subst (λ (l : List Step). StopsAt l d place) at stops)
-letter_refused view opening steps left d disk halts.Memory empty lives unarmed nothing at stops = absurd stops
+-- the order stopped the run before its first life
+pub refused_first : (order : Order) {D : Type 0} (view : D → DiskView) (opening : List Op) (d : DeskView) (disk : Fused D) (halt : Halt) → d.core.log ≡ [] → d.place.lives ≢ [] → disk.armed ≡ None → opening ≡ [] → HaltsHere order d halt
+    → AllLived order view opening d d disk disk (Err (stop_of halt))
+refused_first order view opening d disk halts.DiskFault empty lives unarmed nothing stops = absurd stops
+refused_first order view opening d disk (halts.Full needed room) empty lives unarmed nothing stops = absurd stops
+refused_first order view opening d disk (halts.Schedule place) empty lives unarmed nothing stops = unchosen order view opening d disk (halts.Schedule place) empty lives unarmed nothing (place, refl, stops)
+refused_first order view opening d disk halts.Memory empty lives unarmed nothing stops = absurd stops
 
 -- whether a life is left, where none stands
 pub none_left : (d : DeskView) → stands d.core ≡ false → is_ready_at d Begin ≡ false → d.place.lives ≡ []
@@ -279,11 +277,18 @@ starts_over view opening log disk now due stops ended stopped bytes ops told hol
     by Memory why = tt
 
 -- a run from before the first life
-module _ (steps : List Step) {D : Type 0} (view : D → DiskView) (opening : List Op) (script : Script) (first new : DeskView) (disk now : Fused D) (ended : Result (Unit {0}) Stop)
-    (all : AllLived (by_letters steps) view opening first new disk now ended) (empty : first.core.log ≡ []) (along : GoesAlong opening script first)
-    (sound : IsDeskSound new) (tells : (ops : List Op) → StandsFor ops new.core → Tells ops new) where
-  pub whole_run : IsRun (by_letters steps) opening script all.fallen new
-  whole_run = all.goes.run opening script [] refl (record { goes = along; downs = λ rests. rw empty tt; falls = rw empty refl; moves = rw empty (λ past e more h. absurd (none_split past e more h)) })
+module _ (order : Order) {D : Type 0} (view : D → DiskView) (opening : List Op) (script : Script) (first new : DeskView) (disk now : Fused D) (ended : Result (Unit {0}) Stop)
+    (all : AllLived order view opening first new disk now ended) (empty : first.core.log ≡ []) (along : GoesAlong opening script first)
+    (sound : IsDeskSound new) (tells : (ops : List Op) → StandsFor ops new.core → Tells ops new) (made : Seen) (is : as_new first.core ≡ made) (begins : order.keeps made script opening []) where
+  pub whole_run : IsRun order opening script all.fallen new
+  whole_run =
+      all.goes.run opening script [] refl
+      (record {
+        goes = along;
+        downs = λ rests. rw empty tt;
+        falls = rw empty refl;
+        moves = subst (λ (log : List Entry). order.keeps (as_new first.core) script opening log) (sym empty) (subst (λ (s : Seen). order.keeps s script opening []) (sym is) begins);
+      })
 
   told : Tells opening new
   told = tells opening whole_run.goes.stands
@@ -299,21 +304,19 @@ module _ (steps : List Step) {D : Type 0} (view : D → DiskView) (opening : Lis
   pub due_on : IsDueAt new → IsDue script opening new.core.log
   due_on due = record { dead = told.none due.dead; lives = λ none. due.lives (sym (ap (λ (p : Place). p.lives) whole_run.goes.along.at) ∙ none) }
 
-  -- and where a letter stopped the desk, it stops the run that the log tells
-  stops_on : (made : Seen) → as_new first.core ≡ made → (place : ℕ) → (by_letters steps).stops new place → StopsAt (left_after steps new.core.log) (run_after made script opening new.core.log) place
-  stops_on made is place stops =
-      subst (λ (s : Seen). StopsAt (left_after steps new.core.log) (run_after s script opening new.core.log) place) (all.goes.began ∙ is)
-      (stops_told opening script new whole_run.goes (left_after steps new.core.log) place stops)
+  -- and where the order stopped the desk, it stops the run that the log tells
+  stops_on : (place : ℕ) → StopsHere order new place → order.stops made script opening new.core.log place
+  stops_on place stops = subst (λ (s : Seen). order.stops s script opening new.core.log place) (all.goes.began ∙ is) (stops opening script whole_run.goes)
 
-  pub stopped_on : (made : Seen) → as_new first.core ≡ made
-      → IfErr ended (IsStoppedBy view (IsDue script opening new.core.log) (StopsAt (left_after steps new.core.log) (run_after made script opening new.core.log)) disk now opening new.core.log)
-  stopped_on made is =
-      let told : ℕ → Type 0 = StopsAt (left_after steps new.core.log) (run_after made script opening new.core.log) in
-      if_err ended (λ stop why. due_is view opening new.core.log disk now (IsDueAt new) (IsDue script opening new.core.log) ((by_letters steps).stops new) told due_on (stops_on made is) stop why) (all.stopped along.stands)
+  pub stopped_on : IfErr ended (IsStoppedBy view (IsDue script opening new.core.log) (order.stops made script opening new.core.log) disk now opening new.core.log)
+  stopped_on =
+      if_err ended
+      (λ stop why. due_is view opening new.core.log disk now (IsDueAt new) (IsDue script opening new.core.log) (StopsHere order new) (order.stops made script opening new.core.log) due_on stops_on stop why)
+      (all.stopped along.stands)
 
-  -- the lanes moved as the letters and the policy say, from the new manager on
-  pub moves_on : (made : Seen) → as_new first.core ≡ made → MovesBy steps made script opening new.core.log
-  moves_on made is = subst (λ (s : Seen). MovesBy steps s script opening new.core.log) (all.goes.began ∙ is) whole_run.moves
+  -- the lanes moved in the order, from the new manager on
+  pub moves_on : order.keeps made script opening new.core.log
+  moves_on = subst (λ (s : Seen). order.keeps s script opening new.core.log) (all.goes.began ∙ is) whole_run.moves
 
   module _ (settings : Settings) (same : first.core.settings ≡ settings) where
     settings_on : new.core.settings ≡ settings
@@ -326,14 +329,21 @@ module _ (steps : List Step) {D : Type 0} (view : D → DiskView) (opening : Lis
           rest = subst (λ (s : Settings). IsAtRest s (state_after opening new.core.log) (state_after opening new.core.log).life) settings_on (rest_on ends.over);
         }
 
-    pub downs_on : steps ≡ [] → AllGoDownAtRest settings (opening_state opening) new.core.log
-    downs_on none = subst (λ (s : Settings). AllGoDownAtRest s (opening_state opening) new.core.log) settings_on (whole_run.downs none)
+    pub downs_on : order.rests → AllGoDownAtRest settings (opening_state opening) new.core.log
+    downs_on rests = subst (λ (s : Settings). AllGoDownAtRest s (opening_state opening) new.core.log) settings_on (whole_run.downs rests)
 
     pub lawful_on : Lawful new.core.settings script opening new.core.log → Lawful settings script opening new.core.log
     lawful_on lawful = subst (λ (s : Settings). Lawful s script opening new.core.log) settings_on lawful
 
   pub falls_on : now.falls ≡ disk.falls ++ falls_of script opening new.core.log
   falls_on = all.falls ∙ ap (λ (xs : List Fallen). disk.falls ++ xs) (sym whole_run.falls)
+
+-- before the first move nothing is told of the entries
+pub none_ready_yet : (new : Seen) (script : Script) (opening : List Op) → AllReady new script opening []
+none_ready_yet new script opening = λ past e more h. absurd (none_split past e more h)
+
+pub none_moved_yet : (steps : List Step) (new : Seen) (script : Script) (opening : List Op) → MovesBy steps new script opening []
+none_moved_yet steps new script opening = λ past e more h. absurd (none_split past e more h)
 
 -- what is said of a run that came to its end
 pub ok_of : {A E : Type 0} {P : Type 0} (r : Result A E) → OnOk r P → IsOk r → P

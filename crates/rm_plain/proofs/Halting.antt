@@ -17,9 +17,7 @@ use Rattle.rm_model.specs.Lawful.{state_after}
 use Rattle.rm_model.specs.Place.{close_left}
 use Rattle.rm_model.specs.State.{Manager}
 use Rattle.rm_tree.specs.Shows.{shows}
-use Rattle.rm_plain.specs.declared.schedule.Step.{Step}
-use Rattle.rm_plain.specs.Order.{Order}
-use Rattle.rm_plain.specs.Schedule.{Stops, StopsAt, by_letters, left_after}
+use Rattle.rm_plain.specs.Order.{HaltsHere, Order}
 use Rattle.rm_plain.specs.Survives.{HoldsAfter, HoldsKept, HoldsWithin}
 use Rattle.rm_store.specs.declared.fault.StoreError.{StoreError}
 use Rattle.rm_store.specs.declared.fault.StoreError.TheVariants as store
@@ -246,10 +244,10 @@ module _ {order : Order} {D : Type 0} (view : D → DiskView) where
         by (Schedule place) why = why
         by Memory why = tt
 
--- a letter that can't move its lane halts the life where the schedule has come as far as the log
-pub stops_halt : {D : Type 0} (view : D → DiskView) (steps left : List Step) (d : DeskView) (disk : Fused D) → left ≡ left_after steps d.core.log → (halt : Halt) → Stops left d halt
-    → IsHaltedBy (by_letters steps) view (λ opening. Unit {0}) (λ opening. IsKeptOn opening d.core.log (seen view disk)) d d disk disk halt
-stops_halt view steps left d disk at DiskFault stops = absurd stops
-stops_halt view steps left d disk at (Full needed room) stops = absurd stops
-stops_halt view steps left d disk at (Schedule place) stops = subst (λ (l : List Step). StopsAt l d place) at stops
-stops_halt view steps left d disk at Memory stops = absurd stops
+-- where the order stops the run here, that is why it halts
+pub halts_here : {D : Type 0} (view : D → DiskView) (order : Order) (d : DeskView) (disk : Fused D) → (halt : Halt) → HaltsHere order d halt
+    → IsHaltedBy order view (λ opening. Unit {0}) (λ opening. IsKeptOn opening d.core.log (seen view disk)) d d disk disk halt
+halts_here view order d disk DiskFault stops = absurd stops
+halts_here view order d disk (Full needed room) stops = absurd stops
+halts_here view order d disk (Schedule place) stops = stops
+halts_here view order d disk Memory stops = absurd stops

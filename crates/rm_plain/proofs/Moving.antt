@@ -1,5 +1,5 @@
 -- The moves of a desk, each a longer run.
-use Rattle.std.proofs.Common.{◌≡◌, ◌≢◌, ℕ, ◌<◌, ◌≤◌, List, [], ◌∷◌, ◌++◌, Bool, true, false, not, ◌&&◌, Some, None, Option, Ok, Err, Result, if◌then◌else◌, length, refl, sym, ◌∙◌, ap, subst, arith}
+use Rattle.std.proofs.Common.{◌≡◌, ◌≢◌, ℕ, ◌<◌, ◌≤◌, List, [], ◌∷◌, ◌++◌, Bool, true, false, not, ◌&&◌, Some, None, Option, Ok, Err, Result, length, refl, sym, ◌∙◌, ap, subst, arith}
 use Rattle.std.specs.Prelude.{OnErr, OnOk, is_ok, slice_get}
 use Rattle.std.proofs.lemmas.List.{append-nil}
 use Rattle.std.proofs.lemmas.List.Sums.{fold_push}
@@ -28,7 +28,7 @@ use Rattle.rm_core.specs.Adds.{IsLeft}
 use Rattle.rm_core.specs.Seen.{StandsFor}
 use Rattle.rm_core.specs.Words.{has_rest, is_blown, landed_over, stands}
 use Rattle.rm_desk.specs.View.{DeskView}
-use Rattle.rm_desk.specs.Lanes.{HasNoWork, IsStep, IsWork, is_ready_at}
+use Rattle.rm_desk.specs.Lanes.{HasNoWork, IsStep}
 use Rattle.rm_desk.specs.Runs.{HasBlown, IsLast, IsSound as IsDeskSound, Tells}
 use Rattle.rm_desk.specs.Does.{Answers, Begins, Blows, Does, DoesBy, IsEntryOf}
 use Rattle.rm_desk.proofs.Longer.{not_empty}

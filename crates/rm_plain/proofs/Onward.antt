@@ -13,14 +13,12 @@ use Rattle.rm_formats.specs.Device.{Holds}
 use Rattle.rm_model.specs.Changes.{kept_after_landing}
 use Rattle.rm_model.specs.Lawful.{state_after}
 use Rattle.rm_model.specs.State.{LifeState, Manager}
-use Rattle.rm_plain.specs.declared.schedule.Step.{Step}
 use Rattle.rm_store.specs.Causes.{IsWhy}
 use Rattle.rm_store.specs.Errors.{IsOpenError}
 use Rattle.rm_store.specs.declared.fault.StoreError.{StoreError}
 use Rattle.rm_store.specs.declared.fault.StoreError.TheVariants as store
 use Rattle.rm_plain.specs.Opens.{IsOfDevice, OpensAgain}
-use Rattle.rm_plain.specs.Order.{Order}
-use Rattle.rm_plain.specs.Schedule.{Stops, StopsAt, by_letters, left_after}
+use Rattle.rm_plain.specs.Order.{HaltsHere, Order, StopsHere}
 use Rattle.rm_plain.specs.Survives.{HoldsKept, HoldsWithin, SurvivesAll, SurvivesNow}
 use Rattle.rm_store.specs.Store.{StoreState, seen}
 use Rattle.rm_store.proofs.Faultless.{one_list, never_damaged, never_stray}
@@ -420,7 +418,7 @@ module _ (order : Order) {D : Type 0} (view : D → DiskView) where
     -- a halt of it stops the run
     halted_first : (stop : Stop) (h : Halts order view over_first found_first d new store.disk now stop) (halt : Halt)
         → IsHaltedBy order view over_first found_first d new store.disk now halt → h.halt ≡ halt → StandsFor opening d.core
-        → IsStoppedBy view (IsDueAt new) (order.stops new) disk now opening new.core.log (stop_of halt)
+        → IsStoppedBy view (IsDueAt new) (StopsHere order new) disk now opening new.core.log (stop_of halt)
     halted_first stop h halts.DiskFault why is k =
         let handed = why.1 opening (left_first opening refl) k in (
           let before = first.ready.stays.faults in let rose = why.0 in omega arith,
@@ -479,7 +477,7 @@ module _ (order : Order) {D : Type 0} (view : D → DiskView) where
           found = inr (λ bytes told. (first.kept bytes told).0);
           quiet = λ none. quiet_trans (seen view disk) (seen view store.disk) (seen view now) first.quiet (h.quiet none);
           left = λ k. survives_first h.halt h.halted k;
-          why = λ k. subst (λ (s : Stop). IsStoppedBy view (IsDueAt new) (order.stops new) disk now opening new.core.log s) (sym h.stops) (halted_first stop h h.halt h.halted.why refl k);
+          why = λ k. subst (λ (s : Stop). IsStoppedBy view (IsDueAt new) (StopsHere order new) disk now opening new.core.log s) (sym h.stops) (halted_first stop h h.halt h.halted.why refl k);
         }
 
   -- the first life had no store to begin over
@@ -508,7 +506,7 @@ module _ (order : Order) {D : Type 0} (view : D → DiskView) where
       due : IsDueAt d
       due = record { dead = dead; lives = lives }
 
-      by : (stop : Stop) → IsUnfounded view opening disk now stop → IsStoppedBy view (IsDueAt d) (order.stops d) disk now opening d.core.log stop
+      by : (stop : Stop) → IsUnfounded view opening disk now stop → IsStoppedBy view (IsDueAt d) (StopsHere order d) disk now opening d.core.log stop
       by DiskFault why = (why.1, inl due, λ none. why.0)
       by (Damaged offset) why = (due, λ bytes told. (empty, why.0, why.1 bytes told), λ none. why.0)
       by (Full needed room) why = absurd why
@@ -516,21 +514,19 @@ module _ (order : Order) {D : Type 0} (view : D → DiskView) where
       by EpochsSpent why = (due, (why.0, subst (λ (l : List Entry). NoneLeft opening l) (sym empty) why.1))
       by Memory why = tt
 
--- the letters stopped the run before a later life
-module _ {D : Type 0} (view : D → DiskView) (steps left : List Step) (a b : DeskView) (first second : Fused D) (lived : Lives (by_letters steps) view (λ opening. Unit {0}) (λ opening. IsKeptOn opening a.core.log (seen view first)) a b first second)
-    (at : left ≡ left_after steps b.core.log) where
-  at_place : (stop : Stop) (place : ℕ) → stop ≡ Schedule place → StopsAt left b place → StopsLater (by_letters steps) view a b first second stop
+-- the order stopped the run before a later life
+module _ (order : Order) {D : Type 0} (view : D → DiskView) (a b : DeskView) (first second : Fused D) (lived : Lives order view (λ opening. Unit {0}) (λ opening. IsKeptOn opening a.core.log (seen view first)) a b first second) where
+  at_place : (stop : Stop) (place : ℕ) → stop ≡ Schedule place → StopsHere order b place → StopsLater order view a b first second stop
   at_place stop place is stops =
-      stops_after (by_letters steps) view a b b first second second lived stop
-      (subst (λ (s : Stop). StopsLater (by_letters steps) view b b second second s) (sym is)
-      (stops_here (by_letters steps) view b second (Schedule place) lived.at_ease (λ opening k. subst (λ (l : List Step). StopsAt l b place) at stops)))
+      stops_after order view a b b first second second lived stop
+      (subst (λ (s : Stop). StopsLater order view b b second second s) (sym is) (stops_here order view b second (Schedule place) lived.at_ease (λ opening k. stops)))
 
-  pub letter_stops : (halt : Halt) → Stops left b halt → StopsLater (by_letters steps) view a b first second (stop_of halt)
-  letter_stops halts.DiskFault stops = absurd stops
-  letter_stops (halts.Full needed room) stops = absurd stops
-  letter_stops (halts.Schedule place) stops = at_place (Schedule place) place refl stops
-  letter_stops halts.Memory stops = absurd stops
+  pub order_stops : (halt : Halt) → HaltsHere order b halt → StopsLater order view a b first second (stop_of halt)
+  order_stops halts.DiskFault stops = absurd stops
+  order_stops (halts.Full needed room) stops = absurd stops
+  order_stops (halts.Schedule place) stops = at_place (Schedule place) place refl stops
+  order_stops halts.Memory stops = absurd stops
 
-  pub lives_end : (r : Result (Unit {0}) Stop) → IfErr r (λ stop. (place : ℕ) × (stop ≡ Schedule place) × StopsAt left b place) → LaterTo (by_letters steps) view a b first second r
+  pub lives_end : (r : Result (Unit {0}) Stop) → IfErr r (λ stop. (place : ℕ) × (stop ≡ Schedule place) × StopsHere order b place) → LaterTo order view a b first second r
   lives_end (Ok x) stops = lived
   lives_end (Err stop) stops = at_place stop stops.0 stops.1 stops.2

@@ -13,7 +13,7 @@ use Rattle.rm_model.specs.Lawful.{state_after}
 use Rattle.rm_model.specs.Place.{close_left}
 use Rattle.rm_model.specs.State.{LifeState, Manager}
 use Rattle.rm_plain.specs.Goes.{GoesOver}
-use Rattle.rm_plain.specs.Order.{Order}
+use Rattle.rm_plain.specs.Order.{Order, StopsHere}
 use Rattle.rm_plain.specs.Survives.{HoldsAfter, HoldsKept, HoldsWithin}
 use Rattle.rm_store.specs.Store.{StoreState, IsSound, seen, needed_for, room_behind}
 use Rattle.rm_types.specs.Records.{Records}
@@ -133,7 +133,7 @@ IsHaltedBy order view over found old new disk now DiskFault =
 IsHaltedBy order view over found old new disk now (Full needed room) =
     (opening : List Op) → over opening → StandsFor opening old.core
     → IsFull (found opening) opening new.core.log (view now.inner).size needed room
-IsHaltedBy order view over found old new disk now (Schedule place) = order.stops new place
+IsHaltedBy order view over found old new disk now (Schedule place) = StopsHere order new place
 IsHaltedBy order view over found old new disk now Memory = Unit {0}
 
 -- a part of a run halted: what was run, why, and what is left on the disk

@@ -18,7 +18,7 @@ use Rattle.rm_core.specs.Words.{stands}
 use Rattle.rm_desk.specs.View.{DeskView}
 use Rattle.rm_plain.specs.declared.halts.Stop.{Stop}
 use Rattle.rm_plain.specs.declared.halts.Stop.TheVariants.{DiskFault, Damaged, Full, Schedule, EpochsSpent, Memory}
-use Rattle.rm_plain.specs.Order.{Order}
+use Rattle.rm_plain.specs.Order.{Order, StopsHere}
 use Rattle.rm_plain.specs.Goes.{GoesOver, IsOver}
 use Rattle.rm_plain.specs.Keeping.{IsFoundOn, IsFull, IsKeptOn, LeftOver}
 use Rattle.rm_plain.specs.Starts.{DiskStays, IsAtEase, Lives}
@@ -70,7 +70,7 @@ IsLaterStop order view opening old new disk now (Damaged offset) =
     IsDueAt new × (IsKeptOn opening old.core.log (seen view disk) → ⊥)
 IsLaterStop order view opening old new disk now (Full needed room) =
     IsFull (IsKeptOn opening old.core.log (seen view disk)) opening new.core.log (view now.inner).size needed room
-IsLaterStop order view opening old new disk now (Schedule place) = order.stops new place
+IsLaterStop order view opening old new disk now (Schedule place) = StopsHere order new place
 IsLaterStop order view opening old new disk now EpochsSpent = IsDueAt new × NoneLeft opening new.core.log
 IsLaterStop order view opening old new disk now Memory = Unit {0}
 
@@ -117,7 +117,7 @@ pub record FirstStopped (order : Order) {D : Type 0} (view : D → DiskView) (op
   pub found : (opening ≡ []) ⊎ Tells (seen view disk) (λ bytes. Holds bytes opening)
   pub quiet : new.core.log ≡ [] → IsQuiet (seen view disk) (seen view now)
   pub left : StandsFor opening old.core → SurvivesAll opening new.core.log (seen view disk) (seen view now) × SurvivesNow opening new.core.log (seen view disk) (seen view now)
-  pub why : StandsFor opening old.core → IsStoppedBy view (IsDueAt new) (order.stops new) disk now opening new.core.log stop
+  pub why : StandsFor opening old.core → IsStoppedBy view (IsDueAt new) (StopsHere order new) disk now opening new.core.log stop
 
 -- how the first life went
 abbrev pub FirstTo : Order → {D : Type 0} → (D → DiskView) → List Op → DeskView → DeskView → Fused D → Fused D → Result (Unit {0}) Stop → Type 0

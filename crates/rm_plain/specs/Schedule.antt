@@ -110,7 +110,7 @@ by_letters steps =
     record {
       keeps = MovesBy steps;
       rests = steps ≡ [];
-      stops = λ d place. StopsAt (left_after steps d.core.log) d place;
+      stops = λ new script opening log place. StopsAt (left_after steps log) (run_after new script opening log) place;
       ends = λ log. left_after steps log ≡ [];
     }
 

@@ -12,7 +12,7 @@ use Rattle.rm_core.specs.Seen.{StandsFor}
 use Rattle.rm_core.specs.Words.{stands}
 use Rattle.rm_desk.specs.View.{DeskView}
 use Rattle.rm_plain.specs.declared.halts.Stop.{Stop}
-use Rattle.rm_plain.specs.Order.{Order}
+use Rattle.rm_plain.specs.Order.{Order, StopsHere}
 use Rattle.rm_plain.specs.Goes.{GoesOver, IsOver}
 use Rattle.rm_plain.specs.Starts.{DiskStays}
 use Rattle.rm_plain.specs.Stops.{IsStoppedBy}
@@ -40,4 +40,4 @@ pub record AllLived (order : Order) {D : Type 0} (view : D → DiskView) (openin
   pub begun : old.place.lives ≢ [] → OnOk ended (new.core.log ≢ [])
   pub images : StandsFor opening old.core → SurvivesAll opening new.core.log (seen view disk) (seen view now)
   pub images_now : StandsFor opening old.core → SurvivesNow opening new.core.log (seen view disk) (seen view now)
-  pub stopped : StandsFor opening old.core → IfErr ended (IsStoppedBy view (IsDueAt new) (order.stops new) disk now opening new.core.log)
+  pub stopped : StandsFor opening old.core → IfErr ended (IsStoppedBy view (IsDueAt new) (StopsHere order new) disk now opening new.core.log)

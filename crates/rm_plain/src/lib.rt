@@ -6,12 +6,16 @@
 //! and nothing awaits or is owed, that at every moment a crash leaves on the device what is kept, or this and the
 //! operation that awaits, and that such a device opens again.
 //!
+//! A run whose lanes are moved otherwise begins its lives and leaves them by the same calls (`open_first`, `open_again`, `begin_life`, `leave`),
+//! over an order of its own.
+//!
 //! It stands on `rm_desk`, on `rm_store`, and on the definitions of `rm_model`.
 #![tactic(auto)]
 
 mod halts;
 mod laws;
 mod lives;
+mod order;
 mod policy;
 mod refusals;
 mod runs;
@@ -22,6 +26,9 @@ mod storing;
 pub use halts::{Halt, Stop};
 pub use laws::law_opens_again;
 pub use lives::{LifeEnd, run_life};
+pub use order::Ordered;
 pub use runs::{Run, run_script};
 pub use schedule::{Letter, Schedule, Step};
-pub use starts::stop_at_open;
+pub use starts::{
+    Lived, Unfounded, Unopened, begin_life, leave, open_again, open_first, stop_at_open,
+};

@@ -16,11 +16,14 @@ ghost use Rattle.rm_plain.specs.declared.halts.Halt.{Halt};
 ghost use Rattle.rm_plain.specs.Goes.{GoesOver};
 ghost use Rattle.rm_plain.specs.Halted.{stop_at_open};
 ghost use Rattle.rm_plain.specs.Keeping.{FuseStays, HaltsOver, IsFoundOn};
+ghost use Rattle.rm_plain.specs.Lives.{AddsOneOf};
+ghost use Rattle.rm_plain.specs.Order.{May};
 ghost use Rattle.rm_plain.specs.Schedule.{IsAt, chosen, left_of, order_of};
 ghost use Rattle.rm_plain.specs.Starts.{Begins, FallsBy, IsGivenBack, IsOpened, IsRefusedBy, IsUnopenedBy, Leaves, LivesTo};
 
 use crate::halts::{Halt, Stop};
 use crate::lives::{LifeEnd, run_life};
+use crate::order::Ordered;
 use crate::refusals::memory_only;
 use crate::schedule::Schedule;
 use crate::storing::arm;
@@ -33,14 +36,14 @@ use std::alloc::Global;
 
 /// Why no store was opened, and its disk.
 #[derive(Drop)]
-pub(crate) struct Unopened<D: Disk> {
+pub struct Unopened<D: Disk> {
     pub why: Stop,
     pub disk: Fuse<D>,
 }
 
 /// How lives went: their disk, and whether they came to their ends.
 #[derive(Drop)]
-pub(crate) struct Lived<D: Disk> {
+pub struct Lived<D: Disk> {
     pub disk: Fuse<D>,
     pub ended: Result<(), Stop>,
 }
@@ -93,15 +96,15 @@ pub(crate) fn can_begin(tree: &Tree) -> Result<(), Stop>
     Ok(())
 }
 
-/// A life begins over what the last one left in the store, and the fuse is armed where its first segment is to crash.
-fn begin_life<D: Disk>(
+/// A life begins over what the last one left in the store, and the fuse is armed where its first segment is to crash. Want of
+/// memory alone refuses it: either before it began, and then the desk is as it was, or where the fuse was to be armed.
+pub fn begin_life<D: Disk, O: Ordered>(
     d: &mut Desk,
     store: &mut Store<D>,
-    schedule: &mut Schedule<'_>,
+    by: &O,
     tree: Tree,
 ) -> Result<(), Halt>
-    requires at { IsAt schedule.old d.old.core.log }
-    requires chosen { chosen (left_of schedule.old) d.old ≡ Some Lane.Begin }
+    requires may { May (O.order by.now) Lane.Begin d.old }
     requires dead { stands d.old.core ≡ false }
     requires lives { d.old.place.lives ≢ [] }
     requires over { CanBeginOver tree }
@@ -109,20 +112,19 @@ fn begin_life<D: Disk>(
     requires unbroken { store.old.is_broken ≡ false }
     requires unarmed { store.old.disk.armed ≡ None }
     requires unblown { store.old.disk.blown ≡ false }
-    ensures whole { schedule.new.whole ≡ schedule.old.whole }
-    ensures at { OnOk result (IsAt schedule.new d.new.core.log) }
-    ensures goes { GoesOver (order_of schedule.old) (λ opening. IsLeft tree (state_after opening d.old.core.log)) [] d.old d.new }
+    ensures one { OnOk result (AddsOneOf Lane.Begin d.old d.new) }
+    ensures goes { GoesOver (O.order by.now) (λ opening. IsLeft tree (state_after opening d.old.core.log)) [] d.old d.new }
     ensures begun { OnOk result (Begins D.view (λ opening. IsLeft tree (state_after opening d.old.core.log)) (λ opening. IsFoundOn opening d.old.core tree (seen D.view store.old.disk)) d.old d.new store.old store.new) }
     ensures fuse { FuseStays D.view store.old.disk store.new.disk }
     ensures fewer { OnOk result (length d.new.place.lives < length d.old.place.lives) }
     ensures inner { store.new.disk.inner ≡ store.old.disk.inner }
     ensures refused { store.new.disk.refused ≡ store.old.disk.refused }
     ensures memory { IfErr result (λ halt. halt ≡ Halt.Memory) }
-    ensures halts { IfErr result (HaltsOver (order_of schedule.old) D.view (λ opening. IsLeft tree (state_after opening d.old.core.log)) (λ opening. IsFoundOn opening d.old.core tree (seen D.view store.old.disk)) d.old d.new store.old.disk store.new.disk) }
+    ensures halts { IfErr result (HaltsOver (O.order by.now) D.view (λ opening. IsLeft tree (state_after opening d.old.core.log)) (λ opening. IsFoundOn opening d.old.core tree (seen D.view store.old.disk)) d.old d.new store.old.disk store.new.disk) }
 {
+    let _ = by;
     d.law();
     memory_only(d.begin(tree))?;
-    schedule.pass(Lane::Begin);
     arm(d, store)
 }
 
@@ -138,7 +140,7 @@ fn fall<D: Disk>(disk: Fuse<D>, end: LifeEnd) -> Fuse<D>
 }
 
 /// What a life left, once its store is closed: where it halted, the fuse is disarmed.
-fn leave<D: Disk>(store: Store<D>, ended: Result<LifeEnd, Halt>) -> Lived<D>
+pub fn leave<D: Disk>(store: Store<D>, ended: Result<LifeEnd, Halt>) -> Lived<D>
     ensures { Leaves D.view D.falls_to store.disk result.disk ended result.ended }
 {
     let mut disk = store.close();
@@ -182,6 +184,7 @@ pub(crate) fn live<D: Disk>(
     let mut store = store;
     match begin_life(d, &mut store, schedule, tree) {
         Ok(()) => {
+            schedule.pass(Lane::Begin);
             let ended = run_life(d, &mut store, schedule);
             leave(store, ended)
         }
@@ -191,14 +194,14 @@ pub(crate) fn live<D: Disk>(
 
 /// Why the first life had no store, and what its disk held, if it held a store.
 #[derive(Drop)]
-pub(crate) struct Unfounded<D: Disk> {
+pub struct Unfounded<D: Disk> {
     pub opening: Items<Op>,
     pub why: Stop,
     pub disk: Fuse<D>,
 }
 
 /// Opens the store of the first life: whatever its disk holds that a life can begin over.
-pub(crate) fn open_first<D: Disk>(
+pub fn open_first<D: Disk>(
     alloc: Global,
     disk: Fuse<D>,
 ) -> Result<(Store<D>, Tree, Items<Op>), Unfounded<D>>
@@ -232,7 +235,7 @@ pub(crate) fn open_first<D: Disk>(
 
 /// Opens the store of a later life: one that holds what was kept or, where the last life blew, this and the operation
 /// that awaited first, and that a life can begin over. A disk that tells its bytes never holds anything else.
-pub(crate) fn open_again<D: Disk>(
+pub fn open_again<D: Disk>(
     alloc: Global,
     d: &Desk,
     disk: Fuse<D>,

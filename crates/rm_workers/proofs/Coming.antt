@@ -17,12 +17,13 @@ use Rattle.rm_tables.specs.declared.events.Refused.{Refused}
 use Rattle.rm_core.specs.Seen.{IsToBeKept, StandsFor}
 use Rattle.rm_core.specs.Words.{handed_of, has_rest, is_blown, stands}
 use Rattle.rm_desk.specs.Does.{Blows, Does, DoesBy, IsEntryOf}
-use Rattle.rm_desk.specs.Lanes.{HasNoWork, IsStep, stands_after}
+use Rattle.rm_desk.specs.Lanes.{HasNoWork, IsStep, is_ready_at, stands_after}
 use Rattle.rm_desk.specs.Runs.{IsSound}
 use Rattle.rm_desk.specs.View.{DeskView}
 use Rattle.rm_plain.specs.Falls.{fall}
 use Rattle.rm_plain.specs.Goes.{Goes}
 use Rattle.rm_plain.specs.Order.{May}
+use Rattle.rm_plain.proofs.Choosing.{ready_may}
 use Rattle.rm_plain.proofs.Ending.{goes_trans}
 use Rattle.rm_plain.proofs.Longer.{is_plain, main_quiet, sched_quiet}
 use Rattle.rm_plain.proofs.Moving.{TellsAll, blown_goes, down_goes, goes_same, kept_goes, settle_goes, works}
@@ -31,9 +32,9 @@ use Rattle.rm_workers.specs.Came.{Came, Moves, Went, blown_on, came, come_on, co
 
 -- THE ORDER
 
--- any lane may move next, but that a life goes down only at rest or blown
-pub may_any : (lane : Lane) (d : DeskView) → (lane ≡ End → is_blown d.core ≡ false → HasNoWork d) → May any_order lane d
-may_any lane d rests = record { keeps = λ opening script e run of_lane h. tt; rests = λ always end unblown. rests end unblown }
+-- any lane that is ready may move next, but that a life goes down only at rest or blown
+pub may_any : (lane : Lane) (d : DeskView) → is_ready_at d lane ≡ true → (lane ≡ End → is_blown d.core ≡ false → HasNoWork d) → May any_order lane d
+may_any lane d ready rests = ready_may any_order lane d ready (λ new script opening log h. h) (λ new script opening log h. h) (λ always end unblown. rests end unblown)
 
 none_nil : {X : Type 0} (xs : List X) → xs ≡ [] → not (is_nil xs) ≡ false
 none_nil xs is = rw is refl
@@ -160,11 +161,11 @@ module _ (began d next : DeskView) (went : Went began d) (tells : TellsAll d) (t
     closed_went (Some (Crash calls image)) c = down_went calls image c
 
   -- a lane of the desk's own moves
-  lane_went : (lane : Lane) → Does lane d next → (is_blown d.core ≡ false → HasNoWork d → has_rest d.core) → (lane ≡ End → is_blown d.core ≡ false → has_rest d.core) → IsStep lane → Went began next
-  lane_went lane does idle rests step = by lane does may step
+  lane_went : (lane : Lane) → Does lane d next → is_ready_at d lane ≡ true → (is_blown d.core ≡ false → HasNoWork d → has_rest d.core) → (lane ≡ End → is_blown d.core ≡ false → has_rest d.core) → IsStep lane → Went began next
+  lane_went lane does ready idle rests step = by lane does may step
     where
       may : May any_order lane d
-      may = may_any lane d (λ end unblown. rest_idle d does.stood (rests end unblown))
+      may = may_any lane d ready (λ end unblown. rest_idle d does.stood (rests end unblown))
 
       by : (lane : Lane) → Does lane d next → May any_order lane d → IsStep lane → Went began next
       by Client does may step = still_went began d next (IsEntryOf Client d) Client does went (is_still does.adds.entry _ does.adds.of_kind.3 refl) refl (works Client d next does tells told may tt (λ e. cc)).goes
@@ -178,55 +179,55 @@ module _ (began d next : DeskView) (went : Went began d) (tells : TellsAll d) (t
       by Write does may step = absurd step
       by Begin does may step = absurd step
 
-may_write : (d : DeskView) → May any_order Write d
-may_write d = may_any Write d (λ end. cc)
+may_write : (d : DeskView) → is_ready_at d Write ≡ true → May any_order Write d
+may_write d ready = may_any Write d ready (λ end. cc)
 
 -- the operation that is with the store is kept
-kept_went : (began d next : DeskView) → Went began d → Does Write d next → Went began next
-kept_went began d next went does =
+kept_went : (began d next : DeskView) → Went began d → Does Write d next → is_ready_at d Write ≡ true → Went began next
+kept_went began d next went does ready =
     let is = does.adds.of_kind.2 in
     let still : IsStill does.adds.entry = subst IsStill (sym is) (record { blown = λ b. refl; standing = λ b. refl; falls = λ close b. refl }) in
-    still_went began d next (IsEntryOf Write d) Write does went still refl (kept_goes d next does (may_write d))
+    still_went began d next (IsEntryOf Write d) Write does went still refl (kept_goes d next does (may_write d ready))
 
 -- or refused
-blown_went : (began d next : DeskView) (passed : ℕ) → Went began d → Blows passed d next → Went began next
-blown_went began d next passed went does =
+blown_went : (began d next : DeskView) (passed : ℕ) → Went began d → Blows passed d next → is_ready_at d Write ≡ true → Went began next
+blown_went began d next passed went does ready =
     let e = does.adds.entry in
     let is : e ≡ Blown passed = does.adds.of_kind in
     let none : falls_on (close_left d.place.segments) (is_blown d.core) e ≡ [] = ap (falls_on (close_left d.place.segments) (is_blown d.core)) is in
     went_on began d next e went does.stood does.adds.added does.adds.place (does.blown ∙ sym (ap (blown_on (is_blown d.core)) is)) (does.standing ∙ sym (ap (stands_on true) is)) (λ stood. none)
-    (subst (λ (l : List Fallen). Goes any_order l d next) (sym none) (blown_goes d next passed does (may_write d)))
+    (subst (λ (l : List Fallen). Goes any_order l d next) (sym none) (blown_goes d next passed does (may_write d ready)))
 
 -- WHERE A MOVE WAS ASKED FOR
 
 stays_went : (began d next : DeskView) → Went began d → next ≡ d → Went began next
 stays_went began d next went same = subst (Went began) (sym same) went
 
-pub stepped_went : (began d next : DeskView) (lane : Lane) (made : Result (Unit {0}) Refused) → Went began d → OnOk made (Does lane d next) → OnErr made (next ≡ d) → TellsAll d → TellsAll next
+pub stepped_went : (began d next : DeskView) (lane : Lane) (made : Result (Unit {0}) Refused) → Went began d → OnOk made (Does lane d next) → OnOk made (is_ready_at d lane ≡ true) → OnErr made (next ≡ d) → TellsAll d → TellsAll next
     → (stands d.core ≡ true → is_blown d.core ≡ false → HasNoWork d → has_rest d.core) → (lane ≡ End → is_blown d.core ≡ false → has_rest d.core) → IsStep lane → Went began next
-stepped_went began d next lane (Ok x) went does same tells told idle rests step = lane_went began d next went tells told lane does (idle does.stood) rests step
-stepped_went began d next lane (Err x) went does same tells told idle rests step = stays_went began d next went same
+stepped_went began d next lane (Ok x) went does ready same tells told idle rests step = lane_went began d next went tells told lane does ready (idle does.stood) rests step
+stepped_went began d next lane (Err x) went does ready same tells told idle rests step = stays_went began d next went same
 
-pub stepped_moves : (began d next : DeskView) (lane : Lane) (made : Result (Unit {0}) Refused) → Went began d → OnOk made (Does lane d next) → TellsAll d → TellsAll next → IsSound d
+pub stepped_moves : (began d next : DeskView) (lane : Lane) (made : Result (Unit {0}) Refused) → Went began d → OnOk made (Does lane d next) → OnOk made (is_ready_at d lane ≡ true) → TellsAll d → TellsAll next → IsSound d
     → (stands d.core ≡ true → is_blown d.core ≡ false → HasNoWork d → has_rest d.core) → (lane ≡ End → is_blown d.core ≡ false → has_rest d.core) → IsStep lane → OnOk made (Moves began lane d next)
-stepped_moves began d next lane (Ok x) went does tells told sound idle rests step =
-    record { does = does; went = went; further = lane_went began d next went tells told lane does (idle does.stood) rests step; sound = sound; idle = idle does.stood; told = tells; tells = told }
-stepped_moves began d next lane (Err x) went does tells told sound idle rests step = tt
+stepped_moves began d next lane (Ok x) went does ready tells told sound idle rests step =
+    record { does = does; ready = ready; went = went; further = lane_went began d next went tells told lane does ready (idle does.stood) rests step; sound = sound; idle = idle does.stood; told = tells; tells = told }
+stepped_moves began d next lane (Err x) went does ready tells told sound idle rests step = tt
 
-pub learned_both : (began d next : DeskView) (made : Result (Unit {0}) Refused) → Went began d → OnOk made (Does Write d next) → OnOk made (Went began d × Went began next)
-learned_both began d next (Ok x) went does = (went, kept_went began d next went does)
-learned_both began d next (Err x) went does = tt
+pub learned_both : (began d next : DeskView) (made : Result (Unit {0}) Refused) → Went began d → OnOk made (Does Write d next) → OnOk made (is_ready_at d Write ≡ true) → OnOk made (Went began d × Went began next)
+learned_both began d next (Ok x) went does ready = (went, kept_went began d next went does ready)
+learned_both began d next (Err x) went does ready = tt
 
-pub refused_both : (began d next : DeskView) (passed : ℕ) (made : Result (Unit {0}) Refused) → Went began d → OnOk made (Blows passed d next) → OnOk made (Went began d × Went began next)
-refused_both began d next passed (Ok x) went does = (went, blown_went began d next passed went does)
-refused_both began d next passed (Err x) went does = tt
+pub refused_both : (began d next : DeskView) (passed : ℕ) (made : Result (Unit {0}) Refused) → Went began d → OnOk made (Blows passed d next) → OnOk made (is_ready_at d Write ≡ true) → OnOk made (Went began d × Went began next)
+refused_both began d next passed (Ok x) went does ready = (went, blown_went began d next passed went does ready)
+refused_both began d next passed (Err x) went does ready = tt
 
 pub closes_at : (began d : DeskView) (passed : ℕ) → Went began d → (image : ℕ) × (close_left (came began d.core.log).place.segments ≡ Some (Crash passed image)) → (image : ℕ) × (close_left d.place.segments ≡ Some (Crash passed image))
 closes_at began d passed went closes = (closes.0, ap (λ (p : Place). close_left p.segments) went.place ∙ closes.1)
 
-pub learned_went : (began d next : DeskView) (made : Result (Unit {0}) Refused) → Went began d → OnOk made (Does Write d next) → OnErr made (next ≡ d) → Went began next
-learned_went began d next (Ok x) went does same = kept_went began d next went does
-learned_went began d next (Err x) went does same = stays_went began d next went same
+pub learned_went : (began d next : DeskView) (made : Result (Unit {0}) Refused) → Went began d → OnOk made (Does Write d next) → OnOk made (is_ready_at d Write ≡ true) → OnErr made (next ≡ d) → Went began next
+learned_went began d next (Ok x) went does ready same = kept_went began d next went does ready
+learned_went began d next (Err x) went does ready same = stays_went began d next went same
 
 some_same : {X : Type 0} (x y : X) → Some x ≡ Some y → x ≡ y
 some_same x y h = cc
@@ -239,9 +240,9 @@ learned_says d next op (Ok x) does is to_keep = λ opening k.
     (op, to_keep opening k, does.adds.added ∙ ap (λ (e : Entry). d.core.log ++ e ∷ []) (does.adds.of_kind.2 ∙ ap (λ (one : Op). Kept one) same))
 learned_says d next op (Err x) does is to_keep = tt
 
-pub refused_went : (began d next : DeskView) (passed : ℕ) (made : Result (Unit {0}) Refused) → Went began d → OnOk made (Blows passed d next) → OnErr made (next ≡ d) → Went began next
-refused_went began d next passed (Ok x) went does same = blown_went began d next passed went does
-refused_went began d next passed (Err x) went does same = stays_went began d next went same
+pub refused_went : (began d next : DeskView) (passed : ℕ) (made : Result (Unit {0}) Refused) → Went began d → OnOk made (Blows passed d next) → OnOk made (is_ready_at d Write ≡ true) → OnErr made (next ≡ d) → Went began next
+refused_went began d next passed (Ok x) went does ready same = blown_went began d next passed went does ready
+refused_went began d next passed (Err x) went does ready same = stays_went began d next went same
 
 -- the fall of the device by which a life went down
 pub down_falls : (began d next : DeskView) (calls image : ℕ) → Went began d → (does : Does End d next) → close_left d.place.segments ≡ Some (Crash calls image)

@@ -138,5 +138,5 @@ module _ {D : Type 0} (view : D → DiskView) (d new : DeskView) (store now : St
       by : (halt : Halt) → IsWhy began (view now.disk.inner) new.core.log halt → IsHaltedBy any_order view (λ opening. Unit {0}) (λ opening. IsKeptOn opening d.core.log (seen view store.disk)) d new store.disk now.disk halt
       by DiskFault why = (why.0, λ opening is k. why.1 opening k)
       by (Full needed room) why = λ opening is k. why opening k
-      by (Schedule place) why = why
+      by (Schedule place) why = absurd why
       by Memory why = tt

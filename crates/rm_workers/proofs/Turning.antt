@@ -119,7 +119,7 @@ module _ {D : Type 0} (view : D → DiskView) (began : Began) where
   pub handed_on : (d next : DeskView) (store : StoreState D) → Serving view began store d.core.log → Moves began.desk Hand d next → Serving view began store next.core.log
   handed_on d next store s m =
       serving_on d next store store m.went m.further s
-      (works_on view Hand d next store m.does (works Hand d next m.does m.told m.tells (may_any Hand d (λ end. cc)) tt (λ end. cc)) tt (λ end. cc) (serves_at d store m.went s)) s.stays
+      (works_on view Hand d next store m.does (works Hand d next m.does m.told m.tells (may_any Hand d m.ready (λ end. cc)) tt (λ end. cc)) tt (λ end. cc) (serves_at d store m.went s)) s.stays
 
   pub owing_at : (d : DeskView) (store : StoreState D) (op : Op) → Went began.desk d → Serving view began store d.core.log → TellsAll d → is_blown d.core ≡ false → ((opening : List Op) → StandsFor opening d.core → IsToBeKept opening d.core op)
       → ((opening : List Op) → StandsFor opening d.core → IsHanded opening d.core.log op) → Owing view began store op d.core.log
@@ -165,7 +165,7 @@ module _ {D : Type 0} (view : D → DiskView) (began : Began) where
     told = m.tells
 
     may_end : May any_order End d
-    may_end = may_any End d (λ end unblown. rest_idle d does.stood (rests unblown))
+    may_end = may_any End d m.ready (λ end unblown. rest_idle d does.stood (rests unblown))
 
     -- it settles, and the fuse is armed as the next one says
     module _ (settles : close_left d.place.segments ≡ Some Settle) where

@@ -11,7 +11,7 @@ use Rattle.rm_model.specs.Place.{Place, close_left, moved}
 use Rattle.rm_core.specs.Seen.{StandsFor}
 use Rattle.rm_core.specs.Words.{has_rest, is_blown, stands}
 use Rattle.rm_desk.specs.Does.{Does}
-use Rattle.rm_desk.specs.Lanes.{HasNoWork}
+use Rattle.rm_desk.specs.Lanes.{HasNoWork, is_ready_at}
 use Rattle.rm_desk.specs.Runs.{IsSound, Tells}
 use Rattle.rm_desk.specs.View.{DeskView}
 use Rattle.rm_plain.specs.Falls.{fall}
@@ -80,6 +80,7 @@ pub record Went (began d : DeskView) : Type 0 where
 -- a lane of it moves: the desk goes on, and what held of it before and after
 pub record Moves (began : DeskView) (lane : Lane) (old new : DeskView) : Type 0 where
   pub does : Does lane old new
+  pub ready : is_ready_at old lane ≡ true
   pub went : Went began old
   pub further : Went began new
   pub sound : IsSound old

@@ -5,7 +5,8 @@ pub trait Gate {
     /// Before the worker of a service takes the baton, each time.
     fn before_serve(&self, sender: Sender);
 
-    /// Before the append of this number, counted from 1 over the life. The store's worker doesn't have the baton then.
+    /// Before the append of this number, which counts from 1: over all lives of a run by `Workers`, or over the one life of
+    /// `run_life`. The store's worker doesn't have the baton then.
     fn before_append(&self, number: u64);
 
     /// After a worker put the baton back. The lane is that of the entry added; where none was, the worker's own, and `Hand`

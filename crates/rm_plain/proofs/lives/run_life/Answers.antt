@@ -1,4 +1,4 @@
-use Rattle.std.proofs.Common.{◌≡◌, [], List, ℕ, Err, ◌∙◌, ap, subst}
+use Rattle.std.proofs.Common.{[], List, ℕ, Err, ◌∙◌, ap, subst}
 use Rattle.std.proofs.lemmas.Result.{err_from_is_err_and}
 use Rattle.rm_store.specs.Store.{seen}
 use Rattle.rm_plain.specs.declared.halts.Halt.{Halt}

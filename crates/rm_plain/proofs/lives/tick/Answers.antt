@@ -1,14 +1,14 @@
-use Rattle.std.proofs.Common.{◌≡◌, ℕ, List, [], Some, None, Err, sym, ◌∙◌, ap}
+use Rattle.std.proofs.Common.{◌≡◌, ℕ, List, [], None, Err, sym, ◌∙◌, ap}
 use Rattle.std.proofs.lemmas.Result.{err_from_is_err_and}
 use Rattle.rm_types.specs.declared.entries.Entry.{Entry}
 use Rattle.rm_types.specs.declared.messages.Lane.{Lane}
 use Rattle.rm_plain.specs.declared.halts.Halt.{Halt}
 use Rattle.rm_plain.specs.declared.schedule.Step.{Step}
 use Rattle.rm_plain.specs.Policy.{first_ready}
-use Rattle.rm_plain.specs.Schedule.{chosen, left_after, left_of, steps_of, used_by}
-use Rattle.rm_plain.proofs.Choosing.{chosen_ready, left_push, letters_may}
+use Rattle.rm_plain.specs.Schedule.{by_letters, chosen, left_after, left_of, steps_of, used_by}
+use Rattle.rm_plain.proofs.Choosing.{chosen_ready, left_push, letters_halt, letters_may}
 use Rattle.rm_plain.proofs.Ending.{at_end, comes_to_rest}
-use Rattle.rm_plain.proofs.Halting.{halts_as, stops_halt}
+use Rattle.rm_plain.proofs.Halting.{halts_as, halts_here}
 use Rattle.rm_plain.proofs.lives.tick.Goals as goal
 
 pub advance-requires-clause-ready : goal.advance-requires-clause-ready
@@ -24,7 +24,8 @@ returns-in_err-lane-clause-halts g c =
     let p = err_from_is_err_and c.from_residual.result c.from_residual.ensures.1 in
     rw (p.1 ∙ ap (λ (e : Halt). Err e) p.2)
     (halts_as g.D.Disk.view c.args.d.now c.args.store.now.disk c.in_err-lane.field-0.0
-    (stops_halt g.D.Disk.view (steps_of c.args.schedule.now.whole) (left_of c.args.schedule.now) c.args.d.now c.args.store.now.disk c.requires.at c.in_err-lane.field-0.0 c.in_err-lane.ensures.stops))
+    (halts_here g.D.Disk.view (by_letters (steps_of c.args.schedule.now.whole)) c.args.d.now c.args.store.now.disk c.in_err-lane.field-0.0
+    (letters_halt (steps_of c.args.schedule.now.whole) (left_of c.args.schedule.now) c.args.d.now c.requires.at c.in_err-lane.field-0.0 c.in_err-lane.ensures.stops)))
 
 pub returns-in_ok-moved-in-Some-clause-at : goal.returns-in_ok-moved-in-Some-clause-at
 returns-in_ok-moved-in-Some-clause-at g c =

@@ -1,10 +1,9 @@
-use Rattle.std.proofs.Common.{◌≡◌, ℕ, List, [], Bool, true, false, Ok, Err, Some, None, Result, inr, ap, subst, sym, ◌∙◌}
-use Rattle.std.specs.Prelude.{IfErr, IsOk, OnOk}
-use Rattle.rm_types.specs.Records.{stray}
+use Rattle.std.proofs.Common.{ℕ, List, inr, subst, sym, ◌∙◌}
+use Rattle.std.specs.Prelude.{OnOk}
 use Rattle.rm_plain.specs.Later.{FirstTo, LaterTo}
-use Rattle.rm_plain.specs.Schedule.{by_letters, left_after, left_of, order_of, steps_of}
-use Rattle.rm_plain.proofs.Choosing.{chosen_begin, dead_over}
-use Rattle.rm_plain.proofs.Finishing.{all_lived, all_used_up, first_stops, letter_refused, none_lived, none_left, some_left, stops_as, used_as}
+use Rattle.rm_plain.specs.Schedule.{by_letters, left_of, order_of, steps_of}
+use Rattle.rm_plain.proofs.Choosing.{chosen_begin, dead_over, letters_halt}
+use Rattle.rm_plain.proofs.Finishing.{all_lived, all_used_up, first_stops, none_lived, none_left, refused_first, some_left, stops_as, used_as}
 use Rattle.rm_plain.proofs.runs.all_lives.Goals as goal
 
 pub all_used-requires : goal.all_used-requires
@@ -22,8 +21,8 @@ returns-then-not-ready-clause-all g c =
 pub returns-in-Err-clause-all : goal.returns-in-Err-clause-all
 returns-in-Err-clause-all g c =
     rw c.from.ensures
-    (letter_refused g.D.Disk.view c.new-in-Err.result (steps_of c.args.schedule.now.whole) (left_of c.args.schedule.now) c.args.d.now c.args.disk c.in-Err.halt c.requires.empty (some_left c.args.d.now (sym c.ready.ensures ∙ c.if-not-ready.false)) c.requires.unarmed c.new-in-Err.ensures
-    c.requires.at c.in-Err.ensures.stops)
+    (refused_first (order_of c.args.schedule.now) g.D.Disk.view c.new-in-Err.result c.args.d.now c.args.disk c.in-Err.halt c.requires.empty (some_left c.args.d.now (sym c.ready.ensures ∙ c.if-not-ready.false)) c.requires.unarmed c.new-in-Err.ensures
+    (letters_halt (steps_of c.args.schedule.now.whole) (left_of c.args.schedule.now) c.args.d.now c.requires.at c.in-Err.halt c.in-Err.ensures.stops))
 
 pub first_life-opening-requires-clause-chosen : goal.first_life-opening-requires-clause-chosen
 first_life-opening-requires-clause-chosen g c =

@@ -1,16 +1,15 @@
-use Rattle.std.proofs.Common.{◌≡◌, ◌≢◌, ◌⊎◌, ℕ, List, [], Bool, true, false, Err, Ok, inl, inr, ⊎_elim, refl, sym, ◌∙◌, ap, subst}
-use Rattle.std.specs.Prelude.{OnOk, IfErr}
+use Rattle.std.proofs.Common.{◌≡◌, ◌⊎◌, ℕ, List, [], Bool, true, false, Err, Ok, inl, inr, refl, sym, ◌∙◌, ap, subst}
 use Rattle.rm_types.specs.declared.messages.Lane.{Lane}
 use Rattle.rm_types.specs.declared.messages.Lane.TheVariants.{Begin}
 use Rattle.rm_core.specs.Words.{stands}
 use Rattle.rm_desk.specs.Lanes.{is_ready_at}
 use Rattle.rm_desk.specs.View.{DeskView}
 use Rattle.rm_plain.specs.Later.{LaterTo}
-use Rattle.rm_plain.specs.Schedule.{by_letters, chosen, left_after, left_of, order_of, steps_of}
+use Rattle.rm_plain.specs.Schedule.{by_letters, left_after, left_of, order_of, steps_of}
 use Rattle.rm_plain.specs.declared.schedule.Step.{Step}
-use Rattle.rm_plain.proofs.Choosing.{chosen_begin, dead_over}
-use Rattle.rm_plain.proofs.Finishing.{none_after, none_stands, some_left}
-use Rattle.rm_plain.proofs.Onward.{letter_stops, lives_end, lives_same, lives_trans, stops_after}
+use Rattle.rm_plain.proofs.Choosing.{chosen_begin, dead_over, letters_halt}
+use Rattle.rm_plain.proofs.Finishing.{none_stands, some_left, stops_as}
+use Rattle.rm_plain.proofs.Onward.{lives_end, lives_same, lives_trans, order_stops, stops_after}
 use Rattle.rm_plain.proofs.runs.later_lives.Goals as goal
 
 pub lives-init : goal.lives-init
@@ -34,9 +33,10 @@ next_life-lived-requires-clause-chosen g c =
 pub returns-in-Err-clause-later : goal.returns-in-Err-clause-later
 returns-in-Err-clause-later g c =
     let m = c.lives.invariant in
+    let steps = steps_of c.args.schedule.now.whole in
     rw c.from.ensures
-    (letter_stops g.D.Disk.view (steps_of c.args.schedule.now.whole) (left_of c.lives.schedule) c.args.d.now c.lives.d c.args.disk c.lives.disk m.lived
-    (m.at ∙ ap (λ (w : List ℕ). left_after (steps_of w) c.lives.d.core.log) m.whole) c.in-Err.halt c.in-Err.ensures.stops)
+    (order_stops (by_letters steps) g.D.Disk.view c.args.d.now c.lives.d c.args.disk c.lives.disk m.lived c.in-Err.halt
+    (letters_halt steps (left_of c.lives.schedule) c.lives.d (m.at ∙ ap (λ (w : List ℕ). left_after (steps_of w) c.lives.d.core.log) m.whole) c.in-Err.halt c.in-Err.ensures.stops))
 
 -- or a later life did
 pub returns-in-Err-ended-clause-later : goal.returns-in-Err-ended-clause-later
@@ -72,5 +72,6 @@ all_used-requires g c = record { idle = idle (left_of c.lives.schedule) c.lives.
 pub returns-clause-later : goal.returns-clause-later
 returns-clause-later g c =
     let m = c.lives.invariant in
-    lives_end g.D.Disk.view (steps_of c.args.schedule.now.whole) (left_of c.lives.schedule) c.args.d.now c.lives.d c.args.disk c.lives.disk m.lived
-    (m.at ∙ ap (λ (w : List ℕ). left_after (steps_of w) c.lives.d.core.log) m.whole) c.all_used.result c.all_used.ensures.stops
+    let steps = steps_of c.args.schedule.now.whole in
+    lives_end (by_letters steps) g.D.Disk.view c.args.d.now c.lives.d c.args.disk c.lives.disk m.lived c.all_used.result
+    (stops_as steps (left_of c.lives.schedule) c.lives.d (m.at ∙ ap (λ (w : List ℕ). left_after (steps_of w) c.lives.d.core.log) m.whole) c.all_used.result c.all_used.ensures.stops)

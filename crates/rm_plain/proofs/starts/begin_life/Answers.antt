@@ -1,29 +1,17 @@
-use Rattle.std.proofs.Common.{◌≡◌, ℕ, List, Some, true, false, Err, refl, sym, ◌∙◌, ap}
+use Rattle.std.proofs.Common.{◌≡◌, List, true, false, Err, refl, sym, ◌∙◌, ap}
 use Rattle.std.proofs.lemmas.Result.{err_from_is_err_and}
 use Rattle.std.specs.Prelude.{is_ok}
-use Rattle.rm_types.specs.declared.entries.Entry.{Entry}
-use Rattle.rm_types.specs.declared.messages.Lane.{Lane}
-use Rattle.rm_types.specs.declared.messages.Lane.TheVariants.{Begin}
 use Rattle.rm_types.specs.declared.operations.Op.{Op}
 use Rattle.rm_types.specs.Lanes.{lane_of_entry}
-use Rattle.rm_desk.specs.View.{DeskView}
 use Rattle.rm_model.specs.Lawful.{state_after}
 use Rattle.rm_store.specs.Store.{seen}
 use Rattle.rm_core.specs.Adds.{IsLeft}
 use Rattle.rm_plain.specs.declared.halts.Halt.{Halt}
 use Rattle.rm_plain.specs.Keeping.{HaltsOver, IsFoundOn}
-use Rattle.rm_plain.specs.Schedule.{Course, IsAt, chosen, left_after, left_of, order_of, steps_of, used_by}
-use Rattle.rm_plain.specs.declared.schedule.Step.{Step}
-use Rattle.rm_plain.specs.Order.{May}
-use Rattle.rm_plain.proofs.Choosing.{left_push, letters_may}
 use Rattle.rm_plain.proofs.Halting.{goes_any, halts_same, if_memory}
 use Rattle.rm_plain.proofs.Moving.{begin_fewer, begin_goes, begin_kept, err_holds, goes_same, ok_holds, ok_map, on_ok}
 use Rattle.rm_plain.proofs.Starting.{begins, begun_halts}
 use Rattle.rm_plain.proofs.starts.begin_life.Goals as goal
-
--- by the letters' order a life may begin
-begin_may : (schedule : Course) (d : DeskView) → IsAt schedule d.core.log → chosen (left_of schedule) d ≡ Some Begin → May (order_of schedule) Begin d
-begin_may schedule d at is = letters_may (steps_of schedule.whole) d Begin (ap (λ (left : List Step). chosen left d) (sym at) ∙ is)
 
 pub returns-in_err-memory_only-clause-halts : goal.returns-in_err-memory_only-clause-halts
 returns-in_err-memory_only-clause-halts g c =
@@ -46,9 +34,9 @@ returns-clause-halts g c =
     let begun = ok_holds c.begin.result made c.begin.ensures.begins in
     let over : List Op → Type 0 = λ ops. IsLeft c.args.tree (state_after ops d.core.log) in
     let found : List Op → Type 0 = λ ops. IsFoundOn ops d.core c.args.tree (seen g.D.Disk.view c.args.store.now.disk) in
-    let P : Halt → Type 0 = λ halt. HaltsOver (order_of c.args.schedule.now) g.D.Disk.view over found d mid c.args.store.now.disk c.arm.new.store.disk halt in
+    let P : Halt → Type 0 = λ halt. HaltsOver (g.O.Ordered.order c.args.by.now) g.D.Disk.view over found d mid c.args.store.now.disk c.arm.new.store.disk halt in
     if_memory P c.arm.result
-    (begun_halts g.D.Disk.view d mid c.args.store.now.disk c.arm.new.store.disk c.args.tree (begin_goes c.args.tree d mid begun (begin_may c.args.schedule.now d c.requires.at c.requires.chosen)) (begin_kept c.args.tree d mid begun c.law.ensures.tells)
+    (begun_halts g.D.Disk.view d mid c.args.store.now.disk c.arm.new.store.disk c.args.tree (begin_goes c.args.tree d mid begun c.requires.may) (begin_kept c.args.tree d mid begun c.law.ensures.tells)
     c.arm.ensures.inner c.arm.ensures.refused)
     c.arm.ensures.halts
 
@@ -65,7 +53,7 @@ pub returns-clause-goes : goal.returns-clause-goes
 returns-clause-goes g c =
     let made : is_ok c.begin.result ≡ true = sym c.memory_only.ensures ∙ rw c.in_ok-memory_only.was refl in
     begin_goes c.args.tree c.args.d.now c.begin.new.self (ok_holds c.begin.result made c.begin.ensures.begins)
-    (begin_may c.args.schedule.now c.args.d.now c.requires.at c.requires.chosen)
+    c.requires.may
 
 pub returns-in_err-memory_only-clause-goes : goal.returns-in_err-memory_only-clause-goes
 returns-in_err-memory_only-clause-goes g c =
@@ -79,13 +67,8 @@ returns-clause-fewer g c =
     let made : is_ok c.begin.result ≡ true = sym c.memory_only.ensures ∙ rw c.in_ok-memory_only.was refl in
     on_ok c.arm.result (begin_fewer c.args.tree c.args.d.now c.begin.new.self (ok_holds c.begin.result made c.begin.ensures.begins))
 
-pub returns-clause-at : goal.returns-clause-at
-returns-clause-at g c =
-    let d = c.args.d.now in
+pub returns-clause-one : goal.returns-clause-one
+returns-clause-one g c =
     let made : is_ok c.begin.result ≡ true = sym c.memory_only.ensures ∙ rw c.in_ok-memory_only.was refl in
     let begun = ok_holds c.begin.result made c.begin.ensures.begins in
-    let steps = steps_of c.args.schedule.now.whole in
-    let used : left_of c.pass.new.self ≡ used_by Begin (left_after steps d.core.log) = c.pass.ensures.left ∙ ap (λ (left : List Step). used_by Begin left) c.requires.at in
-    on_ok c.arm.result
-    (used ∙ ap (λ (lane : Lane). used_by lane (left_after steps d.core.log)) (sym (ap lane_of_entry begun.adds.of_kind.2)) ∙ sym (left_push steps d.core.log begun.adds.entry)
-    ∙ ap (λ (log : List Entry). left_after steps log) (sym begun.adds.added) ∙ ap (λ (w : List ℕ). left_after (steps_of w) c.begin.new.self.core.log) (sym c.pass.ensures.whole))
+    on_ok c.arm.result (begun.adds.entry, ap lane_of_entry begun.adds.of_kind.2, begun.adds.added)
