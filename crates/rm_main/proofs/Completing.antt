@@ -1,23 +1,19 @@
 -- A run that nothing stands in the way of is Done, or memory ran out.
-use Rattle.std.proofs.Common.{◌≡◌, ◌⊎◌, ◌<◌, ◌≤◌, ℕ, List, [], ◌∷◌, Option, Some, None, Bool, true, false, inl, inr, refl, sym, ◌∙◌, ap, subst, arith, ⊎_elim}
+use Rattle.std.proofs.Common.{◌≡◌, ◌⊎◌, ℕ, List, [], ◌∷◌, Option, Some, None, true, false, inl, inr, refl, sym, ◌∙◌, ap, subst, arith, ⊎_elim}
 use Rattle.rm_types.specs.declared.operations.Op.{Op}
 use Rattle.rm_types.specs.declared.outcomes.Outcome.{Outcome}
 use Rattle.rm_types.specs.declared.outcomes.Outcome.TheVariants.{Done, Usage, ReadFault, WriteFault, ClusterRefused, ScriptRefused, ScheduleRefused, DiskFault, StoreDamaged, StoreFull, EpochsSpent, Memory}
-use Rattle.rm_types.specs.declared.scripts.Script.{Script}
 use Rattle.rm_types.specs.declared.settings.Settings.{Settings}
 use Rattle.rm_types.specs.Counts.{Rose}
 use Rattle.rm_disk.specs.Disk.{DiskView}
 use Rattle.rm_formats.specs.Device.{Holds}
-use Rattle.rm_model.specs.Lawful.{state_after}
 use Rattle.rm_outside.specs.Shelves.{bytes_read}
-use Rattle.rm_cluster.specs.Clusters.{Breaks, HoldsNone, IsCluster, IsNoCluster}
+use Rattle.rm_cluster.specs.Clusters.{IsCluster, IsNoCluster}
 use Rattle.rm_cluster.specs.declared.clusters.ClusterError.TheVariants.{Refused}
 use Rattle.rm_cluster.specs.Rules.{first_broken}
 use Rattle.rm_script.specs.Refusals.{IsFirstRefused}
-use Rattle.rm_script.specs.Scripts.{IsScript}
 use Rattle.rm_script.proofs.Answered.{not_both}
 use Rattle.rm_store.proofs.Faultless.{never_damaged, never_stray}
-use Rattle.rm_store.specs.Store.{needed_for, room_behind}
 use Rattle.rm_types.specs.declared.entries.Entry.{Entry}
 use Rattle.rm_core.specs.Words.{new_manager}
 use Rattle.rm_desk.specs.View.{DeskView}
@@ -25,10 +21,10 @@ use Rattle.rm_plain.specs.declared.schedule.Step.{Step}
 use Rattle.rm_plain.specs.Keeping.{IsFull}
 use Rattle.rm_plain.specs.Policy.{run_after}
 use Rattle.rm_plain.specs.Schedule.{StopsAt, left_after, steps_from, steps_of}
-use Rattle.rm_plain.specs.Stops.{IsDue, IsNoStore, IsTold}
+use Rattle.rm_plain.specs.Stops.{IsNoStore, IsTold}
 use Rattle.rm_main.specs.Complete.{AreAccepted, IsAccepted, IsFollowed, HasPlace, NoneRose}
-use Rattle.rm_main.specs.Runs.{AreMoves, Ends, HasNoScript, HasNoSettings, Made, Ran, Told, WasToList, WereRead}
-use Rattle.rm_main.specs.Words.{Asked, Run, Soak, Listing}
+use Rattle.rm_main.specs.Runs.{Ends, HasNoScript, HasNoSettings, Made, Ran, Told, WereRead}
+use Rattle.rm_main.specs.Words.{Asked, Run, Soak, Listing, Mover, OneThread, Workers}
 
 -- what was read of a file whose bytes are told
 read_is : (told : Option (List ℕ)) (bytes all : List ℕ) → told ≡ Some all → WereRead told bytes → bytes ≡ bytes_read all
@@ -98,15 +94,16 @@ module _ {D : Type 0} (view : D → DiskView) (told : Told) (made : Made D) (pla
   no_letter None followed at ran = absurd ran.inputs
   no_letter (Some Listing) followed at ran = absurd ran.inputs
   no_letter (Some (Soak number)) followed at ran = no_letters ran.schedule made.log (run_after (new_manager ran.alloc ran.settings) ran.script made.opening made.log) at ran.inputs.2 ran.caused.0
-  no_letter (Some (Run cluster script None)) followed at ran = no_letters ran.schedule made.log (run_after (new_manager ran.alloc ran.settings) ran.script made.opening made.log) at ran.inputs.2 ran.caused.0
-  no_letter (Some (Run cluster script (Some schedule))) followed at ran = followed ran.alloc ran.settings ran.script ran.schedule at ran.inputs.0 ran.inputs.1 ran.inputs.2 ran.caused.0
+  no_letter (Some (Run cluster script schedule Workers)) followed at ran = absurd ran.caused.0
+  no_letter (Some (Run cluster script None OneThread)) followed at ran = no_letters ran.schedule made.log (run_after (new_manager ran.alloc ran.settings) ran.script made.opening made.log) at ran.inputs.2 ran.caused.0
+  no_letter (Some (Run cluster script (Some schedule) OneThread)) followed at ran = followed ran.alloc ran.settings ran.script ran.schedule at ran.inputs.0 ran.inputs.1 ran.inputs.2 ran.caused.0
 
   -- words that ask for a listing aren't accepted
   no_list : (asked : Option Asked) → IsAccepted told asked → asked ≡ Some Listing → ⊥
   no_list asked accepted is = subst (IsAccepted told) is accepted
 
-  files_of : (asked : Option Asked) (cluster script : List ℕ) (schedule : Option (List ℕ)) → IsAccepted told asked → asked ≡ Some (Run cluster script schedule) → AreAccepted told cluster script
-  files_of asked cluster script schedule accepted is = subst (IsAccepted told) is accepted
+  files_of : (asked : Option Asked) (cluster script : List ℕ) (schedule : Option (List ℕ)) (mover : Mover) → IsAccepted told asked → asked ≡ Some (Run cluster script schedule mover) → AreAccepted told cluster script
+  files_of asked cluster script schedule mover accepted is = subst (IsAccepted told) is accepted
 
   module _ (asked : Option Asked) (accepted : IsAccepted told asked) (followed : IsFollowed told asked made) (read_old read_new write_old write_new idle_old idle_new : ℕ) (none : NoneRose read_old read_new write_old write_new idle_old idle_new) where
     pub complete : (outcome : Outcome) → Ends view told asked made outcome → (outcome ≡ ReadFault → Rose read_old read_new) → (outcome ≡ WriteFault false → Rose write_old write_new)
@@ -117,8 +114,8 @@ module _ {D : Type 0} (view : D → DiskView) (told : Told) (made : Made D) (pla
     complete ReadFault ends read write idle = absurd (none.reads (read refl))
     complete (WriteFault true) ends read write idle = absurd (none.idle (idle refl))
     complete (WriteFault false) ends read write idle = absurd (none.writes (write refl))
-    complete (ClusterRefused at) ends read write idle = absurd (no_bad_cluster ends.cluster_file ends.script_file (files_of asked ends.cluster_file ends.script_file ends.schedule_file accepted ends.asks) at ends.refused)
-    complete (ScriptRefused line) ends read write idle = absurd (no_bad_script ends.cluster_file ends.script_file (files_of asked ends.cluster_file ends.script_file ends.schedule_file accepted ends.asks) line ends.refused)
+    complete (ClusterRefused at) ends read write idle = absurd (no_bad_cluster ends.cluster_file ends.script_file (files_of asked ends.cluster_file ends.script_file ends.schedule_file ends.mover accepted ends.asks) at ends.refused)
+    complete (ScriptRefused line) ends read write idle = absurd (no_bad_script ends.cluster_file ends.script_file (files_of asked ends.cluster_file ends.script_file ends.schedule_file ends.mover accepted ends.asks) line ends.refused)
     complete (ScheduleRefused at) ends read write idle = absurd (no_letter asked followed at ends)
     complete DiskFault ends read write idle = ⊎_elim (λ ran. absurd (no_fault asked ran)) (λ list. absurd (no_list asked accepted list.asks)) ends
     complete (StoreDamaged offset) ends read write idle = ⊎_elim (λ ran. absurd (no_damage asked offset ran)) (λ list. absurd (no_list asked accepted list.asks)) ends

@@ -5,20 +5,19 @@ use Rattle.rm_types.specs.declared.operations.Op.{Op}
 use Rattle.rm_types.specs.declared.scripts.Script.{Script}
 use Rattle.rm_types.specs.declared.settings.Settings.{Settings}
 use Rattle.rm_types.specs.Counts.{Rose}
-use Rattle.rm_types.specs.Records.{records}
 use Rattle.rm_disk.specs.Disk.{DiskView}
 use Rattle.rm_formats.specs.Device.{Holds}
 use Rattle.rm_model.specs.Lawful.{state_after}
 use Rattle.rm_outside.specs.Shelves.{bytes_read}
 use Rattle.rm_cluster.specs.Clusters.{IsCluster}
 use Rattle.rm_script.specs.Scripts.{IsScript}
-use Rattle.rm_store.specs.Store.{needed_for, room_behind, seen}
+use Rattle.rm_store.specs.Store.{needed_for, room_behind}
 use Rattle.rm_core.specs.Words.{new_manager}
 use Rattle.rm_plain.specs.Policy.{run_after}
 use Rattle.rm_plain.specs.Schedule.{StopsAt, left_after, steps_of}
 use Rattle.rm_plain.specs.Stops.{NoneLeft}
 use Rattle.rm_main.specs.Runs.{AreSettings, IsScriptOf, Made, Told, WereRead}
-use Rattle.rm_main.specs.Words.{Asked, Run, Soak}
+use Rattle.rm_main.specs.Words.{Asked, Run, Soak, OneThread}
 
 -- a shelf tells of two files that they hold settings and a script
 pub record AreAccepted (told : Told) (cluster_file script_file : List ℕ) : Type 0 where
@@ -33,7 +32,7 @@ pub record AreAccepted (told : Told) (cluster_file script_file : List ℕ) : Typ
 
 -- the words ask for a run, and the files that they name hold settings and a script; or for a soak
 abbrev pub IsAccepted : Told → Option Asked → Type 0
-IsAccepted told (Some (Run cluster_file script_file schedule_file)) = AreAccepted told cluster_file script_file
+IsAccepted told (Some (Run cluster_file script_file schedule_file mover)) = AreAccepted told cluster_file script_file
 IsAccepted told (Some (Soak number)) = Unit {0}
 IsAccepted told _ = ⊥
 
@@ -50,7 +49,7 @@ pub record HasPlace {D : Type 0} (view : D → DiskView) (made : Made D) : Type 
 
 -- Where moves are told by a schedule, each of its letters that is reached is known and its lane ready: none stops the run.
 abbrev pub IsFollowed : {D : Type 0} → Told → Option Asked → Made D → Type 0
-IsFollowed told (Some (Run cluster_file script_file (Some schedule_file))) made =
+IsFollowed told (Some (Run cluster_file script_file (Some schedule_file) OneThread)) made =
     (alloc : Global) (settings : Settings) (script : Script) (schedule : List ℕ) (place : ℕ) → AreSettings (told cluster_file) settings → IsScriptOf (told script_file) script
     → WereRead (told schedule_file) schedule → StopsAt (left_after (steps_of schedule) made.log) (run_after (new_manager alloc settings) script made.opening made.log) place → ⊥
 IsFollowed told _ made = Unit {0}

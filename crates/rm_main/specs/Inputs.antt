@@ -6,7 +6,7 @@ use Rattle.rm_types.specs.declared.outcomes.Outcome.TheVariants.{ReadFault, Clus
 use Rattle.rm_types.specs.declared.settings.Settings.{Settings}
 use Rattle.rm_main.specs.declared.inputs.Files.{Files}
 use Rattle.rm_main.specs.Runs.{Told, AreSettings, HasNoSettings, HasNoScript}
-use Rattle.rm_main.specs.Words.{Asked, Run}
+use Rattle.rm_main.specs.Words.{Asked, Mover, Run}
 
 -- the cluster file couldn't be read, or breaks a rule, the first of them at the place
 abbrev pub StopsAtCluster : Option (List ℕ) → Outcome → Type 0
@@ -34,8 +34,8 @@ IsOneMore reads None old new = new ≡ old
 IsOneMore reads (Some name) old new = reads name old new
 
 -- a run by these files is asked for
-abbrev pub asked_of : Files → Asked
-asked_of files = Run files.cluster.now files.script.now (option_copied files.schedule)
+abbrev pub asked_of : Mover → Files → Asked
+asked_of mover files = Run files.cluster.now files.script.now (option_copied files.schedule) mover
 
 -- one of the inputs stops the program: a file couldn't be read, the cluster file breaks a rule, or it holds settings and
 -- the script's file no script

@@ -24,16 +24,17 @@ use Rattle.rm_script.specs.Refusals.{IsFirstRefused}
 use Rattle.rm_script.specs.Scripts.{IsScript}
 use Rattle.rm_plain.specs.Falls.{falls_of}
 use Rattle.rm_core.specs.Words.{new_manager}
-use Rattle.rm_plain.specs.Policy.{run_after}
-use Rattle.rm_plain.specs.Schedule.{MovesBy, StopsAt, left_after, steps_of}
+use Rattle.rm_plain.specs.Order.{Order}
+use Rattle.rm_plain.specs.Schedule.{by_letters, steps_of}
 use Rattle.rm_plain.specs.Stops.{IsDue, IsNoStore, IsStoppedBy}
 use Rattle.rm_plain.specs.declared.halts.Stop.TheVariants as halted
 use Rattle.rm_soak.specs.Lines.{soak_page}
 use Rattle.rm_soak.specs.Scripts.{soak_of}
 use Rattle.rm_soak.specs.Settings.{soak_settings}
 use Rattle.rm_store.specs.Store.{seen}
+use Rattle.rm_workers.specs.AnyOrder.{any_order}
 use Rattle.rm_main.specs.Laws.{MeetsLaws}
-use Rattle.rm_main.specs.Words.{Asked, Run, Listing, Soak}
+use Rattle.rm_main.specs.Words.{Asked, Run, Listing, Soak, Mover, OneThread, Workers}
 
 -- what a shelf tells of each name
 abbrev pub Told : Type 0
@@ -98,13 +99,23 @@ IsListed view made _ = Unit {0}
 
 -- what a run is made from: the settings, the script and the schedule that the named files hold, or those of a soak, which has no schedule
 abbrev pub AreInputs : Told → Option Asked → Settings → Script → List ℕ → Type 0
-AreInputs told (Some (Run cluster_file script_file schedule_file)) settings script schedule =
+AreInputs told (Some (Run cluster_file script_file schedule_file mover)) settings script schedule =
     AreSettings (told cluster_file) settings × IsScriptOf (told script_file) script × AreMoves told schedule_file schedule
 AreInputs told (Some (Soak number)) settings script schedule = (settings ≡ soak_settings) × (script ≡ soak_of number) × (schedule ≡ [])
 AreInputs told _ settings script schedule = ⊥
 
--- a run was made from what was asked for: the log is lawful for these settings and this script, over the opening list, and so meets the laws; each move was of the lane that the schedule's letter or, after the last one, the plain policy says; without a schedule
--- lives went down at rest; each that went down let the device fall once more; where the outcome is Done the run came to its end and used up the
+-- the order of moves: workers move any lane that is ready, and one thread the one that the schedule's letter or, after the last one, the plain policy says
+abbrev pub order_by : Mover → List ℕ → Order
+order_by OneThread schedule = by_letters (steps_of schedule)
+order_by Workers schedule = any_order
+
+-- that of what was asked for
+abbrev pub order_for : Option Asked → List ℕ → Order
+order_for (Some (Run cluster_file script_file schedule_file mover)) schedule = order_by mover schedule
+order_for _ schedule = order_by OneThread schedule
+
+-- a run was made from what was asked for: the log is lawful for these settings and this script, over the opening list, and so meets the laws; the lanes moved in the order that was
+-- asked for, and by workers or without a schedule lives went down at rest; each that went down let the device fall once more; where the outcome is Done the run came to its end and used up the
 -- schedule, and where the device, the store or the schedule stopped it, it had its cause; a script without lives makes no call of the device
 pub record Ran {D : Type 0} (view : D → DiskView) (told : Told) (asked : Option Asked) (made : Made D) (outcome : Outcome) : Type 0 where
   pub settings : Settings
@@ -114,12 +125,12 @@ pub record Ran {D : Type 0} (view : D → DiskView) (told : Told) (asked : Optio
   pub lawful : Lawful settings script made.opening made.log
   pub laws : MeetsLaws made.opening made.log
   pub alloc : Global
-  pub moves : MovesBy (steps_of schedule) (new_manager alloc settings) script made.opening made.log
-  pub used_up : outcome ≡ Done → left_after (steps_of schedule) made.log ≡ []
-  pub downs : steps_of schedule ≡ [] → AllGoDownAtRest settings (opening_state made.opening) made.log
+  pub moves : (order_for asked schedule).keeps (new_manager alloc settings) script made.opening made.log
+  pub used_up : outcome ≡ Done → (order_for asked schedule).ends made.log
+  pub downs : (order_for asked schedule).rests → AllGoDownAtRest settings (opening_state made.opening) made.log
   pub fallen : made.after.falls ≡ made.before.falls ++ falls_of script made.opening made.log
   pub done : outcome ≡ Done → IsDone settings script made.opening made.log
-  pub caused : IsCausedBy view (IsDue script made.opening made.log) (StopsAt (left_after (steps_of schedule) made.log) (run_after (new_manager alloc settings) script made.opening made.log)) made outcome
+  pub caused : IsCausedBy view (IsDue script made.opening made.log) ((order_for asked schedule).stops (new_manager alloc settings) script made.opening made.log) made outcome
   pub idle : script.lives ≡ [] → (made.log ≡ []) × (made.after ≡ made.before)
 
 -- nothing was run, and the device did not fall
@@ -132,7 +143,8 @@ pub record WasToRun {D : Type 0} (asked : Option Asked) (made : Made D) : Type 0
   pub cluster_file : List ℕ
   pub script_file : List ℕ
   pub schedule_file : Option (List ℕ)
-  pub asks : asked ≡ Some (Run cluster_file script_file schedule_file)
+  pub mover : Mover
+  pub asks : asked ≡ Some (Run cluster_file script_file schedule_file mover)
   pub nothing : RanNothing made
 
 -- a soak was asked for, and nothing was run
@@ -152,7 +164,8 @@ pub record RefusedCluster {D : Type 0} (told : Told) (asked : Option Asked) (mad
   pub cluster_file : List ℕ
   pub script_file : List ℕ
   pub schedule_file : Option (List ℕ)
-  pub asks : asked ≡ Some (Run cluster_file script_file schedule_file)
+  pub mover : Mover
+  pub asks : asked ≡ Some (Run cluster_file script_file schedule_file mover)
   pub refused : HasNoSettings (told cluster_file) place
   pub nothing : RanNothing made
 
@@ -161,7 +174,8 @@ pub record RefusedScript {D : Type 0} (told : Told) (asked : Option Asked) (made
   pub cluster_file : List ℕ
   pub script_file : List ℕ
   pub schedule_file : Option (List ℕ)
-  pub asks : asked ≡ Some (Run cluster_file script_file schedule_file)
+  pub mover : Mover
+  pub asks : asked ≡ Some (Run cluster_file script_file schedule_file mover)
   pub settings : Settings
   pub of_cluster : AreSettings (told cluster_file) settings
   pub refused : HasNoScript (told script_file) line
@@ -189,7 +203,7 @@ AreReadBehind {F = F} reads script (Some schedule) old new = reads script old ne
 
 -- which files were read: of a run the cluster file, or it and then the script's file, or these and then that of the schedule, if there is one; else none
 abbrev pub AreRead : {F : Type 0} → (List ℕ → F → F → Type 0) → Option Asked → F → F → Type 0
-AreRead {F = F} reads (Some (Run cluster script schedule)) old new = reads cluster old new ⊎ ((mid : F) × reads cluster old mid × AreReadBehind reads script schedule mid new)
+AreRead {F = F} reads (Some (Run cluster script schedule mover)) old new = reads cluster old new ⊎ ((mid : F) × reads cluster old mid × AreReadBehind reads script schedule mid new)
 AreRead reads _ old new = new ≡ old
 
 -- the outcome of a call that stopped before it used the device

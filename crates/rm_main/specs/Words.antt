@@ -8,17 +8,23 @@ use Rattle.rm_soak.specs.Limits.{most_soaked}
 use Rattle.rm_main.specs.declared.words.Mode.{Mode}
 use Rattle.rm_main.specs.declared.words.Mode.TheVariants as modes
 
+-- who moves the lanes of a run: one thread, or seven workers in threads of their own
+pub data Mover : Type 0 where
+  OneThread : Mover
+  Workers : Mover
+
 -- what the words ask for: a run of a script under a cluster file, by the names of the two files and, where its moves are told, of that of
--- their schedule; a soak of so many applications; or what the store keeps
+-- their schedule, and who moves its lanes; a soak of so many applications; or what the store keeps
 pub data Asked : Type 0 where
-  Run : (cluster script : List ℕ) (schedule : Option (List ℕ)) → Asked
+  Run : (cluster script : List ℕ) (schedule : Option (List ℕ)) (mover : Mover) → Asked
   Soak : (number : ℕ) → Asked
   Listing : Asked
 
 -- a mode as it is asked for, with names as lists of bytes
 abbrev pub asked : Mode → Asked
-asked (modes.Plain cluster script) = Run cluster.now script.now None
-asked (modes.Replay cluster script schedule) = Run cluster.now script.now (Some schedule.now)
+asked (modes.Plain cluster script) = Run cluster.now script.now None OneThread
+asked (modes.Replay cluster script schedule) = Run cluster.now script.now (Some schedule.now) OneThread
+asked (modes.Threads cluster script) = Run cluster.now script.now None Workers
 asked (modes.Soak number) = Soak number
 asked modes.Store = Listing
 
@@ -56,11 +62,12 @@ has_flags words = (count_by is_unknown words == 0) && (stands_once (codes "--fil
 abbrev pub shows_moves : List (List ℕ) → Bool
 shows_moves words = not (times (codes "--moves") words == 0)
 
--- what names ask for: `plain` and two others a run, `replay` and three others one by a schedule, `soak` and a number, from 1 to the most and with no
--- zero before it, a soak, and `store` alone a listing; these two have no moves
+-- what names ask for: `plain` and two others a run, `threads` and two others one by workers, `replay` and three others one by a schedule, `soak` and a
+-- number, from 1 to the most and with no zero before it, a soak, and `store` alone a listing; these two have no moves
 abbrev pub asked_by : Bool → List (List ℕ) → Option Asked
-asked_by moves (mode ∷ cluster ∷ script ∷ schedule ∷ []) = if bytes_eq mode (codes "replay") then Some (Run cluster script (Some schedule)) else None
-asked_by moves (mode ∷ cluster ∷ script ∷ []) = if bytes_eq mode (codes "plain") then Some (Run cluster script None) else None
+asked_by moves (mode ∷ cluster ∷ script ∷ schedule ∷ []) = if bytes_eq mode (codes "replay") then Some (Run cluster script (Some schedule) OneThread) else None
+asked_by moves (mode ∷ cluster ∷ script ∷ []) =
+    if bytes_eq mode (codes "plain") then Some (Run cluster script None OneThread) else if bytes_eq mode (codes "threads") then Some (Run cluster script None Workers) else None
 asked_by moves (mode ∷ number ∷ []) =
     if bytes_eq mode (codes "soak") && not moves then option_map (λ n. Soak n) (number_in 1 most_soaked number) else None
 asked_by moves (mode ∷ []) = if bytes_eq mode (codes "store") && not moves then Some Listing else None
@@ -69,3 +76,12 @@ asked_by moves _ = None
 -- what the words ask for; with another flag, or one that is repeated, nothing
 abbrev pub mode_of : List (List ℕ) → Option Asked
 mode_of words = if has_flags words then asked_by (shows_moves words) (names words) else None
+
+-- what may be done without threads: a run by workers is none of it
+abbrev pub without_threads : Option Asked → Option Asked
+without_threads (Some (Run cluster script schedule Workers)) = None
+without_threads other = other
+
+-- what the words ask for that is done without threads
+abbrev pub plain_mode_of : List (List ℕ) → Option Asked
+plain_mode_of words = without_threads (mode_of words)

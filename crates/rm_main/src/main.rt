@@ -1,15 +1,17 @@
 //! The program: it reads a cluster file and a script, runs the script over a device in memory or in a file, and
 //! writes the page of the run to standard output; or it writes what the device's store keeps.
 //!
-//! `top_plain` is the call that does this, over any shelf, sink and device; `main` hands it the system's files, the
-//! standard output and a device of 4 MiB: an empty one in memory, or that in the file `rm.store`. It promises that
+//! `top` is the call that does this, over any shelf, sink and device, and by `top_plain` all but the runs of workers in threads;
+//! `main` hands it the system's files, the standard output and a device of 4 MiB: an empty one in memory, or that in the file
+//! `rm.store`. It promises that
 //! the log of a run is lawful for the settings and the script of these files and for what the device held, that its moves
-//! are those of the schedule and then the plain policy's, that what was written is the log's page or a beginning of it, that a run that is Done has come to its script's end with nothing owed,
+//! are those of the schedule and then the plain policy's, or by workers of lanes that were ready, that what was written is the log's page or a beginning of it, that a run that is Done has come to its script's end with nothing owed,
 //! that at each moment of a run, also of one that was stopped, a crash leaves what is kept, or this and the
-//! operation that awaits, and that a run that nothing stands in the way of is Done or finds no memory.
+//! operation that awaits, and that a run that nothing stands in the way of is Done or finds no memory. Of a run by workers it
+//! doesn't promise that it returns.
 //!
 //! It stands on `rm_outside` for files and output, `rm_disk` and `rm_store` for the device, `rm_cluster`,
-//! `rm_script`, `rm_plain` and `rm_page`, and on the definitions of `rm_model`.
+//! `rm_script`, `rm_plain`, `rm_workers` and `rm_page`, and on the definitions of `rm_model`.
 #![tactic(auto)]
 
 mod hints;
@@ -18,6 +20,9 @@ mod listing;
 mod statuses;
 #[cfg(test)]
 mod tests;
+#[cfg(test)]
+mod thread_tests;
+mod threads;
 mod top;
 mod words;
 mod writing;
@@ -25,12 +30,17 @@ mod writing;
 use hints::{cluster_hint, script_hint};
 use rm_disk::{Disk, FileDisk, Fuse, MemDisk};
 use rm_outside::{FileShelf, OutSink};
+use rm_progress::{Watched, is_terminal};
 use rm_types::{Items, NoMemory, Outcome};
+use rm_workers::NoGate;
 use statuses::{Told, explain, status_of};
 use std::process::ExitCode;
 use std::rt::Env;
+use std::sync::Wait;
+use std::thread::Threads;
 use std::{env, io};
-use top::{Ended, top_plain};
+use threads::top;
+use top::Ended;
 use words::{is_in_file, name_at};
 
 /// The size of the device, in bytes.
@@ -61,8 +71,13 @@ struct Call {
     fault: String,
 }
 
-/// What the program does by these words over a device, which is given back.
-fn run_over<D: Disk>(rt: HostRuntime, words: &[String], device: D) -> (Call, D) {
+/// What the program does by these words over a device, which is given back. Workers run in the threads of the first runtime.
+fn run_over<R: Threads + Wait + Sync, D: Disk + Drop + Send>(
+    threads: &R,
+    rt: HostRuntime,
+    words: &[String],
+    device: D,
+) -> (Call, D) {
     let alloc = rt.alloc();
     let mut shelf = FileShelf::new(rt);
     let mut sink = OutSink::new(rt);
@@ -71,12 +86,14 @@ fn run_over<D: Disk>(rt: HostRuntime, words: &[String], device: D) -> (Call, D) 
         opening: _,
         log: _,
         disk,
-    } = top_plain(
+    } = top(
+        threads,
         alloc,
         words,
         &mut shelf,
         &mut sink,
         Fuse::new(alloc, device),
+        &NoGate,
     );
     let call = Call {
         outcome,
@@ -86,11 +103,21 @@ fn run_over<D: Disk>(rt: HostRuntime, words: &[String], device: D) -> (Call, D) 
     (call, disk.inner())
 }
 
+/// A device that tells on standard error how far a run has come, where that is a terminal.
+fn watched<'a, D>(rt: HostRuntime, program: &'a str, device: D) -> Watched<'a, D, HostRuntime> {
+    Watched::new(device, rt, program, is_terminal(&rt))
+}
+
 /// What it does over a new device in memory.
-fn run_in_memory(rt: HostRuntime, words: &[String]) -> Call {
+fn run_in_memory<R: Threads + Wait + Sync>(
+    threads: &R,
+    rt: HostRuntime,
+    program: &str,
+    words: &[String],
+) -> Call {
     let alloc = rt.alloc();
     match MemDisk::new(alloc, DEVICE_SIZE, Items::new(alloc)) {
-        Ok(device) => run_over(rt, words, device).0,
+        Ok(device) => run_over(threads, rt, words, watched(rt, program, device)).0,
         Err(NoMemory) => Call {
             outcome: Outcome::Memory,
             answered: 0,
@@ -100,9 +127,15 @@ fn run_in_memory(rt: HostRuntime, words: &[String]) -> Call {
 }
 
 /// What it does over the device in the store's file, which is made where there is none.
-fn run_in_file(rt: HostRuntime, words: &[String]) -> Call {
-    let (mut call, device) = run_over(rt, words, FileDisk::new(&rt, STORE_FILE));
-    if let Some(fault) = device.last_fault() {
+fn run_in_file<R: Threads + Wait + Sync>(
+    threads: &R,
+    rt: HostRuntime,
+    program: &str,
+    words: &[String],
+) -> Call {
+    let device = watched(rt, program, FileDisk::new(&rt, STORE_FILE));
+    let (mut call, device) = run_over(threads, rt, words, device);
+    if let Some(fault) = device.inner().last_fault() {
         if let Ok(text) = format!(in rt.alloc(); "{STORE_FILE}: {fault}") {
             call.fault = text;
         }
@@ -111,15 +144,15 @@ fn run_in_file(rt: HostRuntime, words: &[String]) -> Call {
 }
 
 /// What the program does by the words behind its path; it tells on standard error what stopped it.
-fn run_by(rt: HostRuntime, all: &[String]) -> Outcome {
+fn run_by<R: Threads + Wait + Sync>(threads: &R, rt: HostRuntime, all: &[String]) -> Outcome {
     let (path, words) = match all.split_first() {
         Some((first, rest)) => (first.as_str(), rest),
         None => (PROGRAM, all),
     };
     let call = if is_in_file(words) {
-        run_in_file(rt, words)
+        run_in_file(threads, rt, path, words)
     } else {
-        run_in_memory(rt, words)
+        run_in_memory(threads, rt, path, words)
     };
     let (outcome, answered, fault) = (call.outcome, call.answered, call.fault.as_str());
     let cluster = name_at(words, 1);
@@ -146,7 +179,7 @@ fn run_by(rt: HostRuntime, all: &[String]) -> Outcome {
 
 fn main(rt: HostRuntime) -> ExitCode {
     let outcome = match words_of(&rt) {
-        Ok(words) => run_by(rt, words.as_slice()),
+        Ok(words) => run_by(&rt, rt, words.as_slice()),
         Err(error) => {
             let outcome = if error.kind() == io::ErrorKind::OutOfMemory {
                 Outcome::Memory

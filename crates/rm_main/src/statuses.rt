@@ -52,7 +52,7 @@ pub fn explain<R: Eprint>(rt: &R, outcome: Outcome, told: Told<'_>) {
     let _ = match outcome {
         Outcome::Done => return,
         Outcome::Usage => eprintln!(rt;
-            "{program}: usage: {program} plain CLUSTER SCRIPT [--file] [--moves] | {program} replay CLUSTER SCRIPT SCHEDULE [--file] [--moves] | {program} soak N [--file] | {program} store [--file]"
+            "{program}: usage: {program} plain CLUSTER SCRIPT [--file] [--moves] | {program} threads CLUSTER SCRIPT [--file] [--moves] | {program} replay CLUSTER SCRIPT SCHEDULE [--file] [--moves] | {program} soak N [--file] | {program} store [--file]"
         ),
         Outcome::ReadFault => eprintln!(rt; "{program}: the file could not be read: {unread}"),
         Outcome::WriteFault {

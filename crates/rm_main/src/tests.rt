@@ -8,25 +8,25 @@ use std::test::Fail;
 
 /// A device in memory: it begins with these bytes, behind which stand zeros.
 #[derive(Clone, Copy)]
-struct Device<'a> {
-    bytes: &'a [u8],
-    size: usize,
-    failing: &'a [u64],
+pub(crate) struct Device<'a> {
+    pub bytes: &'a [u8],
+    pub size: usize,
+    pub failing: &'a [u64],
 }
 
 /// A run of the program over a shelf, a sink and a device in memory: the files' texts, and the numbers of the
 /// reads and of the writes that fail.
 #[derive(Clone, Copy)]
-struct Case<'a> {
-    words: &'a [&'a str],
-    cluster: &'a str,
-    script: &'a str,
-    schedule: &'a [u8],
-    device: Device<'a>,
-    failing_reads: &'a [u64],
-    failing_writes: &'a [u64],
+pub(crate) struct Case<'a> {
+    pub words: &'a [&'a str],
+    pub cluster: &'a str,
+    pub script: &'a str,
+    pub schedule: &'a [u8],
+    pub device: Device<'a>,
+    pub failing_reads: &'a [u64],
+    pub failing_writes: &'a [u64],
     /// How many bytes the sink takes at once.
-    most: usize,
+    pub most: usize,
 }
 
 /// What a run left.
@@ -47,7 +47,7 @@ const EMPTY: Device<'static> = Device {
     failing: &[],
 };
 
-fn plain(script: &str) -> Case<'_> {
+pub(crate) fn plain(script: &str) -> Case<'_> {
     Case {
         words: &PLAIN,
         cluster: "{}\n",
@@ -80,7 +80,7 @@ fn numbers(alloc: Global, list: &[u64]) -> Result<Items<u64>, Fail> {
     Ok(Items::from_vec(Vec::from_slice(alloc, list)?))
 }
 
-fn shelf_of(alloc: Global, case: &Case<'_>) -> Result<MemShelf, Fail> {
+pub(crate) fn shelf_of(alloc: Global, case: &Case<'_>) -> Result<MemShelf, Fail> {
     let mut files = Items::new(alloc);
     files.push(file(alloc, "cluster", case.cluster.as_bytes())?)?;
     files.push(file(alloc, "script", case.script.as_bytes())?)?;
@@ -88,7 +88,7 @@ fn shelf_of(alloc: Global, case: &Case<'_>) -> Result<MemShelf, Fail> {
     Ok(MemShelf::new(alloc, files, numbers(alloc, case.failing_reads)?))
 }
 
-fn words_of(alloc: Global, case: &Case<'_>) -> Result<Vec<String>, Fail> {
+pub(crate) fn words_of(alloc: Global, case: &Case<'_>) -> Result<Vec<String>, Fail> {
     let mut words = Vec::new(alloc);
     for word in case.words {
         words.push(String::from_str(alloc, word)?)?;
@@ -96,7 +96,7 @@ fn words_of(alloc: Global, case: &Case<'_>) -> Result<Vec<String>, Fail> {
     Ok(words)
 }
 
-fn device_of(alloc: Global, device: Device<'_>) -> Result<MemDisk, Fail> {
+pub(crate) fn device_of(alloc: Global, device: Device<'_>) -> Result<MemDisk, Fail> {
     let mut bytes = Vec::from_slice(alloc, device.bytes)?;
     bytes.resize(device.size, 0)?;
     let failing = numbers(alloc, device.failing)?;
@@ -1078,7 +1078,7 @@ fn writes(rt: &impl Abort, alloc: Global, case: &Case<'_>, page: &str) -> Result
 }
 
 /// A job on two nodes: its master asks for four containers, and is told where they are. The last segment is still to be closed.
-const JOB: &str = "\
+pub(crate) const JOB: &str = "\
 start 1410901177871
 node n1 register 1 memory=8192 vcores=8
 node n2 register 1 memory=8192 vcores=8
@@ -1137,7 +1137,7 @@ served master appattempt_1410901177871_0001_000001 allocate 1 -> allocated id=2 
 ";
 
 /// The master finishes, and says so once more.
-const FINISH: &str = "\
+pub(crate) const FINISH: &str = "\
 master appattempt_1410901177871_0001_000001 finish done
 settle
 client alice report application_1410901177871_0001
@@ -1169,7 +1169,7 @@ fn a_job_runs_to_its_end(rt: HostRuntime) -> Result<(), Fail> {
 }
 
 /// The manager dies amid the work and comes back, both nodes report what runs on them, and the master registers again.
-const RESYNCED: &str = "\
+pub(crate) const RESYNCED: &str = "\
 crash 0 0
 start 1410901177871
 node n1 register 2 memory=8192 vcores=8 running=container_1410901177871_0001_01_000001:1024:1,container_1410901177871_0001_01_000002:2048:2,container_1410901177871_0001_01_000003:2048:2,container_1410901177871_0001_01_000004:2048:2

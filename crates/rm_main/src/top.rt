@@ -28,7 +28,7 @@ ghost use Rattle.rm_soak.specs.Lines.{soak_page};
 ghost use Rattle.rm_soak.specs.Scripts.{soak_of};
 ghost use Rattle.rm_soak.specs.Settings.{soak_settings};
 ghost use Rattle.rm_main.specs.Ways.{IsOfListing, IsOfRun};
-ghost use Rattle.rm_main.specs.Words.{Listing, Soak, mode_of, shows_moves};
+ghost use Rattle.rm_main.specs.Words.{Listing, OneThread, Soak, plain_mode_of, shows_moves};
 
 use crate::inputs::{Files, Inputs, read_inputs};
 use crate::listing::list_store;
@@ -54,7 +54,7 @@ pub struct Ended<D: Disk> {
 }
 
 /// Nothing was done.
-fn nothing<D: Disk>(alloc: Global, outcome: Outcome, disk: Fuse<D>) -> Ended<D>
+pub(crate) fn nothing<D: Disk>(alloc: Global, outcome: Outcome, disk: Fuse<D>) -> Ended<D>
     ensures outcome { result.outcome ≡ outcome }
     ensures opening { result.opening ≡ [] }
     ensures log { result.log ≡ [] }
@@ -154,8 +154,8 @@ fn run_files<F: Shelf, K: Sink, D: Disk>(
     disk: Fuse<D>,
 ) -> Ended<D>
     requires { disk.armed ≡ None }
-    ensures ends { Ends D.view (F.bytes_of shelf.old) (Some (asked_of files.entry)) (record { opening = result.opening; log = result.log; before = disk; after = result.disk }) result.outcome }
-    ensures reads { AreRead F.reads (Some (asked_of files.entry)) shelf.old shelf.new }
+    ensures ends { Ends D.view (F.bytes_of shelf.old) (Some (asked_of OneThread files.entry)) (record { opening = result.opening; log = result.log; before = disk; after = result.disk }) result.outcome }
+    ensures reads { AreRead F.reads (Some (asked_of OneThread files.entry)) shelf.old shelf.new }
     ensures writes { Writes result.outcome (K.taken sink.old) (K.taken sink.new) (page result.log moves) }
     ensures read_fault { result.outcome ≡ Outcome.ReadFault → Rose (F.faults shelf.old) (F.faults shelf.new) }
     ensures write_fault { result.outcome ≡ Outcome.WriteFault false → Rose (K.faults sink.old) (K.faults sink.new) }
@@ -222,7 +222,7 @@ fn soak<K: Sink, D: Disk>(alloc: Global, number: u32, sink: &mut K, disk: Fuse<D
     }
 }
 
-/// Does what the words say, over a device under a fuse that isn't armed. `plain CLUSTER SCRIPT` reads the
+/// Does what the words say without threads, over a device under a fuse that isn't armed. `plain CLUSTER SCRIPT` reads the
 /// cluster file and the script by these names, runs the script and writes the page of the run to the sink;
 /// `replay CLUSTER SCRIPT SCHEDULE` does so by the letters of the schedule's file; `soak N` runs a script made from the number N
 /// and writes one line about it; `store` writes what the device's store keeps.
@@ -231,7 +231,7 @@ fn soak<K: Sink, D: Disk>(alloc: Global, number: u32, sink: &mut K, disk: Fuse<D
 ///   two files, over what the device held; each move was of the lane that the schedule's letter or, after the last one,
 ///   the plain policy says; by `plain` each life that went down did so at rest, unless it was blown; each let the device
 ///   fall as its crash says; and the log meets the laws of `rm_laws`. The log is empty where nothing was run. `Done`: the script is at its end, nothing awaits and nothing is owed. `Usage`: exactly
-///   where the words are of another form. `ClusterRefused` and `ScriptRefused`: exactly where the file, as the
+///   where the words are of another form, and `threads CLUSTER SCRIPT` is. `ClusterRefused` and `ScriptRefused`: exactly where the file, as the
 ///   shelf tells it, breaks a rule or is no script, with the first rule's place or the first line; the cluster
 ///   file is read first. `DiskFault`: the device inside the fuse counted a fault, while a life was due or an
 ///   operation was with the store. `StoreDamaged`: the first life was due, and the device holds no store, at
@@ -265,17 +265,17 @@ pub fn top_plain<F: Shelf, K: Sink, D: Disk>(
     disk: Fuse<D>,
 ) -> Ended<D>
     requires { disk.armed ≡ None }
-    ensures ends { Ends D.view (F.bytes_of shelf.old) (mode_of (map string_bytes words.now)) (record { opening = result.opening; log = result.log; before = disk; after = result.disk }) result.outcome }
-    ensures complete { IsAccepted (F.bytes_of shelf.old) (mode_of (map string_bytes words.now)) → HasPlace D.view (record { opening = result.opening; log = result.log; before = disk; after = result.disk })
-        → IsFollowed (F.bytes_of shelf.old) (mode_of (map string_bytes words.now)) (record { opening = result.opening; log = result.log; before = disk; after = result.disk })
+    ensures ends { Ends D.view (F.bytes_of shelf.old) (plain_mode_of (map string_bytes words.now)) (record { opening = result.opening; log = result.log; before = disk; after = result.disk }) result.outcome }
+    ensures complete { IsAccepted (F.bytes_of shelf.old) (plain_mode_of (map string_bytes words.now)) → HasPlace D.view (record { opening = result.opening; log = result.log; before = disk; after = result.disk })
+        → IsFollowed (F.bytes_of shelf.old) (plain_mode_of (map string_bytes words.now)) (record { opening = result.opening; log = result.log; before = disk; after = result.disk })
         → NoneRose (F.faults shelf.old) (F.faults shelf.new) (K.faults sink.old) (K.faults sink.new) (K.idle sink.old) (K.idle sink.new)
         → (result.outcome ≡ Outcome.Done) ⊎ (result.outcome ≡ Outcome.Memory) }
-    ensures reads { AreRead F.reads (mode_of (map string_bytes words.now)) shelf.old shelf.new }
-    ensures writes { Writes result.outcome (K.taken sink.old) (K.taken sink.new) (page_for (shows_moves (map string_bytes words.now)) (mode_of (map string_bytes words.now)) result.opening result.log) }
+    ensures reads { AreRead F.reads (plain_mode_of (map string_bytes words.now)) shelf.old shelf.new }
+    ensures writes { Writes result.outcome (K.taken sink.old) (K.taken sink.new) (page_for (shows_moves (map string_bytes words.now)) (plain_mode_of (map string_bytes words.now)) result.opening result.log) }
     ensures read_fault { result.outcome ≡ Outcome.ReadFault → Rose (F.faults shelf.old) (F.faults shelf.new) }
     ensures write_fault { result.outcome ≡ Outcome.WriteFault false → Rose (K.faults sink.old) (K.faults sink.new) }
     ensures took_nothing { result.outcome ≡ Outcome.WriteFault true → Rose (K.idle sink.old) (K.idle sink.new) }
-    ensures untouched { page_for (shows_moves (map string_bytes words.now)) (mode_of (map string_bytes words.now)) result.opening result.log ≡ [] → sink.new ≡ sink.old }
+    ensures untouched { page_for (shows_moves (map string_bytes words.now)) (plain_mode_of (map string_bytes words.now)) result.opening result.log ≡ [] → sink.new ≡ sink.old }
 
     // What becomes of the device.
     ensures unused { StopsBefore result.outcome → result.disk ≡ disk }
@@ -313,6 +313,6 @@ pub fn top_plain<F: Shelf, K: Sink, D: Disk>(
         }
         Some(Mode::Soak { number }) => soak(alloc, number, sink, disk),
         Some(Mode::Store) => list(alloc, sink, disk),
-        None => nothing(alloc, Outcome::Usage, disk),
+        Some(Mode::Threads { .. }) | None => nothing(alloc, Outcome::Usage, disk),
     }
 }

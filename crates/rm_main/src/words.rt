@@ -3,7 +3,7 @@ ghost use Rattle.std.specs.List.{count_by};
 ghost use Rattle.rm_script.specs.Numbers.{number_in};
 ghost use Rattle.rm_soak.specs.Limits.{most_soaked};
 ghost use Rattle.rm_types.specs.Ranges.{IsWithin};
-ghost use Rattle.rm_main.specs.Words.{IsWithinSoak, asked, asked_by, has_flags, is_flag, is_unknown, mode_of, names, shows_moves, stands_once, times};
+ghost use Rattle.rm_main.specs.Words.{IsWithinSoak, Run, Workers, asked, asked_by, has_flags, is_flag, is_unknown, mode_of, names, plain_mode_of, shows_moves, stands_once, times};
 
 use rm_script::number_in;
 use rm_soak::MOST_SOAKED;
@@ -21,6 +21,11 @@ pub enum Mode<'a> {
         cluster: &'a str,
         script: &'a str,
         schedule: &'a str,
+    },
+    /// The same by workers in threads of their own, in whatever order these move.
+    Threads {
+        cluster: &'a str,
+        script: &'a str,
     },
     /// Runs a soak of so many applications.
     Soak {
@@ -155,7 +160,7 @@ fn mode_of_two<'a>(mode: &str, number: &str, moves: bool) -> Option<Mode<'a>>
     }
 }
 
-/// The mode that three names ask for: `plain`, with a cluster file and a script.
+/// The mode that three names ask for: `plain` or `threads`, with a cluster file and a script.
 fn mode_of_three<'a>(mode: &str, cluster: &'a str, script: &'a str) -> Option<Mode<'a>>
     ensures some { IfSome result (λ asks. asked_by true (mode.now ∷ cluster.now ∷ script.now ∷ []) ≡ Some (asked asks)) }
     ensures within { IfSome result IsWithinSoak }
@@ -163,6 +168,8 @@ fn mode_of_three<'a>(mode: &str, cluster: &'a str, script: &'a str) -> Option<Mo
 {
     if mode == "plain" {
         Some(Mode::Plain { cluster, script })
+    } else if mode == "threads" {
+        Some(Mode::Threads { cluster, script })
     } else {
         None
     }
@@ -213,7 +220,7 @@ fn mode_by(words: &[String], moves: bool) -> Option<Mode<'_>>
 }
 
 /// The mode that the program's words ask for. But for the flags `--file` and `--moves`, each of which may stand anywhere and
-/// once, they are `plain` and two names; `replay` and three names; `soak` and a number from 1
+/// once, they are `plain` or `threads` and two names; `replay` and three names; `soak` and a number from 1
 /// to 1000; or `store` alone. The last two have no `--moves`. Other words that begin with `-` are none.
 pub fn mode_of(words: &[String]) -> Option<Mode<'_>>
     ensures some { IfSome result (λ mode. mode_of (map string_bytes words.now) ≡ Some (asked mode)) }
@@ -224,5 +231,16 @@ pub fn mode_of(words: &[String]) -> Option<Mode<'_>>
         mode_by(words, shows_moves(words))
     } else {
         None
+    }
+}
+
+/// The names of the cluster file and of the script of a run by workers in threads, where the words ask for one.
+pub fn threaded(words: &[String]) -> Option<(&str, &str)>
+    ensures some { IfSome result (λ names. mode_of (map string_bytes words.now) ≡ Some (Run names.0.now names.1.now None Workers)) }
+    ensures none { IfNone result (plain_mode_of (map string_bytes words.now) ≡ mode_of (map string_bytes words.now)) }
+{
+    match mode_of(words) {
+        Some(Mode::Threads { cluster, script }) => Some((cluster, script)),
+        _ => None,
     }
 }

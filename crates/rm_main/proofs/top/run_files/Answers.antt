@@ -1,6 +1,6 @@
 use Rattle.std.proofs.Common.{Some}
-use Rattle.rm_main.specs.Runs.{Made}
 use Rattle.rm_main.specs.Inputs.{asked_of}
+use Rattle.rm_main.specs.Words.{OneThread}
 use Rattle.rm_main.proofs.Outcomes.{run_ends}
 use Rattle.rm_main.proofs.top.run_files.Goals as goal
 
@@ -8,7 +8,7 @@ pub returns-in-Ok-clause-ends : goal.returns-in-Ok-clause-ends
 returns-in-Ok-clause-ends g c =
     let run = c.run.ensures in
     let result = c.run.result in
-    run_ends g.D.Disk.view (g.F.Shelf.bytes_of c.args.shelf.now) (Some (asked_of c.args.files))
+    run_ends g.D.Disk.view (g.F.Shelf.bytes_of c.args.shelf.now) (Some (asked_of OneThread c.args.files))
     (record { opening = result.opening; log = result.log; before = c.args.disk; after = result.disk }) result.outcome run.of_run
     (record {
       settings = c.in-Ok.inputs.settings;
