@@ -10,9 +10,8 @@ ghost use Rattle.rm_tables.specs.Leaving.{is_masters_in};
 ghost use Rattle.rm_tables.specs.Rows.{row_of};
 
 use crate::living::living;
-use crate::recorded::is_masters;
 use rm_book::Book;
-use rm_tables::{AppRow, SchedEvent, Tables, Talk};
+use rm_tables::{AppRow, SchedEvent, Tables, Talk, is_masters};
 use rm_types::{
     Ask, AttemptId, Boxed, Closing, ContainerId, ContainerState, Duplicate, Grant, Items, NoMemory,
     Queue, Reply, Resource,

@@ -11,9 +11,8 @@ ghost use Rattle.rm_tables.specs.SchedEvents.{done_by, is_on, is_released, relea
 
 use crate::asking::quiet;
 use crate::leaving::leave;
-use crate::records::is_masters;
 use rm_book::Book;
-use rm_tables::Tables;
+use rm_tables::{Tables, is_masters};
 use rm_types::{AttemptId, Cause, ContainerId, Entry, Items, NoMemory, Text};
 
 /// These containers end for a cause, if there are any.

@@ -6,9 +6,9 @@ ghost use Rattle.rm_book.specs.Books.{AreOnce, total_on, with_taken};
 ghost use Rattle.rm_tables.specs.Rows.{row_of};
 ghost use Rattle.rm_tables.specs.Leaving.{closed_in, closings_of, left_all, losts_of, told_all, unlaunched, unlaunched_one};
 
-use crate::records::{is_masters, is_told};
+use crate::records::is_told;
 use rm_book::Book;
-use rm_tables::{MainEvent, NodeChange, Nodes, Rows, Tables};
+use rm_tables::{MainEvent, NodeChange, Nodes, Rows, Tables, is_masters};
 use rm_tree::Tree;
 use rm_types::{
     AppId, Cause, Closing, ContainerId, Duplicate, Held, Items, NoMemory, Queue, Resource, Text,

@@ -1,39 +1,11 @@
 //! What is recorded of the attempts of containers.
 ghost use Rattle.std.specs.Prelude.{◌≡◌};
-ghost use Rattle.std.specs.Option.{option_copied};
 ghost use Rattle.rm_tables.specs.Absorbing.{is_current_in};
-ghost use Rattle.rm_tables.specs.Leaving.{attempt_in, has_end, is_masters_in, is_over_in, is_own_or_unkept, is_told_in};
+ghost use Rattle.rm_tables.specs.Leaving.{attempt_in, has_end, is_over_in, is_told_in};
 
-use rm_tables::last_attempt;
+use rm_tables::{attempt_in, is_masters, last_attempt};
 use rm_tree::Tree;
-use rm_types::{AppRecord, AttemptId, AttemptRecord, ContainerId};
-
-/// The record of an attempt.
-fn attempt_in(app: &AppRecord, id: AttemptId) -> Option<&AttemptRecord>
-    ensures { option_copied result ≡ attempt_in app.now id }
-{
-    app.attempts.as_slice().iter().find(|one| one.id == id)
-}
-
-/// Whether the record of a container's attempt names it, or there is none.
-fn is_own_or_unkept(app: &AppRecord, id: ContainerId) -> bool
-    ensures { result ≡ is_own_or_unkept id (attempt_in app.now id.attempt) }
-{
-    match attempt_in(app, id.attempt) {
-        Some(one) => one.master == id,
-        None => true,
-    }
-}
-
-/// Whether a container is a master's.
-pub fn is_masters(tree: &Tree, id: ContainerId) -> bool
-    ensures { result ≡ is_masters_in tree.now.apps id }
-{
-    match tree.find(id.attempt.app) {
-        Some(app) => is_own_or_unkept(app, id),
-        None => false,
-    }
-}
+use rm_types::{AppRecord, AttemptId, ContainerId};
 
 /// Whether an attempt of an application has a kept end.
 fn has_end(app: &AppRecord, id: AttemptId) -> bool
