@@ -112,7 +112,7 @@ both_change g h k in_row told (Some one) (Some other) e =
     ap Some (in_row one ∙ ap k same ∙ sym (told other))
 
 -- a master goes on in the dialogue where it is registered by the judge
-goes_alike : (m : Scene) (attempt : AttemptId) → is_live m attempt ≡ true → (d : Option Dialogue) (o : Option MasterState) → option_map bare_dialogue d ≡ option_map plain_dialogue o → master_of m attempt ≡ o
+pub goes_alike : (m : Scene) (attempt : AttemptId) → is_live m attempt ≡ true → (d : Option Dialogue) (o : Option MasterState) → option_map bare_dialogue d ≡ option_map plain_dialogue o → master_of m attempt ≡ o
     → goes_on d ≡ is_registered m attempt
 goes_alike m attempt live None None e is = rw (live, is) refl
 goes_alike m attempt live None (Some one) e is = cc

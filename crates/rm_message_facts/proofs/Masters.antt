@@ -33,7 +33,7 @@ use Rattle.rm_agreement.specs.Shown.{ShowsLife, lives_by}
 use Rattle.rm_master.specs.Answers.{after_master, allocated_with, is_new_to, registered, release_events, said}
 use Rattle.rm_master.specs.Told.{goes_on, spoken_by}
 use Rattle.rm_master.proofs.Replies.{Lives, lives_here, none_lives, row_lives}
-use Rattle.rm_master.proofs.Same.{master_same}
+use Rattle.rm_master.proofs.Same.{goes_alike, master_same}
 use Rattle.rm_moves.specs.Messages.{IsAsk, IsMasterAsk}
 use Rattle.rm_facts.specs.Told.{History, life_in, scene_in}
 use Rattle.rm_node_facts.specs.AtNodes.{AllGood, Good, events_of}
@@ -63,21 +63,6 @@ releases attempt (id ∷ ids) = tt
 of_no_node : (attempt : AttemptId) (release : List ContainerId) (q : List ℕ) → events_of q (release_events attempt release) ≡ []
 of_no_node attempt [] q = refl
 of_no_node attempt (id ∷ ids) q = refl
-
--- a master goes on in the dialogue where it is registered by the judge
-goes_alike : (m : Scene) (attempt : AttemptId) → is_live m attempt ≡ true → (d : Option Dialogue) (o : Option MasterState) → option_map bare_dialogue d ≡ option_map plain_dialogue o → master_of m attempt ≡ o
-    → goes_on d ≡ is_registered m attempt
-goes_alike m attempt live None None e is = rw (live, is) refl
-goes_alike m attempt live None (Some one) e is = cc
-goes_alike m attempt live (Some one) None e is = cc
-goes_alike m attempt live (Some one) (Some other) e is =
-    let same : bare_dialogue one ≡ plain_dialogue other = cc in
-    let text : one.finishing ≡ other.finishing = ap (λ (x : PlainDialogue). x.finishing) same in
-    rw (live, is, text) (by other.finishing)
-  where
-    by : (f : Option (List ℕ)) → not (is_some f) ≡ is_none f
-    by None = refl
-    by (Some text) = refl
 
 -- one that is registered has registered
 has_by : (m : Scene) (attempt : AttemptId) → is_registered m attempt ≡ true → has_registered m attempt ≡ true
