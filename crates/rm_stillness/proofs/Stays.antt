@@ -12,7 +12,7 @@ use Rattle.rm_model.specs.Place.{Place, close_left, moved, segments_without}
 use Rattle.rm_model.specs.State.{LifeState, Manager, opening_state, scene}
 use Rattle.rm_baton.specs.Entries.{AddsCommon, AllCommon, IsCommon}
 use Rattle.rm_stillness.specs.Still.{SameLife, Still}
-use Rattle.rm_stillness.proofs.Served.{of_issued, of_served}
+use Rattle.rm_model.proofs.Served.{of_issued, of_served}
 
 -- THE STATE
 
