@@ -69,6 +69,10 @@ pub on_ok : {A E : Type 0} {P : Type 0} (r : Result A E) → P → OnOk r P
 on_ok (Ok x) p = p
 on_ok (Err x) p = tt
 
+pub on_err : {A E : Type 0} {P : Type 0} (r : Result A E) → P → OnErr r P
+on_err (Ok x) p = tt
+on_err (Err x) p = p
+
 pub ok_map : {X E A B : Type 0} (r : Result X E) → (A → B) → OnOk r A → OnOk r B
 ok_map (Ok x) f a = f a
 ok_map (Err e) f a = tt

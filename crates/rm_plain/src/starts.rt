@@ -10,6 +10,7 @@ ghost use Rattle.rm_core.specs.Words.{stands};
 ghost use Rattle.rm_types.specs.declared.messages.Lane.{Lane};
 ghost use Rattle.rm_types.specs.declared.operations.Op.{Op as AnyOp};
 ghost use Rattle.rm_core.specs.Seen.{StandsFor};
+ghost use Rattle.rm_desk.specs.Does.{Begins as TakesUp};
 ghost use Rattle.rm_types.specs.Records.{stray};
 ghost use Rattle.rm_plain.specs.Later.{IsAgain, IsFirst, IsUnfounded, IsUnready};
 ghost use Rattle.rm_plain.specs.declared.halts.Halt.{Halt};
@@ -121,6 +122,7 @@ pub fn begin_life<D: Disk, O: Ordered>(
     ensures refused { store.new.disk.refused ≡ store.old.disk.refused }
     ensures memory { IfErr result (λ halt. halt ≡ Halt.Memory) }
     ensures halts { IfErr result (HaltsOver (O.order by.now) D.view (λ opening. IsLeft tree (state_after opening d.old.core.log)) (λ opening. IsFoundOn opening d.old.core tree (seen D.view store.old.disk)) d.old d.new store.old.disk store.new.disk) }
+    ensures left { OnErr result ((d.new ≡ d.old) ⊎ TakesUp tree d.old d.new) }
 {
     let _ = by;
     d.law();

@@ -1,4 +1,4 @@
-use Rattle.std.proofs.Common.{◌≡◌, List, true, false, Err, refl, sym, ◌∙◌, ap}
+use Rattle.std.proofs.Common.{◌≡◌, List, true, false, Err, inl, inr, refl, sym, ◌∙◌, ap}
 use Rattle.std.proofs.lemmas.Result.{err_from_is_err_and}
 use Rattle.std.specs.Prelude.{is_ok}
 use Rattle.rm_types.specs.declared.operations.Op.{Op}
@@ -9,7 +9,7 @@ use Rattle.rm_core.specs.Adds.{IsLeft}
 use Rattle.rm_plain.specs.declared.halts.Halt.{Halt}
 use Rattle.rm_plain.specs.Keeping.{HaltsOver, IsFoundOn}
 use Rattle.rm_plain.proofs.Halting.{goes_any, halts_same, if_memory}
-use Rattle.rm_plain.proofs.Moving.{begin_fewer, begin_goes, begin_kept, err_holds, goes_same, ok_holds, ok_map, on_ok}
+use Rattle.rm_plain.proofs.Moving.{begin_fewer, begin_goes, begin_kept, err_holds, goes_same, ok_holds, ok_map, on_err, on_ok}
 use Rattle.rm_plain.proofs.Starting.{begins, begun_halts}
 use Rattle.rm_plain.proofs.starts.begin_life.Goals as goal
 
@@ -72,3 +72,13 @@ returns-clause-one g c =
     let made : is_ok c.begin.result ≡ true = sym c.memory_only.ensures ∙ rw c.in_ok-memory_only.was refl in
     let begun = ok_holds c.begin.result made c.begin.ensures.begins in
     on_ok c.arm.result (begun.adds.entry, ap lane_of_entry begun.adds.of_kind.2, begun.adds.added)
+
+pub returns-in_err-memory_only-clause-left : goal.returns-in_err-memory_only-clause-left
+returns-in_err-memory_only-clause-left g c =
+    let failed : is_ok c.begin.result ≡ false = sym c.memory_only.ensures ∙ rw c.in_err-memory_only.was refl in
+    on_err c.from_residual.result (inl (err_holds c.begin.result failed c.begin.ensures.err))
+
+pub returns-clause-left : goal.returns-clause-left
+returns-clause-left g c =
+    let made : is_ok c.begin.result ≡ true = sym c.memory_only.ensures ∙ rw c.in_ok-memory_only.was refl in
+    on_err c.arm.result (inr (ok_holds c.begin.result made c.begin.ensures.begins))
