@@ -23,8 +23,9 @@ use Rattle.rm_plain.specs.Policy.{run_after}
 use Rattle.rm_plain.specs.Schedule.{StopsAt, left_after, steps_from, steps_of}
 use Rattle.rm_plain.specs.Stops.{IsNoStore, IsTold}
 use Rattle.rm_main.specs.Complete.{AreAccepted, IsAccepted, IsFollowed, HasPlace, NoneRose}
-use Rattle.rm_main.specs.Runs.{Ends, HasNoScript, HasNoSettings, Made, Ran, Told, WereRead}
-use Rattle.rm_main.specs.Words.{Asked, Run, Soak, Listing, Mover, OneThread, Workers}
+use Rattle.rm_main.specs.Made.{Made}
+use Rattle.rm_main.specs.Runs.{Ends, HasNoScript, HasNoSettings, Ran, Told, WereRead}
+use Rattle.rm_words.specs.Words.{Asked, Run, Soak, Listing, Mover, OneThread, Workers}
 
 -- what was read of a file whose bytes are told
 read_is : (told : Option (List ℕ)) (bytes all : List ℕ) → told ≡ Some all → WereRead told bytes → bytes ≡ bytes_read all
@@ -70,33 +71,33 @@ module _ {D : Type 0} (view : D → DiskView) (told : Told) (made : Made D) (pla
 
   module _ (asked : Option Asked) where
     no_fault : Ran view told asked made DiskFault → ⊥
-    no_fault ran = place.faultless ran.caused.0
+    no_fault ran = place.faultless ran.ran.caused.0
 
     no_damage : (offset : ℕ) → Ran view told asked made (StoreDamaged offset) → ⊥
     no_damage offset ran =
-        let none = ran.caused.1 place.bytes place.told in
+        let none = ran.ran.caused.1 place.bytes place.told in
         a_store place.bytes place.ops offset place.holds none.2
 
     no_full : (needed room : ℕ) → Ran view told asked made (StoreFull needed room) → ⊥
     no_full needed room ran =
-        let full : IsFull (IsTold (view made.before.inner)) made.opening made.log (view made.after.inner).size needed room = ran.caused in
-        let behind = ran.caused.behind (place.bytes, place.told) in
-        let enough = place.room ran.caused.op ran.caused.handed.first in
-        let less = ran.caused.less in
-        let needs = ran.caused.needs in
+        let full : IsFull (IsTold (view made.before.inner)) made.opening made.log (view made.after.inner).size needed room = ran.ran.caused in
+        let behind = ran.ran.caused.behind (place.bytes, place.told) in
+        let enough = place.room ran.ran.caused.op ran.ran.caused.handed.first in
+        let less = ran.ran.caused.less in
+        let needs = ran.ran.caused.needs in
         absurd (omega (arith, behind, enough, less, needs))
 
     no_spent : Ran view told asked made EpochsSpent → ⊥
-    no_spent ran = place.some_left ran.caused.1.1
+    no_spent ran = place.some_left ran.ran.caused.1.1
 
   -- no letter stops a run
   no_letter : (asked : Option Asked) → IsFollowed told asked made → (at : ℕ) → Ran view told asked made (ScheduleRefused at) → ⊥
   no_letter None followed at ran = absurd ran.inputs
   no_letter (Some Listing) followed at ran = absurd ran.inputs
-  no_letter (Some (Soak number)) followed at ran = no_letters ran.schedule made.log (run_after (new_manager ran.alloc ran.settings) ran.script made.opening made.log) at ran.inputs.2 ran.caused.0
-  no_letter (Some (Run cluster script schedule Workers)) followed at ran = absurd ran.caused.0
-  no_letter (Some (Run cluster script None OneThread)) followed at ran = no_letters ran.schedule made.log (run_after (new_manager ran.alloc ran.settings) ran.script made.opening made.log) at ran.inputs.2 ran.caused.0
-  no_letter (Some (Run cluster script (Some schedule) OneThread)) followed at ran = followed ran.alloc ran.settings ran.script ran.schedule at ran.inputs.0 ran.inputs.1 ran.inputs.2 ran.caused.0
+  no_letter (Some (Soak number)) followed at ran = no_letters ran.schedule made.log (run_after (new_manager ran.alloc ran.settings) ran.script made.opening made.log) at ran.inputs.2 ran.ran.caused.0
+  no_letter (Some (Run cluster script schedule Workers)) followed at ran = absurd ran.ran.caused.0
+  no_letter (Some (Run cluster script None OneThread)) followed at ran = no_letters ran.schedule made.log (run_after (new_manager ran.alloc ran.settings) ran.script made.opening made.log) at ran.inputs.2 ran.ran.caused.0
+  no_letter (Some (Run cluster script (Some schedule) OneThread)) followed at ran = followed ran.alloc ran.settings ran.script ran.schedule at ran.inputs.0 ran.inputs.1 ran.inputs.2 ran.ran.caused.0
 
   -- words that ask for a listing aren't accepted
   no_list : (asked : Option Asked) → IsAccepted told asked → asked ≡ Some Listing → ⊥

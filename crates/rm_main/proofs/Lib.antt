@@ -1,6 +1,6 @@
 pub mod Scripts
 pub mod Outcomes
+pub mod Devices
 pub mod Completing
 pub mod Laws
-pub mod Names
 mod Rooted

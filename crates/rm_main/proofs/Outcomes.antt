@@ -1,33 +1,30 @@
 -- The outcome of a run that stopped, and of one whose page was written so.
-use Rattle.std.proofs.Common.{◌≡◌, ◌⊎◌, ℕ, List, [], Option, Result, Ok, Err, length, refl, arith, sym, subst, inl, inr}
-use Rattle.std.specs.Prelude.{IsOk, OnOk, IfErr}
-use Rattle.std.proofs.lemmas.Bool.{false≢true}
+use Rattle.std.proofs.Common.{◌≡◌, ◌⊎◌, ℕ, List, [], Bool, true, false, Option, Result, Ok, Err, length, refl, arith, sym, subst, inl, inr}
+use Rattle.std.specs.Prelude.{IsOk, IfErr}
 use Rattle.std.specs.Io.KnownBytes.{Appends}
 use Rattle.std.proofs.lemmas.List.{take_all}
-use Rattle.rm_types.specs.declared.entries.Entry.{Entry}
 use Rattle.rm_types.specs.declared.operations.Op.{Op}
 use Rattle.rm_types.specs.declared.outcomes.Outcome.{Outcome}
 use Rattle.rm_types.specs.declared.outcomes.Outcome.TheVariants.{Done, Usage, ReadFault, WriteFault, ClusterRefused, ScriptRefused, ScheduleRefused, DiskFault, StoreDamaged, StoreFull, EpochsSpent, Memory}
-use Rattle.rm_disk.specs.Disk.{DiskView, IsQuiet, Tells}
+use Rattle.rm_disk.specs.Disk.{DiskView, Tells}
 use Rattle.rm_disk.specs.Fuse.{Fused}
-use Rattle.rm_disk.proofs.Views.{leaves_of}
 use Rattle.rm_formats.specs.Device.{Holds}
 use Rattle.rm_plain.specs.declared.halts.Stop.{Stop}
 use Rattle.rm_plain.specs.declared.halts.Stop.TheVariants as stops
 use Rattle.rm_plain.specs.Starts.{IsUnopenedBy}
 use Rattle.rm_plain.specs.Stops.{IsStoppedBy}
-use Rattle.rm_plain.specs.Survives.{HoldsWithin, SurvivesAll}
 use Rattle.rm_store.specs.Store.{seen}
-use Rattle.rm_main.specs.Runs.{Ends, IsCausedBy, IsListed, Made, Ran, Told, Writes}
+use Rattle.rm_main.specs.Made.{Made}
+use Rattle.rm_main.specs.Runs.{Ends, IsCausedBy, IsListed, Ran, Told, Writes, WritesPage}
 use Rattle.rm_main.specs.Ways.{IsOfRun, IsOfWriting, outcome_of}
-use Rattle.rm_main.specs.Words.{Asked}
+use Rattle.rm_words.specs.Words.{Asked}
 
 -- a whole page is a beginning of it
 whole : (old new : Option (List ℕ)) (bytes : List ℕ) → Appends old new bytes → Writes Memory old new bytes
 whole old new bytes h = (length bytes, omega arith, subst (λ (x : List ℕ). Appends old new x) (sym (take_all (length bytes) bytes (omega arith))) h)
 
 -- what was written is what the run's outcome says
-pub still_writes : (old new : Option (List ℕ)) (bytes : List ℕ) (ended : Result (Unit {0}) Stop) (written : Outcome) → IsOfWriting written → Writes written old new bytes → Writes (outcome_of ended written) old new bytes
+still_writes : (old new : Option (List ℕ)) (bytes : List ℕ) (ended : Result (Unit {0}) Stop) (written : Outcome) → IsOfWriting written → Writes written old new bytes → Writes (outcome_of ended written) old new bytes
 still_writes old new bytes (Ok done) Done h w = w
 still_writes old new bytes (Ok done) Usage h w = absurd h
 still_writes old new bytes (Ok done) ReadFault h w = absurd h
@@ -57,6 +54,59 @@ still_writes old new bytes (Err stop) (StoreDamaged offset) h w = absurd h
 still_writes old new bytes (Err stop) (StoreFull needed room) h w = absurd h
 still_writes old new bytes (Err stop) EpochsSpent h w = absurd h
 still_writes old new bytes (Err stop) Memory h w = w
+
+-- a run that is done had come to its end
+pub done_ended : (ended : Result (Unit {0}) Stop) (written : Outcome) → outcome_of ended written ≡ Done → IsOk ended
+done_ended (Ok done) written is = refl
+done_ended (Err stops.DiskFault) Done is = cc
+done_ended (Err (stops.Damaged offset)) Done is = cc
+done_ended (Err (stops.Full needed room)) Done is = cc
+done_ended (Err (stops.Schedule place)) Done is = cc
+done_ended (Err stops.EpochsSpent) Done is = cc
+done_ended (Err stops.Memory) Done is = cc
+done_ended (Err stop) Usage is = cc
+done_ended (Err stop) ReadFault is = cc
+done_ended (Err stop) (WriteFault took_nothing) is = cc
+done_ended (Err stop) (ClusterRefused place) is = cc
+done_ended (Err stop) (ScriptRefused line) is = cc
+done_ended (Err stop) (ScheduleRefused place) is = cc
+done_ended (Err stop) DiskFault is = cc
+done_ended (Err stop) (StoreDamaged offset) is = cc
+done_ended (Err stop) (StoreFull needed room) is = cc
+done_ended (Err stop) EpochsSpent is = cc
+done_ended (Err stop) Memory is = cc
+
+-- a fault of writing was one of writing the page
+fault_written : (ended : Result (Unit {0}) Stop) (written : Outcome) (took_nothing : Bool) → outcome_of ended written ≡ WriteFault took_nothing → written ≡ WriteFault took_nothing
+fault_written (Ok done) written took_nothing is = is
+fault_written (Err stops.DiskFault) Done took_nothing is = cc
+fault_written (Err (stops.Damaged offset)) Done took_nothing is = cc
+fault_written (Err (stops.Full needed room)) Done took_nothing is = cc
+fault_written (Err (stops.Schedule place)) Done took_nothing is = cc
+fault_written (Err stops.EpochsSpent) Done took_nothing is = cc
+fault_written (Err stops.Memory) Done took_nothing is = cc
+fault_written (Err stop) Usage took_nothing is = is
+fault_written (Err stop) ReadFault took_nothing is = is
+fault_written (Err stop) (WriteFault took_none) took_nothing is = is
+fault_written (Err stop) (ClusterRefused place) took_nothing is = is
+fault_written (Err stop) (ScriptRefused line) took_nothing is = is
+fault_written (Err stop) (ScheduleRefused place) took_nothing is = is
+fault_written (Err stop) DiskFault took_nothing is = is
+fault_written (Err stop) (StoreDamaged offset) took_nothing is = is
+fault_written (Err stop) (StoreFull needed room) took_nothing is = is
+fault_written (Err stop) EpochsSpent took_nothing is = is
+fault_written (Err stop) Memory took_nothing is = is
+
+-- what the sink took is what the run's outcome says
+pub still_page : {K : Type 0} (taken : K → Option (List ℕ)) (faults idle : K → ℕ) (old new : K) (bytes : List ℕ) (ended : Result (Unit {0}) Stop) (written : Outcome) → IsOfWriting written
+    → WritesPage taken faults idle old new bytes written → WritesPage taken faults idle old new bytes (outcome_of ended written)
+still_page taken faults idle old new bytes ended written h w =
+    record {
+      writes = still_writes (taken old) (taken new) bytes ended written h w.writes;
+      write_fault = λ is. w.write_fault (fault_written ended written false is);
+      took_nothing = λ is. w.took_nothing (fault_written ended written true is);
+      untouched = w.untouched;
+    }
 
 -- why a run stopped is why its outcome came
 pub caused : {D : Type 0} (view : D → DiskView) (due : Type 0) (refuses : ℕ → Type 0) (made : Made D) (ended : Result (Unit {0}) Stop) (written : Outcome) → IsOfWriting written → IfErr ended (IsStoppedBy view due refuses made.before made.after made.opening made.log)

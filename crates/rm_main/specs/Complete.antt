@@ -16,8 +16,9 @@ use Rattle.rm_core.specs.Words.{new_manager}
 use Rattle.rm_plain.specs.Policy.{run_after}
 use Rattle.rm_plain.specs.Schedule.{StopsAt, left_after, steps_of}
 use Rattle.rm_plain.specs.Stops.{NoneLeft}
-use Rattle.rm_main.specs.Runs.{AreSettings, IsScriptOf, Made, Told, WereRead}
-use Rattle.rm_main.specs.Words.{Asked, Run, Soak, OneThread}
+use Rattle.rm_main.specs.Made.{Made}
+use Rattle.rm_main.specs.Runs.{AreSettings, IsScriptOf, Told, WereRead}
+use Rattle.rm_words.specs.Words.{Asked, Run, Soak, OneThread}
 
 -- a shelf tells of two files that they hold settings and a script
 pub record AreAccepted (told : Told) (cluster_file script_file : List ℕ) : Type 0 where

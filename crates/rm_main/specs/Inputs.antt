@@ -6,7 +6,7 @@ use Rattle.rm_types.specs.declared.outcomes.Outcome.TheVariants.{ReadFault, Clus
 use Rattle.rm_types.specs.declared.settings.Settings.{Settings}
 use Rattle.rm_main.specs.declared.inputs.Files.{Files}
 use Rattle.rm_main.specs.Runs.{Told, AreSettings, HasNoSettings, HasNoScript}
-use Rattle.rm_main.specs.Words.{Asked, Mover, Run}
+use Rattle.rm_words.specs.Words.{Asked, Mover, Run}
 
 -- the cluster file couldn't be read, or breaks a rule, the first of them at the place
 abbrev pub StopsAtCluster : Option (List ℕ) → Outcome → Type 0

@@ -1,5 +1,5 @@
-pub mod Words
 pub mod Shown
+pub mod Made
 pub mod Runs
 pub mod Inputs
 pub mod Statuses

@@ -1,5 +1,5 @@
 -- What a call of the program leaves: by its outcome, the log, the device's falls and what the sink took.
-use Rattle.std.specs.Prelude.{◌≡◌, ◌⊎◌, ℕ, ◌≤◌, List, [], ◌++◌, Bool, Option, None, Some, IfSome, length, take}
+use Rattle.std.specs.Prelude.{◌≡◌, ◌⊎◌, ℕ, ◌≤◌, List, [], ◌++◌, Bool, true, false, Option, None, Some, IfSome, length, take}
 use Rattle.std.specs.Io.KnownBytes.{Appends}
 use Rattle.std.specs.declared.alloc.Global.{Global}
 use Rattle.rm_types.specs.declared.entries.Entry.{Entry}
@@ -10,7 +10,6 @@ use Rattle.rm_types.specs.declared.scripts.Script.{Script}
 use Rattle.rm_types.specs.declared.settings.Settings.{Settings}
 use Rattle.rm_types.specs.Counts.{Rose}
 use Rattle.rm_disk.specs.Disk.{DiskView, Tells}
-use Rattle.rm_disk.specs.Fuse.{Fused}
 use Rattle.rm_formats.specs.Device.{Holds}
 use Rattle.rm_model.specs.Downs.{AllGoDownAtRest}
 use Rattle.rm_model.specs.Lawful.{Lawful, IsDone}
@@ -34,7 +33,8 @@ use Rattle.rm_soak.specs.Settings.{soak_settings}
 use Rattle.rm_store.specs.Store.{seen}
 use Rattle.rm_workers.specs.AnyOrder.{any_order}
 use Rattle.rm_main.specs.Laws.{MeetsLaws}
-use Rattle.rm_main.specs.Words.{Asked, Run, Listing, Soak, Mover, OneThread, Workers}
+use Rattle.rm_main.specs.Made.{Made}
+use Rattle.rm_words.specs.Words.{Asked, Run, Listing, Soak, Mover, OneThread, Workers}
 
 -- what a shelf tells of each name
 abbrev pub Told : Type 0
@@ -73,13 +73,6 @@ pub record HasNoScript (told : Option (List ℕ)) (line : ℕ) : Type 0 where
   pub read : WereRead told bytes
   pub none : IsFirstRefused bytes line
 
--- what a call made: what its disk held when it was opened, its log, and the disk before it and after it
-pub record Made (D : Type 0) : Type 0 where
-  pub opening : List Op
-  pub log : List Entry
-  pub before : Fused D
-  pub after : Fused D
-
 -- why the device, the store or the schedule stopped a run, by its outcome
 abbrev pub IsCausedBy : {D : Type 0} → (D → DiskView) → Type 0 → (ℕ → Type 0) → Made D → Outcome → Type 0
 IsCausedBy view due stops made DiskFault = IsStoppedBy view due stops made.before made.after made.opening made.log halted.DiskFault
@@ -114,24 +107,28 @@ abbrev pub order_for : Option Asked → List ℕ → Order
 order_for (Some (Run cluster_file script_file schedule_file mover)) schedule = order_by mover schedule
 order_for _ schedule = order_by OneThread schedule
 
--- a run was made from what was asked for: the log is lawful for these settings and this script, over the opening list, and so meets the laws; the lanes moved in the order that was
--- asked for, and by workers or without a schedule lives went down at rest; each that went down let the device fall once more; where the outcome is Done the run came to its end and used up the
--- schedule, and where the device, the store or the schedule stopped it, it had its cause; a script without lives makes no call of the device
+-- a run of these settings and this script was made in this order of moves: the log is lawful for them over the opening list, and so meets the laws; the lanes moved in that order,
+-- and where the order rests lives went down at rest; each that went down let the device fall once more; where the outcome is Done the run came to its end and used up the order, and where
+-- the device, the store or the schedule stopped it, it had its cause; a script without lives makes no call of the device
+pub record RanBy {D : Type 0} (view : D → DiskView) (order : Order) (alloc : Global) (settings : Settings) (script : Script) (made : Made D) (outcome : Outcome) : Type 0 where
+  pub lawful : Lawful settings script made.opening made.log
+  pub laws : MeetsLaws made.opening made.log
+  pub moves : order.keeps (new_manager alloc settings) script made.opening made.log
+  pub used_up : outcome ≡ Done → order.ends made.log
+  pub downs : order.rests → AllGoDownAtRest settings (opening_state made.opening) made.log
+  pub fallen : made.after.falls ≡ made.before.falls ++ falls_of script made.opening made.log
+  pub done : outcome ≡ Done → IsDone settings script made.opening made.log
+  pub caused : IsCausedBy view (IsDue script made.opening made.log) (order.stops (new_manager alloc settings) script made.opening made.log) made outcome
+  pub idle : script.lives ≡ [] → (made.log ≡ []) × (made.after ≡ made.before)
+
+-- a run was made from what was asked for, in the order that was asked for
 pub record Ran {D : Type 0} (view : D → DiskView) (told : Told) (asked : Option Asked) (made : Made D) (outcome : Outcome) : Type 0 where
   pub settings : Settings
   pub script : Script
   pub schedule : List ℕ
   pub inputs : AreInputs told asked settings script schedule
-  pub lawful : Lawful settings script made.opening made.log
-  pub laws : MeetsLaws made.opening made.log
   pub alloc : Global
-  pub moves : (order_for asked schedule).keeps (new_manager alloc settings) script made.opening made.log
-  pub used_up : outcome ≡ Done → (order_for asked schedule).ends made.log
-  pub downs : (order_for asked schedule).rests → AllGoDownAtRest settings (opening_state made.opening) made.log
-  pub fallen : made.after.falls ≡ made.before.falls ++ falls_of script made.opening made.log
-  pub done : outcome ≡ Done → IsDone settings script made.opening made.log
-  pub caused : IsCausedBy view (IsDue script made.opening made.log) ((order_for asked schedule).stops (new_manager alloc settings) script made.opening made.log) made outcome
-  pub idle : script.lives ≡ [] → (made.log ≡ []) × (made.after ≡ made.before)
+  pub ran : RanBy view (order_for asked schedule) alloc settings script made outcome
 
 -- nothing was run, and the device did not fall
 pub record RanNothing {D : Type 0} (made : Made D) : Type 0 where
@@ -145,12 +142,6 @@ pub record WasToRun {D : Type 0} (asked : Option Asked) (made : Made D) : Type 0
   pub schedule_file : Option (List ℕ)
   pub mover : Mover
   pub asks : asked ≡ Some (Run cluster_file script_file schedule_file mover)
-  pub nothing : RanNothing made
-
--- a soak was asked for, and nothing was run
-pub record WasToSoak {D : Type 0} (asked : Option Asked) (made : Made D) : Type 0 where
-  pub number : ℕ
-  pub asks : asked ≡ Some (Soak number)
   pub nothing : RanNothing made
 
 -- a listing was asked for, and nothing was run
@@ -194,7 +185,7 @@ Ends view told asked made DiskFault = Ran view told asked made DiskFault ⊎ Was
 Ends view told asked made (StoreDamaged offset) = Ran view told asked made (StoreDamaged offset) ⊎ WasToList view asked made (StoreDamaged offset)
 Ends view told asked made (StoreFull needed room) = Ran view told asked made (StoreFull needed room)
 Ends view told asked made EpochsSpent = Ran view told asked made EpochsSpent
-Ends view told asked made Memory = Ran view told asked made Memory ⊎ (WasToList view asked made Memory ⊎ (WasToRun asked made ⊎ WasToSoak asked made))
+Ends view told asked made Memory = Ran view told asked made Memory ⊎ RanNothing made
 
 -- which were read behind the cluster file
 abbrev pub AreReadBehind : {F : Type 0} → (List ℕ → F → F → Type 0) → List ℕ → Option (List ℕ) → F → F → Type 0
@@ -205,6 +196,11 @@ AreReadBehind {F = F} reads script (Some schedule) old new = reads script old ne
 abbrev pub AreRead : {F : Type 0} → (List ℕ → F → F → Type 0) → Option Asked → F → F → Type 0
 AreRead {F = F} reads (Some (Run cluster script schedule mover)) old new = reads cluster old new ⊎ ((mid : F) × reads cluster old mid × AreReadBehind reads script schedule mid new)
 AreRead reads _ old new = new ≡ old
+
+-- which files were read, by the outcome: those of what was asked for, but for none where memory ran out before the words were read
+abbrev pub ReadsFor : {F : Type 0} → (List ℕ → F → F → Type 0) → Option Asked → Outcome → F → F → Type 0
+ReadsFor reads asked Memory old new = AreRead reads asked old new ⊎ (new ≡ old)
+ReadsFor reads asked outcome old new = AreRead reads asked old new
 
 -- the outcome of a call that stopped before it used the device
 abbrev pub StopsBefore : Outcome → Type 0
@@ -236,3 +232,11 @@ Writes (ScheduleRefused place) old new bytes = Appends old new bytes
 Writes EpochsSpent old new bytes = Appends old new bytes
 Writes Memory old new bytes = AppendsPrefix old new bytes
 Writes _ old new bytes = Appends old new []
+
+-- what a call wrote to its sink, whose counts are those of its faults and of its idle writes: a fault of writing comes only where one of
+-- them rose, and where the page is empty the sink is as it was
+pub record WritesPage {K : Type 0} (taken : K → Option (List ℕ)) (faults idle : K → ℕ) (old new : K) (page : List ℕ) (outcome : Outcome) : Type 0 where
+  pub writes : Writes outcome (taken old) (taken new) page
+  pub write_fault : outcome ≡ WriteFault false → Rose (faults old) (faults new)
+  pub took_nothing : outcome ≡ WriteFault true → Rose (idle old) (idle new)
+  pub untouched : page ≡ [] → new ≡ old

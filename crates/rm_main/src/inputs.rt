@@ -6,7 +6,7 @@ ghost use Rattle.rm_desk.specs.Scripts.{CanGoAlong};
 ghost use Rattle.std.specs.Option.{option_copied};
 ghost use Rattle.rm_main.specs.Runs.{AreMoves, AreRead, AreSettings, IsScriptOf, WereRead};
 ghost use Rattle.rm_main.specs.Inputs.{IsOneMore, IsUnread, StopsAtCluster, StopsAtScript, StopsEarly, asked_of};
-ghost use Rattle.rm_main.specs.Words.{OneThread};
+ghost use Rattle.rm_words.specs.Words.{OneThread};
 
 use rm_cluster::{ClusterError, read_cluster};
 use rm_outside::{Shelf, ShelfError};

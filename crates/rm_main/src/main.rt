@@ -1,17 +1,17 @@
 //! The program: it reads a cluster file and a script, runs the script over a device in memory or in a file, and
 //! writes the page of the run to standard output; or it writes what the device's store keeps.
 //!
-//! `top` is the call that does this, over any shelf, sink and device, and by `top_plain` all but the runs of workers in threads;
-//! `main` hands it the system's files, the standard output and a device of 4 MiB: an empty one in memory, or that in the file
-//! `rm.store`. It promises that
-//! the log of a run is lawful for the settings and the script of these files and for what the device held, that its moves
-//! are those of the schedule and then the plain policy's, or by workers of lanes that were ready, that what was written is the log's page or a beginning of it, that a run that is Done has come to its script's end with nothing owed,
-//! that at each moment of a run, also of one that was stopped, a crash leaves what is kept, or this and the
-//! operation that awaits, and that a run that nothing stands in the way of is Done or finds no memory. Of a run by workers it
-//! doesn't promise that it returns.
+//! `top` is the call that does this, over any shelf, sink and device, and by `top_plain` all but the runs of workers in
+//! threads; `main` hands it the system's files, the standard output and a device of 4 MiB: an empty one in memory, or that
+//! in the file `rm.store`. It promises that the log of a run is lawful for the settings and the script of these files and
+//! for what the device held, that its moves are those of the schedule and then the plain policy's, or by workers of lanes
+//! that were ready, that what was written is the log's page or a beginning of it, that a run that is Done has come to its
+//! script's end with nothing owed, that at each moment of a run, also of one that was stopped, a crash leaves what is
+//! kept, or this and the operation that awaits, and that a run that nothing stands in the way of is Done or finds no
+//! memory. Of a run by workers it doesn't promise that it returns.
 //!
-//! It stands on `rm_outside` for files and output, `rm_disk` and `rm_store` for the device, `rm_cluster`,
-//! `rm_script`, `rm_plain`, `rm_workers` and `rm_page`, and on the definitions of `rm_model`.
+//! It stands on `rm_words` for what the words ask for, `rm_outside` for files and output, `rm_disk` and `rm_store` for the
+//! device, `rm_cluster`, `rm_script`, `rm_plain`, `rm_workers` and `rm_page`, and on the definitions of `rm_model`.
 #![tactic(auto)]
 
 mod hints;
@@ -24,7 +24,6 @@ mod tests;
 mod thread_tests;
 mod threads;
 mod top;
-mod words;
 mod writing;
 
 use hints::{cluster_hint, script_hint};
@@ -32,6 +31,7 @@ use rm_disk::{Disk, FileDisk, Fuse, MemDisk};
 use rm_outside::{FileShelf, OutSink};
 use rm_progress::{Watched, is_terminal};
 use rm_types::{Items, NoMemory, Outcome};
+use rm_words::{command_line, name_at};
 use rm_workers::NoGate;
 use statuses::{Told, explain, status_of};
 use std::process::ExitCode;
@@ -41,7 +41,6 @@ use std::thread::Threads;
 use std::{env, io};
 use threads::top;
 use top::Ended;
-use words::{is_in_file, name_at};
 
 /// The size of the device, in bytes.
 const DEVICE_SIZE: u64 = 4_194_304;
@@ -69,6 +68,15 @@ struct Call {
     answered: u64,
     /// Why the device failed, empty where it didn't or where that isn't known.
     fault: String,
+}
+
+/// A call that came to this before any file was read.
+fn stopped(rt: HostRuntime, outcome: Outcome) -> Call {
+    Call {
+        outcome,
+        answered: 0,
+        fault: String::new(rt.alloc()),
+    }
 }
 
 /// What the program does by these words over a device, which is given back. Workers run in the threads of the first runtime.
@@ -118,11 +126,7 @@ fn run_in_memory<R: Threads + Wait + Sync>(
     let alloc = rt.alloc();
     match MemDisk::new(alloc, DEVICE_SIZE, Items::new(alloc)) {
         Ok(device) => run_over(threads, rt, words, watched(rt, program, device)).0,
-        Err(NoMemory) => Call {
-            outcome: Outcome::Memory,
-            answered: 0,
-            fault: String::new(alloc),
-        },
+        Err(NoMemory) => stopped(rt, Outcome::Memory),
     }
 }
 
@@ -149,10 +153,10 @@ fn run_by<R: Threads + Wait + Sync>(threads: &R, rt: HostRuntime, all: &[String]
         Some((first, rest)) => (first.as_str(), rest),
         None => (PROGRAM, all),
     };
-    let call = if is_in_file(words) {
-        run_in_file(threads, rt, path, words)
-    } else {
-        run_in_memory(threads, rt, path, words)
+    let call = match command_line(rt.alloc(), words) {
+        Ok(Some(line)) if line.is_in_file => run_in_file(threads, rt, path, words),
+        Ok(_) => run_in_memory(threads, rt, path, words),
+        Err(NoMemory) => stopped(rt, Outcome::Memory),
     };
     let (outcome, answered, fault) = (call.outcome, call.answered, call.fault.as_str());
     let cluster = name_at(words, 1);

@@ -1,44 +1,31 @@
-ghost use Rattle.std.specs.Prelude.{◌≡◌, ◌≢◌, ◌⊎◌, ◌++◌, ◌≤◌, IfOk, [], map, string_bytes, false, true, None, Some};
-ghost use Rattle.rm_disk.specs.Disk.{IsQuiet, Tells};
-ghost use Rattle.rm_formats.specs.Device.{Holds};
-ghost use Rattle.rm_model.specs.Downs.{AllGoDownAtRest};
-ghost use Rattle.rm_model.specs.Lawful.{Lawful, IsDone};
+ghost use Rattle.std.specs.Prelude.{◌≡◌, ◌⊎◌, ◌≤◌, IfOk, [], map, string_bytes, None, Some};
 ghost use Rattle.rm_formats.specs.Page.{page, store_page};
-ghost use Rattle.rm_model.specs.State.{opening_state};
 ghost use Rattle.rm_types.specs.Counts.{Rose};
 ghost use Rattle.rm_desk.specs.Scripts.{CanGoAlong};
-ghost use Rattle.rm_plain.specs.Falls.{falls_of};
-ghost use Rattle.rm_types.specs.Records.{records};
 ghost use Rattle.rm_queues.specs.Rules.{KeepsRules};
 ghost use Rattle.rm_moves.specs.Messages.{KeepsLimits};
-ghost use Rattle.rm_core.specs.Words.{new_manager};
-ghost use Rattle.rm_plain.specs.Policy.{run_after};
-ghost use Rattle.rm_plain.specs.Schedule.{MovesBy, StopsAt, left_after, steps_of};
-ghost use Rattle.rm_plain.specs.Starts.{DiskStays, IsAtEase};
-ghost use Rattle.rm_plain.specs.Stops.{IsDue};
-ghost use Rattle.rm_plain.specs.Survives.{SurvivesAll, SurvivesNow};
-ghost use Rattle.rm_store.specs.Store.{seen};
+ghost use Rattle.rm_plain.specs.Schedule.{by_letters, steps_of};
 ghost use Rattle.rm_main.specs.Complete.{HasPlace, IsAccepted, IsFollowed, NoneRose};
 ghost use Rattle.rm_main.specs.Inputs.{asked_of};
-ghost use Rattle.rm_main.specs.Laws.{MeetsLaws};
-ghost use Rattle.rm_main.specs.Runs.{AreRead, Ends, IsCausedBy, IsListed, StopsBefore, Told, Writes, page_for};
+ghost use Rattle.rm_main.specs.Made.{LeavesDevice, made_by};
+ghost use Rattle.rm_main.specs.Runs.{AreRead, Ends, IsListed, RanBy, ReadsFor, StopsBefore, Told, WritesPage, page_for};
 ghost use Rattle.rm_main.specs.Shown.{shown_in};
 ghost use Rattle.rm_soak.specs.Limits.{most_soaked};
 ghost use Rattle.rm_soak.specs.Lines.{soak_page};
 ghost use Rattle.rm_soak.specs.Scripts.{soak_of};
 ghost use Rattle.rm_soak.specs.Settings.{soak_settings};
 ghost use Rattle.rm_main.specs.Ways.{IsOfListing, IsOfRun};
-ghost use Rattle.rm_main.specs.Words.{Listing, OneThread, Soak, plain_mode_of, shows_moves};
+ghost use Rattle.rm_words.specs.Words.{IsWithinSoak, OneThread, Soak, asked, plain_mode_of, shows_moves, without_threads};
 
 use crate::inputs::{Files, Inputs, read_inputs};
 use crate::listing::list_store;
-use crate::words::{Mode, mode_of, shows_moves};
 use crate::writing::{Shown, outcome_of, write_shown, write_store};
 use rm_disk::{Disk, Fuse};
 use rm_outside::{Shelf, Sink};
 use rm_plain::run_script;
 use rm_soak::{soak_script, soak_settings};
 use rm_types::{Entry, Items, NoMemory, Op, Outcome};
+use rm_words::{CommandLine, Mode, command_line};
 use std::alloc::Global;
 
 /// How a call of the program ended, and what it left.
@@ -55,10 +42,12 @@ pub struct Ended<D: Disk> {
 
 /// Nothing was done.
 pub(crate) fn nothing<D: Disk>(alloc: Global, outcome: Outcome, disk: Fuse<D>) -> Ended<D>
+    requires { disk.armed ≡ None }
     ensures outcome { result.outcome ≡ outcome }
     ensures opening { result.opening ≡ [] }
     ensures log { result.log ≡ [] }
     ensures disk { result.disk ≡ disk }
+    ensures device { LeavesDevice D.view (made_by disk result) }
 {
     Ended {
         outcome,
@@ -73,16 +62,10 @@ fn list<K: Sink, D: Disk>(alloc: Global, sink: &mut K, disk: Fuse<D>) -> Ended<D
     requires { disk.armed ≡ None }
     ensures log { result.log ≡ [] }
     ensures of_listing { IsOfListing result.outcome }
-    ensures listed { IsListed D.view (record { opening = result.opening; log = result.log; before = disk; after = result.disk }) result.outcome }
-    ensures writes { Writes result.outcome (K.taken sink.old) (K.taken sink.new) (store_page result.opening) }
-    ensures write_fault { result.outcome ≡ Outcome.WriteFault false → Rose (K.faults sink.old) (K.faults sink.new) }
-    ensures took_nothing { result.outcome ≡ Outcome.WriteFault true → Rose (K.idle sink.old) (K.idle sink.new) }
-    ensures untouched { store_page result.opening ≡ [] → sink.new ≡ sink.old }
+    ensures listed { IsListed D.view (made_by disk result) result.outcome }
+    ensures writes { WritesPage K.taken K.faults K.idle sink.old sink.new (store_page result.opening) result.outcome }
     ensures falls { result.disk.falls ≡ disk.falls }
-    ensures quiet { IsQuiet (seen D.view disk) (seen D.view result.disk) }
-    ensures stays { DiskStays D.view disk result.disk }
-    ensures at_ease { IsAtEase result.disk }
-    ensures held { (result.opening ≡ []) ⊎ Tells (seen D.view disk) (λ bytes. Holds bytes result.opening) }
+    ensures device { LeavesDevice D.view (made_by disk result) }
 {
     let listed = list_store(alloc, disk);
     let written = write_store(alloc, sink, &listed.ops);
@@ -106,28 +89,10 @@ fn run<K: Sink, D: Disk>(
     requires queues { KeepsRules inputs.settings }
     requires limits { KeepsLimits inputs.settings }
     requires unarmed { disk.armed ≡ None }
-    ensures lawful { Lawful inputs.settings inputs.script result.opening result.log }
-    ensures laws { MeetsLaws result.opening result.log }
-    ensures done { result.outcome ≡ Outcome.Done → IsDone inputs.settings inputs.script result.opening result.log }
-    ensures moves { MovesBy (steps_of inputs.schedule.items) (new_manager alloc inputs.settings) inputs.script result.opening result.log }
-    ensures used_up { result.outcome ≡ Outcome.Done → left_after (steps_of inputs.schedule.items) result.log ≡ [] }
-    ensures downs { steps_of inputs.schedule.items ≡ [] → AllGoDownAtRest inputs.settings (opening_state result.opening) result.log }
+    ensures ran { RanBy D.view (by_letters (steps_of inputs.schedule.items)) alloc inputs.settings inputs.script (made_by disk result) result.outcome }
     ensures of_run { IsOfRun result.outcome }
-    ensures causes { IsCausedBy D.view (IsDue inputs.script result.opening result.log) (StopsAt (left_after (steps_of inputs.schedule.items) result.log) (run_after (new_manager alloc inputs.settings) inputs.script result.opening result.log)) (record { opening = result.opening; log = result.log; before = disk; after = result.disk }) result.outcome }
-    ensures writes { Writes result.outcome (K.taken sink.old) (K.taken sink.new) (shown_in shown result.log) }
-    ensures write_fault { result.outcome ≡ Outcome.WriteFault false → Rose (K.faults sink.old) (K.faults sink.new) }
-    ensures took_nothing { result.outcome ≡ Outcome.WriteFault true → Rose (K.idle sink.old) (K.idle sink.new) }
-    ensures untouched { shown_in shown result.log ≡ [] → sink.new ≡ sink.old }
-    ensures falls { result.disk.falls ≡ disk.falls ++ falls_of inputs.script result.opening result.log }
-    ensures idle { inputs.script.lives ≡ [] → (result.log ≡ []) × (result.disk ≡ disk) }
-    ensures stays { DiskStays D.view disk result.disk }
-    ensures unarmed { result.disk.armed ≡ None }
-    ensures unblown { disk.blown ≡ false → result.disk.blown ≡ false }
-    ensures opening { result.log ≢ [] → Tells (seen D.view disk) (λ bytes. Holds bytes result.opening) }
-    ensures held { (result.opening ≡ []) ⊎ Tells (seen D.view disk) (λ bytes. Holds bytes result.opening) }
-    ensures quiet { result.log ≡ [] → IsQuiet (seen D.view disk) (seen D.view result.disk) }
-    ensures images { SurvivesAll result.opening result.log (seen D.view disk) (seen D.view result.disk) }
-    ensures images_now { SurvivesNow result.opening result.log (seen D.view disk) (seen D.view result.disk) }
+    ensures writes { WritesPage K.taken K.faults K.idle sink.old sink.new (shown_in shown result.log) result.outcome }
+    ensures device { LeavesDevice D.view (made_by disk result) }
 {
     let Inputs {
         settings,
@@ -154,22 +119,12 @@ fn run_files<F: Shelf, K: Sink, D: Disk>(
     disk: Fuse<D>,
 ) -> Ended<D>
     requires { disk.armed ≡ None }
-    ensures ends { Ends D.view (F.bytes_of shelf.old) (Some (asked_of OneThread files.entry)) (record { opening = result.opening; log = result.log; before = disk; after = result.disk }) result.outcome }
+    ensures ends { Ends D.view (F.bytes_of shelf.old) (Some (asked_of OneThread files.entry)) (made_by disk result) result.outcome }
     ensures reads { AreRead F.reads (Some (asked_of OneThread files.entry)) shelf.old shelf.new }
-    ensures writes { Writes result.outcome (K.taken sink.old) (K.taken sink.new) (page result.log moves) }
+    ensures writes { WritesPage K.taken K.faults K.idle sink.old sink.new (page result.log moves) result.outcome }
     ensures read_fault { result.outcome ≡ Outcome.ReadFault → Rose (F.faults shelf.old) (F.faults shelf.new) }
-    ensures write_fault { result.outcome ≡ Outcome.WriteFault false → Rose (K.faults sink.old) (K.faults sink.new) }
-    ensures took_nothing { result.outcome ≡ Outcome.WriteFault true → Rose (K.idle sink.old) (K.idle sink.new) }
-    ensures untouched { page result.log moves ≡ [] → sink.new ≡ sink.old }
     ensures unused { StopsBefore result.outcome → result.disk ≡ disk }
-    ensures stays { DiskStays D.view disk result.disk }
-    ensures unarmed { result.disk.armed ≡ None }
-    ensures unblown { disk.blown ≡ false → result.disk.blown ≡ false }
-    ensures opening { result.log ≢ [] → Tells (seen D.view disk) (λ bytes. Holds bytes result.opening) }
-    ensures held { (result.opening ≡ []) ⊎ Tells (seen D.view disk) (λ bytes. Holds bytes result.opening) }
-    ensures quiet { result.log ≡ [] → IsQuiet (seen D.view disk) (seen D.view result.disk) }
-    ensures images { SurvivesAll result.opening result.log (seen D.view disk) (seen D.view result.disk) }
-    ensures images_now { SurvivesNow result.opening result.log (seen D.view disk) (seen D.view result.disk) }
+    ensures device { LeavesDevice D.view (made_by disk result) }
 {
     match read_inputs(alloc, shelf, files) {
         Ok(inputs) => run(alloc, inputs, Shown::Page { moves }, sink, disk),
@@ -200,25 +155,59 @@ fn soak<K: Sink, D: Disk>(alloc: Global, number: u32, sink: &mut K, disk: Fuse<D
     requires some { 1 ≤ number }
     requires few { number ≤ most_soaked }
     requires unarmed { disk.armed ≡ None }
-    ensures ends { (told : Told) → Ends D.view told (Some (Soak number)) (record { opening = result.opening; log = result.log; before = disk; after = result.disk }) result.outcome }
+    ensures ends { (told : Told) → Ends D.view told (Some (Soak number)) (made_by disk result) result.outcome }
     ensures read { result.outcome ≡ Outcome.ReadFault → ⊥ }
-    ensures writes { Writes result.outcome (K.taken sink.old) (K.taken sink.new) (soak_page number result.log) }
-    ensures write_fault { result.outcome ≡ Outcome.WriteFault false → Rose (K.faults sink.old) (K.faults sink.new) }
-    ensures took_nothing { result.outcome ≡ Outcome.WriteFault true → Rose (K.idle sink.old) (K.idle sink.new) }
-    ensures untouched { soak_page number result.log ≡ [] → sink.new ≡ sink.old }
+    ensures writes { WritesPage K.taken K.faults K.idle sink.old sink.new (soak_page number result.log) result.outcome }
     ensures unused { StopsBefore result.outcome → result.disk ≡ disk }
-    ensures stays { DiskStays D.view disk result.disk }
-    ensures unarmed { result.disk.armed ≡ None }
-    ensures unblown { disk.blown ≡ false → result.disk.blown ≡ false }
-    ensures opening { result.log ≢ [] → Tells (seen D.view disk) (λ bytes. Holds bytes result.opening) }
-    ensures held { (result.opening ≡ []) ⊎ Tells (seen D.view disk) (λ bytes. Holds bytes result.opening) }
-    ensures quiet { result.log ≡ [] → IsQuiet (seen D.view disk) (seen D.view result.disk) }
-    ensures images { SurvivesAll result.opening result.log (seen D.view disk) (seen D.view result.disk) }
-    ensures images_now { SurvivesNow result.opening result.log (seen D.view disk) (seen D.view result.disk) }
+    ensures device { LeavesDevice D.view (made_by disk result) }
 {
     match soak_inputs(alloc, number) {
         Ok(inputs) => run(alloc, inputs, Shown::Line { number }, sink, disk),
         Err(NoMemory) => nothing(alloc, Outcome::Memory, disk),
+    }
+}
+
+/// Does what a command line asks for, on one thread: a run by workers is none of it.
+fn run_line<F: Shelf, K: Sink, D: Disk>(
+    alloc: Global,
+    line: CommandLine<'_>,
+    shelf: &mut F,
+    sink: &mut K,
+    disk: Fuse<D>,
+) -> Ended<D>
+    requires within { IsWithinSoak line.mode }
+    requires unarmed { disk.armed ≡ None }
+    ensures ends { Ends D.view (F.bytes_of shelf.old) (without_threads (Some (asked line.entry.mode))) (made_by disk result) result.outcome }
+    ensures reads { AreRead F.reads (without_threads (Some (asked line.entry.mode))) shelf.old shelf.new }
+    ensures writes { WritesPage K.taken K.faults K.idle sink.old sink.new (page_for line.entry.shows_moves (without_threads (Some (asked line.entry.mode))) result.opening result.log) result.outcome }
+    ensures read_fault { result.outcome ≡ Outcome.ReadFault → Rose (F.faults shelf.old) (F.faults shelf.new) }
+    ensures unused { StopsBefore result.outcome → result.disk ≡ disk }
+    ensures device { LeavesDevice D.view (made_by disk result) }
+{
+    match line.mode {
+        Mode::Plain { cluster, script } => {
+            let files = Files {
+                cluster,
+                script,
+                schedule: None,
+            };
+            run_files(alloc, files, line.shows_moves, shelf, sink, disk)
+        }
+        Mode::Replay {
+            cluster,
+            script,
+            schedule,
+        } => {
+            let files = Files {
+                cluster,
+                script,
+                schedule: Some(schedule),
+            };
+            run_files(alloc, files, line.shows_moves, shelf, sink, disk)
+        }
+        Mode::Soak { number } => soak(alloc, number, sink, disk),
+        Mode::Store => list(alloc, sink, disk),
+        Mode::Threads { .. } => nothing(alloc, Outcome::Usage, disk),
     }
 }
 
@@ -231,7 +220,7 @@ fn soak<K: Sink, D: Disk>(alloc: Global, number: u32, sink: &mut K, disk: Fuse<D
 ///   two files, over what the device held; each move was of the lane that the schedule's letter or, after the last one,
 ///   the plain policy says; by `plain` each life that went down did so at rest, unless it was blown; each let the device
 ///   fall as its crash says; and the log meets the laws of `rm_laws`. The log is empty where nothing was run. `Done`: the script is at its end, nothing awaits and nothing is owed. `Usage`: exactly
-///   where the words are of another form, and `threads CLUSTER SCRIPT` is. `ClusterRefused` and `ScriptRefused`: exactly where the file, as the
+///   where the words are of another form, and `threads CLUSTER SCRIPT` is; to read them takes memory. `ClusterRefused` and `ScriptRefused`: exactly where the file, as the
 ///   shelf tells it, breaks a rule or is no script, with the first rule's place or the first line; the cluster
 ///   file is read first. `DiskFault`: the device inside the fuse counted a fault, while a life was due or an
 ///   operation was with the store. `StoreDamaged`: the first life was due, and the device holds no store, at
@@ -242,21 +231,17 @@ fn soak<K: Sink, D: Disk>(alloc: Global, number: u32, sink: &mut K, disk: Fuse<D
 /// - `complete`: where the files are accepted, the device holds a store with place for the run, each letter of the
 ///   schedule is known and ready, and no count rises, the outcome is `Done` or `Memory`.
 /// - `reads`: the cluster file was read, and then the script's file, and then the schedule's, or fewer of them in this
-///   order; else no file.
-///   `read_fault`: a `ReadFault` comes only where the shelf's count of faults rose; `write_fault` and
-///   `took_nothing`: a `WriteFault` only where one of the sink's counts did, that of faults, or that of idle
-///   writes.
+///   order; else no file. Where memory ran out before the words were read, none was.
 /// - `writes`: the sink took the page of the log, or of `store` the page of what is kept; after a
-///   `WriteFault` or `Memory` a beginning of it; where nothing was run, nothing. `untouched`: where that
-///   page is empty, the sink is as it was.
-/// - `unused`: where the words or a file stop the call, the device is as it was. `quiet`: where nothing was
-///   logged, and so by `store`, no byte of it changed. `stays` and `unarmed`: it fell only while its fuse was
-///   armed, it has its size, and the fuse is given back unarmed.
-/// - `opening`: a device on which something was logged held the opening list. `held`: the opening list is empty, or
-///   the device held it.
-/// - `images` and `images_now`, for every outcome: at each moment of the call a crash left what could be left
-///   of the handed device, or what is kept at some moment of the log, or this and the operation that awaited;
-///   and where something was logged it leaves now what is kept, or this and the operation that awaits.
+///   `WriteFault` or `Memory` a beginning of it; where nothing was run, nothing. Where that page is empty, the sink is as
+///   it was. A `WriteFault` comes only where one of the sink's counts rose, that of faults, or that of idle writes; and by
+///   `read_fault` a `ReadFault` only where the shelf's count of faults did.
+/// - `unused`: where the words or a file stop the call, the device is as it was. `device`, for every outcome
+///   (`LeavesDevice`): it fell only while its fuse was armed, it has its size, and the fuse is given back unarmed; a device on
+///   which something was logged held the opening list; where nothing was logged, and so by `store`, no byte of it changed; at
+///   each moment of the call a crash left what could be left of the handed device, or what is kept at some moment of the log,
+///   or this and the operation that awaited; and where something was logged it leaves now what is kept, or this and the
+///   operation that awaits.
 pub fn top_plain<F: Shelf, K: Sink, D: Disk>(
     alloc: Global,
     words: &[String],
@@ -265,54 +250,22 @@ pub fn top_plain<F: Shelf, K: Sink, D: Disk>(
     disk: Fuse<D>,
 ) -> Ended<D>
     requires { disk.armed ≡ None }
-    ensures ends { Ends D.view (F.bytes_of shelf.old) (plain_mode_of (map string_bytes words.now)) (record { opening = result.opening; log = result.log; before = disk; after = result.disk }) result.outcome }
-    ensures complete { IsAccepted (F.bytes_of shelf.old) (plain_mode_of (map string_bytes words.now)) → HasPlace D.view (record { opening = result.opening; log = result.log; before = disk; after = result.disk })
-        → IsFollowed (F.bytes_of shelf.old) (plain_mode_of (map string_bytes words.now)) (record { opening = result.opening; log = result.log; before = disk; after = result.disk })
+    ensures ends { Ends D.view (F.bytes_of shelf.old) (plain_mode_of (map string_bytes words.now)) (made_by disk result) result.outcome }
+    ensures complete { IsAccepted (F.bytes_of shelf.old) (plain_mode_of (map string_bytes words.now)) → HasPlace D.view (made_by disk result)
+        → IsFollowed (F.bytes_of shelf.old) (plain_mode_of (map string_bytes words.now)) (made_by disk result)
         → NoneRose (F.faults shelf.old) (F.faults shelf.new) (K.faults sink.old) (K.faults sink.new) (K.idle sink.old) (K.idle sink.new)
         → (result.outcome ≡ Outcome.Done) ⊎ (result.outcome ≡ Outcome.Memory) }
-    ensures reads { AreRead F.reads (plain_mode_of (map string_bytes words.now)) shelf.old shelf.new }
-    ensures writes { Writes result.outcome (K.taken sink.old) (K.taken sink.new) (page_for (shows_moves (map string_bytes words.now)) (plain_mode_of (map string_bytes words.now)) result.opening result.log) }
+    ensures reads { ReadsFor F.reads (plain_mode_of (map string_bytes words.now)) result.outcome shelf.old shelf.new }
+    ensures writes { WritesPage K.taken K.faults K.idle sink.old sink.new (page_for (shows_moves (map string_bytes words.now)) (plain_mode_of (map string_bytes words.now)) result.opening result.log) result.outcome }
     ensures read_fault { result.outcome ≡ Outcome.ReadFault → Rose (F.faults shelf.old) (F.faults shelf.new) }
-    ensures write_fault { result.outcome ≡ Outcome.WriteFault false → Rose (K.faults sink.old) (K.faults sink.new) }
-    ensures took_nothing { result.outcome ≡ Outcome.WriteFault true → Rose (K.idle sink.old) (K.idle sink.new) }
-    ensures untouched { page_for (shows_moves (map string_bytes words.now)) (plain_mode_of (map string_bytes words.now)) result.opening result.log ≡ [] → sink.new ≡ sink.old }
 
     // What becomes of the device.
     ensures unused { StopsBefore result.outcome → result.disk ≡ disk }
-    ensures stays { DiskStays D.view disk result.disk }
-    ensures unarmed { result.disk.armed ≡ None }
-    ensures unblown { disk.blown ≡ false → result.disk.blown ≡ false }
-    ensures opening { result.log ≢ [] → Tells (seen D.view disk) (λ bytes. Holds bytes result.opening) }
-    ensures held { (result.opening ≡ []) ⊎ Tells (seen D.view disk) (λ bytes. Holds bytes result.opening) }
-    ensures quiet { result.log ≡ [] → IsQuiet (seen D.view disk) (seen D.view result.disk) }
-    ensures images { SurvivesAll result.opening result.log (seen D.view disk) (seen D.view result.disk) }
-    ensures images_now { SurvivesNow result.opening result.log (seen D.view disk) (seen D.view result.disk) }
+    ensures device { LeavesDevice D.view (made_by disk result) }
 {
-    match mode_of(words) {
-        Some(Mode::Plain { cluster, script }) => {
-            let files = Files {
-                cluster,
-                script,
-                schedule: None,
-            };
-            run_files(alloc, files, shows_moves(words), shelf, sink, disk)
-        }
-        Some(
-            Mode::Replay {
-                cluster,
-                script,
-                schedule,
-            },
-        ) => {
-            let files = Files {
-                cluster,
-                script,
-                schedule: Some(schedule),
-            };
-            run_files(alloc, files, shows_moves(words), shelf, sink, disk)
-        }
-        Some(Mode::Soak { number }) => soak(alloc, number, sink, disk),
-        Some(Mode::Store) => list(alloc, sink, disk),
-        Some(Mode::Threads { .. }) | None => nothing(alloc, Outcome::Usage, disk),
+    match command_line(alloc, words) {
+        Ok(Some(line)) => run_line(alloc, line, shelf, sink, disk),
+        Ok(None) => nothing(alloc, Outcome::Usage, disk),
+        Err(NoMemory) => nothing(alloc, Outcome::Memory, disk),
     }
 }

@@ -1,6 +1,6 @@
 use Rattle.std.proofs.Common.{Some}
 use Rattle.rm_main.specs.Inputs.{asked_of}
-use Rattle.rm_main.specs.Words.{Workers}
+use Rattle.rm_words.specs.Words.{Workers}
 use Rattle.rm_main.proofs.Outcomes.{run_ends}
 use Rattle.rm_main.proofs.threads.run_files_by_workers.Goals as goal
 
@@ -15,14 +15,6 @@ returns-in-Ok-clause-ends g c =
       script = c.in-Ok.inputs.script;
       schedule = c.in-Ok.inputs.schedule.items;
       inputs = (c.in-Ok.ensures.settings, c.in-Ok.ensures.script, c.in-Ok.ensures.schedule);
-      lawful = run.lawful;
-      laws = run.laws;
       alloc = c.args.alloc;
-      moves = run.ready;
-      used_up = λ done. tt;
-      downs = λ rests. run.downs;
-      fallen = run.falls;
-      done = run.done;
-      caused = run.causes;
-      idle = run.idle;
+      ran = run.ran;
     })

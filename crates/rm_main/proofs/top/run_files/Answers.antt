@@ -1,6 +1,6 @@
 use Rattle.std.proofs.Common.{Some}
 use Rattle.rm_main.specs.Inputs.{asked_of}
-use Rattle.rm_main.specs.Words.{OneThread}
+use Rattle.rm_words.specs.Words.{OneThread}
 use Rattle.rm_main.proofs.Outcomes.{run_ends}
 use Rattle.rm_main.proofs.top.run_files.Goals as goal
 
@@ -15,14 +15,6 @@ returns-in-Ok-clause-ends g c =
       script = c.in-Ok.inputs.script;
       schedule = c.in-Ok.inputs.schedule.items;
       inputs = (c.in-Ok.ensures.settings, c.in-Ok.ensures.script, c.in-Ok.ensures.schedule);
-      lawful = run.lawful;
-      laws = run.laws;
       alloc = c.args.alloc;
-      moves = run.moves;
-      used_up = run.used_up;
-      downs = run.downs;
-      fallen = run.falls;
-      done = run.done;
-      caused = run.causes;
-      idle = run.idle;
+      ran = run.ran;
     })

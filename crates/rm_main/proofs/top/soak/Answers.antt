@@ -1,6 +1,5 @@
 use Rattle.std.proofs.Common.{Some}
-use Rattle.rm_main.specs.Runs.{Made}
-use Rattle.rm_main.specs.Words.{Soak}
+use Rattle.rm_words.specs.Words.{Soak}
 use Rattle.rm_main.proofs.Outcomes.{run_ends}
 use Rattle.rm_main.proofs.top.soak.Goals as goal
 
@@ -14,14 +13,6 @@ returns-in-Ok-clause-ends g c = λ told.
       script = c.in-Ok.inputs.script;
       schedule = c.in-Ok.inputs.schedule.items;
       inputs = (c.in-Ok.ensures.settings, c.in-Ok.ensures.script, c.in-Ok.ensures.schedule);
-      lawful = run.lawful;
-      laws = run.laws;
       alloc = c.args.alloc;
-      moves = run.moves;
-      used_up = run.used_up;
-      downs = run.downs;
-      fallen = run.falls;
-      done = run.done;
-      caused = run.causes;
-      idle = run.idle;
+      ran = run.ran;
     })

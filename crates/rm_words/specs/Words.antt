@@ -5,8 +5,8 @@ use Rattle.std.specs.Str.{bytes_eq}
 use Rattle.rm_types.specs.Ranges.{IsWithin}
 use Rattle.rm_script.specs.Numbers.{number_in}
 use Rattle.rm_soak.specs.Limits.{most_soaked}
-use Rattle.rm_main.specs.declared.words.Mode.{Mode}
-use Rattle.rm_main.specs.declared.words.Mode.TheVariants as modes
+use Rattle.rm_words.specs.declared.modes.Mode.{Mode}
+use Rattle.rm_words.specs.declared.modes.Mode.TheVariants as modes
 
 -- who moves the lanes of a run: one thread, or seven workers in threads of their own
 pub data Mover : Type 0 where
@@ -61,6 +61,10 @@ has_flags words = (count_by is_unknown words == 0) && (stands_once (codes "--fil
 -- whether the page of a run is to show its moves
 abbrev pub shows_moves : List (List ℕ) → Bool
 shows_moves words = not (times (codes "--moves") words == 0)
+
+-- whether the device is to be one in a file
+abbrev pub is_in_file : List (List ℕ) → Bool
+is_in_file words = not (times (codes "--file") words == 0)
 
 -- what names ask for: `plain` and two others a run, `threads` and two others one by workers, `replay` and three others one by a schedule, `soak` and a
 -- number, from 1 to the most and with no zero before it, a soak, and `store` alone a listing; these two have no moves

@@ -1,0 +1,39 @@
+-- What a call of the program made of its device, whatever its outcome.
+use Rattle.std.specs.Prelude.{◌≡◌, ◌≢◌, ◌⊎◌, List, [], None, false}
+use Rattle.rm_types.specs.declared.entries.Entry.{Entry}
+use Rattle.rm_types.specs.declared.operations.Op.{Op}
+use Rattle.rm_disk.specs.Disk.{DiskView, IsQuiet, Tells}
+use Rattle.rm_disk.specs.Fuse.{Fused}
+use Rattle.rm_formats.specs.Device.{Holds}
+use Rattle.rm_plain.specs.Starts.{DiskStays}
+use Rattle.rm_plain.specs.Survives.{SurvivesAll, SurvivesNow}
+use Rattle.rm_store.specs.Store.{seen}
+use Rattle.rm_main.specs.declared.top.Ended.{Ended}
+
+-- what a call made: what its disk held when it was opened, its log, and the disk before it and after it
+pub record Made (D : Type 0) : Type 0 where
+  pub opening : List Op
+  pub log : List Entry
+  pub before : Fused D
+  pub after : Fused D
+
+-- what a call made that ended so, by the disk before it
+abbrev pub made_by : {D : Type 0} → Fused D → Ended D → Made D
+made_by before ended = record { opening = ended.opening; log = ended.log; before = before; after = ended.disk }
+
+-- what becomes of the device of a call
+pub record LeavesDevice {D : Type 0} (view : D → DiskView) (made : Made D) : Type 0 where
+  -- it fell only while its fuse was armed, and has its size
+  pub stays : DiskStays view made.before made.after
+  -- the fuse is given back unarmed, and no more blown than before
+  pub unarmed : made.after.armed ≡ None
+  pub unblown : made.before.blown ≡ false → made.after.blown ≡ false
+  -- a device on which something was logged held the opening list; and this is empty, or the device held it
+  pub opening : made.log ≢ [] → Tells (seen view made.before) (λ bytes. Holds bytes made.opening)
+  pub held : (made.opening ≡ []) ⊎ Tells (seen view made.before) (λ bytes. Holds bytes made.opening)
+  -- where nothing was logged, no byte of it changed
+  pub quiet : made.log ≡ [] → IsQuiet (seen view made.before) (seen view made.after)
+  -- at each moment of the call a crash left what could be left of the handed device, or what is kept at some moment of the log,
+  -- or this and the operation that awaited; and where something was logged, it leaves now what is kept, or this and the operation that awaits
+  pub images : SurvivesAll made.opening made.log (seen view made.before) (seen view made.after)
+  pub images_now : SurvivesNow made.opening made.log (seen view made.before) (seen view made.after)

@@ -1,0 +1,4 @@
+pub mod Rows
+pub mod Uses
+pub mod Walks
+pub mod Parses

@@ -1,0 +1,39 @@
+-- What `clap` reads the words of the program as. This project's own.
+use Rattle.std.specs.Prelude.{◌≡◌, List, [], ◌∷◌, Bool, true, false, Option, None, Some, codes, option_map}
+use Rattle.clap.specs.Words.{App, Rule, Text, found_of, matched_of, new_rule, one_text, raw_values, with_rule}
+use Rattle.clap.specs.Simple.{new_shape}
+use Rattle.clap.specs.declared.builder.action.ArgAction.TheVariants.{Append, SetTrue}
+use Rattle.clap.specs.declared.parser.matches.ArgMatches.{ArgMatches}
+use Rattle.rm_words.specs.Words.{is_in_file, names, shows_moves}
+
+-- a flag, which takes no value
+abbrev pub flag : Text → Rule
+flag name = record (new_rule name) { long = Some name; action = Some SetTrue }
+
+-- the names, each of them a value of its own
+abbrev pub named : Rule
+named = record (new_rule (codes "names")) { action = Some Append }
+
+-- a command whose words are its arguments alone, and which has no flag for help
+abbrev pub bare : App
+bare = record { top = record (new_shape (codes "rm_main")) { no_binary_name = true; disable_help_flag = true }; subs = [] }
+
+-- the command that the words are read by: the two flags, and any number of names
+abbrev pub program : App
+program = with_rule (with_rule (with_rule bare (flag (codes "file"))) (flag (codes "moves"))) named
+
+-- the values that there are, as matches tell them: none where the list is empty
+abbrev pub listed : List Text → Option (List Text)
+listed [] = None
+listed (value ∷ values) = Some (value ∷ values)
+
+-- a flag, as matches tell it
+abbrev pub told : Bool → Text
+told true = codes "true"
+told false = codes "false"
+
+-- the matches hold the names among the words in their order, and whether each flag stands among them
+pub record Reads (matches : ArgMatches) (words : List Text) : Type 0 where
+  pub named : option_map raw_values (matched_of (found_of matches) (codes "names")) ≡ listed (names words)
+  pub moves : one_text (found_of matches) (codes "moves") ≡ Some (told (shows_moves words))
+  pub file : one_text (found_of matches) (codes "file") ≡ Some (told (is_in_file words))

@@ -1,0 +1,21 @@
+//! The words of the program: what they ask for, and whether they have the flags `--file` and `--moves`.
+//!
+//! It promises that `command_line` answers exactly what `mode_of` of `specs/Words.antt` says of the words, for a soak with
+//! a number within its range, and each flag as it stands among them. Want of memory may come on any words but those with a
+//! flag that is unknown or repeated.
+//!
+//! It stands on `clap`, whose contracts give a command's matches as a function of the words. `clap` reads them as one
+//! command that has no flag for help or a version; words with a flag that is unknown or repeated never come to it. The
+//! number of a soak is read by `rm_script`, up to the greatest that `rm_soak` names; want of memory is that of `rm_types`.
+#![tactic(auto)]
+
+mod command;
+mod flags;
+mod modes;
+mod reading;
+#[cfg(test)]
+mod tests;
+
+pub use command::{CommandLine, command_line};
+pub use flags::name_at;
+pub use modes::Mode;
