@@ -1,4 +1,4 @@
-ghost use Rattle.std.specs.Prelude.{◌≡◌, ◌⊎◌, map, string_bytes, IfNone, IfSome, None, Some};
+ghost use Rattle.std.specs.Prelude.{◌≡◌, ◌⊎◌, map, string_bytes, IfNone, IfSome, None, Some, false};
 ghost use Rattle.rm_formats.specs.Page.{page};
 ghost use Rattle.rm_types.specs.Counts.{Rose};
 ghost use Rattle.rm_desk.specs.Scripts.{CanGoAlong};
@@ -10,7 +10,7 @@ ghost use Rattle.rm_main.specs.Inputs.{asked_of};
 ghost use Rattle.rm_main.specs.Made.{LeavesDevice, made_by};
 ghost use Rattle.rm_main.specs.Runs.{AreRead, Ends, RanBy, ReadsFor, StopsBefore, WritesPage, page_for};
 ghost use Rattle.rm_main.specs.Ways.{IsOfRun};
-ghost use Rattle.rm_words.specs.Words.{Run, Workers as ByWorkers, asked, mode_of, shows_moves, without_threads};
+ghost use Rattle.rm_words.specs.Words.{Run, Workers as ByWorkers, asked, has_flags, mode_of, shows_moves, without_threads};
 
 use crate::inputs::{Files, Inputs, read_inputs};
 use crate::top::{Ended, nothing, top_plain};
@@ -122,6 +122,7 @@ pub fn top<R: Threads + Wait + Sync, F: Shelf, K: Sink, D: Disk + Drop + Send, G
         → IsFollowed (F.bytes_of shelf.old) (mode_of (map string_bytes words.now)) (made_by disk result)
         → NoneRose (F.faults shelf.old) (F.faults shelf.new) (K.faults sink.old) (K.faults sink.new) (K.idle sink.old) (K.idle sink.new)
         → (result.outcome ≡ Outcome.Done) ⊎ (result.outcome ≡ Outcome.Memory) }
+    ensures flags { has_flags (map string_bytes words.now) ≡ false → result.outcome ≡ Outcome.Usage }
     ensures reads { ReadsFor F.reads (mode_of (map string_bytes words.now)) result.outcome shelf.old shelf.new }
     ensures writes { WritesPage K.taken K.faults K.idle sink.old sink.new (page_for (shows_moves (map string_bytes words.now)) (mode_of (map string_bytes words.now)) result.opening result.log) result.outcome }
     ensures read_fault { result.outcome ≡ Outcome.ReadFault → Rose (F.faults shelf.old) (F.faults shelf.new) }

@@ -1,4 +1,4 @@
-ghost use Rattle.std.specs.Prelude.{◌≡◌, ◌⊎◌, ◌≤◌, IfOk, [], map, string_bytes, None, Some};
+ghost use Rattle.std.specs.Prelude.{◌≡◌, ◌⊎◌, ◌≤◌, IfOk, [], map, string_bytes, None, Some, false};
 ghost use Rattle.rm_formats.specs.Page.{page, store_page};
 ghost use Rattle.rm_types.specs.Counts.{Rose};
 ghost use Rattle.rm_desk.specs.Scripts.{CanGoAlong};
@@ -15,7 +15,7 @@ ghost use Rattle.rm_soak.specs.Lines.{soak_page};
 ghost use Rattle.rm_soak.specs.Scripts.{soak_of};
 ghost use Rattle.rm_soak.specs.Settings.{soak_settings};
 ghost use Rattle.rm_main.specs.Ways.{IsOfListing, IsOfRun};
-ghost use Rattle.rm_words.specs.Words.{IsWithinSoak, OneThread, Soak, asked, plain_mode_of, shows_moves, without_threads};
+ghost use Rattle.rm_words.specs.Words.{IsWithinSoak, OneThread, Soak, asked, has_flags, plain_mode_of, shows_moves, without_threads};
 
 use crate::inputs::{Files, Inputs, read_inputs};
 use crate::listing::list_store;
@@ -228,6 +228,7 @@ fn run_line<F: Shelf, K: Sink, D: Disk>(
 ///   than is left behind what is kept. `EpochsSpent`: a life was due, and no epoch or stamp is left. `Memory`
 ///   is free. `ScheduleRefused`: exactly where a letter of the schedule is reached that is unknown or whose lane isn't
 ///   ready, with its byte. Of a script without lives no call of the device is made.
+/// - `flags`: to words with a flag that is unknown or repeated the answer is `Usage`, whatever memory there is.
 /// - `complete`: where the files are accepted, the device holds a store with place for the run, each letter of the
 ///   schedule is known and ready, and no count rises, the outcome is `Done` or `Memory`.
 /// - `reads`: the cluster file was read, and then the script's file, and then the schedule's, or fewer of them in this
@@ -255,6 +256,7 @@ pub fn top_plain<F: Shelf, K: Sink, D: Disk>(
         → IsFollowed (F.bytes_of shelf.old) (plain_mode_of (map string_bytes words.now)) (made_by disk result)
         → NoneRose (F.faults shelf.old) (F.faults shelf.new) (K.faults sink.old) (K.faults sink.new) (K.idle sink.old) (K.idle sink.new)
         → (result.outcome ≡ Outcome.Done) ⊎ (result.outcome ≡ Outcome.Memory) }
+    ensures flags { has_flags (map string_bytes words.now) ≡ false → result.outcome ≡ Outcome.Usage }
     ensures reads { ReadsFor F.reads (plain_mode_of (map string_bytes words.now)) result.outcome shelf.old shelf.new }
     ensures writes { WritesPage K.taken K.faults K.idle sink.old sink.new (page_for (shows_moves (map string_bytes words.now)) (plain_mode_of (map string_bytes words.now)) result.opening result.log) result.outcome }
     ensures read_fault { result.outcome ≡ Outcome.ReadFault → Rose (F.faults shelf.old) (F.faults shelf.new) }
