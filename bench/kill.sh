@@ -8,17 +8,17 @@
 # to the last number that was told, or to the one after it. Every twentieth process finds no file, and so may be killed while
 # it makes one. The last line counts what was lost; the status is 0 where that is nothing.
 #
-# It builds crates/rm_durable by `rt run`, and needs nothing else. A kill ends a process and not the system: what a loss of
+# It builds crates/rm_bench by `rt run`, and needs nothing else. A kill ends a process and not the system: what a loss of
 # power leaves is not tried here.
 set -euo pipefail
 
 here=$(cd "$(dirname "$0")/.." && pwd)
 kills=${1:-1000}
 folder=$(mktemp -d "${2:-$PWD}/kill.XXXXXX")
-program=$here/crates/rm_durable/out/rm_durable
+program=$here/crates/rm_bench/out/rm_bench
 trap 'rm -rf "$folder"' EXIT
 
-(cd "$here/crates/rm_durable" && rt run > /dev/null 2>&1) || { echo "rm_durable was not built" >&2; exit 1; }
+(cd "$here/crates/rm_bench" && rt run > /dev/null 2>&1) || { echo "rm_bench was not built" >&2; exit 1; }
 
 file=$folder/store
 told=0      # the last number that was told, of this file

@@ -9,7 +9,7 @@
 //                                    `keep` where a copy of each is kept in memory, as a restart needs them
 //   peers evict PATH..               makes the system forget what it holds of these files in memory
 //
-// An operation is a key of 8 bytes, its number, and a value of as many bytes as the frame has that rm_durable appends.
+// An operation is a key of 8 bytes, its number, and a value of as many bytes as the frame has that rm_bench appends.
 // The two systems without a library are the calls of an append alone, over a file that was filled before: `raw` writes,
 // syncs, writes one byte and syncs; `raw-one-sync` writes and syncs once.
 #include <fcntl.h>
@@ -53,7 +53,7 @@ void Check(bool holds, const char* what) {
 constexpr off_t kFileSize = 4194304;
 constexpr size_t kPiece = 16384;
 
-// The operations of a job's life, with the sizes of their frames in rm_durable.
+// The operations of a job's life, with the sizes of their frames in rm_bench.
 struct Step {
   const char* word;
   size_t size;

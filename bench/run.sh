@@ -11,7 +11,7 @@
 #    files in memory, and cold, with the system told to forget them. What the other stores give is kept in memory, as this
 #    store keeps it, or only looked at.
 #
-# It builds crates/rm_durable by `rt run`, and bench/peers.cc by g++. It installs nothing: on Debian the other stores are
+# It builds crates/rm_bench by `rt run`, and bench/peers.cc by g++. It installs nothing: on Debian the other stores are
 #
 #   apt-get install g++ libleveldb-dev librocksdb-dev libsqlite3-dev liblmdb-dev
 #
@@ -24,7 +24,7 @@ jobs=${JOBS:-125}
 here=$(cd "$(dirname "$0")/.." && pwd)
 folder=$(mktemp -d "${1:-$PWD}/run.XXXXXX")
 trap 'rm -rf "$folder"' EXIT
-ours=$here/crates/rm_durable/out/rm_durable
+ours=$here/crates/rm_bench/out/rm_bench
 peers=$folder/peers
 
 # Whether a header is there.
@@ -35,7 +35,7 @@ build() {
   for tool in rt g++ shuf findmnt; do
     command -v "$tool" > /dev/null || { echo "not there: $tool" >&2; exit 1; }
   done
-  (cd "$here/crates/rm_durable" && rt run > /dev/null 2>&1) || { echo "rm_durable was not built" >&2; exit 1; }
+  (cd "$here/crates/rm_bench" && rt run > /dev/null 2>&1) || { echo "rm_bench was not built" >&2; exit 1; }
   local flags=() libraries=()
   if has leveldb/db.h; then flags+=(-DWITH_LEVELDB); libraries+=(-lleveldb); else echo "not there: LevelDB"; fi
   if has rocksdb/db.h; then flags+=(-DWITH_ROCKSDB); libraries+=(-lrocksdb); else echo "not there: RocksDB"; fi

@@ -8,7 +8,7 @@ use Rattle.crossbeam_queue.proofs.Lists.{at_set, at_snoc, at_longer, set_here, s
 use Rattle.rm_types.specs.declared.entries.Entry.{Entry}
 use Rattle.rm_baton.specs.declared.carries.Known.{Known}
 use Rattle.rm_baton.specs.Entries.{AddsCommon}
-use Rattle.rm_baton.specs.Views.{AllBegin, HasAllParts, IsIdle, MayPut, Meets, Stands, all_parts, ended, gave, helper, joined, opening, started, took, with_half}
+use Rattle.rm_baton.specs.Views.{AllBegin, HasAllParts, IsIdle, MayPut, Meets, IsOfRun, all_parts, ended, gave, helper, joined, opening, started, took, with_half}
 use Rattle.rm_baton.specs.Rule.{Carried, EachPass, Fits, Going, Lies, SharesParts, parts_of}
 use Rattle.rm_baton.proofs.Growing.{AllBegin-append, AllBegin-more, adds_more, adds_none, prefix_same}
 use Rattle.rm_baton.proofs.Parts.{part_of, parts_of-append, parts_of-set, parts_of_two}
@@ -85,7 +85,7 @@ module _ {Run : Type 0} where
       }
 
   -- a split halves the parts of one pass; an odd part is lost
-  shares_split : (views : List (Known Run)) (pass : ℕ) (v : Known Run) → get_elem? views pass ≡ some v → Stands v → SharesParts views → SharesParts (set views pass (with_half v) ++ helper v ∷ [])
+  shares_split : (views : List (Known Run)) (pass : ℕ) (v : Known Run) → get_elem? views pass ≡ some v → IsOfRun v → SharesParts views → SharesParts (set views pass (with_half v) ++ helper v ∷ [])
   shares_split views pass v at stands shares =
       let total = parts_of-set views pass v (with_half v) at in
       let more = parts_of-append (set views pass (with_half v)) (helper v) in
@@ -105,7 +105,7 @@ module _ {Run : Type 0} where
       }
 
   -- a join gives one pass the parts of both
-  shares_join : (views : List (Known Run)) (pass other : ℕ) (v w : Known Run) → other ≢ pass → get_elem? views pass ≡ some v → get_elem? views other ≡ some w → Stands v → SharesParts views
+  shares_join : (views : List (Known Run)) (pass other : ℕ) (v w : Known Run) → other ≢ pass → get_elem? views pass ≡ some v → get_elem? views other ≡ some w → IsOfRun v → SharesParts views
       → SharesParts (set (set views pass (joined v w)) other ended)
   shares_join views pass other v w apart at there stands shares =
       let total = parts_of-set views pass v (joined v w) at in
@@ -138,7 +138,7 @@ module _ {Run T : Type 0} (run_of : T → Run) (log_of : T → List Entry) where
   G = Going run_of log_of
 
   -- a pass that stands is of a run that goes on
-  going : (items : List T) (views : List (Known Run)) (pass : ℕ) (v : Known Run) → Stands v → get_elem? views pass ≡ some v → C items views → G items views
+  going : (items : List T) (views : List (Known Run)) (pass : ℕ) (v : Known Run) → IsOfRun v → get_elem? views pass ≡ some v → C items views → G items views
   going items views pass v stands at h = ⊎_elim
       (λ (start : (items ≡ []) × (views ≡ opening ∷ [])).
       let e = at_first opening v pass (subst (λ (l : List (Known Run)). get_elem? l pass ≡ some v) start.1 at) in
@@ -232,7 +232,7 @@ module _ {Run T : Type 0} (run_of : T → Run) (log_of : T → List Entry) where
     out_is_empty pass v may.has,
   )
 
-  takes_going : (pass : ℕ) (v : Known Run) → Stands v → (x : T) (views : List (Known Run)) → get_elem? views pass ≡ some v → (g : G (x ∷ []) views) → G [] (set views pass (took log_of v x))
+  takes_going : (pass : ℕ) (v : Known Run) → IsOfRun v → (x : T) (views : List (Known Run)) → get_elem? views pass ≡ some v → (g : G (x ∷ []) views) → G [] (set views pass (took log_of v x))
   takes_going pass v stands x views at g =
       let w : Known Run = took log_of v x in
       let mine = g.fits pass v at in
@@ -259,7 +259,7 @@ module _ {Run T : Type 0} (run_of : T → Run) (log_of : T → List Entry) where
         shares = shares_set views pass v w at refl refl g.shares;
       }
 
-  meets : (pass : ℕ) (v : Known Run) (x : T) (views : List (Known Run)) → Stands v → (g : G (x ∷ []) views) → get_elem? views pass ≡ some v → Meets run_of log_of v x
+  meets : (pass : ℕ) (v : Known Run) (x : T) (views : List (Known Run)) → IsOfRun v → (g : G (x ∷ []) views) → get_elem? views pass ≡ some v → Meets run_of log_of v x
   meets pass v x views stands g at =
       let mine = g.fits pass v at in
       let own = run_in v.run stands in
@@ -269,7 +269,7 @@ module _ {Run T : Type 0} (run_of : T → Run) (log_of : T → List Entry) where
         common = λ store. subst (λ (l : List Entry). AddsCommon v.latest l) (sym g.lies.1) (mine.kept store).1;
       }
 
-  pops : (pass : ℕ) (v : Known Run) → Stands v → Pops C pass v (λ x w. (w ≡ took log_of v x) × Meets run_of log_of v x)
+  pops : (pass : ℕ) (v : Known Run) → IsOfRun v → Pops C pass v (λ x w. (w ≡ took log_of v x) × Meets run_of log_of v x)
   pops pass v stands x [] views h at =
       let g = going (x ∷ []) views pass v stands at h in
       (took log_of v x, inr (takes_going pass v stands x views at g), (refl, meets pass v x views stands g at))
@@ -303,7 +303,7 @@ module _ {Run T : Type 0} (run_of : T → Run) (log_of : T → List Entry) where
   lies_still run log holder (x ∷ []) views more still l = l
   lies_still run log holder (x ∷ y ∷ ys) views more still l = l
 
-  pub forks : (pass : ℕ) (v : Known Run) → Stands v → Forks C pass v (with_half v) (helper v)
+  pub forks : (pass : ℕ) (v : Known Run) → IsOfRun v → Forks C pass v (with_half v) (helper v)
   forks pass v stands items views h at =
       let g = going items views pass v stands at h in
       let mine = g.fits pass v at in

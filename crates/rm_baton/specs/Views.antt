@@ -17,12 +17,12 @@ all_parts = 2 ^ 63
 
 module _ {Run : Type 0} where
   -- the pass is of a run: it was given out and has not ended
-  abbrev pub Stands : Known Run → Type 0
-  Stands v = is_some v.run ≡ true
+  abbrev pub IsOfRun : Known Run → Type 0
+  IsOfRun v = is_some v.run ≡ true
 
   -- the pass stands and doesn't have the baton
   abbrev pub IsIdle : Known Run → Type 0
-  IsIdle v = Stands v × (v.has ≡ false)
+  IsIdle v = IsOfRun v × (v.has ≡ false)
 
   -- no other pass stands
   abbrev pub HasAllParts : Known Run → Type 0

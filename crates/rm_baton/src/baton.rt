@@ -1,6 +1,6 @@
 ghost use Rattle.std.specs.Prelude.{◌≡◌, false, IfErr, IfNone, IfOk, IfSome, IsSome};
 ghost use Rattle.crossbeam_queue.specs.Passes.{ruled_capacity};
-ghost use Rattle.rm_baton.specs.Views.{HasAllParts, IsIdle, MayPut, Meets, Stands, gave, helper, joined, started, took, view, with_half};
+ghost use Rattle.rm_baton.specs.Views.{HasAllParts, IsIdle, MayPut, Meets, IsOfRun, gave, helper, joined, started, took, view, with_half};
 
 use crate::carries::{Carries, Known};
 use crate::rule::{Carrying, Gives, Helps, Starts, Takes};
@@ -73,7 +73,7 @@ impl<T: Carries> Baton<T> {
     /// this one had. It takes no memory and waits for nobody.
     pub fn split(&self, pass: &mut Pass<T>) -> Pass<T>
         requires of { IsPassOf self.now pass.old }
-        requires stands { Stands (view pass.old) }
+        requires stands { IsOfRun (view pass.old) }
         ensures of { IsPassOf self.now pass.new × IsPassOf self.now result }
         ensures old { view pass.new ≡ with_half (view pass.old) }
         ensures new { view result ≡ helper (view pass.old) }

@@ -1,10 +1,11 @@
+use rm_store::StoreError;
 use rm_tree::TreeError;
 use rm_types::{NoMemory, TextError};
 use std::alloc::{AllocError, AllocFailed};
 use std::io;
 use std::time::Instant;
 
-/// That a measurement couldn't be made: memory or the clock failed, or a call refused what it was given.
+/// That a measurement couldn't be made: memory, the clock, the output or the store failed, or a call refused what it was given.
 pub struct Stop;
 
 impl From<io::Error> for Stop {
@@ -27,6 +28,12 @@ impl From<AllocError> for Stop {
 
 impl<T: Drop> From<AllocFailed<T>> for Stop {
     fn from(_error: AllocFailed<T>) -> Stop {
+        Stop
+    }
+}
+
+impl From<StoreError> for Stop {
+    fn from(_error: StoreError) -> Stop {
         Stop
     }
 }

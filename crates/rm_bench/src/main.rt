@@ -4,7 +4,12 @@
 //! It promises nothing but to end; the numbers are the machine's. It stands on the crates that it measures.
 #![tactic(auto)]
 
+mod appends;
 mod costs;
+mod jobs;
+mod makes;
+mod numbered;
+mod opened;
 mod operations;
 mod page;
 mod rights;
@@ -13,28 +18,65 @@ mod store;
 mod tree;
 
 use costs::Stop;
+use opened::{Work, do_work};
 use std::process::ExitCode;
 use std::rt::Env;
 use std::{env, io};
 
-/// The first word of the command line, behind the program's name.
-fn name_of<R: Env + AllocGlobal>(rt: &R) -> io::Result<Option<String>> {
-    Ok(env::args(rt)?.nth(1))
+/// How the program is called.
+const USAGE: &str = "tree
+rights
+store
+script
+page
+append FILE JOBS
+make FILE JOBS
+open FILE
+number FILE
+count FILE";
+
+/// The words of the command line, behind the program's name.
+fn words_of<R: Env + AllocGlobal>(rt: &R) -> io::Result<Vec<String>> {
+    let mut words = Vec::new(rt.alloc());
+    for word in env::args(rt)?.skip(1) {
+        words.push(word)?;
+    }
+    Ok(words)
+}
+
+/// The word at a place, or none.
+fn word_at(words: &[String], place: usize) -> &str {
+    match words.get(place) {
+        Some(word) => word.as_str(),
+        None => "",
+    }
+}
+
+fn run_by(rt: HostRuntime, words: &[String]) -> Result<(), Stop> {
+    let name = word_at(words, 1);
+    let jobs = word_at(words, 2).parse().unwrap_or(1);
+    match word_at(words, 0) {
+        "tree" => tree::measure(rt),
+        "rights" => rights::measure(rt),
+        "store" => store::measure(rt),
+        "script" => script::measure(rt),
+        "page" => page::measure(rt),
+        "append" => do_work(rt, name, Work::Append { jobs }),
+        "open" => do_work(rt, name, Work::Open),
+        "number" => do_work(rt, name, Work::Number),
+        "count" => do_work(rt, name, Work::Count),
+        "make" => makes::make(rt, name, jobs),
+        "" => {
+            println!(rt; "{USAGE}")?;
+            Ok(())
+        }
+        _ => Err(Stop),
+    }
 }
 
 fn run(rt: HostRuntime) -> Result<(), Stop> {
-    match name_of(&rt)? {
-        Some(name) if name.as_str() == "tree" => tree::measure(rt),
-        Some(name) if name.as_str() == "rights" => rights::measure(rt),
-        Some(name) if name.as_str() == "store" => store::measure(rt),
-        Some(name) if name.as_str() == "script" => script::measure(rt),
-        Some(name) if name.as_str() == "page" => page::measure(rt),
-        Some(_) => Err(Stop),
-        None => {
-            println!(rt; "tree\nrights\nstore\nscript\npage")?;
-            Ok(())
-        }
-    }
+    let words = words_of(&rt)?;
+    run_by(rt, &words)
 }
 
 fn main(rt: HostRuntime) -> ExitCode {

@@ -188,12 +188,12 @@ none_apart attempt one (x ∷ slots) passes all =
     apart_other attempt one x e h = grind (arith, nat_tests)
 
 -- where it stands among the others
-record Stands (attempt : AttemptId) (one : Slot) (slots others : List Slot) : Type 0 where
+record IsAmongSlots (attempt : AttemptId) (one : Slot) (slots others : List Slot) : Type 0 where
   sorted : sorted_by number_of slots ≡ put_by number_of one (sorted_by number_of others)
   none : list_any (is_slot_of attempt) (sorted_by number_of others) ≡ false
 
 stands : (attempt : AttemptId) (front : List Slot) (one : Slot) (back : List Slot) → AreApart (front ++ one ∷ back) → is_slot_of attempt one ≡ true
-    → Stands attempt one (front ++ one ∷ back) (front ++ back)
+    → IsAmongSlots attempt one (front ++ one ∷ back) (front ++ back)
 stands attempt front one back apart passes =
     let all : list_all (are_apart one) (front ++ back) ≡ true = (apart_around front one back apart).0 in
     record {

@@ -1,2 +1,2 @@
-pub mod Shows
+pub use Rattle.rm_refinement.specs.Clients
 pub mod Answers

@@ -6,7 +6,7 @@ ghost use Rattle.rm_model.specs.Facts.{kept_end, submission_of};
 ghost use Rattle.rm_model.specs.ClientReplies.{kill_reply};
 ghost use Rattle.rm_tables.specs.Rows.{row_of};
 ghost use Rattle.rm_client.specs.Answers.{after_client, wished_by};
-ghost use Rattle.rm_client.specs.Shows.{Shows};
+ghost use Rattle.rm_refinement.specs.Clients.{RefinesForClients};
 
 use crate::reports::submission_of;
 use rm_queues::QueueTree;
@@ -15,7 +15,7 @@ use rm_types::{AclOp, AppId, NoMemory, Reply, Submission, Text};
 
 /// Whether an application's end is kept.
 fn has_end(t: &Tables, id: AppId) -> bool
-    ensures { (m : Scene) → Shows m t.now → result ≡ is_some (kept_end m id) }
+    ensures { (m : Scene) → RefinesForClients m t.now → result ≡ is_some (kept_end m id) }
 {
     match t.tree.find(id) {
         Some(app) => app.ending.is_some(),
@@ -39,7 +39,7 @@ fn kill_known(
     id: AppId,
     submission: &Submission,
 ) -> Result<Reply, NoMemory>
-    ensures { (m : Scene) → Shows m t.now → IfOk result (λ reply. reply ≡ kill_reply queues.now m user.now id (Some submission.now)) }
+    ensures { (m : Scene) → RefinesForClients m t.now → IfOk result (λ reply. reply ≡ kill_reply queues.now m user.now id (Some submission.now)) }
 {
     let allowed = queues.may_kill(user.bytes(), submission)?;
     if !allowed {
@@ -54,7 +54,7 @@ fn kill_known(
 
 /// What a kill is answered.
 fn kill_reply(queues: &QueueTree, t: &Tables, user: &Text, id: AppId) -> Result<Reply, NoMemory>
-    ensures { (m : Scene) → Shows m t.now → IfOk result (λ reply. reply ≡ kill_reply queues.now m user.now id (submission_of m id)) }
+    ensures { (m : Scene) → RefinesForClients m t.now → IfOk result (λ reply. reply ≡ kill_reply queues.now m user.now id (submission_of m id)) }
 {
     match submission_of(t, id) {
         Some(submission) => kill_known(queues, t, user, id, submission),
@@ -81,7 +81,7 @@ fn wish(t: &mut Tables, id: AppId) -> Result<(), NoMemory>
 /// A kill is answered; where it isn't refused it is wished for.
 pub fn kill(queues: &QueueTree, t: &mut Tables, user: &Text, id: AppId) -> Result<Reply, NoMemory>
     requires settings { queues.now ≡ t.old.settings }
-    ensures reply { (m : Scene) → Shows m t.old → IfOk result (λ reply. reply ≡ kill_reply t.old.settings m user.now id (submission_of m id)) }
+    ensures reply { (m : Scene) → RefinesForClients m t.old → IfOk result (λ reply. reply ≡ kill_reply t.old.settings m user.now id (submission_of m id)) }
     ensures changed { IfOk result (λ reply. t.new ≡ after_client (ClientAsk.Kill id) reply t.old) }
     ensures err { OnErr result (t.new ≡ t.old) }
 {

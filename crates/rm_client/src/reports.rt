@@ -7,7 +7,7 @@ ghost use Rattle.rm_model.specs.Facts.{attempts_in, kept_record, submission_of};
 ghost use Rattle.rm_model.specs.ClientReplies.{end_text, live_of, report_of};
 ghost use Rattle.rm_tables.specs.Actions.{found_in};
 ghost use Rattle.rm_client.specs.Answers.{report_with};
-ghost use Rattle.rm_client.specs.Shows.{RowShows, Shows};
+ghost use Rattle.rm_refinement.specs.Clients.{RowRefines, RefinesForClients};
 
 use crate::words::{end_word, going_word};
 use rm_tables::{AppRow, Tables};
@@ -17,7 +17,7 @@ use rm_types::{
 
 /// What was submitted for an application that is known: as it is recorded, else as it waits.
 pub fn submission_of(t: &Tables, id: AppId) -> Option<&Submission>
-    ensures { (m : Scene) → Shows m t.now → option_copied result ≡ submission_of m id }
+    ensures { (m : Scene) → RefinesForClients m t.now → option_copied result ≡ submission_of m id }
 {
     match t.tree.find(id) {
         Some(app) => Some(&app.submission),
@@ -40,7 +40,7 @@ fn end_text(t: &Tables, ending: &Option<(How, Text)>) -> Result<Text, NoMemory>
 
 /// How many containers of an application live. `NoMemory` comes only where that takes more than 32 bits.
 fn live_of(t: &Tables, id: AppId) -> Result<u32, NoMemory>
-    ensures live { (m : Scene) → Shows m t.now → IfOk result (λ live. live ≡ live_of m id) }
+    ensures live { (m : Scene) → RefinesForClients m t.now → IfOk result (λ live. live ≡ live_of m id) }
     ensures err { OnErr result (2 ^ 32 ≤ count_by (λ row. is_app row.id.attempt.app id) t.now.book.rows) }
 {
     // So many containers wouldn't fit memory.
@@ -79,7 +79,7 @@ fn report_with(
 /// A report of an application that is kept, of which so many containers live.
 fn report_kept(t: &Tables, row: &AppRow, app: &AppRecord, live: u32) -> Result<Reply, NoMemory>
     requires few { length app.now.attempts < 2 ^ 32 }
-    ensures { (m : Scene) (id : App) → RowShows m id row.now → kept_record m id ≡ Some app.now → live ≡ live_of m id → IfOk result (λ reply. reply ≡ report_of m id (Some app.now.submission)) }
+    ensures { (m : Scene) (id : App) → RowRefines m id row.now → kept_record m id ≡ Some app.now → live ≡ live_of m id → IfOk result (λ reply. reply ≡ report_of m id (Some app.now.submission)) }
 {
     let state = match &app.ending {
         Some((how, _)) => end_word(*how),
@@ -97,7 +97,7 @@ fn report_waiting(
     submission: &Submission,
     live: u32,
 ) -> Result<Reply, NoMemory>
-    ensures { (m : Scene) (id : App) → RowShows m id row.now → kept_record m id ≡ None → live ≡ live_of m id → IfOk result (λ reply. reply ≡ report_of m id (Some submission.now)) }
+    ensures { (m : Scene) (id : App) → RowRefines m id row.now → kept_record m id ≡ None → live ≡ live_of m id → IfOk result (λ reply. reply ≡ report_of m id (Some submission.now)) }
 {
     let state = going_word(row, None);
     let report = report_with(t, state, submission, 0, live, &None)?;
@@ -107,7 +107,7 @@ fn report_waiting(
 /// A report of an application that has a row.
 fn report_row(t: &Tables, id: AppId, row: &AppRow) -> Result<Reply, NoMemory>
     requires few { length (attempts_in (found_in t.now id)) < 2 ^ 32 }
-    ensures { (m : Scene) → Shows m t.now → RowShows m id row.now → IfOk result (λ reply. reply ≡ report_of m id (submission_of m id)) }
+    ensures { (m : Scene) → RefinesForClients m t.now → RowRefines m id row.now → IfOk result (λ reply. reply ≡ report_of m id (submission_of m id)) }
 {
     let live = live_of(t, id)?;
     match t.tree.find(id) {
@@ -122,7 +122,7 @@ fn report_row(t: &Tables, id: AppId, row: &AppRow) -> Result<Reply, NoMemory>
 /// What a client is told of an application.
 pub fn report(t: &Tables, id: AppId) -> Result<Reply, NoMemory>
     requires few { length (attempts_in (found_in t.now id)) < 2 ^ 32 }
-    ensures { (m : Scene) → Shows m t.now → IfOk result (λ reply. reply ≡ report_of m id (submission_of m id)) }
+    ensures { (m : Scene) → RefinesForClients m t.now → IfOk result (λ reply. reply ≡ report_of m id (submission_of m id)) }
 {
     match t.rows.find(id) {
         Some(row) => report_row(t, id, row),

@@ -5,7 +5,7 @@ ghost use Rattle.rm_model.specs.Facts.{attempts_in};
 ghost use Rattle.rm_model.specs.ClientReplies.{client_reply, next_app};
 ghost use Rattle.rm_tables.specs.Actions.{found_in};
 ghost use Rattle.rm_client.specs.Answers.{after_client};
-ghost use Rattle.rm_client.specs.Shows.{Shows};
+ghost use Rattle.rm_refinement.specs.Clients.{RefinesForClients};
 
 use crate::kills::kill;
 use crate::reports::report;
@@ -26,7 +26,7 @@ pub fn serve(
     requires ids { t.old.given + 1 < 2 ^ 32 }
     requires apps { t.old.going + 1 < 2 ^ 64 }
     requires attempts { (id : App) → length (attempts_in (found_in t.old id)) < 2 ^ 32 }
-    ensures reply { (m : Scene) → Shows m t.old → IfOk result (λ reply. reply ≡ client_reply t.old.settings m user.now ask.now) }
+    ensures reply { (m : Scene) → RefinesForClients m t.old → IfOk result (λ reply. reply ≡ client_reply t.old.settings m user.now ask.now) }
     ensures changed { IfOk result (λ reply. t.new ≡ after_client ask.now reply t.old) }
     ensures err { OnErr result (t.new ≡ t.old) }
 {
@@ -41,7 +41,7 @@ pub fn serve(
 /// A new id is given: the life's stamp, and one more than the ids that it gave.
 fn give(t: &mut Tables) -> Reply
     requires { t.old.given + 1 < 2 ^ 32 }
-    ensures reply { (m : Scene) → Shows m t.old → result ≡ Reply.New (next_app m) }
+    ensures reply { (m : Scene) → RefinesForClients m t.old → result ≡ Reply.New (next_app m) }
     ensures changed { t.new ≡ after_client ClientAsk.New result t.old }
 {
     t.given += 1;

@@ -5,7 +5,7 @@ ghost use Rattle.rm_model.specs.Facts.{has_app, is_known};
 ghost use Rattle.rm_model.specs.ClientReplies.{going, is_given, submit_reply};
 ghost use Rattle.rm_tables.specs.Rows.{slot_of};
 ghost use Rattle.rm_client.specs.Answers.{after_client, joined};
-ghost use Rattle.rm_client.specs.Shows.{Shows};
+ghost use Rattle.rm_refinement.specs.Clients.{RefinesForClients};
 
 use rm_app::AppState;
 use rm_queues::QueueTree;
@@ -14,14 +14,14 @@ use rm_types::{AclOp, AppId, Duplicate, Items, NoMemory, Reply, Submission};
 
 /// Whether this life or one before it may have given an id.
 fn is_given(t: &Tables, id: AppId) -> bool
-    ensures { (m : Scene) → Shows m t.now → result ≡ is_given m id }
+    ensures { (m : Scene) → RefinesForClients m t.now → result ≡ is_given m id }
 {
     id.stamp < t.stamp || (id.stamp == t.stamp && id.number <= t.given)
 }
 
 /// Whether as many applications go on as there may be.
 fn is_full(t: &Tables) -> bool
-    ensures { (m : Scene) → Shows m t.now → result ≡ nat_le t.now.settings.max_apps (going m) }
+    ensures { (m : Scene) → RefinesForClients m t.now → result ≡ nat_le t.now.settings.max_apps (going m) }
 {
     t.settings.max_apps as usize <= t.going
 }
@@ -29,7 +29,7 @@ fn is_full(t: &Tables) -> bool
 /// What the submission of an application is answered that isn't known, and whose id was given and isn't retired.
 fn answer_new(queues: &QueueTree, t: &Tables, submission: &Submission) -> Result<Reply, NoMemory>
     requires settings { queues.now ≡ t.now.settings }
-    ensures { (m : Scene) (id : AppId) → Shows m t.now → is_given m id ≡ true → has_app m.life.apps.retired id ≡ false → is_known m id ≡ false → IfOk result (λ reply. reply ≡ submit_reply t.now.settings m id submission.now) }
+    ensures { (m : Scene) (id : AppId) → RefinesForClients m t.now → is_given m id ≡ true → has_app m.life.apps.retired id ≡ false → is_known m id ≡ false → IfOk result (λ reply. reply ≡ submit_reply t.now.settings m id submission.now) }
 {
     let queue = submission.queue.bytes();
     if !queues.is_leaf(queue) {
@@ -84,7 +84,7 @@ pub fn submit(
 ) -> Result<Reply, NoMemory>
     requires settings { queues.now ≡ t.old.settings }
     requires few { t.old.going + 1 < 2 ^ 64 }
-    ensures reply { (m : Scene) → Shows m t.old → IfOk result (λ reply. reply ≡ submit_reply t.old.settings m id submission.now) }
+    ensures reply { (m : Scene) → RefinesForClients m t.old → IfOk result (λ reply. reply ≡ submit_reply t.old.settings m id submission.now) }
     ensures changed { IfOk result (λ reply. t.new ≡ after_client (ClientAsk.Submit id submission.now) reply t.old) }
     ensures err { OnErr result (t.new ≡ t.old) }
 {

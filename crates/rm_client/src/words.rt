@@ -5,7 +5,7 @@ ghost use Rattle.rm_model.specs.State.{Scene};
 ghost use Rattle.rm_model.specs.Attempts.{has_failed, is_failed};
 ghost use Rattle.rm_model.specs.Facts.{kept_record};
 ghost use Rattle.rm_model.specs.ClientReplies.{end_word, going_word};
-ghost use Rattle.rm_client.specs.Shows.{RowShows, has_registered, is_saving, last_failed, runs};
+ghost use Rattle.rm_refinement.specs.Clients.{RowRefines, has_registered, is_saving, last_failed, runs};
 
 use rm_app::AppState;
 use rm_tables::{AppRow, Current, last_attempt};
@@ -80,7 +80,7 @@ fn runs(row: &AppRow, app: Option<&AppRecord>) -> bool
 
 /// The word of an application without a kept end, by its row and its record, if it is kept.
 pub fn going_word(row: &AppRow, app: Option<&AppRecord>) -> StateWord
-    ensures { (m : Scene) (id : AppId) → RowShows m id row.now → kept_record m id ≡ option_copied app.entry → result ≡ going_word m id }
+    ensures { (m : Scene) (id : AppId) → RowRefines m id row.now → kept_record m id ≡ option_copied app.entry → result ≡ going_word m id }
 {
     if runs(row, app) {
         StateWord::Running

@@ -12,7 +12,7 @@ abbrev pub greatest_length : ℕ
 greatest_length = 1048576
 
 -- the bytes are few enough, are UTF-8, and are read as this value
-pub record Holds (bytes : List ℕ) (file : Data) : Type 0 where
+pub record FileHolds (bytes : List ℕ) (file : Data) : Type 0 where
   pub short : length bytes ≤ greatest_length
   pub utf8 : IsUtf8 bytes
   pub value : read bytes ≡ Some file
@@ -24,13 +24,13 @@ HoldsNone bytes = length bytes ≤ greatest_length → IsUtf8 bytes → read byt
 -- the settings of the bytes: they hold a value that breaks no rule, and these are its settings
 pub record IsCluster (bytes : List ℕ) (settings : Settings) : Type 0 where
   pub file : Data
-  pub holds : Holds bytes file
+  pub holds : FileHolds bytes file
   pub settled : IsSettingsOf file settings
 
 -- the bytes hold a value, and this is the place of the first rule that it breaks
 pub record Breaks (bytes : List ℕ) (place : ℕ) : Type 0 where
   pub file : Data
-  pub holds : Holds bytes file
+  pub holds : FileHolds bytes file
   pub broken : first_broken file ≡ Some place
 
 -- this place is that of the first rule that the value breaks; or there was no memory

@@ -8,12 +8,12 @@ use Rattle.rm_types.specs.Records.{Records, fits_records, no_records, recorded, 
 use Rattle.rm_model.specs.Lawful.{state_after}
 use Rattle.rm_model.specs.State.{Manager}
 use Rattle.rm_tables.specs.declared.tables.Tables.{Tables}
-use Rattle.rm_core.specs.Adds.{IsLeft}
-use Rattle.rm_core.specs.Keeps.{IsSound, Keeps}
+use Rattle.rm_core.specs.Moves.{IsLeft}
+use Rattle.rm_core.specs.Invariant.{HasPhase, LogInvariant}
 use Rattle.rm_core.proofs.Lives.{none_stands}
 
 -- between lives the first operation that awaits after one that blew fits what is recorded
-pub left_fits : (t : Tables) → IsSound t → t.alive ≡ false → t.blown ≡ true → (op : Op) → slice_get t.awaiting 0 ≡ Some op → fits_records t.tree op ≡ true
+pub left_fits : (t : Tables) → HasPhase t → t.alive ≡ false → t.blown ≡ true → (op : Op) → slice_get t.awaiting 0 ≡ Some op → fits_records t.tree op ≡ true
 left_fits t s dead blew op = by t.awaiting refl
   where
     by : (ops : List Op) → t.awaiting ≡ ops → slice_get ops 0 ≡ Some op → fits_records t.tree op ≡ true
@@ -25,7 +25,7 @@ pub if_answered : {E : Type 0} {P Q : Type 0} (r : Result Bool E) → (P → Q) 
 if_answered (Ok b) to from h = (λ is. to (h.0 is), λ is. h.1 (from is))
 if_answered (Err e) to from h = tt
 
-module _ (t : Tables) (log : List Entry) (tree : Records) (opening : List Op) (k : Keeps opening log t) (some : log ≢ []) (dead : t.alive ≡ false) where
+module _ (t : Tables) (log : List Entry) (tree : Records) (opening : List Op) (k : LogInvariant opening log t) (some : log ≢ []) (dead : t.alive ≡ false) where
   told_as : state_after opening log ≡ record { kept = k.history.kept; awaiting = t.awaiting; blew = t.blown; life = None }
   told_as = k.same ∙ rw dead refl
 

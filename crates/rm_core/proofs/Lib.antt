@@ -8,3 +8,4 @@ mod Lives
 mod Moving
 pub mod Telling
 pub mod Left
+mod Spelling

@@ -16,27 +16,27 @@ use Rattle.rm_tree.specs.Shows.{shows}
 use Rattle.rm_tree.proofs.Shows.{shows_not, shows_then}
 use Rattle.rm_tables.specs.declared.tables.Tables.{Tables}
 use Rattle.rm_tables.specs.Lives.{begun, no_life}
-use Rattle.rm_facts.specs.Told.{History, new_history}
-use Rattle.rm_core.specs.Adds.{CanBeginOver, HasLanded, IsLeft}
+use Rattle.rm_refinement.specs.History.{History, initial_history}
+use Rattle.rm_core.specs.Moves.{CanBeginOver, HasLanded, IsLeft}
 use Rattle.rm_core.specs.Queues.{landed_in, tables_after, tables_moved, tree_landed, unopened}
-use Rattle.rm_moves.specs.Messages.{KeepsLimits}
-use Rattle.rm_running.specs.Phases.{NoneStands, Phase, none, running, saving, shut, starting}
-use Rattle.rm_running.proofs.OpeningRuns.{begin_starts, stands}
-use Rattle.rm_core.specs.Keeps.{IsSound, Keeps}
+use Rattle.rm_invariant.specs.messages.Ranges.{KeepsLimits}
+use Rattle.rm_invariant.specs.Phases.{NoLife, Phase, none, running, saving, shut, starting}
+use Rattle.rm_invariant.proofs.opening.Whole.{begin_starts, stands}
+use Rattle.rm_core.specs.Invariant.{HasPhase, LogInvariant}
 use Rattle.rm_core.proofs.Recorded.{stored, stored_ranges}
 use Rattle.rm_core.proofs.Standing.{AllAllowed-push, not_empty}
 
 -- before the first life
-pub new_sound : (alloc : Global) (settings : Settings) → IsSound (no_life alloc settings)
+pub new_sound : (alloc : Global) (settings : Settings) → HasPhase (no_life alloc settings)
 new_sound alloc settings =
-    record { history = new_history []; phase = none (record { alive = refl; main = refl; sched = refl; recorded = λ blown. cc; fits = λ blown. cc }) }
+    record { history = initial_history []; phase = none (record { alive = refl; main = refl; sched = refl; recorded = λ blown. cc; fits = λ blown. cc }) }
 
-pub new_keeps : (opening : List Op) (alloc : Global) (settings : Settings) → Keeps opening [] (no_life alloc settings)
+pub new_keeps : (opening : List Op) (alloc : Global) (settings : Settings) → LogInvariant opening [] (no_life alloc settings)
 new_keeps opening alloc settings =
-    record { allowed = tt; history = new_history opening; same = refl; recorded = λ some. absurd (some refl); phase = none (record { alive = refl; main = refl; sched = refl; recorded = λ blown. cc; fits = λ blown. cc }); fresh = λ none. refl; told_by = λ some. absurd (some refl) }
+    record { allowed = tt; history = initial_history opening; same = refl; recorded = λ some. absurd (some refl); phase = none (record { alive = refl; main = refl; sched = refl; recorded = λ blown. cc; fits = λ blown. cc }); fresh = λ none. refl; told_by = λ some. absurd (some refl) }
 
 -- between lives
-pub none_stands : (h : History) (t : Tables) → Phase h t → t.alive ≡ false → NoneStands h t
+pub none_stands : (h : History) (t : Tables) → Phase h t → t.alive ≡ false → NoLife h t
 none_stands h t (none n) dead = n
 none_stands h t (starting b) dead = absurd (let x = sym (stands h t b.begins) ∙ dead in cc)
 none_stands h t (saving b) dead = absurd (let x = sym (stands h t b.begins) ∙ dead in cc)
@@ -50,7 +50,7 @@ pub record Landing (h : History) (t : Tables) (tree : Records) : Type 0 where
   pub is : tree ≡ records (h.kept ++ take (landed_in t tree) t.awaiting)
   pub may : (landed_in t tree ≡ 0) ⊎ ((landed_in t tree ≡ 1) × (t.blown ≡ true))
 
-module _ (h : History) (t : Tables) (tree : Records) (n : NoneStands h t) where
+module _ (h : History) (t : Tables) (tree : Records) (n : NoLife h t) where
   -- over what is kept none has landed
   none_shows : tree ≡ records h.kept → (b : Bool) → t.blown ≡ b → (ops : List Op) → t.awaiting ≡ ops → landed_in t tree ≡ 0
   none_shows is false e ops w = rw e refl
@@ -81,7 +81,7 @@ module _ (h : History) (t : Tables) (tree : Records) (n : NoneStands h t) where
       record { is = is ∙ sym (ap (λ (k : ℕ). records (h.kept ++ take k t.awaiting)) one ∙ ap (λ (ops : List Op). records (h.kept ++ ops)) taken); may = inr (one, blew) }
 
 -- a life that begins over what the last one left
-module _ (opening : List Op) (log : List Entry) (t : Tables) (k : Keeps opening log t) (a : t.alive ≡ false) where
+module _ (opening : List Op) (log : List Entry) (t : Tables) (k : LogInvariant opening log t) (a : t.alive ≡ false) where
   -- the state before it
   abbrev pub before : Manager
   before = record { kept = k.history.kept; awaiting = t.awaiting; blew = t.blown; life = None }
@@ -112,11 +112,11 @@ module _ (opening : List Op) (log : List Entry) (t : Tables) (k : Keeps opening 
 
 -- a life begins under a stamp that is above the recorded one
 module _ (t : Tables) (tree : Records) (stamp : ℕ) (limits : KeepsLimits t.settings) (over : CanBeginOver tree) (low : tree.stamp < stamp) (high : stamp < 2 ^ 63) where
-  begin_phase : (kept : List Op) → records kept ≡ tree → Phase (new_history kept) (begun tree stamp t)
+  begin_phase : (kept : List Op) → records kept ≡ tree → Phase (initial_history kept) (begun tree stamp t)
   begin_phase kept is = starting (begin_starts t tree stamp kept is (stored tree over) (stored_ranges tree over) limits over.epoch low high)
 
-  pub begin_sound : IsSound (begun tree stamp t)
-  begin_sound = let store = over.of_store in record { history = new_history store.ops; phase = begin_phase store.ops (sym store.amounts) }
+  pub begin_sound : HasPhase (begun tree stamp t)
+  begin_sound = let store = over.of_store in record { history = initial_history store.ops; phase = begin_phase store.ops (sym store.amounts) }
 
   -- what is kept when the life begins
   abbrev landed : ℕ
@@ -125,7 +125,7 @@ module _ (t : Tables) (tree : Records) (stamp : ℕ) (limits : KeepsLimits t.set
   abbrev first_entry : Entry
   first_entry = Opened landed tree.next_epoch stamp
 
-  module _ (opening : List Op) (log : List Entry) (k : Keeps opening log t) (a : t.alive ≡ false) (left : IsLeft tree (state_after opening log)) where
+  module _ (opening : List Op) (log : List Entry) (k : LogInvariant opening log t) (a : t.alive ≡ false) (left : IsLeft tree (state_after opening log)) where
     lands : Landing k.history t tree
     lands = landing opening log t k a tree left
 
@@ -153,7 +153,7 @@ module _ (t : Tables) (tree : Records) (stamp : ℕ) (limits : KeepsLimits t.set
         let found : tree ≡ tree_landed landed t = lands.is ∙ fold-append recorded no_records k.history.kept (take landed t.awaiting) ∙ ap (λ (r : Records). fold recorded r (take landed t.awaiting)) (k.recorded some) in
         ap (λ (r : Records). begun r stamp t) found ∙ ap (λ (x : Tables). tables_moved x first_entry) (k.told_by some) ∙ sym (fold_push tables_moved (unopened t.alloc t.settings opening) log first_entry)
 
-    pub begin_keeps : Keeps opening (log ++ first_entry ∷ []) (begun tree stamp t)
+    pub begin_keeps : LogInvariant opening (log ++ first_entry ∷ []) (begun tree stamp t)
     begin_keeps =
         let kept : List Op = k.history.kept ++ take landed t.awaiting in
         let is : tree ≡ records kept = lands.is in
@@ -167,7 +167,7 @@ module _ (t : Tables) (tree : Records) (stamp : ℕ) (limits : KeepsLimits t.set
         } in
         record {
           allowed = AllAllowed-push t.settings (opening_state opening) log first_entry k.allowed (subst (λ (s : Manager). Allowed t.settings s first_entry) (sym at_begin) may);
-          history = new_history kept;
+          history = initial_history kept;
           same = fold_push after (opening_state opening) log first_entry ∙ ap (λ (s : Manager). after s first_entry) at_begin;
           recorded = λ some. sym is;
           phase = begin_phase kept (sym is);

@@ -29,17 +29,17 @@ use Rattle.rm_tables.specs.KeptOps.{kept}
 use Rattle.rm_tables.specs.Lives.{begun, gone_down, handed_out, is_ready, may_go_down, refused as refused_by}
 use Rattle.rm_tables.specs.MainEvents.{main_step}
 use Rattle.rm_tables.specs.SchedEvents.{EndsBy, sched_step}
-use Rattle.rm_facts.specs.Told.{History}
-use Rattle.rm_moves.specs.Messages.{IsMessage, KeepsLimits}
-use Rattle.rm_weight_facts.proofs.Lives.{begin_weighs, blow_lighter, down_weighs}
-use Rattle.rm_running.specs.Phases.{Leads}
-use Rattle.rm_running.specs.Running.{Running}
-use Rattle.rm_running.proofs.Phases.{blow_leads, down_leads, fits_in, framed_in, goes_leads, hand_leads, handed_awaits, keep_leads, main_called, main_leads, recorded_of, sched_leads, serving_open, serving_shut, shut_serves, unblown_of}
-use Rattle.rm_running.proofs.Settling.{settle_leads}
+use Rattle.rm_refinement.specs.History.{History}
+use Rattle.rm_invariant.specs.messages.Ranges.{IsMessage, KeepsLimits}
+use Rattle.rm_invariant.proofs.measure.Lives.{begin_weighs, blow_lighter, down_weighs}
+use Rattle.rm_invariant.specs.Phases.{Simulates}
+use Rattle.rm_invariant.specs.Invariant.{LifeInvariant}
+use Rattle.rm_invariant.proofs.Phases.{blow_leads, down_leads, fits_in, framed_in, goes_leads, hand_leads, handed_awaits, keep_leads, main_called, main_leads, recorded_of, sched_leads, serving_open, serving_shut, shut_serves, unblown_of}
+use Rattle.rm_invariant.proofs.Settling.{settle_leads}
 use Rattle.rm_core.specs.declared.manager.Move.{Move}
 use Rattle.rm_core.specs.declared.manager.Move.TheVariants.{Begin, Blown, Down, Hand, Kept, Main, Sched, Serve, Settle}
-use Rattle.rm_core.specs.Adds.{CanBeginOver, Does, Stands}
-use Rattle.rm_core.specs.Keeps.{IsSound, IsSoundCore, Keeps}
+use Rattle.rm_core.specs.Moves.{CanBeginOver, MoveEffect, LifeAround}
+use Rattle.rm_core.specs.Invariant.{HasPhase, IsSoundCore, LogInvariant}
 use Rattle.rm_core.specs.Queues.{answered_where, landed_in, served_moved}
 use Rattle.rm_core.specs.Seen.{IsToBeKept, Seen, handed_op}
 use Rattle.rm_core.specs.Serving.{IsReply, IsReplyWhere, IsServed}
@@ -53,18 +53,18 @@ abbrev pub seen_of : Tables → List Entry → Seen
 seen_of t log = record { settings = t.settings; tables = t; log = log }
 
 -- the manager before its first life is the same after a move
-began_on : {h : History} {t next : Tables} {e : Entry} → Leads h t e next → new_manager next.alloc next.settings ≡ new_manager t.alloc t.settings
+began_on : {h : History} {t next : Tables} {e : Entry} → Simulates h t e next → new_manager next.alloc next.settings ≡ new_manager t.alloc t.settings
 began_on leads = rw (leads.alloc, leads.settings) refl
 
 -- what a move comes to, made or refused
 pub record Done (m : Move) (t next : Tables) (log longer : List Entry) (r : Result (Unit {0}) Refused) : Type 0 where
-  pub sound : IsSound next
+  pub sound : HasPhase next
   pub settings : next.settings ≡ t.settings
-  pub does : OnOk r (Does m (seen_of t log) (seen_of next longer))
+  pub does : OnOk r (MoveEffect m (seen_of t log) (seen_of next longer))
 
 -- a move of a life that stands leaves the manager with its queues
 pub core_sound : (queues : Option Settings) (m : Move) (t next : Tables) (log longer : List Entry) (r : Result (Unit {0}) Refused) → IsSoundCore queues t → OnErr r ((next ≡ t) × (longer ≡ log))
-    → (Stands m t.alive next.alive → t.alive ≡ true) → Done m t next log longer r → IsSoundCore queues next
+    → (LifeAround m t.alive next.alive → t.alive ≡ true) → Done m t next log longer r → IsSoundCore queues next
 core_sound queues m t next log longer (Err e) s err stood done = rw err.0 s
 core_sound None m t next log longer (Ok x) s err stood done = absurd (let lives = stood done.does.stands in let dead = s.queues_are in let no = sym lives ∙ dead in cc)
 core_sound (Some queues) m t next log longer (Ok x) s err stood done = record { rules = rw done.settings s.rules; limits = rw done.settings s.limits; queues_are = s.queues_are ∙ sym done.settings; sound = done.sound }
@@ -73,7 +73,7 @@ core_sound (Some queues) m t next log longer (Ok x) s err stood done = record { 
 pub begun_sound : (queues : Settings) (m : Move) (t next : Tables) (log longer : List Entry) (r : Result (Unit {0}) Refused) → KeepsRules t.settings → KeepsLimits t.settings → queues ≡ t.settings → Done m t next log longer r → IsSoundCore (Some queues) next
 begun_sound queues m t next log longer r rules limits are done = record { rules = rw done.settings rules; limits = rw done.settings limits; queues_are = are ∙ sym done.settings; sound = done.sound }
 
-refused : (m : Move) (t next : Tables) (log longer : List Entry) (e : Refused) → IsSound t → next ≡ t → Done m t next log longer (Err e)
+refused : (m : Move) (t next : Tables) (log longer : List Entry) (e : Refused) → HasPhase t → next ≡ t → Done m t next log longer (Err e)
 refused m t next log longer e s same = record { sound = rw same s; settings = rw same refl; does = tt }
 
 is_not : (b : Bool) → not b ≡ true → b ≡ false
@@ -92,7 +92,7 @@ not_nil : {X : Type 0} (xs : List X) → not (is_nil xs) ≡ true → xs ≢ []
 not_nil [] h = cc
 not_nil (x ∷ xs) h = λ e. cc
 
-module _ (t : Tables) (log : List Entry) (s : IsSound t) where
+module _ (t : Tables) (log : List Entry) (s : HasPhase t) where
   -- the first event of the main queue
   main_made : (event : MainEvent) (rest : List MainEvent) → t.main ≡ event ∷ rest → (x : Unit {0}) → Done Main t (main_worked (main_step event t)).1 log (log ++ (main_worked (main_step event t)).0 ∷ []) (Ok x)
   main_made event rest front x =
@@ -106,7 +106,7 @@ module _ (t : Tables) (log : List Entry) (s : IsSound t) where
           lawful = λ opening k from.
               keeps_more opening log t (main_worked (main_step event t)).1 (main_worked (main_step event t)).0 k own.stood (record { leads = (main_leads k.history t event rest k.phase front).leads; own = told.own });
           ready = rw front refl;
-          weighs = own.lighter;
+          weighs = own.decreases;
           stands = (own.stood, own.stands);
           served = own.served;
           blown = own.blown;
@@ -147,7 +147,7 @@ module _ (t : Tables) (log : List Entry) (s : IsSound t) where
           lawful = λ opening k from.
               keeps_more opening log t (sched_worked (sched_step event list t)).1 (sched_worked (sched_step event list t)).0 k own.stood (record { leads = (sched_leads k.history t event list rest k.phase front ends).leads; own = told.own });
           ready = rw front refl;
-          weighs = own.lighter;
+          weighs = own.decreases;
           stands = (own.stood, own.stands);
           served = own.served;
           blown = own.blown;
@@ -185,7 +185,7 @@ module _ (t : Tables) (log : List Entry) (s : IsSound t) where
           added = record { entry = Handed; of_move = refl; added = refl };
           lawful = λ opening k from. keeps_more opening log t (handed_out t) Handed k own.stood (record { leads = (hand_leads k.history t k.phase first.0 some free unblown).leads; own = refl });
           ready = ready;
-          weighs = own.lighter;
+          weighs = own.decreases;
           stands = (own.stood, own.stands);
           served = refl;
           blown = refl;
@@ -210,7 +210,7 @@ module _ (t : Tables) (log : List Entry) (s : IsSound t) where
           added = record { entry = KeptEntry op; of_move = (op, handed_first op rest front a hd, refl); added = refl };
           lawful = λ opening k from. keeps_more opening log t (kept op t) (KeptEntry op) k own.stood (record { leads = (keep_leads k.history t op rest k.phase a hd front).leads; own = refl });
           ready = rw (a, hd) refl;
-          weighs = own.lighter;
+          weighs = own.decreases;
           stands = (own.stood, own.stands);
           served = own.served;
           blown = own.blown;
@@ -347,7 +347,7 @@ module _ (t : Tables) (log : List Entry) (s : IsSound t) where
   feed_ready (messages.Clock ask) = refl
 
   -- a life that is open
-  pub serving_runs : is_ready t Client ≡ true → t.is_open ≡ true → Running s.history t
+  pub serving_runs : is_ready t Client ≡ true → t.is_open ≡ true → LifeInvariant s.history t
   serving_runs ready open_ = serving_open s.history t s.phase (both t.alive (t.is_open || t.blown) ready).0 open_
 
   -- a message of an open life is answered
@@ -431,11 +431,11 @@ handed_front t op h true false a b ops w = absurd (let x = rw (a, b) at h in cc)
 handed_front t op h false b a c ops w = absurd (let x = rw a at h in cc)
 
 -- it can be framed
-pub handed_framed : (t : Tables) → IsSound t → (op : Op) → handed_op t ≡ Some op → IsOperation op
+pub handed_framed : (t : Tables) → HasPhase t → (op : Op) → handed_op t ≡ Some op → IsOperation op
 handed_framed t s op h = let is = handed_front t op h t.alive t.handed refl refl t.awaiting refl in framed_in s.history t op is.1.1.0 s.phase is.0 is.1.0 is.1.1.1
 
 -- and fits what is kept
-pub handed_next : (t : Tables) (op : Op) → handed_op t ≡ Some op → (opening : List Op) (log : List Entry) → Keeps opening log t → IsToBeKept opening (seen_of t log) op
+pub handed_next : (t : Tables) (op : Op) → handed_op t ≡ Some op → (opening : List Op) (log : List Entry) → LogInvariant opening log t → IsToBeKept opening (seen_of t log) op
 handed_next t op h opening log k =
     let is = handed_front t op h t.alive t.handed refl refl t.awaiting refl in
     let front = is.1.1.1 in
@@ -447,7 +447,7 @@ handed_next t op h opening log k =
     }
 
 -- no store's lane is ready where nothing is with the store
-pub none_handed : (t : Tables) → IsSound t → (a h : Bool) → t.alive ≡ a → t.handed ≡ h → handed_op t ≡ None → is_ready t Write ≡ false
+pub none_handed : (t : Tables) → HasPhase t → (a h : Bool) → t.alive ≡ a → t.handed ≡ h → handed_op t ≡ None → is_ready t Write ≡ false
 none_handed t s true false a h n = rw (a, h) refl
 none_handed t s false h a e n = rw a refl
 none_handed t s true true a h n = by t.awaiting refl

@@ -27,8 +27,8 @@ use Rattle.rm_tables.specs.Nodes.{is_waiting, node_of}
 use Rattle.rm_tables.specs.Passing.{updated_by}
 use Rattle.rm_tables.specs.Rows.{row_of}
 use Rattle.rm_tables.specs.SchedEvents.{is_on, is_released, queued_at, queued_by, queued_with, sched_step}
-use Rattle.rm_moves.specs.Outcomes.{Outcome, accepts, adds, delays, ends, ends_one, follows, idles, issues, kills, loses, orders, removes, requeues, saves}
-use Rattle.rm_moves.proofs.Outcomes.{main_outcome}
+use Rattle.rm_invariant.specs.events.Outcomes.{Outcome, accepts, adds, delays, ends, ends_one, follows, idles, issues, kills, loses, orders, removes, requeues, saves}
+use Rattle.rm_invariant.proofs.events.Outcomes.{main_outcome}
 use Rattle.rm_core.specs.Queues.{main_moved, sched_moved, tables_moved}
 
 -- THE MAIN QUEUE
@@ -41,13 +41,13 @@ pub record MainTold (t : Tables) (done : Entry × Tables) : Type 0 where
 outcome_told : (t : Tables) (done : Entry × Tables) → Outcome t done → (tables_moved t done.0 ≡ main_moved t.main t) × (lane_of_entry done.0 ≡ MainLane)
 outcome_told t done idles = (refl, refl)
 outcome_told t done (saves id row submission rest found waits front) = (refl, refl)
-outcome_told t done (adds id row found st) = (refl, refl)
+outcome_told t done (adds id row behind found st at_front) = (refl, refl)
 outcome_told t done (accepts id row found st) = (refl, refl)
 outcome_told t done (ends id row how text found stopped is) = (refl, refl)
 outcome_told t done (kills id row current at_ number alive going) = (refl, refl)
 outcome_told t done (delays id row current at_ waits going) = (refl, refl)
 outcome_told t done (issues container node row current at_ st number mine place) = (refl, refl)
-outcome_told t done (requeues container row current at_ st number mine place) = (refl, refl)
+outcome_told t done (requeues container row current behind at_ st number mine place at_front) = (refl, refl)
 outcome_told t done (orders id container node row current at_ number alive master place) = (refl, refl)
 outcome_told t done (ends_one id row current how text at_ number alive is) = (refl, refl)
 outcome_told t done (loses container row current at_ st number mine) = (refl, refl)

@@ -9,18 +9,18 @@ use Rattle.rm_types.specs.declared.operations.Submission.{Submission}
 use Rattle.rm_types.specs.declared.records.AppRecord.{AppRecord}
 use Rattle.rm_types.specs.Ids.{is_app}
 use Rattle.rm_types.specs.Records.{Records, records, recorded, no_records, new_record, record_of, fits_records, stray_from, with_record, with_end}
-use Rattle.rm_core.specs.Adds.{CanBeginOver}
-use Rattle.rm_facts.proofs.Counts.{fails_never}
-use Rattle.rm_facts.specs.Completed.{order_in, order_of}
-use Rattle.rm_facts.specs.View.{changed_if, gone_if}
-use Rattle.rm_facts.proofs.Completing.{order_new}
-use Rattle.rm_facts.proofs.Found.{found_gone, is_app_same}
-use Rattle.rm_app_facts.proofs.Recorded.{record_changed}
-use Rattle.rm_master_facts.specs.Says.{EachApt}
-use Rattle.rm_master_facts.specs.Sound.{EachSound}
-use Rattle.rm_life_facts.specs.Begun.{IsStored}
-use Rattle.rm_range_facts.specs.Ranged.{AreRecords}
-use Rattle.rm_range_facts.proofs.Stores.{stored_apt, stored_records, stored_sound}
+use Rattle.rm_core.specs.Moves.{CanBeginOver}
+use Rattle.rm_invariant.proofs.apps.Counts.{fails_never}
+use Rattle.rm_invariant.specs.apps.Completed.{order_in, order_of}
+use Rattle.rm_invariant.specs.apps.View.{changed_if, gone_if}
+use Rattle.rm_invariant.proofs.apps.Completing.{order_new}
+use Rattle.rm_invariant.proofs.apps.Found.{found_gone, is_app_same}
+use Rattle.rm_invariant.proofs.apps.Recorded.{record_changed}
+use Rattle.rm_invariant.specs.masters.Invariant.{MastersAreOwn}
+use Rattle.rm_invariant.specs.masters.Sound.{RecordsAreSound}
+use Rattle.rm_invariant.specs.opening.Begun.{IsStored}
+use Rattle.rm_invariant.specs.bounds.InBounds.{AreRecords}
+use Rattle.rm_invariant.proofs.opening.Stores.{stored_apt, stored_records, stored_sound}
 
 -- how often an application is recorded
 abbrev kept_at : AppId → List AppRecord → ℕ
@@ -190,8 +190,8 @@ stored tree over =
     record {
       once = each_once tree over;
       early = each_early tree over;
-      sound = subst (λ (r : Records). EachSound r.apps) (sym store.amounts) (stored_sound store.ops store.none_stray);
-      apt = subst (λ (r : Records). EachApt r.apps) (sym store.amounts) (stored_apt store.ops store.framed);
+      sound = subst (λ (r : Records). RecordsAreSound r.apps) (sym store.amounts) (stored_sound store.ops store.none_stray);
+      apt = subst (λ (r : Records). MastersAreOwn r.apps) (sym store.amounts) (stored_apt store.ops store.framed);
     }
 
 pub stored_ranges : (tree : Records) → CanBeginOver tree → AreRecords tree.apps

@@ -10,10 +10,10 @@ use Rattle.rm_model.specs.Changes.{after, after_all}
 use Rattle.rm_model.specs.Rules.{Allowed}
 use Rattle.rm_model.specs.Lawful.{AllAllowed}
 use Rattle.rm_tables.specs.declared.tables.Tables.{Tables}
-use Rattle.rm_facts.specs.Told.{History}
-use Rattle.rm_running.specs.Phases.{Leads}
+use Rattle.rm_refinement.specs.History.{History}
+use Rattle.rm_invariant.specs.Phases.{Simulates}
 use Rattle.rm_core.specs.Queues.{tables_after, tables_moved, unopened}
-use Rattle.rm_core.specs.Keeps.{IsSound, Keeps}
+use Rattle.rm_core.specs.Invariant.{HasPhase, LogInvariant}
 
 -- an entry that is allowed after a log may be added to it
 pub AllAllowed-push : (settings : Settings) (s : Manager) (log : List Entry) (e : Entry) → AllAllowed settings s log → Allowed settings (after_all s log) e
@@ -23,7 +23,7 @@ AllAllowed-push settings s (x ∷ log) e h a = (h.0, AllAllowed-push settings (a
 
 -- what a move does to the tables, with a history, which its entry tells
 pub record Moves (h : History) (t : Tables) (e : Entry) (next : Tables) : Type 0 where
-  pub leads : Leads h t e next
+  pub leads : Simulates h t e next
   pub own : next ≡ tables_moved t e
 
 -- a log with an entry at its end
@@ -40,11 +40,11 @@ told_more opening log t next e before settings alloc own =
     here ∙ ap (λ (x : Settings). tables_after t.alloc x opening (log ++ e ∷ [])) (sym settings) ∙ ap (λ (x : Global). tables_after x next.settings opening (log ++ e ∷ [])) (sym alloc)
 
 -- a life stands only after an entry
-pub some_entry : (opening : List Op) (log : List Entry) (t : Tables) → Keeps opening log t → t.alive ≡ true → log ≢ []
+pub some_entry : (opening : List Op) (log : List Entry) (t : Tables) → LogInvariant opening log t → t.alive ≡ true → log ≢ []
 some_entry opening log t k alive = λ none. let fresh = ap (λ (x : Tables). x.alive) (k.fresh none) in cc
 
 -- the same over each store that held an opening list for which the log was lawful
-pub keeps_more : (opening : List Op) (log : List Entry) (t next : Tables) (e : Entry) (k : Keeps opening log t) → t.alive ≡ true → Moves k.history t e next → Keeps opening (log ++ e ∷ []) next
+pub keeps_more : (opening : List Op) (log : List Entry) (t next : Tables) (e : Entry) (k : LogInvariant opening log t) → t.alive ≡ true → Moves k.history t e next → LogInvariant opening (log ++ e ∷ []) next
 keeps_more opening log t next e k alive m =
     let l = m.leads in
     record {
@@ -58,5 +58,5 @@ keeps_more opening log t next e k alive m =
     }
 
 -- the tables stay sound
-pub sound_after : (h : History) (t : Tables) (e : Entry) (next : Tables) → Leads h t e next → IsSound next
+pub sound_after : (h : History) (t : Tables) (e : Entry) (next : Tables) → Simulates h t e next → HasPhase next
 sound_after h t e next leads = record { history = leads.history; phase = leads.phase }

@@ -7,11 +7,11 @@ use Rattle.rm_model.specs.Changes.{kept_after_landing}
 use Rattle.rm_model.specs.State.{LifeState, Manager}
 use Rattle.rm_model.specs.Lawful.{state_after}
 use Rattle.rm_tables.specs.declared.tables.Tables.{Tables}
-use Rattle.rm_facts.specs.Told.{life_in}
-use Rattle.rm_core.specs.Adds.{HasLanded, IsLeft}
+use Rattle.rm_refinement.specs.History.{abstract_life}
+use Rattle.rm_core.specs.Moves.{HasLanded, IsLeft}
 use Rattle.rm_core.specs.Seen.{Seen, StandsFor}
 use Rattle.rm_core.specs.Words.{as_new, is_blown, is_handed, landed_over, manager_after, stands}
-use Rattle.rm_running.proofs.OpeningRuns.{told_standing}
+use Rattle.rm_invariant.proofs.opening.Whole.{told_standing}
 use Rattle.rm_core.proofs.Lives.{landing, landing_none, landing_one, stands_for}
 
 -- a life stands after the log; it was blown where an operation of it was refused, and an operation is with the store where the manager has handed one
@@ -25,7 +25,7 @@ module _ (s : Seen) (opening : List Op) (k : StandsFor opening s) where
   pub told_life : stands s ≡ true → LifeTold opening s
   told_life alive =
       record {
-        life = life_in k.history s.tables;
+        life = abstract_life k.history s.tables;
         is = ap (λ (m : Manager). m.life) (k.same ∙ told_standing k.history s.tables alive);
         blown = refl;
         handed = refl;

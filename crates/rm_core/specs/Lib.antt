@@ -13,11 +13,12 @@ pub use Rattle.rm_model.specs.Rules
 pub use Rattle.rm_model.specs.Place
 pub use Rattle.rm_model.specs.Lawful
 pub use Rattle.rm_tables.specs.Lives
-pub use Rattle.rm_moves.specs.Messages
-pub use Rattle.rm_weight_facts.specs.Weights
+pub use Rattle.rm_invariant.specs.messages.Ranges
+pub use Rattle.rm_invariant.specs.measure.Measure
 pub mod Serving
 pub mod Queues
-pub mod Keeps
+pub mod Invariant
 pub mod Seen
-pub mod Adds
+pub mod Moves
 pub mod Words
+pub mod Spelled

@@ -7,7 +7,7 @@ use Rattle.rm_types.specs.declared.settings.Settings.{Settings}
 use Rattle.rm_types.specs.Records.{records, fits_records}
 use Rattle.rm_model.specs.Lawful.{IsAtRest, state_after}
 use Rattle.rm_tables.specs.declared.tables.Tables.{Tables}
-use Rattle.rm_core.specs.Keeps.{Keeps}
+use Rattle.rm_core.specs.Invariant.{LogInvariant}
 
 pub record Seen : Type 0 where
   pub settings : Settings
@@ -17,7 +17,7 @@ pub record Seen : Type 0 where
 -- the log is one that a manager over a store that held the opening list could have made, and the tables stand for the
 -- state after it
 abbrev pub StandsFor : List Op → Seen → Type 0
-StandsFor opening seen = Keeps opening seen.log seen.tables
+StandsFor opening seen = LogInvariant opening seen.log seen.tables
 
 -- the operation that is with the store
 abbrev pub handed_op : Tables → Option Op

@@ -12,16 +12,16 @@ use Rattle.rm_model.specs.MasterReplies.{master_reply}
 use Rattle.rm_model.specs.NodeReplies.{clock_reply, node_reply}
 use Rattle.rm_model.specs.State.{Scene}
 use Rattle.rm_tables.specs.declared.tables.Tables.{Tables}
-use Rattle.rm_agreement.specs.Shown.{ShowsLife}
-use Rattle.rm_client.specs.Shows.{Shows}
+use Rattle.rm_refinement.specs.Services.{RefinesLife}
+use Rattle.rm_refinement.specs.Clients.{RefinesForClients}
 use Rattle.rm_core.specs.Queues.{served_moved}
 
 -- the reply to a message of an open life is the judge's for every scene that the tables show
 abbrev pub IsOpenReply : Tables → Message → Reply → Type 0
-IsOpenReply t (messages.Client user ask) reply = (m : Scene) → Shows m t → reply ≡ client_reply t.settings m user ask
-IsOpenReply t (messages.Master attempt ask) reply = (m : Scene) → ShowsLife m t → reply ≡ master_reply t.settings m attempt ask
-IsOpenReply t (messages.Node name ask) reply = (m : Scene) → ShowsLife m t → reply ≡ node_reply m name ask
-IsOpenReply t (messages.Clock ask) reply = (m : Scene) → ShowsLife m t → reply ≡ clock_reply m ask
+IsOpenReply t (messages.Client user ask) reply = (m : Scene) → RefinesForClients m t → reply ≡ client_reply t.settings m user ask
+IsOpenReply t (messages.Master attempt ask) reply = (m : Scene) → RefinesLife m t → reply ≡ master_reply t.settings m attempt ask
+IsOpenReply t (messages.Node name ask) reply = (m : Scene) → RefinesLife m t → reply ≡ node_reply m name ask
+IsOpenReply t (messages.Clock ask) reply = (m : Scene) → RefinesLife m t → reply ≡ clock_reply m ask
 
 -- before the life is open each reply is NOTOPEN
 abbrev pub IsReplyWhere : Bool → Tables → Message → Reply → Type 0

@@ -8,8 +8,8 @@ use Rattle.rm_types.specs.declared.operations.Op.{Op}
 use Rattle.rm_types.specs.declared.settings.Settings.{Settings}
 use Rattle.rm_types.specs.Records.{Records, records}
 use Rattle.rm_tables.specs.Lives.{is_ready, may_go_down, no_life}
-use Rattle.rm_moves.specs.Messages.{IsMessage}
-use Rattle.rm_weight_facts.specs.Weights.{message_weight as weight_added, weight}
+use Rattle.rm_invariant.specs.messages.Ranges.{IsMessage}
+use Rattle.rm_invariant.specs.measure.Measure.{message_measure as weight_added, measure}
 use Rattle.rm_core.specs.Queues.{landed_in, tables_moved}
 use Rattle.rm_core.specs.Seen.{Seen, handed_op}
 
@@ -50,12 +50,12 @@ abbrev pub has_rest : Seen → Type 0
 has_rest seen = (seen.tables.main ≡ []) × (seen.tables.sched ≡ []) × (seen.tables.awaiting ≡ []) × (seen.tables.handed ≡ false)
 
 -- how much is left to do before all is at rest
-abbrev pub weight_of : Seen → ℕ
-weight_of seen = weight seen.tables
+abbrev pub measure_of : Seen → ℕ
+measure_of seen = measure seen.tables
 
 -- a message that is served adds so much to it at most
-abbrev pub message_weight : ℕ
-message_weight = weight_added
+abbrev pub message_measure : ℕ
+message_measure = weight_added
 
 -- the operation that is with the store, where one is
 abbrev pub handed_of : Seen → Option Op

@@ -4,13 +4,15 @@
 //! dies could have made: the judge of `rm_model` allows each entry in the state that those before it leave.
 //!
 //! It stands on `rm_tables` and on the crates that work off its queues (`rm_dispatch`, `rm_sched`) and answer clients, masters, nodes and
-//! the clock (`rm_client`, `rm_master`, `rm_tracker`), and on `rm_running` for why each of their steps is lawful. Which message is served
+//! the clock (`rm_client`, `rm_master`, `rm_tracker`), and on `rm_invariant` for why each of their steps is lawful. Which message is served
 //! and when a segment closes is for the layer above to say.
 #![tactic(auto)]
 
+mod laws;
 mod likeness;
 mod manager;
 mod moves;
 
+pub use laws::law_spelled;
 pub use manager::{Core, Move};
 pub use rm_tables::Refused;

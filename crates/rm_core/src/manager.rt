@@ -9,10 +9,10 @@ ghost use Rattle.rm_queues.specs.Rules.{KeepsRules};
 ghost use Rattle.rm_model.specs.State.{opening_state};
 ghost use Rattle.rm_model.specs.Lawful.{AllAllowed, state_after};
 ghost use Rattle.rm_tables.specs.Lives.{is_ready, may_go_down, no_life};
-ghost use Rattle.rm_core.specs.Adds.{CanBeginOver, CanMake, Does, IsLeft, may_make};
-ghost use Rattle.rm_core.specs.Keeps.{QueuesAre};
+ghost use Rattle.rm_core.specs.Moves.{CanBeginOver, CanMake, MoveEffect, IsLeft, may_make};
+ghost use Rattle.rm_core.specs.Invariant.{QueuesAre};
 ghost use Rattle.rm_core.specs.Seen.{IsToBeKept, Rests, StandsFor, handed_op, is_kept_entry};
-ghost use Rattle.rm_moves.specs.Messages.{IsMessage, KeepsLimits};
+ghost use Rattle.rm_invariant.specs.messages.Ranges.{IsMessage, KeepsLimits};
 
 use crate::likeness::{are_same, is_after};
 use crate::moves;
@@ -58,12 +58,12 @@ pub struct Core {
 }
 
 impl Model for Core {
-    ghost use Rattle.rm_core.specs.Keeps.{QueuesAre};
+    ghost use Rattle.rm_core.specs.Invariant.{QueuesAre};
     ghost use Rattle.rm_core.specs.Seen.{Seen};
 
     ghost Value = { Seen };
 
-    ghost use Rattle.rm_core.specs.Keeps.{IsSoundCore};
+    ghost use Rattle.rm_core.specs.Invariant.{IsSoundCore};
 
     ghost view = { λ a. record { settings = a.tables.settings; tables = a.tables; log = a.log } };
 
@@ -174,7 +174,7 @@ impl Core {
     /// kept by then, it is lawful after the move too.
     pub fn step(&mut self, next: Move) -> Result<(), Refused>
         requires { CanMake self.old.tables next }
-        ensures does { OnOk result (Does next self.old self.new) }
+        ensures does { OnOk result (MoveEffect next self.old self.new) }
         ensures not_ready { IsErrOf result Refused.NotReady → may_make self.old.tables next ≡ false }
         ensures err { OnErr result (self.new ≡ self.old) }
     {
@@ -195,7 +195,7 @@ impl Core {
         requires over { CanBeginOver tree }
         requires low { 1 ≤ handed }
         requires high { handed ≤ greatest_stamp }
-        ensures does { OnOk result (Does (Move.Begin tree handed) self.old self.new) }
+        ensures does { OnOk result (MoveEffect (Move.Begin tree handed) self.old self.new) }
         ensures not_ready { IsErrOf result Refused.NotReady → is_ready self.old.tables Lane.Begin ≡ false }
         ensures err { OnErr result (self.new ≡ self.old) }
     {
@@ -208,7 +208,7 @@ impl Core {
     }
 
     fn main(&mut self) -> Result<(), Refused>
-        ensures does { OnOk result (Does Move.Main self.old self.new) }
+        ensures does { OnOk result (MoveEffect Move.Main self.old self.new) }
         ensures not_ready { IsErrOf result Refused.NotReady → is_ready self.old.tables Lane.Main ≡ false }
         ensures err { OnErr result (self.new ≡ self.old) }
     {
@@ -216,7 +216,7 @@ impl Core {
     }
 
     fn sched(&mut self) -> Result<(), Refused>
-        ensures does { OnOk result (Does Move.Sched self.old self.new) }
+        ensures does { OnOk result (MoveEffect Move.Sched self.old self.new) }
         ensures not_ready { IsErrOf result Refused.NotReady → is_ready self.old.tables Lane.Sched ≡ false }
         ensures err { OnErr result (self.new ≡ self.old) }
     {
@@ -224,7 +224,7 @@ impl Core {
     }
 
     fn hand(&mut self) -> Result<(), Refused>
-        ensures does { OnOk result (Does Move.Hand self.old self.new) }
+        ensures does { OnOk result (MoveEffect Move.Hand self.old self.new) }
         ensures not_ready { IsErrOf result Refused.NotReady → is_ready self.old.tables Lane.Hand ≡ false }
         ensures err { OnErr result (self.new ≡ self.old) }
     {
@@ -232,7 +232,7 @@ impl Core {
     }
 
     fn keep(&mut self) -> Result<(), Refused>
-        ensures does { OnOk result (Does Move.Kept self.old self.new) }
+        ensures does { OnOk result (MoveEffect Move.Kept self.old self.new) }
         ensures not_ready { IsErrOf result Refused.NotReady → is_ready self.old.tables Lane.Write ≡ false }
         ensures err { OnErr result (self.new ≡ self.old) }
     {
@@ -240,7 +240,7 @@ impl Core {
     }
 
     fn blow(&mut self, passed: u32) -> Result<(), Refused>
-        ensures does { OnOk result (Does (Move.Blown passed) self.old self.new) }
+        ensures does { OnOk result (MoveEffect (Move.Blown passed) self.old self.new) }
         ensures not_ready { IsErrOf result Refused.NotReady → is_ready self.old.tables Lane.Write ≡ false }
         ensures err { OnErr result (self.new ≡ self.old) }
     {
@@ -250,7 +250,7 @@ impl Core {
     fn serve(&mut self, message: Message) -> Result<(), Refused>
         requires message { IsMessage message }
         requires few { self.old.tables.served < most_served }
-        ensures does { OnOk result (Does (Move.Serve message) self.old self.new) }
+        ensures does { OnOk result (MoveEffect (Move.Serve message) self.old self.new) }
         ensures not_ready { IsErrOf result Refused.NotReady → may_make self.old.tables (Move.Serve message) ≡ false }
         ensures err { OnErr result (self.new ≡ self.old) }
     {
@@ -261,7 +261,7 @@ impl Core {
     }
 
     fn settle(&mut self) -> Result<(), Refused>
-        ensures does { OnOk result (Does Move.Settle self.old self.new) }
+        ensures does { OnOk result (MoveEffect Move.Settle self.old self.new) }
         ensures not_ready { IsErrOf result Refused.NotReady → is_ready self.old.tables Lane.End ≡ false }
         ensures err { OnErr result (self.new ≡ self.old) }
     {
@@ -269,7 +269,7 @@ impl Core {
     }
 
     fn go_down(&mut self) -> Result<(), Refused>
-        ensures does { OnOk result (Does Move.Down self.old self.new) }
+        ensures does { OnOk result (MoveEffect Move.Down self.old self.new) }
         ensures not_ready { IsErrOf result Refused.NotReady → may_go_down self.old.tables ≡ false }
         ensures err { OnErr result (self.new ≡ self.old) }
     {

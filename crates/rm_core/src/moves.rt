@@ -16,8 +16,8 @@ ghost use Rattle.rm_tables.specs.Lives.{begun, gone_down, handed_out, is_ready, 
 ghost use Rattle.rm_tables.specs.MainEvents.{main_step};
 ghost use Rattle.rm_tables.specs.SchedEvents.{EndsBy, sched_step};
 ghost use Rattle.rm_sched.specs.CanWork.{AreFew, CanAbsorb, CanPass};
-ghost use Rattle.rm_moves.specs.Messages.{IsMessage};
-ghost use Rattle.rm_range_facts.specs.Ranged.{Ranged};
+ghost use Rattle.rm_invariant.specs.messages.Ranges.{IsMessage};
+ghost use Rattle.rm_invariant.specs.bounds.InBounds.{InBounds};
 ghost use Rattle.rm_core.specs.Queues.{answered, landed_in, served_moved};
 ghost use Rattle.rm_core.specs.Serving.{IsOpenReply, IsReply, IsServed};
 
@@ -212,7 +212,7 @@ fn answer(queues: &QueueTree, t: &mut Tables, message: &Message) -> Result<Reply
     requires settings { queues.now ≡ t.old.settings }
     requires message { IsMessage message.now }
     requires few { t.old.served < most_served }
-    requires ranged { t.old.is_open ≡ true → Ranged t.old }
+    requires ranged { t.old.is_open ≡ true → InBounds t.old }
     requires attempts { t.old.is_open ≡ true → (id : AppId) → length (attempts_in (found_in t.old id)) < 2 ^ 32 }
     ensures reply { IfOk result (λ reply. IsReply t.old message.now reply) }
     ensures changed { IfOk result (λ reply. t.new ≡ served_moved message.now reply t.old) }
@@ -232,7 +232,7 @@ fn answer(queues: &QueueTree, t: &mut Tables, message: &Message) -> Result<Reply
 fn open_answer(queues: &QueueTree, t: &mut Tables, message: &Message) -> Result<Reply, NoMemory>
     requires settings { queues.now ≡ t.old.settings }
     requires message { IsMessage message.now }
-    requires ranged { Ranged t.old }
+    requires ranged { InBounds t.old }
     requires attempts { (id : AppId) → length (attempts_in (found_in t.old id)) < 2 ^ 32 }
     ensures reply { IfOk result (λ reply. IsOpenReply t.old message.now reply) }
     ensures changed { IfOk result (λ reply. t.new ≡ answered message.now reply t.old) }
@@ -259,7 +259,7 @@ pub fn answer_message(
     requires settings { queues.now ≡ t.old.settings }
     requires message { IsMessage message }
     requires few { t.old.served < most_served }
-    requires ranged { is_ready t.old Lane.Client ≡ true → t.old.is_open ≡ true → Ranged t.old }
+    requires ranged { is_ready t.old Lane.Client ≡ true → t.old.is_open ≡ true → InBounds t.old }
     requires attempts { is_ready t.old Lane.Client ≡ true → t.old.is_open ≡ true → (id : AppId) → length (attempts_in (found_in t.old id)) < 2 ^ 32 }
     ensures ok { OnOk result (IsServed t.old t.new log.old log.new message) }
     ensures ready { OnOk result (is_ready t.old Lane.Client ≡ true) }

@@ -8,31 +8,31 @@ use Rattle.rm_types.specs.Records.{Records, records}
 use Rattle.rm_types.specs.Limits.{greatest_stamp}
 use Rattle.rm_model.specs.Changes.{kept_after_landing}
 use Rattle.rm_model.specs.Lawful.{state_after}
-use Rattle.rm_model.specs.Place.{Begins as BeginsAt, Place, begun, stamp_of}
-use Rattle.rm_core.specs.Adds.{IsLeft}
+use Rattle.rm_model.specs.Place.{BeginsAsScripted as BeginsAt, Place, begun, stamp_of}
+use Rattle.rm_core.specs.Moves.{IsLeft}
 use Rattle.rm_core.specs.Seen.{Seen, StandsFor}
 use Rattle.rm_core.specs.Words.{as_new, is_blown, landed_over, served_in, stands}
 use Rattle.rm_core.proofs.Telling.{told_landed}
 use Rattle.rm_desk.specs.View.{DeskView}
 use Rattle.rm_desk.specs.Scripts.{AllLive, CanFollow, EndsInCrash, messages_in}
-use Rattle.rm_desk.specs.Runs.{IsSound}
-use Rattle.rm_desk.specs.Does.{Begins}
+use Rattle.rm_desk.specs.Runs.{IsPlaceSound}
+use Rattle.rm_desk.specs.Effects.{LifeBegins}
 use Rattle.rm_desk.proofs.Longer.{one_more}
 
 -- the next life can begin: its stamp is in its range
-pub next_stamp : (d : DeskView) → IsSound d → (lives : List Life) → d.place.lives ≡ lives → (life : Life) → slice_get lives 0 ≡ Some life → (1 ≤ life.stamp) × (life.stamp ≤ greatest_stamp)
+pub next_stamp : (d : DeskView) → IsPlaceSound d → (lives : List Life) → d.place.lives ≡ lives → (life : Life) → slice_get lives 0 ≡ Some life → (1 ≤ life.stamp) × (life.stamp ≤ greatest_stamp)
 next_stamp d h [] e life first = cc
 next_stamp d h (one ∷ more) e life first =
     let same : one ≡ life = cc in
     let can : AllLive (life ∷ more) = subst (λ (x : Life). AllLive (x ∷ more)) same (subst AllLive e h.lives) in
     (can.0.low, can.0.high)
 
-module _ (d : DeskView) (new : Seen) (place : Place) (h : IsSound d) (tree : Records) (settings : new.settings ≡ d.core.settings) (began : as_new new ≡ as_new d.core)
+module _ (d : DeskView) (new : Seen) (place : Place) (h : IsPlaceSound d) (tree : Records) (settings : new.settings ≡ d.core.settings) (began : as_new new ≡ as_new d.core)
     (lawful : (opening : List Op) → StandsFor opening d.core → IsLeft tree (state_after opening d.core.log) → StandsFor opening new)
     (stood : stands d.core ≡ false) (standing : stands new ≡ true) (count : served_in new ≡ 0) (unblown : is_blown new ≡ false) (life : Life)
     (added : new.log ≡ d.core.log ++ Opened (landed_over d.core tree) tree.next_epoch (stamp_of life tree.stamp) ∷ []) where
   -- it begins over what the last one left
-  pub begin_does : (more : List Life) → d.place.lives ≡ life ∷ more → place ≡ begun d.place.lives d.place → Begins tree d (record { core = new; place = place })
+  pub begin_does : (more : List Life) → d.place.lives ≡ life ∷ more → place ≡ begun d.place.lives d.place → LifeBegins tree d (record { core = new; place = place })
   begin_does more whole p =
       let can : AllLive (life ∷ more) = subst AllLive whole h.lives in
       let q : place ≡ record { lives = more; segments = life.segments } = p ∙ ap (λ (xs : List Life). begun xs d.place) whole in

@@ -11,7 +11,7 @@ use Rattle.rm_types.specs.Lanes.{feed_lane, sender_of}
 use Rattle.rm_model.specs.Place.{first_from, is_from, without_first}
 use Rattle.rm_core.specs.Seen.{Seen}
 use Rattle.rm_core.specs.Words.{IsServable, ready_at}
-use Rattle.rm_desk.specs.Does.{Answers, IsEntryOf}
+use Rattle.rm_desk.specs.Effects.{Answers, IsEntryOf}
 use Rattle.rm_desk.specs.Lanes.{IsWork, stands_after}
 use Rattle.rm_desk.specs.Scripts.{AllServed}
 use Rattle.rm_desk.specs.View.{DeskView}

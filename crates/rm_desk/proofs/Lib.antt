@@ -4,3 +4,6 @@ pub mod Feeding
 pub mod Moving
 pub mod Beginning
 pub mod Resting
+pub mod Senders
+pub mod Firsts
+pub mod Takes

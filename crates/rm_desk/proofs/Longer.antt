@@ -15,7 +15,7 @@ use Rattle.rm_model.specs.Lawful.{Follows, state_after}
 use Rattle.rm_model.specs.Place.{IsNext, Place, beginning, moved}
 use Rattle.rm_core.specs.Seen.{StandsFor}
 use Rattle.rm_desk.specs.View.{DeskView}
-use Rattle.rm_desk.specs.Runs.{GoesTo, IsRun}
+use Rattle.rm_desk.specs.Runs.{GoesTo, IsScriptRun}
 use Rattle.std.specs.List.{fold}
 
 -- a log with an entry at its end
@@ -37,8 +37,8 @@ goes_push opening script log place e n g =
     }
 
 -- the run with one more entry
-pub one_more : (opening : List Op) (script : Script) (d next : DeskView) (e : Entry) → IsRun opening script d → StandsFor opening next.core → next.core.log ≡ d.core.log ++ e ∷ []
-    → next.place ≡ moved d.place e → IsNext (state_after opening d.core.log) d.place e → IsRun opening script next
+pub one_more : (opening : List Op) (script : Script) (d next : DeskView) (e : Entry) → IsScriptRun opening script d → StandsFor opening next.core → next.core.log ≡ d.core.log ++ e ∷ []
+    → next.place ≡ moved d.place e → IsNext (state_after opening d.core.log) d.place e → IsScriptRun opening script next
 one_more opening script d next e run stands added place is_next =
     record {
       stands = stands;

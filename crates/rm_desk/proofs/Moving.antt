@@ -18,19 +18,19 @@ use Rattle.rm_types.specs.Lanes.{feed_lane, lane_of_entry, sender_of}
 use Rattle.rm_types.specs.Lists.{is_nil}
 use Rattle.rm_model.specs.Lawful.{state_after}
 use Rattle.rm_model.specs.Place.{Crashes, Place, Settles, close_left, first_from, messages_left, moved, rest_of, segments_without, without_first}
-use Rattle.rm_core.specs.Adds.{Does as CoreDoes, GoesOnFrom, IsOf, Stands, Weighs, blown_after, served_after}
+use Rattle.rm_core.specs.Moves.{MoveEffect as CoreDoes, GoesOnFrom, IsOf, LifeAround, MeasureChanges, blown_after, served_after}
 use Rattle.rm_tables.specs.declared.events.Refused.{Refused}
 use Rattle.rm_core.specs.declared.manager.Move.{Move}
 use Rattle.rm_core.specs.Seen.{Seen, StandsFor}
 use Rattle.rm_types.specs.Limits.{most_served}
-use Rattle.rm_core.specs.Words.{IsServable, as_new, can_go_down, handed_of, has_rest, is_blown, message_weight, ready_at, served_in, stands, weight_of}
+use Rattle.rm_core.specs.Words.{IsServable, as_new, can_go_down, handed_of, has_rest, is_blown, message_measure, ready_at, served_in, stands, measure_of}
 use Rattle.rm_desk.specs.declared.feeds.Feeds.{Feeds}
 use Rattle.rm_desk.specs.View.{DeskView}
 use Rattle.rm_desk.specs.Scripts.{AllLive, CanFollow, EndsInCrash, messages_in}
 use Rattle.rm_desk.specs.Lanes.{IsWork, may_close, stands_after}
 use Rattle.rm_desk.specs.Feeds.{IsEntered, at, current_in, place_of}
-use Rattle.rm_desk.specs.Runs.{IsLast, IsSound, segment_cost}
-use Rattle.rm_desk.specs.Does.{Does, DoesBy, IsEntryOf}
+use Rattle.rm_desk.specs.Runs.{IsLast, IsPlaceSound, segment_cost}
+use Rattle.rm_desk.specs.Effects.{LaneEffect, EffectBy, IsEntryOf}
 use Rattle.rm_desk.proofs.Feeding.{answers_entry, found_sender, no_work, not_end, one_less, served_found, served_without, stands_on}
 use Rattle.rm_desk.proofs.Longer.{IsOwn, IsQuietAt, IsSilent, kept_silent, one_more, own_silent, quiet_at}
 use Rattle.rm_desk.proofs.Words.{both, nil_is, rest_idle}
@@ -44,12 +44,12 @@ close_is f entered None e = let none = entered e in rw (e, none.0) refl
 close_is f entered (Some close) e = rw e refl
 
 -- a move of which the script says nothing, made or refused
-module _ (lane : Lane) (old new : Seen) (place : Place) (h : IsSound (record { core = old; place = place })) (m : Move)
+module _ (lane : Lane) (old new : Seen) (place : Place) (h : IsPlaceSound (record { core = old; place = place })) (m : Move)
     (kind : Entry → Type 0) (silent : (e : Entry) → IsOf m old.tables e → IsQuietAt place e × kind e × (lane_of_entry e ≡ lane)) (from : (opening : List Op) → GoesOnFrom m opening old) where
   pub silent_does : (r : Result (Unit {0}) Refused) → IsWork lane → stands_after lane (close_left place.segments) ≡ true → ready_at old lane ≡ true
-      → OnOk r (CoreDoes m old new) → (Weighs m old.settings (weight_of old) (weight_of new) → weight_of new < weight_of old) → (Stands m (stands old) (stands new) → (stands old ≡ true) × (stands new ≡ true))
+      → OnOk r (CoreDoes m old new) → (MeasureChanges m old.settings (measure_of old) (measure_of new) → measure_of new < measure_of old) → (LifeAround m (stands old) (stands new) → (stands old ≡ true) × (stands new ≡ true))
       → served_after m (served_in old) ≡ served_in old → (stands old ≡ true → blown_after m (is_blown old) ≡ true → IsLast (close_left place.segments))
-      → OnOk r (DoesBy kind (blown_after m (is_blown old)) lane (record { core = old; place = place }) (record { core = new; place = place }))
+      → OnOk r (EffectBy kind (blown_after m (is_blown old)) lane (record { core = old; place = place }) (record { core = new; place = place }))
   silent_does (Err e) work behind ready does less lives same last = tt
   silent_does (Ok x) work behind ready does less lives same last =
       let adds = does.added in
@@ -128,7 +128,7 @@ module _ (f : Feeds) (close : Close) (c : f.close ≡ Some close) (sender : Send
       ap messages_in fed ∙ sum_by-cons (λ (x : Segment). length x.messages) (record { messages = f.feed; close = close }) f.segments ∙ omega (arith, less)
 
   -- the first message of a feed can be served
-  pub first_served : (core : Seen) → IsSound (at core f) → stands core ≡ true → IsServable m × (served_in core < most_served)
+  pub first_served : (core : Seen) → IsPlaceSound (at core f) → stands core ≡ true → IsServable m × (served_in core < most_served)
   first_served core h alive =
       let sound : CanFollow (record { messages = f.feed; close = close } ∷ f.segments) = subst CanFollow fed h.segments in
       (served_found sender m f.feed sound.0 e, let n = h.served alive in let were = fed_messages in omega (arith, n, were))
@@ -143,12 +143,12 @@ ends_after : (after : List Segment) → EndsInCrash (record { messages = []; clo
 ends_after [] e = absurd e
 ends_after (one ∷ after) e = e
 
-module _ (old new : Seen) (f : Feeds) (h : IsSound (at old f)) (entered : IsEntered f) (settings : new.settings ≡ old.settings) (began : as_new new ≡ as_new old)
+module _ (old new : Seen) (f : Feeds) (h : IsPlaceSound (at old f)) (entered : IsEntered f) (settings : new.settings ≡ old.settings) (began : as_new new ≡ as_new old)
     (lawful : (opening : List Op) → StandsFor opening old → StandsFor opening new) where
   -- the first message of a sender's feed is answered
   pub serve_does : (close : Close) → f.close ≡ Some close → (sender : Sender) (m : Message) → first_from sender f.feed ≡ Some m → (reply : Reply)
-      → new.log ≡ old.log ++ Served (sender_of m) m reply ∷ [] → weight_of new ≤ weight_of old + message_weight → (stands old ≡ true) × (stands new ≡ true)
-      → served_in new ≡ served_in old + 1 → is_blown new ≡ is_blown old → (rest : List Message) → rest ≡ without_first sender f.feed → Does (feed_lane sender) (at old f) (at new (record f { feed = rest }))
+      → new.log ≡ old.log ++ Served (sender_of m) m reply ∷ [] → measure_of new ≤ measure_of old + message_measure → (stands old ≡ true) × (stands new ≡ true)
+      → served_in new ≡ served_in old + 1 → is_blown new ≡ is_blown old → (rest : List Message) → rest ≡ without_first sender f.feed → LaneEffect (feed_lane sender) (at old f) (at new (record f { feed = rest }))
   serve_does close c sender m e reply added weighs alive count same rest is =
       let d = at old f in
       let next = at new (record f { feed = rest }) in
@@ -163,9 +163,9 @@ module _ (old new : Seen) (f : Feeds) (h : IsSound (at old f)) (entered : IsEnte
       ap (λ (one : Sender). segments_without one d.place.segments) own ∙ ap (segments_without sender) before in
       let place : next.place ≡ moved d.place entry = ap (λ (x : List Segment). record { lives = f.lives; segments = x }) (after ∙ sym taken) in
       let less = one_less sender m f.feed e in
-      let cost : sum_by segment_cost d.place.segments ≡ 1 + (message_weight + 1) * length f.feed + sum_by segment_cost f.segments =
+      let cost : sum_by segment_cost d.place.segments ≡ 1 + (message_measure + 1) * length f.feed + sum_by segment_cost f.segments =
       ap (λ (x : List Segment). sum_by segment_cost x) before ∙ sum_by-cons segment_cost (record { messages = f.feed; close = close }) f.segments in
-      let costs : sum_by segment_cost next.place.segments ≡ 1 + (message_weight + 1) * length (without_first sender f.feed) + sum_by segment_cost f.segments =
+      let costs : sum_by segment_cost next.place.segments ≡ 1 + (message_measure + 1) * length (without_first sender f.feed) + sum_by segment_cost f.segments =
       ap (λ (x : List Segment). sum_by segment_cost x) after ∙ sum_by-cons segment_cost (record { messages = without_first sender f.feed; close = close }) f.segments in
       let were = fed_messages f close c sender m e in
       let are : messages_in next.place.segments ≡ length (without_first sender f.feed) + messages_in f.segments =
@@ -196,8 +196,8 @@ module _ (old new : Seen) (f : Feeds) (h : IsSound (at old f)) (entered : IsEnte
       }
 
   -- the current segment settles
-  pub settle_does : (g : Feeds) → f.close ≡ Some Settle → f.feed ≡ [] → new.log ≡ old.log ++ Settled ∷ [] → weight_of new ≤ weight_of old
-      → (stands old ≡ true) × (stands new ≡ true) → served_in new ≡ served_in old → is_blown new ≡ is_blown old → place_of g ≡ behind f → has_rest new → Does lanes.End (at old f) (at new g)
+  pub settle_does : (g : Feeds) → f.close ≡ Some Settle → f.feed ≡ [] → new.log ≡ old.log ++ Settled ∷ [] → measure_of new ≤ measure_of old
+      → (stands old ≡ true) × (stands new ≡ true) → served_in new ≡ served_in old → is_blown new ≡ is_blown old → place_of g ≡ behind f → has_rest new → LaneEffect lanes.End (at old f) (at new g)
   settle_does g c none added weighs alive count same p rest =
       let d = at old f in
       let next = at new g in
@@ -240,7 +240,7 @@ module _ (old new : Seen) (f : Feeds) (h : IsSound (at old f)) (entered : IsEnte
 
   -- the life goes down
   pub down_does : (g : Feeds) (close : Option Close) → f.close ≡ close → close ≢ Some Settle → may_close (at old f) (close_left (place_of f).segments) ≡ true
-      → new.log ≡ old.log ++ Down ∷ [] → weight_of new ≤ weight_of old → (stands old ≡ true) × (stands new ≡ false) → is_blown new ≡ is_blown old → place_of g ≡ behind f → Does lanes.End (at old f) (at new g)
+      → new.log ≡ old.log ++ Down ∷ [] → measure_of new ≤ measure_of old → (stands old ≡ true) × (stands new ≡ false) → is_blown new ≡ is_blown old → place_of g ≡ behind f → LaneEffect lanes.End (at old f) (at new g)
   down_does g None c unsettled ready added weighs alive same p = let none = close_is f entered None c in absurd (let x = rw none at ready in cc)
   down_does g (Some Settle) c unsettled ready added weighs alive same p = absurd (unsettled refl)
   down_does g (Some (Crash calls image)) c unsettled ready added weighs alive same p =

@@ -8,7 +8,7 @@ use Rattle.rm_model.specs.Lawful.{IsAtRest, state_after}
 use Rattle.rm_core.specs.Seen.{Rests, Seen, StandsFor}
 use Rattle.rm_core.specs.Words.{can_go_down, handed_of, has_rest, is_blown, ready_at, stands}
 use Rattle.rm_core.proofs.Telling.{told_blew, told_life, told_none}
-use Rattle.rm_desk.specs.Does.{HasHanded}
+use Rattle.rm_desk.specs.Effects.{HasHanded}
 use Rattle.rm_desk.specs.Lanes.{IsWork}
 use Rattle.rm_desk.specs.Runs.{HasBlown}
 

@@ -5,7 +5,7 @@ pub use Rattle.rm_model.specs.State
 pub use Rattle.rm_model.specs.Changes
 pub use Rattle.rm_model.specs.Place
 pub use Rattle.rm_model.specs.Lawful
-pub use Rattle.rm_core.specs.Adds
+pub use Rattle.rm_core.specs.Moves
 pub use Rattle.rm_core.specs.Seen
 pub use Rattle.rm_core.specs.Words
 pub mod View
@@ -13,4 +13,5 @@ pub mod Scripts
 pub mod Lanes
 pub mod Feeds
 pub mod Runs
-pub mod Does
+pub mod Effects
+pub mod Left

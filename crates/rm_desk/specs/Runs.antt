@@ -11,7 +11,7 @@ use Rattle.rm_model.specs.Place.{Place, beginning, close_left}
 use Rattle.rm_model.specs.Lawful.{Follows, IsAtRest, place_after, state_after}
 use Rattle.rm_core.specs.Seen.{StandsFor}
 use Rattle.rm_types.specs.Limits.{most_served}
-use Rattle.rm_core.specs.Words.{has_rest, is_blown, message_weight, served_in, stands, weight_of}
+use Rattle.rm_core.specs.Words.{has_rest, is_blown, message_measure, served_in, stands, measure_of}
 use Rattle.rm_desk.specs.View.{DeskView}
 use Rattle.rm_desk.specs.Scripts.{AllLive, CanFollow, EndsInCrash, IsCrash, messages_in}
 
@@ -22,7 +22,7 @@ IsLast (Some close) = IsCrash close
 
 -- what is left of the script can be gone along: no segment is left between two lives, a life crashes where another follows
 -- it, in the segment in which an operation of it was refused, and no more messages are left in it than may still be served
-pub record IsSound (d : DeskView) : Type 0 where
+pub record IsPlaceSound (d : DeskView) : Type 0 where
   pub lives : AllLive d.place.lives
   pub segments : CanFollow d.place.segments
   pub between : stands d.core ≡ false → d.place.segments ≡ []
@@ -37,23 +37,23 @@ pub record GoesTo (opening : List Op) (script : Script) (log : List Entry) (plac
 
 -- over a store that held the opening list the log is one that a manager could have made, and it goes along the script up to
 -- the desk's place
-pub record IsRun (opening : List Op) (script : Script) (d : DeskView) : Type 0 where
+pub record IsScriptRun (opening : List Op) (script : Script) (d : DeskView) : Type 0 where
   pub stands : StandsFor opening d.core
   pub along : GoesTo opening script d.core.log d.place
 
 -- the script is at its end, and where a life stands nothing is left to do
-pub record IsOver (d : DeskView) : Type 0 where
+pub record IsScriptOver (d : DeskView) : Type 0 where
   pub lives : d.place.lives ≡ []
   pub segments : d.place.segments ≡ []
   pub rest : stands d.core ≡ true → has_rest d.core
 
 -- a message costs at most its own move and those that it adds, and a segment one more
 abbrev pub segment_cost : Segment → ℕ
-segment_cost segment = 1 + (message_weight + 1) * length segment.messages
+segment_cost segment = 1 + (message_measure + 1) * length segment.messages
 
 -- at most so many moves are left in a life
 abbrev pub left : DeskView → ℕ
-left d = weight_of d.core + sum_by segment_cost d.place.segments
+left d = measure_of d.core + sum_by segment_cost d.place.segments
 
 -- a life that was blown, or was not
 abbrev pub HasBlown : Bool → Option LifeState → Type 0
@@ -62,7 +62,7 @@ HasBlown b (Some life) = life.blown ≡ b
 
 -- what a desk tells of the state after its log: whether a life stands there, and was blown; where none stands, whether the last one was; and that
 -- nothing is owed where nothing is left to do
-pub record Tells (opening : List Op) (d : DeskView) : Type 0 where
+pub record DescribesState (opening : List Op) (d : DeskView) : Type 0 where
   pub life : stands d.core ≡ true → HasBlown (is_blown d.core) (state_after opening d.core.log).life
   pub none : stands d.core ≡ false → (state_after opening d.core.log).life ≡ None
   pub blew : stands d.core ≡ false → (state_after opening d.core.log).blew ≡ is_blown d.core

@@ -9,13 +9,13 @@ ghost use Rattle.rm_model.specs.Lawful.{IsDone, Lawful, state_after};
 ghost use Rattle.rm_model.specs.Place.{beginning, close_left};
 ghost use Rattle.rm_tables.specs.declared.events.Refused.{Refused};
 ghost use Rattle.rm_queues.specs.Rules.{KeepsRules};
-ghost use Rattle.rm_moves.specs.Messages.{KeepsLimits};
-ghost use Rattle.rm_core.specs.Adds.{CanBeginOver, IsLeft};
+ghost use Rattle.rm_invariant.specs.messages.Ranges.{KeepsLimits};
+ghost use Rattle.rm_core.specs.Moves.{CanBeginOver, IsLeft};
 ghost use Rattle.rm_core.specs.Seen.{IsToBeKept, StandsFor};
 ghost use Rattle.rm_core.specs.Words.{as_new, handed_of, has_rest, is_blown, new_manager, stands};
-ghost use Rattle.rm_desk.specs.Does.{Begins, Blows, Does, IsHanded};
+ghost use Rattle.rm_desk.specs.Effects.{LifeBegins, Blows, LaneEffect, IsHanded};
 ghost use Rattle.rm_desk.specs.Lanes.{HasNoWork, IsStep, is_ready_at};
-ghost use Rattle.rm_desk.specs.Runs.{IsOver, IsRun, IsSound, Tells};
+ghost use Rattle.rm_desk.specs.Runs.{IsScriptOver, IsScriptRun, IsPlaceSound, DescribesState};
 ghost use Rattle.rm_desk.specs.Scripts.{CanGoAlong};
 
 use crate::feeds::Feeds;
@@ -39,11 +39,11 @@ impl Model for Desk {
     ghost Value = { DeskView };
 
     ghost use Rattle.rm_desk.specs.Feeds.{IsEntered, at};
-    ghost use Rattle.rm_desk.specs.Runs.{IsSound};
+    ghost use Rattle.rm_desk.specs.Runs.{IsPlaceSound};
 
     ghost view = { λ a. at a.core a.feeds };
 
-    ghost invariant = { λ a. IsSound (at a.core a.feeds) × IsEntered a.feeds };
+    ghost invariant = { λ a. IsPlaceSound (at a.core a.feeds) × IsEntered a.feeds };
 }
 
 impl Desk {
@@ -60,7 +60,7 @@ impl Desk {
         ensures place { IfOk result (λ desk. desk.place ≡ beginning script) }
         ensures down { IfOk result (λ desk. stands desk.core ≡ false) }
         ensures began { IfOk result (λ desk. as_new desk.core ≡ new_manager alloc settings) }
-        ensures run { IfOk result (λ desk. (opening : List AnyOp) → IsRun opening script desk) }
+        ensures run { IfOk result (λ desk. (opening : List AnyOp) → IsScriptRun opening script desk) }
     {
         let core = Core::new(alloc, settings)?;
         Ok(Desk {
@@ -104,7 +104,7 @@ impl Desk {
     /// The store's lane moves by `kept`, and a life begins by `begin`.
     pub fn step(&mut self, lane: Lane) -> Result<(), Refused>
         requires { IsStep lane }
-        ensures does { OnOk result (Does lane self.old self.new) }
+        ensures does { OnOk result (LaneEffect lane self.old self.new) }
         ensures ready { OnOk result (is_ready_at self.old lane ≡ true) }
         ensures not_ready { IsErrOf result Refused.NotReady ↔ (is_ready_at self.old lane ≡ false) }
         ensures err { OnErr result (self.new ≡ self.old) }
@@ -119,7 +119,7 @@ impl Desk {
     /// `NotReady` comes exactly where none is with the store, and `Memory` where no memory was found; then
     /// nothing has changed.
     pub fn kept(&mut self) -> Result<(), Refused>
-        ensures does { OnOk result (Does Lane.Write self.old self.new) }
+        ensures does { OnOk result (LaneEffect Lane.Write self.old self.new) }
         ensures ready { OnOk result (is_ready_at self.old Lane.Write ≡ true) }
         ensures not_ready { IsErrOf result Refused.NotReady ↔ (is_ready_at self.old Lane.Write ≡ false) }
         ensures err { OnErr result (self.new ≡ self.old) }
@@ -151,7 +151,7 @@ impl Desk {
     /// memory was found; then nothing has changed.
     pub fn begin(&mut self, tree: Tree) -> Result<(), Refused>
         requires { CanBeginOver tree }
-        ensures begins { OnOk result (Begins tree self.old self.new) }
+        ensures begins { OnOk result (LifeBegins tree self.old self.new) }
         ensures ready { OnOk result (is_ready_at self.old Lane.Begin ≡ true) }
         ensures not_ready { IsErrOf result Refused.NotReady ↔ (is_ready_at self.old Lane.Begin ≡ false) }
         ensures err { OnErr result (self.new ≡ self.old) }
@@ -210,8 +210,8 @@ impl Desk {
     /// Whether the run is done: the script is at its end, and where a life stands nothing is left to do.
     /// Unless it is so, some lane is ready.
     pub fn is_at_end(&self) -> bool
-        ensures over { IsTrue result ↔ IsOver self.now }
-        ensures done { IsTrue result → (opening : List AnyOp) (script : AnyScript) → IsRun opening script self.now → IsDone self.now.core.settings script opening self.now.core.log }
+        ensures over { IsTrue result ↔ IsScriptOver self.now }
+        ensures done { IsTrue result → (opening : List AnyOp) (script : AnyScript) → IsScriptRun opening script self.now → IsDone self.now.core.settings script opening self.now.core.log }
         ensures lane { result ≡ false → (lane : Lane) × (is_ready_at self.now lane ≡ true) }
     {
         self.core.rest();
@@ -222,10 +222,10 @@ impl Desk {
     /// but that in which one begins; where one stands of which no operation was refused, nothing is left to do unless a lane of
     /// the manager's own work is ready.
     pub fn law(&self)
-        ensures sound { IsSound self.now }
+        ensures sound { IsPlaceSound self.now }
         ensures dead { stands self.now.core ≡ false → (lane : Lane) → is_ready_at self.now lane ≡ true → lane ≡ Lane.Begin }
         ensures idle { stands self.now.core ≡ true → is_blown self.now.core ≡ false → HasNoWork self.now → has_rest self.now.core }
-        ensures tells { (opening : List AnyOp) → StandsFor opening self.now.core → Tells opening self.now }
+        ensures tells { (opening : List AnyOp) → StandsFor opening self.now.core → DescribesState opening self.now }
     {
         let _ = &self.feeds;
         self.core.rest();
@@ -234,7 +234,7 @@ impl Desk {
     /// The log so far. It goes along the script.
     pub fn log(&self) -> &Items<Entry>
         ensures log { result.now ≡ self.now.core.log }
-        ensures lawful { (opening : List AnyOp) (script : AnyScript) → IsRun opening script self.now → Lawful self.now.core.settings script opening self.now.core.log }
+        ensures lawful { (opening : List AnyOp) (script : AnyScript) → IsScriptRun opening script self.now → Lawful self.now.core.settings script opening self.now.core.log }
     {
         self.core.log()
     }
@@ -242,7 +242,7 @@ impl Desk {
     /// The log, handed out. It takes no memory.
     pub fn into_log(self) -> Items<Entry>
         ensures log { result ≡ self.core.log }
-        ensures lawful { (opening : List AnyOp) (script : AnyScript) → IsRun opening script self → Lawful self.core.settings script opening self.core.log }
+        ensures lawful { (opening : List AnyOp) (script : AnyScript) → IsScriptRun opening script self → Lawful self.core.settings script opening self.core.log }
     {
         let Desk { core, feeds } = self;
         let _ = feeds;

@@ -1,6 +1,6 @@
 ghost use Rattle.std.specs.Prelude.{◌≡◌, ◌≢◌, ◌↔◌, [], IsTrue};
 
-use rm_feed::Feed;
+use crate::feed::Feed;
 use rm_types::{Close, Life, Queue, Script, Segment};
 use std::alloc::Global;
 

@@ -9,8 +9,13 @@
 //! does, is for the layer above to say.
 #![tactic(auto)]
 
+mod cursors;
 mod desk;
+mod feed;
 mod feeds;
 mod moves;
 
 pub use desk::Desk;
+
+#[cfg(test)]
+mod tests;

@@ -4,11 +4,11 @@ ghost use Rattle.rm_types.specs.declared.scripts.Close.{Close};
 ghost use Rattle.rm_types.specs.Lanes.{feed_lane};
 ghost use Rattle.rm_model.specs.Place.{close_left};
 ghost use Rattle.rm_tables.specs.declared.events.Refused.{Refused};
-ghost use Rattle.rm_core.specs.Adds.{CanBeginOver};
-ghost use Rattle.rm_desk.specs.Does.{Begins, Blows, Does};
+ghost use Rattle.rm_core.specs.Moves.{CanBeginOver};
+ghost use Rattle.rm_desk.specs.Effects.{LifeBegins, Blows, LaneEffect};
 ghost use Rattle.rm_desk.specs.Feeds.{IsEntered, at};
 ghost use Rattle.rm_desk.specs.Lanes.{IsStep, has_message, is_ready_at};
-ghost use Rattle.rm_desk.specs.Runs.{IsSound};
+ghost use Rattle.rm_desk.specs.Runs.{IsPlaceSound};
 
 use crate::feeds::Feeds;
 use rm_core::{Core, Move, Refused};
@@ -19,11 +19,11 @@ use rm_types::{Close, Duplicate, Lane, Sender};
 
 /// The first message of a sender's feed is answered.
 fn serve(core: &mut Core, feeds: &mut Feeds, sender: Sender) -> Result<(), Refused>
-    requires sound { IsSound (at core.old feeds.old) }
+    requires sound { IsPlaceSound (at core.old feeds.old) }
     requires entered { IsEntered feeds.old }
     requires ready { has_message sender (at core.old feeds.old) ≡ true }
     ensures ready { result ≢ Err Refused.NotReady }
-    ensures does { OnOk result (Does (feed_lane sender) (at core.old feeds.old) (at core.new feeds.new)) }
+    ensures does { OnOk result (LaneEffect (feed_lane sender) (at core.old feeds.old) (at core.new feeds.new)) }
     ensures entered { OnOk result (IsEntered feeds.new) }
     ensures core { OnErr result (core.new ≡ core.old) }
     ensures feeds { OnErr result (feeds.new ≡ feeds.old) }
@@ -38,10 +38,10 @@ fn serve(core: &mut Core, feeds: &mut Feeds, sender: Sender) -> Result<(), Refus
 }
 
 fn work_main(core: &mut Core, feeds: &Feeds) -> Result<(), Refused>
-    requires sound { IsSound (at core.old feeds.now) }
+    requires sound { IsPlaceSound (at core.old feeds.now) }
     requires ready { is_ready_at (at core.old feeds.now) Lane.Main ≡ true }
     ensures ready { result ≢ Err Refused.NotReady }
-    ensures does { OnOk result (Does Lane.Main (at core.old feeds.now) (at core.new feeds.now)) }
+    ensures does { OnOk result (LaneEffect Lane.Main (at core.old feeds.now) (at core.new feeds.now)) }
     ensures core { OnErr result (core.new ≡ core.old) }
 {
     let _ = feeds;
@@ -49,10 +49,10 @@ fn work_main(core: &mut Core, feeds: &Feeds) -> Result<(), Refused>
 }
 
 fn work_sched(core: &mut Core, feeds: &Feeds) -> Result<(), Refused>
-    requires sound { IsSound (at core.old feeds.now) }
+    requires sound { IsPlaceSound (at core.old feeds.now) }
     requires ready { is_ready_at (at core.old feeds.now) Lane.Sched ≡ true }
     ensures ready { result ≢ Err Refused.NotReady }
-    ensures does { OnOk result (Does Lane.Sched (at core.old feeds.now) (at core.new feeds.now)) }
+    ensures does { OnOk result (LaneEffect Lane.Sched (at core.old feeds.now) (at core.new feeds.now)) }
     ensures core { OnErr result (core.new ≡ core.old) }
 {
     let _ = feeds;
@@ -60,10 +60,10 @@ fn work_sched(core: &mut Core, feeds: &Feeds) -> Result<(), Refused>
 }
 
 fn hand(core: &mut Core, feeds: &Feeds) -> Result<(), Refused>
-    requires sound { IsSound (at core.old feeds.now) }
+    requires sound { IsPlaceSound (at core.old feeds.now) }
     requires ready { is_ready_at (at core.old feeds.now) Lane.Hand ≡ true }
     ensures ready { result ≢ Err Refused.NotReady }
-    ensures does { OnOk result (Does Lane.Hand (at core.old feeds.now) (at core.new feeds.now)) }
+    ensures does { OnOk result (LaneEffect Lane.Hand (at core.old feeds.now) (at core.new feeds.now)) }
     ensures core { OnErr result (core.new ≡ core.old) }
 {
     let _ = feeds;
@@ -72,10 +72,10 @@ fn hand(core: &mut Core, feeds: &Feeds) -> Result<(), Refused>
 
 /// The operation that is with the store is kept.
 pub(crate) fn kept(core: &mut Core, feeds: &Feeds) -> Result<(), Refused>
-    requires sound { IsSound (at core.old feeds.now) }
+    requires sound { IsPlaceSound (at core.old feeds.now) }
     requires ready { is_ready_at (at core.old feeds.now) Lane.Write ≡ true }
     ensures ready { result ≢ Err Refused.NotReady }
-    ensures does { OnOk result (Does Lane.Write (at core.old feeds.now) (at core.new feeds.now)) }
+    ensures does { OnOk result (LaneEffect Lane.Write (at core.old feeds.now) (at core.new feeds.now)) }
     ensures core { OnErr result (core.new ≡ core.old) }
 {
     let _ = feeds;
@@ -84,7 +84,7 @@ pub(crate) fn kept(core: &mut Core, feeds: &Feeds) -> Result<(), Refused>
 
 /// The store refused the operation that was with it.
 pub(crate) fn blown(core: &mut Core, feeds: &Feeds, passed: u32) -> Result<(), Refused>
-    requires sound { IsSound (at core.old feeds.now) }
+    requires sound { IsPlaceSound (at core.old feeds.now) }
     requires ready { is_ready_at (at core.old feeds.now) Lane.Write ≡ true }
     requires crashes { (image : ℕ) × (close_left (at core.old feeds.now).place.segments ≡ Some (Close.Crash passed image)) }
     ensures ready { result ≢ Err Refused.NotReady }
@@ -97,12 +97,12 @@ pub(crate) fn blown(core: &mut Core, feeds: &Feeds, passed: u32) -> Result<(), R
 
 /// The current segment settles, and the next one becomes the current one.
 fn settle(core: &mut Core, feeds: &mut Feeds) -> Result<(), Refused>
-    requires sound { IsSound (at core.old feeds.old) }
+    requires sound { IsPlaceSound (at core.old feeds.old) }
     requires entered { IsEntered feeds.old }
     requires ready { is_ready_at (at core.old feeds.old) Lane.End ≡ true }
     requires settles { feeds.old.close ≡ Some Close.Settle }
     ensures ready { result ≢ Err Refused.NotReady }
-    ensures does { OnOk result (Does Lane.End (at core.old feeds.old) (at core.new feeds.new)) }
+    ensures does { OnOk result (LaneEffect Lane.End (at core.old feeds.old) (at core.new feeds.new)) }
     ensures entered { OnOk result (IsEntered feeds.new) }
     ensures core { OnErr result (core.new ≡ core.old) }
     ensures feeds { OnErr result (feeds.new ≡ feeds.old) }
@@ -115,12 +115,12 @@ fn settle(core: &mut Core, feeds: &mut Feeds) -> Result<(), Refused>
 
 /// The life goes down with its last segment.
 fn go_down(core: &mut Core, feeds: &mut Feeds) -> Result<(), Refused>
-    requires sound { IsSound (at core.old feeds.old) }
+    requires sound { IsPlaceSound (at core.old feeds.old) }
     requires entered { IsEntered feeds.old }
     requires ready { is_ready_at (at core.old feeds.old) Lane.End ≡ true }
     requires crashes { feeds.old.close ≢ Some Close.Settle }
     ensures ready { result ≢ Err Refused.NotReady }
-    ensures does { OnOk result (Does Lane.End (at core.old feeds.old) (at core.new feeds.new)) }
+    ensures does { OnOk result (LaneEffect Lane.End (at core.old feeds.old) (at core.new feeds.new)) }
     ensures entered { OnOk result (IsEntered feeds.new) }
     ensures core { OnErr result (core.new ≡ core.old) }
     ensures feeds { OnErr result (feeds.new ≡ feeds.old) }
@@ -132,11 +132,11 @@ fn go_down(core: &mut Core, feeds: &mut Feeds) -> Result<(), Refused>
 
 /// The current segment closes: it settles, or the life goes down.
 fn close(core: &mut Core, feeds: &mut Feeds) -> Result<(), Refused>
-    requires sound { IsSound (at core.old feeds.old) }
+    requires sound { IsPlaceSound (at core.old feeds.old) }
     requires entered { IsEntered feeds.old }
     requires ready { is_ready_at (at core.old feeds.old) Lane.End ≡ true }
     ensures ready { result ≢ Err Refused.NotReady }
-    ensures does { OnOk result (Does Lane.End (at core.old feeds.old) (at core.new feeds.new)) }
+    ensures does { OnOk result (LaneEffect Lane.End (at core.old feeds.old) (at core.new feeds.new)) }
     ensures entered { OnOk result (IsEntered feeds.new) }
     ensures core { OnErr result (core.new ≡ core.old) }
     ensures feeds { OnErr result (feeds.new ≡ feeds.old) }
@@ -149,12 +149,12 @@ fn close(core: &mut Core, feeds: &mut Feeds) -> Result<(), Refused>
 
 /// A ready lane moves that neither touches the store nor begins a life.
 pub(crate) fn advance(core: &mut Core, feeds: &mut Feeds, lane: Lane) -> Result<(), Refused>
-    requires sound { IsSound (at core.old feeds.old) }
+    requires sound { IsPlaceSound (at core.old feeds.old) }
     requires entered { IsEntered feeds.old }
     requires ready { is_ready_at (at core.old feeds.old) lane ≡ true }
     requires own { IsStep lane }
     ensures ready { result ≢ Err Refused.NotReady }
-    ensures does { OnOk result (Does lane (at core.old feeds.old) (at core.new feeds.new)) }
+    ensures does { OnOk result (LaneEffect lane (at core.old feeds.old) (at core.new feeds.new)) }
     ensures entered { OnOk result (IsEntered feeds.new) }
     ensures core { OnErr result (core.new ≡ core.old) }
     ensures feeds { OnErr result (feeds.new ≡ feeds.old) }
@@ -174,12 +174,12 @@ pub(crate) fn advance(core: &mut Core, feeds: &mut Feeds, lane: Lane) -> Result<
 
 /// The script's next life begins over what the store holds, with its first segment.
 pub(crate) fn begin(core: &mut Core, feeds: &mut Feeds, tree: Tree) -> Result<(), Refused>
-    requires sound { IsSound (at core.old feeds.old) }
+    requires sound { IsPlaceSound (at core.old feeds.old) }
     requires entered { IsEntered feeds.old }
     requires ready { is_ready_at (at core.old feeds.old) Lane.Begin ≡ true }
     requires over { CanBeginOver tree }
     ensures ready { result ≢ Err Refused.NotReady }
-    ensures begins { OnOk result (Begins tree (at core.old feeds.old) (at core.new feeds.new)) }
+    ensures begins { OnOk result (LifeBegins tree (at core.old feeds.old) (at core.new feeds.new)) }
     ensures entered { OnOk result (IsEntered feeds.new) }
     ensures core { OnErr result (core.new ≡ core.old) }
     ensures feeds { OnErr result (feeds.new ≡ feeds.old) }

@@ -6,7 +6,7 @@ use Rattle.std.proofs.lemmas.Bool.{cases_lt, cases_Bool, and_from, or_parts, or_
 use Rattle.std.proofs.lemmas.List.{length-take, take_all, drop_all, take-append-le, drop-append-le, ext_get_or, get_or_past, get_or-take, get_or-drop}
 use Rattle.std.proofs.lemmas.List.Folds.{list_any-append, list_all-append}
 use Rattle.std.proofs.lemmas.List.Sums.{fold_push}
-use Rattle.rm_disk.specs.Disk.{put, SameElsewhere, AnyIn, GoesOn, Leaves, IsQuiet, MayWrite, Falls, IsDurable}
+use Rattle.rm_disk.specs.Disk.{put, SameElsewhere, AnyIn, IsLaterView, Leaves, IsQuiet, MayWrite, Falls, IsDurable}
 use Rattle.rm_disk.specs.declared.calls.Call.{Call}
 use Rattle.rm_disk.specs.declared.calls.Call.TheVariants.{Write, Fall}
 use Rattle.rm_disk.specs.Memory.{MemState, settled_at, is_within, writes_at, is_written, renewed, fallen_byte, fallen, after_call, replayed, IsImage, LeftSince, view_of, fits, IsReplayed}
@@ -88,7 +88,7 @@ module _ (first : List ℕ) (calls : List Call) (call : Call) where
   image_push image is = subst (λ (s : MemState). IsImage s image) (replayed_push first calls call) is
 
   -- Whatever the call.
-  goes_on : (bytes bytes' : List ℕ) (faults faults' : ℕ) → faults ≤ faults' → GoesOn (view_of first bytes calls faults) (view_of first bytes' (calls ++ call ∷ []) faults')
+  goes_on : (bytes bytes' : List ℕ) (faults faults' : ℕ) → faults ≤ faults' → IsLaterView (view_of first bytes calls faults) (view_of first bytes' (calls ++ call ∷ []) faults')
   goes_on bytes bytes' faults faults' le = record { size = refl; tells = refl; past = λ from image _ was. past_push from image was; faults = le }
 
   leaves : (bytes bytes' : List ℕ) (faults faults' : ℕ) (P : List ℕ → Type 0) → ((image : List ℕ) → IsImage (after_call before call) image → P image) → Leaves (view_of first bytes calls faults) (view_of first bytes' (calls ++ call ∷ []) faults') P
@@ -196,7 +196,7 @@ module _ (first bytes synced : List ℕ) (calls : List Call) (settled : ℕ) (ke
     settled_images : (image : List ℕ) → IsImage (after_call here call) image → IsImage here image
     settled_images image is = subst (λ (l : List ℕ). IsImage here l) (sym (is_after image is)) image_of
 
-    settled_goes_on : (faults faults' : ℕ) → faults ≤ faults' → GoesOn (view_of first bytes calls faults) (view_of first after (calls ++ call ∷ []) faults')
+    settled_goes_on : (faults faults' : ℕ) → faults ≤ faults' → IsLaterView (view_of first bytes calls faults) (view_of first after (calls ++ call ∷ []) faults')
     settled_goes_on faults faults' le = goes_on first calls call bytes after faults faults' le
 
     settled_time : (faults faults' : ℕ) → Leaves (view_of first bytes calls faults) (view_of first after (calls ++ call ∷ []) faults') (IsImage here)

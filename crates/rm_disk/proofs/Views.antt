@@ -3,7 +3,7 @@ use Rattle.std.proofs.Common.{◌≡◌, ⊎_elim, inl, inr, ℕ, ◌+◌, ◌-�
 use Rattle.std.specs.Prelude.{is_some}
 use Rattle.std.proofs.lemmas.Bool.{false≢true}
 use Rattle.std.proofs.lemmas.List.{take-take, drop-drop}
-use Rattle.rm_disk.specs.Disk.{SameElsewhere, DiskView, Leaves, GoesOn, IsQuiet, MayWrite, AnyIn}
+use Rattle.rm_disk.specs.Disk.{SameElsewhere, DiskView, Leaves, IsLaterView, IsQuiet, MayWrite, AnyIn}
 
 pub elsewhere_same : (at many : ℕ) (bytes : List ℕ) → SameElsewhere at many bytes bytes
 elsewhere_same at many bytes = record { before = refl; after = refl; size = refl }
@@ -30,16 +30,16 @@ some_if None never = absurd (false≢true never)
 some_if (Some bytes) told = (bytes, refl)
 
 -- what a disk tells after a call it told before
-pub told_before : (a b : DiskView) → GoesOn a b → (bytes : List ℕ) → b.told ≡ Some bytes → (was : List ℕ) × (a.told ≡ Some was)
+pub told_before : (a b : DiskView) → IsLaterView a b → (bytes : List ℕ) → b.told ≡ Some bytes → (was : List ℕ) × (a.told ≡ Some was)
 told_before a b ab bytes told = some_if a.told (sym ab.tells ∙ ap (λ (o : Option (List ℕ)). is_some o) told)
 
-pub told_after : (a b : DiskView) → GoesOn a b → (bytes : List ℕ) → a.told ≡ Some bytes → (now : List ℕ) × (b.told ≡ Some now)
+pub told_after : (a b : DiskView) → IsLaterView a b → (bytes : List ℕ) → a.told ≡ Some bytes → (now : List ℕ) × (b.told ≡ Some now)
 told_after a b ab bytes told = some_if b.told (ab.tells ∙ ap (λ (o : Option (List ℕ)). is_some o) told)
 
-pub goes_on_same : (a : DiskView) → GoesOn a a
+pub goes_on_same : (a : DiskView) → IsLaterView a a
 goes_on_same a = record { size = refl; tells = refl; past = λ t image le was. was; faults = omega arith }
 
-pub goes_on_trans : (a b c : DiskView) → a.moment ≤ b.moment → GoesOn a b → GoesOn b c → GoesOn a c
+pub goes_on_trans : (a b c : DiskView) → a.moment ≤ b.moment → IsLaterView a b → IsLaterView b c → IsLaterView a c
 goes_on_trans a b c le ab bc = record {
   size = bc.size ∙ ab.size;
   tells = bc.tells ∙ ab.tells;

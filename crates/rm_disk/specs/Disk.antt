@@ -36,8 +36,8 @@ TellsElsewhere at many old new =
     (before : List ℕ) → old ≡ Some before → (after : List ℕ) × (new ≡ Some after) × SameElsewhere at many before after
 
 -- The bytes that the disk tells have this; a disk that tells none claims nothing.
-abbrev pub Tells : DiskView → (List ℕ → Type 0) → Type 0
-Tells view P = (bytes : List ℕ) → view.told ≡ Some bytes → P bytes
+abbrev pub IfTold : DiskView → (List ℕ → Type 0) → Type 0
+IfTold view P = (bytes : List ℕ) → view.told ≡ Some bytes → P bytes
 
 -- Whatever a crash now may leave has this.
 abbrev pub EachImage : DiskView → (List ℕ → Type 0) → Type 0
@@ -55,7 +55,7 @@ pub record Leaves (old new : DiskView) (P : List ℕ → Type 0) : Type 0 where
 
 -- Whatever a call does: the size stays, a disk goes on telling its bytes or not telling them, what a crash
 -- may have left is not forgotten, and the count of faults does not fall.
-pub record GoesOn (old new : DiskView) : Type 0 where
+pub record IsLaterView (old new : DiskView) : Type 0 where
   pub size : new.size ≡ old.size
   pub tells : is_some new.told ≡ is_some old.told
   pub past : (from : ℕ) (image : List ℕ) → from ≤ old.moment → old.left_since from image → new.left_since from image
@@ -63,7 +63,7 @@ pub record GoesOn (old new : DiskView) : Type 0 where
 
 -- A call that changes no byte: a read gives what it gave, and a crash leaves nothing that it did not leave before.
 pub record IsQuiet (old new : DiskView) : Type 0 where
-  pub goes_on : GoesOn old new
+  pub goes_on : IsLaterView old new
   pub told : new.told ≡ old.told
   pub images : EachImage new old.images
   pub time : Leaves old new old.images
@@ -75,15 +75,15 @@ AnyIn at many view image = (left : List ℕ) × view.images left × SameElsewher
 -- A call that writes so many bytes at an offset: no byte elsewhere changes, and until a sync a crash may leave
 -- any bytes in the range.
 pub record MayWrite (at many : ℕ) (old new : DiskView) : Type 0 where
-  pub goes_on : GoesOn old new
+  pub goes_on : IsLaterView old new
   pub told : TellsElsewhere at many old.told new.told
   pub images : EachImage new (AnyIn at many old)
   pub time : Leaves old new (AnyIn at many old)
 
 -- A crash: a read now gives one of the images, nothing is left unsynced, and it counts as no fault.
 pub record Falls (old new : DiskView) : Type 0 where
-  pub goes_on : GoesOn old new
-  pub told : Tells new old.images
+  pub goes_on : IsLaterView old new
+  pub told : IfTold new old.images
   pub durable : IsDurable new
   pub time : Leaves old new old.images
   pub faults : new.faults ≡ old.faults

@@ -1,6 +1,6 @@
 ghost use Rattle.std.specs.Prelude.{◌≡◌, ◌+◌, ◌≤◌, List, ℕ, length, take, drop, Some, option_map, OnOk, IsErrOf, Bool, true, ◌&&◌, is_ok};
 ghost use Rattle.rm_disk.specs.declared.device.DiskError.TheVariants.{DiskFault, Memory};
-ghost use Rattle.rm_disk.specs.Disk.{DiskView, put, Tells, IsDurable, IsQuiet, MayWrite, Falls, IsAsBefore};
+ghost use Rattle.rm_disk.specs.Disk.{DiskView, put, IfTold, IsDurable, IsQuiet, MayWrite, Falls, IsAsBefore};
 ghost use Rattle.rm_types.specs.Counts.{Rose};
 
 /// Why a call of a disk did not succeed.
@@ -42,7 +42,7 @@ pub trait Disk {
     /// `DiskFault` comes only where the count of faults rose, and says nothing of `into`. `Memory` never comes.
     fn read(&mut self, at: u64, into: &mut [u8]) -> Result<(), DiskError>
         requires { at + length into.old ≤ (view self.old).size }
-        ensures bytes { OnOk result (Tells (view self.old) (λ told. into.new ≡ take (length into.old) (drop at told))) }
+        ensures bytes { OnOk result (IfTold (view self.old) (λ told. into.new ≡ take (length into.old) (drop at told))) }
         ensures quiet { IsQuiet (view self.old) (view self.new) }
         ensures kept { keeps (is_ok result) self.old self.new }
         ensures fault { IsErrOf result DiskFault → faulted self.old self.new }

@@ -1,6 +1,6 @@
 ghost use Rattle.std.specs.Prelude.{◌≡◌, ◌+◌, ◌≤◌, ◌↔◌, ℕ, true, false, List, length, take, drop, [], None, Some, Err, OnOk, OnErr, IsErrOf, IsTrue, option_map, is_ok};
 ghost use Rattle.std.specs.Bool.{OnTrue, OnFalse};
-ghost use Rattle.rm_disk.specs.Disk.{put, Tells, IsDurable, IsQuiet, MayWrite, Falls, IsAsBefore};
+ghost use Rattle.rm_disk.specs.Disk.{put, IfTold, IsDurable, IsQuiet, MayWrite, Falls, IsAsBefore};
 ghost use Rattle.rm_disk.specs.Fuse.{is_spent, refusing, passing};
 
 use crate::device::{Disk, DiskError};
@@ -203,7 +203,7 @@ impl<D: Disk> Disk for Fuse<D> {
     /// only where the inner disk failed.
     fn read(&mut self, at: u64, into: &mut [u8]) -> Result<(), DiskError>
         requires { at + length into.old ≤ (D.view self.old.inner).size }
-        ensures bytes { OnOk result (Tells (fused_view (D.view self.old.inner) self.old.refused) (λ told. into.new ≡ take (length into.old) (drop at told))) }
+        ensures bytes { OnOk result (IfTold (fused_view (D.view self.old.inner) self.old.refused) (λ told. into.new ≡ take (length into.old) (drop at told))) }
         ensures quiet { IsQuiet (fused_view (D.view self.old.inner) self.old.refused) (fused_view (D.view self.new.inner) self.new.refused) }
         ensures kept { KeepsFuse D.view (D.keeps (is_ok result)) (is_ok result) self.old self.new }
         ensures fault { IsErrOf result DiskError.DiskFault → FaultedFuse D.view D.faulted self.old self.new }

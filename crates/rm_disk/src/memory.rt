@@ -1,6 +1,6 @@
 ghost use Rattle.std.specs.Prelude.{◌≡◌, ◌<◌, ◌≤◌, ◌+◌, ◌*◌, ◌%◌, ◌^◌, ◌-◌, ◌↔◌, true, ℕ, List, [], ◌∷◌, ◌++◌, Some, length, drop, take, slice_index, vec_capacity, option_map, is_ok, IfOk, OnOk, IsErrOf, IsTrue, MatchBool, Contains, replicate, min, if◌then◌else◌};
 ghost use Rattle.std.specs.List.{list_all};
-ghost use Rattle.rm_disk.specs.Disk.{DiskView, put, Tells, IsDurable, IsQuiet, MayWrite, Falls, IsAsBefore};
+ghost use Rattle.rm_disk.specs.Disk.{DiskView, put, IfTold, IsDurable, IsQuiet, MayWrite, Falls, IsAsBefore};
 ghost use Rattle.rm_types.specs.Counts.{Rose};
 ghost use Rattle.rm_disk.specs.Memory.{MemState, fits, is_within, is_written, renewed, fallen, IsReplayed, view_of};
 
@@ -113,7 +113,7 @@ impl Disk for MemDisk {
     /// As the trait says, and: it fails exactly where its number stands in the list.
     fn read(&mut self, at: u64, into: &mut [u8]) -> Result<(), DiskError>
         requires { at + length into.old ≤ (memory_view self.old).size }
-        ensures bytes { OnOk result (Tells (memory_view self.old) (λ told. into.new ≡ take (length into.old) (drop at told))) }
+        ensures bytes { OnOk result (IfTold (memory_view self.old) (λ told. into.new ≡ take (length into.old) (drop at told))) }
         ensures quiet { IsQuiet (memory_view self.old) (memory_view self.new) }
         ensures kept { Unit {0} }
         ensures fault { IsErrOf result DiskError.DiskFault → Rose (memory_view self.old).faults (memory_view self.new).faults }

@@ -1,6 +1,6 @@
 ghost use Rattle.std.specs.Prelude.{◌≡◌, ◌+◌, ◌≤◌, length, take, drop, option_map, is_ok, OnOk, IsErrOf, IsTrue, ◌↔◌};
 ghost use Rattle.rm_disk.specs.Window.{ShowsBytes};
-ghost use Rattle.rm_disk.specs.Disk.{put, Tells, IsDurable, IsQuiet, MayWrite, Falls, IsAsBefore};
+ghost use Rattle.rm_disk.specs.Disk.{put, IfTold, IsDurable, IsQuiet, MayWrite, Falls, IsAsBefore};
 
 use crate::device::{Disk, DiskError};
 use std::alloc::Global;

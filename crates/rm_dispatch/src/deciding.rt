@@ -4,7 +4,7 @@ ghost use Rattle.std.specs.Option.{option_copied};
 ghost use Rattle.rm_types.specs.Records.{last_attempt};
 ghost use Rattle.rm_model.specs.Facts.{attempts_in, bound, reaches_bound};
 ghost use Rattle.rm_tables.specs.Actions.{found_in};
-ghost use Rattle.rm_tables.specs.MainEvents.{decided, done_at, done_in, done_by, end_with, last_end_in};
+ghost use Rattle.rm_tables.specs.MainEvents.{decision_of_end, decision_of_attempt_state, decision_of_state, decision_of_row, end_with, last_end_in};
 ghost use Rattle.rm_tables.specs.Rows.{row_of};
 
 use crate::ends::{end_app, killed_text, next_attempt, schedule};
@@ -87,7 +87,7 @@ fn end_of(t: &Tables, app: &AppRecord, wish: bool) -> Result<Option<(How, Text)>
 /// An application ends, or its next attempt is scheduled.
 fn decide(t: &mut Tables, id: AppId, end: Option<(How, Text)>) -> Result<Entry, NoMemory>
     requires few { length (attempts_in (found_in t.old id)) + 1 < 2 ^ 32 }
-    ensures ok { IfOk result (λ e. (e, t.new) ≡ decided end id t.old) }
+    ensures ok { IfOk result (λ e. (e, t.new) ≡ decision_of_end end id t.old) }
     ensures err { OnErr result (t.new ≡ t.old) }
 {
     match end {
@@ -103,7 +103,7 @@ fn decide(t: &mut Tables, id: AppId, end: Option<(How, Text)>) -> Result<Entry, 
 /// AttemptDone of an application that isn't over, with a current attempt in this state.
 fn done_at(t: &mut Tables, id: AppId, state: AttemptState, wish: bool) -> Result<Entry, NoMemory>
     requires few { length (attempts_in (found_in t.old id)) + 1 < 2 ^ 32 }
-    ensures ok { IfOk result (λ e. (e, t.new) ≡ done_at state wish id t.old) }
+    ensures ok { IfOk result (λ e. (e, t.new) ≡ decision_of_attempt_state state wish id t.old) }
     ensures err { OnErr result (t.new ≡ t.old) }
 {
     if state != AttemptState::Ended {
@@ -125,7 +125,7 @@ fn done_in(
     wish: bool,
 ) -> Result<Entry, NoMemory>
     requires few { length (attempts_in (found_in t.old id)) + 1 < 2 ^ 32 }
-    ensures ok { IfOk result (λ e. (e, t.new) ≡ done_in app attempt wish id t.old) }
+    ensures ok { IfOk result (λ e. (e, t.new) ≡ decision_of_state app attempt wish id t.old) }
     ensures err { OnErr result (t.new ≡ t.old) }
 {
     match app {
@@ -139,7 +139,7 @@ fn done_in(
 /// AttemptDone: the application ends as its last attempt did, or its next attempt is scheduled.
 pub fn done(t: &mut Tables, id: AppId) -> Result<Entry, NoMemory>
     requires few { length (attempts_in (found_in t.old id)) + 1 < 2 ^ 32 }
-    ensures ok { IfOk result (λ e. (e, t.new) ≡ done_by (row_of t.old.rows id) id t.old) }
+    ensures ok { IfOk result (λ e. (e, t.new) ≡ decision_of_row (row_of t.old.rows id) id t.old) }
     ensures err { OnErr result (t.new ≡ t.old) }
 {
     let Some(row) = t.rows.find(id) else {

@@ -2,7 +2,7 @@ ghost use Rattle.std.specs.Prelude.{◌≡◌, ◌+◌, ◌<◌, ◌^◌, length
 ghost use Rattle.rm_model.specs.Facts.{attempts_in};
 ghost use Rattle.rm_model.specs.Issuing.{killed_text};
 ghost use Rattle.rm_tables.specs.Actions.{ends_app, ends_attempt, found_in, next_in, schedules};
-ghost use Rattle.rm_tables.specs.MainEvents.{kills_attempt, requeued};
+ghost use Rattle.rm_tables.specs.MainEvents.{attempt_kill, with_attempt_requeued};
 
 use rm_tables::{AttemptChange, RowChange, SchedEvent, Tables};
 use rm_types::{AppId, AttemptId, Boxed, Duplicate, Entry, How, NoMemory, Op, Text};
@@ -53,7 +53,7 @@ pub fn end_app(t: &mut Tables, id: AppId, how: How, text: Text) -> Result<Entry,
 
 /// The end of an attempt that lives is issued, since its application is killed.
 pub fn kill_attempt(t: &mut Tables, id: AttemptId) -> Result<Entry, NoMemory>
-    ensures ok { IfOk result (λ e. (e, t.new) ≡ kills_attempt id t.old) }
+    ensures ok { IfOk result (λ e. (e, t.new) ≡ attempt_kill id t.old) }
     ensures err { OnErr result (t.new ≡ t.old) }
 {
     let how = How::Killed;
@@ -94,7 +94,7 @@ pub fn end_attempt(t: &mut Tables, id: AttemptId, how: How, text: Text) -> Resul
 
 /// An attempt waits for another container for its master.
 pub fn requeue(t: &mut Tables, id: AttemptId) -> Result<(), NoMemory>
-    ensures ok { OnOk result (t.new ≡ requeued id t.old) }
+    ensures ok { OnOk result (t.new ≡ with_attempt_requeued id t.old) }
     ensures err { OnErr result (t.new ≡ t.old) }
 {
     t.sched.push(SchedEvent::AttemptAdded(id))?;

@@ -2,7 +2,7 @@ ghost use Rattle.std.specs.Prelude.{◌≡◌, ◌+◌, ◌<◌, ◌^◌, length
 ghost use Rattle.rm_model.specs.Facts.{attempts_in};
 ghost use Rattle.rm_model.specs.Issuing.{killed_text as text_of_kill};
 ghost use Rattle.rm_tables.specs.Actions.{ends_app, found_in};
-ghost use Rattle.rm_tables.specs.MainEvents.{epoch_started, started_by, saved_by, accepted_by, kill_at, kill_in, kill_by, retired_by};
+ghost use Rattle.rm_tables.specs.MainEvents.{epoch_start, start_of_row, save_of_row, accept_of_row, kill_of_attempt_state, kill_of_state, kill_of_row, removal_of_first};
 ghost use Rattle.rm_tables.specs.Rows.{row_of};
 
 use crate::ends::{end_app, kill_attempt, killed_text, schedule};
@@ -21,7 +21,7 @@ pub fn quiet() -> Entry
 /// EpochStart: the life's Epoch is issued.
 pub fn start_epoch(t: &mut Tables) -> Result<Entry, NoMemory>
     requires few { t.old.epoch + 1 < 2 ^ 32 }
-    ensures ok { IfOk result (λ e. (e, t.new) ≡ epoch_started t.old) }
+    ensures ok { IfOk result (λ e. (e, t.new) ≡ epoch_start t.old) }
     ensures err { OnErr result (t.new ≡ t.old) }
 {
     let next = t.epoch + 1;
@@ -33,7 +33,7 @@ pub fn start_epoch(t: &mut Tables) -> Result<Entry, NoMemory>
 
 /// AppStart: the App of a submission that waits is issued.
 pub fn start(t: &mut Tables, id: AppId) -> Result<Entry, NoMemory>
-    ensures ok { IfOk result (λ e. (e, t.new) ≡ started_by (row_of t.old.rows id) id t.old) }
+    ensures ok { IfOk result (λ e. (e, t.new) ≡ start_of_row (row_of t.old.rows id) id t.old) }
     ensures err { OnErr result (t.new ≡ t.old) }
 {
     let Some(row) = t.rows.find(id) else {
@@ -69,7 +69,7 @@ fn end_killed(t: &mut Tables, id: AppId) -> Result<Entry, NoMemory>
 /// AppSaved: an application that is killed ends, and any other goes to the scheduler.
 pub fn saved(t: &mut Tables, id: AppId) -> Result<Entry, NoMemory>
     requires few { length (attempts_in (found_in t.old id)) + 1 < 2 ^ 32 }
-    ensures ok { IfOk result (λ e. (e, t.new) ≡ saved_by (row_of t.old.rows id) id t.old) }
+    ensures ok { IfOk result (λ e. (e, t.new) ≡ save_of_row (row_of t.old.rows id) id t.old) }
     ensures err { OnErr result (t.new ≡ t.old) }
 {
     let Some(row) = t.rows.find(id) else {
@@ -87,7 +87,7 @@ pub fn saved(t: &mut Tables, id: AppId) -> Result<Entry, NoMemory>
 
 /// AppAccepted: the application is accepted, and its first attempt scheduled.
 pub fn accepted(t: &mut Tables, id: AppId) -> Result<Entry, NoMemory>
-    ensures ok { IfOk result (λ e. (e, t.new) ≡ accepted_by (row_of t.old.rows id) id t.old) }
+    ensures ok { IfOk result (λ e. (e, t.new) ≡ accept_of_row (row_of t.old.rows id) id t.old) }
     ensures err { OnErr result (t.new ≡ t.old) }
 {
     let Some(row) = t.rows.find(id) else {
@@ -103,7 +103,7 @@ pub fn accepted(t: &mut Tables, id: AppId) -> Result<Entry, NoMemory>
 /// AppKill of an application with an attempt in this state.
 fn kill_current(t: &mut Tables, id: AttemptId, state: AttemptState) -> Result<Entry, NoMemory>
     requires few { length (attempts_in (found_in t.old id.app)) + 1 < 2 ^ 32 }
-    ensures ok { IfOk result (λ e. (e, t.new) ≡ kill_at state id t.old) }
+    ensures ok { IfOk result (λ e. (e, t.new) ≡ kill_of_attempt_state state id t.old) }
     ensures err { OnErr result (t.new ≡ t.old) }
 {
     match state {
@@ -122,7 +122,7 @@ fn kill_current(t: &mut Tables, id: AttemptId, state: AttemptState) -> Result<En
 /// AppKill of an application without an attempt.
 fn kill_alone(t: &mut Tables, id: AppId, state: AppState) -> Result<Entry, NoMemory>
     requires few { length (attempts_in (found_in t.old id)) + 1 < 2 ^ 32 }
-    ensures ok { IfOk result (λ e. (e, t.new) ≡ kill_in state None id t.old) }
+    ensures ok { IfOk result (λ e. (e, t.new) ≡ kill_of_state state None id t.old) }
     ensures err { OnErr result (t.new ≡ t.old) }
 {
     match state {
@@ -134,7 +134,7 @@ fn kill_alone(t: &mut Tables, id: AppId, state: AppState) -> Result<Entry, NoMem
 /// AppKill: a client wished to kill it.
 pub fn kill(t: &mut Tables, id: AppId) -> Result<Entry, NoMemory>
     requires few { length (attempts_in (found_in t.old id)) + 1 < 2 ^ 32 }
-    ensures ok { IfOk result (λ e. (e, t.new) ≡ kill_by (row_of t.old.rows id) id t.old) }
+    ensures ok { IfOk result (λ e. (e, t.new) ≡ kill_of_row (row_of t.old.rows id) id t.old) }
     ensures err { OnErr result (t.new ≡ t.old) }
 {
     let Some(row) = t.rows.find(id) else {
@@ -159,7 +159,7 @@ pub fn kill(t: &mut Tables, id: AppId) -> Result<Entry, NoMemory>
 
 /// Retire: where more are completed than are remembered, the one that completed first is removed.
 pub fn retire(t: &mut Tables) -> Result<Entry, NoMemory>
-    ensures ok { IfOk result (λ e. (e, t.new) ≡ retired_by t.old.ended t.old) }
+    ensures ok { IfOk result (λ e. (e, t.new) ≡ removal_of_first t.old.ended t.old) }
     ensures err { OnErr result (t.new ≡ t.old) }
 {
     let Some(first) = t.ended.first() else {

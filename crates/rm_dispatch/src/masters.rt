@@ -2,7 +2,7 @@ ghost use Rattle.std.specs.Prelude.{◌≡◌, ◌&&◌, ◌==◌, option_map, t
 ghost use Rattle.std.specs.Option.{option_copied};
 ghost use Rattle.rm_model.specs.Issuing.{expired_text as text_of_expiry, lost_text as text_of_loss};
 ghost use Rattle.rm_tables.specs.Actions.{ends_attempt};
-ghost use Rattle.rm_tables.specs.MainEvents.{expired_by, finished_by, finishing_in, granted_by, granted_in, is_alive, is_mine, launched_as, launched_by, launched_if, lives_as, lost_at, lost_by, node_at};
+ghost use Rattle.rm_tables.specs.MainEvents.{expiry_of_row, finish_of_row, finishing_in, grant_of_row, grant_of_place, is_alive, is_master_of, launch_of_master, launch_of_row, launch_of_tests, is_living_one, loss_of_state, loss_of_row, node_at};
 ghost use Rattle.rm_tables.specs.Rows.{row_of};
 
 use crate::ends::{end_attempt, killed_text, requeue};
@@ -23,14 +23,14 @@ fn is_alive(state: AttemptState) -> bool
 
 /// Whether the current attempt is this one and lives.
 fn lives_as(id: AttemptId, current: Current) -> bool
-    ensures { result ≡ lives_as id current }
+    ensures { result ≡ is_living_one id current }
 {
     current.number == id.number && is_alive(current.state)
 }
 
 /// Whether the container is the master's that the current attempt has.
 fn is_mine(container: ContainerId, master: Option<ContainerId>) -> bool
-    ensures { result ≡ is_mine container master }
+    ensures { result ≡ is_master_of container master }
 {
     match master {
         Some(one) => one == container,
@@ -50,7 +50,7 @@ fn node_at(t: &Tables, container: ContainerId) -> Result<Option<Text>, NoMemory>
 
 /// An attempt is issued with its master's container, or waits for another where that lives no more.
 fn issue(t: &mut Tables, container: ContainerId, node: Option<Text>) -> Result<Entry, NoMemory>
-    ensures ok { IfOk result (λ e. (e, t.new) ≡ granted_in node container t.old) }
+    ensures ok { IfOk result (λ e. (e, t.new) ≡ grant_of_place node container t.old) }
     ensures err { OnErr result (t.new ≡ t.old) }
 {
     let id = container.attempt;
@@ -79,7 +79,7 @@ fn issue(t: &mut Tables, container: ContainerId, node: Option<Text>) -> Result<E
 
 /// MasterGranted: an attempt that was granted its master's container is issued with it.
 pub fn granted(t: &mut Tables, container: ContainerId) -> Result<Entry, NoMemory>
-    ensures ok { IfOk result (λ e. (e, t.new) ≡ granted_by (row_of t.old.rows container.attempt.app) container t.old) }
+    ensures ok { IfOk result (λ e. (e, t.new) ≡ grant_of_row (row_of t.old.rows container.attempt.app) container t.old) }
     ensures err { OnErr result (t.new ≡ t.old) }
 {
     let Some(row) = t.rows.find(container.attempt.app) else {
@@ -100,7 +100,7 @@ pub fn granted(t: &mut Tables, container: ContainerId) -> Result<Entry, NoMemory
 
 /// A master is ordered on its node, where it lives.
 fn order(t: &mut Tables, master: Option<ContainerId>) -> Result<Entry, NoMemory>
-    ensures ok { IfOk result (λ e. (e, t.new) ≡ launched_as master t.old) }
+    ensures ok { IfOk result (λ e. (e, t.new) ≡ launch_of_master master t.old) }
     ensures err { OnErr result (t.new ≡ t.old) }
 {
     let Some(container) = master else {
@@ -136,7 +136,7 @@ fn launch(
     lost: bool,
     master: Option<ContainerId>,
 ) -> Result<Entry, NoMemory>
-    ensures ok { IfOk result (λ e. (e, t.new) ≡ launched_if wish lost master id t.old) }
+    ensures ok { IfOk result (λ e. (e, t.new) ≡ launch_of_tests wish lost master id t.old) }
     ensures err { OnErr result (t.new ≡ t.old) }
 {
     if wish {
@@ -151,7 +151,7 @@ fn launch(
 
 /// AttemptSaved: the master of an attempt that was kept is ordered on its node.
 pub fn saved(t: &mut Tables, id: AttemptId) -> Result<Entry, NoMemory>
-    ensures ok { IfOk result (λ e. (e, t.new) ≡ launched_by (row_of t.old.rows id.app) id t.old) }
+    ensures ok { IfOk result (λ e. (e, t.new) ≡ launch_of_row (row_of t.old.rows id.app) id t.old) }
     ensures err { OnErr result (t.new ≡ t.old) }
 {
     let Some(row) = t.rows.find(id.app) else {
@@ -169,7 +169,7 @@ pub fn saved(t: &mut Tables, id: AttemptId) -> Result<Entry, NoMemory>
 
 /// MasterLost, where the container is the current attempt's master.
 fn lose(t: &mut Tables, container: ContainerId, state: AttemptState) -> Result<Entry, NoMemory>
-    ensures ok { IfOk result (λ e. (e, t.new) ≡ lost_at state true container t.old) }
+    ensures ok { IfOk result (λ e. (e, t.new) ≡ loss_of_state state true container t.old) }
     ensures err { OnErr result (t.new ≡ t.old) }
 {
     match state {
@@ -188,7 +188,7 @@ fn lose(t: &mut Tables, container: ContainerId, state: AttemptState) -> Result<E
 
 /// MasterLost: an attempt whose master's container left the book fails, or is marked while it is being saved.
 pub fn lost(t: &mut Tables, container: ContainerId) -> Result<Entry, NoMemory>
-    ensures ok { IfOk result (λ e. (e, t.new) ≡ lost_by (row_of t.old.rows container.attempt.app) container t.old) }
+    ensures ok { IfOk result (λ e. (e, t.new) ≡ loss_of_row (row_of t.old.rows container.attempt.app) container t.old) }
     ensures err { OnErr result (t.new ≡ t.old) }
 {
     let Some(row) = t.rows.find(container.attempt.app) else {
@@ -205,7 +205,7 @@ pub fn lost(t: &mut Tables, container: ContainerId) -> Result<Entry, NoMemory>
 
 /// AttemptExpired: an attempt fails whose master's lease ran out.
 pub fn expired(t: &mut Tables, id: AttemptId) -> Result<Entry, NoMemory>
-    ensures ok { IfOk result (λ e. (e, t.new) ≡ expired_by (row_of t.old.rows id.app) id t.old) }
+    ensures ok { IfOk result (λ e. (e, t.new) ≡ expiry_of_row (row_of t.old.rows id.app) id t.old) }
     ensures err { OnErr result (t.new ≡ t.old) }
 {
     let Some(row) = t.rows.find(id.app) else {
@@ -236,7 +236,7 @@ fn finishing_text(row: &AppRow) -> Result<Option<Text>, NoMemory>
 
 /// AttemptFinish: an attempt ends with what its master said.
 pub fn finished(t: &mut Tables, id: AttemptId) -> Result<Entry, NoMemory>
-    ensures ok { IfOk result (λ e. (e, t.new) ≡ finished_by (row_of t.old.rows id.app) id t.old) }
+    ensures ok { IfOk result (λ e. (e, t.new) ≡ finish_of_row (row_of t.old.rows id.app) id t.old) }
     ensures err { OnErr result (t.new ≡ t.old) }
 {
     let Some(row) = t.rows.find(id.app) else {

@@ -43,7 +43,7 @@ pub record IsDamagedAt (bytes : List ℕ) (offset : ℕ) : Type 0 where
 
 -- A device holds these operations, whose parts are in their ranges: its payloads are exactly their frames in order, and
 -- none of them is stray.
-pub record Holds (bytes : List ℕ) (ops : List Op) : Type 0 where
+pub record DeviceHolds (bytes : List ℕ) (ops : List Op) : Type 0 where
   pub framed : All IsOperation ops
   pub frames : HasPayloads bytes (map frame ops)
   pub none_stray : stray ops ≡ None

@@ -13,7 +13,7 @@ use Rattle.rm_types.specs.Texts.{fault_of}
 use Rattle.rm_frame.specs.declared.fields.FieldError.{FieldError}
 use Rattle.rm_frame.specs.declared.fields.FieldError.TheVariants.{Bad}
 use Rattle.rm_frame.specs.Fields.{Field, ByteFrom, NumberFrom, TextOf, told_length, size_of, stands, left_at_fault, fields_of, layout, fault_place}
-use Rattle.rm_frame.specs.Reads.{Reads, Stops}
+use Rattle.rm_frame.specs.Reads.{TakesFields, Stops}
 use Rattle.rm_frame.proofs.Numbers.{IsBytes, IsBytes-take, IsWide, wide16}
 
 -- ---- one field
@@ -51,7 +51,7 @@ true_within least greatest n e =
 
 -- ---- a byte
 
-pub byte_reads : (least greatest n : ℕ) (bytes rest : List ℕ) → bytes ≡ n ∷ rest → least ≤ n → n ≤ greatest → Reads (ByteFrom least greatest ∷ []) bytes (n ∷ []) rest
+pub byte_reads : (least greatest n : ℕ) (bytes rest : List ℕ) → bytes ≡ n ∷ rest → least ≤ n → n ≤ greatest → TakesFields (ByteFrom least greatest ∷ []) bytes (n ∷ []) rest
 byte_reads least greatest n bytes rest e low high =
     let s : stands (ByteFrom least greatest) (n ∷ rest) ≡ true = rw (le-leb 1 (length (n ∷ rest)) (omega arith)) (within_true least greatest n (low, high)) in
     rw e (record { parts = refl; goes = λ more. goes_past (ByteFrom least greatest) (n ∷ rest) more s })
@@ -78,7 +78,7 @@ stands_number w least greatest bytes long h =
     rw (le-leb (byte_len w) (length bytes) long) (within_true least greatest (from_be_bytes w (take (byte_len w) bytes)) h)
 
 number_reads_so : (w : Width) (limit : ℕ) (wide : IsWide w limit) (least greatest : ℕ) (bytes : List ℕ) → IsBytes bytes → byte_len w ≤ length bytes → IsWithin least greatest (from_be_bytes w (take (byte_len w) bytes))
-    → Reads (NumberFrom w least greatest ∷ []) bytes (to_be_bytes w (from_be_bytes w (take (byte_len w) bytes))) (drop (byte_len w) bytes)
+    → TakesFields (NumberFrom w least greatest ∷ []) bytes (to_be_bytes w (from_be_bytes w (take (byte_len w) bytes))) (drop (byte_len w) bytes)
 number_reads_so w limit wide least greatest bytes fits long h =
     let front : to_be_bytes w (from_be_bytes w (take (byte_len w) bytes)) ≡ take (byte_len w) bytes = wide.back (take (byte_len w) bytes) (omega (arith, length-take (byte_len w) bytes)) (IsBytes-take (byte_len w) bytes fits) in
     record {
@@ -88,7 +88,7 @@ number_reads_so w limit wide least greatest bytes fits long h =
 
 pub number_reads : (w : Width) (limit : ℕ) (wide : IsWide w limit) (least greatest n : ℕ) (bytes rest : List ℕ) → IsBytes bytes → byte_len w ≤ length bytes
     → n ≡ from_be_bytes w (take (byte_len w) bytes) → rest ≡ drop (byte_len w) bytes → least ≤ n → n ≤ greatest
-    → Reads (NumberFrom w least greatest ∷ []) bytes (to_be_bytes w n) rest
+    → TakesFields (NumberFrom w least greatest ∷ []) bytes (to_be_bytes w n) rest
 number_reads w limit wide least greatest n bytes rest fits long n-is rest-is low high =
     let h : IsWithin least greatest (from_be_bytes w (take (byte_len w) bytes)) = rw (← n-is) (low, high) in
     rw (n-is, rest-is) (number_reads_so w limit wide least greatest bytes fits long h)
@@ -108,7 +108,7 @@ stands_text kind bytes long h =
     rw (le-leb 2 (length bytes) (omega arith), le-leb (2 + told_length bytes) (length bytes) long, h) refl
 
 text_reads_so : (kind : TextKind) (bytes : List ℕ) → IsBytes bytes → 2 + told_length bytes ≤ length bytes → IsText kind (take (told_length bytes) (drop 2 bytes))
-    → Reads (TextOf kind ∷ []) bytes (text_frame (take (told_length bytes) (drop 2 bytes))) (drop (told_length bytes) (drop 2 bytes))
+    → TakesFields (TextOf kind ∷ []) bytes (text_frame (take (told_length bytes) (drop 2 bytes))) (drop (told_length bytes) (drop 2 bytes))
 text_reads_so kind bytes fits long h =
     let told = told_length bytes in
     let len : length (take told (drop 2 bytes)) ≡ told = omega (arith, length-take told (drop 2 bytes), length-drop 2 bytes) in
@@ -123,7 +123,7 @@ text_reads_so kind bytes fits long h =
     }
 
 pub text_reads : (kind : TextKind) (told : ℕ) (bytes behind text rest : List ℕ) → IsBytes bytes → 2 ≤ length bytes → told ≡ told_length bytes → behind ≡ drop 2 bytes → told ≤ length behind
-    → text ≡ take told behind → rest ≡ drop told behind → IsText kind text → Reads (TextOf kind ∷ []) bytes (text_frame text) rest
+    → text ≡ take told behind → rest ≡ drop told behind → IsText kind text → TakesFields (TextOf kind ∷ []) bytes (text_frame text) rest
 text_reads kind told bytes behind text rest fits two told-is behind-is long text-is rest-is h =
     let t : text ≡ take (told_length bytes) (drop 2 bytes) = cc in
     let r : rest ≡ drop (told_length bytes) (drop 2 bytes) = cc in
@@ -141,7 +141,7 @@ no_text kind told bytes behind told-is behind-is never s =
 
 -- ---- fields one after another
 
-pub reads_then : (fields others : List Field) (bytes front middle back rest : List ℕ) → Reads fields bytes front middle → Reads others middle back rest → Reads (fields ++ others) bytes (front ++ back) rest
+pub reads_then : (fields others : List Field) (bytes front middle back rest : List ℕ) → TakesFields fields bytes front middle → TakesFields others middle back rest → TakesFields (fields ++ others) bytes (front ++ back) rest
 reads_then fields others bytes front middle back rest first second = record {
   parts = first.parts ∙ ap (λ (l : List ℕ). front ++ l) second.parts ∙ sym (append_assoc front back rest);
   goes = λ more. ap (λ (all : List Field). left_at_fault all bytes) (append_assoc fields others more) ∙ first.goes (others ++ more) ∙ second.goes more;
@@ -152,7 +152,7 @@ stops_first fields others bytes left stops = record {
   at = λ more. ap (λ (all : List Field). left_at_fault all bytes) (append_assoc fields others more) ∙ stops.at (others ++ more);
 }
 
-pub stops_then : (fields others : List Field) (bytes front middle : List ℕ) (left : ℕ) → Reads fields bytes front middle → Stops others middle left → Stops (fields ++ others) bytes left
+pub stops_then : (fields others : List Field) (bytes front middle : List ℕ) (left : ℕ) → TakesFields fields bytes front middle → Stops others middle left → Stops (fields ++ others) bytes left
 stops_then fields others bytes front middle left reads stops = record {
   at = λ more. ap (λ (all : List Field). left_at_fault all bytes) (append_assoc fields others more) ∙ reads.goes (others ++ more) ∙ stops.at more;
 }
@@ -183,7 +183,7 @@ left_within (field ∷ fields) bytes left e = left_within_by field fields bytes 
 
 -- ---- an operation
 
-pub layout_stops : (kind : ℕ) (bytes rest : List ℕ) (left : ℕ) → Reads (ByteFrom 1 6 ∷ []) bytes (kind ∷ []) rest → Stops (fields_of kind) rest left → Stops (layout bytes) bytes left
+pub layout_stops : (kind : ℕ) (bytes rest : List ℕ) (left : ℕ) → TakesFields (ByteFrom 1 6 ∷ []) bytes (kind ∷ []) rest → Stops (fields_of kind) rest left → Stops (layout bytes) bytes left
 layout_stops kind bytes rest left reads stops =
     let e : slice_index bytes 0 ≡ kind = ap (λ (all : List ℕ). slice_index all 0) reads.parts in
     let later : Stops (fields_of (slice_index bytes 0)) rest left = subst (λ (k : ℕ). Stops (fields_of k) rest left) (sym e) stops in

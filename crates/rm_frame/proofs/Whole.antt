@@ -18,14 +18,14 @@ use Rattle.rm_types.specs.Ranges.{IsWithin, IsAppId, IsAttemptId, IsContainerId}
 use Rattle.rm_types.specs.Limits.{greatest_attempts, greatest_memory_mb, greatest_vcores}
 use Rattle.rm_frame.specs.Fields.{Field, ByteFrom, NumberFrom, TextOf, told_length, left_at_fault, stamp_field, number_field, app_id_fields, attempt_id_fields, master_fields, submission_fields, end_fields, epoch_fields, layout, attempts_field, cores_field, memory_field}
 use Rattle.rm_frame.specs.Framed.{IsFramed}
-use Rattle.rm_frame.specs.Reads.{Reads, Stops}
+use Rattle.rm_frame.specs.Reads.{TakesFields, Stops}
 use Rattle.rm_frame.proofs.Numbers.{IsWide, wide16, wide32, wide64, again_before}
 use Rattle.rm_frame.proofs.Faults.{goes_past, stands_number, stands_text, byte_reads, reads_then, stops_left}
 use Rattle.rm_frame.proofs.Apart.{text_short}
 
 -- ---- one field
 
-number_written : (w : Width) (limit : ℕ) (wide : IsWide w limit) (least greatest n : ℕ) (rest : List ℕ) → greatest < limit → IsWithin least greatest n → Reads (NumberFrom w least greatest ∷ []) (to_be_bytes w n ++ rest) (to_be_bytes w n) rest
+number_written : (w : Width) (limit : ℕ) (wide : IsWide w limit) (least greatest n : ℕ) (rest : List ℕ) → greatest < limit → IsWithin least greatest n → TakesFields (NumberFrom w least greatest ∷ []) (to_be_bytes w n ++ rest) (to_be_bytes w n) rest
 number_written w limit wide least greatest n rest small h =
     let bytes : List ℕ = to_be_bytes w n ++ rest in
     let again : from_be_bytes w (take (byte_len w) (to_be_bytes w n ++ rest)) ≡ n = again_before w limit wide n rest (omega (arith, h.1)) in
@@ -37,7 +37,7 @@ number_written w limit wide least greatest n rest small h =
           ∙ ap (left_at_fault more) (drop_at (to_be_bytes w n) rest (byte_len w) (wide.len n));
     }
 
-text_written : (kind : TextKind) (text rest : List ℕ) → IsText kind text → Reads (TextOf kind ∷ []) (text_frame text ++ rest) (text_frame text) rest
+text_written : (kind : TextKind) (text rest : List ℕ) → IsText kind text → TakesFields (TextOf kind ∷ []) (text_frame text ++ rest) (text_frame text) rest
 text_written kind text rest h =
     let head : List ℕ = to_be_bytes w16 (length text) in
     let grouped : text_frame text ++ rest ≡ to_be_bytes w16 (length text) ++ (text ++ rest) = append_assoc (to_be_bytes w16 (length text)) text rest in
@@ -59,31 +59,31 @@ text_written kind text rest h =
 
 -- ---- fields one after another
 
-written_then : (fields others : List Field) (front back rest : List ℕ) → Reads fields (front ++ (back ++ rest)) front (back ++ rest) → Reads others (back ++ rest) back rest
-    → Reads (fields ++ others) ((front ++ back) ++ rest) (front ++ back) rest
+written_then : (fields others : List Field) (front back rest : List ℕ) → TakesFields fields (front ++ (back ++ rest)) front (back ++ rest) → TakesFields others (back ++ rest) back rest
+    → TakesFields (fields ++ others) ((front ++ back) ++ rest) (front ++ back) rest
 written_then fields others front back rest first second = record {
   parts = refl;
   goes = λ more. ap (left_at_fault ((fields ++ others) ++ more)) (append_assoc front back rest)
       ∙ (reads_then fields others (front ++ (back ++ rest)) front (back ++ rest) back rest first second).goes more;
 }
 
-number32_written : (least greatest n : ℕ) (rest : List ℕ) → greatest < 2 ^ 32 → IsWithin least greatest n → Reads (NumberFrom w32 least greatest ∷ []) (to_be_bytes w32 n ++ rest) (to_be_bytes w32 n) rest
+number32_written : (least greatest n : ℕ) (rest : List ℕ) → greatest < 2 ^ 32 → IsWithin least greatest n → TakesFields (NumberFrom w32 least greatest ∷ []) (to_be_bytes w32 n ++ rest) (to_be_bytes w32 n) rest
 number32_written least greatest n rest small h = number_written w32 (2 ^ 32) wide32 least greatest n rest small h
 
-number64_written : (least greatest n : ℕ) (rest : List ℕ) → greatest < 2 ^ 64 → IsWithin least greatest n → Reads (NumberFrom w64 least greatest ∷ []) (to_be_bytes w64 n ++ rest) (to_be_bytes w64 n) rest
+number64_written : (least greatest n : ℕ) (rest : List ℕ) → greatest < 2 ^ 64 → IsWithin least greatest n → TakesFields (NumberFrom w64 least greatest ∷ []) (to_be_bytes w64 n ++ rest) (to_be_bytes w64 n) rest
 number64_written least greatest n rest small h = number_written w64 (2 ^ 64) wide64 least greatest n rest small h
 
-app_id_written : (id : AppId) (rest : List ℕ) → IsAppId id → Reads app_id_fields (app_id_frame id ++ rest) (app_id_frame id) rest
+app_id_written : (id : AppId) (rest : List ℕ) → IsAppId id → TakesFields app_id_fields (app_id_frame id ++ rest) (app_id_frame id) rest
 app_id_written id rest h =
     written_then (stamp_field ∷ []) (number_field ∷ []) (to_be_bytes w64 id.stamp) (to_be_bytes w32 id.number) rest
     (number64_written 1 (2 ^ 63 - 1) id.stamp (to_be_bytes w32 id.number ++ rest) (omega arith) h.stamp) (number32_written 1 (2 ^ 31 - 1) id.number rest (omega arith) h.number)
 
-attempt_id_written : (id : AttemptId) (rest : List ℕ) → IsAttemptId id → Reads attempt_id_fields (attempt_id_frame id ++ rest) (attempt_id_frame id) rest
+attempt_id_written : (id : AttemptId) (rest : List ℕ) → IsAttemptId id → TakesFields attempt_id_fields (attempt_id_frame id ++ rest) (attempt_id_frame id) rest
 attempt_id_written id rest h =
     written_then app_id_fields (number_field ∷ []) (app_id_frame id.app) (to_be_bytes w32 id.number) rest
     (app_id_written id.app (to_be_bytes w32 id.number ++ rest) h.app) (number32_written 1 (2 ^ 31 - 1) id.number rest (omega arith) h.number)
 
-master_written : (master : ContainerId) (rest : List ℕ) → IsContainerId master → Reads master_fields (master_frame master ++ rest) (master_frame master) rest
+master_written : (master : ContainerId) (rest : List ℕ) → IsContainerId master → TakesFields master_fields (master_frame master ++ rest) (master_frame master) rest
 master_written master rest h =
     written_then (NumberFrom w32 0 (2 ^ 24 - 1) ∷ []) (NumberFrom w64 1 (2 ^ 40 - 1) ∷ []) (to_be_bytes w32 master.epoch) (to_be_bytes w64 master.seq) rest
     (number32_written 0 (2 ^ 24 - 1) master.epoch (to_be_bytes w64 master.seq ++ rest) (omega arith) h.epoch) (number64_written 1 (2 ^ 40 - 1) master.seq rest (omega arith) h.seq)
@@ -93,13 +93,13 @@ code_within Finished = (omega arith, omega arith)
 code_within Failed = (omega arith, omega arith)
 code_within Killed = (omega arith, omega arith)
 
-end_written : (how : How) (text rest : List ℕ) → IsText Note text → Reads end_fields ((how_code how ∷ text_frame text) ++ rest) (how_code how ∷ text_frame text) rest
+end_written : (how : How) (text rest : List ℕ) → IsText Note text → TakesFields end_fields ((how_code how ∷ text_frame text) ++ rest) (how_code how ∷ text_frame text) rest
 end_written how text rest h =
     let code = code_within how in
     written_then (ByteFrom 1 3 ∷ []) (TextOf Note ∷ []) (how_code how ∷ []) (text_frame text) rest
     (byte_reads 1 3 (how_code how) (how_code how ∷ (text_frame text ++ rest)) (text_frame text ++ rest) refl code.0 code.1) (text_written Note text rest h)
 
-submission_written : (one : Submission) (rest : List ℕ) → IsSubmission one → Reads submission_fields (submission_frame one ++ rest) (submission_frame one) rest
+submission_written : (one : Submission) (rest : List ℕ) → IsSubmission one → TakesFields submission_fields (submission_frame one ++ rest) (submission_frame one) rest
 submission_written one rest h =
     let modify = text_written AclText one.modify rest h.modify in
     let bound = written_then (attempts_field ∷ []) (TextOf AclText ∷ []) (to_be_bytes w32 one.attempts) (text_frame one.modify) rest
@@ -122,11 +122,11 @@ submission_written one rest h =
 
 -- ---- operations
 
-kind_written : (kind : ℕ) (fields : List Field) (front rest : List ℕ) → IsWithin 1 6 kind → Reads fields (front ++ rest) front rest → Reads (ByteFrom 1 6 ∷ fields) (kind ∷ (front ++ rest)) (kind ∷ front) rest
+kind_written : (kind : ℕ) (fields : List Field) (front rest : List ℕ) → IsWithin 1 6 kind → TakesFields fields (front ++ rest) front rest → TakesFields (ByteFrom 1 6 ∷ fields) (kind ∷ (front ++ rest)) (kind ∷ front) rest
 kind_written kind fields front rest h reads =
     written_then (ByteFrom 1 6 ∷ []) fields (kind ∷ []) front rest (byte_reads 1 6 kind (kind ∷ (front ++ rest)) (front ++ rest) refl h.0 h.1) reads
 
-op_written : (op : Op) (rest : List ℕ) → IsOperation op → Reads (layout (frame op ++ rest)) (frame op ++ rest) (frame op) rest
+op_written : (op : Op) (rest : List ℕ) → IsOperation op → TakesFields (layout (frame op ++ rest)) (frame op ++ rest) (frame op) rest
 op_written (Epoch next stamp) rest h =
     kind_written 1 epoch_fields (to_be_bytes w32 next ++ to_be_bytes w64 stamp) rest (omega arith, omega arith)
     (written_then (NumberFrom w32 1 (2 ^ 24) ∷ []) (stamp_field ∷ []) (to_be_bytes w32 next) (to_be_bytes w64 stamp) rest

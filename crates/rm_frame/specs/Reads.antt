@@ -8,7 +8,7 @@ use Rattle.rm_frame.specs.declared.fields.FieldError.TheVariants.{Bad}
 use Rattle.rm_frame.specs.Fields.{Field, left_at_fault}
 
 -- the bytes are what these fields take and the rest, in which further fields are looked for
-pub record Reads (fields : List Field) (bytes front rest : List ℕ) : Type 0 where
+pub record TakesFields (fields : List Field) (bytes front rest : List ℕ) : Type 0 where
   pub parts : bytes ≡ front ++ rest
   pub goes : (more : List Field) → left_at_fault (fields ++ more) bytes ≡ left_at_fault more rest
 

@@ -6,7 +6,7 @@ ghost use Rattle.rm_formats.specs.Frames.{submission_frame};
 ghost use Rattle.rm_types.specs.Ranges.{IsWithin};
 ghost use Rattle.rm_frame.specs.Fields.{submission_fields, master_fields, epoch_fields, app_id_fields, attempt_id_fields, end_fields, TextOf, layout, left_at_fault, fault_place, fields_of};
 ghost use Rattle.rm_frame.specs.Framed.{IsFramed};
-ghost use Rattle.rm_frame.specs.Reads.{Reads, Stops, StopsBy, ReadsOp};
+ghost use Rattle.rm_frame.specs.Reads.{TakesFields, Stops, StopsBy, ReadsOp};
 
 use crate::fields::{
     End, FieldError, MAX_STAMP, app_id_at, attempt_id_at, byte_within, end_at, text_at, u32_within,
@@ -89,7 +89,7 @@ fn app_at(alloc: Global, bytes: &[u8]) -> Result<(Op, &[u8]), FieldError>
 
 fn submission_at(alloc: Global, bytes: &[u8]) -> Result<(Submission, &[u8]), FieldError>
     ensures within { IfOk result (λ read. IsSubmission read.0) }
-    ensures read { IfOk result (λ read. Reads submission_fields bytes.now (submission_frame read.0) read.1.now) }
+    ensures read { IfOk result (λ read. TakesFields submission_fields bytes.now (submission_frame read.0) read.1.now) }
     ensures bad { IfErr result (λ error. StopsBy submission_fields bytes.now error) }
 {
     let (user, rest) = text_at(alloc, bytes, TextKind::Name)?;

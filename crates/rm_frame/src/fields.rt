@@ -4,7 +4,7 @@ ghost use Rattle.rm_types.specs.Ranges.{IsText};
 ghost use Rattle.rm_formats.specs.Frames.{text_frame, app_id_frame, attempt_id_frame, how_code};
 ghost use Rattle.rm_types.specs.Ranges.{IsWithin, IsAppId, IsAttemptId};
 ghost use Rattle.rm_frame.specs.Fields.{ByteFrom, NumberFrom, TextOf, app_id_fields, attempt_id_fields, end_fields};
-ghost use Rattle.rm_frame.specs.Reads.{Reads, Stops, StopsBy};
+ghost use Rattle.rm_frame.specs.Reads.{TakesFields, Stops, StopsBy};
 
 use rm_types::{AppId, AttemptId, How, Text, TextError, TextKind};
 use std::alloc::Global;
@@ -72,7 +72,7 @@ fn byte_at(bytes: &[u8]) -> Option<(u8, &[u8])>
 /// A byte in its range, and the bytes after it.
 pub fn byte_within(bytes: &[u8], least: u8, greatest: u8) -> Result<(u8, &[u8]), FieldError>
     ensures within { IfOk result (λ read. IsWithin least greatest read.0) }
-    ensures read { IfOk result (λ read. Reads (ByteFrom least greatest ∷ []) bytes.now (read.0 ∷ []) read.1.now) }
+    ensures read { IfOk result (λ read. TakesFields (ByteFrom least greatest ∷ []) bytes.now (read.0 ∷ []) read.1.now) }
     ensures bad { IfErr result (λ error. StopsBy (ByteFrom least greatest ∷ []) bytes.now error) }
 {
     let bad = FieldError::Bad { left: bytes.len() };
@@ -88,7 +88,7 @@ pub fn byte_within(bytes: &[u8], least: u8, greatest: u8) -> Result<(u8, &[u8]),
 /// A number of four bytes in its range, and the bytes after it.
 pub fn u32_within(bytes: &[u8], least: u32, greatest: u32) -> Result<(u32, &[u8]), FieldError>
     ensures within { IfOk result (λ read. IsWithin least greatest read.0) }
-    ensures read { IfOk result (λ read. Reads (NumberFrom w32 least greatest ∷ []) bytes.now (to_be_bytes w32 read.0) read.1.now) }
+    ensures read { IfOk result (λ read. TakesFields (NumberFrom w32 least greatest ∷ []) bytes.now (to_be_bytes w32 read.0) read.1.now) }
     ensures bad { IfErr result (λ error. StopsBy (NumberFrom w32 least greatest ∷ []) bytes.now error) }
 {
     let bad = FieldError::Bad { left: bytes.len() };
@@ -104,7 +104,7 @@ pub fn u32_within(bytes: &[u8], least: u32, greatest: u32) -> Result<(u32, &[u8]
 /// A number of eight bytes in its range, and the bytes after it.
 pub fn u64_within(bytes: &[u8], least: u64, greatest: u64) -> Result<(u64, &[u8]), FieldError>
     ensures within { IfOk result (λ read. IsWithin least greatest read.0) }
-    ensures read { IfOk result (λ read. Reads (NumberFrom w64 least greatest ∷ []) bytes.now (to_be_bytes w64 read.0) read.1.now) }
+    ensures read { IfOk result (λ read. TakesFields (NumberFrom w64 least greatest ∷ []) bytes.now (to_be_bytes w64 read.0) read.1.now) }
     ensures bad { IfErr result (λ error. StopsBy (NumberFrom w64 least greatest ∷ []) bytes.now error) }
 {
     let bad = FieldError::Bad { left: bytes.len() };
@@ -120,7 +120,7 @@ pub fn u64_within(bytes: &[u8], least: u64, greatest: u64) -> Result<(u64, &[u8]
 /// A text of a kind behind its length, and the bytes after it.
 pub fn text_at(alloc: Global, bytes: &[u8], kind: TextKind) -> Result<(Text, &[u8]), FieldError>
     ensures kind { IfOk result (λ read. IsText kind read.0) }
-    ensures read { IfOk result (λ read. Reads (TextOf kind ∷ []) bytes.now (text_frame read.0) read.1.now) }
+    ensures read { IfOk result (λ read. TakesFields (TextOf kind ∷ []) bytes.now (text_frame read.0) read.1.now) }
     ensures bad { IfErr result (λ error. StopsBy (TextOf kind ∷ []) bytes.now error) }
 {
     let bad = FieldError::Bad { left: bytes.len() };
@@ -142,7 +142,7 @@ pub fn text_at(alloc: Global, bytes: &[u8], kind: TextKind) -> Result<(Text, &[u
 /// An application's id, and the bytes after it.
 pub fn app_id_at(bytes: &[u8]) -> Result<(AppId, &[u8]), FieldError>
     ensures within { IfOk result (λ read. IsAppId read.0) }
-    ensures read { IfOk result (λ read. Reads app_id_fields bytes.now (app_id_frame read.0) read.1.now) }
+    ensures read { IfOk result (λ read. TakesFields app_id_fields bytes.now (app_id_frame read.0) read.1.now) }
     ensures bad { IfErr result (λ error. StopsBy app_id_fields bytes.now error) }
 {
     let (stamp, rest) = u64_within(bytes, 1, MAX_STAMP)?;
@@ -153,7 +153,7 @@ pub fn app_id_at(bytes: &[u8]) -> Result<(AppId, &[u8]), FieldError>
 /// An attempt's id, and the bytes after it.
 pub fn attempt_id_at(bytes: &[u8]) -> Result<(AttemptId, &[u8]), FieldError>
     ensures within { IfOk result (λ read. IsAttemptId read.0) }
-    ensures read { IfOk result (λ read. Reads attempt_id_fields bytes.now (attempt_id_frame read.0) read.1.now) }
+    ensures read { IfOk result (λ read. TakesFields attempt_id_fields bytes.now (attempt_id_frame read.0) read.1.now) }
     ensures bad { IfErr result (λ error. StopsBy attempt_id_fields bytes.now error) }
 {
     let (app, rest) = app_id_at(bytes)?;
@@ -163,7 +163,7 @@ pub fn attempt_id_at(bytes: &[u8]) -> Result<(AttemptId, &[u8]), FieldError>
 
 /// How something ended, and the bytes after it.
 fn how_at(bytes: &[u8]) -> Result<(How, &[u8]), FieldError>
-    ensures read { IfOk result (λ read. Reads (ByteFrom 1 3 ∷ []) bytes.now (how_code read.0 ∷ []) read.1.now) }
+    ensures read { IfOk result (λ read. TakesFields (ByteFrom 1 3 ∷ []) bytes.now (how_code read.0 ∷ []) read.1.now) }
     ensures bad { IfErr result (λ error. StopsBy (ByteFrom 1 3 ∷ []) bytes.now error) }
 {
     let (code, rest) = byte_within(bytes, 1, 3)?;
@@ -184,7 +184,7 @@ pub struct End {
 /// An end, and the bytes after it.
 pub fn end_at(alloc: Global, bytes: &[u8]) -> Result<(End, &[u8]), FieldError>
     ensures text { IfOk result (λ read. IsText TextKind.Note read.0.text) }
-    ensures read { IfOk result (λ read. Reads end_fields bytes.now (how_code read.0.how ∷ text_frame read.0.text) read.1.now) }
+    ensures read { IfOk result (λ read. TakesFields end_fields bytes.now (how_code read.0.how ∷ text_frame read.0.text) read.1.now) }
     ensures bad { IfErr result (λ error. StopsBy end_fields bytes.now error) }
 {
     let (how, rest) = how_at(bytes)?;

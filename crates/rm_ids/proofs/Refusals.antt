@@ -8,7 +8,7 @@ use Rattle.rm_types.specs.Ranges.{IsWithin}
 use Rattle.rm_ids.specs.declared.parts.Part.{Part}
 use Rattle.rm_ids.specs.Parts.{least_digits, greatest}
 use Rattle.rm_ids.specs.Digits.{IsDigit, AreDigits, value_of, CanBegin}
-use Rattle.rm_ids.specs.Fronts.{Begins, IsPlace}
+use Rattle.rm_ids.specs.Fronts.{IsFrontOf, IsPlace}
 use Rattle.rm_ids.specs.Steps.{After, NumberThen, AreFields, Refuses, LacksByte, LeavesWord, Passes, Stops, NumberPasses, NumberStops}
 use Rattle.rm_ids.proofs.Digits.{HasDigit, LacksDigit, starts_with, AreDigits-append, heads_alike, digits_alike, digits_within, padded_is_digits, length-padded, digit_or_not}
 use Rattle.rm_ids.proofs.Numerals.{goes_on, enough_digits, number_begins, fits, some_digits}
@@ -110,7 +110,7 @@ lacks_alike (first ∷ front) byte a b lacks = lacks
 
 -- behind the text of a number, no more than what begins a text there
 more_behind : (IsKind : List ℕ → Type 0) (part : Part) (number : ℕ) (rest front behind more others : List ℕ) → IsWithin 1 (greatest part) number → LacksDigit rest → StartsApart IsKind
-    → rest ≡ front ++ behind → behind ≡ more ++ others → (Begins IsKind (front ++ more) → more ≡ []) → Begins (NumberThen part IsKind) ((padded (least_digits part) number ++ front) ++ more) → more ≡ []
+    → rest ≡ front ++ behind → behind ≡ more ++ others → (IsFrontOf IsKind (front ++ more) → more ≡ []) → IsFrontOf (NumberThen part IsKind) ((padded (least_digits part) number ++ front) ++ more) → more ≡ []
 more_behind IsKind part number rest front behind [] others within lacks apart split again longest begins = refl
 more_behind IsKind part number rest front behind (byte ∷ more) others within lacks apart split again longest begins =
     let text = padded (least_digits part) number in
@@ -196,7 +196,7 @@ no_number_whole part front (byte ∷ rest) number behind can next unfit within l
 
 no_more_digits : (IsKind : List ℕ → Type 0) (part : Part) (front rest more others : List ℕ) → CanBegin part front
     → ((next : ℕ) (after : List ℕ) → rest ≡ next ∷ after → CanBegin part (front ++ next ∷ []) → ⊥) → (length front < least_digits part) ⊎ HasDigit rest
-    → StartsApart IsKind → rest ≡ more ++ others → Begins (NumberThen part IsKind) (front ++ more) → more ≡ []
+    → StartsApart IsKind → rest ≡ more ++ others → IsFrontOf (NumberThen part IsKind) (front ++ more) → more ≡ []
 no_more_digits IsKind part front rest [] others can next unfit apart split begins = refl
 no_more_digits IsKind part front rest (byte ∷ more) others can next unfit apart split begins =
     absurd (no_number_next part front rest byte (more ++ others) (more ++ begins.more) begins.is.number begins.is.rest can next unfit split begins.is.within
@@ -262,7 +262,7 @@ abbrev pub Either : (List ℕ → Type 0) → (List ℕ → Type 0) → List ℕ
 Either IsKind IsOther text = IsKind text ⊎ IsOther text
 
 either_longest : (IsKind IsOther : List ℕ → Type 0) (bytes : List ℕ) (left : ℕ) (refuses : Refuses IsKind bytes left)
-    → ((front rest : List ℕ) → bytes ≡ front ++ rest → Begins IsOther front → Begins IsKind front)
+    → ((front rest : List ℕ) → bytes ≡ front ++ rest → IsFrontOf IsOther front → IsFrontOf IsKind front)
     → (more others tail : List ℕ) → refuses.rest ≡ more ++ others → Either IsKind IsOther ((refuses.front ++ more) ++ tail) → more ≡ []
 either_longest IsKind IsOther bytes left refuses begin more others tail split (inl is) = refuses.longest more others split (record { more = tail; is = is })
 either_longest IsKind IsOther bytes left refuses begin more others tail split (inr is) =
@@ -271,7 +271,7 @@ either_longest IsKind IsOther bytes left refuses begin more others tail split (i
 
 -- another kind changes nothing where its texts begin with no other fronts of the bytes
 pub either : (IsKind IsOther : List ℕ → Type 0) (bytes : List ℕ) (left : ℕ) → Refuses IsKind bytes left
-    → ((front rest : List ℕ) → bytes ≡ front ++ rest → Begins IsOther front → Begins IsKind front) → (IsOther bytes → ⊥) → Refuses (Either IsKind IsOther) bytes left
+    → ((front rest : List ℕ) → bytes ≡ front ++ rest → IsFrontOf IsOther front → IsFrontOf IsKind front) → (IsOther bytes → ⊥) → Refuses (Either IsKind IsOther) bytes left
 either IsKind IsOther bytes left refuses begin none = record {
   front = refuses.front;
   rest = refuses.rest;
@@ -292,7 +292,7 @@ place_of IsKind bytes left refuses =
     let front_is : take (length bytes - left) bytes ≡ refuses.front = ap (take (length bytes - left)) refuses.parts ∙ take_at refuses.front refuses.rest (length bytes - left) place in
     record {
       within = omega arith;
-      front = subst (Begins IsKind) (sym front_is) (record { more = refuses.begins.more; is = refuses.begins.is });
+      front = subst (IsFrontOf IsKind) (sym front_is) (record { more = refuses.begins.more; is = refuses.begins.is });
       longest = λ count within begins. elim (cases_lt (length bytes - left) count) [
         | inl beyond ↦
             let more = drop (length bytes - left) (take count bytes) in
@@ -300,7 +300,7 @@ place_of IsKind bytes left refuses =
             let whole : refuses.front ++ more ≡ take count bytes = ap (λ (t : List ℕ). t ++ more) (sym first) ∙ take-append-drop (length bytes - left) (take count bytes) in
             let split : refuses.rest ≡ more ++ drop count bytes = append_cancel_left refuses.front refuses.rest (more ++ drop count bytes)
             (sym refuses.parts ∙ sym (take-append-drop count bytes) ∙ ap (λ (t : List ℕ). t ++ drop count bytes) (sym whole) ∙ append_assoc refuses.front more (drop count bytes)) in
-            let none : more ≡ [] = refuses.longest more (drop count bytes) split (subst (Begins IsKind) (sym whole) begins) in
+            let none : more ≡ [] = refuses.longest more (drop count bytes) split (subst (IsFrontOf IsKind) (sym whole) begins) in
             absurd (omega (arith, ap length none, length-drop (length bytes - left) (take count bytes), length-take-le count bytes within))
         | inr here ↦ here
       ];
@@ -363,7 +363,7 @@ number_reads part bytes digits rest count number splits enough =
     }
 
 -- where a digit stands, nothing begins that begins with none
-digit_refuses : (IsKind : List ℕ → Type 0) (bytes front rest : List ℕ) → HasDigit bytes → StartsApart IsKind → bytes ≡ front ++ rest → Begins IsKind front → front ≡ []
+digit_refuses : (IsKind : List ℕ → Type 0) (bytes front rest : List ℕ) → HasDigit bytes → StartsApart IsKind → bytes ≡ front ++ rest → IsFrontOf IsKind front → front ≡ []
 digit_refuses IsKind bytes [] rest digit apart e begins = refl
 digit_refuses IsKind bytes (byte ∷ front) rest digit apart e begins = absurd (apart.apart (byte ∷ (front ++ begins.more)) begins.is (subst HasDigit e digit))
 

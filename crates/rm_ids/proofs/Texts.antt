@@ -13,7 +13,7 @@ use Rattle.rm_types.specs.Ranges.{IsWithin, IsAppId, IsAttemptId, IsContainerId}
 use Rattle.rm_ids.specs.declared.parts.Part.{Part}
 use Rattle.rm_ids.specs.declared.parts.Part.TheVariants.{Stamp, AppNumber, AttemptNumber, AttemptInContainer, Epoch, Sequence}
 use Rattle.rm_ids.specs.Digits.{AreDigits}
-use Rattle.rm_ids.specs.Fronts.{IsAppText, IsAttemptText, IsContainerText, Begins}
+use Rattle.rm_ids.specs.Fronts.{IsAppText, IsAttemptText, IsContainerText, IsFrontOf}
 use Rattle.rm_ids.specs.Steps.{After, NumberThen, AreFields, Refuses, LeavesWord, LacksByte}
 use Rattle.rm_ids.specs.Spelling.{app_parts, grant_parts, app_then, grant_text, epoch_then, IsGrantText}
 use Rattle.rm_ids.proofs.Digits.{heads_alike, HasDigit, padded_is_digits, length-padded}
@@ -245,7 +245,7 @@ no_stamp text tail e fields =
     absurd (omega (arith, wrong.1))
 
 -- what begins a text without an epoch begins one with an epoch, where the bytes begin with `_e`
-shown_fronts : (front rest digits : List ℕ) → 95 ∷ 101 ∷ digits ≡ front ++ rest → Begins (AreFields grant_parts) front → Begins IsShown front
+shown_fronts : (front rest digits : List ℕ) → 95 ∷ 101 ∷ digits ≡ front ++ rest → IsFrontOf (AreFields grant_parts) front → IsFrontOf IsShown front
 shown_fronts [] rest digits e begins = let some = number_has_text Epoch grant_parts in record { more = codes "_e" ++ some.text; is = record { rest = some.text; same = refl; is = some.is } }
 shown_fronts (byte ∷ []) rest digits e begins =
     let some = number_has_text Epoch grant_parts in
@@ -274,7 +274,7 @@ shown_refuses bytes digits left e refuses =
     (λ front rest split begins. shown_fronts front rest digits (sym e ∙ split) begins) (λ fields. no_stamp bytes digits e fields))
 
 -- what begins a text with an epoch begins one without, where the bytes don't begin with `_e`
-hidden_fronts : (front rest bytes : List ℕ) → bytes ≡ front ++ rest → ((tail : List ℕ) → bytes ≡ 95 ∷ 101 ∷ tail → ⊥) → Begins IsShown front → Begins (AreFields grant_parts) front
+hidden_fronts : (front rest bytes : List ℕ) → bytes ≡ front ++ rest → ((tail : List ℕ) → bytes ≡ 95 ∷ 101 ∷ tail → ⊥) → IsFrontOf IsShown front → IsFrontOf (AreFields grant_parts) front
 hidden_fronts [] rest bytes e hidden begins = let some = fields_have_text grant_parts in record { more = some.text; is = some.is }
 hidden_fronts (byte ∷ []) rest bytes e hidden begins =
     let some = number_has_text Stamp (AppNumber ∷ AttemptInContainer ∷ Sequence ∷ []) in

@@ -25,17 +25,17 @@ pub record IsContainerText (text : List ℕ) : Type 0 where
   pub same : text ≡ container_text id
 
 -- some text of the kind begins with these bytes
-pub record Begins (IsKind : List ℕ → Type 0) (front : List ℕ) : Type 0 where
+pub record IsFrontOf (IsKind : List ℕ → Type 0) (front : List ℕ) : Type 0 where
   pub more : List ℕ
   pub is : IsKind (front ++ more)
 
 -- where bytes leave the texts of the kind: some text begins with the bytes before the place, and none with more of them
 pub record IsPlace (IsKind : List ℕ → Type 0) (bytes : List ℕ) (place : ℕ) : Type 0 where
   pub within : place ≤ length bytes
-  pub front : Begins IsKind (take place bytes)
-  pub longest : (count : ℕ) → count ≤ length bytes → Begins IsKind (take count bytes) → count ≤ place
+  pub front : IsFrontOf IsKind (take place bytes)
+  pub longest : (count : ℕ) → count ≤ length bytes → IsFrontOf IsKind (take count bytes) → count ≤ place
 
 -- bytes that go on with others: they begin with all of them
-pub record GoesOn (front whole : List ℕ) : Type 0 where
+pub record IsPrefixOf (front whole : List ℕ) : Type 0 where
   pub more : List ℕ
   pub is : whole ≡ front ++ more

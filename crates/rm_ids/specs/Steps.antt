@@ -3,7 +3,7 @@ use Rattle.std.specs.Prelude.{◌≡◌, ◌≢◌, ℕ, List, [], ◌∷◌, �
 use Rattle.rm_formats.specs.IdTexts.{padded}
 use Rattle.rm_types.specs.Ranges.{IsWithin}
 use Rattle.rm_ids.specs.declared.parts.Part.{Part}
-use Rattle.rm_ids.specs.Fronts.{Begins}
+use Rattle.rm_ids.specs.Fronts.{IsFrontOf}
 use Rattle.rm_ids.specs.Parts.{least_digits, greatest}
 
 -- a word and then a text of the kind
@@ -32,8 +32,8 @@ pub record Refuses (IsKind : List ℕ → Type 0) (bytes : List ℕ) (left : ℕ
   pub rest : List ℕ
   pub parts : bytes ≡ front ++ rest
   pub count : length rest ≡ left
-  pub begins : Begins IsKind front
-  pub longest : (more others : List ℕ) → rest ≡ more ++ others → Begins IsKind (front ++ more) → more ≡ []
+  pub begins : IsFrontOf IsKind front
+  pub longest : (more others : List ℕ) → rest ≡ more ++ others → IsFrontOf IsKind (front ++ more) → more ≡ []
   pub none : IsKind bytes → ⊥
 
 -- the bytes don't begin with this one

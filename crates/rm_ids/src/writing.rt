@@ -1,6 +1,6 @@
 ghost use Rattle.std.specs.Prelude.{◌≡◌, ◌++◌, codes, decimal, take, OnOk, OnErr};
 ghost use Rattle.rm_formats.specs.IdTexts.{padded, app_text, attempt_text, container_text, container_end};
-ghost use Rattle.rm_ids.specs.Fronts.{GoesOn};
+ghost use Rattle.rm_ids.specs.Fronts.{IsPrefixOf};
 
 use itoa::Buffer;
 use rm_types::{AppId, AttemptId, ContainerId, NoMemory};
@@ -56,7 +56,7 @@ fn whole_or_none(
 
 fn put_attempt(text: &mut Vec<u8>, id: AttemptId) -> Result<(), NoMemory>
     ensures ok { OnOk result (text.new.items ≡ text.old.items ++ attempt_text id) }
-    ensures err { OnErr result (GoesOn text.old.items text.new.items) }
+    ensures err { OnErr result (IsPrefixOf text.old.items text.new.items) }
 {
     put_app(text, b"appattempt_", id.app)?;
     put_field(text, 6, u64::from(id.number))?;
@@ -65,7 +65,7 @@ fn put_attempt(text: &mut Vec<u8>, id: AttemptId) -> Result<(), NoMemory>
 
 fn put_container(text: &mut Vec<u8>, id: ContainerId) -> Result<(), NoMemory>
     ensures ok { OnOk result (text.new.items ≡ text.old.items ++ container_text id) }
-    ensures err { OnErr result (GoesOn text.old.items text.new.items) }
+    ensures err { OnErr result (IsPrefixOf text.old.items text.new.items) }
 {
     if id.epoch == 0 {
         return put_container_end(text, b"container_", id);
@@ -78,7 +78,7 @@ fn put_container(text: &mut Vec<u8>, id: ContainerId) -> Result<(), NoMemory>
 /// Appends a word, and what stands in a container's text behind the epoch.
 fn put_container_end(text: &mut Vec<u8>, word: &[u8], id: ContainerId) -> Result<(), NoMemory>
     ensures ok { OnOk result (text.new.items ≡ text.old.items ++ (word.now ++ container_end id)) }
-    ensures err { OnErr result (GoesOn text.old.items text.new.items) }
+    ensures err { OnErr result (IsPrefixOf text.old.items text.new.items) }
 {
     put_app(text, word, id.attempt.app)?;
     put_field(text, 2, u64::from(id.attempt.number))?;
@@ -88,7 +88,7 @@ fn put_container_end(text: &mut Vec<u8>, word: &[u8], id: ContainerId) -> Result
 /// Appends a word, and an application's stamp and number.
 fn put_app(text: &mut Vec<u8>, word: &[u8], id: AppId) -> Result<(), NoMemory>
     ensures ok { OnOk result (text.new.items ≡ text.old.items ++ (word.now ++ (decimal id.stamp ++ (codes "_" ++ padded 4 id.number)))) }
-    ensures err { OnErr result (GoesOn text.old.items text.new.items) }
+    ensures err { OnErr result (IsPrefixOf text.old.items text.new.items) }
 {
     text.extend_from_slice(word)?;
     let mut buffer = Buffer::new();
@@ -99,7 +99,7 @@ fn put_app(text: &mut Vec<u8>, word: &[u8], id: AppId) -> Result<(), NoMemory>
 /// Appends a `_` and a number.
 fn put_field(text: &mut Vec<u8>, digits: usize, number: u64) -> Result<(), NoMemory>
     ensures ok { OnOk result (text.new.items ≡ text.old.items ++ (codes "_" ++ padded digits number)) }
-    ensures err { OnErr result (GoesOn text.old.items text.new.items) }
+    ensures err { OnErr result (IsPrefixOf text.old.items text.new.items) }
 {
     text.push(b'_')?;
     put_padded(text, digits, number)
@@ -108,7 +108,7 @@ fn put_field(text: &mut Vec<u8>, digits: usize, number: u64) -> Result<(), NoMem
 /// Appends a number in decimal, with zeros before it up to so many digits.
 fn put_padded(text: &mut Vec<u8>, digits: usize, number: u64) -> Result<(), NoMemory>
     ensures ok { OnOk result (text.new.items ≡ text.old.items ++ padded digits number) }
-    ensures err { OnErr result (GoesOn text.old.items text.new.items) }
+    ensures err { OnErr result (IsPrefixOf text.old.items text.new.items) }
 {
     let mut buffer = Buffer::new();
     let numeral = buffer.format(number).as_bytes();

@@ -1,8 +1,8 @@
 ghost use Rattle.std.specs.Prelude.{◌≡◌, ◌+◌, ◌-◌, ◌<◌, ◌≤◌, ◌⊎◌, ◌↔◌, ℕ, List, [], ◌∷◌, ◌++◌, Bool, true, false, None, length, take, drop, vec_len, vec_capacity, is_ok, OnOk, OnErr, IfOk, IfErr, IfSome, IsErrOf, Err};
-ghost use Rattle.rm_disk.specs.Disk.{Tells, MayWrite, IsQuiet};
+ghost use Rattle.rm_disk.specs.Disk.{IfTold, MayWrite, IsQuiet};
 ghost use Rattle.rm_formats.specs.Device.{sized, HasPayloads, IsDamagedAt};
 ghost use Rattle.rm_journal.specs.Fault.{IsReadError, IsAppendError, IsRefusal};
-ghost use Rattle.rm_journal.specs.Journal.{region_of, Place, Stands, HasRead, IsOpened, GivesNext, LeavesEither, Adds, StaysInRegion, broken_after};
+ghost use Rattle.rm_journal.specs.Journal.{region_of, Place, JournalInvariant, HasRead, IsOpened, GivesNext, LeavesEither, AppendsPayload, StaysInRegion, broken_after};
 
 use crate::fault::JournalError;
 use crate::region::{Region, record_at, write_through};
@@ -55,7 +55,7 @@ fn fill(buffer: &mut Vec<u8>, payload: &[u8])
 fn fetch<D: Disk>(disk: &mut D, at: u64, many: usize, buffer: &mut Vec<u8>) -> Result<(), DiskError>
     requires inside { at + many ≤ (D.view disk.old).size }
     requires room { many ≤ vec_capacity buffer.old }
-    ensures bytes { OnOk result (Tells (D.view disk.old) (λ bytes. buffer.new.items ≡ take many (drop at bytes))) }
+    ensures bytes { OnOk result (IfTold (D.view disk.old) (λ bytes. buffer.new.items ≡ take many (drop at bytes))) }
     ensures length { OnOk result (length buffer.new.items ≡ many) }
     ensures room { vec_capacity buffer.old ≤ vec_capacity buffer.new }
     ensures kept { D.keeps (is_ok result) disk.old disk.new }
@@ -82,9 +82,9 @@ impl Journal {
     ) -> Result<Journal, JournalError>
         requires { region.from + region.size ≤ (D.view disk.old).size }
         ensures ok { IfOk result (IsOpened (D.view disk.new) region.from region.size) }
-        ensures holds { OnOk result (Tells (D.view disk.new) (λ bytes. (all : List (List ℕ)) × HasPayloads (region_of region.from (region.from + region.size) bytes) all)) }
-        ensures damaged { (offset : ℕ) → result ≡ Err (JournalError.Damaged offset) → (region.from ≤ offset) × Tells (D.view disk.old) (λ bytes. IsDamagedAt (region_of region.from (region.from + region.size) bytes) (offset - region.from)) }
-        ensures undamaged { OnOk result (Tells (D.view disk.old) (λ bytes. (offset : ℕ) → IsDamagedAt (region_of region.from (region.from + region.size) bytes) offset → ⊥)) }
+        ensures holds { OnOk result (IfTold (D.view disk.new) (λ bytes. (all : List (List ℕ)) × HasPayloads (region_of region.from (region.from + region.size) bytes) all)) }
+        ensures damaged { (offset : ℕ) → result ≡ Err (JournalError.Damaged offset) → (region.from ≤ offset) × IfTold (D.view disk.old) (λ bytes. IsDamagedAt (region_of region.from (region.from + region.size) bytes) (offset - region.from)) }
+        ensures undamaged { OnOk result (IfTold (D.view disk.old) (λ bytes. (offset : ℕ) → IsDamagedAt (region_of region.from (region.from + region.size) bytes) offset → ⊥)) }
         ensures kept { D.keeps (is_ok result) disk.old disk.new }
         ensures quiet { IsQuiet (D.view disk.old) (D.view disk.new) }
         ensures fault { IsErrOf result JournalError.DiskFault → D.faulted disk.old disk.new }
@@ -124,9 +124,9 @@ impl Journal {
         disk: &mut D,
         out: &mut Vec<u8>,
     ) -> Result<Option<u64>, JournalError>
-        requires { Stands (D.view disk.old) self.old }
-        ensures stands { Stands (D.view disk.new) self.new }
-        ensures next { IfOk result (λ gate. Tells (D.view disk.old) (λ bytes. (given left : List (List ℕ)) → HasRead self.old bytes given left → GivesNext self.old self.new out.old.items out.new.items bytes given left gate)) }
+        requires { JournalInvariant (D.view disk.old) self.old }
+        ensures stands { JournalInvariant (D.view disk.new) self.new }
+        ensures next { IfOk result (λ gate. IfTold (D.view disk.old) (λ bytes. (given left : List (List ℕ)) → HasRead self.old bytes given left → GivesNext self.old self.new out.old.items out.new.items bytes given left gate)) }
         ensures others { self.new ≡ record self.old { cursor = self.new.cursor } }
         ensures on { IfOk result (λ gate. IfSome gate (λ _. (self.old.cursor < self.new.cursor) × (self.new.cursor ≤ self.new.end))) }
         ensures err { OnErr result ((self.new ≡ self.old) × (out.new.items ≡ out.old.items)) }
@@ -164,17 +164,17 @@ impl Journal {
     /// leave all as it was. `DiskFault` comes only where the disk's count of faults rose, and `Memory` where
     /// a call of the disk found none.
     pub fn append<D: Disk>(&mut self, disk: &mut D, payload: &[u8]) -> Result<(), JournalError>
-        requires stands { Stands (D.view disk.old) self.old }
+        requires stands { JournalInvariant (D.view disk.old) self.old }
         requires low { 1 ≤ length payload.now }
         requires high { length payload.now ≤ 1024 }
 
-        ensures stands { Stands (D.view disk.new) self.new }
+        ensures stands { JournalInvariant (D.view disk.new) self.new }
         ensures region { StaysInRegion self.old self.new }
         ensures broken { self.new.is_broken ≡ broken_after result self.old.is_broken }
 
         // A crash at any moment leaves the payloads from before, or these and the new one.
         ensures any_moment { self.old.is_broken ≡ false → LeavesEither (D.view disk.old) (D.view disk.new) self.old payload.now }
-        ensures added { OnOk result (Adds (D.view disk.old) (D.view disk.new) self.old payload.now) }
+        ensures added { OnOk result (AppendsPayload (D.view disk.old) (D.view disk.new) self.old payload.now) }
         ensures gate { OnOk result (self.new.gate ≡ self.old.gate + length payload.now + 5) }
         ensures kept { D.keeps (is_ok result) disk.old disk.new }
         ensures region_alone { MayWrite self.old.from (self.old.end - self.old.from) (D.view disk.old) (D.view disk.new) }

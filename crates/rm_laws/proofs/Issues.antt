@@ -52,7 +52,7 @@ not_both None a b = cc
 not_both (Some x) a b = cc
 
 -- an application with ended attempts that goes on
-pub record GoesOn (app : AppRecord) : Type 0 where
+pub record IsUnended (app : AppRecord) : Type 0 where
   pub goes : is_none app.ending ≡ true
   pub ended : all_ended app.attempts ≡ true
 
@@ -93,7 +93,7 @@ module _ (id : AppId) (r : Records) (awaiting : List Op) (fit : Fitting r awaiti
       ap (λ (v : Option AppRecord). fits_view v (Remove id)) (same ∙ is) ∙ ended
 
   -- of one that goes on with ended attempts only its next Attempt or its AppEnd fits
-  going_blocks : (app : AppRecord) → GoesOn app → (s : Records) (op : Op) → record_of s.apps id ≡ Some app → is_of id op ≡ true → fits_records s op ≡ true
+  going_blocks : (app : AppRecord) → IsUnended app → (s : Records) (op : Op) → record_of s.apps id ≡ Some app → is_of id op ≡ true → fits_records s op ≡ true
       → (is_app_end_op id op || is_attempt_op (record { app = id; number = length app.attempts + 1 }) op) ≡ true
   going_blocks app g s op is own fits = go op own (ap (λ (v : Option AppRecord). fits_view v op) (sym is) ∙ sym (by_view id s op own) ∙ fits)
     where
@@ -120,18 +120,18 @@ module _ (id : AppId) (r : Records) (awaiting : List Op) (fit : Fitting r awaiti
       go false e true f a b more = cc
       go false e false f a b more = more a b
 
-  going_same : (app : AppRecord) → record_of r.apps id ≡ Some app → GoesOn app → list_any (is_app_end_op id) awaiting ≡ false
+  going_same : (app : AppRecord) → record_of r.apps id ≡ Some app → IsUnended app → list_any (is_app_end_op id) awaiting ≡ false
       → list_any (is_attempt_op (record { app = id; number = length app.attempts + 1 })) awaiting ≡ false → record_of (fold recorded r awaiting).apps id ≡ record_of r.apps id
   going_same app is g ends attempts =
       quiet id (λ v. v ≡ Some app) (λ op. is_app_end_op id op || is_attempt_op (record { app = id; number = length app.attempts + 1 }) op) (going_blocks app g) r awaiting is fit
       (any_either (is_app_end_op id) (is_attempt_op (record { app = id; number = length app.attempts + 1 })) awaiting ends attempts)
 
-  pub app_end_fits : (app : AppRecord) → record_of r.apps id ≡ Some app → GoesOn app → list_any (is_app_end_op id) awaiting ≡ false
+  pub app_end_fits : (app : AppRecord) → record_of r.apps id ≡ Some app → IsUnended app → list_any (is_app_end_op id) awaiting ≡ false
       → list_any (is_attempt_op (record { app = id; number = length app.attempts + 1 })) awaiting ≡ false → (how : How) (text : List ℕ) → fits_records (fold recorded r awaiting) (AppEnd id how text) ≡ true
   app_end_fits app is g ends attempts how text =
       ap (λ (v : Option AppRecord). fits_view v (AppEnd id how text)) (going_same app is g ends attempts ∙ is) ∙ rw (g.goes, g.ended) refl
 
-  pub attempt_fits : (app : AppRecord) → record_of r.apps id ≡ Some app → GoesOn app → list_any (is_app_end_op id) awaiting ≡ false
+  pub attempt_fits : (app : AppRecord) → record_of r.apps id ≡ Some app → IsUnended app → list_any (is_app_end_op id) awaiting ≡ false
       → list_any (is_attempt_op (record { app = id; number = length app.attempts + 1 })) awaiting ≡ false → (master : ContainerId) (node : List ℕ)
       → fits_records (fold recorded r awaiting) (Attempt (record { app = id; number = length app.attempts + 1 }) master node) ≡ true
   attempt_fits app is g ends attempts master node =

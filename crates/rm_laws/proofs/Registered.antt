@@ -114,8 +114,8 @@ each_changed P change same attempt (master ∷ masters) h = (go (is_attempt mast
 
 -- a message is answered
 module _ (m : Scene) where
-  abbrev pub Holds : LifeState → Type 0
-  Holds life = AllHeld m.records life
+  abbrev pub MastersAreHeld : LifeState → Type 0
+  MastersAreHeld life = AllHeld m.records life
 
   registers_kept : (attempt : AttemptId) (b live registered : Bool)
       → replies.MasterRegistered ≡ (if b then (if not live then replies.Gone else (if registered then replies.Already else replies.MasterRegistered)) else replies.NotOpen) → live ≡ true
@@ -123,7 +123,7 @@ module _ (m : Scene) where
   registers_kept attempt true true registered is = refl
   registers_kept attempt true false registered is = cc
 
-  answered : (settings : Settings) → Holds m.life → Changes m Holds (λ message reply. reply ≡ reply_to settings m message)
+  answered : (settings : Settings) → MastersAreHeld m.life → Changes m MastersAreHeld (λ message reply. reply ≡ reply_to settings m message)
   answered settings k =
       record {
         nothing = k;
@@ -143,7 +143,7 @@ module _ (m : Scene) where
         master_expires = λ attempt. k;
       }
 
-  issued_held : (op : Op) → Holds m.life → Holds (life_issues m op)
+  issued_held : (op : Op) → MastersAreHeld m.life → MastersAreHeld (life_issues m op)
   issued_held (Epoch next stamp) k = k
   issued_held (App id submission) k = k
   issued_held (Attempt id master node) k = k
@@ -174,7 +174,7 @@ in_life settings kept awaiting blew life (Kept op) k may =
     (each-map (λ (master : MasterState). IsHeld (records kept).apps life.apps.retired master.attempt) (λ master. IsHeld (recorded (records kept) op).apps (life_keeps life op).apps.retired master.attempt)
     (λ master h. kept_held (records kept) life op master.attempt h) life.masters.registered k))
 in_life settings kept awaiting blew life (Served sender message reply) k may =
-    let m = scene (state kept awaiting blew (Some life)) life in served m (Holds m) (λ one answer. answer ≡ reply_to settings m one) (answered m settings k) message reply may.answers
+    let m = scene (state kept awaiting blew (Some life)) life in served m (MastersAreHeld m) (λ one answer. answer ≡ reply_to settings m one) (answered m settings k) message reply may.answers
 in_life settings kept awaiting blew life Down k may = tt
 in_life settings kept awaiting blew life e k may = k
 

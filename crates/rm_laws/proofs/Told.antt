@@ -230,8 +230,8 @@ keeps r life (Remove id) k = retires r.apps life.apps id k
 
 -- a message is answered
 module _ (m : Scene) where
-  abbrev pub Holds : LifeState → Type 0
-  Holds life = AreKnown m.records.apps life.apps
+  abbrev pub AppsAreKnown : LifeState → Type 0
+  AppsAreKnown life = AreKnown m.records.apps life.apps
 
   -- a submission that is taken isn't retired
   pub not_retired : (given retired : Bool) (rest : Reply) → replies.Submitted ≡ (if not given then replies.BadId else (if retired then replies.Retired else rest)) → retired ≡ false
@@ -241,13 +241,13 @@ module _ (m : Scene) where
 
   submits : (settings : Settings) (id : AppId) (submission : Submission) (b : Bool)
       → replies.Submitted ≡ (if b then submit_reply settings m id submission else replies.NotOpen) → is_known m id ≡ false
-      → Holds m.life → Holds (record m.life { apps = record m.life.apps { submitted = m.life.apps.submitted ++ record { id = id; submission = submission } ∷ [] } })
+      → AppsAreKnown m.life → AppsAreKnown (record m.life { apps = record m.life.apps { submitted = m.life.apps.submitted ++ record { id = id; submission = submission } ∷ [] } })
   submits settings id submission false is new k = absurd (let x = is in cc)
   submits settings id submission true is new k =
       let both = not_either (is_submitted m.life.apps.submitted id) (is_some (record_of m.records.apps id)) new in
       joined m.records.apps m.life.apps id submission k both.0 (sym (is_some-find (λ (app : AppRecord). is_app app.id id) m.records.apps) ∙ both.1) (not_retired _ (has_app m.life.apps.retired id) _ is)
 
-  answered : (settings : Settings) → Holds m.life → Changes m Holds (λ message reply. reply ≡ reply_to settings m message)
+  answered : (settings : Settings) → AppsAreKnown m.life → Changes m AppsAreKnown (λ message reply. reply ≡ reply_to settings m message)
   answered settings k =
       record {
         nothing = k;
@@ -264,7 +264,7 @@ module _ (m : Scene) where
         master_expires = λ attempt. k;
       }
 
-  issued_known : (op : Op) → Holds m.life → Holds (life_issues m op)
+  issued_known : (op : Op) → AppsAreKnown m.life → AppsAreKnown (life_issues m op)
   issued_known (Epoch next stamp) k = k
   issued_known (App id submission) k = k
   issued_known (Attempt id master node) k = k
@@ -280,7 +280,7 @@ in_life settings kept awaiting blew life (Issued op) k may = issued_known (scene
 in_life settings kept awaiting blew life (Kept op) k may =
     subst (λ (r : Records). AreKnown r.apps (life_keeps life op).apps) (sym (fold_push recorded no_records kept op)) (keeps (records kept) life op k)
 in_life settings kept awaiting blew life (Served sender message reply) k may =
-    let m = scene (state kept awaiting blew (Some life)) life in served m (Holds m) (λ one answer. answer ≡ reply_to settings m one) (answered m settings k) message reply may.answers
+    let m = scene (state kept awaiting blew (Some life)) life in served m (AppsAreKnown m) (λ one answer. answer ≡ reply_to settings m one) (answered m settings k) message reply may.answers
 in_life settings kept awaiting blew life (Accepted app) k may =
     accepts (records kept).apps life.apps app k (sym (is_some-find (λ (one : AppRecord). is_app one.id app) (records kept).apps) ∙ may.kept)
 in_life settings kept awaiting blew life Down k may = tt

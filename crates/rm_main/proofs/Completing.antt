@@ -6,7 +6,7 @@ use Rattle.rm_types.specs.declared.outcomes.Outcome.TheVariants.{Done, Usage, Re
 use Rattle.rm_types.specs.declared.settings.Settings.{Settings}
 use Rattle.rm_types.specs.Counts.{Rose}
 use Rattle.rm_disk.specs.Disk.{DiskView}
-use Rattle.rm_formats.specs.Device.{Holds}
+use Rattle.rm_formats.specs.Device.{DeviceHolds}
 use Rattle.rm_outside.specs.Shelves.{bytes_read}
 use Rattle.rm_cluster.specs.Clusters.{IsCluster, IsNoCluster}
 use Rattle.rm_cluster.specs.declared.clusters.ClusterError.TheVariants.{Refused}
@@ -41,7 +41,7 @@ apart bytes settings place is (inr breaks) =
     let never = sym is.settled.unbroken ∙ broken in cc
 
 -- a store is none at no offset
-a_store : (bytes : List ℕ) (ops : List Op) (offset : ℕ) → Holds bytes ops → IsNoStore offset bytes → ⊥
+a_store : (bytes : List ℕ) (ops : List Op) (offset : ℕ) → DeviceHolds bytes ops → IsNoStore offset bytes → ⊥
 a_store bytes ops offset holds why = ⊎_elim (λ damaged. never_damaged bytes ops holds offset damaged) (λ stray. never_stray bytes ops holds stray.0 offset stray.1) why
 
 -- where a schedule has no byte, no letter of it stops a run

@@ -6,9 +6,9 @@ use Rattle.std.proofs.lemmas.List.{take_all}
 use Rattle.rm_types.specs.declared.operations.Op.{Op}
 use Rattle.rm_types.specs.declared.outcomes.Outcome.{Outcome}
 use Rattle.rm_types.specs.declared.outcomes.Outcome.TheVariants.{Done, Usage, ReadFault, WriteFault, ClusterRefused, ScriptRefused, ScheduleRefused, DiskFault, StoreDamaged, StoreFull, EpochsSpent, Memory}
-use Rattle.rm_disk.specs.Disk.{DiskView, Tells}
+use Rattle.rm_disk.specs.Disk.{DiskView, IfTold}
 use Rattle.rm_disk.specs.Fuse.{Fused}
-use Rattle.rm_formats.specs.Device.{Holds}
+use Rattle.rm_formats.specs.Device.{DeviceHolds}
 use Rattle.rm_plain.specs.declared.halts.Stop.{Stop}
 use Rattle.rm_plain.specs.declared.halts.Stop.TheVariants as stops
 use Rattle.rm_plain.specs.Starts.{IsUnopenedBy}
@@ -143,7 +143,7 @@ caused view due refuses made (Err stop) Memory h why = tt
 
 -- what is listed is what the store holds, and nothing where it wasn't opened
 pub listed : {D : Type 0} (view : D → DiskView) (made : Made D) (ended : Result (Unit {0}) Stop) (written : Outcome) → IsOfWriting written → IfErr ended (IsUnopenedBy view made.before made.after) → IfErr ended (λ stop. made.opening ≡ [])
-    → (IsOk ended → Tells (seen view made.before) (λ bytes. Holds bytes made.opening)) → IsListed view made (outcome_of ended written)
+    → (IsOk ended → IfTold (seen view made.before) (λ bytes. DeviceHolds bytes made.opening)) → IsListed view made (outcome_of ended written)
 listed view made (Ok done) Done h why empty holds = holds refl
 listed view made (Ok done) (WriteFault took_nothing) h why empty holds = tt
 listed view made (Ok done) Memory h why empty holds = tt
@@ -175,8 +175,8 @@ listed view made (Err stop) (StoreFull needed room) h why empty holds = absurd h
 listed view made (Err stop) EpochsSpent h why empty holds = absurd h
 
 -- an opening list is empty where the store wasn't opened, and else the disk held it
-pub listed_held : {D : Type 0} (view : D → DiskView) (disk : Fused D) (ops : List Op) (ended : Result (Unit {0}) Stop) → IfErr ended (λ stop. ops ≡ []) → (IsOk ended → Tells (seen view disk) (λ bytes. Holds bytes ops))
-    → (ops ≡ []) ⊎ Tells (seen view disk) (λ bytes. Holds bytes ops)
+pub listed_held : {D : Type 0} (view : D → DiskView) (disk : Fused D) (ops : List Op) (ended : Result (Unit {0}) Stop) → IfErr ended (λ stop. ops ≡ []) → (IsOk ended → IfTold (seen view disk) (λ bytes. DeviceHolds bytes ops))
+    → (ops ≡ []) ⊎ IfTold (seen view disk) (λ bytes. DeviceHolds bytes ops)
 listed_held view disk ops (Ok done) empty holds = inr (holds refl)
 listed_held view disk ops (Err stop) empty holds = inl empty
 

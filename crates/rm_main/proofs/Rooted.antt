@@ -7,7 +7,7 @@ use Rattle.rm_types.specs.declared.settings.QueueSpec.{QueueSpec}
 use Rattle.rm_types.specs.declared.settings.Settings.{Settings}
 use Rattle.rm_types.specs.Rights.{root_name}
 use Rattle.rm_queues.specs.Rules.{KeepsRules}
-use Rattle.rm_moves.specs.Messages.{KeepsLimits}
+use Rattle.rm_invariant.specs.messages.Ranges.{KeepsLimits}
 use Rattle.rm_cluster.specs.Queues.{all_follow, is_tree}
 use Rattle.rm_cluster.specs.Ranges.{IsInRange}
 

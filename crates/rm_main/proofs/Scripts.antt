@@ -24,7 +24,7 @@ use Rattle.rm_types.specs.declared.scripts.Script.{Script}
 use Rattle.rm_types.specs.declared.operations.Submission.{Submission}
 use Rattle.rm_types.specs.declared.texts.TextKind.TheVariants.{Name}
 use Rattle.rm_types.specs.Ranges.{IsText, IsSubmission as IsFramedSubmission}
-use Rattle.rm_moves.specs.Messages.{IsAsk, IsClientAsk, IsClockAsk, IsHeld, IsList, IsMasterAsk, IsMessage, IsNodeAsk, IsSize}
+use Rattle.rm_invariant.specs.messages.Ranges.{IsAsk, IsClientAsk, IsClockAsk, IsHeld, IsList, IsMasterAsk, IsMessage, IsNodeAsk, IsSize}
 use Rattle.rm_script.specs.Messages.{IsAsk as IsReadAsk, IsClientAsk as IsReadClientAsk, IsClockAsk as IsReadClockAsk, IsHeld as IsReadHeld, IsList as IsReadList, IsMasterAsk as IsReadMasterAsk, IsNodeAsk as IsReadNodeAsk, IsSize as IsReadSize, IsSubmission}
 use Rattle.rm_script.specs.Scripts.{IsScript, IsRead, EachButLast}
 use Rattle.rm_script.specs.Values.{Settles, EndInCrash, IsToldLife, IsToldScript}

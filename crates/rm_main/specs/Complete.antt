@@ -6,7 +6,7 @@ use Rattle.rm_types.specs.declared.scripts.Script.{Script}
 use Rattle.rm_types.specs.declared.settings.Settings.{Settings}
 use Rattle.rm_types.specs.Counts.{Rose}
 use Rattle.rm_disk.specs.Disk.{DiskView}
-use Rattle.rm_formats.specs.Device.{Holds}
+use Rattle.rm_formats.specs.Device.{DeviceHolds}
 use Rattle.rm_model.specs.Lawful.{state_after}
 use Rattle.rm_outside.specs.Shelves.{bytes_read}
 use Rattle.rm_cluster.specs.Clusters.{IsCluster}
@@ -43,7 +43,7 @@ pub record HasPlace {D : Type 0} (view : D → DiskView) (made : Made D) : Type 
   pub bytes : List ℕ
   pub told : (view made.before.inner).told ≡ Some bytes
   pub ops : List Op
-  pub holds : Holds bytes ops
+  pub holds : DeviceHolds bytes ops
   pub some_left : NoneLeft made.opening made.log → ⊥
   pub room : (op : Op) → slice_get (state_after made.opening made.log).awaiting 0 ≡ Some op → needed_for op ≤ room_behind (view made.after.inner).size (state_after made.opening made.log).kept
   pub faultless : Rose (view made.before.inner).faults (view made.after.inner).faults → ⊥

@@ -9,8 +9,8 @@ use Rattle.rm_types.specs.declared.outcomes.Outcome.TheVariants.{Done, Usage, Re
 use Rattle.rm_types.specs.declared.scripts.Script.{Script}
 use Rattle.rm_types.specs.declared.settings.Settings.{Settings}
 use Rattle.rm_types.specs.Counts.{Rose}
-use Rattle.rm_disk.specs.Disk.{DiskView, Tells}
-use Rattle.rm_formats.specs.Device.{Holds}
+use Rattle.rm_disk.specs.Disk.{DiskView, IfTold}
+use Rattle.rm_formats.specs.Device.{DeviceHolds}
 use Rattle.rm_model.specs.Downs.{AllGoDownAtRest}
 use Rattle.rm_model.specs.Lawful.{Lawful, IsDone}
 use Rattle.rm_formats.specs.Page.{page, store_page}
@@ -86,8 +86,8 @@ IsCausedBy view due stops made _ = Unit {0}
 -- listed; or it holds what is listed
 abbrev pub IsListed : {D : Type 0} → (D → DiskView) → Made D → Outcome → Type 0
 IsListed view made DiskFault = (made.opening ≡ []) × Rose (view made.before.inner).faults (view made.after.inner).faults
-IsListed view made (StoreDamaged offset) = (made.opening ≡ []) × Tells (seen view made.before) (IsNoStore offset)
-IsListed view made Done = Tells (seen view made.before) (λ bytes. Holds bytes made.opening)
+IsListed view made (StoreDamaged offset) = (made.opening ≡ []) × IfTold (seen view made.before) (IsNoStore offset)
+IsListed view made Done = IfTold (seen view made.before) (λ bytes. DeviceHolds bytes made.opening)
 IsListed view made _ = Unit {0}
 
 -- what a run is made from: the settings, the script and the schedule that the named files hold, or those of a soak, which has no schedule

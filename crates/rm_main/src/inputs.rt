@@ -1,7 +1,7 @@
 ghost use Rattle.std.specs.Prelude.{◌≡◌, ◌≤◌, IfOk, IfErr, OnOk, Err, Some};
 ghost use Rattle.rm_types.specs.Counts.{Rose};
 ghost use Rattle.rm_queues.specs.Rules.{KeepsRules};
-ghost use Rattle.rm_moves.specs.Messages.{KeepsLimits};
+ghost use Rattle.rm_invariant.specs.messages.Ranges.{KeepsLimits};
 ghost use Rattle.rm_desk.specs.Scripts.{CanGoAlong};
 ghost use Rattle.std.specs.Option.{option_copied};
 ghost use Rattle.rm_main.specs.Runs.{AreMoves, AreRead, AreSettings, IsScriptOf, WereRead};

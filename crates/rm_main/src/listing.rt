@@ -1,6 +1,6 @@
 ghost use Rattle.std.specs.Prelude.{◌≡◌, [], IsOk, IfErr, None};
-ghost use Rattle.rm_disk.specs.Disk.{IsQuiet, Tells};
-ghost use Rattle.rm_formats.specs.Device.{Holds};
+ghost use Rattle.rm_disk.specs.Disk.{IsQuiet, IfTold};
+ghost use Rattle.rm_formats.specs.Device.{DeviceHolds};
 ghost use Rattle.rm_plain.specs.Starts.{DiskStays, IsAtEase, IsUnopenedBy};
 ghost use Rattle.rm_store.specs.Store.{seen};
 
@@ -22,7 +22,7 @@ pub struct Listing<D: Disk> {
 /// The disk is left as it was.
 pub fn list_store<D: Disk>(alloc: Global, disk: Fuse<D>) -> Listing<D>
     requires { disk.armed ≡ None }
-    ensures holds { IsOk result.ended → Tells (seen D.view disk) (λ bytes. Holds bytes result.ops) }
+    ensures holds { IsOk result.ended → IfTold (seen D.view disk) (λ bytes. DeviceHolds bytes result.ops) }
     ensures stopped { IfErr result.ended (IsUnopenedBy D.view disk result.disk) }
     ensures empty { IfErr result.ended (λ _. result.ops ≡ []) }
     ensures quiet { IsQuiet (seen D.view disk) (seen D.view result.disk) }

@@ -17,7 +17,11 @@
 mod hints;
 mod inputs;
 mod listing;
+mod progress;
+#[cfg(test)]
+mod progress_tests;
 mod statuses;
+mod terminal;
 #[cfg(test)]
 mod tests;
 #[cfg(test)]
@@ -27,9 +31,9 @@ mod top;
 mod writing;
 
 use hints::{cluster_hint, script_hint};
+use progress::Watched;
 use rm_disk::{Disk, FileDisk, Fuse, MemDisk};
 use rm_outside::{FileShelf, OutSink};
-use rm_progress::{Watched, is_terminal};
 use rm_types::{Items, NoMemory, Outcome};
 use rm_words::{command_line, name_at};
 use rm_workers::NoGate;
@@ -39,6 +43,7 @@ use std::rt::Env;
 use std::sync::Wait;
 use std::thread::Threads;
 use std::{env, io};
+use terminal::is_terminal;
 use threads::top;
 use top::Ended;
 

@@ -3,7 +3,7 @@ ghost use Rattle.rm_formats.specs.Page.{page};
 ghost use Rattle.rm_types.specs.Counts.{Rose};
 ghost use Rattle.rm_desk.specs.Scripts.{CanGoAlong};
 ghost use Rattle.rm_queues.specs.Rules.{KeepsRules};
-ghost use Rattle.rm_moves.specs.Messages.{KeepsLimits};
+ghost use Rattle.rm_invariant.specs.messages.Ranges.{KeepsLimits};
 ghost use Rattle.rm_main.specs.Complete.{HasPlace, IsAccepted, IsFollowed, NoneRose};
 ghost use Rattle.rm_workers.specs.AnyOrder.{any_order};
 ghost use Rattle.rm_main.specs.Inputs.{asked_of};

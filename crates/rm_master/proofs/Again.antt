@@ -23,8 +23,8 @@ use Rattle.rm_tables.specs.declared.rows.Current.{Current}
 use Rattle.rm_tables.specs.declared.tables.Tables.{Tables}
 use Rattle.rm_tables.specs.MainEvents.{is_alive}
 use Rattle.rm_tables.specs.Rows.{row_of, with_row}
-use Rattle.rm_agreement.specs.Agreement.{AttemptAgrees, ClosingsAgree, IsUntouched, NumberAgrees, RowAgrees, SameAsks, SameNodes, SameRows, bare_dialogue, closings_for, master_told, plain_dialogue}
-use Rattle.rm_agreement.specs.Shown.{ShowsLife, finishes_by, is_ending, lives_by}
+use Rattle.rm_refinement.specs.Agreement.{AttemptAgrees, ClosingsAgree, HasNoSession, NumberAgrees, RowAgrees, SameAsks, SameNodes, SameRows, bare_dialogue, closings_for, session_of, plain_dialogue}
+use Rattle.rm_refinement.specs.Services.{RefinesLife, finishes_by, is_ending, lives_by}
 use Rattle.rm_master.proofs.Found.{other_row, own_row, same_app}
 use Rattle.rm_master.proofs.Replies.{Lives}
 
@@ -52,21 +52,21 @@ row_is registered granted q row retired (Some one) e a = let same : one ≡ row 
 
 -- what agrees with an attempt of another number: one of a greater number is untouched
 apart_untouched : (registered : List MasterState) (granted : List ContainerId) (q : AttemptId) (row : AppRow) (current : Current) (same later : Bool) → same ≡ false → NumberAgrees same later registered granted q row current → later ≡ true
-    → IsUntouched registered granted q
+    → HasNoSession registered granted q
 apart_untouched registered granted q row current true later e a l = cc
 apart_untouched registered granted q row current false true e a l = a
 apart_untouched registered granted q row current false false e a l = cc
 
-apart_agrees : (registered : List MasterState) (granted : List ContainerId) (q : AttemptId) (row : AppRow) (current : Current) (same later : Bool) → same ≡ false → (later ≡ true → IsUntouched registered granted q)
+apart_agrees : (registered : List MasterState) (granted : List ContainerId) (q : AttemptId) (row : AppRow) (current : Current) (same later : Bool) → same ≡ false → (later ≡ true → HasNoSession registered granted q)
     → NumberAgrees same later registered granted q row current
 apart_agrees registered granted q row current true later e u = cc
 apart_agrees registered granted q row current false true e u = u refl
 apart_agrees registered granted q row current false false e u = tt
 
-module _ (m : Scene) (t : Tables) (attempt : AttemptId) (shows : ShowsLife m t) (here : Lives m t attempt)
+module _ (m : Scene) (t : Tables) (attempt : AttemptId) (shows : RefinesLife m t) (here : Lives m t attempt)
     (f : AppRow → AppRow) (next : Current) (next_is : (f here.row).current ≡ Some next) (number : next.number ≡ here.current.number) (granted : next.granted ≡ here.current.granted) (alive : is_alive next.state ≡ true)
-    (registered : List MasterState) (spoken : option_map bare_dialogue (f here.row).dialogue ≡ option_map plain_dialogue (master_told registered attempt)) (known : next.registered ≡ is_some (f here.row).dialogue)
-    (others : (q : AttemptId) → is_attempt attempt q ≡ false → master_told registered q ≡ master_told m.life.masters.registered q)
+    (registered : List MasterState) (spoken : option_map bare_dialogue (f here.row).dialogue ≡ option_map plain_dialogue (session_of registered attempt)) (known : next.registered ≡ is_some (f here.row).dialogue)
+    (others : (q : AttemptId) → is_attempt attempt q ≡ false → session_of registered q ≡ session_of m.life.masters.registered q)
     (outbox : List Closing) (told : (f here.row).closings ≡ closings_for outbox attempt.app) (untold : (q : AppId) → is_app attempt.app q ≡ false → closings_for outbox q ≡ closings_for m.life.endings.outbox q) where
   abbrev rows : List (AppId × Option AppRow)
   rows = with_row f attempt.app t.rows
@@ -75,7 +75,7 @@ module _ (m : Scene) (t : Tables) (attempt : AttemptId) (shows : ShowsLife m t) 
   found = own_row f attempt.app t.rows ∙ ap (option_map f) here.found
 
   -- the dialogues
-  untouched : (q : AttemptId) → is_attempt attempt q ≡ false → IsUntouched m.life.masters.registered m.life.granted q → IsUntouched registered m.life.granted q
+  untouched : (q : AttemptId) → is_attempt attempt q ≡ false → HasNoSession m.life.masters.registered m.life.granted q → HasNoSession registered m.life.granted q
   untouched q apart u = (others q apart ∙ u.0, u.1)
 
   number_agrees : (q : AttemptId) → is_attempt attempt q ≡ false → (row : AppRow) (current : Current) (same later : Bool) → NumberAgrees same later m.life.masters.registered m.life.granted q row current
@@ -162,7 +162,7 @@ module _ (m : Scene) (t : Tables) (attempt : AttemptId) (shows : ShowsLife m t) 
   -- the whole
   pub again : (table : List AsksOf) (book : BookOf) (sched : List SchedEvent) (main : List MainEvent) (asks : List AskOf) (living : List Row) (endings : Endings)
       → SameRows book.rows living → SameNodes book t.nodes m.life.nodes → SameAsks table asks → endings.outbox ≡ outbox
-      → ShowsLife (record m { life = record m.life { masters = record m.life.masters { registered = registered }; asks = asks; book = living; endings = endings } })
+      → RefinesLife (record m { life = record m.life { masters = record m.life.masters { registered = registered }; asks = asks; book = living; endings = endings } })
       (record t { rows = with_row f attempt.app t.rows; asks = table; book = book; sched = sched; main = main })
   again table book sched main asks living endings same_rows same_nodes same_asks is =
       record {

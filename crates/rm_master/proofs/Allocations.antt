@@ -23,15 +23,15 @@ use Rattle.rm_tables.specs.declared.rows.Dialogue.{Dialogue}
 use Rattle.rm_tables.specs.declared.tables.Tables.{Tables}
 use Rattle.rm_tables.specs.Leaving.{is_masters_in}
 use Rattle.rm_tables.specs.Rows.{row_of}
-use Rattle.rm_agreement.specs.Agreement.{ClosingsAgree, PlainDialogue, bare_dialogue, closings_for, plain_dialogue}
-use Rattle.rm_agreement.specs.Shown.{ShowsLife, lives_by}
+use Rattle.rm_refinement.specs.Agreement.{ClosingsAgree, PlainDialogue, bare_dialogue, closings_for, plain_dialogue}
+use Rattle.rm_refinement.specs.Services.{RefinesLife, lives_by}
 use Rattle.rm_master.specs.Told.{allocate_told, allocated_told, asks_too_much, closings_told, grants_told, has_too_many, living_row, new_told, said_told, spoken_told}
 use Rattle.rm_master.proofs.Asked.{lines_told, many_told}
 use Rattle.rm_master.proofs.Granted.{endings_same, grants_same}
 use Rattle.rm_master.proofs.Replies.{Lives, lives_here, none_lives, row_lives}
 
 -- too many are too many
-pub many_alike : (m : Scene) (t : Tables) (attempt : AttemptId) (asks : List Ask) → ShowsLife m t → has_too_many t.asks attempt asks ≡ too_many_told attempt (with_asks attempt m.life.asks asks)
+pub many_alike : (m : Scene) (t : Tables) (attempt : AttemptId) (asks : List Ask) → RefinesLife m t → has_too_many t.asks attempt asks ≡ too_many_told attempt (with_asks attempt m.life.asks asks)
 many_alike m t attempt asks shows =
     ap (λ (n : ℕ). nat_lt 64 n)
     (ap (λ (so_far : List Ask). length (asks_after so_far asks)) (shows.asks attempt) ∙ ap (length {A = Ask}) (sym (many_told attempt m.life.asks asks)) ∙ sym (lines_told attempt (with_asks attempt m.life.asks asks)))
@@ -42,12 +42,12 @@ row_closings : (m : Scene) (t : Tables) (attempt : AttemptId) (row : AppRow) (o 
 row_closings m t attempt row None e retired agree = cc
 row_closings m t attempt row (Some one) e retired agree = let same : one ≡ row = cc in rw (← same) agree
 
-pub closings_alike : (m : Scene) (t : Tables) (attempt : AttemptId) (row : AppRow) → row_of t.rows attempt.app ≡ Some row → ShowsLife m t → row.closings ≡ closings_for m.life.endings.outbox attempt.app
+pub closings_alike : (m : Scene) (t : Tables) (attempt : AttemptId) (row : AppRow) → row_of t.rows attempt.app ≡ Some row → RefinesLife m t → row.closings ≡ closings_for m.life.endings.outbox attempt.app
 closings_alike m t attempt row found shows =
     row_closings m t attempt row (row_of t.rows attempt.app) found (has_app m.life.apps.retired attempt.app) (shows.closings attempt.app)
 
 -- what a master is told
-told_alike : (m : Scene) (t : Tables) (attempt : AttemptId) (id : ℕ) (row : AppRow) → row_of t.rows attempt.app ≡ Some row → ShowsLife m t → allocated_told t attempt id row ≡ allocated_reply m attempt id
+told_alike : (m : Scene) (t : Tables) (attempt : AttemptId) (id : ℕ) (row : AppRow) → row_of t.rows attempt.app ≡ Some row → RefinesLife m t → allocated_told t attempt id row ≡ allocated_reply m attempt id
 told_alike m t attempt id row found shows =
     ap (λ (x : List Grant). Allocated (id + 1) x (closings_told attempt row.closings)) (grants_alike t.tree shows.records)
     ∙ ap (λ (x : List Closing). Allocated (id + 1) judged x) (ap (closings_told attempt) (closings_alike m t attempt row found shows) ∙ endings_same attempt m.life.endings.outbox)
@@ -58,7 +58,7 @@ told_alike m t attempt id row found shows =
     grants_alike : (records : Records) → m.records ≡ records → filter (λ grant. not (is_masters_in records.apps grant.id)) (grants_to t.book.rows attempt) ≡ judged
     grants_alike records e = subst (λ (r : Records). filter (λ grant. not (is_masters_in r.apps grant.id)) (grants_to t.book.rows attempt) ≡ judged) e (grants_same m attempt t.book.rows shows.rows)
 
-module _ (m : Scene) (t : Tables) (attempt : AttemptId) (id : ℕ) (asks : List Ask) (shows : ShowsLife m t) where
+module _ (m : Scene) (t : Tables) (attempt : AttemptId) (id : ℕ) (asks : List Ask) (shows : RefinesLife m t) where
   -- in a dialogue
   said_alike : (row : AppRow) → row_of t.rows attempt.app ≡ Some row → is_live m attempt ≡ true → (one : Dialogue) (master : MasterState) → bare_dialogue one ≡ plain_dialogue master → master_of m attempt ≡ Some master
       → said_told t attempt id asks row one ≡ allocate_reply t.settings m attempt id asks (Some master)

@@ -16,7 +16,7 @@ use Rattle.rm_book.specs.ManyAsks.{all_asked, asks_after, one_asked}
 use Rattle.rm_book.proofs.Ids.{attempt_back, attempt_itself, same_attempt}
 use Rattle.rm_model.specs.MasterReplies.{is_line_of, with_ask, with_asks}
 use Rattle.rm_model.specs.Passing.{asks_of as asks_told}
-use Rattle.rm_agreement.specs.Agreement.{SameAsks}
+use Rattle.rm_refinement.specs.Agreement.{SameAsks}
 
 -- as many lines as asks
 pub lines_told : (attempt : AttemptId) (lines : List AskOf) → count_by (λ line. is_attempt line.attempt attempt) lines ≡ length (asks_told lines attempt)

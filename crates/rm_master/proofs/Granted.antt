@@ -24,7 +24,7 @@ use Rattle.rm_model.specs.Facts.{attempts_in}
 use Rattle.rm_model.specs.MasterReplies.{untold_rows}
 use Rattle.rm_tables.specs.Leaving.{attempt_in, is_masters_in, is_own_or_unkept, masters_by}
 use Rattle.rm_tables.specs.Talks.{without_closings}
-use Rattle.rm_agreement.specs.Agreement.{PlainRow, SameRows, bare, closings_for, plain}
+use Rattle.rm_refinement.specs.Agreement.{PlainRow, SameRows, bare_row, closings_for, plain_row}
 use Rattle.rm_master.specs.Told.{closings_told}
 
 -- whether a container is a master's, by the record of its application
@@ -59,8 +59,8 @@ module _ (m : Scene) (attempt : AttemptId) where
   grants_by [] (one ∷ book) same = cc
   grants_by (row ∷ rows) [] same = cc
   grants_by (row ∷ rows) (one ∷ book) same =
-      let first : bare row ≡ plain one = cc in
-      let rest : map bare rows ≡ map plain book = cc in
+      let first : bare_row row ≡ plain_row one = cc in
+      let rest : map bare_row rows ≡ map plain_row book = cc in
       let id : row.id ≡ one.id = ap (λ (x : PlainRow). x.id) first in
       let node : row.node ≡ one.node = ap (λ (x : PlainRow). x.node) first in
       let size : row.size ≡ one.size = ap (λ (x : PlainRow). x.size) first in

@@ -27,8 +27,8 @@ use Rattle.rm_tables.specs.Actions.{found_in}
 use Rattle.rm_tables.specs.Leaving.{attempt_in}
 use Rattle.rm_tables.specs.MainEvents.{is_alive}
 use Rattle.rm_tables.specs.Rows.{row_of}
-use Rattle.rm_agreement.specs.Agreement.{AttemptAgrees, CurrentAgrees, RowAgrees, bare_dialogue, plain_dialogue}
-use Rattle.rm_agreement.specs.Shown.{ShowsLife, finishes_by, lives_by, lives_with}
+use Rattle.rm_refinement.specs.Agreement.{AttemptAgrees, CurrentAgrees, RowAgrees, bare_dialogue, plain_dialogue}
+use Rattle.rm_refinement.specs.Services.{RefinesLife, finishes_by, lives_by, lives_with}
 use Rattle.rm_master.specs.Told.{finish_told, finished_in, goes_on, has_ended_with, has_finished, is_finished_end, living_row, register_told, spoken_by, spoken_in}
 
 -- an attempt that lives: its application has this row, and this is the current attempt of it
@@ -53,7 +53,7 @@ lives_in m t attempt row found retired (Some current) is n a agrees lives = by (
     by false a e f h = cc
 
 -- an attempt lives by its row
-pub lives_here : (m : Scene) (t : Tables) (attempt : AttemptId) → ShowsLife m t → lives_by attempt (row_of t.rows attempt.app) ≡ true → Lives m t attempt
+pub lives_here : (m : Scene) (t : Tables) (attempt : AttemptId) → RefinesLife m t → lives_by attempt (row_of t.rows attempt.app) ≡ true → Lives m t attempt
 lives_here m t attempt shows lives = by (row_of t.rows attempt.app) refl lives (shows.masters attempt)
   where
     by : (o : Option AppRow) → row_of t.rows attempt.app ≡ o → lives_by attempt o ≡ true
@@ -79,7 +79,7 @@ same_some (Some one) (Some other) e = refl
 
 -- REGISTRATIONS
 
-register_by : (m : Scene) (t : Tables) (attempt : AttemptId) → ShowsLife m t → (b : Bool) → lives_by attempt (row_of t.rows attempt.app) ≡ b
+register_by : (m : Scene) (t : Tables) (attempt : AttemptId) → RefinesLife m t → (b : Bool) → lives_by attempt (row_of t.rows attempt.app) ≡ b
     → register_told (living_row attempt (row_of t.rows attempt.app)) ≡ register_reply m attempt
 register_by m t attempt shows false lives = let live : is_live m attempt ≡ false = shows.live attempt ∙ lives in rw (none_lives attempt (row_of t.rows attempt.app) lives, live) refl
 register_by m t attempt shows true lives =
@@ -89,7 +89,7 @@ register_by m t attempt shows true lives =
     rw (row_lives attempt (row_of t.rows attempt.app) here.row here.found lives, live, both) refl
 
 -- a registration is answered as the judge does
-pub register_answer : (m : Scene) (t : Tables) (attempt : AttemptId) → ShowsLife m t → register_told (living_row attempt (row_of t.rows attempt.app)) ≡ register_reply m attempt
+pub register_answer : (m : Scene) (t : Tables) (attempt : AttemptId) → RefinesLife m t → register_told (living_row attempt (row_of t.rows attempt.app)) ≡ register_reply m attempt
 register_answer m t attempt shows = register_by m t attempt shows (lives_by attempt (row_of t.rows attempt.app)) refl
 
 -- MASTERS THAT FINISH
@@ -109,7 +109,7 @@ finished_same attempt (Some app) = by (attempt_in app attempt)
     by (Some one) = by_end one.ending
 
 -- a master of an attempt that lives is registered or finishing where the dialogue is there
-spoken_same : (m : Scene) (t : Tables) (attempt : AttemptId) → ShowsLife m t → (b : Bool) → lives_by attempt (row_of t.rows attempt.app) ≡ b
+spoken_same : (m : Scene) (t : Tables) (attempt : AttemptId) → RefinesLife m t → (b : Bool) → lives_by attempt (row_of t.rows attempt.app) ≡ b
     → is_some (spoken_by attempt (row_of t.rows attempt.app)) ≡ (is_finishing m attempt || is_registered m attempt)
 spoken_same m t attempt shows false lives = let live : is_live m attempt ≡ false = shows.live attempt ∙ lives in rw (none_lives attempt (row_of t.rows attempt.app) lives, live) refl
 spoken_same m t attempt shows true lives =
@@ -136,7 +136,7 @@ orders false false false true = refl
 orders false false false false = refl
 
 -- a master that finishes is answered as the judge does
-pub finish_answer : (m : Scene) (t : Tables) (attempt : AttemptId) → ShowsLife m t → finish_told attempt (found_in t attempt.app) (row_of t.rows attempt.app) ≡ finish_reply m attempt
+pub finish_answer : (m : Scene) (t : Tables) (attempt : AttemptId) → RefinesLife m t → finish_told attempt (found_in t attempt.app) (row_of t.rows attempt.app) ≡ finish_reply m attempt
 finish_answer m t attempt shows =
     let spoken = spoken_same m t attempt shows (lives_by attempt (row_of t.rows attempt.app)) refl in
     let ends : finishes_by attempt (row_of t.rows attempt.app) ≡ awaits m (is_finished_op attempt) = sym (shows.finishes attempt) in

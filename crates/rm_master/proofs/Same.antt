@@ -30,8 +30,8 @@ use Rattle.rm_tables.specs.declared.rows.Dialogue.{Dialogue}
 use Rattle.rm_tables.specs.declared.tables.Tables.{Tables}
 use Rattle.rm_tables.specs.Rows.{row_of}
 use Rattle.rm_tables.specs.Talks.{begun, registered_row, said_row, told_row, with_answer, with_text, without_closings}
-use Rattle.rm_agreement.specs.Agreement.{PlainDialogue, PlainRow, SameRows, bare, bare_dialogue, closings_for, master_told, plain, plain_dialogue}
-use Rattle.rm_agreement.specs.Shown.{ShowsLife, lives_by}
+use Rattle.rm_refinement.specs.Agreement.{PlainDialogue, PlainRow, SameRows, bare_row, bare_dialogue, closings_for, session_of, plain_row, plain_dialogue}
+use Rattle.rm_refinement.specs.Services.{RefinesLife, lives_by}
 use Rattle.rm_master.specs.Answers.{acquired, acquired_row, after_master, allocated_with, ids_granted, is_new_to, registered, release_events, said, told_by}
 use Rattle.rm_master.specs.Told.{goes_on, living_row, spoken_by}
 use Rattle.rm_master.proofs.Again.{again}
@@ -47,7 +47,7 @@ told_scene m attempt ask reply = record m { life = life_after_master m attempt a
 
 -- what the tables are to show after a message
 abbrev pub ShowsAfter : Scene → Tables → AttemptId → MasterAsk → Reply → Type 0
-ShowsAfter m t attempt ask reply = ShowsLife (told_scene m attempt ask reply) (after_master attempt ask reply t)
+ShowsAfter m t attempt ask reply = RefinesLife (told_scene m attempt ask reply) (after_master attempt ask reply t)
 
 -- by a reply that is another one
 shows_by : (m : Scene) (t : Tables) (attempt : AttemptId) (ask : MasterAsk) (reply other : Reply) → reply ≡ other → ShowsAfter m t attempt ask other → ShowsAfter m t attempt ask reply
@@ -65,7 +65,7 @@ none_told None None e gone = refl
 none_told None (Some one) e gone = cc
 none_told (Some one) o e gone = cc
 
-module _ (m : Scene) (t : Tables) (attempt : AttemptId) (shows : ShowsLife m t) where
+module _ (m : Scene) (t : Tables) (attempt : AttemptId) (shows : RefinesLife m t) where
   abbrev new_master : MasterState
   new_master = record { attempt = attempt; last_id = 0; last_reply = MasterRegistered; finishing = None }
 
@@ -126,11 +126,11 @@ goes_alike m attempt live (Some one) (Some other) e is =
     by None = refl
     by (Some text) = refl
 
-module _ (m : Scene) (t : Tables) (attempt : AttemptId) (text : List ℕ) (shows : ShowsLife m t) where
+module _ (m : Scene) (t : Tables) (attempt : AttemptId) (text : List ℕ) (shows : RefinesLife m t) where
   abbrev with_said : MasterState → MasterState
   with_said one = record one { finishing = Some text }
 
-  says : (here : Lives m t attempt) → ShowsLife (record m { life = record m.life { masters = record m.life.masters { registered = map (λ one. if is_attempt one.attempt attempt then with_said one else one) m.life.masters.registered } } }) (said attempt text t)
+  says : (here : Lives m t attempt) → RefinesLife (record m { life = record m.life { masters = record m.life.masters { registered = map (λ one. if is_attempt one.attempt attempt then with_said one else one) m.life.masters.registered } } }) (said attempt text t)
   says here =
       again m t attempt shows here (said_row (with_text text)) (record here.current { state = attempts.Finishing }) (rw here.is refl) refl refl refl
       (map (λ one. if is_attempt one.attempt attempt then with_said one else one) m.life.masters.registered)
@@ -174,7 +174,7 @@ ids_so (row ∷ rows) = ap (λ (more : List ContainerId). row.id ∷ more) (ids_
 -- the same rows, of which a master was told
 rows_told_same : (told released : List ContainerId) (rows : List BookRow) (book : List Row) → SameRows rows book → SameRows (map (acquired_row told) rows) (map (row_allocated told released) book)
 rows_told_same told released rows book same =
-    map_view bare (acquired_row told) change (λ row. refl) rows ∙ ap (map change) same ∙ sym (map_view plain (row_allocated told released) change (λ row. refl) book)
+    map_view bare_row (acquired_row told) change (λ row. refl) rows ∙ ap (map change) same ∙ sym (map_view plain_row (row_allocated told released) change (λ row. refl) book)
   where
     change : PlainRow → PlainRow
     change row = record row { state = if has_container told row.id then Acquired else row.state }
@@ -192,12 +192,12 @@ answered_same id reply (Some other) one (Some third) master in_row told same las
     rw (text, next) refl
 
 -- an allocation that isn't new changes nothing
-old_allocation : (m : Scene) (t : Tables) (attempt : AttemptId) (id : ℕ) (asks : List Ask) (release : List ContainerId) (reply : Reply) → ShowsLife m t → is_new_to id (spoken_by attempt (row_of t.rows attempt.app)) ≡ false
+old_allocation : (m : Scene) (t : Tables) (attempt : AttemptId) (id : ℕ) (asks : List Ask) (release : List ContainerId) (reply : Reply) → RefinesLife m t → is_new_to id (spoken_by attempt (row_of t.rows attempt.app)) ≡ false
     → is_new_to_master m attempt id ≡ false → ShowsAfter m t attempt (Allocate id asks release) reply
 old_allocation m t attempt id asks release (Allocated next grants ended) shows in_row told = rw (in_row, told) shows
 old_allocation m t attempt id asks release _ shows in_row told = shows
 
-module _ (m : Scene) (t : Tables) (attempt : AttemptId) (id : ℕ) (asks : List Ask) (release : List ContainerId) (shows : ShowsLife m t) where
+module _ (m : Scene) (t : Tables) (attempt : AttemptId) (id : ℕ) (asks : List Ask) (release : List ContainerId) (shows : RefinesLife m t) where
   abbrev ask : MasterAsk
   ask = Allocate id asks release
 
@@ -212,7 +212,7 @@ module _ (m : Scene) (t : Tables) (attempt : AttemptId) (id : ℕ) (asks : List 
   answers one = record one { last_id = one.last_id + 1; last_reply = taken }
 
   takes : (here : Lives m t attempt) (one : Dialogue) (master : MasterState) → here.row.dialogue ≡ Some one → master_of m attempt ≡ Some master → bare_dialogue one ≡ plain_dialogue master → id ≡ master.last_id
-      → ShowsLife (record m { life = allocates m attempt asks release taken }) (allocated_with attempt id asks release taken t)
+      → RefinesLife (record m { life = allocates m attempt asks release taken }) (allocated_with attempt id asks release taken t)
   takes here one master in_row told same last =
       again m t attempt shows here (told_row (with_answer (id + 1) taken) (without_closings attempt)) here.current here.is refl refl here.alive
       (map (λ x. if is_attempt x.attempt attempt then answers x else x) m.life.masters.registered)
@@ -287,7 +287,7 @@ module _ (m : Scene) (t : Tables) (attempt : AttemptId) (id : ℕ) (asks : List 
   allocate_same reply is = allocate_by reply is (lives_by attempt (row_of t.rows attempt.app)) refl
 
 -- a master was answered
-pub master_same : (m : Scene) (t : Tables) (attempt : AttemptId) (ask : MasterAsk) (reply : Reply) → ShowsLife m t → reply ≡ master_reply t.settings m attempt ask → ShowsAfter m t attempt ask reply
+pub master_same : (m : Scene) (t : Tables) (attempt : AttemptId) (ask : MasterAsk) (reply : Reply) → RefinesLife m t → reply ≡ master_reply t.settings m attempt ask → ShowsAfter m t attempt ask reply
 master_same m t attempt Register reply shows is = register_same m t attempt shows reply is
 master_same m t attempt (Finish text) reply shows is = finish_same m t attempt text shows reply is
 master_same m t attempt (Allocate id asks release) reply shows is = allocate_same m t attempt id asks release shows reply is

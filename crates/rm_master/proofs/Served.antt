@@ -9,7 +9,7 @@ use Rattle.rm_types.specs.declared.replies.Reply.{Reply}
 use Rattle.rm_model.specs.State.{Scene}
 use Rattle.rm_model.specs.MasterReplies.{life_after_master, master_reply}
 use Rattle.rm_tables.specs.declared.tables.Tables.{Tables}
-use Rattle.rm_agreement.specs.Shown.{ShowsLife}
+use Rattle.rm_refinement.specs.Services.{RefinesLife}
 use Rattle.rm_master.specs.Answers.{after_master}
 use Rattle.rm_master.specs.Told.{master_told}
 use Rattle.rm_master.proofs.Allocations.{allocate_answer}
@@ -17,19 +17,19 @@ use Rattle.rm_master.proofs.Replies.{finish_answer, register_answer}
 use Rattle.rm_master.proofs.Same.{master_same}
 
 -- a master is answered as the judge does
-master_answer : (m : Scene) (t : Tables) (attempt : AttemptId) (ask : MasterAsk) → ShowsLife m t → master_told t attempt ask ≡ master_reply t.settings m attempt ask
+master_answer : (m : Scene) (t : Tables) (attempt : AttemptId) (ask : MasterAsk) → RefinesLife m t → master_told t attempt ask ≡ master_reply t.settings m attempt ask
 master_answer m t attempt Register shows = register_answer m t attempt shows
 master_answer m t attempt (Finish text) shows = finish_answer m t attempt shows
 master_answer m t attempt (Allocate id asks release) shows = allocate_answer m t attempt id asks shows
 
-pub master_answered : (m : Scene) (t : Tables) (attempt : AttemptId) (ask : MasterAsk) (r : Result Reply NoMemory) → IfOk r (λ reply. reply ≡ master_told t attempt ask) → ShowsLife m t
+pub master_answered : (m : Scene) (t : Tables) (attempt : AttemptId) (ask : MasterAsk) (r : Result Reply NoMemory) → IfOk r (λ reply. reply ≡ master_told t attempt ask) → RefinesLife m t
     → IfOk r (λ reply. reply ≡ master_reply t.settings m attempt ask)
 master_answered m t attempt ask (Err refused) is shows = tt
 master_answered m t attempt ask (Ok reply) is shows = is ∙ master_answer m t attempt ask shows
 
 pub master_served : (m : Scene) (t new : Tables) (attempt : AttemptId) (ask : MasterAsk) (r : Result Reply NoMemory) → IfOk r (λ reply. reply ≡ master_told t attempt ask)
-    → IfOk r (λ reply. new ≡ after_master attempt ask reply t) → ShowsLife m t → IfOk r (λ reply. ShowsLife (record m { life = life_after_master m attempt ask reply }) new)
+    → IfOk r (λ reply. new ≡ after_master attempt ask reply t) → RefinesLife m t → IfOk r (λ reply. RefinesLife (record m { life = life_after_master m attempt ask reply }) new)
 master_served m t new attempt ask (Err refused) is changed shows = tt
 master_served m t new attempt ask (Ok reply) is changed shows =
-    subst (λ (one : Tables). ShowsLife (record m { life = life_after_master m attempt ask reply }) one) (sym changed)
+    subst (λ (one : Tables). RefinesLife (record m { life = life_after_master m attempt ask reply }) one) (sym changed)
     (master_same m t attempt ask reply shows (is ∙ master_answer m t attempt ask shows))

@@ -16,7 +16,7 @@ use Rattle.rm_types.specs.declared.resources.Resource.{Resource}
 use Rattle.rm_types.specs.Ids.{is_attempt}
 use Rattle.rm_types.specs.Records.{is_some_and, last_attempt}
 use Rattle.rm_types.specs.Resources.{fits}
-use Rattle.rm_agreement.specs.Shown.{finishes_by, lives_with}
+use Rattle.rm_refinement.specs.Services.{finishes_by, lives_with}
 use Rattle.rm_book.specs.AskTables.{AsksOf, asks_of}
 use Rattle.rm_book.specs.Granted.{grants_to}
 use Rattle.rm_book.specs.ManyAsks.{asks_after}

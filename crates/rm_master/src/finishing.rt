@@ -1,7 +1,7 @@
 //! A master finishes.
 ghost use Rattle.std.specs.Prelude.{◌≡◌, IfOk, OnOk, OnErr};
 ghost use Rattle.rm_types.specs.declared.messages.MasterAsk.{MasterAsk as Ask};
-ghost use Rattle.rm_agreement.specs.Shown.{finishes_by, is_ending};
+ghost use Rattle.rm_refinement.specs.Services.{finishes_by, is_ending};
 ghost use Rattle.rm_master.specs.Answers.{after_master, said};
 ghost use Rattle.rm_master.specs.Told.{finish_told};
 ghost use Rattle.rm_tables.specs.Actions.{found_in};

@@ -1,7 +1,7 @@
 //! Attempts that live.
 ghost use Rattle.std.specs.Prelude.{◌≡◌};
 ghost use Rattle.std.specs.Option.{option_copied};
-ghost use Rattle.rm_agreement.specs.Shown.{lives_with};
+ghost use Rattle.rm_refinement.specs.Services.{lives_with};
 ghost use Rattle.rm_master.specs.Told.{goes_on, living_row, spoken_by};
 ghost use Rattle.rm_tables.specs.MainEvents.{is_alive};
 ghost use Rattle.rm_tables.specs.Rows.{row_of};

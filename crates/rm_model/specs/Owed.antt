@@ -9,13 +9,13 @@ use Rattle.rm_model.specs.Facts.{completed, has_container, is_accepted, is_kept,
 use Rattle.rm_model.specs.Attempts.{attempt_is_kept, finishing_text, has_expired, has_failed, has_master_ask, is_over, kept_here}
 
 -- an application that is known and has no kept end
-pub record GoesOn (m : Scene) (id : AppId) : Type 0 where
+pub record IsUnfinished (m : Scene) (id : AppId) : Type 0 where
   pub known : is_known m id ≡ true
   pub unended : kept_end m id ≡ None
 
 -- a kept attempt without a kept end, of an application that goes on
 pub record IsAlive (m : Scene) (attempt : AttemptRecord) : Type 0 where
-  pub app : GoesOn m attempt.id.app
+  pub app : IsUnfinished m attempt.id.app
   pub kept : Contains (kept_attempts m attempt.id.app) attempt
   pub unended : attempt.ending ≡ None
 
@@ -30,14 +30,14 @@ pub data Owed (settings : Settings) (m : Scene) : Type 0 where
   -- a known application is not kept
   keeping : (id : AppId) → is_known m id ≡ true → is_kept m id ≡ false → Owed settings m
   -- an application that goes on has a kill wish
-  killing : (id : AppId) → GoesOn m id → is_wished m id ≡ true → Owed settings m
+  killing : (id : AppId) → IsUnfinished m id → is_wished m id ≡ true → Owed settings m
   -- or was not accepted in this life and has no kept attempt
-  accepting : (id : AppId) → GoesOn m id → is_accepted m id ≡ false → kept_attempts m id ≡ [] → Owed settings m
+  accepting : (id : AppId) → IsUnfinished m id → is_accepted m id ≡ false → kept_attempts m id ≡ [] → Owed settings m
   -- or has kept attempts, all ended, and the last end is not FAILED or the bound is reached: it is to end
-  deciding : (id : AppId) → GoesOn m id → kept_attempts m id ≢ [] → all_ended (kept_attempts m id) ≡ true
+  deciding : (id : AppId) → IsUnfinished m id → kept_attempts m id ≢ [] → all_ended (kept_attempts m id) ≡ true
       → (ended_not_failed (last_attempt (kept_attempts m id)) || reaches_bound settings (kept_record m id)) ≡ true → Owed settings m
   -- or has no unended kept attempt, and its next attempt doesn't ask for its master
-  asking : (id : AppId) → GoesOn m id → all_ended (kept_attempts m id) ≡ true → has_master_ask m (next_attempt m id) ≡ false → Owed settings m
+  asking : (id : AppId) → IsUnfinished m id → all_ended (kept_attempts m id) ≡ true → has_master_ask m (next_attempt m id) ≡ false → Owed settings m
   -- an attempt that is alive is finishing
   finishing : (attempt : AttemptRecord) → IsAlive m attempt → is_some (finishing_text m attempt.id) ≡ true → Owed settings m
   -- or expired

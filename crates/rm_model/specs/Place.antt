@@ -69,7 +69,7 @@ abbrev pub stamp_of : Life → ℕ → ℕ
 stamp_of life recorded = max life.stamp (recorded + 1)
 
 -- a life begins where the script's next life has this stamp
-pub record Begins (s : Manager) (p : Place) (landed stamp : ℕ) : Type 0 where
+pub record BeginsAsScripted (s : Manager) (p : Place) (landed stamp : ℕ) : Type 0 where
   pub life : Life
   pub more : List Life
   pub next : p.lives ≡ life ∷ more
@@ -95,7 +95,7 @@ pub record Crashes (p : Place) : Type 0 where
 
 -- the script's next thing is this entry; of entries that it doesn't name it says nothing
 abbrev pub IsNext : Manager → Place → Entry → Type 0
-IsNext s p (Opened landed epoch stamp) = Begins s p landed stamp
+IsNext s p (Opened landed epoch stamp) = BeginsAsScripted s p landed stamp
 IsNext s p (Blown passed) = Blows p passed
 IsNext s p (Served sender message reply) = first_from sender (messages_left p.segments) ≡ Some message
 IsNext s p Settled = Settles p

@@ -19,7 +19,7 @@ use Rattle.rm_core.specs.Words.{as_new, is_blown, manager_after, stands}
 use Rattle.rm_core.proofs.Telling.{tables_told}
 use Rattle.rm_desk.specs.Lanes.{HasNoWork, IsWork, is_ready_at}
 use Rattle.rm_desk.specs.View.{DeskView}
-use Rattle.rm_desk.specs.Runs.{IsRun as GoesAlong}
+use Rattle.rm_desk.specs.Runs.{IsScriptRun as GoesAlong}
 use Rattle.rm_plain.specs.declared.schedule.Letter.{Letter}
 use Rattle.rm_plain.specs.declared.schedule.Letter.TheVariants.{Moves, Plain, Unknown}
 use Rattle.rm_plain.specs.declared.schedule.Step.{Step}

@@ -13,17 +13,17 @@ use Rattle.rm_disk.specs.Disk.{DiskView}
 use Rattle.rm_disk.specs.Fuse.{Fused, KeepsFuse}
 use Rattle.rm_model.specs.Place.{close_left}
 use Rattle.rm_store.specs.declared.fault.StoreError.{StoreError}
-use Rattle.rm_store.specs.Store.{IsSound as IsStoreSound, StoreState, seen}
+use Rattle.rm_store.specs.Store.{StoreInvariant as IsStoreSound, StoreState, seen}
 use Rattle.rm_store.specs.Errors.{broken_after}
 use Rattle.rm_core.specs.Words.{has_rest, is_blown, stands}
 use Rattle.rm_desk.specs.View.{DeskView}
-use Rattle.rm_desk.specs.Does.{Does}
+use Rattle.rm_desk.specs.Effects.{LaneEffect}
 use Rattle.rm_desk.specs.Lanes.{HasNoWork, IsStep, is_ready_at, stands_after}
-use Rattle.rm_desk.specs.Runs.{IsLast, IsOver as IsDeskOver, IsSound as IsDeskSound}
+use Rattle.rm_desk.specs.Runs.{IsLast, IsScriptOver as IsDeskOver, IsPlaceSound as IsDeskSound}
 use Rattle.rm_plain.specs.Falls.{fall}
-use Rattle.rm_plain.specs.Goes.{GoesOver, Goes, IsRun}
+use Rattle.rm_plain.specs.Goes.{ExtendsRunOver, ExtendsRun, IsRun}
 use Rattle.rm_plain.specs.Keeping.{FuseStays, IsUnkept, Serves, StoresOn, armed_by}
-use Rattle.rm_plain.specs.Lives.{ComesToRest, GoesOn, WentDown, Stores}
+use Rattle.rm_plain.specs.Lives.{ComesToRest, TakesStep, WentDown, Stores}
 use Rattle.rm_plain.specs.Order.{May, Order}
 use Rattle.rm_plain.specs.Policy.{first_ready}
 use Rattle.rm_plain.proofs.Choosing.{none_ready, some_same}
@@ -31,7 +31,7 @@ use Rattle.rm_plain.proofs.Moving.{TellsAll, Works, down_goes, down_unkept, goes
 use Rattle.rm_plain.proofs.Stored.{keeps_trans, unkept_stores}
 
 -- one part of a run after the other
-pub goes_trans : {order : Order} (over : List Op → Type 0) (some more : List Fallen) (a b c : DeskView) → GoesOver order over some a b → Goes order more b c → GoesOver order over (some ++ more) a c
+pub goes_trans : {order : Order} (over : List Op → Type 0) (some more : List Fallen) (a b c : DeskView) → ExtendsRunOver order over some a b → ExtendsRun order more b c → ExtendsRunOver order over (some ++ more) a c
 goes_trans {order = order} over some more a b c ab bc =
     record {
       settings = bc.settings ∙ ab.settings;
@@ -43,7 +43,7 @@ goes_trans {order = order} over some more a b c ab bc =
           subst (λ (l : List Fallen). IsRun order opening script l c) (append_assoc fallen some more) (bc.run opening script (fallen ++ some) tt (ab.run opening script fallen is run));
     }
 
-pub stores_trans : {order : Order} (opening : List Op) (a b c : DeskView) (one two three : DiskView) → Goes order [] a b → StoresOn opening a b one two → StoresOn opening b c two three → StoresOn opening a c one three
+pub stores_trans : {order : Order} (opening : List Op) (a b c : DeskView) (one two three : DiskView) → ExtendsRun order [] a b → StoresOn opening a b one two → StoresOn opening b c two three → StoresOn opening a c one three
 stores_trans opening a b c one two three goes ab bc = λ k has.
     let first = ab k has in
     keeps_trans opening a.core.log b.core.log c.core.log one two three first (bc (goes.lawful opening tt k) first.kept)
@@ -102,7 +102,7 @@ module _ {D : Type 0} (view : D → DiskView) where
       }
 
 module _ {order : Order} {D : Type 0} (view : D → DiskView) where
-  module _ (a b c : DeskView) (first second third : StoreState D) (goes : Goes order [] a b) (kept : (opening : List Op) → StoresOn opening a b (seen view first.disk) (seen view second.disk)) where
+  module _ (a b c : DeskView) (first second third : StoreState D) (goes : ExtendsRun order [] a b) (kept : (opening : List Op) → StoresOn opening a b (seen view first.disk) (seen view second.disk)) where
     pub stores_on : Stores view b c second third → Stores view a c first third
     stores_on h =
         record { sound = h.sound; kept = λ opening. stores_trans opening a b c (seen view first.disk) (seen view second.disk) (seen view third.disk) goes (kept opening) (h.kept opening) }
@@ -125,7 +125,7 @@ module _ {order : Order} {D : Type 0} (view : D → DiskView) where
         }
 
   -- a move that doesn't touch the store
-  pub works_on : (lane : Lane) (d next : DeskView) (store : StoreState D) → Does lane d next → Works order d next → IsStep lane → lane ≢ End → Serves view d store → GoesOn order view d next store store
+  pub works_on : (lane : Lane) (d next : DeskView) (store : StoreState D) → LaneEffect lane d next → Works order d next → IsStep lane → lane ≢ End → Serves view d store → TakesStep order view d next store store
   works_on lane d next store does works step goes serves =
       record {
         goes = works.goes;
@@ -148,8 +148,8 @@ module _ {order : Order} {D : Type 0} (view : D → DiskView) where
       stays Begin step goes close = refl
 
   -- a segment settled, and the fuse is armed as the next one says
-  pub settles_on : (d next : DeskView) (store now : StoreState D) → Does End d next → Goes order [] d next → IsUnkept d next → close_left d.place.segments ≡ Some Settle
-      → now.disk.inner ≡ store.disk.inner → now.disk.refused ≡ store.disk.refused → Serves view next now → GoesOn order view d next store now
+  pub settles_on : (d next : DeskView) (store now : StoreState D) → LaneEffect End d next → ExtendsRun order [] d next → IsUnkept d next → close_left d.place.segments ≡ Some Settle
+      → now.disk.inner ≡ store.disk.inner → now.disk.refused ≡ store.disk.refused → Serves view next now → TakesStep order view d next store now
   settles_on d next store now does goes same settles inner refused serves =
       record {
         goes = goes;
@@ -160,7 +160,7 @@ module _ {order : Order} {D : Type 0} (view : D → DiskView) where
       }
 
   -- a life went down
-  pub goes_down_on : (d next : DeskView) (store : StoreState D) → Does End d next → May order End d → TellsAll d → TellsAll next → (is_blown d.core ≡ false → HasNoWork d → has_rest d.core) → (calls image : ℕ)
+  pub goes_down_on : (d next : DeskView) (store : StoreState D) → LaneEffect End d next → May order End d → TellsAll d → TellsAll next → (is_blown d.core ≡ false → HasNoWork d → has_rest d.core) → (calls image : ℕ)
       → close_left d.place.segments ≡ Some (Crash calls image) → Serves view d store → WentDown order view d next store store image
   goes_down_on d next store does chosen tells told idle calls image crash serves =
       record {

@@ -25,14 +25,14 @@ use Rattle.rm_desk.specs.View.{DeskView}
 use Rattle.rm_plain.specs.declared.halts.Stop.{Stop}
 use Rattle.rm_plain.specs.declared.halts.Stop.TheVariants.{DiskFault, Damaged, Full, Schedule, EpochsSpent, Memory}
 use Rattle.rm_desk.specs.Lanes.{is_ready_at}
-use Rattle.rm_desk.specs.Runs.{IsRun as GoesAlong, IsSound as IsDeskSound, Tells}
+use Rattle.rm_desk.specs.Runs.{IsScriptRun as GoesAlong, IsPlaceSound as IsDeskSound, DescribesState}
 use Rattle.rm_plain.specs.Falls.{falls_of}
 use Rattle.rm_plain.specs.Goes.{IsOver, IsRun}
 use Rattle.rm_plain.specs.declared.halts.Halt.{Halt}
 use Rattle.rm_plain.specs.declared.halts.Halt.TheVariants as halts
 use Rattle.rm_plain.specs.declared.schedule.Step.{Step}
 use Rattle.rm_plain.specs.Halted.{stop_of}
-use Rattle.rm_desk.specs.Does.{IsHanded}
+use Rattle.rm_desk.specs.Effects.{IsHanded}
 use Rattle.rm_plain.specs.Opens.{IsOfStart, StartsOver}
 use Rattle.rm_plain.specs.Order.{AllReady, HaltsHere, Order, StopsHere}
 use Rattle.rm_plain.specs.Schedule.{MovesBy, StopsAt, by_letters, left_after}
@@ -279,7 +279,7 @@ starts_over view opening log disk now due stops ended stopped bytes ops told hol
 -- a run from before the first life
 module _ (order : Order) {D : Type 0} (view : D → DiskView) (opening : List Op) (script : Script) (first new : DeskView) (disk now : Fused D) (ended : Result (Unit {0}) Stop)
     (all : AllLived order view opening first new disk now ended) (empty : first.core.log ≡ []) (along : GoesAlong opening script first)
-    (sound : IsDeskSound new) (tells : (ops : List Op) → StandsFor ops new.core → Tells ops new) (made : Seen) (is : as_new first.core ≡ made) (begins : order.keeps made script opening []) where
+    (sound : IsDeskSound new) (tells : (ops : List Op) → StandsFor ops new.core → DescribesState ops new) (made : Seen) (is : as_new first.core ≡ made) (begins : order.keeps made script opening []) where
   pub whole_run : IsRun order opening script all.fallen new
   whole_run =
       all.goes.run opening script [] refl
@@ -290,7 +290,7 @@ module _ (order : Order) {D : Type 0} (view : D → DiskView) (opening : List Op
         moves = subst (λ (log : List Entry). order.keeps (as_new first.core) script opening log) (sym empty) (subst (λ (s : Seen). order.keeps s script opening []) (sym is) begins);
       })
 
-  told : Tells opening new
+  told : DescribesState opening new
   told = tells opening whole_run.goes.stands
 
   rest_on : (stands new.core ≡ false) ⊎ IsOver new → IsAtRest new.core.settings (state_after opening new.core.log) (state_after opening new.core.log).life

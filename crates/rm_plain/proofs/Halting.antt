@@ -11,7 +11,7 @@ use Rattle.rm_types.specs.Records.{Records, records, fits_records}
 use Rattle.rm_disk.specs.Disk.{DiskView}
 use Rattle.rm_disk.specs.Fuse.{Fused, KeepsFuse}
 use Rattle.rm_disk.proofs.Views.{leaves_of, leaves_same, leaves_trans}
-use Rattle.rm_formats.specs.Device.{Holds}
+use Rattle.rm_formats.specs.Device.{DeviceHolds}
 use Rattle.rm_model.specs.Changes.{kept_after_landing}
 use Rattle.rm_model.specs.Lawful.{state_after}
 use Rattle.rm_model.specs.Place.{close_left}
@@ -24,11 +24,11 @@ use Rattle.rm_store.specs.declared.fault.StoreError.TheVariants as store
 use Rattle.rm_store.specs.Store.{Has, LeavesOps, needed_for, room_behind, seen}
 use Rattle.rm_core.specs.Seen.{Seen, StandsFor, IsToBeKept}
 use Rattle.rm_core.specs.Words.{landed_over}
-use Rattle.rm_desk.specs.Does.{IsHanded}
+use Rattle.rm_desk.specs.Effects.{IsHanded}
 use Rattle.rm_desk.specs.View.{DeskView}
 use Rattle.rm_plain.specs.declared.halts.Halt.{Halt}
 use Rattle.rm_plain.specs.declared.halts.Halt.TheVariants.{DiskFault, Full, Schedule, Memory}
-use Rattle.rm_plain.specs.Goes.{Goes, GoesOver}
+use Rattle.rm_plain.specs.Goes.{ExtendsRun, ExtendsRunOver}
 use Rattle.rm_plain.specs.Halted.{halt_of}
 use Rattle.rm_plain.specs.Keeping.{HaltsBy, HaltsOver, IsFoundOn, IsFull, IsHaltedBy, IsKeptOn, IsUnkept, KeepsOn, LeavesOn, armed_by, has_blown}
 use Rattle.rm_plain.proofs.Ending.{goes_trans}
@@ -69,7 +69,7 @@ op_leaves opening core op old new unblown to_keep leaves has =
       grows = sym (append-nil core.log);
     }
   where
-    either : (image : List ℕ) → Holds image (state_after opening core.log).kept ⊎ Holds image ((state_after opening core.log).kept ++ op ∷ []) → HoldsAfter opening core.log image
+    either : (image : List ℕ) → DeviceHolds image (state_after opening core.log).kept ⊎ DeviceHolds image ((state_after opening core.log).kept ++ op ∷ []) → HoldsAfter opening core.log image
     either image (inl before) = inl before
     either image (inr after) = inr (op, to_keep.first, after)
 
@@ -94,7 +94,7 @@ full_known known less opening log size needed room by full =
     record { op = full.op; handed = full.handed; needs = full.needs; less = full.less; behind = λ is. full.behind (by is) }
 
 -- a part of a run over some opening lists alone
-pub goes_any : {order : Order} (over : List Op → Type 0) (a b : DeskView) → Goes order [] a b → GoesOver order over [] a b
+pub goes_any : {order : Order} (over : List Op → Type 0) (a b : DeskView) → ExtendsRun order [] a b → ExtendsRunOver order over [] a b
 goes_any over a b g =
     record {
       settings = g.settings;
@@ -122,22 +122,22 @@ landed_number core tree = by core.tables.blown refl core.tables.awaiting refl
         one false s = inl (rw (e, w, s) refl)
 
 -- so what holds what a life begins with holds what is kept, or this and the first operation that awaited
-landed_holds : (s : Manager) (core : Seen) (tree : Records) (image : List ℕ) → Holds image (kept_after_landing s (landed_over core tree)) → HoldsKept s image
+landed_holds : (s : Manager) (core : Seen) (tree : Records) (image : List ℕ) → DeviceHolds image (kept_after_landing s (landed_over core tree)) → HoldsKept s image
 landed_holds s core tree image h = ⊎_elim none one (landed_number core tree)
   where
     none : landed_over core tree ≡ 0 → HoldsKept s image
-    none e = inl (subst (λ (ops : List Op). Holds image ops) (ap (λ (n : ℕ). kept_after_landing s n) e ∙ append-nil s.kept) h)
+    none e = inl (subst (λ (ops : List Op). DeviceHolds image ops) (ap (λ (n : ℕ). kept_after_landing s n) e ∙ append-nil s.kept) h)
 
     one : landed_over core tree ≡ 1 → HoldsKept s image
-    one e = by s.awaiting refl (subst (λ (n : ℕ). Holds image (kept_after_landing s n)) e h)
+    one e = by s.awaiting refl (subst (λ (n : ℕ). DeviceHolds image (kept_after_landing s n)) e h)
       where
-        by : (awaiting : List Op) → s.awaiting ≡ awaiting → Holds image (s.kept ++ take 1 s.awaiting) → HoldsKept s image
-        by [] w holds = inl (subst (λ (ops : List Op). Holds image ops) (ap (λ (l : List Op). s.kept ++ take 1 l) w ∙ append-nil s.kept) holds)
-        by (op ∷ rest) w holds = inr (op, ap (λ (l : List Op). slice_get l 0) w, subst (λ (ops : List Op). Holds image ops) (ap (λ (l : List Op). s.kept ++ take 1 l) w) holds)
+        by : (awaiting : List Op) → s.awaiting ≡ awaiting → DeviceHolds image (s.kept ++ take 1 s.awaiting) → HoldsKept s image
+        by [] w holds = inl (subst (λ (ops : List Op). DeviceHolds image ops) (ap (λ (l : List Op). s.kept ++ take 1 l) w ∙ append-nil s.kept) holds)
+        by (op ∷ rest) w holds = inr (op, ap (λ (l : List Op). slice_get l 0) w, subst (λ (ops : List Op). DeviceHolds image ops) (ap (λ (l : List Op). s.kept ++ take 1 l) w) holds)
 
 module _ {order : Order} {D : Type 0} (view : D → DiskView) where
   -- memory ran out where nothing was kept
-  pub halts_unkept : (d next : DeskView) (disk now : Fused D) → Goes order [] d next → IsUnkept d next → now.inner ≡ disk.inner → now.refused ≡ disk.refused → HaltsBy order view d next disk now Memory
+  pub halts_unkept : (d next : DeskView) (disk now : Fused D) → ExtendsRun order [] d next → IsUnkept d next → now.inner ≡ disk.inner → now.refused ≡ disk.refused → HaltsBy order view d next disk now Memory
   halts_unkept d next disk now goes same inner refused =
       record {
         goes = goes;
@@ -223,7 +223,7 @@ module _ {order : Order} {D : Type 0} (view : D → DiskView) where
       }
 
   -- a part of a run, and one after it that halted
-  module _ (over found : List Op → Type 0) (a b c : DeskView) (first second third : Fused D) (goes : GoesOver order over [] a b)
+  module _ (over found : List Op → Type 0) (a b c : DeskView) (first second third : Fused D) (goes : ExtendsRunOver order over [] a b)
       (kept : (opening : List Op) → over opening → StandsFor opening a.core → found opening → KeepsOn opening a.core.log b.core.log (seen view first) (seen view second))
       (faults : (view first.inner).faults ≤ (view second.inner).faults) where
     pub halts_on : (halt : Halt) → HaltsBy order view b c second third halt → HaltsOver order view over found a c first third halt

@@ -21,7 +21,7 @@ use Rattle.rm_model.specs.Place.{Place, beginning, close_left, moved}
 use Rattle.rm_core.specs.Seen.{Seen}
 use Rattle.rm_core.specs.Words.{as_new}
 use Rattle.rm_desk.specs.View.{DeskView}
-use Rattle.rm_desk.specs.Runs.{IsRun as GoesAlong}
+use Rattle.rm_desk.specs.Runs.{IsScriptRun as GoesAlong}
 use Rattle.rm_desk.proofs.Longer.{IsOwn, own_silent}
 use Rattle.rm_plain.specs.Falls.{falls_at, falls_from}
 use Rattle.rm_plain.specs.Goes.{IsRun}

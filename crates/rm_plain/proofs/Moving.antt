@@ -24,16 +24,16 @@ use Rattle.rm_model.specs.Changes.{after, after_where, kept_after_landing}
 use Rattle.rm_model.specs.Downs.{GoesDownAtRest}
 use Rattle.rm_model.specs.Lawful.{IsAtRest, state_after}
 use Rattle.rm_model.specs.Place.{Place, begun, close_left, moved, rest_of, segments_without, stamp_of}
-use Rattle.rm_core.specs.Adds.{IsLeft}
+use Rattle.rm_core.specs.Moves.{IsLeft}
 use Rattle.rm_core.specs.Seen.{StandsFor}
 use Rattle.rm_core.specs.Words.{has_rest, is_blown, landed_over, stands}
 use Rattle.rm_desk.specs.View.{DeskView}
 use Rattle.rm_desk.specs.Lanes.{HasNoWork, IsStep}
-use Rattle.rm_desk.specs.Runs.{HasBlown, IsLast, IsSound as IsDeskSound, Tells}
-use Rattle.rm_desk.specs.Does.{Answers, Begins, Blows, Does, DoesBy, IsEntryOf}
+use Rattle.rm_desk.specs.Runs.{HasBlown, IsLast, IsPlaceSound as IsDeskSound, DescribesState}
+use Rattle.rm_desk.specs.Effects.{Answers, LifeBegins, Blows, LaneEffect, EffectBy, IsEntryOf}
 use Rattle.rm_desk.proofs.Longer.{not_empty}
 use Rattle.rm_plain.specs.Falls.{fall, falls_at}
-use Rattle.rm_plain.specs.Goes.{Goes, GoesOver, IsRun}
+use Rattle.rm_plain.specs.Goes.{ExtendsRun, ExtendsRunOver, IsRun}
 use Rattle.rm_plain.specs.Keeping.{IsBegun, IsUnkept, blown_in, has_blown}
 use Rattle.rm_plain.specs.Order.{May, Order}
 use Rattle.rm_plain.proofs.Longer.{IsQuiet, falls_none, first_stays, hand_quiet, is_plain, kept_stays, main_quiet, no_down, one_more, plain_stands, sched_quiet}
@@ -82,7 +82,7 @@ both_ok (Ok x) f a b = f a b
 both_ok (Err e) f a b = tt
 
 -- nothing is a part of a run, and nothing falls in it
-pub goes_same : {order : Order} (d : DeskView) → Goes order [] d d
+pub goes_same : {order : Order} (d : DeskView) → ExtendsRun order [] d d
 goes_same {order = order} d =
     record { settings = refl; began = refl; lives = omega arith; some = λ was. was; lawful = λ opening over k. k; run = λ opening script fallen over run. subst (λ (l : List Fallen). IsRun order opening script l d) (sym (append-nil fallen)) run }
 
@@ -92,7 +92,7 @@ fewer before after e = let same = ap (λ (xs : List Life). length xs) e in omega
 
 -- what a desk tells of the state after its log
 abbrev pub TellsAll : DeskView → Type 0
-TellsAll d = (opening : List Op) → StandsFor opening d.core → Tells opening d
+TellsAll d = (opening : List Op) → StandsFor opening d.core → DescribesState opening d
 
 -- the state is blown where the life is, or the last one was
 pub told_blown : (d : DeskView) → TellsAll d → (opening : List Op) → StandsFor opening d.core → has_blown (state_after opening d.core.log) ≡ is_blown d.core
@@ -110,10 +110,10 @@ told_blown d tells opening k = by (stands d.core) refl
     by false dead = ap (λ (o : Option LifeState). blown_in o s.blew) ((tells opening k).none dead) ∙ (tells opening k).blew dead
 
 -- what a lane's move does to a run, by which so much falls
-module _ {order : Order} (kind : Entry → Type 0) (blew : Bool) (lane : Lane) (d next : DeskView) (does : DoesBy kind blew lane d next) (may : May order lane d) (lives : next.place.lives ≡ d.place.lives) (more : List Fallen)
+module _ {order : Order} (kind : Entry → Type 0) (blew : Bool) (lane : Lane) (d next : DeskView) (does : EffectBy kind blew lane d next) (may : May order lane d) (lives : next.place.lives ≡ d.place.lives) (more : List Fallen)
     (down : (opening : List Op) → StandsFor opening d.core → order.rests → GoesDownAtRest d.core.settings (state_after opening d.core.log) (state_after opening d.core.log).life does.adds.entry)
     (falls : (opening : List Op) → StandsFor opening d.core → falls_at does.adds.entry (state_after opening d.core.log).life (close_left d.place.segments) ≡ more) where
-  falling_goes : Goes order more d next
+  falling_goes : ExtendsRun order more d next
   falling_goes =
       record {
         settings = does.goes.settings;
@@ -126,14 +126,14 @@ module _ {order : Order} (kind : Entry → Type 0) (blew : Bool) (lane : Lane) (
       }
 
 -- a move by which no life goes down
-step_goes : {order : Order} (kind : Entry → Type 0) (blew : Bool) (lane : Lane) (d next : DeskView) (does : DoesBy kind blew lane d next) → May order lane d → does.adds.entry ≢ Down → next.place.lives ≡ d.place.lives → Goes order [] d next
+step_goes : {order : Order} (kind : Entry → Type 0) (blew : Bool) (lane : Lane) (d next : DeskView) (does : EffectBy kind blew lane d next) → May order lane d → does.adds.entry ≢ Down → next.place.lives ≡ d.place.lives → ExtendsRun order [] d next
 step_goes kind blew lane d next does chosen no_end lives =
     falling_goes kind blew lane d next does chosen lives []
     (λ opening k rests. no_down does.adds.entry d.core.settings (state_after opening d.core.log) (state_after opening d.core.log).life no_end)
     (λ opening k. falls_none does.adds.entry (state_after opening d.core.log).life (close_left d.place.segments) no_end)
 
 -- and nothing is kept or refused
-step_unkept : (lane : Lane) (d next : DeskView) (does : Does lane d next) → TellsAll d → TellsAll next → is_plain does.adds.entry ≡ true → IsUnkept d next
+step_unkept : (lane : Lane) (d next : DeskView) (does : LaneEffect lane d next) → TellsAll d → TellsAll next → is_plain does.adds.entry ≡ true → IsUnkept d next
 step_unkept lane d next does tells told plain =
     record {
       kept = λ opening k image h.
@@ -148,13 +148,13 @@ step_unkept lane d next does tells told plain =
 
 -- what a move does that touches neither the store nor the end of a segment
 pub record Works (order : Order) (d next : DeskView) : Type 0 where
-  pub goes : Goes order [] d next
+  pub goes : ExtendsRun order [] d next
   pub same : IsUnkept d next
   pub close : close_left next.place.segments ≡ close_left d.place.segments
   pub blown : is_blown next.core ≡ is_blown d.core
 
 -- where it is of the manager's own work, its entry leaves the place as it is
-quiet_works : {order : Order} (lane : Lane) (d next : DeskView) (does : Does lane d next) → TellsAll d → TellsAll next → May order lane d → IsQuiet does.adds.entry → Works order d next
+quiet_works : {order : Order} (lane : Lane) (d next : DeskView) (does : LaneEffect lane d next) → TellsAll d → TellsAll next → May order lane d → IsQuiet does.adds.entry → Works order d next
 quiet_works lane d next does tells told chosen quiet =
     let place : next.place ≡ d.place = does.adds.place ∙ quiet.stays d.place in
     record {
@@ -169,7 +169,7 @@ close_without sender [] = refl
 close_without sender (segment ∷ more) = refl
 
 -- a message is answered
-serve_works : {order : Order} (sender : Sender) (lane : Lane) (d next : DeskView) (does : Does lane d next) → TellsAll d → TellsAll next → Answers sender d does.adds.entry → May order lane d → Works order d next
+serve_works : {order : Order} (sender : Sender) (lane : Lane) (d next : DeskView) (does : LaneEffect lane d next) → TellsAll d → TellsAll next → Answers sender d does.adds.entry → May order lane d → Works order d next
 serve_works sender lane d next does tells told answers chosen =
     let is = answers.3 in
     let place : next.place ≡ record { lives = d.place.lives; segments = segments_without sender d.place.segments } =
@@ -183,7 +183,7 @@ serve_works sender lane d next does tells told answers chosen =
       blown = does.blown;
     }
 
-pub works : {order : Order} (lane : Lane) (d next : DeskView) → Does lane d next → TellsAll d → TellsAll next → May order lane d → IsStep lane → lane ≢ End → Works order d next
+pub works : {order : Order} (lane : Lane) (d next : DeskView) → LaneEffect lane d next → TellsAll d → TellsAll next → May order lane d → IsStep lane → lane ≢ End → Works order d next
 works Client d next does tells told chosen step goes = serve_works senders.Client Client d next does tells told does.adds.of_kind chosen
 works Main d next does tells told chosen step goes = quiet_works Main d next does tells told chosen (main_quiet does.adds.entry does.adds.of_kind)
 works Sched d next does tells told chosen step goes = quiet_works Sched d next does tells told chosen (sched_quiet does.adds.entry does.adds.of_kind)
@@ -198,14 +198,14 @@ works Begin d next does tells told chosen step goes = absurd step
 -- THE STORE
 
 -- the operation that is with the store is kept
-pub kept_goes : {order : Order} (d next : DeskView) → Does Write d next → May order Write d → Goes order [] d next
+pub kept_goes : {order : Order} (d next : DeskView) → LaneEffect Write d next → May order Write d → ExtendsRun order [] d next
 kept_goes d next does chosen =
     let is = does.adds.of_kind.2 in
     let place : next.place ≡ d.place = does.adds.place ∙ ap (λ (e : Entry). moved d.place e) is in
     step_goes (IsEntryOf Write d) (is_blown d.core) Write d next does chosen (λ down. let x = sym is ∙ down in cc) (ap (λ (p : Place). p.lives) place)
 
 -- or refused
-pub blown_goes : {order : Order} (d next : DeskView) (passed : ℕ) → Blows passed d next → May order Write d → Goes order [] d next
+pub blown_goes : {order : Order} (d next : DeskView) (passed : ℕ) → Blows passed d next → May order Write d → ExtendsRun order [] d next
 blown_goes d next passed does chosen =
     let is = does.adds.of_kind in
     let place : next.place ≡ d.place = does.adds.place ∙ ap (λ (e : Entry). moved d.place e) is in
@@ -217,14 +217,14 @@ blown_close d next passed does = ap (λ (p : Place). close_left p.segments) (doe
 -- A SEGMENT CLOSES
 
 -- the entry with which a segment closes
-settled_is : (d next : DeskView) (does : Does End d next) → close_left d.place.segments ≡ Some Settle → does.adds.entry ≡ Settled
+settled_is : (d next : DeskView) (does : LaneEffect End d next) → close_left d.place.segments ≡ Some Settle → does.adds.entry ≡ Settled
 settled_is d next does c = rw c at does.adds.of_kind
 
-down_is : (d next : DeskView) (does : Does End d next) (calls image : ℕ) → close_left d.place.segments ≡ Some (Crash calls image) → does.adds.entry ≡ Down
+down_is : (d next : DeskView) (does : LaneEffect End d next) (calls image : ℕ) → close_left d.place.segments ≡ Some (Crash calls image) → does.adds.entry ≡ Down
 down_is d next does calls image c = rw c at does.adds.of_kind
 
 -- the current segment settles
-pub settle_goes : {order : Order} (d next : DeskView) → Does End d next → TellsAll d → TellsAll next → May order End d → close_left d.place.segments ≡ Some Settle → Goes order [] d next × IsUnkept d next
+pub settle_goes : {order : Order} (d next : DeskView) → LaneEffect End d next → TellsAll d → TellsAll next → May order End d → close_left d.place.segments ≡ Some Settle → ExtendsRun order [] d next × IsUnkept d next
 settle_goes d next does tells told chosen c =
     let is = settled_is d next does c in
     let place : next.place ≡ record { lives = d.place.lives; segments = rest_of d.place.segments } = does.adds.place ∙ ap (λ (e : Entry). moved d.place e) is in
@@ -261,7 +261,7 @@ down_awaits s None = refl
 down_awaits s (Some life) = refl
 
 -- the life goes down
-module _ {order : Order} (d next : DeskView) (does : Does End d next) (may : May order End d) (tells : TellsAll d) (told : TellsAll next) (idle : is_blown d.core ≡ false → HasNoWork d → has_rest d.core)
+module _ {order : Order} (d next : DeskView) (does : LaneEffect End d next) (may : May order End d) (tells : TellsAll d) (told : TellsAll next) (idle : is_blown d.core ≡ false → HasNoWork d → has_rest d.core)
     (calls image : ℕ) (c : close_left d.place.segments ≡ Some (Crash calls image)) where
   down_entry : does.adds.entry ≡ Down
   down_entry = down_is d next does calls image c
@@ -272,7 +272,7 @@ module _ {order : Order} (d next : DeskView) (does : Does End d next) (may : May
   down_log : next.core.log ≡ d.core.log ++ Down ∷ []
   down_log = does.adds.added ∙ ap (λ (e : Entry). d.core.log ++ e ∷ []) down_entry
 
-  pub down_goes : Goes order (fall calls image (is_blown d.core) ∷ []) d next
+  pub down_goes : ExtendsRun order (fall calls image (is_blown d.core) ∷ []) d next
   down_goes =
       falling_goes (IsEntryOf End d) (is_blown d.core) End d next does may (ap (λ (p : Place). p.lives) down_place) (fall calls image (is_blown d.core) ∷ [])
       (λ opening k rests.
@@ -303,7 +303,7 @@ first_of (one ∷ more) x h = let same : one ≡ x = cc in (more, ap (λ y. y �
 -- A LIFE BEGINS
 
 -- over what the last one left
-module _ (tree : Records) (d next : DeskView) (begins : Begins tree d next) where
+module _ (tree : Records) (d next : DeskView) (begins : LifeBegins tree d next) where
   abbrev life : Life
   life = begins.adds.of_kind.0
 
@@ -322,7 +322,7 @@ module _ (tree : Records) (d next : DeskView) (begins : Begins tree d next) wher
   not_down : begins.adds.entry ≢ Down
   not_down = λ down. let x = sym begins.adds.of_kind.2 ∙ down in cc
 
-  pub begin_goes : {order : Order} → May order Begin d → GoesOver order (λ opening. IsLeft tree (state_after opening d.core.log)) [] d next
+  pub begin_goes : {order : Order} → May order Begin d → ExtendsRunOver order (λ opening. IsLeft tree (state_after opening d.core.log)) [] d next
   begin_goes may =
       record {
         settings = begins.goes.settings;

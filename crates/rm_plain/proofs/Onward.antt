@@ -6,10 +6,10 @@ use Rattle.rm_types.specs.declared.operations.Op.{Op}
 use Rattle.rm_types.specs.declared.entries.Entry.{Entry}
 use Rattle.rm_types.specs.Records.{Records, records}
 use Rattle.rm_disk.specs.declared.fallen.Fallen.{Fallen}
-use Rattle.rm_disk.specs.Disk.{DiskView, Leaves, Tells}
+use Rattle.rm_disk.specs.Disk.{DiskView, Leaves, IfTold}
 use Rattle.rm_disk.specs.Fuse.{Fused}
 use Rattle.rm_disk.proofs.Views.{leaves_of, leaves_same, leaves_trans, quiet_trans}
-use Rattle.rm_formats.specs.Device.{Holds}
+use Rattle.rm_formats.specs.Device.{DeviceHolds}
 use Rattle.rm_model.specs.Changes.{kept_after_landing}
 use Rattle.rm_model.specs.Lawful.{state_after}
 use Rattle.rm_model.specs.State.{LifeState, Manager}
@@ -22,17 +22,17 @@ use Rattle.rm_plain.specs.Order.{HaltsHere, Order, StopsHere}
 use Rattle.rm_plain.specs.Survives.{HoldsKept, HoldsWithin, SurvivesAll, SurvivesNow}
 use Rattle.rm_store.specs.Store.{StoreState, seen}
 use Rattle.rm_store.proofs.Faultless.{one_list, never_damaged, never_stray}
-use Rattle.rm_core.specs.Adds.{HasLanded, IsLeft}
+use Rattle.rm_core.specs.Moves.{HasLanded, IsLeft}
 use Rattle.rm_core.specs.Seen.{Seen, StandsFor}
 use Rattle.rm_core.specs.Words.{landed_over, stands}
 use Rattle.rm_core.proofs.Telling.{told_none_landed, told_one_landed}
 use Rattle.rm_desk.specs.View.{DeskView}
-use Rattle.rm_desk.specs.Does.{IsHanded}
+use Rattle.rm_desk.specs.Effects.{IsHanded}
 use Rattle.rm_plain.specs.declared.halts.Halt.{Halt}
 use Rattle.rm_plain.specs.declared.halts.Halt.TheVariants as halts
 use Rattle.rm_plain.specs.declared.halts.Stop.{Stop}
 use Rattle.rm_plain.specs.declared.halts.Stop.TheVariants.{DiskFault, Damaged, Full, Schedule, EpochsSpent, Memory}
-use Rattle.rm_plain.specs.Goes.{GoesOver, IsOver}
+use Rattle.rm_plain.specs.Goes.{ExtendsRunOver, IsOver}
 use Rattle.rm_plain.specs.Halted.{stop_of}
 use Rattle.rm_plain.specs.Keeping.{HaltsOver, HoldsBy, IsFoundOn, IsHaltedBy, IsKeptOn, KeepsOn, LeavesOn, blown_in, has_blown}
 use Rattle.rm_plain.specs.Later.{FirstStopped, FirstTo, IsAgain, IsDueAt, IsFirst, IsLaterStop, IsReady, IsUnfounded, IsUnready, LaterTo, StopsLater}
@@ -44,7 +44,7 @@ use Rattle.rm_plain.proofs.Moving.{goes_same}
 use Rattle.rm_plain.proofs.Stored.{holds_kept, keeps_trans, within_longer}
 
 -- a device that holds operations is a store
-pub no_store_not : (bytes : List ℕ) (ops : List Op) (offset : ℕ) → Holds bytes ops → IsNoStore offset bytes → ⊥
+pub no_store_not : (bytes : List ℕ) (ops : List Op) (offset : ℕ) → DeviceHolds bytes ops → IsNoStore offset bytes → ⊥
 no_store_not bytes ops offset holds why = ⊎_elim (λ damaged. never_damaged bytes ops holds offset damaged) (λ stray. never_stray bytes ops holds stray.0 offset stray.1) why
 
 -- so is one that holds what is kept, or this and one more
@@ -109,14 +109,14 @@ module _ {D : Type 0} (view : D → DiskView) where
       s = state_after opening core.log
 
       -- just what is kept
-      kept_found : Holds has.bytes s.kept → Found s core
+      kept_found : DeviceHolds has.bytes s.kept → Found s core
       kept_found holds =
           let same : ops ≡ s.kept = one_list has.bytes ops s.kept (o.holds has.bytes has.told) holds in
           let amounts : tree ≡ records s.kept = o.read.amounts ∙ ap records same in
           record { left = inl amounts; are = same ∙ sym (ap (λ (n : ℕ). kept_after_landing s n) (told_none_landed core opening k dead tree amounts) ∙ append-nil s.kept) }
 
       -- or this and the operation that was refused
-      more_found : has_blown s ≡ true → (op : Op) → slice_get s.awaiting 0 ≡ Some op → Holds has.bytes (s.kept ++ op ∷ []) → Found s core
+      more_found : has_blown s ≡ true → (op : Op) → slice_get s.awaiting 0 ≡ Some op → DeviceHolds has.bytes (s.kept ++ op ∷ []) → Found s core
       more_found blown op first holds =
           let same : ops ≡ s.kept ++ op ∷ [] = one_list has.bytes ops (s.kept ++ op ∷ []) (o.holds has.bytes has.told) holds in
           let blew : s.blew ≡ true = sym (ap (λ (life : Option LifeState). blown_in life s.blew) none) ∙ blown in
@@ -143,8 +143,8 @@ module _ {D : Type 0} (view : D → DiskView) where
           record {
             bytes = has.bytes;
             told = o.quiet.told ∙ has.told;
-            holds = subst (λ (l : List Op). Holds has.bytes l) are (o.holds has.bytes has.told);
-            images = λ image is. subst (λ (l : List Op). Holds image l) are (o.images has.bytes has.told image is);
+            holds = subst (λ (l : List Op). DeviceHolds has.bytes l) are (o.holds has.bytes has.told);
+            images = λ image is. subst (λ (l : List Op). DeviceHolds image l) are (o.images has.bytes has.told image is);
           }
 
     ready : tree.next_epoch < 2 ^ 24 → tree.stamp < 2 ^ 63 - 1 → IsReady view disk store tree
@@ -223,7 +223,7 @@ module _ {D : Type 0} (view : D → DiskView) where
 
 module _ (order : Order) {D : Type 0} (view : D → DiskView) where
   -- a part of a run over fewer opening lists
-  pub goes_over : (P Q : List Op → Type 0) (more : List Fallen) (a b : DeskView) → ((opening : List Op) → Q opening → StandsFor opening a.core → P opening) → GoesOver order P more a b → GoesOver order Q more a b
+  pub goes_over : (P Q : List Op → Type 0) (more : List Fallen) (a b : DeskView) → ((opening : List Op) → Q opening → StandsFor opening a.core → P opening) → ExtendsRunOver order P more a b → ExtendsRunOver order Q more a b
   goes_over P Q more a b from g =
       record {
         settings = g.settings;
@@ -411,8 +411,8 @@ module _ (order : Order) {D : Type 0} (view : D → DiskView) where
         record {
           bytes = bytes;
           told = first.quiet.told ∙ told;
-          holds = subst (λ (l : List Op). Holds bytes l) (sym are) held.0;
-          images = λ image is. subst (λ (l : List Op). Holds image l) (sym are) (held.1 image is);
+          holds = subst (λ (l : List Op). DeviceHolds bytes l) (sym are) held.0;
+          images = λ image is. subst (λ (l : List Op). DeviceHolds image l) (sym are) (held.1 image is);
         }
 
     -- a halt of it stops the run
@@ -482,7 +482,7 @@ module _ (order : Order) {D : Type 0} (view : D → DiskView) where
 
   -- the first life had no store to begin over
   pub unfounded_stops : (d : DeskView) (disk now : Fused D) (opening : List Op) (stop : Stop) → stands d.core ≡ false → d.place.lives ≢ [] → d.core.log ≡ [] → IsGivenBack view disk now
-      → (opening ≡ []) ⊎ Tells (seen view disk) (λ bytes. Holds bytes opening) → IsUnfounded view opening disk now stop → FirstStopped order view opening d d disk now stop
+      → (opening ≡ []) ⊎ IfTold (seen view disk) (λ bytes. DeviceHolds bytes opening) → IsUnfounded view opening disk now stop → FirstStopped order view opening d d disk now stop
   unfounded_stops d disk now opening stop dead lives empty back found why =
       record {
         goes = goes_any (λ ops. ops ≡ opening) d d (goes_same d);

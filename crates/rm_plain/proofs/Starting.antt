@@ -6,15 +6,15 @@ use Rattle.rm_types.specs.declared.operations.Op.{Op}
 use Rattle.rm_types.specs.declared.entries.Entry.{Entry}
 use Rattle.rm_types.specs.Records.{Records}
 use Rattle.rm_disk.specs.declared.fallen.Fallen.{Fallen}
-use Rattle.rm_disk.specs.Disk.{DiskView, EachImage, Falls, IsQuiet, Tells}
+use Rattle.rm_disk.specs.Disk.{DiskView, EachImage, Falls, IsQuiet, IfTold}
 use Rattle.rm_disk.specs.Fuse.{Fused, KeepsFuse, blown_after_fall, fallen_fuse, falls_after, unarmed_falls_after}
 use Rattle.rm_disk.proofs.Views.{leaves_of, leaves_same, quiet_same, told_after}
-use Rattle.rm_formats.specs.Device.{Holds}
+use Rattle.rm_formats.specs.Device.{DeviceHolds}
 use Rattle.rm_model.specs.Lawful.{state_after}
 use Rattle.rm_plain.specs.Order.{Order}
 use Rattle.rm_plain.specs.Survives.{HoldsWithin}
-use Rattle.rm_store.specs.Store.{StoreState, AreRead, IsSound as IsStoreSound, seen}
-use Rattle.rm_core.specs.Adds.{IsLeft}
+use Rattle.rm_store.specs.Store.{StoreState, AreRead, StoreInvariant as IsStoreSound, seen}
+use Rattle.rm_core.specs.Moves.{IsLeft}
 use Rattle.rm_core.specs.Seen.{StandsFor}
 use Rattle.rm_core.specs.Words.{stands}
 use Rattle.rm_desk.specs.View.{DeskView}
@@ -24,11 +24,11 @@ use Rattle.rm_plain.specs.declared.halts.Stop.{Stop}
 use Rattle.rm_plain.specs.declared.lives.LifeEnd.{LifeEnd}
 use Rattle.rm_plain.specs.declared.lives.LifeEnd.TheVariants.{Rest, Down}
 use Rattle.rm_plain.specs.Falls.{fall}
-use Rattle.rm_plain.specs.Goes.{GoesOver}
+use Rattle.rm_plain.specs.Goes.{ExtendsRunOver}
 use Rattle.rm_plain.specs.Halted.{stop_of}
 use Rattle.rm_plain.specs.Keeping.{FuseStays, HaltsBy, HaltsOver, HoldsIn, IsBegun, IsFoundOn, IsHaltedBy, IsKeptOn, KeepsOn, Serves, StoresOn}
 use Rattle.rm_plain.specs.Lives.{EndsBy, ComesToRest, WentDown}
-use Rattle.rm_plain.specs.Starts.{Begins, DiskStays, Halts, IsOpened, KeepsOver, Leaves, Lives, LivesTo, disarmed}
+use Rattle.rm_plain.specs.Starts.{StartEffect, DiskStays, Halts, IsOpened, KeepsOver, Leaves, Lives, LivesTo, disarmed}
 use Rattle.rm_plain.proofs.Ending.{fuse_trans, goes_trans}
 use Rattle.rm_plain.proofs.Halting.{after_within, halts_on, keeps_leaves}
 use Rattle.rm_plain.proofs.Stored.{holds_kept, just_holds, keeps_trans}
@@ -37,11 +37,11 @@ module _ {D : Type 0} (view : D → DiskView) where
   -- a store that was opened on a disarmed fuse
   pub opened : (inner : D → D → Type 0) (old disarmed : Fused D) (store : StoreState D) (tree : Records) (ops : List Op) → disarmed ≡ record old { armed = None; blown = false }
       → IsStoreSound view store → store.is_broken ≡ false → AreRead tree ops
-      → Tells (seen view disarmed) (λ bytes. Holds bytes ops) → Tells (seen view disarmed) (λ bytes. EachImage (seen view store.disk) (λ image. Holds image ops))
+      → IfTold (seen view disarmed) (λ bytes. DeviceHolds bytes ops) → IfTold (seen view disarmed) (λ bytes. EachImage (seen view store.disk) (λ image. DeviceHolds image ops))
       → IsQuiet (seen view disarmed) (seen view store.disk) → KeepsFuse view inner true disarmed store.disk → IsOpened view old store tree ops
   opened inner old disarmed store tree ops is sound unbroken read =
       let F : Fused D → Type 0 = λ x.
-      Tells (seen view x) (λ bytes. Holds bytes ops) → Tells (seen view x) (λ bytes. EachImage (seen view store.disk) (λ image. Holds image ops))
+      IfTold (seen view x) (λ bytes. DeviceHolds bytes ops) → IfTold (seen view x) (λ bytes. EachImage (seen view store.disk) (λ image. DeviceHolds image ops))
       → IsQuiet (seen view x) (seen view store.disk) → KeepsFuse view inner true x store.disk → IsOpened view old store tree ops in
       subst F (sym is) (λ holds images quiet kept.
       let unblown : store.disk.blown ≡ false = kept.success refl in
@@ -72,8 +72,8 @@ module _ {D : Type 0} (view : D → DiskView) where
         kept = record {
           bytes = has.bytes;
           told = has.told;
-          holds = just_holds next has.bytes unblown (subst (λ (ops : List Op). Holds has.bytes ops) (sym kept) has.holds);
-          images = λ image is. just_holds next image unblown (subst (λ (ops : List Op). Holds image ops) (sym kept) (has.images image is));
+          holds = just_holds next has.bytes unblown (subst (λ (ops : List Op). DeviceHolds has.bytes ops) (sym kept) has.holds);
+          images = λ image is. just_holds next image unblown (subst (λ (ops : List Op). DeviceHolds image ops) (sym kept) (has.images image is));
         };
         time = leaves_same disk (HoldsWithin opening mid.core.log);
         more = begun.more;
@@ -82,7 +82,7 @@ module _ {D : Type 0} (view : D → DiskView) where
 
   -- a life began, and its store serves it
   pub begins : (d mid : DeskView) (store now : StoreState D) (tree : Records) → IsBegun tree d mid → stands mid.core ≡ true → now.disk.inner ≡ store.disk.inner → now.disk.refused ≡ store.disk.refused
-      → Serves view mid now → Begins view (λ opening. IsLeft tree (state_after opening d.core.log)) (λ opening. IsFoundOn opening d.core tree (seen view store.disk)) d mid store now
+      → Serves view mid now → StartEffect view (λ opening. IsLeft tree (state_after opening d.core.log)) (λ opening. IsFoundOn opening d.core tree (seen view store.disk)) d mid store now
   begins d mid store now tree begun alive inner refused serves =
       record {
         stands = alive;
@@ -123,7 +123,7 @@ module _ {order : Order} {D : Type 0} (view : D → DiskView) where
       why (halts.Schedule place) is = is
       why halts.Memory is = tt
 
-  module _ (over found : List Op → Type 0) (d mid new : DeskView) (store one two : StoreState D) (goes : GoesOver order over [] d mid) (begun : Begins view over found d mid store one)
+  module _ (over found : List Op → Type 0) (d mid new : DeskView) (store one two : StoreState D) (goes : ExtendsRunOver order over [] d mid) (begun : StartEffect view over found d mid store one)
       (first : FuseStays view store.disk one.disk) (second : FuseStays view one.disk two.disk) where
     stays : FuseStays view store.disk two.disk
     stays = fuse_trans view store.disk one.disk two.disk first second
@@ -221,7 +221,7 @@ module _ {order : Order} {D : Type 0} (view : D → DiskView) where
       })
 
   -- memory ran out directly after a life began
-  pub begun_halts : (d mid : DeskView) (disk now : Fused D) (tree : Records) → GoesOver order (λ opening. IsLeft tree (state_after opening d.core.log)) [] d mid → IsBegun tree d mid → now.inner ≡ disk.inner → now.refused ≡ disk.refused
+  pub begun_halts : (d mid : DeskView) (disk now : Fused D) (tree : Records) → ExtendsRunOver order (λ opening. IsLeft tree (state_after opening d.core.log)) [] d mid → IsBegun tree d mid → now.inner ≡ disk.inner → now.refused ≡ disk.refused
       → HaltsOver order view (λ opening. IsLeft tree (state_after opening d.core.log)) (λ opening. IsFoundOn opening d.core tree (seen view disk)) d mid disk now halts.Memory
   begun_halts d mid disk now tree goes begun inner refused =
       record {

@@ -7,9 +7,9 @@ use Rattle.rm_types.specs.declared.entries.Entry.TheVariants.{Blown, Kept as Kep
 use Rattle.rm_types.specs.declared.operations.Op.{Op}
 use Rattle.rm_types.specs.declared.operations.Op.TheVariants as ops
 use Rattle.rm_types.specs.Records.{records, fits_records}
-use Rattle.rm_disk.specs.Disk.{DiskView, GoesOn}
+use Rattle.rm_disk.specs.Disk.{DiskView, IsLaterView}
 use Rattle.rm_disk.proofs.Views.{leaves_same, leaves_trans, leaves_of, told_after}
-use Rattle.rm_formats.specs.Device.{Holds}
+use Rattle.rm_formats.specs.Device.{DeviceHolds}
 use Rattle.rm_model.specs.State.{Manager, LifeState, opening_state}
 use Rattle.rm_model.specs.Changes.{after, after_where, life_keeps}
 use Rattle.rm_model.specs.Lawful.{state_after}
@@ -33,10 +33,10 @@ within_longer opening log longer more grows image h =
 -- WHAT THE BYTES HOLD
 
 -- in a state that isn't blown they hold just what is kept
-pub holds_just : (s : Manager) (image : List ℕ) → has_blown s ≡ false → HoldsIn s image → Holds image s.kept
+pub holds_just : (s : Manager) (image : List ℕ) → has_blown s ≡ false → HoldsIn s image → DeviceHolds image s.kept
 holds_just s image unblown h = subst (λ (b : Bool). HoldsBy b s image) unblown h
 
-pub just_holds : (s : Manager) (image : List ℕ) → has_blown s ≡ false → Holds image s.kept → HoldsIn s image
+pub just_holds : (s : Manager) (image : List ℕ) → has_blown s ≡ false → DeviceHolds image s.kept → HoldsIn s image
 just_holds s image unblown h = subst (λ (b : Bool). HoldsBy b s image) (sym unblown) h
 
 -- in one that is they may also hold the first operation that awaits
@@ -98,7 +98,7 @@ keeps_blown life (ops.AppEnd id how text) = refl
 keeps_blown life (ops.Remove id) = refl
 
 -- bytes that hold one operation more hold what they may once it is kept in a life that isn't blown
-holds_more : (s : Manager) (o : Option LifeState) (op : Op) → HasBlown false o → (image : List ℕ) → Holds image (s.kept ++ op ∷ []) → HoldsIn (after_where s o (KeptEntry op)) image
+holds_more : (s : Manager) (o : Option LifeState) (op : Op) → HasBlown false o → (image : List ℕ) → DeviceHolds image (s.kept ++ op ∷ []) → HoldsIn (after_where s o (KeptEntry op)) image
 holds_more s None op stands image h = absurd stands
 holds_more s (Some life) op stands image h = just_holds (after_where s (Some life) (KeptEntry op)) image (keeps_blown life op ∙ stands) h
 
@@ -150,7 +150,7 @@ holds_blown s (Some life) passed stands image h = kept_holds (after_where s (Som
 
 -- the store refused the operation that was next, and may have it all the same
 pub blown_stores : (opening : List Op) (seen next : Seen) (op : Op) (passed : ℕ) (old new : DiskView) → HasBlown false (state_after opening seen.log).life → IsToBeKept opening seen op
-    → next.log ≡ seen.log ++ Blown passed ∷ [] → GoesOn old new → ((bytes : List ℕ) → new.told ≡ Some bytes → new.images bytes)
+    → next.log ≡ seen.log ++ Blown passed ∷ [] → IsLaterView old new → ((bytes : List ℕ) → new.told ≡ Some bytes → new.images bytes)
     → ((ops : List Op) → Has old ops → fits_records (records ops) op ≡ true → LeavesOps old new ops op)
     → IsKeptOn opening seen.log old → KeepsOn opening seen.log next.log old new
 blown_stores opening seen next op passed old new stands to_keep added goes_on as_it_reads leaves has =
@@ -158,7 +158,7 @@ blown_stores opening seen next op passed old new stands to_keep added goes_on as
     let now : state_after opening next.log ≡ after s (Blown passed) = ap (λ (l : List Entry). state_after opening l) added ∙ fold_push after (opening_state opening) seen.log (Blown passed) in
     let moments = leaves s.kept (has_kept opening seen.log old (unblown_life s s.life refl stands) has) to_keep.fits in
     let told = told_after old new goes_on has.bytes has.told in
-    let either : (image : List ℕ) → Holds image s.kept ⊎ Holds image (s.kept ++ op ∷ []) → HoldsKept s image = λ image is. ⊎_elim (λ before. inl before) (λ after. inr (op, to_keep.first, after)) is in
+    let either : (image : List ℕ) → DeviceHolds image s.kept ⊎ DeviceHolds image (s.kept ++ op ∷ []) → HoldsKept s image = λ image is. ⊎_elim (λ before. inl before) (λ after. inr (op, to_keep.first, after)) is in
     let holds : (image : List ℕ) → new.images image → HoldsIn (state_after opening next.log) image =
     λ image is. subst (λ (m : Manager). HoldsIn m image) (sym now) (holds_blown s s.life passed stands image (either image (moments.now image is))) in
     record {

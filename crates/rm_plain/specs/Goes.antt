@@ -9,7 +9,7 @@ use Rattle.rm_model.specs.Lawful.{IsAtRest, state_after}
 use Rattle.rm_core.specs.Seen.{StandsFor}
 use Rattle.rm_core.specs.Words.{as_new}
 use Rattle.rm_desk.specs.View.{DeskView}
-use Rattle.rm_desk.specs.Runs.{IsRun as GoesAlong}
+use Rattle.rm_desk.specs.Runs.{IsScriptRun as GoesAlong}
 use Rattle.rm_plain.specs.Falls.{falls_of}
 use Rattle.rm_plain.specs.Order.{Order}
 
@@ -23,7 +23,7 @@ pub record IsRun (order : Order) (opening : List Op) (script : Script) (fallen :
 
 -- a part of a run, with these falls: whatever the run before it was, with it there is a longer one, over each opening list
 -- for which this holds
-pub record GoesOver (order : Order) (over : List Op → Type 0) (more : List Fallen) (old new : DeskView) : Type 0 where
+pub record ExtendsRunOver (order : Order) (over : List Op → Type 0) (more : List Fallen) (old new : DeskView) : Type 0 where
   pub settings : new.core.settings ≡ old.core.settings
   pub began : as_new new.core ≡ as_new old.core
   pub lives : length new.place.lives ≤ length old.place.lives
@@ -32,8 +32,8 @@ pub record GoesOver (order : Order) (over : List Op → Type 0) (more : List Fal
   pub run : (opening : List Op) (script : Script) (fallen : List Fallen) → over opening → IsRun order opening script fallen old → IsRun order opening script (fallen ++ more) new
 
 -- the same over each opening list
-abbrev pub Goes : Order → List Fallen → DeskView → DeskView → Type 0
-Goes order more old new = GoesOver order (λ opening. Unit {0}) more old new
+abbrev pub ExtendsRun : Order → List Fallen → DeskView → DeskView → Type 0
+ExtendsRun order more old new = ExtendsRunOver order (λ opening. Unit {0}) more old new
 
 -- the run is at its end: nothing is left of the script, and where a life stands nothing awaits and nothing is owed
 pub record IsOver (d : DeskView) : Type 0 where

@@ -7,19 +7,19 @@ use Rattle.rm_types.specs.declared.scripts.Close.TheVariants.{Crash}
 use Rattle.rm_types.specs.Counts.{Rose}
 use Rattle.rm_disk.specs.Disk.{DiskView, EachImage, Leaves}
 use Rattle.rm_disk.specs.Fuse.{Fused}
-use Rattle.rm_formats.specs.Device.{Holds}
+use Rattle.rm_formats.specs.Device.{DeviceHolds}
 use Rattle.rm_model.specs.Changes.{kept_after_landing}
 use Rattle.rm_model.specs.Lawful.{state_after}
 use Rattle.rm_model.specs.Place.{close_left}
 use Rattle.rm_model.specs.State.{LifeState, Manager}
-use Rattle.rm_plain.specs.Goes.{GoesOver}
+use Rattle.rm_plain.specs.Goes.{ExtendsRunOver}
 use Rattle.rm_plain.specs.Order.{Order, StopsHere}
 use Rattle.rm_plain.specs.Survives.{HoldsAfter, HoldsKept, HoldsWithin}
-use Rattle.rm_store.specs.Store.{StoreState, IsSound, seen, needed_for, room_behind}
+use Rattle.rm_store.specs.Store.{StoreState, StoreInvariant, seen, needed_for, room_behind}
 use Rattle.rm_types.specs.Records.{Records}
 use Rattle.rm_core.specs.Seen.{Seen, StandsFor}
 use Rattle.rm_core.specs.Words.{is_blown, landed_over}
-use Rattle.rm_desk.specs.Does.{IsHanded}
+use Rattle.rm_desk.specs.Effects.{IsHanded}
 use Rattle.rm_desk.specs.View.{DeskView}
 use Rattle.rm_plain.specs.declared.halts.Halt.{Halt}
 use Rattle.rm_plain.specs.declared.halts.Halt.TheVariants.{DiskFault, Full, Schedule, Memory}
@@ -35,7 +35,7 @@ has_blown s = blown_in s.life s.blew
 -- the bytes hold the operations that are kept in a state; once its life was blown, or the last one, they may also hold these and the first that
 -- awaits
 abbrev pub HoldsBy : Bool → Manager → List ℕ → Type 0
-HoldsBy false s bytes = Holds bytes s.kept
+HoldsBy false s bytes = DeviceHolds bytes s.kept
 HoldsBy true s bytes = HoldsKept s bytes
 
 abbrev pub HoldsIn : Manager → List ℕ → Type 0
@@ -52,8 +52,8 @@ pub record IsKeptOn (opening : List Op) (log : List Entry) (disk : DiskView) : T
 pub record IsFoundOn (opening : List Op) (core : Seen) (tree : Records) (disk : DiskView) : Type 0 where
   pub bytes : List ℕ
   pub told : disk.told ≡ Some bytes
-  pub holds : Holds bytes (kept_after_landing (state_after opening core.log) (landed_over core tree))
-  pub images : EachImage disk (λ image. Holds image (kept_after_landing (state_after opening core.log) (landed_over core tree)))
+  pub holds : DeviceHolds bytes (kept_after_landing (state_after opening core.log) (landed_over core tree))
+  pub images : EachImage disk (λ image. DeviceHolds image (kept_after_landing (state_after opening core.log) (landed_over core tree)))
 
 -- a disk that has what is kept after a log has what is kept after a longer one, and at each moment between a crash left
 -- what is kept after a part of it, or this and the operation that awaits there
@@ -89,7 +89,7 @@ armed_by _ = None
 -- the store serves the desk: nothing but the store changed its disk, the fuse is armed as the current segment says and blown where the life is,
 -- no append failed unless it is, no more calls passed than the fuse is armed with, and just as many where it is blown
 pub record Serves {D : Type 0} (view : D → DiskView) (d : DeskView) (store : StoreState D) : Type 0 where
-  pub sound : IsSound view store
+  pub sound : StoreInvariant view store
   pub unbroken : is_blown d.core ≡ false → store.is_broken ≡ false
   pub armed : store.disk.armed ≡ armed_by (close_left d.place.segments)
   pub blown : store.disk.blown ≡ is_blown d.core
@@ -138,7 +138,7 @@ IsHaltedBy order view over found old new disk now Memory = Unit {0}
 
 -- a part of a run halted: what was run, why, and what is left on the disk
 pub record HaltsOver (order : Order) {D : Type 0} (view : D → DiskView) (over found : List Op → Type 0) (old new : DeskView) (disk now : Fused D) (halt : Halt) : Type 0 where
-  pub goes : GoesOver order over [] old new
+  pub goes : ExtendsRunOver order over [] old new
   pub why : IsHaltedBy order view over found old new disk now halt
   pub left : LeftOver over found old new (seen view disk) (seen view now)
 

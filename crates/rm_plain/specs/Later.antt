@@ -5,28 +5,28 @@ use Rattle.rm_types.specs.declared.entries.Entry.{Entry}
 use Rattle.rm_types.specs.Counts.{Rose}
 use Rattle.rm_types.specs.Records.{Records, records}
 use Rattle.rm_disk.specs.declared.fallen.Fallen.{Fallen}
-use Rattle.rm_disk.specs.Disk.{DiskView, EachImage, IsQuiet, Leaves, Tells}
+use Rattle.rm_disk.specs.Disk.{DiskView, EachImage, IsQuiet, Leaves, IfTold}
 use Rattle.rm_disk.specs.Fuse.{Fused}
-use Rattle.rm_formats.specs.Device.{Holds}
+use Rattle.rm_formats.specs.Device.{DeviceHolds}
 use Rattle.rm_model.specs.Lawful.{state_after}
 use Rattle.rm_plain.specs.Survives.{HoldsWithin, SurvivesAll, SurvivesNow}
-use Rattle.rm_desk.specs.Does.{IsHanded}
-use Rattle.rm_store.specs.Store.{StoreState, IsSound, seen}
-use Rattle.rm_core.specs.Adds.{CanBeginOver, IsLeft}
+use Rattle.rm_desk.specs.Effects.{IsHanded}
+use Rattle.rm_store.specs.Store.{StoreState, StoreInvariant, seen}
+use Rattle.rm_core.specs.Moves.{CanBeginOver, IsLeft}
 use Rattle.rm_core.specs.Seen.{Seen, StandsFor}
 use Rattle.rm_core.specs.Words.{stands}
 use Rattle.rm_desk.specs.View.{DeskView}
 use Rattle.rm_plain.specs.declared.halts.Stop.{Stop}
 use Rattle.rm_plain.specs.declared.halts.Stop.TheVariants.{DiskFault, Damaged, Full, Schedule, EpochsSpent, Memory}
 use Rattle.rm_plain.specs.Order.{Order, StopsHere}
-use Rattle.rm_plain.specs.Goes.{GoesOver, IsOver}
+use Rattle.rm_plain.specs.Goes.{ExtendsRunOver, IsOver}
 use Rattle.rm_plain.specs.Keeping.{IsFoundOn, IsFull, IsKeptOn, LeftOver}
 use Rattle.rm_plain.specs.Starts.{DiskStays, IsAtEase, Lives}
 use Rattle.rm_plain.specs.Stops.{IsNoStore, IsSpent, IsStoppedBy, NoneLeft}
 
 -- a store that is ready for a life: whole, with its fuse unarmed, over a tree that a life can begin over
 pub record IsReady {D : Type 0} (view : D → DiskView) (disk : Fused D) (store : StoreState D) (tree : Records) : Type 0 where
-  pub sound : IsSound view store
+  pub sound : StoreInvariant view store
   pub unbroken : store.is_broken ≡ false
   pub unarmed : store.disk.armed ≡ None
   pub unblown : store.disk.blown ≡ false
@@ -38,7 +38,7 @@ pub record IsReady {D : Type 0} (view : D → DiskView) (disk : Fused D) (store 
 pub record IsFirst {D : Type 0} (view : D → DiskView) (disk : Fused D) (store : StoreState D) (tree : Records) (opening : List Op) : Type 0 where
   pub ready : IsReady view disk store tree
   pub amounts : tree ≡ records opening
-  pub kept : (bytes : List ℕ) → (seen view disk).told ≡ Some bytes → Holds bytes opening × EachImage (seen view store.disk) (λ image. Holds image opening)
+  pub kept : (bytes : List ℕ) → (seen view disk).told ≡ Some bytes → DeviceHolds bytes opening × EachImage (seen view store.disk) (λ image. DeviceHolds image opening)
   pub quiet : IsQuiet (seen view disk) (seen view store.disk)
 
 -- the store of a later life, over what the last one left
@@ -77,7 +77,7 @@ IsLaterStop order view opening old new disk now Memory = Unit {0}
 -- some lives were lived, and one stopped the run
 pub record StopsLater (order : Order) {D : Type 0} (view : D → DiskView) (old new : DeskView) (disk now : Fused D) (stop : Stop) : Type 0 where
   pub fallen : List Fallen
-  pub goes : GoesOver order (λ opening. Unit {0}) fallen old new
+  pub goes : ExtendsRunOver order (λ opening. Unit {0}) fallen old new
   pub falls : now.falls ≡ disk.falls ++ fallen
   pub stays : DiskStays view disk now
   pub at_ease : IsAtEase now
@@ -91,30 +91,30 @@ LaterTo order view old new disk now (Err stop) = StopsLater order view old new d
 
 -- what the disk held at first, holds now, and could be left of it between
 pub record HeldFirst {D : Type 0} (view : D → DiskView) (opening : List Op) (new : DeskView) (disk now : Fused D) (bytes : List ℕ) : Type 0 where
-  pub opened : Holds bytes opening
+  pub opened : DeviceHolds bytes opening
   pub kept : IsKeptOn opening new.core.log (seen view now)
   pub time : Leaves (seen view disk) (seen view now) (λ image. (seen view disk).images image ⊎ HoldsWithin opening new.core.log image)
 
 -- the first life was lived
 pub record FirstLived (order : Order) {D : Type 0} (view : D → DiskView) (opening : List Op) (old new : DeskView) (disk now : Fused D) : Type 0 where
   pub fallen : List Fallen
-  pub goes : GoesOver order (λ ops. ops ≡ opening) fallen old new
+  pub goes : ExtendsRunOver order (λ ops. ops ≡ opening) fallen old new
   pub falls : now.falls ≡ disk.falls ++ fallen
   pub at_ease : IsAtEase now
   pub stays : DiskStays view disk now
   pub ends : (stands new.core ≡ false) ⊎ IsOver new
   pub some : new.core.log ≢ []
-  pub opened : Tells (seen view disk) (λ bytes. Holds bytes opening)
+  pub opened : IfTold (seen view disk) (λ bytes. DeviceHolds bytes opening)
   pub kept : (bytes : List ℕ) → (seen view disk).told ≡ Some bytes → StandsFor opening old.core → HeldFirst view opening new disk now bytes
 
 -- the first life stopped the run; where nothing was logged, its disk was left alone
 pub record FirstStopped (order : Order) {D : Type 0} (view : D → DiskView) (opening : List Op) (old new : DeskView) (disk now : Fused D) (stop : Stop) : Type 0 where
-  pub goes : GoesOver order (λ ops. ops ≡ opening) [] old new
+  pub goes : ExtendsRunOver order (λ ops. ops ≡ opening) [] old new
   pub falls : now.falls ≡ disk.falls
   pub stays : DiskStays view disk now
   pub at_ease : IsAtEase now
-  pub held : new.core.log ≢ [] → Tells (seen view disk) (λ bytes. Holds bytes opening)
-  pub found : (opening ≡ []) ⊎ Tells (seen view disk) (λ bytes. Holds bytes opening)
+  pub held : new.core.log ≢ [] → IfTold (seen view disk) (λ bytes. DeviceHolds bytes opening)
+  pub found : (opening ≡ []) ⊎ IfTold (seen view disk) (λ bytes. DeviceHolds bytes opening)
   pub quiet : new.core.log ≡ [] → IsQuiet (seen view disk) (seen view now)
   pub left : StandsFor opening old.core → SurvivesAll opening new.core.log (seen view disk) (seen view now) × SurvivesNow opening new.core.log (seen view disk) (seen view now)
   pub why : StandsFor opening old.core → IsStoppedBy view (IsDueAt new) (StopsHere order new) disk now opening new.core.log stop
@@ -127,7 +127,7 @@ FirstTo order view opening old new disk now (Err stop) = FirstStopped order view
 -- why the first life had no store that it can begin over, and what its disk held, if it held a store
 abbrev pub IsUnfounded : {D : Type 0} → (D → DiskView) → List Op → Fused D → Fused D → Stop → Type 0
 IsUnfounded view opening disk now DiskFault = (opening ≡ []) × Rose (view disk.inner).faults (view now.inner).faults
-IsUnfounded view opening disk now (Damaged offset) = (opening ≡ []) × Tells (seen view disk) (IsNoStore offset)
+IsUnfounded view opening disk now (Damaged offset) = (opening ≡ []) × IfTold (seen view disk) (IsNoStore offset)
 IsUnfounded view opening disk now (Full needed room) = ⊥
 IsUnfounded view opening disk now (Schedule place) = ⊥
 IsUnfounded view opening disk now EpochsSpent = IsSpent (seen view disk) opening []

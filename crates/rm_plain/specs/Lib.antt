@@ -11,15 +11,15 @@ pub use Rattle.rm_model.specs.Owed
 pub use Rattle.rm_model.specs.Rules
 pub use Rattle.rm_model.specs.Place
 pub use Rattle.rm_model.specs.Lawful
-pub use Rattle.rm_core.specs.Keeps
-pub use Rattle.rm_core.specs.Adds
+pub use Rattle.rm_core.specs.Invariant
+pub use Rattle.rm_core.specs.Moves
 pub use Rattle.rm_core.specs.Seen
 pub use Rattle.rm_core.specs.Words
 pub use Rattle.rm_desk.specs.View
 pub use Rattle.rm_desk.specs.Scripts
 pub use Rattle.rm_desk.specs.Lanes as DeskLanes
 pub use Rattle.rm_desk.specs.Runs
-pub use Rattle.rm_desk.specs.Does
+pub use Rattle.rm_desk.specs.Effects
 pub mod Halted
 pub mod Policy
 pub mod Order

@@ -5,7 +5,7 @@ use Rattle.rm_types.specs.declared.messages.Lane.{Lane}
 use Rattle.rm_types.specs.declared.operations.Op.{Op}
 use Rattle.rm_types.specs.Lanes.{lane_of_entry}
 use Rattle.rm_disk.specs.Disk.{DiskView}
-use Rattle.rm_store.specs.Store.{StoreState, IsSound, seen}
+use Rattle.rm_store.specs.Store.{StoreState, StoreInvariant, seen}
 use Rattle.rm_core.specs.Words.{stands}
 use Rattle.rm_desk.specs.View.{DeskView}
 use Rattle.rm_plain.specs.declared.lives.LifeEnd.{LifeEnd}
@@ -14,7 +14,7 @@ use Rattle.rm_plain.specs.declared.lives.Moved.{Moved}
 use Rattle.rm_plain.specs.declared.lives.Moved.TheVariants as moved
 use Rattle.rm_desk.specs.Runs.{left}
 use Rattle.rm_plain.specs.Falls.{fall}
-use Rattle.rm_plain.specs.Goes.{Goes, IsOver}
+use Rattle.rm_plain.specs.Goes.{ExtendsRun, IsOver}
 use Rattle.rm_plain.specs.Order.{Order}
 use Rattle.rm_plain.specs.Keeping.{Serves, StoresOn}
 
@@ -24,12 +24,12 @@ AddsOneOf lane old new = (e : Entry) × (lane_of_entry e ≡ lane) × (new.core.
 
 -- the store after a part of a run has what is kept, and is whole
 pub record Stores {D : Type 0} (view : D → DiskView) (old new : DeskView) (store now : StoreState D) : Type 0 where
-  pub sound : IsSound view now
+  pub sound : StoreInvariant view now
   pub kept : (opening : List Op) → StoresOn opening old new (seen view store.disk) (seen view now.disk)
 
 -- the life goes on: a lane moved, and less is left
-pub record GoesOn (order : Order) {D : Type 0} (view : D → DiskView) (old new : DeskView) (store now : StoreState D) : Type 0 where
-  pub goes : Goes order [] old new
+pub record TakesStep (order : Order) {D : Type 0} (view : D → DiskView) (old new : DeskView) (store now : StoreState D) : Type 0 where
+  pub goes : ExtendsRun order [] old new
   pub less : left new < left old
   pub stands : stands new.core ≡ true
   pub serves : Serves view new now
@@ -37,7 +37,7 @@ pub record GoesOn (order : Order) {D : Type 0} (view : D → DiskView) (old new 
 
 -- the run is at its end: no lane can move
 pub record ComesToRest (order : Order) {D : Type 0} (view : D → DiskView) (old new : DeskView) (store now : StoreState D) : Type 0 where
-  pub goes : Goes order [] old new
+  pub goes : ExtendsRun order [] old new
   pub over : IsOver new
   pub used_up : order.ends new.core.log
   pub unarmed : now.disk.armed ≡ None
@@ -53,13 +53,13 @@ pub record WentDown (order : Order) {D : Type 0} (view : D → DiskView) (old ne
   pub blown : now.disk.blown ≡ blew
   pub within : now.disk.passed ≤ calls
   pub spent : blew ≡ true → now.disk.passed ≡ calls
-  pub goes : Goes order (fall calls image blew ∷ []) old new
+  pub goes : ExtendsRun order (fall calls image blew ∷ []) old new
   pub down : stands new.core ≡ false
   pub stores : Stores view old new store now
 
 -- what a move does
 abbrev pub MovesTo : Order → {D : Type 0} → (D → DiskView) → DeskView → DeskView → StoreState D → StoreState D → Moved → Type 0
-MovesTo order view old new store now moved.On = GoesOn order view old new store now
+MovesTo order view old new store now moved.On = TakesStep order view old new store now
 MovesTo order view old new store now moved.Rest = ComesToRest order view old new store now
 MovesTo order view old new store now (moved.Down image) = WentDown order view old new store now image
 

@@ -3,7 +3,7 @@ use Rattle.std.specs.Prelude.{◌≡◌, ℕ, List, [], Some, IfErr, Result}
 use Rattle.rm_types.specs.declared.entries.Entry.{Entry}
 use Rattle.rm_types.specs.declared.operations.Op.{Op}
 use Rattle.rm_disk.specs.Disk.{DiskView}
-use Rattle.rm_formats.specs.Device.{Holds}
+use Rattle.rm_formats.specs.Device.{DeviceHolds}
 use Rattle.rm_store.specs.Causes.{IsWhy}
 use Rattle.rm_store.specs.Errors.{IsOpenError}
 use Rattle.rm_store.specs.declared.fault.StoreError.{StoreError}
@@ -32,4 +32,4 @@ IsOfStart _ = ⊥
 
 -- over a device that holds a store, a start that logs nothing fails only so
 abbrev pub StartsOver : DiskView → List Entry → Result (Unit {0}) Stop → Type 0
-StartsOver disk log ended = (bytes : List ℕ) (ops : List Op) → disk.told ≡ Some bytes → Holds bytes ops → log ≡ [] → IfErr ended IsOfStart
+StartsOver disk log ended = (bytes : List ℕ) (ops : List Op) → disk.told ≡ Some bytes → DeviceHolds bytes ops → log ≡ [] → IfErr ended IsOfStart

@@ -9,7 +9,7 @@ use Rattle.rm_types.specs.Lanes.{lane_of_entry}
 use Rattle.rm_core.specs.Seen.{Seen}
 use Rattle.rm_core.specs.Words.{as_new, is_blown}
 use Rattle.rm_desk.specs.Lanes.{HasNoWork, is_ready_at}
-use Rattle.rm_desk.specs.Runs.{IsRun as GoesAlong}
+use Rattle.rm_desk.specs.Runs.{IsScriptRun as GoesAlong}
 use Rattle.rm_desk.specs.View.{DeskView}
 use Rattle.rm_plain.specs.declared.halts.Halt.{Halt}
 use Rattle.rm_plain.specs.declared.halts.Halt.TheVariants.{Schedule}

@@ -4,10 +4,10 @@ use Rattle.rm_types.specs.declared.operations.Op.{Op}
 use Rattle.rm_types.specs.Counts.{Rose}
 use Rattle.rm_types.specs.Records.{Records}
 use Rattle.rm_disk.specs.declared.fallen.Fallen.{Fallen}
-use Rattle.rm_disk.specs.Disk.{DiskView, EachImage, Falls, IsQuiet, Tells}
+use Rattle.rm_disk.specs.Disk.{DiskView, EachImage, Falls, IsQuiet, IfTold}
 use Rattle.rm_disk.specs.Fuse.{Fused, FallsThrough}
-use Rattle.rm_formats.specs.Device.{Holds}
-use Rattle.rm_store.specs.Store.{StoreState, AreRead, IsSound, seen}
+use Rattle.rm_formats.specs.Device.{DeviceHolds}
+use Rattle.rm_store.specs.Store.{StoreState, AreRead, StoreInvariant, seen}
 use Rattle.rm_core.specs.Seen.{StandsFor}
 use Rattle.rm_core.specs.Words.{stands}
 use Rattle.rm_desk.specs.View.{DeskView}
@@ -16,7 +16,7 @@ use Rattle.rm_plain.specs.declared.halts.Halt.TheVariants as halts
 use Rattle.rm_plain.specs.declared.halts.Stop.{Stop}
 use Rattle.rm_plain.specs.declared.halts.Stop.TheVariants.{DiskFault, Damaged, EpochsSpent, Memory}
 use Rattle.rm_plain.specs.Order.{Order}
-use Rattle.rm_plain.specs.Goes.{GoesOver, IsOver}
+use Rattle.rm_plain.specs.Goes.{ExtendsRunOver, IsOver}
 use Rattle.rm_plain.specs.Halted.{stop_of}
 use Rattle.rm_plain.specs.Keeping.{HaltsOver, KeepsOn, Serves}
 use Rattle.rm_plain.specs.declared.lives.LifeEnd.{LifeEnd}
@@ -36,7 +36,7 @@ pub record IsAtEase {D : Type 0} (fuse : Fused D) : Type 0 where
 
 -- a store was opened on a disk, quietly: the disk holds these operations, and so does each image of what it became
 pub record IsOpened {D : Type 0} (view : D → DiskView) (old : Fused D) (store : StoreState D) (tree : Records) (ops : List Op) : Type 0 where
-  pub sound : IsSound view store
+  pub sound : StoreInvariant view store
   pub unbroken : store.is_broken ≡ false
   pub unarmed : store.disk.armed ≡ None
   pub unblown : store.disk.blown ≡ false
@@ -44,13 +44,13 @@ pub record IsOpened {D : Type 0} (view : D → DiskView) (old : Fused D) (store 
   pub disk : DiskStays view old store.disk
   pub read : AreRead tree ops
   pub quiet : IsQuiet (seen view old) (seen view store.disk)
-  pub holds : Tells (seen view old) (λ bytes. Holds bytes ops)
-  pub images : Tells (seen view old) (λ bytes. EachImage (seen view store.disk) (λ image. Holds image ops))
+  pub holds : IfTold (seen view old) (λ bytes. DeviceHolds bytes ops)
+  pub images : IfTold (seen view old) (λ bytes. EachImage (seen view store.disk) (λ image. DeviceHolds image ops))
 
 -- why a store was not opened: the disk inside the fuse failed, it holds no store, or memory ran out
 abbrev pub IsUnopenedBy : {D : Type 0} → (D → DiskView) → Fused D → Fused D → Stop → Type 0
 IsUnopenedBy view old new DiskFault = Rose (view old.inner).faults (view new.inner).faults
-IsUnopenedBy view old new (Damaged offset) = Tells (seen view old) (IsNoStore offset)
+IsUnopenedBy view old new (Damaged offset) = IfTold (seen view old) (IsNoStore offset)
 IsUnopenedBy view old new Memory = Unit {0}
 IsUnopenedBy view old new _ = ⊥
 
@@ -74,7 +74,7 @@ KeepsOver over found old new before now =
 -- lives were lived to their ends: the device fell so often, and the last life went down, or the run is over
 pub record Lives (order : Order) {D : Type 0} (view : D → DiskView) (over found : List Op → Type 0) (old new : DeskView) (disk now : Fused D) : Type 0 where
   pub fallen : List Fallen
-  pub goes : GoesOver order over fallen old new
+  pub goes : ExtendsRunOver order over fallen old new
   pub falls : now.falls ≡ disk.falls ++ fallen
   pub at_ease : IsAtEase now
   pub disk_stays : DiskStays view disk now
@@ -99,7 +99,7 @@ LivesTo order view over found old new disk now (Ok _) = Lives order view over fo
 LivesTo order view over found old new disk now (Err stop) = Halts order view over found old new disk now stop
 
 -- a life begins, and its store serves it
-pub record Begins {D : Type 0} (view : D → DiskView) (over found : List Op → Type 0) (old new : DeskView) (store now : StoreState D) : Type 0 where
+pub record StartEffect {D : Type 0} (view : D → DiskView) (over found : List Op → Type 0) (old new : DeskView) (store now : StoreState D) : Type 0 where
   pub stands : stands new.core ≡ true
   pub some : new.core.log ≢ []
   pub serves : Serves view new now

@@ -5,14 +5,14 @@ use Rattle.rm_types.specs.declared.operations.Op.{Op}
 use Rattle.rm_types.specs.Counts.{Rose}
 use Rattle.rm_types.specs.Records.{Records}
 use Rattle.rm_types.specs.declared.scripts.Script.{Script}
-use Rattle.rm_disk.specs.Disk.{DiskView, Tells}
+use Rattle.rm_disk.specs.Disk.{DiskView, IfTold}
 use Rattle.rm_disk.specs.Fuse.{Fused}
-use Rattle.rm_formats.specs.Device.{Holds}
+use Rattle.rm_formats.specs.Device.{DeviceHolds}
 use Rattle.rm_model.specs.Lawful.{place_after, state_after}
 use Rattle.rm_store.specs.Causes.{IsWhy}
 use Rattle.rm_store.specs.declared.fault.StoreError.TheVariants as store
-use Rattle.rm_core.specs.Adds.{IsLeft}
-use Rattle.rm_desk.specs.Does.{IsHanded}
+use Rattle.rm_core.specs.Moves.{IsLeft}
+use Rattle.rm_desk.specs.Effects.{IsHanded}
 use Rattle.rm_store.specs.Store.{seen}
 use Rattle.rm_plain.specs.Keeping.{IsFull}
 use Rattle.rm_plain.specs.declared.halts.Stop.{Stop}
@@ -24,7 +24,7 @@ IsNoStore offset bytes = IsWhy bytes (store.Damaged offset) ⊎ ((number : ℕ) 
 
 -- a start found no store, on a disk that tells its bytes: that was before the first life, and no opening list was read
 abbrev pub IsDamaged : DiskView → List Op → List Entry → ℕ → Type 0
-IsDamaged disk opening log offset = Tells disk (λ bytes. (log ≡ []) × (opening ≡ []) × IsNoStore offset bytes)
+IsDamaged disk opening log offset = IfTold disk (λ bytes. (log ≡ []) × (opening ≡ []) × IsNoStore offset bytes)
 
 -- no epoch or no stamp is left for one more life over what the last one left
 abbrev pub NoneLeft : List Op → List Entry → Type 0
@@ -32,7 +32,7 @@ NoneLeft opening log = (tree : Records) × IsLeft tree (state_after opening log)
 
 -- the disk held the opening list, and no epoch or no stamp is left for one more life
 abbrev pub IsSpent : DiskView → List Op → List Entry → Type 0
-IsSpent disk opening log = Tells disk (λ bytes. Holds bytes opening) × NoneLeft opening log
+IsSpent disk opening log = IfTold disk (λ bytes. DeviceHolds bytes opening) × NoneLeft opening log
 
 -- the disk tells its bytes
 abbrev pub IsTold : DiskView → Type 0

@@ -2,9 +2,9 @@
 use Rattle.std.specs.Prelude.{◌≡◌, ◌≢◌, ◌⊎◌, List, [], ◌++◌, None, false, Result, IsOk, OnOk, IfErr}
 use Rattle.rm_types.specs.declared.operations.Op.{Op}
 use Rattle.rm_disk.specs.declared.fallen.Fallen.{Fallen}
-use Rattle.rm_disk.specs.Disk.{DiskView, IsQuiet, Tells}
+use Rattle.rm_disk.specs.Disk.{DiskView, IsQuiet, IfTold}
 use Rattle.rm_disk.specs.Fuse.{Fused}
-use Rattle.rm_formats.specs.Device.{Holds}
+use Rattle.rm_formats.specs.Device.{DeviceHolds}
 use Rattle.rm_plain.specs.Later.{IsDueAt}
 use Rattle.rm_plain.specs.Survives.{SurvivesAll, SurvivesNow}
 use Rattle.rm_store.specs.Store.{seen}
@@ -13,7 +13,7 @@ use Rattle.rm_core.specs.Words.{stands}
 use Rattle.rm_desk.specs.View.{DeskView}
 use Rattle.rm_plain.specs.declared.halts.Stop.{Stop}
 use Rattle.rm_plain.specs.Order.{Order, StopsHere}
-use Rattle.rm_plain.specs.Goes.{GoesOver, IsOver}
+use Rattle.rm_plain.specs.Goes.{ExtendsRunOver, IsOver}
 use Rattle.rm_plain.specs.Starts.{DiskStays}
 use Rattle.rm_plain.specs.Stops.{IsStoppedBy}
 
@@ -26,13 +26,13 @@ pub record Ends (d : DeskView) : Type 0 where
 -- there was no life
 pub record AllLived (order : Order) {D : Type 0} (view : D → DiskView) (opening : List Op) (old new : DeskView) (disk now : Fused D) (ended : Result (Unit {0}) Stop) : Type 0 where
   pub fallen : List Fallen
-  pub goes : GoesOver order (λ ops. ops ≡ opening) fallen old new
+  pub goes : ExtendsRunOver order (λ ops. ops ≡ opening) fallen old new
   pub falls : now.falls ≡ disk.falls ++ fallen
   pub stays : DiskStays view disk now
   pub unarmed : now.armed ≡ None
   pub unblown : disk.blown ≡ false → now.blown ≡ false
-  pub opened : new.core.log ≢ [] → Tells (seen view disk) (λ bytes. Holds bytes opening)
-  pub found : (opening ≡ []) ⊎ Tells (seen view disk) (λ bytes. Holds bytes opening)
+  pub opened : new.core.log ≢ [] → IfTold (seen view disk) (λ bytes. DeviceHolds bytes opening)
+  pub found : (opening ≡ []) ⊎ IfTold (seen view disk) (λ bytes. DeviceHolds bytes opening)
   pub ends : OnOk ended (Ends new)
   pub used_up : OnOk ended (order.ends new.core.log)
   pub quiet : new.core.log ≡ [] → IsQuiet (seen view disk) (seen view now)

@@ -1,14 +1,14 @@
 ghost use Rattle.std.specs.Prelude.{◌≡◌, ◌≢◌, ◌<◌, [], OnOk, OnErr, IfOk, IfErr, None, Some, true, false};
-ghost use Rattle.rm_store.specs.Store.{IsSound as IsStoreSound, seen};
+ghost use Rattle.rm_store.specs.Store.{StoreInvariant as IsStoreSound, seen};
 ghost use Rattle.rm_model.specs.Place.{close_left};
 ghost use Rattle.rm_core.specs.Words.{stands};
 ghost use Rattle.rm_desk.specs.Lanes.{IsStep, is_ready_at};
-ghost use Rattle.rm_plain.specs.Goes.{Goes};
+ghost use Rattle.rm_plain.specs.Goes.{ExtendsRun};
 ghost use Rattle.rm_plain.specs.Keeping.{FuseStays, HaltsBy, Serves};
 ghost use Rattle.rm_types.specs.declared.messages.Lane.{Lane};
 ghost use Rattle.rm_types.specs.declared.scripts.Close.{Close};
 ghost use Rattle.rm_plain.specs.declared.halts.Halt.{Halt};
-ghost use Rattle.rm_plain.specs.Lives.{AddsOneOf, EndsBy, GoesOn, MovesTo};
+ghost use Rattle.rm_plain.specs.Lives.{AddsOneOf, EndsBy, TakesStep, MovesTo};
 ghost use Rattle.rm_plain.specs.Order.{May};
 ghost use Rattle.rm_plain.specs.Schedule.{IsAt, order_of};
 
@@ -51,7 +51,7 @@ fn settle_on<D: Disk>(
     requires chosen { May (order_of schedule.now) Lane.End d.old }
     requires settles { close_left d.old.place.segments ≡ Some Close.Settle }
     requires serves { Serves D.view d.old store.old }
-    ensures on { OnOk result (GoesOn (order_of schedule.now) D.view d.old d.new store.old store.new) }
+    ensures on { OnOk result (TakesStep (order_of schedule.now) D.view d.old d.new store.old store.new) }
     ensures fuse { FuseStays D.view store.old.disk store.new.disk }
     ensures one { OnOk result (AddsOneOf Lane.End d.old d.new) }
     ensures halts { IfErr result (HaltsBy (order_of schedule.now) D.view d.old d.new store.old.disk store.new.disk) }
@@ -75,7 +75,7 @@ fn work_on<D: Disk>(
     requires step { IsStep lane }
     requires goes { lane ≢ Lane.End }
     requires serves { Serves D.view d.old store.now }
-    ensures on { OnOk result (GoesOn (order_of schedule.now) D.view d.old d.new store.now store.now) }
+    ensures on { OnOk result (TakesStep (order_of schedule.now) D.view d.old d.new store.now store.now) }
     ensures one { OnOk result (AddsOneOf lane d.old d.new) }
     ensures halts { IfErr result (HaltsBy (order_of schedule.now) D.view d.old d.new store.now.disk store.now.disk) }
 {

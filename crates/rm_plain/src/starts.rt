@@ -1,26 +1,26 @@
 ghost use Rattle.std.specs.Prelude.{◌≡◌, ◌≢◌, ◌⊎◌, ◌<◌, ◌-◌, ◌^◌, ◌↔◌, List, [], length, IfOk, IfErr, OnOk, OnErr, IsTrue, None, Some, true, false};
-ghost use Rattle.rm_disk.specs.Disk.{Tells};
+ghost use Rattle.rm_disk.specs.Disk.{IfTold};
 ghost use Rattle.rm_disk.specs.Fuse.{Fused};
-ghost use Rattle.rm_formats.specs.Device.{Holds};
+ghost use Rattle.rm_formats.specs.Device.{DeviceHolds};
 ghost use Rattle.rm_store.specs.Errors.{IsOpenError};
-ghost use Rattle.rm_store.specs.Store.{IsSound as IsStoreSound, seen};
-ghost use Rattle.rm_core.specs.Adds.{CanBeginOver, IsLeft};
+ghost use Rattle.rm_store.specs.Store.{StoreInvariant as IsStoreSound, seen};
+ghost use Rattle.rm_core.specs.Moves.{CanBeginOver, IsLeft};
 ghost use Rattle.rm_model.specs.Lawful.{state_after};
 ghost use Rattle.rm_core.specs.Words.{stands};
 ghost use Rattle.rm_types.specs.declared.messages.Lane.{Lane};
 ghost use Rattle.rm_types.specs.declared.operations.Op.{Op as AnyOp};
 ghost use Rattle.rm_core.specs.Seen.{StandsFor};
-ghost use Rattle.rm_desk.specs.Does.{Begins as TakesUp};
+ghost use Rattle.rm_desk.specs.Effects.{LifeBegins as TakesUp};
 ghost use Rattle.rm_types.specs.Records.{stray};
 ghost use Rattle.rm_plain.specs.Later.{IsAgain, IsFirst, IsUnfounded, IsUnready};
 ghost use Rattle.rm_plain.specs.declared.halts.Halt.{Halt};
-ghost use Rattle.rm_plain.specs.Goes.{GoesOver};
+ghost use Rattle.rm_plain.specs.Goes.{ExtendsRunOver};
 ghost use Rattle.rm_plain.specs.Halted.{stop_at_open};
 ghost use Rattle.rm_plain.specs.Keeping.{FuseStays, HaltsOver, IsFoundOn};
 ghost use Rattle.rm_plain.specs.Lives.{AddsOneOf};
 ghost use Rattle.rm_plain.specs.Order.{May};
 ghost use Rattle.rm_plain.specs.Schedule.{IsAt, chosen, left_of, order_of};
-ghost use Rattle.rm_plain.specs.Starts.{Begins, FallsBy, IsGivenBack, IsOpened, IsRefusedBy, IsUnopenedBy, Leaves, LivesTo};
+ghost use Rattle.rm_plain.specs.Starts.{StartEffect, FallsBy, IsGivenBack, IsOpened, IsRefusedBy, IsUnopenedBy, Leaves, LivesTo};
 
 use crate::halts::{Halt, Stop};
 use crate::lives::{LifeEnd, run_life};
@@ -114,8 +114,8 @@ pub fn begin_life<D: Disk, O: Ordered>(
     requires unarmed { store.old.disk.armed ≡ None }
     requires unblown { store.old.disk.blown ≡ false }
     ensures one { OnOk result (AddsOneOf Lane.Begin d.old d.new) }
-    ensures goes { GoesOver (O.order by.now) (λ opening. IsLeft tree (state_after opening d.old.core.log)) [] d.old d.new }
-    ensures begun { OnOk result (Begins D.view (λ opening. IsLeft tree (state_after opening d.old.core.log)) (λ opening. IsFoundOn opening d.old.core tree (seen D.view store.old.disk)) d.old d.new store.old store.new) }
+    ensures goes { ExtendsRunOver (O.order by.now) (λ opening. IsLeft tree (state_after opening d.old.core.log)) [] d.old d.new }
+    ensures begun { OnOk result (StartEffect D.view (λ opening. IsLeft tree (state_after opening d.old.core.log)) (λ opening. IsFoundOn opening d.old.core tree (seen D.view store.old.disk)) d.old d.new store.old store.new) }
     ensures fuse { FuseStays D.view store.old.disk store.new.disk }
     ensures fewer { OnOk result (length d.new.place.lives < length d.old.place.lives) }
     ensures inner { store.new.disk.inner ≡ store.old.disk.inner }
@@ -212,7 +212,7 @@ pub fn open_first<D: Disk>(
     ensures why { IfErr result (λ none. IsUnfounded D.view none.opening disk none.disk none.why) }
     ensures read_back { IfOk result (λ first. stray first.2 ≡ None) }
     ensures read_back_yet { IfErr result (λ none. stray none.opening ≡ None) }
-    ensures found { IfErr result (λ none. (none.opening ≡ []) ⊎ Tells (seen D.view disk) (λ bytes. Holds bytes none.opening)) }
+    ensures found { IfErr result (λ none. (none.opening ≡ []) ⊎ IfTold (seen D.view disk) (λ bytes. DeviceHolds bytes none.opening)) }
     ensures given_back { IfErr result (λ none. IsGivenBack D.view disk none.disk) }
 {
     let (store, tree, opening) = match open(alloc, disk) {

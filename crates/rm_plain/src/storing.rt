@@ -1,11 +1,11 @@
 ghost use Rattle.std.specs.Prelude.{◌≡◌, ◌<◌, List, [], OnOk, OnErr, IfErr, None, Some, true, false};
 ghost use Rattle.rm_types.specs.declared.messages.Lane.{Lane};
 ghost use Rattle.rm_types.specs.declared.operations.Op.{Op as AnyOp};
-ghost use Rattle.rm_store.specs.Store.{IsSound as IsStoreSound, seen};
+ghost use Rattle.rm_store.specs.Store.{StoreInvariant as IsStoreSound, seen};
 ghost use Rattle.rm_core.specs.Words.{is_blown, stands};
 ghost use Rattle.rm_desk.specs.Lanes.{is_ready_at};
 ghost use Rattle.rm_desk.specs.Runs.{left};
-ghost use Rattle.rm_plain.specs.Goes.{Goes};
+ghost use Rattle.rm_plain.specs.Goes.{ExtendsRun};
 ghost use Rattle.rm_plain.specs.Halted.{halt_of};
 ghost use Rattle.rm_plain.specs.Keeping.{FuseStays, HaltsBy, Serves, StoresOn};
 ghost use Rattle.rm_plain.specs.Lives.{AddsOneOf};
@@ -40,7 +40,7 @@ pub(crate) fn keep<D: Disk>(
     requires ready { is_ready_at d.old Lane.Write ≡ true }
     requires chosen { May (order_of schedule.now) Lane.Write d.old }
     requires serves { Serves D.view d.old store.old }
-    ensures goes { Goes (order_of schedule.now) [] d.old d.new }
+    ensures goes { ExtendsRun (order_of schedule.now) [] d.old d.new }
     ensures less { OnOk result (left d.new < left d.old) }
     ensures stands { OnOk result (stands d.new.core ≡ true) }
     ensures serves { OnOk result (Serves D.view d.new store.new) }

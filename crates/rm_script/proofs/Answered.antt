@@ -9,7 +9,7 @@ use Rattle.rm_script.specs.declared.errors.ScriptError.TheVariants.{Refused, Mem
 use Rattle.rm_script.specs.Lines.{lines_of}
 use Rattle.rm_script.specs.Scripts.{Spell, IsScript}
 use Rattle.rm_script.specs.Refusals.{Stand, StopAfter, StopAtEnd, IsFirstRefused}
-use Rattle.rm_script.specs.Reading.{script_of_draft, FailsAfter, FailsAtEnd, Tells}
+use Rattle.rm_script.specs.Reading.{script_of_draft, FailsAfter, FailsAtEnd, AnswersReading}
 use Rattle.rm_script.proofs.Standing.{reads_stand, read_is_script, stand_reads, script_is_read, one_draft, stand_fewer, script_stands}
 
 -- ---- what the code tells
@@ -36,11 +36,11 @@ first_refused : (bytes : List ℕ) (line : ℕ) → ((count : ℕ) × (line ≡ 
 first_refused bytes line (inl w) = inl (w.0, w.1, stops_after w.0 bytes w.2)
 first_refused bytes line (inr w) = inr (w.0, stops_at_end bytes w.1)
 
-pub is_read : (result : Result Script ScriptError) (bytes : List ℕ) → Tells bytes result → IfOk result (λ script. IsScript bytes script)
+pub is_read : (result : Result Script ScriptError) (bytes : List ℕ) → AnswersReading bytes result → IfOk result (λ script. IsScript bytes script)
 is_read (Ok script) bytes tells = read_is_script bytes script tells
 is_read (Err error) bytes tells = tt
 
-pub is_refused : (result : Result Script ScriptError) (bytes : List ℕ) → Tells bytes result → (line : ℕ) → result ≡ Err (Refused line) → IsFirstRefused bytes line
+pub is_refused : (result : Result Script ScriptError) (bytes : List ℕ) → AnswersReading bytes result → (line : ℕ) → result ≡ Err (Refused line) → IsFirstRefused bytes line
 is_refused (Ok script) bytes tells line e = absurd cc
 is_refused (Err Memory) bytes tells line e = absurd cc
 is_refused (Err (Refused told)) bytes tells line e =
@@ -85,12 +85,12 @@ one_line bytes one other (inr w) (inr v) = w.0 ∙ sym v.0
 
 -- ---- so nothing else is told
 
-pub script_told : (result : Result Script ScriptError) (bytes : List ℕ) → Tells bytes result → (script : Script) → IsScript bytes script → (result ≡ Ok script) ⊎ (result ≡ Err Memory)
+pub script_told : (result : Result Script ScriptError) (bytes : List ℕ) → AnswersReading bytes result → (script : Script) → IsScript bytes script → (result ≡ Ok script) ⊎ (result ≡ Err Memory)
 script_told (Ok told) bytes tells script is = inl (ap Ok (one_script bytes told script (read_is_script bytes told tells) is))
 script_told (Err Memory) bytes tells script is = inr refl
 script_told (Err (Refused line)) bytes tells script is = absurd (not_both bytes script line is (first_refused bytes line tells))
 
-pub line_told : (result : Result Script ScriptError) (bytes : List ℕ) → Tells bytes result → (line : ℕ) → IsFirstRefused bytes line → (result ≡ Err (Refused line)) ⊎ (result ≡ Err Memory)
+pub line_told : (result : Result Script ScriptError) (bytes : List ℕ) → AnswersReading bytes result → (line : ℕ) → IsFirstRefused bytes line → (result ≡ Err (Refused line)) ⊎ (result ≡ Err Memory)
 line_told (Ok told) bytes tells line is = absurd (not_both bytes told line (read_is_script bytes told tells) is)
 line_told (Err Memory) bytes tells line is = inr refl
 line_told (Err (Refused told)) bytes tells line is = inl (ap (λ (n : ℕ). Err (Refused n)) (one_line bytes told line (first_refused bytes told tells) is))

@@ -17,7 +17,7 @@ use Rattle.rm_types.specs.Limits.{most_lines}
 use Rattle.rm_script.specs.Limits.{most_bytes}
 use Rattle.rm_script.specs.Lines.{lines_of, ended, size_of_first, is_skipped, kept_lines, IsLineText}
 use Rattle.rm_script.specs.Results.{◌>>=◌, Fails, FindsNone, at_line}
-use Rattle.rm_script.specs.Reading.{line_text, with_line, with_lines, no_lines, script_of_draft, IsLine, IsTextOf, Takes, Reads, Tells}
+use Rattle.rm_script.specs.Reading.{line_text, with_line, with_lines, no_lines, script_of_draft, IsLine, IsTextOf, Takes, ReadsLines, AnswersReading}
 use Rattle.rm_script.proofs.Parts.{heads}
 use Rattle.rm_script.proofs.Labels.{bound}
 use Rattle.rm_script.proofs.OneLine.{is_told, text_said, none_said, says}
@@ -34,7 +34,7 @@ recursion_front P (one ∷ xs) x h = (h.0, recursion_front P xs x h.1)
 
 -- so many lines were read as the draft, and the rest is left
 pub record IsAt (count : ℕ) (bytes rest : List ℕ) (draft : Draft) : Type 0 where
-  pub reads : Reads count bytes draft
+  pub reads : ReadsLines count bytes draft
   pub within : count ≤ length (lines_of bytes)
   pub left : lines_of rest ≡ drop count (lines_of bytes)
   pub size : size_of_first count bytes + length rest ≡ length bytes
@@ -124,7 +124,7 @@ goes_on count bytes rest draft next text after is line few size takes = record {
     each : All IsLineText (take (count + 1) (lines_of bytes))
     each = subst (All IsLineText) (sym line.taken) (All-push IsLineText (take count (lines_of bytes)) text is.reads.each takes.is.fine)
 
-    by : (b : Bool) → is_skipped text ≡ b → Reads (count + 1) bytes next
+    by : (b : Bool) → is_skipped text ≡ b → ReadsLines (count + 1) bytes next
     by true e =
         let none : takes.line ≡ Skipped = none_said text takes.line e takes.is.says in
         let same : draft ≡ next = same_Some draft next (sym (ap (with_line draft) none) ∙ takes.next_is) in
@@ -150,17 +150,17 @@ goes_on count bytes rest draft next text after is line few size takes = record {
         }
 
 fails_after : (count : ℕ) (bytes rest : List ℕ) (draft : Draft) (text after : List ℕ) → IsAt count bytes rest draft → IsNext count bytes text after
-    → ((next : Draft) → Reads (count + 1) bytes next → ⊥) → Tells bytes (Err (scripts.Refused (count + 1)))
+    → ((next : Draft) → ReadsLines (count + 1) bytes next → ⊥) → AnswersReading bytes (Err (scripts.Refused (count + 1)))
 fails_after count bytes rest draft text after is line fails = inl (count, refl, record { there = line.there; draft = draft; before = is.reads; fails = fails })
 
 -- a line too many
 pub too_many : (count : ℕ) (bytes rest : List ℕ) (draft : Draft) (text after : List ℕ) → IsAt count bytes rest draft → IsNext count bytes text after → most_lines < count + 1
-    → Tells bytes (Err (scripts.Refused (count + 1)))
+    → AnswersReading bytes (Err (scripts.Refused (count + 1)))
 too_many count bytes rest draft text after is line h = fails_after count bytes rest draft text after is line (λ next reads. absurd (omega (arith, reads.few)))
 
 -- a line too far
 pub too_far : (count : ℕ) (bytes rest : List ℕ) (draft : Draft) (text after : List ℕ) → IsAt count bytes rest draft → IsNext count bytes text after → most_bytes + length after < length bytes
-    → Tells bytes (Err (scripts.Refused (count + 1)))
+    → AnswersReading bytes (Err (scripts.Refused (count + 1)))
 too_far count bytes rest draft text after is line h = fails_after count bytes rest draft text after is line (λ next reads. absurd (omega (arith, reads.size, line.size)))
 
 -- the texts of lines that end with one are those of the lines before the last, and the last has that text
@@ -188,7 +188,7 @@ end_with (one ∷ front) text (line ∷ lines) e =
     }
 
 -- what the lines so far and the next one read as, the next line gives
-took : (count : ℕ) (bytes rest : List ℕ) (draft next : Draft) (text after : List ℕ) → IsAt count bytes rest draft → IsNext count bytes text after → Reads (count + 1) bytes next → (last : Draft) × Takes draft text last
+took : (count : ℕ) (bytes rest : List ℕ) (draft next : Draft) (text after : List ℕ) → IsAt count bytes rest draft → IsNext count bytes text after → ReadsLines (count + 1) bytes next → (last : Draft) × Takes draft text last
 took count bytes rest draft next text after is line reads = by (is_skipped text) refl
   where
     fine : IsLineText text
@@ -219,7 +219,7 @@ took count bytes rest draft next text after is line reads = by (is_skipped text)
 
 -- a line that fails
 pub refuses : (error : LineError) (count : ℕ) (bytes rest : List ℕ) (draft : Draft) (text after : List ℕ) → IsAt count bytes rest draft → IsNext count bytes text after
-    → FindsNone error (Takes draft text) → Tells bytes (Err (at_line error (count + 1)))
+    → FindsNone error (Takes draft text) → AnswersReading bytes (Err (at_line error (count + 1)))
 refuses faults.Memory count bytes rest draft text after is line fails = tt
 refuses faults.Refused count bytes rest draft text after is line none =
     fails_after count bytes rest draft text after is line
@@ -232,14 +232,14 @@ all_read count bytes rest draft none is =
     let dropped : drop count (lines_of bytes) ≡ [] = sym is.left ∙ ap lines_of none in
     omega (arith, ap length dropped, length-drop count (lines_of bytes), is.within)
 
-reads_all : (count : ℕ) (bytes rest : List ℕ) (draft : Draft) → rest ≡ [] → IsAt count bytes rest draft → Reads (length (lines_of bytes)) bytes draft
-reads_all count bytes rest draft none is = subst (λ (n : ℕ). Reads n bytes draft) (all_read count bytes rest draft none is) is.reads
+reads_all : (count : ℕ) (bytes rest : List ℕ) (draft : Draft) → rest ≡ [] → IsAt count bytes rest draft → ReadsLines (length (lines_of bytes)) bytes draft
+reads_all count bytes rest draft none is = subst (λ (n : ℕ). ReadsLines n bytes draft) (all_read count bytes rest draft none is) is.reads
 
-pub ends : (script : Script) (count : ℕ) (bytes rest : List ℕ) (draft : Draft) → rest ≡ [] → IsAt count bytes rest draft → script_of_draft draft ≡ Some script → Tells bytes (Ok script)
+pub ends : (script : Script) (count : ℕ) (bytes rest : List ℕ) (draft : Draft) → rest ≡ [] → IsAt count bytes rest draft → script_of_draft draft ≡ Some script → AnswersReading bytes (Ok script)
 ends script count bytes rest draft none is made = record { draft = draft; before = reads_all count bytes rest draft none is; script_is = made }
 
 pub ends_open : (error : LineError) (count : ℕ) (bytes rest : List ℕ) (draft : Draft) → rest ≡ [] → IsAt count bytes rest draft → Fails error (script_of_draft draft)
-    → Tells bytes (Err (at_line error (count + 1)))
+    → AnswersReading bytes (Err (at_line error (count + 1)))
 ends_open faults.Memory count bytes rest draft none is fails = tt
 ends_open faults.Refused count bytes rest draft none is fails =
     inr (ap (λ (n : ℕ). n + 1) (all_read count bytes rest draft none is), record { draft = draft; before = reads_all count bytes rest draft none is; fails = fails })

@@ -22,7 +22,7 @@ use Rattle.rm_script.specs.Scripts.{IsSent, IsLife, Crashes, EachButLast, AreLiv
 use Rattle.rm_script.specs.Refusals.{CanBegin, Stand}
 use Rattle.rm_script.specs.Results.{◌>>=◌}
 use Rattle.rm_types.specs.Limits.{greatest_stamp}
-use Rattle.rm_script.specs.Reading.{told_life, line_text, with_lines, no_lines, script_of_draft, IsLine, Reads, ReadsAll}
+use Rattle.rm_script.specs.Reading.{told_life, line_text, with_lines, no_lines, script_of_draft, IsLine, ReadsLines, ReadsAll}
 use Rattle.rm_script.proofs.Labels.{bound, not_chosen}
 use Rattle.rm_script.proofs.Drafting.{Written, Between, Going, living_of, draft_of, written_lines, AreCrashed, Fits, Grown, nothing_sent, settled_text, lines_of-push, with_lines_are}
 use Rattle.rm_script.proofs.Running.{script_marks, texts-lives, marks-lives, with_lines-append, one_lines, script_runs}
@@ -83,13 +83,13 @@ no_lives : AreCrashed []
 no_lives = record { each = All-nil IsLife; crash = All-nil Crashes }
 
 -- what was written of the lines that read as a draft
-grown_of : (count : ℕ) (bytes : List ℕ) (draft : Draft) → Reads count bytes draft → Grown (Between []) (kept_lines (take count (lines_of bytes))) draft
+grown_of : (count : ℕ) (bytes : List ℕ) (draft : Draft) → ReadsLines count bytes draft → Grown (Between []) (kept_lines (take count (lines_of bytes))) draft
 grown_of count bytes draft reads =
     subst (λ (ls : List (List ℕ)). Grown (Between []) ls draft) (sym reads.texts)
     (with_lines_are (Between []) reads.lines draft reads.draft_is no_lives (recursion_from_All IsLine reads.lines reads.fit))
 
 -- lines that read as a draft stand
-pub reads_stand : (count : ℕ) (bytes : List ℕ) (draft : Draft) → Reads count bytes draft → Stand count bytes
+pub reads_stand : (count : ℕ) (bytes : List ℕ) (draft : Draft) → ReadsLines count bytes draft → Stand count bytes
 reads_stand count bytes draft reads =
     let grew = grown_of count bytes draft reads in
     record {
@@ -146,7 +146,7 @@ front_marks lives front back same =
     sym (take-append_seam front back) ∙ ap (take (length front)) (same ∙ sym (texts-lives lives)) ∙ take-map line_text (length front) (script_marks lives)
 
 -- the first lines of bytes that stand read as a draft
-pub stand_reads : (count : ℕ) (bytes : List ℕ) → Stand count bytes → (draft : Draft) × Reads count bytes draft
+pub stand_reads : (count : ℕ) (bytes : List ℕ) → Stand count bytes → (draft : Draft) × ReadsLines count bytes draft
 stand_reads count bytes stand =
     let lines : List (List ℕ) = take count (lines_of bytes) in
     let lives : List WrittenLife = stand.begin.spelled.lives in
@@ -193,7 +193,7 @@ script_is_read bytes script is =
     }
 
 -- the same lines read as one draft
-pub one_draft : (count : ℕ) (bytes : List ℕ) (one other : Draft) → Reads count bytes one → Reads count bytes other → one ≡ other
+pub one_draft : (count : ℕ) (bytes : List ℕ) (one other : Draft) → ReadsLines count bytes one → ReadsLines count bytes other → one ≡ other
 one_draft count bytes one other reads again =
     let lines : reads.lines ≡ again.lines =
     one_lines reads.lines again.lines (recursion_from_All IsLine reads.lines reads.fit) (recursion_from_All IsLine again.lines again.fit) (sym reads.texts ∙ again.texts) in

@@ -144,7 +144,7 @@ script_of_draft (drafts.Living lives living) = if living.is_sending then None el
 
 -- so many first lines of the bytes read as this draft: they keep the limits, and those that say something are lines that
 -- make it
-pub record Reads (count : ℕ) (bytes : List ℕ) (draft : Draft) : Type 0 where
+pub record ReadsLines (count : ℕ) (bytes : List ℕ) (draft : Draft) : Type 0 where
   pub few : count ≤ most_lines
   pub size : size_of_first count bytes ≤ most_bytes
   pub each : All IsLineText (take count (lines_of bytes))
@@ -157,23 +157,23 @@ pub record Reads (count : ℕ) (bytes : List ℕ) (draft : Draft) : Type 0 where
 pub record FailsAfter (count : ℕ) (bytes : List ℕ) : Type 0 where
   pub there : count < length (lines_of bytes)
   pub draft : Draft
-  pub before : Reads count bytes draft
-  pub fails : (next : Draft) → Reads (count + 1) bytes next → ⊥
+  pub before : ReadsLines count bytes draft
+  pub fails : (next : Draft) → ReadsLines (count + 1) bytes next → ⊥
 
 -- all lines read as a draft that is no script
 pub record FailsAtEnd (bytes : List ℕ) : Type 0 where
   pub draft : Draft
-  pub before : Reads (length (lines_of bytes)) bytes draft
+  pub before : ReadsLines (length (lines_of bytes)) bytes draft
   pub fails : script_of_draft draft ≡ None
 
 -- all lines read as a draft that is this script
 pub record ReadsAll (bytes : List ℕ) (script : Script) : Type 0 where
   pub draft : Draft
-  pub before : Reads (length (lines_of bytes)) bytes draft
+  pub before : ReadsLines (length (lines_of bytes)) bytes draft
   pub script_is : script_of_draft draft ≡ Some script
 
 -- the answer is the script that all lines read as, or the first line at which reading fails, unless memory ran out
-abbrev pub Tells : List ℕ → Result Script ScriptError → Type 0
-Tells bytes (Ok script) = ReadsAll bytes script
-Tells bytes (Err (Refused line)) = ((count : ℕ) × (line ≡ count + 1) × FailsAfter count bytes) ⊎ ((line ≡ length (lines_of bytes) + 1) × FailsAtEnd bytes)
-Tells bytes (Err Memory) = Unit {0}
+abbrev pub AnswersReading : List ℕ → Result Script ScriptError → Type 0
+AnswersReading bytes (Ok script) = ReadsAll bytes script
+AnswersReading bytes (Err (Refused line)) = ((count : ℕ) × (line ≡ count + 1) × FailsAfter count bytes) ⊎ ((line ≡ length (lines_of bytes) + 1) × FailsAtEnd bytes)
+AnswersReading bytes (Err Memory) = Unit {0}

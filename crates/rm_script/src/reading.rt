@@ -2,7 +2,7 @@ ghost use Rattle.std.specs.Prelude.{◌≡◌, ◌⊎◌, ℕ, Ok, Err, IfOk};
 ghost use Rattle.rm_types.specs.declared.scripts.Script.{Script};
 ghost use Rattle.rm_script.specs.Scripts.{IsScript};
 ghost use Rattle.rm_script.specs.Refusals.{IsFirstRefused};
-ghost use Rattle.rm_script.specs.Reading.{Tells};
+ghost use Rattle.rm_script.specs.Reading.{AnswersReading};
 
 use crate::drafts::Draft;
 use crate::errors::ScriptError;
@@ -28,7 +28,7 @@ pub fn read_script(alloc: Global, bytes: &[u8]) -> Result<Script, ScriptError>
 
 /// The script that the lines of the bytes read as, or the first line at which reading fails.
 fn script_of(alloc: Global, bytes: &[u8]) -> Result<Script, ScriptError>
-    ensures { Tells bytes.now result }
+    ensures { AnswersReading bytes.now result }
 {
     let mut draft = Draft::Between(Items::new(alloc));
     let mut rest = bytes;

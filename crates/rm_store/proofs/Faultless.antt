@@ -7,7 +7,7 @@ use Rattle.rm_types.specs.declared.operations.Op.{Op}
 use Rattle.rm_formats.specs.Frames.{frame}
 use Rattle.rm_types.specs.Ranges.{IsOperation}
 use Rattle.rm_types.specs.Records.{records, fits_records, stray}
-use Rattle.rm_formats.specs.Device.{Holds}
+use Rattle.rm_formats.specs.Device.{DeviceHolds}
 use Rattle.rm_frame.proofs.Apart.{frames_alike}
 use Rattle.rm_journal.proofs.Payloads.{unique, sound_never}
 use Rattle.rm_store.specs.declared.fault.StoreError.TheVariants.{Damaged, Stray}
@@ -35,7 +35,7 @@ same_ops (a ∷ one) (b ∷ other) all all' e =
     ap (λ x. x ∷ one) first ∙ ap (λ xs. b ∷ xs) rest
 
 -- one device holds one list of operations
-pub one_list : (bytes : List ℕ) (one other : List Op) → Holds bytes one → Holds bytes other → one ≡ other
+pub one_list : (bytes : List ℕ) (one other : List Op) → DeviceHolds bytes one → DeviceHolds bytes other → one ≡ other
 one_list bytes one other holds holds' = same_ops one other holds.framed holds'.framed (unique bytes (map frame one) (map frame other) holds.frames holds'.frames)
 
 -- an operation whose frame stands behind those of others
@@ -58,7 +58,7 @@ stands_behind (op ∷ ops) (one ∷ front) payload more all all' e =
     record { op = s.op; rest = s.rest; is = ap (λ x. x ∷ ops) same ∙ ap (λ xs. one ∷ xs) s.is; frame_is = s.frame_is; can = s.can }
 
 -- bytes that hold operations have no fault
-pub holds_faultless : (bytes : List ℕ) (ops : List Op) → Holds bytes ops → IsFaultless bytes
+pub holds_faultless : (bytes : List ℕ) (ops : List Op) → DeviceHolds bytes ops → IsFaultless bytes
 holds_faultless bytes ops holds = record {
   undamaged = λ offset there. sound_never there.payloads there.rest bytes (map frame ops) there.sizes there.bytes_are there.no_record holds.frames;
   frames = λ offset there.
@@ -77,9 +77,9 @@ holds_faultless bytes ops holds = record {
         stands_behind ops front payload reads.more holds.framed reads.framed (unique bytes (map frame ops) (map frame front ++ payload ∷ reads.more) holds.frames reads.payloads)
 
 -- and are never why a store is refused
-pub never_damaged : (bytes : List ℕ) (ops : List Op) → Holds bytes ops → (offset : ℕ) → IsWhy bytes (Damaged offset) → ⊥
+pub never_damaged : (bytes : List ℕ) (ops : List Op) → DeviceHolds bytes ops → (offset : ℕ) → IsWhy bytes (Damaged offset) → ⊥
 never_damaged bytes ops holds offset (inl there) = (holds_faultless bytes ops holds).undamaged offset there
 never_damaged bytes ops holds offset (inr there) = (holds_faultless bytes ops holds).frames offset there
 
-pub never_stray : (bytes : List ℕ) (ops : List Op) → Holds bytes ops → (number offset : ℕ) → IsWhy bytes (Stray number offset) → ⊥
+pub never_stray : (bytes : List ℕ) (ops : List Op) → DeviceHolds bytes ops → (number offset : ℕ) → IsWhy bytes (Stray number offset) → ⊥
 never_stray bytes ops holds number offset there = (holds_faultless bytes ops holds).none_stray number offset there

@@ -7,10 +7,10 @@ use Rattle.rm_types.specs.declared.operations.Op.{Op}
 use Rattle.rm_formats.specs.Frames.{frame}
 use Rattle.rm_types.specs.Ranges.{IsOperation}
 use Rattle.rm_types.specs.Records.{Records, no_records, records, fits_records, stray}
-use Rattle.rm_formats.specs.Device.{Holds, HasPayloads}
-use Rattle.rm_disk.specs.Disk.{DiskView, Tells, IsQuiet}
+use Rattle.rm_formats.specs.Device.{DeviceHolds, HasPayloads}
+use Rattle.rm_disk.specs.Disk.{DiskView, IfTold, IsQuiet}
 use Rattle.rm_disk.proofs.Views.{quiet_trans}
-use Rattle.rm_journal.specs.Journal.{Place, Stands, IsOpened, HasRead, region_of}
+use Rattle.rm_journal.specs.Journal.{Place, JournalInvariant, IsOpened, HasRead, region_of}
 use Rattle.rm_store.specs.Causes.{ReadsUpTo}
 use Rattle.rm_store.specs.Reading.{IsFrameOf}
 use Rattle.rm_store.specs.Store.{IsWhole, AreRead}
@@ -22,11 +22,11 @@ pub record ReadSoFar (first now : DiskView) (journal : Place) (tree : Records) (
   pub whole : IsWhole now journal
   pub unbroken : journal.is_broken ≡ false
   pub read : AreRead tree ops
-  pub so_far : Tells now (λ bytes. (left : List (List ℕ)) × HasRead journal bytes (map frame ops) left)
+  pub so_far : IfTold now (λ bytes. (left : List (List ℕ)) × HasRead journal bytes (map frame ops) left)
 
 -- a journal that was just opened on a whole disk has given nothing
 pub begun : (first now : DiskView) (journal : Place) (size : ℕ) → IsQuiet first now → size ≡ first.size → IsOpened now 0 size journal
-    → Tells now (λ bytes. (all : List (List ℕ)) × HasPayloads (region_of 0 (0 + size) bytes) all) → ReadSoFar first now journal no_records []
+    → IfTold now (λ bytes. (all : List (List ℕ)) × HasPayloads (region_of 0 (0 + size) bytes) all) → ReadSoFar first now journal no_records []
 begun first now journal size quiet sized opened holds =
     let end : journal.end ≡ 0 + size = opened.end in
     record {
@@ -41,8 +41,8 @@ begun first now journal size quiet sized opened holds =
 
 -- one operation more was read
 pub read_more : (first now next : DiskView) (journal moved : Place) (tree tree' : Records) (ops ops' : List Op) (payload : List ℕ) (op : Op)
-    → ReadSoFar first now journal tree ops → IsQuiet now next → Stands next moved → moved ≡ record journal { cursor = moved.cursor }
-    → Tells now (λ bytes. (left : List (List ℕ)) → HasRead journal bytes (map frame ops) left → (others : List (List ℕ)) × HasRead moved bytes (map frame ops ++ payload ∷ []) others)
+    → ReadSoFar first now journal tree ops → IsQuiet now next → JournalInvariant next moved → moved ≡ record journal { cursor = moved.cursor }
+    → IfTold now (λ bytes. (left : List (List ℕ)) → HasRead journal bytes (map frame ops) left → (others : List (List ℕ)) × HasRead moved bytes (map frame ops ++ payload ∷ []) others)
     → IsFrameOf payload op → fits_records (records ops) op ≡ true → ops' ≡ ops ++ op ∷ [] → tree' ≡ records (ops ++ op ∷ [])
     → ReadSoFar first next moved tree' ops'
 read_more first now next journal moved tree tree' ops ops' payload op so_far quiet stands same gives framed fits grown amounts =
@@ -72,7 +72,7 @@ region_all bytes size long = take_all size bytes (omega (arith, long))
 
 -- a disk is read whole where its journal gives no more
 pub all_read : (first now : DiskView) (journal : Place) (tree : Records) (ops : List Op) (bytes : List ℕ) → ReadSoFar first now journal tree ops → now.told ≡ Some bytes → length bytes ≡ now.size
-    → ((left : List (List ℕ)) → HasRead journal bytes (map frame ops) left → left ≡ []) → Holds bytes ops
+    → ((left : List (List ℕ)) → HasRead journal bytes (map frame ops) left → left ≡ []) → DeviceHolds bytes ops
 all_read first now journal tree ops bytes so_far told long none =
     let there = so_far.so_far bytes told in
     let whole : map frame ops ++ there.0 ≡ map frame ops = ap (λ left. map frame ops ++ left) (none there.0 there.1) ∙ append-nil (map frame ops) in

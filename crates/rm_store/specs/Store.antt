@@ -4,10 +4,10 @@ use Rattle.rm_types.specs.declared.operations.Op.{Op}
 use Rattle.rm_formats.specs.Frames.{frame}
 use Rattle.rm_types.specs.Ranges.{IsOperation}
 use Rattle.rm_types.specs.Records.{Records, records, stray}
-use Rattle.rm_formats.specs.Device.{Holds, journal_records}
+use Rattle.rm_formats.specs.Device.{DeviceHolds, journal_records}
 use Rattle.rm_disk.specs.Disk.{DiskView, EachImage, AtEachMoment}
 use Rattle.rm_disk.specs.Fuse.{Fused, fused_view}
-use Rattle.rm_journal.specs.Journal.{Place, Stands}
+use Rattle.rm_journal.specs.Journal.{Place, JournalInvariant}
 
 -- A store as contracts see it: its disk under a fuse, its journal there, and whether a fault broke it.
 pub record StoreState (D : Type 0) : Type 0 where
@@ -25,13 +25,13 @@ seen view fuse = fused_view (view fuse.inner) fuse.refused
 
 -- A journal stands on a whole disk: nothing but the journal changed the disk's bytes since it was opened.
 pub record IsWhole (disk : DiskView) (journal : Place) : Type 0 where
-  pub stands : Stands disk journal
+  pub stands : JournalInvariant disk journal
   pub from : journal.from ≡ 0
   pub end : journal.end ≡ disk.size
 
 -- A store stands: nothing but the store changed its disk's bytes since it was opened, and its journal isn't broken where
 -- the store isn't.
-pub record IsSound {D : Type 0} (view : D → DiskView) (store : StoreState D) : Type 0 where
+pub record StoreInvariant {D : Type 0} (view : D → DiskView) (store : StoreState D) : Type 0 where
   pub journal : IsWhole (seen view store.disk) store.journal
   pub unbroken : store.is_broken ≡ false → store.journal.is_broken ≡ false
 
@@ -45,16 +45,16 @@ pub record AreRead (tree : Records) (ops : List Op) : Type 0 where
 pub record Has (disk : DiskView) (ops : List Op) : Type 0 where
   pub bytes : List ℕ
   pub told : disk.told ≡ Some bytes
-  pub holds : Holds bytes ops
+  pub holds : DeviceHolds bytes ops
 
 -- At each moment a crash leaves these operations, or these and the new one.
 abbrev pub LeavesOps : DiskView → DiskView → List Op → Op → Type 0
-LeavesOps old new ops op = AtEachMoment old new (λ image. Holds image ops ⊎ Holds image (ops ++ op ∷ []))
+LeavesOps old new ops op = AtEachMoment old new (λ image. DeviceHolds image ops ⊎ DeviceHolds image (ops ++ op ∷ []))
 
 -- The disk has these operations and the new one, and a crash now leaves them.
 pub record AddsOp (disk : DiskView) (ops : List Op) (op : Op) : Type 0 where
   pub now : Has disk (ops ++ op ∷ [])
-  pub images : EachImage disk (λ image. Holds image (ops ++ op ∷ []))
+  pub images : EachImage disk (λ image. DeviceHolds image (ops ++ op ∷ []))
 
 -- How many bytes a disk must have left for one more operation: its frame's, a length's, and two gates'.
 abbrev pub needed_for : Op → ℕ

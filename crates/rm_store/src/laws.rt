@@ -3,20 +3,20 @@ ghost use Rattle.rm_types.specs.declared.ids.AppId.{AppId};
 ghost use Rattle.rm_types.specs.declared.operations.Op.{Op};
 ghost use Rattle.rm_types.specs.Ids.{is_app};
 ghost use Rattle.rm_types.specs.Records.{records, stray};
-ghost use Rattle.rm_formats.specs.Device.{Holds};
+ghost use Rattle.rm_formats.specs.Device.{DeviceHolds};
 ghost use Rattle.rm_store.specs.declared.fault.StoreError.TheVariants.{Damaged, Stray};
 ghost use Rattle.rm_store.specs.Causes.{IsWhy, IsFaultless};
 
 /// The same bytes hold one list of operations at most.
 pub fn law_one_list()
-    ensures { (bytes : List ℕ) (one other : List Op) → Holds bytes one → Holds bytes other → one ≡ other }
+    ensures { (bytes : List ℕ) (one other : List Op) → DeviceHolds bytes one → DeviceHolds bytes other → one ≡ other }
 {}
 
 /// Bytes that hold operations have no fault, and are never why a store is refused.
 pub fn law_held_is_faultless()
-    ensures faultless { (bytes : List ℕ) (ops : List Op) → Holds bytes ops → IsFaultless bytes }
-    ensures undamaged { (bytes : List ℕ) (ops : List Op) → Holds bytes ops → (offset : ℕ) → IsWhy bytes (Damaged offset) → ⊥ }
-    ensures none_stray { (bytes : List ℕ) (ops : List Op) → Holds bytes ops → (number offset : ℕ) → IsWhy bytes (Stray number offset) → ⊥ }
+    ensures faultless { (bytes : List ℕ) (ops : List Op) → DeviceHolds bytes ops → IsFaultless bytes }
+    ensures undamaged { (bytes : List ℕ) (ops : List Op) → DeviceHolds bytes ops → (offset : ℕ) → IsWhy bytes (Damaged offset) → ⊥ }
+    ensures none_stray { (bytes : List ℕ) (ops : List Op) → DeviceHolds bytes ops → (number offset : ℕ) → IsWhy bytes (Stray number offset) → ⊥ }
 {}
 
 /// Operations of which none is stray have one record of each application at most.

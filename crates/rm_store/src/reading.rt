@@ -3,8 +3,8 @@ ghost use Rattle.rm_types.specs.declared.operations.Op.{Op as AnyOp};
 ghost use Rattle.rm_formats.specs.Frames.{frame};
 ghost use Rattle.rm_types.specs.Ranges.{IsOperation};
 ghost use Rattle.rm_types.specs.Records.{records, fits_records};
-ghost use Rattle.rm_formats.specs.Device.{Holds};
-ghost use Rattle.rm_disk.specs.Disk.{Tells, IsQuiet};
+ghost use Rattle.rm_formats.specs.Device.{DeviceHolds};
+ghost use Rattle.rm_disk.specs.Disk.{IfTold, IsQuiet};
 ghost use Rattle.rm_store.specs.Causes.{IsWhy, IsFaultless};
 ghost use Rattle.rm_store.specs.Errors.{IsOpenError};
 ghost use Rattle.rm_store.specs.Reading.{IsFrameOf, IsFrameError, IsTakeError};
@@ -31,9 +31,9 @@ pub fn read_all<D: Disk>(alloc: Global, disk: &mut D) -> Result<Read, StoreError
     ensures whole { IfOk result (λ read. IsWhole (D.view disk.new) read.journal) }
     ensures unbroken { IfOk result (λ read. read.journal.is_broken ≡ false) }
     ensures read { IfOk result (λ read. AreRead read.tree read.ops) }
-    ensures holds { IfOk result (λ read. Tells (D.view disk.new) (λ bytes. Holds bytes read.ops)) }
-    ensures faultless { OnOk result (Tells (D.view disk.old) IsFaultless) }
-    ensures why { IfErr result (λ error. Tells (D.view disk.old) (λ bytes. IsWhy bytes error)) }
+    ensures holds { IfOk result (λ read. IfTold (D.view disk.new) (λ bytes. DeviceHolds bytes read.ops)) }
+    ensures faultless { OnOk result (IfTold (D.view disk.old) IsFaultless) }
+    ensures why { IfErr result (λ error. IfTold (D.view disk.old) (λ bytes. IsWhy bytes error)) }
     ensures quiet { IsQuiet (D.view disk.old) (D.view disk.new) }
     ensures kept { D.keeps (is_ok result) disk.old disk.new }
     ensures fault { IsErrOf result StoreError.DiskFault → D.faulted disk.old disk.new }

@@ -2,12 +2,12 @@ ghost use Rattle.std.specs.Prelude.{◌≡◌, ◌⊎◌, ◌↔◌, ◌<◌, �
 ghost use Rattle.rm_types.specs.declared.operations.Op.{Op as AnyOp};
 ghost use Rattle.rm_types.specs.Ranges.{IsOperation};
 ghost use Rattle.rm_types.specs.Records.{records, fits_records};
-ghost use Rattle.rm_formats.specs.Device.{Holds};
-ghost use Rattle.rm_disk.specs.Disk.{Tells, EachImage, IsQuiet, GoesOn};
+ghost use Rattle.rm_formats.specs.Device.{DeviceHolds};
+ghost use Rattle.rm_disk.specs.Disk.{IfTold, EachImage, IsQuiet, IsLaterView};
 ghost use Rattle.rm_disk.specs.Fuse.{FaultedFuse, KeepsFuse};
 ghost use Rattle.rm_store.specs.Causes.{IsWhy, IsFaultless};
 ghost use Rattle.rm_store.specs.Errors.{IsOpenError, IsAppendError, IsRefusal, broken_after};
-ghost use Rattle.rm_store.specs.Store.{with_disk, seen, IsWhole, IsSound, AreRead, Has, LeavesOps, AddsOp, needed_for, room_behind};
+ghost use Rattle.rm_store.specs.Store.{with_disk, seen, IsWhole, StoreInvariant, AreRead, Has, LeavesOps, AddsOp, needed_for, room_behind};
 
 use crate::fault::StoreError;
 use crate::reading::{Read, read_all};
@@ -58,13 +58,13 @@ impl<D: Disk> Store<D> {
     /// fuse is blown. A refusal hands the disk back. On every outcome a read of the disk gives what it gave;
     /// after `Ok` a crash leaves these operations too.
     pub fn open(alloc: Global, disk: Fuse<D>) -> Result<(Store<D>, Tree, Items<Op>), OpenFail<D>>
-        ensures sound { IfOk result (λ opened. IsSound D.view opened.0) }
+        ensures sound { IfOk result (λ opened. StoreInvariant D.view opened.0) }
         ensures unbroken { IfOk result (λ opened. opened.0.is_broken ≡ false) }
         ensures read { IfOk result (λ opened. AreRead opened.1 opened.2) }
-        ensures holds { IfOk result (λ opened. Tells (seen D.view disk) (λ bytes. Holds bytes opened.2)) }
-        ensures images { IfOk result (λ opened. Tells (seen D.view disk) (λ _. EachImage (seen D.view opened.0.disk) (λ image. Holds image opened.2))) }
-        ensures faultless { OnOk result (Tells (seen D.view disk) IsFaultless) }
-        ensures why { IfErr result (λ refused. Tells (seen D.view disk) (λ bytes. IsWhy bytes refused.why)) }
+        ensures holds { IfOk result (λ opened. IfTold (seen D.view disk) (λ bytes. DeviceHolds bytes opened.2)) }
+        ensures images { IfOk result (λ opened. IfTold (seen D.view disk) (λ _. EachImage (seen D.view opened.0.disk) (λ image. DeviceHolds image opened.2))) }
+        ensures faultless { OnOk result (IfTold (seen D.view disk) IsFaultless) }
+        ensures why { IfErr result (λ refused. IfTold (seen D.view disk) (λ bytes. IsWhy bytes refused.why)) }
         ensures quiet { MatchResult result (λ opened. IsQuiet (seen D.view disk) (seen D.view opened.0.disk)) (λ refused. IsQuiet (seen D.view disk) (seen D.view refused.disk)) }
         ensures kept { MatchResult result (λ opened. KeepsFuse D.view (D.keeps true) true disk opened.0.disk) (λ refused. KeepsFuse D.view (D.keeps false) false disk refused.disk) }
         ensures fault { IfErr result (λ refused. refused.why ≡ StoreError.DiskFault → FaultedFuse D.view D.faulted disk refused.disk) }
@@ -94,17 +94,17 @@ impl<D: Disk> Store<D> {
     /// both leave all as it was. `DiskFault` comes only where the disk's count of faults rose, and that of the
     /// disk inside the fuse unless the fuse is blown.
     pub fn append(&mut self, op: &Op) -> Result<(), StoreError>
-        requires sound { IsSound D.view self.old }
+        requires sound { StoreInvariant D.view self.old }
         requires op { IsOperation op.now }
 
-        ensures sound { IsSound D.view self.new }
+        ensures sound { StoreInvariant D.view self.new }
         ensures broken { self.new.is_broken ≡ broken_after result self.old.is_broken }
 
         // A crash at any moment leaves the operations from before, or these and the new one.
         ensures any_moment { self.old.is_broken ≡ false → (ops : List AnyOp) → Has (seen D.view self.old.disk) ops → fits_records (records ops) op.now ≡ true → LeavesOps (seen D.view self.old.disk) (seen D.view self.new.disk) ops op.now }
         ensures added { OnOk result ((ops : List AnyOp) → Has (seen D.view self.old.disk) ops → fits_records (records ops) op.now ≡ true → AddsOp (seen D.view self.new.disk) ops op.now) }
         ensures kept { KeepsFuse D.view (D.keeps (is_ok result)) (is_ok result) self.old.disk self.new.disk }
-        ensures goes_on { GoesOn (seen D.view self.old.disk) (seen D.view self.new.disk) }
+        ensures goes_on { IsLaterView (seen D.view self.old.disk) (seen D.view self.new.disk) }
 
         // When each error comes, and what it leaves.
         ensures errors { IfErr result IsAppendError }

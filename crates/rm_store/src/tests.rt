@@ -2,7 +2,7 @@
 //! by hand.
 ghost use Rattle.std.specs.Prelude.{IfOk};
 ghost use Rattle.rm_types.specs.Ranges.{IsOperation};
-ghost use Rattle.rm_store.specs.Store.{IsSound};
+ghost use Rattle.rm_store.specs.Store.{StoreInvariant};
 
 use super::*;
 use rm_disk::{Disk, FileDisk, Fuse, MemDisk, Window};
@@ -46,8 +46,8 @@ fn op_of(alloc: Global, frame: &[u8]) -> Result<Op, StoreError>
 
 /// Appends the operation of a frame.
 fn append<D: Disk>(alloc: Global, store: &mut Store<D>, frame: &[u8]) -> Result<(), StoreError>
-    requires { IsSound D.view store.old }
-    ensures { IsSound D.view store.new }
+    requires { StoreInvariant D.view store.old }
+    ensures { StoreInvariant D.view store.new }
 {
     let op = op_of(alloc, frame)?;
     store.append(&op)
@@ -97,7 +97,7 @@ fn append_both<D: Disk>(alloc: Global, disk: Fuse<D>) -> (Result<(), StoreError>
 }
 
 fn append_two<D: Disk>(alloc: Global, store: &mut Store<D>) -> Result<(), StoreError>
-    requires { IsSound D.view store.old }
+    requires { StoreInvariant D.view store.old }
 {
     append(alloc, store, &EPOCH)?;
     append(alloc, store, &APP)
@@ -170,7 +170,7 @@ fn append_twice<D: Disk>(
     alloc: Global,
     store: &mut Store<D>,
 ) -> (Result<(), StoreError>, Result<(), StoreError>, bool)
-    requires { IsSound D.view store.old }
+    requires { StoreInvariant D.view store.old }
 {
     let first = append(alloc, store, &EPOCH);
     let second = append(alloc, store, &EPOCH);

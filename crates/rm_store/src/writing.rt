@@ -2,7 +2,7 @@ ghost use Rattle.std.specs.Prelude.{◌≡◌, ◌⊎◌, ◌<◌, ℕ, List, tr
 ghost use Rattle.rm_types.specs.declared.operations.Op.{Op as AnyOp};
 ghost use Rattle.rm_types.specs.Ranges.{IsOperation};
 ghost use Rattle.rm_types.specs.Records.{records, fits_records};
-ghost use Rattle.rm_disk.specs.Disk.{GoesOn};
+ghost use Rattle.rm_disk.specs.Disk.{IsLaterView};
 ghost use Rattle.rm_store.specs.Errors.{IsWriteError, IsRefusal};
 ghost use Rattle.rm_store.specs.Store.{IsWhole, Has, LeavesOps, AddsOp, needed_for, room_behind};
 
@@ -28,7 +28,7 @@ pub fn write_op<D: Disk>(
     ensures any_moment { (ops : List AnyOp) → Has (D.view disk.old) ops → fits_records (records ops) op.now ≡ true → LeavesOps (D.view disk.old) (D.view disk.new) ops op.now }
     ensures added { OnOk result ((ops : List AnyOp) → Has (D.view disk.old) ops → fits_records (records ops) op.now ≡ true → AddsOp (D.view disk.new) ops op.now) }
     ensures kept { D.keeps (is_ok result) disk.old disk.new }
-    ensures goes_on { GoesOn (D.view disk.old) (D.view disk.new) }
+    ensures goes_on { IsLaterView (D.view disk.old) (D.view disk.new) }
 
     ensures errors { IfErr result IsWriteError }
     ensures refused { IfErr result (λ error. IsRefusal error → (journal.new ≡ journal.old) × (disk.new ≡ disk.old)) }

@@ -11,7 +11,7 @@ use Rattle.rm_model.specs.State.{Row}
 use Rattle.rm_model.specs.Containers.{is_granted}
 use Rattle.rm_model.specs.Facts.{has_container}
 use Rattle.rm_model.specs.NodeReplies.{row_beaten}
-use Rattle.rm_agreement.specs.Agreement.{PlainRow, SameRows, bare, plain}
+use Rattle.rm_refinement.specs.Agreement.{PlainRow, SameRows, bare_row, plain_row}
 use Rattle.rm_tracker.specs.Answers.{beaten_book, brought_all, is_on, is_untold}
 use Rattle.rm_tracker.proofs.Rows.{all_at_once, apart_brought, brought_row}
 use Rattle.rm_book.proofs.Lists.{map_view}
@@ -48,8 +48,8 @@ states_alike false false true granted state = refl
 states_alike false false false granted state = refl
 
 told_so : (on run acquired : Bool) (row : Row)
-    → plain (if not on then row else (if run then record row { state = Running } else (if acquired then record row { state = Acquired } else row)))
-    ≡ record (plain row) { state = if not on then row.state else (if run then Running else (if acquired then Acquired else row.state)) }
+    → plain_row (if not on then row else (if run then record row { state = Running } else (if acquired then record row { state = Acquired } else row)))
+    ≡ record (plain_row row) { state = if not on then row.state else (if run then Running else (if acquired then Acquired else row.state)) }
 told_so false run acquired row = refl
 told_so true true acquired row = refl
 told_so true false true row = refl
@@ -58,15 +58,15 @@ told_so true false false row = refl
 pub rows_beaten_same : (name : List ℕ) (running launched : List ContainerId) (rows : List BookRow) (book : List Row) → SameRows rows book
     → SameRows (map (beaten_at_once name running launched) rows) (map (row_beaten name running launched) book)
 rows_beaten_same name running launched rows book same =
-    map_view bare (beaten_at_once name running launched) change in_tables rows ∙ ap (map change) same ∙ sym (map_view plain (row_beaten name running launched) change told book)
+    map_view bare_row (beaten_at_once name running launched) change in_tables rows ∙ ap (map change) same ∙ sym (map_view plain_row (row_beaten name running launched) change told book)
   where
     change : PlainRow → PlainRow
     change row = record row { state = state_beaten name running launched row }
 
-    in_tables : (row : BookRow) → bare (beaten_at_once name running launched row) ≡ record (bare row) { state = state_beaten name running launched (bare row) }
+    in_tables : (row : BookRow) → bare_row (beaten_at_once name running launched row) ≡ record (bare_row row) { state = state_beaten name running launched (bare_row row) }
     in_tables row =
-        ap (λ (state : ContainerState). record (bare row) { state = state })
+        ap (λ (state : ContainerState). record (bare_row row) { state = state })
         (states_alike (bytes_eq row.node name) (has_container running row.id) (has_container launched row.id) (is_granted row.state) row.state)
 
-    told : (row : Row) → plain (row_beaten name running launched row) ≡ record (plain row) { state = state_beaten name running launched (plain row) }
+    told : (row : Row) → plain_row (row_beaten name running launched row) ≡ record (plain_row row) { state = state_beaten name running launched (plain_row row) }
     told row = told_so (bytes_eq row.node name) (has_container running row.id) (has_container launched row.id && is_granted row.state) row

@@ -24,7 +24,7 @@ use Rattle.rm_tables.specs.declared.tables.Tables.{Tables}
 use Rattle.rm_tables.specs.Nodes.{beaten_row, changed_row, new_row, node_of as node_in, registered_row, with_node}
 use Rattle.rm_tracker.specs.Answers.{after_clock, after_node, beaten_book, beaten_with, brought_all, brought_one, is_new_beat, is_on, is_untold, launched_by, registered_by, registered_later}
 use Rattle.rm_tracker.specs.Offers.{OnlyNodesOffer}
-use Rattle.rm_agreement.proofs.Found.{other_row, own_row, same_name}
+use Rattle.rm_refinement.proofs.Found.{other_row, own_row, same_name}
 
 -- a node without a row had none before a row was added, or changed
 none_added : (one : List ℕ × NodeRow) (rows : List (List ℕ × NodeRow)) (q : List ℕ) → node_in (rows ++ one ∷ []) q ≡ None → node_in rows q ≡ None

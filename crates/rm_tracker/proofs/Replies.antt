@@ -19,10 +19,10 @@ use Rattle.rm_node.specs.declared.states.NodeState.TheVariants as states
 use Rattle.rm_tables.specs.declared.nodes.NodeRow.{NodeRow}
 use Rattle.rm_tables.specs.declared.tables.Tables.{Tables}
 use Rattle.rm_tables.specs.Nodes.{is_ready, node_of as node_in}
-use Rattle.rm_agreement.specs.Agreement.{PlainNode, PlainRow, SameRows, bare_node, phase_of, plain_node}
-use Rattle.rm_agreement.specs.Shown.{ShowsLife}
+use Rattle.rm_refinement.specs.Agreement.{PlainNode, PlainRow, SameRows, bare_node, phase_of, plain_node}
+use Rattle.rm_refinement.specs.Services.{RefinesLife}
 use Rattle.rm_tracker.specs.Told.{beat_told, is_lost, lives_at, may_expire_in, register_told, strangers_in}
-use Rattle.rm_agreement.proofs.Rows.{any_alike}
+use Rattle.rm_refinement.proofs.Rows.{any_alike}
 
 -- a container lives on a node by both books
 lives_alike : (book : BookOf) (rows : List Row) (name : List ℕ) (id : ContainerId) → SameRows book.rows rows → lives_at book name id ≡ lives_on rows name id
@@ -72,7 +72,7 @@ register_by m book name turn (Some row) (Some node) e =
     rw last refl
 
 -- a registration is answered as the judge does
-pub register_answer : (m : Scene) (t : Tables) (name : List ℕ) (turn : ℕ) → ShowsLife m t → register_told t.epoch turn (node_in t.nodes name) ≡ node_register_reply m turn (node_told m.life.nodes name)
+pub register_answer : (m : Scene) (t : Tables) (name : List ℕ) (turn : ℕ) → RefinesLife m t → register_told t.epoch turn (node_in t.nodes name) ≡ node_register_reply m turn (node_told m.life.nodes name)
 register_answer m t name turn shows =
     rw (sym shows.epoch) (register_by m t.book name turn (node_in t.nodes name) (node_told m.life.nodes name) (shows.nodes name))
 
@@ -122,7 +122,7 @@ beat_by m book name id running (Some row) (Some node) rows e named =
         rw (ea, ja, eb, jb, ec, jc, ed, jd, next) refl
 
 -- a beat is answered as the judge does
-pub beat_answer : (m : Scene) (t : Tables) (name : List ℕ) (id : ℕ) (running : List Held) → ShowsLife m t
+pub beat_answer : (m : Scene) (t : Tables) (name : List ℕ) (id : ℕ) (running : List Held) → RefinesLife m t
     → beat_told t.book name id running (node_in t.nodes name) ≡ beat_reply m id running (node_told m.life.nodes name)
 beat_answer m t name id running shows =
     beat_by m t.book name id running (node_in t.nodes name) (node_told m.life.nodes name) shows.rows (shows.nodes name) (named_so m.life.nodes name)
@@ -141,5 +141,5 @@ expire_by book name (Some row) (Some node) e =
     twice false = refl
 
 -- a node may expire where the judge says so
-pub expire_answer : (m : Scene) (t : Tables) (name : List ℕ) → ShowsLife m t → may_expire_in (node_in t.nodes name) ≡ may_expire m name
+pub expire_answer : (m : Scene) (t : Tables) (name : List ℕ) → RefinesLife m t → may_expire_in (node_in t.nodes name) ≡ may_expire m name
 expire_answer m t name shows = expire_by t.book name (node_in t.nodes name) (node_told m.life.nodes name) (shows.nodes name)

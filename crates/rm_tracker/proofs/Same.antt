@@ -25,11 +25,11 @@ use Rattle.rm_tables.specs.declared.nodes.NodeChange.TheVariants as of_node
 use Rattle.rm_tables.specs.declared.nodes.NodeRow.{NodeRow}
 use Rattle.rm_tables.specs.declared.tables.Tables.{Tables}
 use Rattle.rm_tables.specs.Nodes.{beaten_row, changed_row, is_ready, new_row, node_of as node_in, registered_row, with_node}
-use Rattle.rm_agreement.specs.Agreement.{PlainNode, SameNodes, SameRows, bare_node, plain_node}
-use Rattle.rm_agreement.specs.Shown.{ShowsLife}
+use Rattle.rm_refinement.specs.Agreement.{PlainNode, SameNodes, SameRows, bare_node, plain_node}
+use Rattle.rm_refinement.specs.Services.{RefinesLife}
 use Rattle.rm_tracker.specs.Answers.{after_clock, after_node, beat_events, beaten_with, is_new_beat, launched_by, registered_by, registered_first}
 use Rattle.rm_tracker.specs.Offers.{OnlyNodesOffer}
-use Rattle.rm_agreement.proofs.Nodes.{added_same, tidied_same, with_same}
+use Rattle.rm_refinement.proofs.Nodes.{added_same, tidied_same, with_same}
 use Rattle.rm_tracker.proofs.Alike.{book_at_once, rows_beaten_same}
 use Rattle.rm_tracker.proofs.Replies.{ready_alike}
 
@@ -38,8 +38,8 @@ abbrev pub living : Scene → LifeState → Scene
 living m life = record m { life = life }
 
 -- the tables show a scene again whose containers and nodes changed alike
-again : (m : Scene) (t : Tables) (book : BookOf) (nodes : List (List ℕ × NodeRow)) (sched : List SchedEvent) (rows : List Row) (told : List NodeState) → ShowsLife m t → SameRows book.rows rows
-    → SameNodes book nodes told → ShowsLife (living m (record m.life { book = rows; nodes = told })) (record t { book = book; nodes = nodes; sched = sched })
+again : (m : Scene) (t : Tables) (book : BookOf) (nodes : List (List ℕ × NodeRow)) (sched : List SchedEvent) (rows : List Row) (told : List NodeState) → RefinesLife m t → SameRows book.rows rows
+    → SameNodes book nodes told → RefinesLife (living m (record m.life { book = rows; nodes = told })) (record t { book = book; nodes = nodes; sched = sched })
 again m t book nodes sched rows told shows same_rows same_nodes =
     record {
       records = shows.records;
@@ -55,13 +55,13 @@ again m t book nodes sched rows told shows same_rows same_nodes =
 
 -- REGISTRATIONS
 
-register_by : (m : Scene) (t : Tables) (name : List ℕ) (turn : ℕ) (capability : Resource) (running : List Held) (reply : Reply) (r : Option NodeRow) (o : Option NodeState) → ShowsLife m t → OnlyNodesOffer t
+register_by : (m : Scene) (t : Tables) (name : List ℕ) (turn : ℕ) (capability : Resource) (running : List Held) (reply : Reply) (r : Option NodeRow) (o : Option NodeState) → RefinesLife m t → OnlyNodesOffer t
     → node_in t.nodes name ≡ r → node_told m.life.nodes name ≡ o → option_map (bare_node t.book name) r ≡ option_map plain_node o → reply ≡ node_register_reply m turn o
-    → ShowsLife (living m (life_after_node m name (AskRegister turn capability running) reply)) (registered_by r name turn capability running reply t)
+    → RefinesLife (living m (life_after_node m name (AskRegister turn capability running) reply)) (registered_by r name turn capability running reply t)
 register_by m t name turn capability running reply None (Some node) shows offer in_tables told e is = cc
 register_by m t name turn capability running reply (Some row) None shows offer in_tables told e is = cc
 register_by m t name turn capability running reply None None shows offer in_tables told e is =
-    subst (λ (one : Reply). ShowsLife (living m (life_after_node m name (AskRegister turn capability running) one)) (registered_first name turn capability running one t)) (sym is)
+    subst (λ (one : Reply). RefinesLife (living m (life_after_node m name (AskRegister turn capability running) one)) (registered_first name turn capability running one t)) (sym is)
     (rw told
     (again m t t.book (t.nodes ++ (name, new_row turn capability running (NodeRegistered turn m.life.epoch)) ∷ []) _ m.life.book _ shows shows.rows
     (tidied_same t.book _ m.life.book _
@@ -73,11 +73,11 @@ register_by m t name turn capability running reply (Some row) (Some node) shows 
     by (nat_lt node.last.turn turn) refl (ap (λ (n : ℕ). nat_lt n turn) last) is
   where
     by : (b : Bool) → nat_lt node.last.turn turn ≡ b → nat_lt row.turn turn ≡ nat_lt node.last.turn turn → reply ≡ node_register_reply m turn (Some node)
-        → ShowsLife (living m (life_after_node m name (AskRegister turn capability running) reply)) (registered_by (Some row) name turn capability running reply t)
+        → RefinesLife (living m (life_after_node m name (AskRegister turn capability running) reply)) (registered_by (Some row) name turn capability running reply t)
     by true later same is =
         let later_row : nat_lt row.turn turn ≡ true = same ∙ later in
         let answer : reply ≡ NodeRegistered turn m.life.epoch = rw later at is in
-        subst (λ (one : Reply). ShowsLife (living m (life_after_node m name (AskRegister turn capability running) one)) (registered_by (Some row) name turn capability running one t)) (sym answer)
+        subst (λ (one : Reply). RefinesLife (living m (life_after_node m name (AskRegister turn capability running) one)) (registered_by (Some row) name turn capability running one t)) (sym answer)
         (rw (told, later, later_row)
         (again m t t.book (with_node (registered_row turn capability running (NodeRegistered turn m.life.epoch)) name t.nodes) _ m.life.book _ shows shows.rows
         (tidied_same t.book _ m.life.book _
@@ -89,21 +89,21 @@ register_by m t name turn capability running reply (Some row) (Some node) shows 
     by false later same is =
         let later_row : nat_lt row.turn turn ≡ false = same ∙ later in
         let answer : reply ≡ NodeRegistered node.last.turn m.life.epoch = rw later at is in
-        subst (λ (one : Reply). ShowsLife (living m (life_after_node m name (AskRegister turn capability running) one)) (registered_by (Some row) name turn capability running one t)) (sym answer)
+        subst (λ (one : Reply). RefinesLife (living m (life_after_node m name (AskRegister turn capability running) one)) (registered_by (Some row) name turn capability running one t)) (sym answer)
         (rw (told, later, later_row) shows)
 
 -- a node registered
-pub register_same : (m : Scene) (t : Tables) (name : List ℕ) (turn : ℕ) (capability : Resource) (running : List Held) (reply : Reply) → ShowsLife m t → OnlyNodesOffer t
+pub register_same : (m : Scene) (t : Tables) (name : List ℕ) (turn : ℕ) (capability : Resource) (running : List Held) (reply : Reply) → RefinesLife m t → OnlyNodesOffer t
     → reply ≡ node_reply m name (AskRegister turn capability running)
-    → ShowsLife (living m (life_after_node m name (AskRegister turn capability running) reply)) (after_node name (AskRegister turn capability running) reply t)
+    → RefinesLife (living m (life_after_node m name (AskRegister turn capability running) reply)) (after_node name (AskRegister turn capability running) reply t)
 register_same m t name turn capability running reply shows offer is =
     register_by m t name turn capability running reply (node_in t.nodes name) (node_told m.life.nodes name) shows offer refl refl (shows.nodes name) is
 
 -- BEATS
 
 -- a beat that isn't new changes nothing, whatever it is answered
-old_beat : (m : Scene) (t : Tables) (name : List ℕ) (id : ℕ) (running : List Held) (done : List ContainerId) (reply : Reply) → ShowsLife m t → is_new_beat id (node_in t.nodes name) ≡ false
-    → is_new_to_node m name id ≡ false → ShowsLife (living m (life_after_node m name (AskBeat id running done) reply)) (after_node name (AskBeat id running done) reply t)
+old_beat : (m : Scene) (t : Tables) (name : List ℕ) (id : ℕ) (running : List Held) (done : List ContainerId) (reply : Reply) → RefinesLife m t → is_new_beat id (node_in t.nodes name) ≡ false
+    → is_new_to_node m name id ≡ false → RefinesLife (living m (life_after_node m name (AskBeat id running done) reply)) (after_node name (AskBeat id running done) reply t)
 old_beat m t name id running done (TellBeat next launched clean) shows new told = rw (new, told) shows
 old_beat m t name id running done _ shows new told = shows
 
@@ -131,12 +131,12 @@ all_left [] = refl
 all_left (id ∷ launches) = ap (λ l. id ∷ l) (all_left launches)
 
 -- a new beat
-new_beat : (m : Scene) (t : Tables) (name : List ℕ) (id : ℕ) (running : List Held) (done : List ContainerId) (reply : Reply) (row : NodeRow) (node : NodeState) → ShowsLife m t → AreApart t.book.rows
+new_beat : (m : Scene) (t : Tables) (name : List ℕ) (id : ℕ) (running : List Held) (done : List ContainerId) (reply : Reply) (row : NodeRow) (node : NodeState) → RefinesLife m t → AreApart t.book.rows
     → node_in t.nodes name ≡ Some row → node_told m.life.nodes name ≡ Some node → id ≡ node.last_id
     → (if is_ready row.state then [] else row.launches) ≡ filter (λ one. not (has_container (launched_by reply) one)) node.launches
-    → ShowsLife (living m (beats m name running done (launched_by reply) reply)) (beaten_with name id running done reply t)
+    → RefinesLife (living m (beats m name running done (launched_by reply) reply)) (beaten_with name id running done reply t)
 new_beat m t name id running done reply row node shows apart in_tables told last launches =
-    subst (λ (book : BookOf). ShowsLife (living m (beats m name running done (launched_by reply) reply)) (record t { book = book; nodes = with_node (beaten_row (id + 1) reply) name t.nodes; sched = t.sched ++ beat_events name done }))
+    subst (λ (book : BookOf). RefinesLife (living m (beats m name running done (launched_by reply) reply)) (record t { book = book; nodes = with_node (beaten_row (id + 1) reply) name t.nodes; sched = t.sched ++ beat_events name done }))
     (sym (book_at_once name (reported running) (launched_by reply) t.book apart))
     (again m t _ _ _ _ _ shows (rows_beaten_same name (reported running) (launched_by reply) t.book.rows m.life.book shows.rows)
     (with_same t.book name (beaten_row (id + 1) reply) (beaten (launched_by reply) done reply) t.nodes m.life.nodes (λ one. refl) shows.nodes
@@ -157,13 +157,13 @@ new_beat m t name id running done reply row node shows apart in_tables told last
         ∙ ap (λ (n : ℕ). record (plain_node o) { last_id = n; last_reply = reply; launches = if is_ready r.state then [] else r.launches }) next
         ∙ ap (λ (l : List ContainerId). record (plain_node o) { last_id = o.last_id + 1; last_reply = reply; launches = l }) left
 
-beat_by : (m : Scene) (t : Tables) (name : List ℕ) (id : ℕ) (running : List Held) (done : List ContainerId) (reply : Reply) (r : Option NodeRow) (o : Option NodeState) → ShowsLife m t → AreApart t.book.rows
+beat_by : (m : Scene) (t : Tables) (name : List ℕ) (id : ℕ) (running : List Held) (done : List ContainerId) (reply : Reply) (r : Option NodeRow) (o : Option NodeState) → RefinesLife m t → AreApart t.book.rows
     → node_in t.nodes name ≡ r → node_told m.life.nodes name ≡ o → option_map (bare_node t.book name) r ≡ option_map plain_node o → reply ≡ beat_reply m id running o
-    → ShowsLife (living m (life_after_node m name (AskBeat id running done) reply)) (after_node name (AskBeat id running done) reply t)
+    → RefinesLife (living m (life_after_node m name (AskBeat id running done) reply)) (after_node name (AskBeat id running done) reply t)
 beat_by m t name id running done reply None (Some node) shows apart in_tables told e is = cc
 beat_by m t name id running done reply (Some row) None shows apart in_tables told e is = cc
 beat_by m t name id running done reply None None shows apart in_tables told e is =
-    subst (λ (one : Reply). ShowsLife (living m (life_after_node m name (AskBeat id running done) one)) (after_node name (AskBeat id running done) one t)) (sym is) shows
+    subst (λ (one : Reply). RefinesLife (living m (life_after_node m name (AskBeat id running done) one)) (after_node name (AskBeat id running done) one t)) (sym is) shows
 beat_by m t name id running done reply (Some row) (Some node) shows apart in_tables told e is =
     let alike : bare_node t.book name row ≡ plain_node node = cc in
     let last : row.last_id ≡ node.last_id = ap (λ (x : PlainNode). x.last_id) alike in
@@ -175,13 +175,13 @@ beat_by m t name id running done reply (Some row) (Some node) shows apart in_tab
 
     by_phase : (r : Bool) → is_ready_told node.phase ≡ r → (id == node.last_id) ≡ true → (id == row.last_id) ≡ true → row.launches ≡ node.launches → is_ready row.state ≡ is_ready_told node.phase
         → reply ≡ beaten_reply m node running
-        → ShowsLife (living m (life_after_node m name (AskBeat id running done) reply)) (after_node name (AskBeat id running done) reply t)
+        → RefinesLife (living m (life_after_node m name (AskBeat id running done) reply)) (after_node name (AskBeat id running done) reply t)
     by_phase true up new new_row launches ready is =
         let answer : reply ≡ TellBeat (node.last_id + 1) node.launches (strangers m node.name running) = rw up at is in
         let new_told : is_new_to_node m name id ≡ true = rw told new in
         let new_in : is_new_beat id (node_in t.nodes name) ≡ true = rw in_tables new_row in
         let gone : (if is_ready row.state then [] else row.launches) ≡ filter (λ one. not (has_container node.launches one)) node.launches = rw (ready, up) (none_left [] node.launches) in
-        subst (λ (one : Reply). ShowsLife (living m (life_after_node m name (AskBeat id running done) one)) (after_node name (AskBeat id running done) one t)) (sym answer)
+        subst (λ (one : Reply). RefinesLife (living m (life_after_node m name (AskBeat id running done) one)) (after_node name (AskBeat id running done) one t)) (sym answer)
         (rw (new_told, new_in)
         (new_beat m t name id running done (TellBeat (node.last_id + 1) node.launches (strangers m node.name running)) row node shows apart in_tables told (eqb-true id node.last_id new) gone))
     by_phase false up new new_row launches ready is =
@@ -189,46 +189,46 @@ beat_by m t name id running done reply (Some row) (Some node) shows apart in_tab
         let new_told : is_new_to_node m name id ≡ true = rw told new in
         let new_in : is_new_beat id (node_in t.nodes name) ≡ true = rw in_tables new_row in
         let kept : (if is_ready row.state then [] else row.launches) ≡ filter (λ one. not (has_container [] one)) node.launches = rw (ready, up, launches) (all_left node.launches) in
-        subst (λ (one : Reply). ShowsLife (living m (life_after_node m name (AskBeat id running done) one)) (after_node name (AskBeat id running done) one t)) (sym answer)
+        subst (λ (one : Reply). RefinesLife (living m (life_after_node m name (AskBeat id running done) one)) (after_node name (AskBeat id running done) one t)) (sym answer)
         (rw (new_told, new_in)
         (new_beat m t name id running done (TellBeat (node.last_id + 1) [] []) row node shows apart in_tables told (eqb-true id node.last_id new) kept))
 
     by_lease : (l : Bool) → not (is_waiting node.phase || is_ready_told node.phase) ≡ l → (id == node.last_id) ≡ true → (id == row.last_id) ≡ true → row.launches ≡ node.launches
         → is_ready row.state ≡ is_ready_told node.phase → reply ≡ beat_reply m id running (Some node)
-        → ShowsLife (living m (life_after_node m name (AskBeat id running done) reply)) (after_node name (AskBeat id running done) reply t)
+        → RefinesLife (living m (life_after_node m name (AskBeat id running done) reply)) (after_node name (AskBeat id running done) reply t)
     by_lease true lost new new_row launches ready is =
         let answer : reply ≡ Resync = rw lost at is in
-        subst (λ (one : Reply). ShowsLife (living m (life_after_node m name (AskBeat id running done) one)) (after_node name (AskBeat id running done) one t)) (sym answer) shows
+        subst (λ (one : Reply). RefinesLife (living m (life_after_node m name (AskBeat id running done) one)) (after_node name (AskBeat id running done) one t)) (sym answer) shows
     by_lease false lost new new_row launches ready is =
         by_phase (is_ready_told node.phase) refl new new_row launches ready (rw (lost, not_again (eqb-true id node.last_id new), new) at is)
 
     by_id : (b : Bool) → (id == node.last_id) ≡ b → (id == row.last_id) ≡ (id == node.last_id) → row.launches ≡ node.launches → is_ready row.state ≡ is_ready_told node.phase
         → reply ≡ beat_reply m id running (Some node)
-        → ShowsLife (living m (life_after_node m name (AskBeat id running done) reply)) (after_node name (AskBeat id running done) reply t)
+        → RefinesLife (living m (life_after_node m name (AskBeat id running done) reply)) (after_node name (AskBeat id running done) reply t)
     by_id true new same launches ready is =
         by_lease (not (is_waiting node.phase || is_ready_told node.phase)) refl new (same ∙ new) launches ready is
     by_id false new same launches ready is = old_beat m t name id running done reply shows (rw in_tables (same ∙ new)) (rw told new)
 
 -- a node beat
-pub beat_same : (m : Scene) (t : Tables) (name : List ℕ) (id : ℕ) (running : List Held) (done : List ContainerId) (reply : Reply) → ShowsLife m t → IsBook t.book
+pub beat_same : (m : Scene) (t : Tables) (name : List ℕ) (id : ℕ) (running : List Held) (done : List ContainerId) (reply : Reply) → RefinesLife m t → IsBook t.book
     → reply ≡ node_reply m name (AskBeat id running done)
-    → ShowsLife (living m (life_after_node m name (AskBeat id running done) reply)) (after_node name (AskBeat id running done) reply t)
+    → RefinesLife (living m (life_after_node m name (AskBeat id running done) reply)) (after_node name (AskBeat id running done) reply t)
 beat_same m t name id running done reply shows book is =
     beat_by m t name id running done reply (node_in t.nodes name) (node_told m.life.nodes name) shows book.apart refl refl (shows.nodes name) is
 
 -- a node was answered
-pub node_same : (m : Scene) (t : Tables) (name : List ℕ) (ask : NodeAsk) (reply : Reply) → ShowsLife m t → IsBook t.book → OnlyNodesOffer t → reply ≡ node_reply m name ask
-    → ShowsLife (living m (life_after_node m name ask reply)) (after_node name ask reply t)
+pub node_same : (m : Scene) (t : Tables) (name : List ℕ) (ask : NodeAsk) (reply : Reply) → RefinesLife m t → IsBook t.book → OnlyNodesOffer t → reply ≡ node_reply m name ask
+    → RefinesLife (living m (life_after_node m name ask reply)) (after_node name ask reply t)
 node_same m t name (AskRegister turn capability running) reply shows book offer is = register_same m t name turn capability running reply shows offer is
 node_same m t name (AskBeat id running done) reply shows book offer is = beat_same m t name id running done reply shows book is
 
 -- THE CLOCK
 
 -- the time goes on
-pub tick_same : (m : Scene) (t : Tables) (time : ℕ) (reply : Reply) → ShowsLife m t → reply ≡ clock_reply m (Tick time)
-    → ShowsLife (living m (life_after_clock m (Tick time) reply)) (after_clock (Tick time) reply t)
+pub tick_same : (m : Scene) (t : Tables) (time : ℕ) (reply : Reply) → RefinesLife m t → reply ≡ clock_reply m (Tick time)
+    → RefinesLife (living m (life_after_clock m (Tick time) reply)) (after_clock (Tick time) reply t)
 tick_same m t time reply shows is =
-    subst (λ (one : Reply). ShowsLife (living m (life_after_clock m (Tick time) one)) (after_clock (Tick time) one t)) (sym is)
+    subst (λ (one : Reply). RefinesLife (living m (life_after_clock m (Tick time) one)) (after_clock (Tick time) one t)) (sym is)
     (record {
       records = shows.records;
       epoch = shows.epoch;
@@ -242,31 +242,31 @@ tick_same m t time reply shows is =
     })
 
 -- a node's lease ran out
-pub expired_same : (m : Scene) (t : Tables) (name : List ℕ) (reply : Reply) → ShowsLife m t → reply ≡ clock_reply m (ExpireNode name)
-    → ShowsLife (living m (life_after_clock m (ExpireNode name) reply)) (after_clock (ExpireNode name) reply t)
+pub expired_same : (m : Scene) (t : Tables) (name : List ℕ) (reply : Reply) → RefinesLife m t → reply ≡ clock_reply m (ExpireNode name)
+    → RefinesLife (living m (life_after_clock m (ExpireNode name) reply)) (after_clock (ExpireNode name) reply t)
 expired_same m t name reply shows is = by (may_expire m name) refl is
   where
-    by : (b : Bool) → may_expire m name ≡ b → reply ≡ clock_reply m (ExpireNode name) → ShowsLife (living m (life_after_clock m (ExpireNode name) reply)) (after_clock (ExpireNode name) reply t)
+    by : (b : Bool) → may_expire m name ≡ b → reply ≡ clock_reply m (ExpireNode name) → RefinesLife (living m (life_after_clock m (ExpireNode name) reply)) (after_clock (ExpireNode name) reply t)
     by true may is =
         let answer : reply ≡ Ok = rw may at is in
-        subst (λ (one : Reply). ShowsLife (living m (life_after_clock m (ExpireNode name) one)) (after_clock (ExpireNode name) one t)) (sym answer)
+        subst (λ (one : Reply). RefinesLife (living m (life_after_clock m (ExpireNode name) one)) (after_clock (ExpireNode name) one t)) (sym answer)
         (again m t t.book (with_node (changed_row of_node.Lose) name t.nodes) _ m.life.book _ shows shows.rows
         (tidied_same t.book _ m.life.book _
         (with_same t.book name (changed_row of_node.Lose) expired t.nodes m.life.nodes (λ one. refl) shows.nodes (λ r o a b alike. ap (λ (x : PlainNode). record x { phase = Lost }) alike))))
     by false may is =
         let answer : reply ≡ Unknown = rw may at is in
-        subst (λ (one : Reply). ShowsLife (living m (life_after_clock m (ExpireNode name) one)) (after_clock (ExpireNode name) one t)) (sym answer) shows
+        subst (λ (one : Reply). RefinesLife (living m (life_after_clock m (ExpireNode name) one)) (after_clock (ExpireNode name) one t)) (sym answer) shows
 
 -- a master's lease ran out
-pub master_expired_same : (m : Scene) (t : Tables) (attempt : AttemptId) (reply : Reply) → ShowsLife m t → reply ≡ clock_reply m (ExpireMaster attempt)
-    → ShowsLife (living m (life_after_clock m (ExpireMaster attempt) reply)) (after_clock (ExpireMaster attempt) reply t)
+pub master_expired_same : (m : Scene) (t : Tables) (attempt : AttemptId) (reply : Reply) → RefinesLife m t → reply ≡ clock_reply m (ExpireMaster attempt)
+    → RefinesLife (living m (life_after_clock m (ExpireMaster attempt) reply)) (after_clock (ExpireMaster attempt) reply t)
 master_expired_same m t attempt reply shows is = by (is_live m attempt) refl is
   where
     by : (b : Bool) → is_live m attempt ≡ b → reply ≡ clock_reply m (ExpireMaster attempt)
-        → ShowsLife (living m (life_after_clock m (ExpireMaster attempt) reply)) (after_clock (ExpireMaster attempt) reply t)
+        → RefinesLife (living m (life_after_clock m (ExpireMaster attempt) reply)) (after_clock (ExpireMaster attempt) reply t)
     by true lives is =
         let answer : reply ≡ Ok = rw lives at is in
-        subst (λ (one : Reply). ShowsLife (living m (life_after_clock m (ExpireMaster attempt) one)) (after_clock (ExpireMaster attempt) one t)) (sym answer)
+        subst (λ (one : Reply). RefinesLife (living m (life_after_clock m (ExpireMaster attempt) one)) (after_clock (ExpireMaster attempt) one t)) (sym answer)
         (record {
           records = shows.records;
           epoch = shows.epoch;
@@ -280,11 +280,11 @@ master_expired_same m t attempt reply shows is = by (is_live m attempt) refl is
         })
     by false lives is =
         let answer : reply ≡ Unknown = rw lives at is in
-        subst (λ (one : Reply). ShowsLife (living m (life_after_clock m (ExpireMaster attempt) one)) (after_clock (ExpireMaster attempt) one t)) (sym answer) shows
+        subst (λ (one : Reply). RefinesLife (living m (life_after_clock m (ExpireMaster attempt) one)) (after_clock (ExpireMaster attempt) one t)) (sym answer) shows
 
 -- the clock was answered
-pub clock_same : (m : Scene) (t : Tables) (ask : ClockAsk) (reply : Reply) → ShowsLife m t → reply ≡ clock_reply m ask
-    → ShowsLife (living m (life_after_clock m ask reply)) (after_clock ask reply t)
+pub clock_same : (m : Scene) (t : Tables) (ask : ClockAsk) (reply : Reply) → RefinesLife m t → reply ≡ clock_reply m ask
+    → RefinesLife (living m (life_after_clock m ask reply)) (after_clock ask reply t)
 clock_same m t (Tick time) reply shows is = tick_same m t time reply shows is
 clock_same m t (ExpireNode name) reply shows is = expired_same m t name reply shows is
 clock_same m t (ExpireMaster attempt) reply shows is = master_expired_same m t attempt reply shows is

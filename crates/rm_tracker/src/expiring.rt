@@ -2,7 +2,7 @@
 ghost use Rattle.std.specs.Prelude.{◌≡◌, IfOk, OnErr, if◌then◌else◌};
 ghost use Rattle.rm_types.specs.declared.messages.ClockAsk.{ClockAsk as Ask};
 ghost use Rattle.rm_types.specs.declared.replies.Reply.{Reply as Told};
-ghost use Rattle.rm_agreement.specs.Shown.{lives_by};
+ghost use Rattle.rm_refinement.specs.Services.{lives_by};
 ghost use Rattle.rm_tables.specs.MainEvents.{is_alive};
 ghost use Rattle.rm_tables.specs.Nodes.{node_of};
 ghost use Rattle.rm_tables.specs.Rows.{row_of};

@@ -1,7 +1,7 @@
 ghost use Rattle.std.specs.Prelude.{◌≡◌, ◌+◌, ◌<◌, ◌^◌, IfOk, OnErr};
 ghost use Rattle.rm_model.specs.State.{Scene};
 ghost use Rattle.rm_model.specs.NodeReplies.{clock_reply, life_after_clock, life_after_node, node_reply};
-ghost use Rattle.rm_agreement.specs.Shown.{ShowsLife};
+ghost use Rattle.rm_refinement.specs.Services.{RefinesLife};
 ghost use Rattle.rm_tracker.specs.Answers.{after_clock, after_node};
 ghost use Rattle.rm_tracker.specs.Offers.{OnlyNodesOffer};
 ghost use Rattle.rm_tracker.specs.Told.{beat_id, elapsed};
@@ -15,9 +15,9 @@ use rm_types::{ClockAsk, NoMemory, NodeAsk, Reply, Text};
 /// Answers a node: its name, and what it says. Only want of memory refuses, and leaves all as it was.
 pub fn serve(t: &mut Tables, name: &Text, ask: &NodeAsk) -> Result<Reply, NoMemory>
     requires id { beat_id ask.now + 1 < 2 ^ 32 }
-    ensures reply { (m : Scene) → ShowsLife m t.old → IfOk result (λ reply. reply ≡ node_reply m name.now ask.now) }
+    ensures reply { (m : Scene) → RefinesLife m t.old → IfOk result (λ reply. reply ≡ node_reply m name.now ask.now) }
     ensures changed { IfOk result (λ reply. t.new ≡ after_node name.now ask.now reply t.old) }
-    ensures shows { (m : Scene) → ShowsLife m t.old → OnlyNodesOffer t.old → IfOk result (λ reply. ShowsLife (record m { life = life_after_node m name.now ask.now reply }) t.new) }
+    ensures shows { (m : Scene) → RefinesLife m t.old → OnlyNodesOffer t.old → IfOk result (λ reply. RefinesLife (record m { life = life_after_node m name.now ask.now reply }) t.new) }
     ensures offers { OnlyNodesOffer t.old → OnlyNodesOffer t.new }
     ensures err { OnErr result (t.new ≡ t.old) }
 {
@@ -36,9 +36,9 @@ pub fn serve(t: &mut Tables, name: &Text, ask: &NodeAsk) -> Result<Reply, NoMemo
 /// Answers the clock. Only want of memory refuses, and leaves all as it was.
 pub fn serve_clock(t: &mut Tables, ask: &ClockAsk) -> Result<Reply, NoMemory>
     requires time { t.old.clock + elapsed ask.now < 2 ^ 64 }
-    ensures reply { (m : Scene) → ShowsLife m t.old → IfOk result (λ reply. reply ≡ clock_reply m ask.now) }
+    ensures reply { (m : Scene) → RefinesLife m t.old → IfOk result (λ reply. reply ≡ clock_reply m ask.now) }
     ensures changed { IfOk result (λ reply. t.new ≡ after_clock ask.now reply t.old) }
-    ensures shows { (m : Scene) → ShowsLife m t.old → IfOk result (λ reply. ShowsLife (record m { life = life_after_clock m ask.now reply }) t.new) }
+    ensures shows { (m : Scene) → RefinesLife m t.old → IfOk result (λ reply. RefinesLife (record m { life = life_after_clock m ask.now reply }) t.new) }
     ensures offers { OnlyNodesOffer t.old → OnlyNodesOffer t.new }
     ensures err { OnErr result (t.new ≡ t.old) }
 {

@@ -8,7 +8,7 @@ use Rattle.clap.specs.Takes.{default_passes, entered_passes, is_valid, settle_pa
 use Rattle.clap.specs.declared.parser.matches.ArgMatches.{ArgMatches}
 use Rattle.clap.proofs.WalkLemmas.{both, one_text-rows, raw_values-rows}
 use Rattle.rm_words.specs.Words.{has_flags, is_unknown, names, times}
-use Rattle.rm_words.specs.Reading.{Reads, program}
+use Rattle.rm_words.specs.Reading.{MatchesWords, program}
 use Rattle.rm_words.proofs.Uses.{file_told, moves_told, names_listed, with_defaults}
 use Rattle.rm_words.proofs.Walks.{Walked, all_passed, at, counted_as, rules, settled_with, top}
 
@@ -47,7 +47,7 @@ end_rows rows (Some name) = refl
 matches_are : (words : List Text) (right : has_flags words ≡ true) → matches_of program words ≡ with_defaults (settled_with (whole words right).rows_then (whole words right).name_then)
 matches_are words right = ap (λ (w : Walk). finished rules w.held) (whole words right).walk ∙ end_rows (whole words right).rows_then (whole words right).name_then
 
-pub is_read : (words : List Text) (matches : ArgMatches) → has_flags words ≡ true → HasMatchesOf program words matches → Reads matches words
+pub is_read : (words : List Text) (matches : ArgMatches) → has_flags words ≡ true → HasMatchesOf program words matches → MatchesWords matches words
 is_read words matches right has =
     let w = whole words right in
     let are : rows_of (found_of matches) ≡ with_defaults (settled_with w.rows_then w.name_then) = (has refl).0 ∙ matches_are words right in

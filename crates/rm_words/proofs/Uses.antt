@@ -45,7 +45,7 @@ names_row_of [] = None
 names_row_of (name ∷ names) = Some (record { id = codes "names"; values = name ∷ names; count = None; source = Some CommandLine; reading = reading_by names_rule })
 
 -- the rows hold these names, and each flag so often
-pub record Holds (rows : List Row) (names : List Text) (file_times move_times : ℕ) : Type 0 where
+pub record RowsHold (rows : List Row) (names : List Text) (file_times move_times : ℕ) : Type 0 where
   pub file : row (codes "file") rows ≡ flag_row_of (codes "file") file_times
   pub moves : row (codes "moves") rows ≡ flag_row_of (codes "moves") move_times
   pub named : row (codes "names") rows ≡ names_row_of names
@@ -62,14 +62,14 @@ flag_keeps id other rows differ none =
     ap (λ (others : List Row). row other (with_values id (reading_by (flag_rule id)) CommandLine (codes "true" ∷ []) others)) (nothing_without id rows none)
     ∙ row_kept id other (reading_by (flag_rule id)) CommandLine (codes "true" ∷ []) rows differ
 
-pub file_used : (rows : List Row) (names : List Text) (moves : ℕ) → Holds rows names 0 moves → Holds (used (flag_rule (codes "file")) [] rows) names 1 moves
+pub file_used : (rows : List Row) (names : List Text) (moves : ℕ) → RowsHold rows names 0 moves → RowsHold (used (flag_rule (codes "file")) [] rows) names 1 moves
 file_used rows names moves holds = record {
   file = flag_used (codes "file") rows refl holds.file;
   moves = flag_keeps (codes "file") (codes "moves") rows refl holds.file ∙ holds.moves;
   named = flag_keeps (codes "file") (codes "names") rows refl holds.file ∙ holds.named;
 }
 
-pub moves_used : (rows : List Row) (names : List Text) (files : ℕ) → Holds rows names files 0 → Holds (used (flag_rule (codes "moves")) [] rows) names files 1
+pub moves_used : (rows : List Row) (names : List Text) (files : ℕ) → RowsHold rows names files 0 → RowsHold (used (flag_rule (codes "moves")) [] rows) names files 1
 moves_used rows names files holds = record {
   file = flag_keeps (codes "moves") (codes "file") rows refl holds.moves ∙ holds.file;
   moves = flag_used (codes "moves") rows refl holds.moves;
@@ -81,7 +81,7 @@ name_joined : (names : List Text) (name : Text) → Some (joined (codes "names")
 name_joined [] name = refl
 name_joined (first ∷ names) name = refl
 
-pub name_used : (rows : List Row) (names : List Text) (files moves : ℕ) (name : Text) → Holds rows names files moves → Holds (used names_rule (name ∷ []) rows) (names ++ name ∷ []) files moves
+pub name_used : (rows : List Row) (names : List Text) (files moves : ℕ) (name : Text) → RowsHold rows names files moves → RowsHold (used names_rule (name ∷ []) rows) (names ++ name ∷ []) files moves
 name_used rows names files moves name holds = record {
   file = row_kept (codes "names") (codes "file") (reading_by names_rule) CommandLine (name ∷ []) rows refl ∙ holds.file;
   moves = row_kept (codes "names") (codes "moves") (reading_by names_rule) CommandLine (name ∷ []) rows refl ∙ holds.moves;
@@ -123,13 +123,13 @@ names_default rows = go (has_row (codes "names") rows)
 abbrev pub with_defaults : List Row → List Row
 with_defaults rows = with_default (with_default (with_default rows (flag_rule (codes "file"))) (flag_rule (codes "moves"))) names_rule
 
-pub file_told : (rows : List Row) (names : List Text) (files moves : ℕ) → Holds rows names files moves → one_of (codes "file") (with_defaults rows) ≡ Some (told (not (files == 0)))
+pub file_told : (rows : List Row) (names : List Text) (files moves : ℕ) → RowsHold rows names files moves → one_of (codes "file") (with_defaults rows) ≡ Some (told (not (files == 0)))
 file_told rows names files moves holds =
     ap (λ (others : List Row). one_of (codes "file") others) (names_default (with_default (with_default rows (flag_rule (codes "file"))) (flag_rule (codes "moves"))))
     ∙ ap (option_and_then row_text) (default_keeps (codes "moves") (codes "file") (with_default rows (flag_rule (codes "file"))) refl)
     ∙ default_told (codes "file") files rows refl holds.file
 
-pub moves_told : (rows : List Row) (names : List Text) (files moves : ℕ) → Holds rows names files moves → one_of (codes "moves") (with_defaults rows) ≡ Some (told (not (moves == 0)))
+pub moves_told : (rows : List Row) (names : List Text) (files moves : ℕ) → RowsHold rows names files moves → one_of (codes "moves") (with_defaults rows) ≡ Some (told (not (moves == 0)))
 moves_told rows names files moves holds =
     ap (λ (others : List Row). one_of (codes "moves") others) (names_default (with_default (with_default rows (flag_rule (codes "file"))) (flag_rule (codes "moves"))))
     ∙ default_told (codes "moves") moves (with_default rows (flag_rule (codes "file"))) refl (default_keeps (codes "file") (codes "moves") rows refl ∙ holds.moves)
@@ -138,7 +138,7 @@ values_listed : (names : List Text) → option_map (λ (r : Row). r.values) (nam
 values_listed [] = refl
 values_listed (name ∷ names) = refl
 
-pub names_listed : (rows : List Row) (names : List Text) (files moves : ℕ) → Holds rows names files moves → all_of (codes "names") (with_defaults rows) ≡ listed names
+pub names_listed : (rows : List Row) (names : List Text) (files moves : ℕ) → RowsHold rows names files moves → all_of (codes "names") (with_defaults rows) ≡ listed names
 names_listed rows names files moves holds =
     ap (λ (others : List Row). all_of (codes "names") others) (names_default (with_default (with_default rows (flag_rule (codes "file"))) (flag_rule (codes "moves"))))
     ∙ ap (option_map (λ (r : Row). r.values)) (default_keeps (codes "moves") (codes "names") (with_default rows (flag_rule (codes "file"))) refl

@@ -11,7 +11,7 @@ use Rattle.clap.specs.Takes.{turn_passes, walk_passes}
 use Rattle.rm_words.specs.Words.{is_flag, is_unknown, names, times}
 use Rattle.rm_words.specs.Reading.{program}
 use Rattle.rm_words.proofs.Rows.{has_row_is}
-use Rattle.rm_words.proofs.Uses.{Holds, file_used, flag_row_of, flag_rule, moves_used, name_used, names_row_of, names_rule}
+use Rattle.rm_words.proofs.Uses.{RowsHold, file_used, flag_row_of, flag_rule, moves_used, name_used, names_row_of, names_rule}
 
 -- the arguments as building fills them in, and the command that is built, whose rules they are
 abbrev pub rules : List Rule
@@ -119,7 +119,7 @@ pub record Walked (rows : List Row) (name : Option Text) (words met : List Text)
   pub name_then : Option Text
   pub walk : fold (walked rules []) (at rows name) words ≡ at rows_then name_then
   pub passes : walk_passes top [] (at rows name) words ≡ true
-  pub holds : Holds (settled_with rows_then name_then) met files moves
+  pub holds : RowsHold (settled_with rows_then name_then) met files moves
 
 -- the same names and times in other words
 pub counted_as : (rows : List Row) (name : Option Text) (words met all : List Text) (files file_times moves move_times : ℕ) → met ≡ all → files ≡ file_times → moves ≡ move_times
@@ -146,7 +146,7 @@ one_more rows rows_next name name_next word words met files moves next passes w 
 
 -- from rows that hold what was met so far, the walk over the words adds what stands among them
 abbrev AllPassed : List Text → Type 0
-AllPassed words = (rows : List Row) (name : Option Text) (met : List Text) (files moves : ℕ) → Holds (settled_with rows name) met files moves
+AllPassed words = (rows : List Row) (name : Option Text) (met : List Text) (files moves : ℕ) → RowsHold (settled_with rows name) met files moves
     → files + times (codes "--file") words < 2 → moves + times (codes "--moves") words < 2
     → Walked rows name words (met ++ names words) (files + times (codes "--file") words) (moves + times (codes "--moves") words)
 
@@ -155,7 +155,7 @@ file_first words rest rows name met files moves holds file_once moves_once =
     let one : times (codes "--file") (codes "--file" ∷ words) ≡ 1 + times (codes "--file") words = times_first (codes "--file") (codes "--file") words in
     let other : times (codes "--moves") (codes "--file" ∷ words) ≡ 0 + times (codes "--moves") words = times_first (codes "--moves") (codes "--file") words in
     let unused : files ≡ 0 = omega arith in
-    let before : Holds (settled_with rows name) met 0 moves = subst (λ (n : ℕ). Holds (settled_with rows name) met n moves) unused holds in
+    let before : RowsHold (settled_with rows name) met 0 moves = subst (λ (n : ℕ). RowsHold (settled_with rows name) met n moves) unused holds in
     one_more rows _ name None (codes "--file") words _ _ _ (file_walked rows name) (file_passes rows name (has_row_is (codes "file") (settled_with rows name) ∙ ap is_some before.file))
     (counted_as _ None words _ _ _ _ _ _ refl (omega arith) (omega arith)
     (rest (used (flag_rule (codes "file")) [] (settled_with rows name)) None met 1 moves (file_used (settled_with rows name) met moves before) (omega arith) (omega arith)))
@@ -165,7 +165,7 @@ moves_first words rest rows name met files moves holds file_once moves_once =
     let one : times (codes "--moves") (codes "--moves" ∷ words) ≡ 1 + times (codes "--moves") words = times_first (codes "--moves") (codes "--moves") words in
     let other : times (codes "--file") (codes "--moves" ∷ words) ≡ 0 + times (codes "--file") words = times_first (codes "--file") (codes "--moves") words in
     let unused : moves ≡ 0 = omega arith in
-    let before : Holds (settled_with rows name) met files 0 = subst (λ (n : ℕ). Holds (settled_with rows name) met files n) unused holds in
+    let before : RowsHold (settled_with rows name) met files 0 = subst (λ (n : ℕ). RowsHold (settled_with rows name) met files n) unused holds in
     one_more rows _ name None (codes "--moves") words _ _ _ (moves_walked rows name) (moves_passes rows name (has_row_is (codes "moves") (settled_with rows name) ∙ ap is_some before.moves))
     (counted_as _ None words _ _ _ _ _ _ refl (omega arith) (omega arith)
     (rest (used (flag_rule (codes "moves")) [] (settled_with rows name)) None met files 1 (moves_used (settled_with rows name) met files before) (omega arith) (omega arith)))

@@ -33,7 +33,7 @@ told true = codes "true"
 told false = codes "false"
 
 -- the matches hold the names among the words in their order, and whether each flag stands among them
-pub record Reads (matches : ArgMatches) (words : List Text) : Type 0 where
+pub record MatchesWords (matches : ArgMatches) (words : List Text) : Type 0 where
   pub named : option_map raw_values (matched_of (found_of matches) (codes "names")) ≡ listed (names words)
   pub moves : one_text (found_of matches) (codes "moves") ≡ Some (told (shows_moves words))
   pub file : one_text (found_of matches) (codes "file") ≡ Some (told (is_in_file words))

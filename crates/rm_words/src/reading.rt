@@ -1,7 +1,7 @@
 ghost use Rattle.std.specs.Prelude.{◌≡◌, IfErr, IfOk, map, string_bytes, true};
 ghost use Rattle.clap.specs.Words.{app_of, kind_of};
 ghost use Rattle.rm_words.specs.Words.{has_flags};
-ghost use Rattle.rm_words.specs.Reading.{Reads, program};
+ghost use Rattle.rm_words.specs.Reading.{MatchesWords, program};
 
 use clap::error::ErrorKind;
 use clap::{Arg, ArgAction, ArgMatches, Command, Error};
@@ -30,7 +30,7 @@ fn program<'a>(alloc: Global) -> Result<Command<'a>, AllocError>
 /// The matches of words whose flags are right, which `clap` refuses for want of memory alone.
 fn matches_of<'a>(alloc: Global, words: &'a [String]) -> Result<ArgMatches<'a>, Error>
     requires { has_flags (map string_bytes words.now) ≡ true }
-    ensures ok { IfOk result (λ matches. Reads matches (map string_bytes words.now)) }
+    ensures ok { IfOk result (λ matches. MatchesWords matches (map string_bytes words.now)) }
     ensures err { IfErr result (λ error. kind_of error ≡ ErrorKind.OutOfMemory) }
 {
     program(alloc)?.try_get_matches_from(words)
@@ -39,7 +39,7 @@ fn matches_of<'a>(alloc: Global, words: &'a [String]) -> Result<ArgMatches<'a>, 
 /// What stands among words whose flags are right: the names in their order, and each of the two flags.
 pub(crate) fn read_words<'a>(alloc: Global, words: &'a [String]) -> Result<ArgMatches<'a>, NoMemory>
     requires { has_flags (map string_bytes words.now) ≡ true }
-    ensures { IfOk result (λ matches. Reads matches (map string_bytes words.now)) }
+    ensures { IfOk result (λ matches. MatchesWords matches (map string_bytes words.now)) }
 {
     match matches_of(alloc, words) {
         Ok(matches) => Ok(matches),

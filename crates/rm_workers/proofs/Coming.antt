@@ -16,12 +16,12 @@ use Rattle.rm_model.specs.Place.{Place, close_left, moved}
 use Rattle.rm_tables.specs.declared.events.Refused.{Refused}
 use Rattle.rm_core.specs.Seen.{IsToBeKept, StandsFor}
 use Rattle.rm_core.specs.Words.{handed_of, has_rest, is_blown, stands}
-use Rattle.rm_desk.specs.Does.{Blows, Does, DoesBy, IsEntryOf}
+use Rattle.rm_desk.specs.Effects.{Blows, LaneEffect, EffectBy, IsEntryOf}
 use Rattle.rm_desk.specs.Lanes.{HasNoWork, IsStep, is_ready_at, stands_after}
-use Rattle.rm_desk.specs.Runs.{IsSound}
+use Rattle.rm_desk.specs.Runs.{IsPlaceSound}
 use Rattle.rm_desk.specs.View.{DeskView}
 use Rattle.rm_plain.specs.Falls.{fall}
-use Rattle.rm_plain.specs.Goes.{Goes}
+use Rattle.rm_plain.specs.Goes.{ExtendsRun}
 use Rattle.rm_plain.specs.Order.{May}
 use Rattle.rm_plain.proofs.Choosing.{ready_may}
 use Rattle.rm_plain.proofs.Ending.{goes_trans}
@@ -84,13 +84,13 @@ went_same d alive =
       blown = sym (ap (λ (c : Came). c.blown) here);
       standing = alive ∙ sym (ap (λ (c : Came). c.standing) here);
       unfallen = λ stood. ap (λ (c : Came). c.falls) here;
-      goes = subst (λ (l : List Fallen). Goes any_order l d d) (sym (ap (λ (c : Came). c.falls) here)) (goes_same d);
+      goes = subst (λ (l : List Fallen). ExtendsRun any_order l d d) (sym (ap (λ (c : Came). c.falls) here)) (goes_same d);
     }
 
 -- one move further
 went_on : (began d next : DeskView) (e : Entry) → Went began d → stands d.core ≡ true → next.core.log ≡ d.core.log ++ e ∷ [] → next.place ≡ moved d.place e → is_blown next.core ≡ blown_on (is_blown d.core) e → stands next.core ≡ stands_on true e
     → (stands next.core ≡ true → falls_on (close_left d.place.segments) (is_blown d.core) e ≡ [])
-    → Goes any_order (falls_on (close_left d.place.segments) (is_blown d.core) e) d next → Went began next
+    → ExtendsRun any_order (falls_on (close_left d.place.segments) (is_blown d.core) e) d next → Went began next
 went_on began d next e went alive added place blown standing unfallen goes =
     let c : Came = came began d.core.log in
     let is : came began next.core.log ≡ come_on c e = came_push began d.core.log next.core.log went.more e went.grows added in
@@ -104,7 +104,7 @@ went_on began d next e went alive added place blown standing unfallen goes =
       blown = blown ∙ ap (λ (b : Bool). blown_on b e) went.blown ∙ sym (ap (λ (x : Came). x.blown) is);
       standing = standing ∙ ap (λ (b : Bool). stands_on b e) (sym alive ∙ went.standing) ∙ sym (ap (λ (x : Came). x.standing) is);
       unfallen = λ stood. falls ∙ ap (λ (l : List Fallen). l ++ falls_on (close_left d.place.segments) (is_blown d.core) e) (went.unfallen alive) ∙ unfallen stood;
-      goes = subst (λ (l : List Fallen). Goes any_order l began next) (sym falls)
+      goes = subst (λ (l : List Fallen). ExtendsRun any_order l began next) (sym falls)
           (goes_trans (λ opening. Unit {0}) c.falls (falls_on (close_left d.place.segments) (is_blown d.core) e) began d next went.goes goes);
     }
 
@@ -124,13 +124,13 @@ plain_still Down plain = let x = plain in cc
 plain_still _ plain = record { blown = λ b. refl; standing = λ b. refl; falls = λ close b. refl }
 
 -- a move by such an entry
-still_went : (began d next : DeskView) (kind : Entry → Type 0) (lane : Lane) (does : DoesBy kind (is_blown d.core) lane d next) → Went began d → IsStill does.adds.entry → stands_after lane (close_left d.place.segments) ≡ true
-    → Goes any_order [] d next → Went began next
+still_went : (began d next : DeskView) (kind : Entry → Type 0) (lane : Lane) (does : EffectBy kind (is_blown d.core) lane d next) → Went began d → IsStill does.adds.entry → stands_after lane (close_left d.place.segments) ≡ true
+    → ExtendsRun any_order [] d next → Went began next
 still_went began d next kind lane does went still stays goes =
     let e = does.adds.entry in
     went_on began d next e went does.stood does.adds.added does.adds.place (does.blown ∙ sym (still.blown (is_blown d.core))) (does.standing ∙ stays ∙ sym (still.standing true))
     (λ stood. still.falls (close_left d.place.segments) (is_blown d.core))
-    (subst (λ (l : List Fallen). Goes any_order l d next) (sym (still.falls (close_left d.place.segments) (is_blown d.core))) goes)
+    (subst (λ (l : List Fallen). ExtendsRun any_order l d next) (sym (still.falls (close_left d.place.segments) (is_blown d.core))) goes)
 
 -- an entry that is this one
 is_still : (e one : Entry) → e ≡ one → is_plain one ≡ true → IsStill e
@@ -138,7 +138,7 @@ is_still e one is plain = subst IsStill (sym is) (plain_still one plain)
 
 module _ (began d next : DeskView) (went : Went began d) (tells : TellsAll d) (told : TellsAll next) where
   -- the current segment closes
-  module _ (does : Does End d next) (may : May any_order End d) (idle : is_blown d.core ≡ false → HasNoWork d → has_rest d.core) where
+  module _ (does : LaneEffect End d next) (may : May any_order End d) (idle : is_blown d.core ≡ false → HasNoWork d → has_rest d.core) where
     settled_went : close_left d.place.segments ≡ Some Settle → Went began next
     settled_went c =
         let is : does.adds.entry ≡ Settled = rw c at does.adds.of_kind in
@@ -153,7 +153,7 @@ module _ (began d next : DeskView) (went : Went began d) (tells : TellsAll d) (t
         ap (λ (x : Entry). falls_on (close_left d.place.segments) (is_blown d.core) x) is ∙ ap (λ (close : Option Close). fall_by close (is_blown d.core)) c in
         went_on began d next e went does.stood does.adds.added does.adds.place (does.blown ∙ sym (ap (blown_on (is_blown d.core)) is)) (gone ∙ sym (ap (stands_on true) is))
         (λ stood. let x = sym gone ∙ stood in cc)
-        (subst (λ (l : List Fallen). Goes any_order l d next) (sym falls) (down_goes d next does may tells told idle calls image c))
+        (subst (λ (l : List Fallen). ExtendsRun any_order l d next) (sym falls) (down_goes d next does may tells told idle calls image c))
 
     closed_went : (close : Option Close) → close_left d.place.segments ≡ close → Went began next
     closed_went None c = absurd (rw c at does.adds.of_kind)
@@ -161,13 +161,13 @@ module _ (began d next : DeskView) (went : Went began d) (tells : TellsAll d) (t
     closed_went (Some (Crash calls image)) c = down_went calls image c
 
   -- a lane of the desk's own moves
-  lane_went : (lane : Lane) → Does lane d next → is_ready_at d lane ≡ true → (is_blown d.core ≡ false → HasNoWork d → has_rest d.core) → (lane ≡ End → is_blown d.core ≡ false → has_rest d.core) → IsStep lane → Went began next
+  lane_went : (lane : Lane) → LaneEffect lane d next → is_ready_at d lane ≡ true → (is_blown d.core ≡ false → HasNoWork d → has_rest d.core) → (lane ≡ End → is_blown d.core ≡ false → has_rest d.core) → IsStep lane → Went began next
   lane_went lane does ready idle rests step = by lane does may step
     where
       may : May any_order lane d
       may = may_any lane d ready (λ end unblown. rest_idle d does.stood (rests end unblown))
 
-      by : (lane : Lane) → Does lane d next → May any_order lane d → IsStep lane → Went began next
+      by : (lane : Lane) → LaneEffect lane d next → May any_order lane d → IsStep lane → Went began next
       by Client does may step = still_went began d next (IsEntryOf Client d) Client does went (is_still does.adds.entry _ does.adds.of_kind.3 refl) refl (works Client d next does tells told may tt (λ e. cc)).goes
       by Master does may step = still_went began d next (IsEntryOf Master d) Master does went (is_still does.adds.entry _ does.adds.of_kind.3 refl) refl (works Master d next does tells told may tt (λ e. cc)).goes
       by Node does may step = still_went began d next (IsEntryOf Node d) Node does went (is_still does.adds.entry _ does.adds.of_kind.3 refl) refl (works Node d next does tells told may tt (λ e. cc)).goes
@@ -183,7 +183,7 @@ may_write : (d : DeskView) → is_ready_at d Write ≡ true → May any_order Wr
 may_write d ready = may_any Write d ready (λ end. cc)
 
 -- the operation that is with the store is kept
-kept_went : (began d next : DeskView) → Went began d → Does Write d next → is_ready_at d Write ≡ true → Went began next
+kept_went : (began d next : DeskView) → Went began d → LaneEffect Write d next → is_ready_at d Write ≡ true → Went began next
 kept_went began d next went does ready =
     let is = does.adds.of_kind.2 in
     let still : IsStill does.adds.entry = subst IsStill (sym is) (record { blown = λ b. refl; standing = λ b. refl; falls = λ close b. refl }) in
@@ -196,25 +196,25 @@ blown_went began d next passed went does ready =
     let is : e ≡ Blown passed = does.adds.of_kind in
     let none : falls_on (close_left d.place.segments) (is_blown d.core) e ≡ [] = ap (falls_on (close_left d.place.segments) (is_blown d.core)) is in
     went_on began d next e went does.stood does.adds.added does.adds.place (does.blown ∙ sym (ap (blown_on (is_blown d.core)) is)) (does.standing ∙ sym (ap (stands_on true) is)) (λ stood. none)
-    (subst (λ (l : List Fallen). Goes any_order l d next) (sym none) (blown_goes d next passed does (may_write d ready)))
+    (subst (λ (l : List Fallen). ExtendsRun any_order l d next) (sym none) (blown_goes d next passed does (may_write d ready)))
 
 -- WHERE A MOVE WAS ASKED FOR
 
 stays_went : (began d next : DeskView) → Went began d → next ≡ d → Went began next
 stays_went began d next went same = subst (Went began) (sym same) went
 
-pub stepped_went : (began d next : DeskView) (lane : Lane) (made : Result (Unit {0}) Refused) → Went began d → OnOk made (Does lane d next) → OnOk made (is_ready_at d lane ≡ true) → OnErr made (next ≡ d) → TellsAll d → TellsAll next
+pub stepped_went : (began d next : DeskView) (lane : Lane) (made : Result (Unit {0}) Refused) → Went began d → OnOk made (LaneEffect lane d next) → OnOk made (is_ready_at d lane ≡ true) → OnErr made (next ≡ d) → TellsAll d → TellsAll next
     → (stands d.core ≡ true → is_blown d.core ≡ false → HasNoWork d → has_rest d.core) → (lane ≡ End → is_blown d.core ≡ false → has_rest d.core) → IsStep lane → Went began next
 stepped_went began d next lane (Ok x) went does ready same tells told idle rests step = lane_went began d next went tells told lane does ready (idle does.stood) rests step
 stepped_went began d next lane (Err x) went does ready same tells told idle rests step = stays_went began d next went same
 
-pub stepped_moves : (began d next : DeskView) (lane : Lane) (made : Result (Unit {0}) Refused) → Went began d → OnOk made (Does lane d next) → OnOk made (is_ready_at d lane ≡ true) → TellsAll d → TellsAll next → IsSound d
+pub stepped_moves : (began d next : DeskView) (lane : Lane) (made : Result (Unit {0}) Refused) → Went began d → OnOk made (LaneEffect lane d next) → OnOk made (is_ready_at d lane ≡ true) → TellsAll d → TellsAll next → IsPlaceSound d
     → (stands d.core ≡ true → is_blown d.core ≡ false → HasNoWork d → has_rest d.core) → (lane ≡ End → is_blown d.core ≡ false → has_rest d.core) → IsStep lane → OnOk made (Moves began lane d next)
 stepped_moves began d next lane (Ok x) went does ready tells told sound idle rests step =
     record { does = does; ready = ready; went = went; further = lane_went began d next went tells told lane does ready (idle does.stood) rests step; sound = sound; idle = idle does.stood; told = tells; tells = told }
 stepped_moves began d next lane (Err x) went does ready tells told sound idle rests step = tt
 
-pub learned_both : (began d next : DeskView) (made : Result (Unit {0}) Refused) → Went began d → OnOk made (Does Write d next) → OnOk made (is_ready_at d Write ≡ true) → OnOk made (Went began d × Went began next)
+pub learned_both : (began d next : DeskView) (made : Result (Unit {0}) Refused) → Went began d → OnOk made (LaneEffect Write d next) → OnOk made (is_ready_at d Write ≡ true) → OnOk made (Went began d × Went began next)
 learned_both began d next (Ok x) went does ready = (went, kept_went began d next went does ready)
 learned_both began d next (Err x) went does ready = tt
 
@@ -225,7 +225,7 @@ refused_both began d next passed (Err x) went does ready = tt
 pub closes_at : (began d : DeskView) (passed : ℕ) → Went began d → (image : ℕ) × (close_left (came began d.core.log).place.segments ≡ Some (Crash passed image)) → (image : ℕ) × (close_left d.place.segments ≡ Some (Crash passed image))
 closes_at began d passed went closes = (closes.0, ap (λ (p : Place). close_left p.segments) went.place ∙ closes.1)
 
-pub learned_went : (began d next : DeskView) (made : Result (Unit {0}) Refused) → Went began d → OnOk made (Does Write d next) → OnOk made (is_ready_at d Write ≡ true) → OnErr made (next ≡ d) → Went began next
+pub learned_went : (began d next : DeskView) (made : Result (Unit {0}) Refused) → Went began d → OnOk made (LaneEffect Write d next) → OnOk made (is_ready_at d Write ≡ true) → OnErr made (next ≡ d) → Went began next
 learned_went began d next (Ok x) went does ready same = kept_went began d next went does ready
 learned_went began d next (Err x) went does ready same = stays_went began d next went same
 
@@ -233,7 +233,7 @@ some_same : {X : Type 0} (x y : X) → Some x ≡ Some y → x ≡ y
 some_same x y h = cc
 
 -- the operation that was with the store is the one that is kept
-pub learned_says : (d next : DeskView) (op : Op) (made : Result (Unit {0}) Refused) → OnOk made (Does Write d next) → Some op ≡ handed_of d.core → ((opening : List Op) → StandsFor opening d.core → IsToBeKept opening d.core op)
+pub learned_says : (d next : DeskView) (op : Op) (made : Result (Unit {0}) Refused) → OnOk made (LaneEffect Write d next) → Some op ≡ handed_of d.core → ((opening : List Op) → StandsFor opening d.core → IsToBeKept opening d.core op)
     → OnOk made ((opening : List Op) → StandsFor opening d.core → (one : Op) × IsToBeKept opening d.core one × (next.core.log ≡ d.core.log ++ Kept one ∷ []))
 learned_says d next op (Ok x) does is to_keep = λ opening k.
     let same : does.adds.of_kind.0 ≡ op = some_same does.adds.of_kind.0 op (sym does.adds.of_kind.1 ∙ sym is) in
@@ -245,7 +245,7 @@ refused_went began d next passed (Ok x) went does ready same = blown_went began 
 refused_went began d next passed (Err x) went does ready same = stays_went began d next went same
 
 -- the fall of the device by which a life went down
-pub down_falls : (began d next : DeskView) (calls image : ℕ) → Went began d → (does : Does End d next) → close_left d.place.segments ≡ Some (Crash calls image)
+pub down_falls : (began d next : DeskView) (calls image : ℕ) → Went began d → (does : LaneEffect End d next) → close_left d.place.segments ≡ Some (Crash calls image)
     → (came began next.core.log).falls ≡ fall calls image (is_blown d.core) ∷ []
 down_falls began d next calls image went does c =
     let e = does.adds.entry in

@@ -7,13 +7,13 @@ use Rattle.rm_disk.proofs.Views.{leaves_same}
 use Rattle.rm_model.specs.Place.{Place, close_left}
 use Rattle.rm_store.specs.Store.{StoreState, seen}
 use Rattle.rm_core.specs.Words.{stands}
-use Rattle.rm_desk.specs.Runs.{IsOver as IsDeskOver, IsSound as IsDeskSound}
+use Rattle.rm_desk.specs.Runs.{IsScriptOver as IsDeskOver, IsPlaceSound as IsDeskSound}
 use Rattle.rm_desk.specs.View.{DeskView}
 use Rattle.rm_plain.specs.declared.halts.Halt.{Halt}
 use Rattle.rm_plain.specs.declared.halts.Halt.TheVariants.{DiskFault, Full, Schedule, Memory}
 use Rattle.rm_plain.specs.declared.lives.LifeEnd.{LifeEnd}
 use Rattle.rm_plain.specs.declared.lives.LifeEnd.TheVariants.{Rest, Down}
-use Rattle.rm_plain.specs.Goes.{Goes}
+use Rattle.rm_plain.specs.Goes.{ExtendsRun}
 use Rattle.rm_plain.specs.Keeping.{FuseStays, HaltsBy, IsHaltedBy, IsKeptOn, Serves, armed_by}
 use Rattle.rm_plain.specs.Lives.{EndsBy}
 use Rattle.rm_plain.specs.Survives.{HoldsWithin}
@@ -49,8 +49,8 @@ begins_serving view d store alive serves =
 
 module _ {D : Type 0} (view : D → DiskView) (began : Began) (d : DeskView) (store : StoreState D) (went : Went began.desk d) where
   -- while it stands the device didn't fall
-  standing_goes : stands d.core ≡ true → Goes any_order [] began.desk d
-  standing_goes alive = subst (λ (l : List Fallen). Goes any_order l began.desk d) (went.unfallen alive) went.goes
+  standing_goes : stands d.core ≡ true → ExtendsRun any_order [] began.desk d
+  standing_goes alive = subst (λ (l : List Fallen). ExtendsRun any_order l began.desk d) (went.unfallen alive) went.goes
 
   pub down_ended : (image : ℕ) → Sunk view began store image d.core.log → WentDown view began d store image
   down_ended image s =
@@ -61,7 +61,7 @@ module _ {D : Type 0} (view : D → DiskView) (began : Began) (d : DeskView) (st
         blown = s.blown;
         within = s.within;
         spent = s.spent;
-        goes = subst (λ (l : List Fallen). Goes any_order l began.desk d) s.falls went.goes;
+        goes = subst (λ (l : List Fallen). ExtendsRun any_order l began.desk d) s.falls went.goes;
         down = went.standing ∙ s.down;
         keeps = record { stays = s.stays; sound = s.sound; kept = s.kept };
       }

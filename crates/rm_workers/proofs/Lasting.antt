@@ -12,11 +12,11 @@ use Rattle.rm_model.specs.Lawful.{state_after}
 use Rattle.rm_model.specs.Place.{close_left}
 use Rattle.rm_model.specs.State.{LifeState, Manager}
 use Rattle.rm_store.specs.Store.{StoreState, room_behind, seen}
-use Rattle.rm_desk.specs.Does.{HasHanded, IsHanded}
+use Rattle.rm_desk.specs.Effects.{HasHanded, IsHanded}
 use Rattle.rm_desk.specs.View.{DeskView}
 use Rattle.rm_baton.specs.Entries.{AddsCommon, AllCommon, IsCommon}
-use Rattle.rm_stillness.specs.Still.{SameLife, Still}
-use Rattle.rm_stillness.proofs.Stays.{close_still, state_still}
+use Rattle.rm_workers.specs.Still.{SameLife, Still}
+use Rattle.rm_workers.proofs.Stays.{close_still, state_still}
 use Rattle.rm_plain.specs.declared.halts.Halt.{Halt}
 use Rattle.rm_plain.specs.declared.halts.Halt.TheVariants.{DiskFault, Full, Schedule, Memory}
 use Rattle.rm_plain.specs.Keeping.{IsFull, KeepsOn, LeavesOn, armed_by, blown_in, has_blown}
@@ -27,7 +27,7 @@ use Rattle.rm_workers.specs.declared.turns.End.TheVariants as ends
 use Rattle.rm_workers.specs.Began.{Began, seen_then}
 use Rattle.rm_workers.specs.Came.{Came, blown_on, came, come_on, falls_on, stands_on}
 use Rattle.rm_workers.specs.Turns.{EndFact}
-use Rattle.rm_workers.specs.Work.{Awaits, Halting, IsWhy, IsWithStore, Owing, Refused, Serving, Stands, Sunk, Tried, Wrote}
+use Rattle.rm_workers.specs.Work.{Awaits, Halting, IsWhy, IsWithStore, Owing, Refused, Serving, ContinuesLife, Sunk, Tried, Wrote}
 use Rattle.rm_workers.proofs.Coming.{came_more}
 
 -- HOW FAR THE LIFE HAS COME
@@ -165,7 +165,7 @@ module _ (began : Began) (old new : List Entry) (adds : AddsCommon old new) wher
   why_lasts inner Memory why = tt
 
 module _ {D : Type 0} (view : D → DiskView) (began : Began) (store : StoreState D) where
-  stands_lasts : (old new : List Entry) → AddsCommon old new → Stands began old → Stands began new
+  stands_lasts : (old new : List Entry) → AddsCommon old new → ContinuesLife began old → ContinuesLife began new
   stands_lasts old new adds s =
       record { more = s.more ++ adds.added; grows = grows_still began.desk.core.log old new s.more s.grows adds; standing = (came_still began.desk old new s.more s.grows adds).standing ∙ s.standing }
 

@@ -4,3 +4,4 @@ pub mod Lasting
 pub mod Turning
 pub mod Making
 pub mod Finishing
+pub mod Stays

@@ -7,27 +7,27 @@ use Rattle.rm_types.specs.declared.operations.Op.{Op}
 use Rattle.rm_types.specs.declared.scripts.Close.{Close}
 use Rattle.rm_types.specs.declared.scripts.Close.TheVariants.{Settle, Crash}
 use Rattle.rm_types.specs.Records.{records, fits_records}
-use Rattle.rm_disk.specs.Disk.{DiskView, GoesOn}
+use Rattle.rm_disk.specs.Disk.{DiskView, IsLaterView}
 use Rattle.rm_disk.specs.Fuse.{Fused, KeepsFuse}
 use Rattle.rm_disk.proofs.Views.{leaves_of}
-use Rattle.rm_formats.specs.Device.{Holds}
+use Rattle.rm_formats.specs.Device.{DeviceHolds}
 use Rattle.rm_model.specs.Lawful.{state_after}
 use Rattle.rm_model.specs.Place.{Place, close_left, moved}
 use Rattle.rm_model.specs.State.{LifeState, Manager}
 use Rattle.rm_types.specs.Counts.{Rose}
 use Rattle.rm_store.specs.declared.fault.StoreError.{StoreError}
 use Rattle.rm_store.specs.declared.fault.StoreError.TheVariants as store
-use Rattle.rm_store.specs.Store.{StoreState, AddsOp, Has, IsSound, LeavesOps, needed_for, room_behind, seen}
+use Rattle.rm_store.specs.Store.{StoreState, AddsOp, Has, StoreInvariant, LeavesOps, needed_for, room_behind, seen}
 use Rattle.rm_core.specs.Seen.{StandsFor, IsToBeKept}
 use Rattle.rm_core.specs.Words.{has_rest, is_blown, stands}
-use Rattle.rm_desk.specs.Does.{Blows, Does, HasHanded, IsHanded}
+use Rattle.rm_desk.specs.Effects.{Blows, LaneEffect, HasHanded, IsHanded}
 use Rattle.rm_desk.specs.Lanes.{stands_after}
 use Rattle.rm_desk.specs.Runs.{HasBlown}
 use Rattle.rm_desk.specs.View.{DeskView}
 use Rattle.rm_plain.specs.declared.halts.Halt.TheVariants.{Memory}
 use Rattle.rm_plain.specs.Halted.{halt_of}
 use Rattle.rm_plain.specs.Keeping.{IsKeptOn, IsUnkept, KeepsOn, LeavesOn, Serves, StoresOn, armed_by, blown_in, has_blown}
-use Rattle.rm_plain.specs.Lives.{GoesOn as LifeGoesOn}
+use Rattle.rm_plain.specs.Lives.{TakesStep as LifeGoesOn}
 use Rattle.rm_plain.specs.Order.{May}
 use Rattle.rm_plain.specs.Survives.{HoldsAfter, HoldsWithin}
 use Rattle.rm_plain.proofs.Ending.{settles_on, works_on}
@@ -37,7 +37,7 @@ use Rattle.rm_plain.proofs.Stored.{blown_stores, has_kept, keeps_trans, op_store
 use Rattle.rm_workers.specs.AnyOrder.{any_order}
 use Rattle.rm_workers.specs.Began.{Began, seen_then}
 use Rattle.rm_workers.specs.Came.{Moves, Went, came}
-use Rattle.rm_workers.specs.Work.{Halting, IsWhy, IsWithStore, Owing, Refused, Serving, Stands, Stays, Sunk, Tried, Wrote}
+use Rattle.rm_workers.specs.Work.{Halting, IsWhy, IsWithStore, Owing, Refused, Serving, ContinuesLife, Stays, Sunk, Tried, Wrote}
 use Rattle.rm_workers.proofs.Coming.{down_falls, may_any, rest_idle}
 
 some_same : {X : Type 0} (x y : X) → Some x ≡ Some y → x ≡ y
@@ -65,7 +65,7 @@ op_left opening log op old new next leaves has =
       grows = sym (append-nil log);
     }
   where
-    either : (image : List ℕ) → Holds image (state_after opening log).kept ⊎ Holds image ((state_after opening log).kept ++ op ∷ []) → HoldsAfter opening log image
+    either : (image : List ℕ) → DeviceHolds image (state_after opening log).kept ⊎ DeviceHolds image ((state_after opening log).kept ++ op ∷ []) → HoldsAfter opening log image
     either image (inl before) = inl before
     either image (inr after) = inr (op, next.first, after)
 
@@ -76,7 +76,7 @@ spends (Some Settle) passed e = cc
 spends (Some (Crash calls image)) passed e = let same : calls ≡ passed = cc in (image, ap (λ (n : ℕ). Some (Crash n image)) same)
 
 module _ {D : Type 0} (view : D → DiskView) (began : Began) where
-  stands_next : (next : DeskView) → Went began.desk next → stands next.core ≡ true → Stands began next.core.log
+  stands_next : (next : DeskView) → Went began.desk next → stands next.core ≡ true → ContinuesLife began next.core.log
   stands_next next went alive = record { more = went.more; grows = went.grows; standing = sym went.standing ∙ alive }
 
   -- what is known of the log is known of the desk
@@ -149,7 +149,7 @@ module _ {D : Type 0} (view : D → DiskView) (began : Began) where
   -- A SEGMENT CLOSES
 
   module _ (d next : DeskView) (store : StoreState D) (s : Serving view began store d.core.log) (m : Moves began.desk End d next) (rests : is_blown d.core ≡ false → has_rest d.core) where
-    abbrev does : Does End d next
+    abbrev does : LaneEffect End d next
     does = m.does
 
     abbrev went : Went began.desk d
@@ -191,7 +191,7 @@ module _ {D : Type 0} (view : D → DiskView) (began : Began) where
               faults = subst (λ (x : D). began.inner.faults ≤ (view x).faults) (sym inner) s.stays.faults;
             }
 
-        pub settled_on : IsSound view now → now.disk.armed ≡ armed_by (close_left next.place.segments) → now.disk.blown ≡ false → now.is_broken ≡ store.is_broken → ((calls : ℕ) → now.disk.armed ≡ Some calls → now.disk.passed ≤ calls) → Serving view began now next.core.log
+        pub settled_on : StoreInvariant view now → now.disk.armed ≡ armed_by (close_left next.place.segments) → now.disk.blown ≡ false → now.is_broken ≡ store.is_broken → ((calls : ℕ) → now.disk.armed ≡ Some calls → now.disk.passed ≤ calls) → Serving view began now next.core.log
         settled_on now_sound armed unblown broken within =
             let settled = settle_goes d next does tells told may_end settles in
             serving_on d next store now went further s
@@ -237,7 +237,7 @@ module _ {D : Type 0} (view : D → DiskView) (began : Began) where
   -- AN OPERATION IS KEPT, OR REFUSED
 
   -- the manager learns that it is kept
-  pub wrote_on : (d next : DeskView) (store : StoreState D) (op : Op) → Went began.desk d → Went began.desk next → Wrote view began store op d.core.log → Does Write d next
+  pub wrote_on : (d next : DeskView) (store : StoreState D) (op : Op) → Went began.desk d → Went began.desk next → Wrote view began store op d.core.log → LaneEffect Write d next
       → ((opening : List Op) → StandsFor opening d.core → (one : Op) × IsToBeKept opening d.core one × (next.core.log ≡ d.core.log ++ Kept one ∷ [])) → Serving view began store next.core.log
   wrote_on d next store op went further w does learned =
       let before = w.tried.before in
@@ -315,7 +315,7 @@ within_kept : {D : Type 0} (view : D → DiskView) (keeps : D → D → Type 0) 
 within_kept view keeps succeeds old new within kept calls armed = let was = sym kept.armed ∙ armed in kept.within calls was (within calls was)
 
 module _ {D : Type 0} (view : D → DiskView) (keeps : D → D → Type 0) (began : Began) (old new : StoreState D) (op : Op) (succeeds : Bool)
-    (sound : IsSound view new) (fuse : KeepsFuse view keeps succeeds old.disk new.disk) (goes_on : GoesOn (seen view old.disk) (seen view new.disk))
+    (sound : StoreInvariant view new) (fuse : KeepsFuse view keeps succeeds old.disk new.disk) (goes_on : IsLaterView (seen view old.disk) (seen view new.disk))
     (moments : old.is_broken ≡ false → (ops : List Op) → Has (seen view old.disk) ops → fits_records (records ops) op ≡ true → LeavesOps (seen view old.disk) (seen view new.disk) ops op) where
   stays_on : Stays view began old → Stays view began new
   stays_on s =

@@ -10,12 +10,12 @@ use Rattle.rm_disk.specs.declared.fallen.Fallen.{Fallen}
 use Rattle.rm_model.specs.Place.{Place, close_left, moved}
 use Rattle.rm_core.specs.Seen.{StandsFor}
 use Rattle.rm_core.specs.Words.{has_rest, is_blown, stands}
-use Rattle.rm_desk.specs.Does.{Does}
+use Rattle.rm_desk.specs.Effects.{LaneEffect}
 use Rattle.rm_desk.specs.Lanes.{HasNoWork, is_ready_at}
-use Rattle.rm_desk.specs.Runs.{IsSound, Tells}
+use Rattle.rm_desk.specs.Runs.{IsPlaceSound, DescribesState}
 use Rattle.rm_desk.specs.View.{DeskView}
 use Rattle.rm_plain.specs.Falls.{fall}
-use Rattle.rm_plain.specs.Goes.{Goes}
+use Rattle.rm_plain.specs.Goes.{ExtendsRun}
 use Rattle.rm_workers.specs.AnyOrder.{any_order}
 
 -- what is left of the script, whether an operation was refused, whether the life stands, and the falls of the device that it let happen
@@ -75,15 +75,15 @@ pub record Went (began d : DeskView) : Type 0 where
   pub blown : is_blown d.core ≡ (came began d.core.log).blown
   pub standing : stands d.core ≡ (came began d.core.log).standing
   pub unfallen : stands d.core ≡ true → (came began d.core.log).falls ≡ []
-  pub goes : Goes any_order (came began d.core.log).falls began d
+  pub goes : ExtendsRun any_order (came began d.core.log).falls began d
 
 -- a lane of it moves: the desk goes on, and what held of it before and after
 pub record Moves (began : DeskView) (lane : Lane) (old new : DeskView) : Type 0 where
-  pub does : Does lane old new
+  pub does : LaneEffect lane old new
   pub ready : is_ready_at old lane ≡ true
   pub went : Went began old
   pub further : Went began new
-  pub sound : IsSound old
+  pub sound : IsPlaceSound old
   pub idle : is_blown old.core ≡ false → HasNoWork old → has_rest old.core
-  pub told : (opening : List Op) → StandsFor opening old.core → Tells opening old
-  pub tells : (opening : List Op) → StandsFor opening new.core → Tells opening new
+  pub told : (opening : List Op) → StandsFor opening old.core → DescribesState opening old
+  pub tells : (opening : List Op) → StandsFor opening new.core → DescribesState opening new

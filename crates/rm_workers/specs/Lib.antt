@@ -5,3 +5,4 @@ pub mod Carried
 pub mod Work
 pub mod Turns
 pub mod Ends
+pub mod Still

@@ -7,7 +7,7 @@ use Rattle.rm_types.specs.declared.operations.Op.{Op}
 use Rattle.rm_types.specs.Ranges.{IsOperation}
 use Rattle.rm_disk.specs.Disk.{DiskView}
 use Rattle.rm_store.specs.Store.{StoreState}
-use Rattle.rm_desk.specs.Does.{Does}
+use Rattle.rm_desk.specs.Effects.{LaneEffect}
 use Rattle.rm_desk.specs.Lanes.{is_ready_at}
 use Rattle.rm_desk.specs.View.{DeskView}
 use Rattle.rm_plain.specs.declared.halts.Halt.{Halt}
@@ -38,7 +38,7 @@ IsHelpers _ = ⊥
 -- what a helper's turn does: its lane was ready, and moved, while no halt stood; it wasn't ready, and nothing changed; or the life is over or
 -- halted, and the desk is what it was
 abbrev pub Helps : Lane → Helped → HeldView → HeldView → Type 0
-Helps lane Moved old new = (is_ready_at old.desk lane ≡ true) × Does lane old.desk new.desk × (old.halt ≡ None) × (new.halt ≡ None)
+Helps lane Moved old new = (is_ready_at old.desk lane ≡ true) × LaneEffect lane old.desk new.desk × (old.halt ≡ None) × (new.halt ≡ None)
 Helps lane Still old new = (is_ready_at old.desk lane ≡ false) × (new ≡ old)
 Helps lane Over old new = new.desk ≡ old.desk
 
@@ -46,7 +46,7 @@ Helps lane Over old new = new.desk ≡ old.desk
 
 -- the lane was ready, and moved
 abbrev pub IsMove : Lane → DeskView → DeskView → Type 0
-IsMove lane old new = (is_ready_at old lane ≡ true) × Does lane old new
+IsMove lane old new = (is_ready_at old lane ≡ true) × LaneEffect lane old new
 
 -- what the last turn does to the desk: nothing, or its first operation was handed and no memory was found for more; or the segment closed
 abbrev pub EndMakes : End → DeskView → DeskView → Type 0

@@ -4,12 +4,12 @@ use Rattle.rm_types.specs.declared.entries.Entry.{Entry}
 use Rattle.rm_types.specs.declared.operations.Op.{Op}
 use Rattle.rm_types.specs.Counts.{Rose}
 use Rattle.rm_types.specs.Records.{records, fits_records}
-use Rattle.rm_disk.specs.Disk.{DiskView, GoesOn}
+use Rattle.rm_disk.specs.Disk.{DiskView, IsLaterView}
 use Rattle.rm_model.specs.Lawful.{state_after}
 use Rattle.rm_model.specs.Place.{close_left}
-use Rattle.rm_store.specs.Store.{StoreState, AddsOp, Has, IsSound, LeavesOps, seen}
+use Rattle.rm_store.specs.Store.{StoreState, AddsOp, Has, StoreInvariant, LeavesOps, seen}
 use Rattle.rm_core.specs.Seen.{StandsFor}
-use Rattle.rm_desk.specs.Does.{HasHanded, IsHanded}
+use Rattle.rm_desk.specs.Effects.{HasHanded, IsHanded}
 use Rattle.rm_baton.specs.declared.carries.Known.{Known}
 use Rattle.rm_baton.specs.Views.{IsIdle}
 use Rattle.rm_plain.specs.declared.halts.Halt.{Halt}
@@ -58,7 +58,7 @@ IsWhy began inner log (Schedule place) = ⊥
 IsWhy began inner log Memory = Unit {0}
 
 -- the log goes on from the one with which the life began, and the life stands behind it
-pub record Stands (began : Began) (log : List Entry) : Type 0 where
+pub record ContinuesLife (began : Began) (log : List Entry) : Type 0 where
   pub more : List Entry
   pub grows : log ≡ began.desk.core.log ++ more
   pub standing : (came began.desk log).standing ≡ true
@@ -74,9 +74,9 @@ module _ {D : Type 0} (view : D → DiskView) (began : Began) (store : StoreStat
   -- the store serves the life: no append failed, unless the life blew; the fuse is armed as the current segment says, and blown where the life is;
   -- no more calls passed than it is armed with, and just as many where it is blown; and the store has what is kept
   pub record Serving (log : List Entry) : Type 0 where
-    pub stands : Stands began log
+    pub stands : ContinuesLife began log
     pub stays : Stays
-    pub sound : IsSound view store
+    pub sound : StoreInvariant view store
     pub unbroken : (came began.desk log).blown ≡ false → store.is_broken ≡ false
     pub armed : store.disk.armed ≡ armed_by (close_left (came began.desk log).place.segments)
     pub blown : store.disk.blown ≡ (came began.desk log).blown
@@ -92,7 +92,7 @@ module _ {D : Type 0} (view : D → DiskView) (began : Began) (store : StoreStat
 
   -- a worker halted the life
   pub record Halting (halt : Halt) (log : List Entry) : Type 0 where
-    pub stands : Stands began log
+    pub stands : ContinuesLife began log
     pub stays : Stays
     pub why : IsWhy began (view store.disk.inner) log halt
     pub left : OverBegan began (λ opening. LeavesOn opening began.desk.core.log log (seen_then began) (seen view store.disk))
@@ -103,7 +103,7 @@ module _ {D : Type 0} (view : D → DiskView) (began : Began) (store : StoreStat
     pub grows : log ≡ began.desk.core.log ++ more
     pub down : (came began.desk log).standing ≡ false
     pub stays : Stays
-    pub sound : IsSound view store
+    pub sound : StoreInvariant view store
     pub calls : ℕ
     pub blew : Bool
     pub armed : store.disk.armed ≡ Some calls
@@ -119,7 +119,7 @@ module _ {D : Type 0} (view : D → DiskView) (began : Began) (store : StoreStat
     pub before : StoreState D
     pub owing : Owing view began before op log
     pub stays : Stays view began store
-    pub sound : IsSound view store
+    pub sound : StoreInvariant view store
     pub armed : store.disk.armed ≡ before.disk.armed
     pub within : (calls : ℕ) → store.disk.armed ≡ Some calls → store.disk.passed ≤ calls
     pub leaves : (ops : List Op) → Has (seen view before.disk) ops → fits_records (records ops) op ≡ true → LeavesOps (seen view before.disk) (seen view store.disk) ops op
@@ -138,5 +138,5 @@ module _ {D : Type 0} (view : D → DiskView) (began : Began) (store : StoreStat
     pub blown : store.disk.blown ≡ true
     pub passes : store.disk.passed ≡ passed
     pub spent : store.disk.armed ≡ Some store.disk.passed
-    pub goes_on : GoesOn (seen view tried.before.disk) (seen view store.disk)
+    pub goes_on : IsLaterView (seen view tried.before.disk) (seen view store.disk)
     pub reads : (bytes : List ℕ) → (seen view store.disk).told ≡ Some bytes → (seen view store.disk).images bytes

@@ -7,9 +7,9 @@ ghost use Rattle.rm_model.specs.Place.{close_left};
 ghost use Rattle.rm_core.specs.Seen.{StandsFor, IsToBeKept};
 ghost use Rattle.rm_core.specs.Words.{has_rest, is_blown, stands};
 ghost use Rattle.rm_tables.specs.declared.events.Refused.{Refused};
-ghost use Rattle.rm_desk.specs.Does.{Blows, Does};
+ghost use Rattle.rm_desk.specs.Effects.{Blows, LaneEffect};
 ghost use Rattle.rm_desk.specs.Lanes.{IsStep, is_ready_at};
-ghost use Rattle.rm_desk.specs.Runs.{IsOver};
+ghost use Rattle.rm_desk.specs.Runs.{IsScriptOver};
 ghost use Rattle.rm_workers.specs.Came.{Moves, Went, came};
 
 use crate::since::Since;
@@ -104,7 +104,7 @@ impl<S: Since> Held<S> {
 
     /// Whether the workers have nothing left to do: a halt stands, the life went down, or the run is at its end.
     pub(crate) fn is_over(&self) -> bool
-        ensures over { IsTrue result → self.now.halt ≡ None → (stands self.now.desk.core ≡ false) ⊎ IsOver self.now.desk }
+        ensures over { IsTrue result → self.now.halt ≡ None → (stands self.now.desk.core ≡ false) ⊎ IsScriptOver self.now.desk }
         ensures going { result ≡ false → (self.now.halt ≡ None) × (stands self.now.desk.core ≡ true) }
     {
         self.halt.is_some() || self.desk.is_down() || self.desk.is_at_end()
@@ -128,7 +128,7 @@ impl<S: Since> Held<S> {
 
     /// The operation that is with the store is kept.
     pub(crate) fn kept(&mut self) -> Result<(), Refused>
-        ensures does { OnOk result (Does Lane.Write self.old.desk self.new.desk) }
+        ensures does { OnOk result (LaneEffect Lane.Write self.old.desk self.new.desk) }
         ensures went { OnOk result (Went S.began.desk self.old.desk × Went S.began.desk self.new.desk) }
         ensures kept { OnOk result ((opening : List AnyOp) → StandsFor opening self.old.desk.core → (op : AnyOp) × IsToBeKept opening self.old.desk.core op × (self.new.desk.core.log ≡ self.old.desk.core.log ++ WasKept op ∷ [])) }
         ensures halt { OnOk result (self.new.halt ≡ self.old.halt) }

@@ -1,7 +1,7 @@
 //! The workers' holds: each takes the value that the baton carries, makes its turn, and puts the value back.
 ghost use Rattle.std.specs.Prelude.{◌≡◌, ◌⊎◌, false, None};
 ghost use Rattle.rm_core.specs.Words.{stands};
-ghost use Rattle.rm_desk.specs.Runs.{IsOver};
+ghost use Rattle.rm_desk.specs.Runs.{IsScriptOver};
 ghost use Rattle.rm_baton.specs.Entries.{AddsCommon};
 ghost use Rattle.rm_baton.specs.Passes.{IsPassOf};
 ghost use Rattle.rm_baton.specs.Views.{IsIdle, Meets, took, view};
@@ -154,7 +154,7 @@ pub(crate) fn hold_last<S: Since, D: Disk, R: Wait>(
     requires of { IsPassOf baton.now pass }
     requires knows { Knows (EndFact D.view S.began store.now end) (view pass) }
     ensures ended { EndFact D.view S.began store.now end result.desk.core.log }
-    ensures over { result.halt ≡ None → (stands result.desk.core ≡ false) ⊎ IsOver result.desk }
+    ensures over { result.halt ≡ None → (stands result.desk.core ≡ false) ⊎ IsScriptOver result.desk }
 {
     let _ = store;
     let _ = end;

@@ -1,6 +1,6 @@
 ghost use Rattle.std.specs.Prelude.{◌≡◌, ◌⊎◌, IfErr, IfOk, None, false, true};
 ghost use Rattle.rm_core.specs.Words.{stands};
-ghost use Rattle.rm_desk.specs.Runs.{IsOver};
+ghost use Rattle.rm_desk.specs.Runs.{IsScriptOver};
 ghost use Rattle.rm_baton.specs.Passes.{IsPassOf};
 ghost use Rattle.rm_baton.specs.Views.{view};
 ghost use Rattle.rm_plain.specs.Keeping.{FuseStays, HaltsBy, Serves};
@@ -52,7 +52,7 @@ fn finish<S: Since, D: Disk>(
     end: End,
 ) -> (Desk, Store<D>, Result<LifeEnd, Halt>)
     requires ended { EndFact D.view S.began store end held.desk.core.log }
-    requires over { held.halt ≡ None → (stands held.desk.core ≡ false) ⊎ IsOver held.desk }
+    requires over { held.halt ≡ None → (stands held.desk.core ≡ false) ⊎ IsScriptOver held.desk }
     ensures ended { Ended D.view S.began result.0 result.1 result.2 }
 {
     let halt = held.halt();

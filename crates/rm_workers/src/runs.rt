@@ -2,18 +2,18 @@
 ghost use Rattle.std.specs.Prelude.{◌≡◌, ◌≢◌, ◌⊎◌, ◌++◌, ◌<◌, [], length, IfErr, IsOk, OnOk, None, false, true};
 ghost use Rattle.rm_types.specs.declared.messages.Lane.{Lane};
 ghost use Rattle.rm_types.specs.Records.{stray};
-ghost use Rattle.rm_disk.specs.Disk.{IsQuiet, Tells};
-ghost use Rattle.rm_formats.specs.Device.{Holds};
+ghost use Rattle.rm_disk.specs.Disk.{IsQuiet, IfTold};
+ghost use Rattle.rm_formats.specs.Device.{DeviceHolds};
 ghost use Rattle.rm_queues.specs.Rules.{KeepsRules};
-ghost use Rattle.rm_moves.specs.Messages.{KeepsLimits};
+ghost use Rattle.rm_invariant.specs.messages.Ranges.{KeepsLimits};
 ghost use Rattle.rm_model.specs.Downs.{AllGoDownAtRest};
 ghost use Rattle.rm_model.specs.Lawful.{Lawful, IsDone, state_after};
 ghost use Rattle.rm_model.specs.State.{opening_state};
-ghost use Rattle.rm_core.specs.Adds.{CanBeginOver, IsLeft};
+ghost use Rattle.rm_core.specs.Moves.{CanBeginOver, IsLeft};
 ghost use Rattle.rm_core.specs.Words.{new_manager, stands};
 ghost use Rattle.rm_desk.specs.Lanes.{is_ready_at};
 ghost use Rattle.rm_desk.specs.Scripts.{CanGoAlong};
-ghost use Rattle.rm_store.specs.Store.{IsSound as IsStoreSound, seen};
+ghost use Rattle.rm_store.specs.Store.{StoreInvariant as IsStoreSound, seen};
 ghost use Rattle.rm_plain.specs.Falls.{falls_of};
 ghost use Rattle.rm_plain.specs.Goes.{IsOver};
 ghost use Rattle.rm_plain.specs.Keeping.{IsFoundOn};
@@ -312,8 +312,8 @@ pub fn run_script<D: Disk + Drop + Send, G: Gate + Sync, R: Threads + Wait + Syn
     ensures unblown { disk.blown ≡ false → result.disk.blown ≡ false }
     ensures idle { script.lives ≡ [] → (result.log ≡ []) × (result.disk ≡ disk) × IsOk result.ended }
     ensures begun { script.lives ≢ [] → OnOk result.ended (result.log ≢ []) }
-    ensures opening { result.log ≢ [] → Tells (seen D.view disk) (λ bytes. Holds bytes result.opening) }
-    ensures found { (result.opening ≡ []) ⊎ Tells (seen D.view disk) (λ bytes. Holds bytes result.opening) }
+    ensures opening { result.log ≢ [] → IfTold (seen D.view disk) (λ bytes. DeviceHolds bytes result.opening) }
+    ensures found { (result.opening ≡ []) ⊎ IfTold (seen D.view disk) (λ bytes. DeviceHolds bytes result.opening) }
     ensures read_back { stray result.opening ≡ None }
     ensures quiet { result.log ≡ [] → IsQuiet (seen D.view disk) (seen D.view result.disk) }
     ensures images { SurvivesAll result.opening result.log (seen D.view disk) (seen D.view result.disk) }

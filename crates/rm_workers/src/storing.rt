@@ -3,7 +3,7 @@ ghost use Rattle.std.specs.Prelude.{◌≡◌, ◌≤◌, ℕ, List, OnOk, OnErr
 ghost use Rattle.rm_types.specs.declared.entries.Entry.{Entry as AnyEntry};
 ghost use Rattle.rm_types.specs.Ranges.{IsOperation};
 ghost use Rattle.rm_model.specs.Place.{close_left};
-ghost use Rattle.rm_store.specs.Store.{IsSound};
+ghost use Rattle.rm_store.specs.Store.{StoreInvariant};
 ghost use Rattle.rm_plain.specs.Halted.{halt_of};
 ghost use Rattle.rm_plain.specs.Keeping.{armed_by};
 ghost use Rattle.rm_workers.specs.Turns.{WrittenFact};
@@ -35,10 +35,10 @@ fn passed_of<D: Disk>(store: &mut Store<D>) -> u32
 
 /// Arms the fuse where the segment that became the current one is to crash.
 pub(crate) fn arm<D: Disk>(d: &Desk, store: &mut Store<D>) -> Result<(), NoMemory>
-    requires sound { IsSound D.view store.old }
+    requires sound { StoreInvariant D.view store.old }
     requires unarmed { store.old.disk.armed ≡ None }
     requires unblown { store.old.disk.blown ≡ false }
-    ensures sound { OnOk result (IsSound D.view store.new) }
+    ensures sound { OnOk result (StoreInvariant D.view store.new) }
     ensures armed { OnOk result (store.new.disk.armed ≡ armed_by (close_left d.now.place.segments)) }
     ensures unblown { OnOk result (store.new.disk.blown ≡ false) }
     ensures within { OnOk result ((calls : ℕ) → store.new.disk.armed ≡ Some calls → store.new.disk.passed ≤ calls) }
@@ -69,7 +69,7 @@ fn halt_of(error: StoreError) -> Halt
 ///
 /// What the store's worker knows then holds after every log after which the operation was with the store.
 pub(crate) fn write<S: Since, D: Disk>(store: &mut Store<D>, op: &Op) -> Written
-    requires sound { IsSound D.view store.old }
+    requires sound { StoreInvariant D.view store.old }
     requires op { IsOperation op.now }
     ensures written { (log : List AnyEntry) → Owing D.view S.began store.old op.now log → WrittenFact D.view S.began store.new op.now result log }
 {

@@ -1,7 +1,7 @@
 use Rattle.std.proofs.Common.{refl}
 use Rattle.rm_core.specs.declared.manager.Move.TheVariants.{Hand}
 use Rattle.rm_types.specs.declared.messages.Lane.TheVariants as lanes
-use Rattle.rm_desk.specs.Does.{IsEntryOf}
+use Rattle.rm_desk.specs.Effects.{IsEntryOf}
 use Rattle.rm_desk.specs.Feeds.{at, place_of}
 use Rattle.rm_desk.proofs.Moving.{hand_entry, silent_does}
 use Rattle.rm_desk.proofs.moves.hand.Goals as goal

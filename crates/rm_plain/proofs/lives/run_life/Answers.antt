@@ -3,7 +3,7 @@ use Rattle.std.proofs.lemmas.Result.{err_from_is_err_and}
 use Rattle.rm_store.specs.Store.{seen}
 use Rattle.rm_plain.specs.declared.halts.Halt.{Halt}
 use Rattle.rm_plain.specs.Keeping.{HaltsBy, IsKeptOn}
-use Rattle.rm_plain.specs.Lives.{ComesToRest, GoesOn, WentDown}
+use Rattle.rm_plain.specs.Lives.{ComesToRest, TakesStep, WentDown}
 use Rattle.rm_plain.specs.Schedule.{by_letters, steps_of}
 use Rattle.rm_plain.proofs.Ending.{goes_trans, stores_trans, fuse_trans, rest_on, down_on}
 use Rattle.rm_plain.proofs.Halting.{halts_on}
@@ -21,7 +21,7 @@ returns-in_err-tick-clause-halts g c =
 pub moves-preserved : goal.moves-preserved
 moves-preserved g c =
     let m = c.moves.invariant in
-    let on = subst (λ (w : List ℕ). GoesOn (by_letters (steps_of w)) g.D.Disk.view c.moves.d c.tick.new.d c.moves.store c.tick.new.store) m.whole (rw c.in-On.is at c.in_ok-tick.ensures.moves) in
+    let on = subst (λ (w : List ℕ). TakesStep (by_letters (steps_of w)) g.D.Disk.view c.moves.d c.tick.new.d c.moves.store c.tick.new.store) m.whole (rw c.in-On.is at c.in_ok-tick.ensures.moves) in
     record {
       standing = on.stands;
       serves = on.serves;

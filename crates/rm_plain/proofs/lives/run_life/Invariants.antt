@@ -3,7 +3,7 @@ use Rattle.rm_types.specs.declared.operations.Op.{Op}
 use Rattle.rm_store.specs.Store.{seen}
 use Rattle.rm_core.specs.Words.{stands}
 use Rattle.rm_desk.specs.Runs.{left}
-use Rattle.rm_plain.specs.Goes.{Goes}
+use Rattle.rm_plain.specs.Goes.{ExtendsRun}
 use Rattle.rm_plain.specs.Keeping.{FuseStays, Serves, StoresOn}
 use Rattle.rm_plain.specs.Schedule.{IsAt, order_of}
 use Rattle.rm_plain.proofs.lives.run_life.Given as goal
@@ -14,7 +14,7 @@ invariant-moves g l = record {
   serves : Serves g.D.Disk.view l.d l.store;
   at : IsAt l.schedule l.d.core.log;
   whole : l.schedule.whole ≡ l.fn.schedule.whole;
-  goes : Goes (order_of l.fn.schedule) [] l.fn.d l.d;
+  goes : ExtendsRun (order_of l.fn.schedule) [] l.fn.d l.d;
   stores : (opening : List Op) → StoresOn opening l.fn.d l.d (seen g.D.Disk.view l.fn.store.disk) (seen g.D.Disk.view l.store.disk);
   fuse : FuseStays g.D.Disk.view l.fn.store.disk l.store.disk;
 }

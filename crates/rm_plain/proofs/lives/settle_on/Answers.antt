@@ -5,8 +5,8 @@ use Rattle.rm_types.specs.declared.messages.Lane.TheVariants.{End}
 use Rattle.rm_types.specs.declared.scripts.Close.TheVariants.{Settle}
 use Rattle.rm_model.specs.Place.{close_left}
 use Rattle.rm_core.specs.Words.{is_blown}
-use Rattle.rm_desk.specs.Does.{Does}
-use Rattle.rm_desk.specs.Runs.{IsSound}
+use Rattle.rm_desk.specs.Effects.{LaneEffect}
+use Rattle.rm_desk.specs.Runs.{IsPlaceSound}
 use Rattle.rm_desk.specs.View.{DeskView}
 use Rattle.rm_plain.specs.declared.halts.Halt.{Halt}
 use Rattle.rm_plain.specs.Keeping.{HaltsBy, armed_by}
@@ -17,7 +17,7 @@ use Rattle.rm_plain.proofs.Halting.{halts_still, halts_unkept, if_memory}
 use Rattle.rm_plain.proofs.lives.settle_on.Goals as goal
 
 -- the life didn't blow
-whole : (d next : DeskView) → Does End d next → IsSound d → close_left d.place.segments ≡ Some Settle → is_blown d.core ≡ false
+whole : (d next : DeskView) → LaneEffect End d next → IsPlaceSound d → close_left d.place.segments ≡ Some Settle → is_blown d.core ≡ false
 whole d next does sound settles = settling_unblown d sound does.stood settles
 
 pub arm-requires-clause-unbroken : goal.arm-requires-clause-unbroken

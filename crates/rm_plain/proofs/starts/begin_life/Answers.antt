@@ -5,7 +5,7 @@ use Rattle.rm_types.specs.declared.operations.Op.{Op}
 use Rattle.rm_types.specs.Lanes.{lane_of_entry}
 use Rattle.rm_model.specs.Lawful.{state_after}
 use Rattle.rm_store.specs.Store.{seen}
-use Rattle.rm_core.specs.Adds.{IsLeft}
+use Rattle.rm_core.specs.Moves.{IsLeft}
 use Rattle.rm_plain.specs.declared.halts.Halt.{Halt}
 use Rattle.rm_plain.specs.Keeping.{HaltsOver, IsFoundOn}
 use Rattle.rm_plain.proofs.Halting.{goes_any, halts_same, if_memory}

@@ -7,7 +7,7 @@ use Rattle.rm_types.specs.declared.operations.Op.{Op}
 use Rattle.rm_types.specs.Lanes.{lane_of_entry}
 use Rattle.rm_model.specs.Lawful.{state_after}
 use Rattle.rm_store.specs.Store.{seen}
-use Rattle.rm_core.specs.Adds.{IsLeft}
+use Rattle.rm_core.specs.Moves.{IsLeft}
 use Rattle.rm_desk.specs.View.{DeskView}
 use Rattle.rm_plain.specs.Keeping.{HaltsBy, IsFoundOn}
 use Rattle.rm_plain.specs.Lives.{EndsBy}

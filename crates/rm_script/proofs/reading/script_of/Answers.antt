@@ -2,7 +2,7 @@ use Rattle.std.proofs.Common.{ℕ, ◌<◌, List, length, sym, subst, arith}
 use Rattle.std.specs.Prelude.{Err}
 use Rattle.std.proofs.lemmas.Bool.{eqb-true, eqb-false}
 use Rattle.std.proofs.lemmas.List.{nil_from_length}
-use Rattle.rm_script.specs.Reading.{Tells}
+use Rattle.rm_script.specs.Reading.{AnswersReading}
 use Rattle.rm_script.proofs.Loop.{is_next, goes_on, too_many, too_far, refuses, ends, ends_open}
 use Rattle.rm_script.proofs.reading.script_of.Goals as goal
 use Rattle.rm_script.proofs.reading.script_of.Goals.{then-line-gt-MOST_LINES-via-then-line-gt-MOST_LINES, then-line-gt-MOST_LINES-via-else-line-gt-MOST_LINES+then-bytes-after-gt-MOST_BYTES}
@@ -25,7 +25,7 @@ returns-in-Err c =
     let rest : List ℕ = c.lines.rest.now in
     let some : 0 < length rest = omega (arith, apart) in
     let next = is_next c.lines.count c.args.bytes.now rest c.lines.draft c.cut_line.result.0.now c.cut_line.result.1.now c.lines.invariant some c.cut_line.ensures.lines c.cut_line.ensures.cut in
-    subst (λ e. Tells c.args.bytes.now (Err e)) (sym c.at.ensures) (refuses c.in-Err.error c.lines.count c.args.bytes.now rest c.lines.draft _ _ c.lines.invariant next c.in-Err.ensures)
+    subst (λ e. AnswersReading c.args.bytes.now (Err e)) (sym c.at.ensures) (refuses c.in-Err.error c.lines.count c.args.bytes.now rest c.lines.draft _ _ c.lines.invariant next c.in-Err.ensures)
 
 pub lines-preserved : goal.lines-preserved
 lines-preserved c =
@@ -43,5 +43,5 @@ returns-in-Ok-into_script c =
 pub returns-in-Err-into_script : goal.returns-in-Err-into_script
 returns-in-Err-into_script c =
     let nothing = nil_from_length c.lines.rest.now (eqb-true _ _ (sym c.lines-test.ensures)) in
-    subst (λ e. Tells c.args.bytes.now (Err e)) (sym c.at-in-Err-into_script.ensures)
+    subst (λ e. AnswersReading c.args.bytes.now (Err e)) (sym c.at-in-Err-into_script.ensures)
     (ends_open c.in-Err-into_script.error c.lines.count c.args.bytes.now c.lines.rest.now c.lines.draft nothing c.lines.invariant c.in-Err-into_script.ensures)

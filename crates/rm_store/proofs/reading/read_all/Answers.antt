@@ -2,7 +2,7 @@ use Rattle.std.proofs.Common.{◌≡◌, ℕ, ◌+◌, ◌-◌, true, false, Opt
 use Rattle.std.proofs.lemmas.Result.{err_from_is_err_and}
 use Rattle.rm_formats.specs.Frames.{frame}
 use Rattle.rm_formats.specs.Device.{IsDamagedAt}
-use Rattle.rm_disk.specs.Disk.{Tells}
+use Rattle.rm_disk.specs.Disk.{IfTold}
 use Rattle.rm_journal.specs.declared.fault.JournalError
 use Rattle.rm_store.specs.declared.fault.StoreError
 use Rattle.rm_store.specs.Causes.{IsWhy}
@@ -36,7 +36,7 @@ payloads-preserved g c =
     let v = g.D.Disk.view c.payloads.disk in
     let took = c.in_ok-take_in.ensures.ok in
     let j = c.payloads.journal in
-    let gives : Tells v (λ bytes. (left : List (List ℕ)) → HasRead j bytes (map frame c.payloads.ops) left → (others : List (List ℕ)) × HasRead c.next.new.self bytes (map frame c.payloads.ops ++ c.deref.result.now ∷ []) others) =
+    let gives : IfTold v (λ bytes. (left : List (List ℕ)) → HasRead j bytes (map frame c.payloads.ops) left → (others : List (List ℕ)) × HasRead c.next.new.self bytes (map frame c.payloads.ops ++ c.deref.result.now ∷ []) others) =
     (λ bytes told left read.
     let h = rw c.in-Some.is at c.in_ok-gate.ensures.next in
     let n = h bytes told (map frame c.payloads.ops) left read in

@@ -3,7 +3,7 @@ use Rattle.std.proofs.lemmas.Bool.{cases_lt}
 use Rattle.std.proofs.lemmas.Result.{err_from_is_err_and}
 use Rattle.rm_formats.specs.Frames.{frame}
 use Rattle.rm_journal.specs.declared.fault.JournalError
-use Rattle.rm_journal.specs.Journal.{LeavesEither, Adds}
+use Rattle.rm_journal.specs.Journal.{LeavesEither, AppendsPayload}
 use Rattle.rm_store.specs.declared.fault.StoreError
 use Rattle.rm_store.specs.Errors.{of_journal}
 use Rattle.rm_store.specs.Store.{LeavesOps, needed_for}
@@ -74,7 +74,7 @@ returns-clause-added g c = λ ops has fits.
     elim (cases_lt 0 v.size) [
       | inl some ↦
           append_adds v v' j ops c.args.op.now c.requires.whole some (λ bytes told. g.met.D.Disk.image_size c.args.disk.now bytes (g.met.D.Disk.as_it_reads c.args.disk.now bytes told)) c.requires.op fits has
-          c.append.ensures.region_alone.goes_on (subst (Adds v v' j) payload c.in_ok-append.ensures.added)
+          c.append.ensures.region_alone.goes_on (subst (AppendsPayload v v' j) payload c.in_ok-append.ensures.added)
       | inr none ↦
           let end = c.requires.whole.end in
           let full = (c.append.ensures.full c.requires.unbroken).1 (omega (arith, none, end)) in

@@ -1,5 +1,5 @@
 use Rattle.std.proofs.Common.{◌∙◌}
-use Rattle.rm_agreement.proofs.Rows.{first_alone}
+use Rattle.rm_refinement.proofs.Rows.{first_alone}
 use Rattle.rm_tracker.specs.Answers.{is_on}
 use Rattle.rm_tracker.proofs.beating.lives_on.Goals as goal
 

@@ -3,7 +3,7 @@ use Rattle.rm_types.specs.declared.messages.Lane.TheVariants.{Begin}
 use Rattle.rm_types.specs.declared.operations.Op.{Op}
 use Rattle.rm_model.specs.Lawful.{state_after}
 use Rattle.rm_store.specs.Store.{seen}
-use Rattle.rm_core.specs.Adds.{IsLeft}
+use Rattle.rm_core.specs.Moves.{IsLeft}
 use Rattle.rm_plain.specs.Keeping.{IsFoundOn}
 use Rattle.rm_plain.specs.declared.halts.Stop.{Stop}
 use Rattle.rm_plain.specs.Starts.{LivesTo}

@@ -1,9 +1,9 @@
 use Rattle.rm_core.specs.declared.manager.Move.TheVariants.{Sched}
 use Rattle.rm_core.proofs.Moving.{Done, core_sound, sched_done}
-use Rattle.rm_life_facts.proofs.Facts.{sched_facts_of}
-use Rattle.rm_range_facts.proofs.Absorbable.{can_absorb}
-use Rattle.rm_range_facts.proofs.Passable.{are_few, can_pass}
-use Rattle.rm_running.proofs.Phases.{sched_open}
+use Rattle.rm_invariant.proofs.auxiliary.Facts.{sched_facts_of}
+use Rattle.rm_invariant.proofs.bounds.Absorbable.{can_absorb}
+use Rattle.rm_invariant.proofs.bounds.Passable.{are_few, can_pass}
+use Rattle.rm_invariant.proofs.Phases.{sched_open}
 use Rattle.rm_core.proofs.manager.Core.sched.Goals as goal
 
 done : (c : goal.After-sched) → Done Sched c.self.inside.tables c.sched.new.t c.self.inside.log c.sched.new.log c.sched.result

@@ -2,7 +2,7 @@ use Rattle.std.proofs.Common.{◌<◌, subst, sym}
 use Rattle.rm_core.specs.Seen.{Seen}
 use Rattle.rm_core.specs.declared.manager.Move.TheVariants.{Serve}
 use Rattle.rm_core.proofs.Moving.{Done, core_sound, serve_done, serving_runs}
-use Rattle.rm_range_facts.proofs.Called.{attempts_few}
+use Rattle.rm_invariant.proofs.bounds.Called.{attempts_few}
 use Rattle.rm_core.proofs.manager.Core.serve.Goals as goal
 use Rattle.rm_types.specs.Limits.{most_served}
 

@@ -1,0 +1,70 @@
+ghost use Rattle.rm_store.specs.Store.{StoreInvariant};
+
+use crate::costs::Stop;
+use crate::{appends, numbered};
+use rm_disk::{Disk, FileDisk, Fuse, Window};
+use rm_store::{OpenFail, Store};
+use rm_types::{Items, Op};
+use std::time::Instant;
+
+/// What is done with a store once it is open.
+#[derive(Clone, Copy)]
+pub enum Work {
+    /// The operations of so many jobs are appended, and the time of each is told.
+    Append { jobs: u32 },
+    /// How many operations it has is told, and how many nanoseconds its opening took.
+    Open,
+    /// Numbered operations are appended until it is full, and each number is told once it is kept.
+    Number,
+    /// Its operations must be the numbered ones, from the first on, and their count is told.
+    Count,
+}
+
+/// Opens the store in a file, or tells why it can't be opened, and does this work with it.
+pub fn do_work(rt: HostRuntime, name: &str, work: Work) -> Result<(), Stop> {
+    let alloc = rt.alloc();
+    let since = Instant::now(&rt)?;
+    let disk = Fuse::new(alloc, Window::new(alloc, FileDisk::new(&rt, name)));
+    match Store::open(alloc, disk) {
+        Ok((mut store, _tree, ops)) => work_on(rt, &mut store, &ops, since, work),
+        Err(refused) => Err(tell_refusal(rt, name, refused)),
+    }
+}
+
+fn work_on<D: Disk>(
+    rt: HostRuntime,
+    store: &mut Store<D>,
+    ops: &Items<Op>,
+    since: Instant,
+    work: Work,
+) -> Result<(), Stop>
+    requires { StoreInvariant D.view store.old }
+{
+    match work {
+        Work::Append { jobs } => appends::measure(rt, store, jobs),
+        Work::Open => tell_time(rt, ops.len(), since),
+        Work::Number => numbered::append_behind(rt, store, ops.len()),
+        Work::Count => numbered::tell_count(rt, ops),
+    }
+}
+
+fn tell_time(rt: HostRuntime, many: usize, since: Instant) -> Result<(), Stop> {
+    let nanos = since.elapsed(&rt)?.as_nanos();
+    println!(rt; "{many} {nanos}")?;
+    Ok(())
+}
+
+/// Tells on standard error why the store in a file of that name wasn't opened.
+fn tell_refusal(
+    rt: HostRuntime,
+    name: &str,
+    refused: OpenFail<Window<FileDisk<'_, HostRuntime>>>,
+) -> Stop {
+    let OpenFail { why, disk } = refused;
+    let file = disk.inner().inner();
+    let _told = match file.last_fault() {
+        Some(fault) => eprintln!(rt; "{name}: {fault}"),
+        None => eprintln!(rt; "{name}: {why:?}"),
+    };
+    Stop
+}

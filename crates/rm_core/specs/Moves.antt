@@ -1,0 +1,142 @@
+-- What a move asks, and what it adds to the log.
+use Rattle.std.specs.Prelude.{◌≡◌, ℕ, ◌+◌, ◌-◌, ◌^◌, ◌<◌, ◌≤◌, ◌⊎◌, max, List, [], ◌∷◌, ◌++◌, All, Bool, true, false, None, Some, slice_get}
+use Rattle.rm_types.specs.declared.entries.Entry.{Entry}
+use Rattle.rm_types.specs.declared.entries.Entry.TheVariants.{Opened, Handed, Kept as KeptEntry, Blown as BlownEntry, Served, Settled, Down as DownEntry}
+use Rattle.rm_types.specs.declared.messages.Lane.{Lane}
+use Rattle.rm_types.specs.declared.messages.Lane.TheVariants.{Main as MainLane, Sched as SchedLane, Hand as HandLane, Write, End, Begin as BeginLane}
+use Rattle.rm_types.specs.declared.operations.Op.{Op}
+use Rattle.rm_types.specs.declared.replies.Reply.{Reply}
+use Rattle.rm_types.specs.declared.settings.Settings.{Settings}
+use Rattle.rm_types.specs.Ranges.{IsOperation}
+use Rattle.rm_types.specs.Records.{Records, records, stray}
+use Rattle.rm_model.specs.Lawful.{state_after}
+use Rattle.rm_model.specs.State.{Manager}
+use Rattle.rm_types.specs.Lanes.{feed_lane, lane_of_entry, sender_of}
+use Rattle.rm_types.specs.Limits.{greatest_stamp, most_served}
+use Rattle.rm_core.specs.Seen.{Seen, StandsFor, handed_op}
+use Rattle.rm_core.specs.Queues.{landed_in}
+use Rattle.rm_core.specs.Words.{as_new}
+use Rattle.rm_tables.specs.declared.tables.Tables.{Tables}
+use Rattle.rm_tables.specs.Lives.{is_ready, may_go_down}
+use Rattle.rm_invariant.specs.messages.Ranges.{IsMessage}
+use Rattle.rm_invariant.specs.measure.Measure.{begin_measure, message_measure, measure}
+use Rattle.rm_core.specs.declared.manager.Move.{Move}
+use Rattle.rm_core.specs.declared.manager.Move.TheVariants.{Serve, Main, Sched, Hand, Kept, Blown, Settle, Down, Begin}
+
+-- the tree is what some operations of a store amount to, whose parts are in their ranges
+pub record IsOfStore (tree : Records) : Type 0 where
+  pub ops : List Op
+  pub framed : All IsOperation ops
+  pub none_stray : stray ops ≡ None
+  pub amounts : tree ≡ records ops
+
+-- a life may begin over what is recorded, whatever that is: there is an epoch and a stamp left
+pub record CanBeginOver (tree : Records) : Type 0 where
+  pub of_store : IsOfStore tree
+  pub epoch : tree.next_epoch < 2 ^ 24
+  pub stamp : tree.stamp < 2 ^ 63 - 1
+
+-- a move may be asked for: the number that is handed to a life is 1 to 10^15; the parts of a message are in their ranges, and
+-- not more than 100,000 are served in a life
+abbrev pub CanMake : Tables → Move → Type 0
+CanMake t (Begin tree handed) = CanBeginOver tree × (1 ≤ handed) × (handed ≤ greatest_stamp)
+CanMake t (Serve message) = IsMessage message × (t.served < most_served)
+CanMake t _ = Unit {0}
+
+-- the lane of a move
+abbrev pub lane_of : Move → Lane
+lane_of (Serve message) = feed_lane (sender_of message)
+lane_of Main = MainLane
+lane_of Sched = SchedLane
+lane_of Hand = HandLane
+lane_of Kept = Write
+lane_of (Blown passed) = Write
+lane_of Settle = End
+lane_of Down = End
+lane_of (Begin tree handed) = BeginLane
+
+-- a move may be made: its lane is ready; a life may go down before all is worked off
+abbrev pub may_make : Tables → Move → Bool
+may_make t Down = may_go_down t
+may_make t next = is_ready t (lane_of next)
+
+-- the entry that a move adds to a log
+abbrev pub IsOf : Move → Tables → Entry → Type 0
+IsOf (Begin tree handed) t e = e ≡ Opened (landed_in t tree) tree.next_epoch (max handed (tree.stamp + 1))
+IsOf Main t e = lane_of_entry e ≡ MainLane
+IsOf (Serve message) t e = (reply : Reply) × (e ≡ Served (sender_of message) message reply)
+IsOf Sched t e = lane_of_entry e ≡ SchedLane
+IsOf Hand t e = e ≡ Handed
+IsOf Kept t e = (op : Op) × (handed_op t ≡ Some op) × (e ≡ KeptEntry op)
+IsOf (Blown passed) t e = e ≡ BlownEntry passed
+IsOf Settle t e = e ≡ Settled
+IsOf Down t e = e ≡ DownEntry
+
+-- a move adds one entry, which is of its kind
+pub record AddsEntry (next : Move) (t : Tables) (log longer : List Entry) : Type 0 where
+  pub entry : Entry
+  pub of_move : IsOf next t entry
+  pub added : longer ≡ log ++ entry ∷ []
+
+-- the last life blew, and the tree is what is kept and the first operation that awaits amount to
+pub record HasLanded (tree : Records) (s : Manager) : Type 0 where
+  pub blew : s.blew ≡ true
+  pub op : Op
+  pub first : slice_get s.awaiting 0 ≡ Some op
+  pub amounts : tree ≡ records (s.kept ++ op ∷ [])
+
+-- what a life can have left of its store: what is kept, or this and the operation that the store refused
+abbrev pub IsLeft : Records → Manager → Type 0
+IsLeft tree s = (tree ≡ records s.kept) ⊎ HasLanded tree s
+
+-- a life begins over what the last one left; of other moves this says nothing
+abbrev pub GoesOnFrom : Move → List Op → Seen → Type 0
+GoesOnFrom (Begin tree handed) opening seen = IsLeft tree (state_after opening seen.log)
+GoesOnFrom _ opening seen = Unit {0}
+
+-- a move of the manager's own makes the weight less; a message adds a fixed weight at most; a life begins with the weight of its
+-- first event and of what is recorded
+abbrev pub MeasureChanges : Move → Settings → ℕ → ℕ → Type 0
+MeasureChanges (Begin tree handed) settings old new = new ≤ begin_measure settings tree
+MeasureChanges Settle settings old new = new ≤ old
+MeasureChanges Down settings old new = new ≤ old
+MeasureChanges (Serve message) settings old new = new ≤ old + message_measure
+MeasureChanges _ settings old new = new < old
+
+-- a life stands after each move but the one that it goes down by, and before each that doesn't begin one
+abbrev pub LifeAround : Move → Bool → Bool → Type 0
+LifeAround (Begin tree handed) before now = (before ≡ false) × (now ≡ true)
+LifeAround Down before now = (before ≡ true) × (now ≡ false)
+LifeAround _ before now = (before ≡ true) × (now ≡ true)
+
+-- how many messages were served in the life after a move
+abbrev pub served_after : Move → ℕ → ℕ
+served_after (Begin tree handed) served = 0
+served_after Down served = 0
+served_after (Serve message) served = served + 1
+served_after _ served = served
+
+-- whether an operation of the life was refused after a move; of a life that went down, whether one was
+abbrev pub blown_after : Move → Bool → Bool
+blown_after (Begin tree handed) blown = false
+blown_after (Blown passed) blown = true
+blown_after _ blown = blown
+
+-- a segment settles with the tables as they were; of other moves this says nothing
+abbrev pub TablesStay : Move → Tables → Tables → Type 0
+TablesStay Settle old new = new ≡ old
+TablesStay _ old new = Unit {0}
+
+-- what a move that is made does: it adds its entry; over each store for which the log was lawful, and over which a life that begins
+-- begins, it is lawful still; it was ready; less is left to do, as far as its kind says
+pub record MoveEffect (next : Move) (old new : Seen) : Type 0 where
+  pub added : AddsEntry next old.tables old.log new.log
+  pub lawful : (opening : List Op) → StandsFor opening old → GoesOnFrom next opening old → StandsFor opening new
+  pub ready : may_make old.tables next ≡ true
+  pub weighs : MeasureChanges next old.settings (measure old.tables) (measure new.tables)
+  pub stands : LifeAround next old.tables.alive new.tables.alive
+  pub served : new.tables.served ≡ served_after next old.tables.served
+  pub blown : new.tables.blown ≡ blown_after next old.tables.blown
+  pub tables : TablesStay next old.tables new.tables
+  pub settings : new.settings ≡ old.settings
+  pub began : as_new new ≡ as_new old

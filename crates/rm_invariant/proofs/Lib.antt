@@ -1,0 +1,16 @@
+pub mod apps
+pub mod opening
+pub mod resting
+pub mod nodes
+pub mod masters
+pub mod events
+pub mod messages
+pub mod auxiliary
+pub mod bounds
+pub mod measure
+pub mod Staying
+pub mod EventsPreserve
+pub mod KeptPreserve
+pub mod MessagesPreserve
+pub mod Phases
+pub mod Settling

@@ -1,0 +1,22 @@
+-- Each step keeps what holds of applications and attempts, and its entry is allowed.
+pub mod Counts
+pub mod Effects
+pub mod Found
+pub mod Keeping
+pub mod Own
+pub mod Events
+pub mod Queueing
+pub mod Saving
+pub mod Completing
+pub mod Completions
+pub mod Lists
+pub mod AtStates
+pub mod Deciding
+pub mod Asked
+pub mod Acting
+pub mod Ending
+pub mod Recorded
+pub mod KeptEnds
+pub mod Removing
+pub mod Retiring
+pub mod Wishing

@@ -1,0 +1,8 @@
+-- Each move keeps what else holds of an open life.
+pub mod Rows
+pub mod Parts
+pub mod MainEvents
+pub mod SchedEvents
+pub mod KeptOps
+pub mod Messages
+pub mod Facts

@@ -1,0 +1,193 @@
+-- What holds of each row holds after one changes: whether it is there, whether its attempt goes on, and what it says of the end that awaits.
+use Rattle.std.proofs.Common.{◌≡◌, ℕ, List, ◌∷◌, [], ◌++◌, Bool, true, false, ◌&&◌, ◌||◌, ◌==◌, Option, None, Some, fold, option_map, refl, sym, ◌∙◌, ap, subst}
+use Rattle.std.specs.List.{list_any}
+use Rattle.std.proofs.lemmas.List.Folds.{list_any-append}
+use Rattle.rm_types.specs.declared.ids.AppId.{AppId}
+use Rattle.rm_types.specs.declared.ids.AttemptId.{AttemptId}
+use Rattle.rm_types.specs.declared.operations.Op.{Op}
+use Rattle.rm_types.specs.Ids.{is_app}
+use Rattle.rm_types.specs.Records.{Records}
+use Rattle.rm_model.specs.MasterReplies.{is_finished_op}
+use Rattle.rm_attempt.specs.declared.states.AttemptState.{AttemptState}
+use Rattle.rm_attempt.specs.declared.states.AttemptState.TheVariants as attempts
+use Rattle.rm_tables.specs.declared.rows.AppRow.{AppRow}
+use Rattle.rm_tables.specs.declared.rows.Current.{Current}
+use Rattle.rm_tables.specs.Changes.{changed, killed_state}
+use Rattle.rm_tables.specs.MainEvents.{is_alive}
+use Rattle.rm_tables.specs.Rows.{row_of, with_row}
+use Rattle.rm_refinement.specs.Services.{finishes_by, is_ending}
+use Rattle.rm_invariant.specs.apps.View.{changed_if}
+use Rattle.rm_invariant.proofs.apps.Found.{is_app_same, retired_changed, row_changed}
+use Rattle.rm_model.specs.State.{Release}
+use Rattle.rm_tables.specs.declared.events.SchedEvent.{SchedEvent}
+use Rattle.rm_tables.specs.declared.events.SchedEvent.TheVariants as scheds
+use Rattle.rm_invariant.specs.events.Here.{AreServed}
+use Rattle.std.specs.Str.{bytes_eq}
+use Rattle.rm_types.specs.declared.containers.Closing.{Closing}
+use Rattle.rm_types.specs.declared.containers.Grant.{Grant}
+use Rattle.rm_types.specs.declared.ids.ContainerId.{ContainerId}
+use Rattle.rm_tables.specs.declared.changes.AttemptChange.TheVariants as of_attempt
+use Rattle.rm_tables.specs.declared.changes.RowChange.TheVariants as of_app
+use Rattle.rm_tables.specs.declared.nodes.NodeRow.{NodeRow}
+use Rattle.rm_tables.specs.Leaving.{closed, closed_in, closed_one}
+use Rattle.rm_tables.specs.Nodes.{node_of, with_node}
+use Rattle.rm_tables.specs.Passing.{row_granted}
+use Rattle.rm_refinement.proofs.Found.{other_row, own_row, same_name}
+use Rattle.rm_invariant.specs.auxiliary.Invariant.{NoneFirst, RetiredKnown, goes_by, goes_numbered}
+
+pub both : (a b : Bool) → (a && b) ≡ true → (a ≡ true) × (b ≡ true)
+both true true e = (refl, refl)
+both true false e = cc
+both false b e = cc
+
+-- an application is without a row after a change only where it was before
+pub still_none : (f : AppRow → AppRow) (id q : AppId) (rows : List (AppId × Option AppRow)) → row_of (with_row f id rows) q ≡ None → row_of rows q ≡ None
+still_none f id q rows e = by (is_app id q) (row_of rows q) (sym (row_changed f id q rows) ∙ e)
+  where
+    by : (b : Bool) (o : Option AppRow) → changed_if b f o ≡ None → o ≡ None
+    by true None e = refl
+    by true (Some row) e = cc
+    by false o e = e
+
+pub none_first_with : (first : Records) (retired : List AppId) (f : AppRow → AppRow) (id : AppId) (rows : List (AppId × Option AppRow)) → NoneFirst first retired rows → NoneFirst first retired (with_row f id rows)
+none_first_with first retired f id rows before q none out = before q (still_none f id q rows none) out
+
+pub retired_with : (retired : List AppId) (f : AppRow → AppRow) (id : AppId) (rows : List (AppId × Option AppRow)) → RetiredKnown retired rows → RetiredKnown retired (with_row f id rows)
+retired_with retired f id rows before q = retired_changed f id q rows ∙ before q
+
+module _ (f : AppRow → AppRow) (id : AppId) (rows : List (AppId × Option AppRow)) (row : AppRow) (found : row_of rows id ≡ Some row) where
+  same_row : (q : AppId) (one : AppRow) → is_app id q ≡ true → row_of rows q ≡ Some one → row ≡ one
+  same_row q one e there =
+      let also : row_of rows id ≡ Some one = ap (row_of rows) (is_app_same id q e) ∙ there in
+      let x : Some row ≡ Some one = sym found ∙ also in
+      cc
+
+  -- what holds of each row
+  pub each_with : (P : AppRow → Type 0) → (P row → P (f row)) → ((q : AppId) (one : AppRow) → row_of rows q ≡ Some one → P one) → (q : AppId) (one : AppRow) → row_of (with_row f id rows) q ≡ Some one → P one
+  each_with P keeps before q one there = by (is_app id q) refl (row_of rows q) refl (sym (row_changed f id q rows) ∙ there)
+    where
+      by : (b : Bool) → is_app id q ≡ b → (o : Option AppRow) → row_of rows q ≡ o → changed_if b f o ≡ Some one → P one
+      by true e None is x = cc
+      by true e (Some was) is x =
+          let own : row ≡ was = same_row q was e is in
+          let now : f was ≡ one = cc in
+          subst P now (subst (λ (r : AppRow). P (f r)) own (keeps (before id row found)))
+      by false e o is x = before q one (is ∙ x)
+
+  -- a number that a row goes by
+  pub goes_with_row : (n : ℕ) (q : AppId) → (goes_by n (Some row) ≡ true → goes_by n (Some (f row)) ≡ true) → goes_by n (row_of rows q) ≡ true → goes_by n (row_of (with_row f id rows) q) ≡ true
+  goes_with_row n q keeps goes = ap (goes_by n) (row_changed f id q rows) ∙ by (is_app id q) refl (row_of rows q) refl goes
+    where
+      by : (b : Bool) → is_app id q ≡ b → (o : Option AppRow) → row_of rows q ≡ o → goes_by n o ≡ true → goes_by n (changed_if b f o) ≡ true
+      by true e None is g = g
+      by true e (Some was) is g =
+          let own : row ≡ was = same_row q was e is in
+          subst (λ (r : AppRow). goes_by n (Some (f r)) ≡ true) own (keeps (subst (λ (r : AppRow). goes_by n (Some r) ≡ true) (sym own) g))
+      by false e o is g = g
+
+  -- what it says of an end that awaits
+  pub finishes_with_row : (q : AttemptId) → (is_app id q.app ≡ true → finishes_by q (Some (f row)) ≡ finishes_by q (Some row)) → finishes_by q (row_of (with_row f id rows) q.app) ≡ finishes_by q (row_of rows q.app)
+  finishes_with_row q keeps = ap (finishes_by q) (row_changed f id q.app rows) ∙ by (is_app id q.app) refl (row_of rows q.app) refl
+    where
+      by : (b : Bool) → is_app id q.app ≡ b → (o : Option AppRow) → row_of rows q.app ≡ o → finishes_by q (changed_if b f o) ≡ finishes_by q o
+      by true e None is = refl
+      by true e (Some was) is =
+          let own : row ≡ was = same_row q.app was e is in
+          subst (λ (r : AppRow). finishes_by q (Some (f r)) ≡ finishes_by q (Some r)) own (keeps e)
+      by false e o is = refl
+
+-- an attempt goes on
+pub goes_on : (n : ℕ) (c d : Current) → d.number ≡ c.number → ((is_alive c.state || is_ending c.state) ≡ true → (is_alive d.state || is_ending d.state) ≡ true) → goes_numbered n (Some c) ≡ true → goes_numbered n (Some d) ≡ true
+goes_on n c d number state goes =
+    let x = both (c.number == n) (is_alive c.state || is_ending c.state) goes in
+    let a : (d.number == n) ≡ true = ap (λ (m : ℕ). m == n) number ∙ x.0 in
+    let b = state x.1 in
+    rw (a, b) refl
+
+pub killed_goes : (s : AttemptState) → (is_alive s || is_ending s) ≡ true → (is_alive (killed_state s) || is_ending (killed_state s)) ≡ true
+killed_goes attempts.Scheduled e = e
+killed_goes attempts.Granted e = e
+killed_goes attempts.Saving e = e
+killed_goes attempts.Live e = refl
+killed_goes attempts.Registered e = refl
+killed_goes attempts.Finishing e = refl
+killed_goes attempts.Ending e = e
+killed_goes attempts.Ended e = e
+killed_goes attempts.Dropped e = e
+
+-- no end that awaits is FINISHED of one more operation than before, where that isn't such an end
+pub none_finished : (q : AttemptId) (op : Op) (awaiting : List Op) → is_finished_op q op ≡ false → list_any (is_finished_op q) (awaiting ++ op ∷ []) ≡ list_any (is_finished_op q) awaiting
+none_finished q op awaiting none = list_any-append (is_finished_op q) awaiting (op ∷ []) ∙ rw none (by (list_any (is_finished_op q) awaiting))
+  where
+    by : (b : Bool) → (b || (false || false)) ≡ b
+    by true = refl
+    by false = refl
+
+-- what is released and on its way was served, where that is so of both parts of a queue
+pub served_append : (releases : List Release) (xs ys : List SchedEvent) → AreServed releases xs → AreServed releases ys → AreServed releases (xs ++ ys)
+served_append releases [] ys before more = more
+served_append releases (scheds.Release attempt list ∷ xs) ys before more = (before.0, served_append releases xs ys before.1 more)
+served_append releases (scheds.AppAdded id ∷ xs) ys before more = served_append releases xs ys before more
+served_append releases (scheds.AttemptRecovered id ∷ xs) ys before more = served_append releases xs ys before more
+served_append releases (scheds.AttemptAdded id ∷ xs) ys before more = served_append releases xs ys before more
+served_append releases (scheds.AttemptRemoved id ∷ xs) ys before more = served_append releases xs ys before more
+served_append releases (scheds.NodeAdded node turn ∷ xs) ys before more = served_append releases xs ys before more
+served_append releases (scheds.NodeDone node done ∷ xs) ys before more = served_append releases xs ys before more
+served_append releases (scheds.NodeUpdate node ∷ xs) ys before more = served_append releases xs ys before more
+served_append releases (scheds.NodeLost node ∷ xs) ys before more = served_append releases xs ys before more
+
+-- a node is there after a change of one exactly where it was
+pub still_node : (f : NodeRow → NodeRow) (name q : List ℕ) (nodes : List (List ℕ × NodeRow)) → node_of (with_node f name nodes) q ≡ None → node_of nodes q ≡ None
+still_node f name q nodes e = by (bytes_eq name q) refl
+  where
+    mapped : (o : Option NodeRow) → option_map f o ≡ None → o ≡ None
+    mapped None x = refl
+    mapped (Some row) x = cc
+
+    by : (b : Bool) → bytes_eq name q ≡ b → node_of nodes q ≡ None
+    by true same =
+        let is : name ≡ q = same_name name q same in
+        let here : node_of (with_node f name nodes) name ≡ None = subst (λ (n : List ℕ). node_of (with_node f name nodes) n ≡ None) (sym is) e in
+        subst (λ (n : List ℕ). node_of nodes n ≡ None) is (mapped (node_of nodes name) (sym (own_row f name nodes) ∙ here))
+    by false apart = sym (other_row f name q nodes apart) ∙ e
+
+-- what each change of a row keeps is kept where endings are to be told, and where containers are granted
+pub closed_keeps : (R : List (AppId × Option AppRow) → Type 0) → ((one : Closing) (rows : List (AppId × Option AppRow)) → R rows → R (with_row (closed one) one.id.attempt.app rows))
+    → (closings : List Closing) (rows : List (AppId × Option AppRow)) → R rows → R (closed_in rows closings)
+closed_keeps R keeps [] rows before = before
+closed_keeps R keeps (one ∷ closings) rows before = closed_keeps R keeps closings (closed_one rows one) (keeps one rows before)
+
+pub granted_keeps : (R : List (AppId × Option AppRow) → Type 0)
+    → ((id : ContainerId) (rows : List (AppId × Option AppRow)) → R rows → R (with_row (changed (of_app.OfAttempt (of_attempt.Grant id))) id.attempt.app rows))
+    → (grants : List Grant) (rows : List (AppId × Option AppRow)) → R rows → R (fold row_granted rows grants)
+granted_keeps R keeps [] rows before = before
+granted_keeps R keeps (grant ∷ grants) rows before = granted_keeps R keeps grants (row_granted rows grant) (keeps grant.id rows before)
+
+-- what holds of each row, whichever changes
+pub every_with : (P : AppRow → Type 0) (f : AppRow → AppRow) (id : AppId) (rows : List (AppId × Option AppRow)) → ((row : AppRow) → P row → P (f row)) → ((q : AppId) (one : AppRow) → row_of rows q ≡ Some one → P one)
+    → (q : AppId) (one : AppRow) → row_of (with_row f id rows) q ≡ Some one → P one
+every_with P f id rows keeps before q one there = by (is_app id q) (row_of rows q) refl (sym (row_changed f id q rows) ∙ there)
+  where
+    by : (b : Bool) (o : Option AppRow) → row_of rows q ≡ o → changed_if b f o ≡ Some one → P one
+    by true None is x = cc
+    by true (Some was) is x = let now : f was ≡ one = cc in subst P now (keeps was (before q was is))
+    by false o is x = before q one (is ∙ x)
+
+-- what is read off a row is read off it after a change that leaves it, whichever row changes
+pub same_with : {X : Type 0} (g : Option AppRow → X) (f : AppRow → AppRow) (id q : AppId) (rows : List (AppId × Option AppRow)) → ((row : AppRow) → g (Some (f row)) ≡ g (Some row)) → g (row_of (with_row f id rows) q) ≡ g (row_of rows q)
+same_with g f id q rows keeps = ap g (row_changed f id q rows) ∙ by (is_app id q) (row_of rows q)
+  where
+    by : (b : Bool) (o : Option AppRow) → g (changed_if b f o) ≡ g o
+    by true None = refl
+    by true (Some row) = keeps row
+    by false o = refl
+
+-- an attempt goes on after a change of a row after which each that goes on does
+pub goes_every : (f : AppRow → AppRow) (id q : AppId) (rows : List (AppId × Option AppRow)) (n : ℕ) → ((row : AppRow) → goes_by n (Some row) ≡ true → goes_by n (Some (f row)) ≡ true) → goes_by n (row_of rows q) ≡ true
+    → goes_by n (row_of (with_row f id rows) q) ≡ true
+goes_every f id q rows n keeps goes = ap (goes_by n) (row_changed f id q rows) ∙ by (is_app id q) (row_of rows q) goes
+  where
+    by : (b : Bool) (o : Option AppRow) → goes_by n o ≡ true → goes_by n (changed_if b f o) ≡ true
+    by true None e = e
+    by true (Some row) e = keeps row e
+    by false o e = e

@@ -1,0 +1,322 @@
+-- Each event of the scheduler's queue keeps what is in its range.
+use Rattle.std.proofs.Common.{◌≡◌, ◌≤◌, ◌==◌, ◌*◌, ◌^◌, ◌-◌, ℕ, suc, ◌+◌, List, [], ◌∷◌, ◌++◌, Bool, true, false, ◌&&◌, Option, None, Some, count_by, drop, filter, fold, length, refl, sym, ◌∙◌, ap, subst, arith}
+use Rattle.std.specs.Prelude.{if◌then◌else◌}
+use Rattle.std.proofs.lemmas.Bool.Decides.{nat_tests}
+use Rattle.rm_types.specs.declared.containers.Ask.{Ask}
+use Rattle.rm_types.specs.declared.containers.Cause.{Cause}
+use Rattle.rm_types.specs.declared.containers.Cause.TheVariants as causes
+use Rattle.rm_types.specs.declared.containers.Grant.{Grant}
+use Rattle.rm_types.specs.declared.ids.AppId.{AppId}
+use Rattle.rm_types.specs.declared.ids.AttemptId.{AttemptId}
+use Rattle.rm_types.specs.declared.ids.ContainerId.{ContainerId}
+use Rattle.rm_types.specs.declared.settings.Settings.{Settings}
+use Rattle.rm_types.specs.declared.texts.TextKind.TheVariants.{Node}
+use Rattle.rm_types.specs.Ids.{is_app, is_attempt}
+use Rattle.rm_types.specs.Passes.{by_priority}
+use Rattle.rm_types.specs.Ranges.{IsAttemptId, IsContainerId, IsText, IsWithin}
+use Rattle.rm_attempt.specs.declared.states.AttemptState.{AttemptState}
+use Rattle.rm_attempt.specs.declared.states.AttemptState.TheVariants as attempts
+use Rattle.rm_book.specs.AskTables.{AsksOf, asks_of}
+use Rattle.rm_book.specs.Books.{BookOf, row_of as book_row_of, with_grants, with_taken, without_rows}
+use Rattle.rm_model.specs.Containers.{once}
+use Rattle.rm_tables.specs.declared.changes.AttemptChange.TheVariants as of_attempt
+use Rattle.rm_tables.specs.declared.changes.RowChange.TheVariants as of_app
+use Rattle.rm_tables.specs.declared.events.MainEvent.{MainEvent}
+use Rattle.rm_tables.specs.declared.events.MainEvent.TheVariants as mains
+use Rattle.rm_tables.specs.declared.events.SchedEvent.{SchedEvent}
+use Rattle.rm_tables.specs.declared.events.SchedEvent.TheVariants as scheds
+use Rattle.rm_tables.specs.declared.nodes.NodeChange.TheVariants.{Absorb}
+use Rattle.rm_tables.specs.declared.nodes.NodeRow.{NodeRow}
+use Rattle.rm_tables.specs.declared.rows.AppRow.{AppRow}
+use Rattle.rm_tables.specs.declared.rows.Current.{Current}
+use Rattle.rm_tables.specs.declared.tables.Tables.{Tables}
+use Rattle.rm_tables.specs.Absorbing.{absorbed_by, absorbed_if, taken_in, unlaunched_on}
+use Rattle.rm_tables.specs.Actions.{found_in, sched_popped, sched_worked}
+use Rattle.rm_tables.specs.Changes.{changed, granted_at}
+use Rattle.rm_tables.specs.Leaving.{closed_in, closings_of, ended_by, losts_of, unlaunched}
+use Rattle.rm_tables.specs.Nodes.{changed_row, is_waiting, node_of, with_node}
+use Rattle.rm_tables.specs.Passing.{granted_by, granted_to, grants_on, masters_granted, row_granted, turns_in, updated_by, without_granted}
+use Rattle.rm_tables.specs.Rows.{row_of}
+use Rattle.rm_tables.specs.SchedEvents.{is_on, is_released, master_asked, queued_at, queued_by, queued_with, sched_step}
+use Rattle.rm_refinement.specs.Agreement.{grants_of}
+use Rattle.rm_refinement.specs.History.{History, abstract_life}
+use Rattle.rm_invariant.specs.apps.View.{changed_if, one_if}
+use Rattle.rm_invariant.proofs.apps.Counts.{at_end, at_front}
+use Rattle.rm_invariant.proofs.apps.Found.{row_changed}
+use Rattle.rm_invariant.specs.nodes.Book.{All}
+use Rattle.rm_invariant.proofs.nodes.Entries.{AllOn}
+use Rattle.rm_invariant.specs.events.Asking.{AreNext, is_current, is_numbered, is_numbered_in}
+use Rattle.rm_invariant.specs.events.SchedFacts.{SchedFacts}
+use Rattle.rm_invariant.specs.Core.{CoreInvariant}
+use Rattle.rm_invariant.proofs.events.Askers.{askers_current}
+use Rattle.rm_invariant.proofs.events.Next.{grants_next}
+use Rattle.rm_invariant.proofs.events.OnNode.{EachAsk, all_now, all_on, grants_each, pass_at}
+use Rattle.rm_invariant.proofs.events.Turns.{first_seq}
+use Rattle.rm_invariant.specs.messages.Ranges.{IsSize}
+use Rattle.rm_invariant.specs.bounds.InBounds.{AreAsked, AreGrants, AreNodes, AreRows, IfThere, IsAsked, IsBooked, IsCurrent, IsNode, IsOffer, InBounds, is_update}
+use Rattle.rm_invariant.proofs.bounds.AskRanges.{asked_granted, asked_master, by_priority_asked}
+use Rattle.rm_invariant.proofs.bounds.BookRanges.{IsGrant, booked_granted, booked_taken, booked_without, held_taken, offers_with}
+use Rattle.rm_invariant.proofs.bounds.FewGrants.{pass_few}
+use Rattle.rm_invariant.proofs.bounds.MainEvents.{found_is}
+use Rattle.rm_invariant.proofs.bounds.NodeRanges.{nodes_changed, nodes_unlaunched, nodes_unlaunched_on}
+use Rattle.rm_invariant.proofs.bounds.Passable.{can_pass}
+use Rattle.rm_invariant.proofs.bounds.RowRanges.{NoMoreGranted, grants_closed, grants_less, rows_changed, rows_closed}
+
+-- the tables after an event of the scheduler's queue, where these parts of them may have changed
+pub worked : (t : Tables) → InBounds t → (rows : List (AppId × Option AppRow)) (asks : List AsksOf) (book : BookOf) (nodes : List (List ℕ × NodeRow)) (main : List MainEvent) (sched : List SchedEvent)
+    → AreRows rows → AreGrants rows sched t.served → AreAsked asks → All IsBooked book.rows → All IsOffer book.nodes → AreNodes nodes
+    → InBounds (record t { rows = rows; asks = asks; book = book; nodes = nodes; main = main; sched = sched })
+worked t r rows asks book nodes main sched are grants asked booked offers told =
+    record {
+      tree = r.tree;
+      awaiting = r.awaiting;
+      ended = r.ended;
+      rows = are;
+      grants = grants;
+      asks = asked;
+      book = booked;
+      offers = offers;
+      nodes = told;
+      counts = record { epoch = r.counts.epoch; served = r.counts.served; given = r.counts.given; clock = r.counts.clock };
+    }
+
+-- the queue without its first event
+fewer_updates : (sched : List SchedEvent) → count_by is_update (drop 1 sched) ≤ count_by is_update sched
+fewer_updates [] = omega arith
+fewer_updates (e ∷ rest) = let first = at_front is_update e rest in by (is_update e) first
+  where
+    by : (b : Bool) → count_by is_update (e ∷ rest) ≡ one_if b (count_by is_update rest) → count_by is_update rest ≤ count_by is_update (e ∷ rest)
+    by true f = omega (arith, f)
+    by false f = omega (arith, f)
+
+popped_grants : (rows now : List (AppId × Option AppRow)) (sched : List SchedEvent) (served : ℕ) → NoMoreGranted rows now → AreGrants rows sched served → AreGrants now (drop 1 sched) served
+popped_grants rows now sched served less are = let fewer = fewer_updates sched in grants_less rows now sched (drop 1 sched) served served less (omega (arith, fewer)) (omega arith) are
+
+module _ (t : Tables) (r : InBounds t) where
+  same_grants : AreGrants t.rows (drop 1 t.sched) t.served
+  same_grants = popped_grants t.rows t.rows t.sched t.served (λ q. omega arith) r.grants
+
+  -- nothing is done
+  quiet_ranged : InBounds (sched_popped t)
+  quiet_ranged = worked t r t.rows t.asks t.book t.nodes t.main (drop 1 t.sched) r.rows same_grants r.asks r.book r.offers r.nodes
+
+  -- the application is to be accepted
+  added_ranged : (id : AppId) → InBounds (sched_popped (record t { main = t.main ++ mains.AppAccepted id ∷ [] }))
+  added_ranged id = worked t r t.rows t.asks t.book t.nodes (t.main ++ mains.AppAccepted id ∷ []) (drop 1 t.sched) r.rows same_grants r.asks r.book r.offers r.nodes
+
+  -- a master's container is asked for
+  queued_ranged : (id : AttemptId) (o : Option AppRow) → InBounds (sched_popped (queued_by o id t).1)
+  queued_ranged id None = quiet_ranged
+  queued_ranged id (Some row) = with row.current
+    where
+      at : (s : AttemptState) (b : Bool) → InBounds (sched_popped (queued_at s b id t).1)
+      at attempts.Scheduled true =
+          worked t r t.rows (master_asked id (found_in t id.app) t.asks) t.book t.nodes t.main (drop 1 t.sched) r.rows same_grants (asked_master id (found_in t id.app) t.asks (found_is t r.tree id.app) r.asks) r.book r.offers r.nodes
+      at attempts.Scheduled false = quiet_ranged
+      at attempts.Granted b = quiet_ranged
+      at attempts.Saving b = quiet_ranged
+      at attempts.Live b = quiet_ranged
+      at attempts.Registered b = quiet_ranged
+      at attempts.Finishing b = quiet_ranged
+      at attempts.Ending b = quiet_ranged
+      at attempts.Ended b = quiet_ranged
+      at attempts.Dropped b = quiet_ranged
+
+      with : (o : Option Current) → InBounds (sched_popped (queued_with o id t).1)
+      with None = quiet_ranged
+      with (Some current) = at current.state (current.number == id.number)
+
+  -- containers end
+  ended_ranged : (cause : Cause) (ids : List ContainerId) → InBounds (sched_popped (ended_by cause ids t).1)
+  ended_ranged cause [] = quiet_ranged
+  ended_ranged cause (id ∷ ids) =
+      let closings = closings_of t.tree.apps cause (id ∷ ids) in
+      worked t r (closed_in t.rows closings) t.asks (without_rows t.book (id ∷ ids)) (unlaunched t.book t.nodes (id ∷ ids)) (t.main ++ losts_of t.tree.apps (id ∷ ids)) (drop 1 t.sched)
+      (rows_closed closings t.rows r.rows) (popped_grants t.rows (closed_in t.rows closings) t.sched t.served (grants_closed closings t.rows) r.grants) r.asks
+      (booked_without t.book (id ∷ ids) r.book) r.offers (nodes_unlaunched t.book (id ∷ ids) t.nodes r.nodes)
+
+  -- a report is absorbed
+  absorbed_ranged : (name : List ℕ) (turn : ℕ) (ended : List ContainerId) (o : Option NodeRow) → node_of t.nodes name ≡ o → InBounds (sched_popped (absorbed_by o name turn ended t).1)
+  absorbed_ranged name turn ended None found = quiet_ranged
+  absorbed_ranged name turn ended (Some row) found = by (is_waiting row.state && (row.turn == turn))
+    where
+      by : (b : Bool) → InBounds (sched_popped (absorbed_if b name row ended t).1)
+      by false = quiet_ranged
+      by true =
+          let own = r.nodes.each name row found in
+          let closings = closings_of t.tree.apps causes.Gone ended in
+          worked t r (closed_in t.rows closings) t.asks (with_taken t.book name row.capability (taken_in t name row) ended) (with_node (changed_row Absorb) name (unlaunched_on name t.nodes ended))
+          (t.main ++ losts_of t.tree.apps ended) (drop 1 t.sched) (rows_closed closings t.rows r.rows) (popped_grants t.rows (closed_in t.rows closings) t.sched t.served (grants_closed closings t.rows) r.grants) r.asks
+          (booked_taken t.book name row.capability (taken_in t name row) ended own.named (held_taken t name row r.book own.running) r.book) (offers_with name row.capability t.book.nodes own.named own.size r.offers)
+          (nodes_changed Absorb name (unlaunched_on name t.nodes ended) (nodes_unlaunched_on name ended t.nodes r.nodes))
+
+-- A PASS
+
+-- the sequences of what is granted in order
+next_bound : (rows : List (AppId × Option AppRow)) (top bound : ℕ) (grants : List Grant) (granted : List ContainerId) → ((a : AttemptId) → is_current rows a ≡ true → grants_of granted a ≤ bound)
+    → bound + length grants ≤ top → AreNext rows granted grants → All (λ grant. IsWithin 1 top grant.id.seq) grants
+next_bound rows top bound [] granted few room next = tt
+next_bound rows top bound (grant ∷ grants) granted few room next =
+    let own = few grant.id.attempt next.0 in
+    let seq = next.1 in
+    ((omega (arith, seq), omega (arith, seq, own, room)), next_bound rows top (bound + 1) grants (granted ++ grant.id ∷ []) more (omega (arith, room)) next.2)
+  where
+    by : (a : AttemptId) (b : Bool) → grants_of (granted ++ grant.id ∷ []) a ≡ one_if b (grants_of granted a) → grants_of granted a ≤ bound → grants_of (granted ++ grant.id ∷ []) a ≤ bound + 1
+    by a true e old = omega (arith, e, old)
+    by a false e old = omega (arith, e, old)
+
+    more : (a : AttemptId) → is_current rows a ≡ true → grants_of (granted ++ grant.id ∷ []) a ≤ bound + 1
+    more a is = by a (is_attempt grant.id.attempt a) (at_end (λ (one : ContainerId). is_attempt one.attempt a) granted grant.id) (few a is)
+
+-- a current attempt has its parts in their ranges
+current_ranged : (rows : List (AppId × Option AppRow)) → AreRows rows → (a : AttemptId) → is_current rows a ≡ true → IsAttemptId a
+current_ranged rows are a is = by (row_of rows a.app) refl is
+  where
+    at : (o : Option Current) → IfThere IsCurrent o → is_numbered a.number o ≡ true → IsWithin 1 (2 ^ 31 - 1) a.number
+    at None own e = cc
+    at (Some current) own e = let same : current.number ≡ a.number = grind (arith, nat_tests) in subst (IsWithin 1 (2 ^ 31 - 1)) same own.number
+
+    by : (o : Option AppRow) → row_of rows a.app ≡ o → is_numbered_in a.number o ≡ true → IsAttemptId a
+    by None e f = cc
+    by (Some row) e f = let own = are.each a.app row e in record { app = own.named; number = at row.current own.current f }
+
+-- the ids of what is granted
+grants_ids : (rows : List (AppId × Option AppRow)) → AreRows rows → (epoch top : ℕ) → epoch ≤ 2 ^ 24 - 1 → top ≤ 2 ^ 40 - 1 → (grants : List Grant) (granted : List ContainerId) → AreNext rows granted grants
+    → All (λ grant. IsWithin 1 top grant.id.seq) grants → All (λ grant. grant.id.epoch ≡ epoch) grants → All (λ grant. IsContainerId grant.id) grants
+grants_ids rows are epoch top early low [] granted next seqs now = tt
+grants_ids rows are epoch top early low (grant ∷ grants) granted next seqs now =
+    let own = now.0 in
+    let seq = seqs.0 in (
+      record { attempt = current_ranged rows are grant.id.attempt next.0; epoch = (omega arith, omega (arith, own, early)); seq = (seq.0, let most = seq.1 in omega (arith, most, low)) },
+      grants_ids rows are epoch top early low grants (granted ++ grant.id ∷ []) next.2 seqs.1 now.1,
+    )
+
+grants_are : (name : List ℕ) → IsText Node name → (grants : List Grant) → All (λ grant. IsContainerId grant.id) grants → All (λ grant. IsSize grant.size) grants → AllOn name grants → All IsGrant grants
+grants_are name is [] ids sizes on = tt
+grants_are name is (grant ∷ grants) ids sizes on =
+    (record { id = ids.0; node = subst (IsText Node) (sym on.0) is; size = sizes.0 }, grants_are name is grants ids.1 sizes.1 on.1)
+
+-- the rows after the grants
+rows_granted : (grants : List Grant) (rows : List (AppId × Option AppRow)) → All (λ grant. IsContainerId grant.id) grants → AreRows rows → AreRows (fold row_granted rows grants)
+rows_granted [] rows ids are = are
+rows_granted (grant ∷ grants) rows ids are =
+    rows_granted grants (row_granted rows grant) ids.1 (rows_changed (of_app.OfAttempt (of_attempt.Grant grant.id)) grant.id.attempt.app rows ids.0 are)
+
+-- and how many are granted then
+granted_most : (top : ℕ) (grants : List Grant) (rows : List (AppId × Option AppRow)) → All (λ grant. IsWithin 1 top grant.id.seq) grants → ((q : AttemptId) → granted_by q.number (row_of rows q.app) ≤ top)
+    → (q : AttemptId) → granted_by q.number (row_of (fold row_granted rows grants) q.app) ≤ top
+granted_most top [] rows seqs few q = few q
+granted_most top (grant ∷ grants) rows seqs few q = granted_most top grants (row_granted rows grant) seqs.1 more q
+  where
+    pick : (b : Bool) (n : ℕ) → n ≤ top → (if b then n else 0) ≤ top
+    pick true n less = less
+    pick false n less = omega arith
+
+    at : (s : AttemptState) (current : Current) (number : ℕ) → granted_to number (Some (granted_at s grant.id current)) ≤ top
+    at attempts.Scheduled current number = pick (current.number == number) grant.id.seq seqs.0.1
+    at attempts.Granted current number = pick (current.number == number) grant.id.seq seqs.0.1
+    at attempts.Saving current number = pick (current.number == number) grant.id.seq seqs.0.1
+    at attempts.Live current number = pick (current.number == number) grant.id.seq seqs.0.1
+    at attempts.Registered current number = pick (current.number == number) grant.id.seq seqs.0.1
+    at attempts.Finishing current number = pick (current.number == number) grant.id.seq seqs.0.1
+    at attempts.Ending current number = pick (current.number == number) grant.id.seq seqs.0.1
+    at attempts.Ended current number = pick (current.number == number) grant.id.seq seqs.0.1
+    at attempts.Dropped current number = pick (current.number == number) grant.id.seq seqs.0.1
+
+    with : (row : AppRow) (o : Option Current) → row.current ≡ o → (number : ℕ) → granted_by number (Some (changed (of_app.OfAttempt (of_attempt.Grant grant.id)) row)) ≤ top
+    with row None e number = rw e (omega arith)
+    with row (Some current) e number = rw e (at current.state current number)
+
+    by : (a : AttemptId) (b : Bool) (o : Option AppRow) → granted_by a.number o ≤ top → granted_by a.number (changed_if b (changed (of_app.OfAttempt (of_attempt.Grant grant.id))) o) ≤ top
+    by a true None less = less
+    by a true (Some row) less = with row row.current refl a.number
+    by a false o less = less
+
+    more : (a : AttemptId) → granted_by a.number (row_of (row_granted rows grant) a.app) ≤ top
+    more a =
+        let same : granted_by a.number (row_of (row_granted rows grant) a.app) ≡ granted_by a.number (changed_if (is_app grant.id.attempt.app a.app) (changed (of_app.OfAttempt (of_attempt.Grant grant.id))) (row_of rows a.app)) =
+        ap (granted_by a.number) (row_changed (changed (of_app.OfAttempt (of_attempt.Grant grant.id))) grant.id.attempt.app a.app rows) in
+        let less = by a (is_app grant.id.attempt.app a.app) (row_of rows a.app) (few a) in
+        omega (arith, same, less)
+
+module _ (settings : Settings) (h : History) (t : Tables) (w : CoreInvariant settings h t) (f : SchedFacts settings h t) (r : InBounds t) where
+  -- a size that is granted is one that is asked for
+  grants_sized : (name : List ℕ) (row : NodeRow) → All (λ grant. IsSize grant.size) (grants_on name row t)
+  grants_sized name row = grants_each t name row (λ grant. IsSize grant.size) (λ capability. by capability (turns_in t))
+    where
+      asked : (capability : _) (turn : _) (asks : List Ask) → All IsAsked asks → EachAsk (λ grant. IsSize grant.size) (pass_at t name row capability) turn asks
+      asked capability turn [] all = tt
+      asked capability turn (ask ∷ asks) all = ((λ seq. all.0), asked capability turn asks all.1)
+
+      by : (capability : _) (turns : List _) → All (λ turn. EachAsk (λ grant. IsSize grant.size) (pass_at t name row capability) turn (by_priority (asks_of t.asks turn.attempt))) turns
+      by capability [] = tt
+      by capability (turn ∷ turns) =
+          (asked capability turn (by_priority (asks_of t.asks turn.attempt)) (by_priority_asked (asks_of t.asks turn.attempt) (r.asks.each turn.attempt)), by capability turns)
+
+  -- a pass answers a beat
+  pub update_ranged : (name : List ℕ) (rest : List SchedEvent) → t.sched ≡ scheds.NodeUpdate name ∷ rest → (o : Option NodeRow) → node_of t.nodes name ≡ o → InBounds (sched_popped (updated_by o name t).1)
+  update_ranged name rest front None found = quiet_ranged t r
+  update_ranged name rest front (Some row) found =
+      worked t r (fold row_granted t.rows grants) (fold without_granted t.asks grants) (with_grants t.book grants) t.nodes (t.main ++ masters_granted t.rows grants) (drop 1 t.sched)
+      (rows_granted grants t.rows ids r.rows) (record { each = λ q. let most = granted_most top grants t.rows seqs all_few q in let low = room in omega (arith, most, low) })
+      (asked_granted grants t.asks r.asks) (booked_granted t.book grants (grants_are name own.named grants ids (grants_sized name row) (all_on t name row)) r.book) r.offers r.nodes
+    where
+      grants : List Grant
+      grants = grants_on name row t
+
+      own : IsNode name row
+      own = r.nodes.each name row found
+
+      updates : ℕ
+      updates = count_by is_update (drop 1 t.sched)
+
+      -- what may be granted before and after
+      top : ℕ
+      top = 256 * t.served - 256 * updates
+
+      counted : count_by is_update t.sched ≡ suc updates
+      counted = ap (count_by is_update) front ∙ at_front is_update (scheds.NodeUpdate name) rest ∙ ap (λ (l : List SchedEvent). suc (count_by is_update (drop 1 l))) (sym front)
+
+      none : AttemptId
+      none = record { app = record { stamp = 0; number = 0 }; number = 0 }
+
+      room : top + 256 * updates ≤ 256 * t.served
+      room = let all = r.grants.each none in let is = counted in omega (arith, all, is)
+
+      all_few : (q : AttemptId) → granted_by q.number (row_of t.rows q.app) ≤ top
+      all_few q = let all = r.grants.each q in let is = counted in omega (arith, all, is)
+
+      next : AreNext t.rows h.granted grants
+      next = grants_next (abstract_life h t) t w.agrees (askers_current settings h t w.keeps.all w.agrees.asks f.current) name row
+
+      before : (a : AttemptId) → is_current t.rows a ≡ true → grants_of h.granted a ≤ 256 * t.served - 256 * suc updates
+      before a is =
+          let first = first_seq (abstract_life h t) t w.agrees a is in
+          let all = r.grants.each a in
+          let many = counted in
+          omega (arith, first, all, many)
+
+      seqs : All (λ grant. IsWithin 1 top grant.id.seq) grants
+      seqs =
+          let few = pass_few t (can_pass settings h t w f r) name row in
+          let all = r.grants.each none in
+          let is = counted in
+          next_bound t.rows top (256 * t.served - 256 * suc updates) grants h.granted before (omega (arith, few, all, is)) next
+
+      ids : All (λ grant. IsContainerId grant.id) grants
+      ids =
+          let epoch = r.counts.epoch in
+          let served = r.counts.served in
+          grants_ids t.rows r.rows t.epoch top (omega (arith, epoch)) (omega (arith, served)) grants h.granted next seqs (all_now t name row)
+
+  -- each event of the scheduler's queue
+  pub sched_ranged : (e : SchedEvent) (rest : List SchedEvent) → t.sched ≡ e ∷ rest → (list : List ContainerId) → InBounds (sched_worked (sched_step e list t)).1
+  sched_ranged (scheds.AppAdded id) rest front list = added_ranged t r id
+  sched_ranged (scheds.AttemptRecovered id) rest front list = quiet_ranged t r
+  sched_ranged (scheds.AttemptAdded id) rest front list = queued_ranged t r id (row_of t.rows id.app)
+  sched_ranged (scheds.AttemptRemoved id) rest front list = ended_ranged t r causes.Attempt list
+  sched_ranged (scheds.Release attempt released) rest front list = ended_ranged t r causes.Released (once (filter (is_released attempt t) released))
+  sched_ranged (scheds.NodeAdded node turn) rest front list = absorbed_ranged t r node turn list (node_of t.nodes node) refl
+  sched_ranged (scheds.NodeDone node done) rest front list = ended_ranged t r causes.Done (once (filter (λ id. is_on node (book_row_of t.book id)) done))
+  sched_ranged (scheds.NodeUpdate node) rest front list = update_ranged node rest front (node_of t.nodes node) refl
+  sched_ranged (scheds.NodeLost node) rest front list = ended_ranged t r causes.Node list

@@ -1,0 +1,153 @@
+-- An operation is kept, as a whole step that keeps all that holds of an open life: an App, an Attempt, the end of an attempt or an application, and a Remove.
+-- Each fits what is recorded.
+use Rattle.std.proofs.Common.{◌≡◌, ℕ, List, [], ◌∷◌, ◌++◌, Bool, true, false, ◌||◌, Option, None, Some, refl, sym, ◌∙◌, ap, subst, append-nil}
+use Rattle.std.proofs.lemmas.List.Elements.{filter-append}
+use Rattle.rm_types.specs.declared.entries.Entry.TheVariants.{Kept as KeptEntry}
+use Rattle.rm_types.specs.declared.ids.AppId.{AppId}
+use Rattle.rm_types.specs.declared.ids.AttemptId.{AttemptId}
+use Rattle.rm_types.specs.declared.operations.Op.{Op}
+use Rattle.rm_types.specs.declared.operations.Op.TheVariants as ops
+use Rattle.rm_types.specs.declared.settings.Settings.{Settings}
+use Rattle.rm_types.specs.declared.operations.How.{How}
+use Rattle.rm_types.specs.declared.operations.Submission.{Submission}
+use Rattle.rm_types.specs.Ids.{is_app}
+use Rattle.rm_types.specs.Records.{fits_records}
+use Rattle.rm_book.specs.AskTables.{without_asks_of}
+use Rattle.rm_model.specs.Changes.{life_keeps}
+use Rattle.rm_model.specs.Containers.{ids_on}
+use Rattle.rm_model.specs.Nodes.{node_of}
+use Rattle.rm_model.specs.State.{LifeState}
+use Rattle.rm_tables.specs.declared.changes.AttemptChange.TheVariants as of_attempt
+use Rattle.rm_tables.specs.declared.changes.RowChange.TheVariants as of_app
+use Rattle.rm_tables.specs.declared.events.SchedEvent.{SchedEvent}
+use Rattle.rm_tables.specs.declared.events.SchedEvent.TheVariants as scheds
+use Rattle.rm_tables.specs.declared.tables.Tables.{Tables}
+use Rattle.rm_tables.specs.Changes.{changed}
+use Rattle.rm_tables.specs.KeptOps.{dropped_at, dropped_by, dropped_of, kept}
+use Rattle.rm_refinement.specs.Agreement.{ClosingsAgree, RowAgrees}
+use Rattle.rm_refinement.specs.History.{History, abstract_life}
+use Rattle.rm_invariant.proofs.apps.Found.{row_changed}
+use Rattle.rm_invariant.specs.nodes.Invariant.{NodesInvariant, NodeInvariant, events_of, is_of}
+use Rattle.rm_invariant.proofs.masters.KeptApps.{app_end_kept_joins, app_kept_joins, attempt_end_kept_joins, remove_kept_joins}
+use Rattle.rm_invariant.proofs.masters.KeptAttempts.{attempt_kept_joins}
+use Rattle.rm_invariant.proofs.apps.Removing.{row_gone}
+use Rattle.rm_types.specs.declared.ids.ContainerId.{ContainerId}
+use Rattle.rm_model.specs.Facts.{has_app}
+use Rattle.rm_tables.specs.Rows.{row_of, without_row}
+use Rattle.rm_tables.specs.declared.rows.AppRow.{AppRow}
+use Rattle.rm_tables.specs.declared.rows.Current.{Current}
+use Rattle.rm_attempt.specs.declared.states.AttemptState.{AttemptState}
+use Rattle.rm_attempt.specs.declared.states.AttemptState.TheVariants as attempts
+use Rattle.std.proofs.lemmas.List.Folds.{list_any-append}
+use Rattle.rm_invariant.proofs.masters.Sounding.{sound_step}
+use Rattle.rm_invariant.specs.Core.{CoreInvariant, PreservesCore}
+use Rattle.rm_invariant.proofs.events.Changes.{kept_agrees}
+use Rattle.rm_invariant.proofs.events.Leaving.{stepped_whole}
+use Rattle.rm_invariant.proofs.events.Moving.{asks_gone}
+
+-- events of no node at the end of the queue are nothing to the nodes
+pub posted_good : (h : History) (sched more : List SchedEvent) → ((q : List ℕ) → events_of q more ≡ []) → NodesInvariant h.nodes h.book sched → NodesInvariant h.nodes h.book (sched ++ more)
+posted_good h sched more none good = λ q.
+    subst (λ (events : List SchedEvent). NodeInvariant (node_of h.nodes q) events (ids_on h.book q)) (sym (filter-append (is_of q) sched more ∙ ap (λ l. events_of q sched ++ l) (none q) ∙ append-nil (events_of q sched))) (good q)
+
+module _ (settings : Settings) (h : History) (t : Tables) (w : CoreInvariant settings h t) (handed : t.handed ≡ true) where
+  -- the life after an operation is kept
+  abbrev kept_life : Op → LifeState
+  kept_life op = record (life_keeps (abstract_life h t) op) { handed = false }
+
+  -- an App
+  pub app_kept_whole : (id : AppId) (s : Submission) (rest : List Op) → t.awaiting ≡ ops.App id s ∷ rest → fits_records t.tree (ops.App id s) ≡ true → PreservesCore settings h t (KeptEntry (ops.App id s), kept (ops.App id s) t)
+  app_kept_whole id s rest front fits =
+      let life : LifeState = kept_life (ops.App id s) in
+      stepped_whole settings h t (KeptEntry (ops.App id s)) (kept (ops.App id s) t) life (record { next = _; joins = app_kept_joins settings h t w.keeps w.marks id s rest front handed }) refl
+      (sound_step t.tree (ops.App id s) w.sound fits)
+      (kept_agrees life t (kept (ops.App id s) t) id of_app.Keep refl (record { rows = w.agrees.rows; nodes = w.agrees.nodes; asks = w.agrees.asks; closings = w.agrees.closings; masters = w.agrees.masters }) refl refl refl
+      (λ q. row_changed (changed of_app.Keep) id q t.rows))
+      w.nodes (record { apart = w.book.apart; rows = w.book.rows; left = w.book.left; launches = w.book.launches })
+
+  -- the end of an attempt
+  pub attempt_end_kept_whole : (id : AttemptId) (how : How) (text : List ℕ) (rest : List Op) → t.awaiting ≡ ops.AttemptEnd id how text ∷ rest → fits_records t.tree (ops.AttemptEnd id how text) ≡ true
+      → PreservesCore settings h t (KeptEntry (ops.AttemptEnd id how text), kept (ops.AttemptEnd id how text) t)
+  attempt_end_kept_whole id how text rest front fits =
+      let life : LifeState = kept_life (ops.AttemptEnd id how text) in
+      let asked : Tables = record t { asks = without_asks_of id t.asks } in
+      stepped_whole settings h t (KeptEntry (ops.AttemptEnd id how text)) (kept (ops.AttemptEnd id how text) t) life
+      (record { next = _; joins = attempt_end_kept_joins settings h t w.keeps w.marks id how text rest front handed }) refl (sound_step t.tree (ops.AttemptEnd id how text) w.sound fits)
+      (kept_agrees life asked (kept (ops.AttemptEnd id how text) t) id.app (of_app.OfAttempt (of_attempt.KeepEnd how)) refl
+      (record { rows = w.agrees.rows; nodes = w.agrees.nodes; asks = asks_gone id t.asks h.asks w.agrees.asks; closings = w.agrees.closings; masters = w.agrees.masters }) refl refl refl
+      (λ q. row_changed (changed (of_app.OfAttempt (of_attempt.KeepEnd how))) id.app q t.rows))
+      (posted_good h t.sched (scheds.AttemptRemoved id ∷ []) (λ q. refl) w.nodes) (record { apart = w.book.apart; rows = w.book.rows; left = w.book.left; launches = w.book.launches })
+
+  -- an Attempt
+  pub attempt_kept_whole : (c : ContainerId) (node : List ℕ) (rest : List Op) → t.awaiting ≡ ops.Attempt c.attempt c node ∷ rest → fits_records t.tree (ops.Attempt c.attempt c node) ≡ true
+      → PreservesCore settings h t (KeptEntry (ops.Attempt c.attempt c node), kept (ops.Attempt c.attempt c node) t)
+  attempt_kept_whole c node rest front fits =
+      let op : Op = ops.Attempt c.attempt c node in
+      let life : LifeState = kept_life op in
+      stepped_whole settings h t (KeptEntry op) (kept op t) life (record { next = _; joins = attempt_kept_joins settings h t w.keeps w.marks w.sound c node rest front handed }) refl (sound_step t.tree op w.sound fits)
+      (kept_agrees life t (kept op t) c.attempt.app (of_app.OfAttempt of_attempt.Keep) refl (record { rows = w.agrees.rows; nodes = w.agrees.nodes; asks = w.agrees.asks; closings = w.agrees.closings; masters = w.agrees.masters }) refl refl refl
+      (λ q. row_changed (changed (of_app.OfAttempt of_attempt.Keep)) c.attempt.app q t.rows))
+      w.nodes (record { apart = w.book.apart; rows = w.book.rows; left = w.book.left; launches = w.book.launches })
+
+  -- an attempt that was dropped is removed: an event of no node
+  dropped_none : (id : AppId) (o : Option AppRow) (q : List ℕ) → events_of q (dropped_by o id) ≡ []
+  dropped_none id None q = refl
+  dropped_none id (Some row) q = of_current row.current
+    where
+      at_state : (s : AttemptState) (attempt : AttemptId) → events_of q (dropped_at s attempt) ≡ []
+      at_state attempts.Scheduled attempt = refl
+      at_state attempts.Granted attempt = refl
+      at_state attempts.Saving attempt = refl
+      at_state attempts.Live attempt = refl
+      at_state attempts.Registered attempt = refl
+      at_state attempts.Finishing attempt = refl
+      at_state attempts.Ending attempt = refl
+      at_state attempts.Ended attempt = refl
+      at_state attempts.Dropped attempt = refl
+
+      of_current : (c : Option Current) → events_of q (dropped_of c id) ≡ []
+      of_current None = refl
+      of_current (Some current) = at_state current.state (record { app = id; number = current.number })
+
+  -- the end of an application
+  pub app_end_kept_whole : (id : AppId) (how : How) (text : List ℕ) (rest : List Op) → t.awaiting ≡ ops.AppEnd id how text ∷ rest → fits_records t.tree (ops.AppEnd id how text) ≡ true
+      → PreservesCore settings h t (KeptEntry (ops.AppEnd id how text), kept (ops.AppEnd id how text) t)
+  app_end_kept_whole id how text rest front fits =
+      let op : Op = ops.AppEnd id how text in
+      let life : LifeState = kept_life op in
+      stepped_whole settings h t (KeptEntry op) (kept op t) life (record { next = _; joins = app_end_kept_joins settings h t w.keeps w.marks id how text rest front handed }) refl (sound_step t.tree op w.sound fits)
+      (kept_agrees life t (kept op t) id (of_app.KeepEnd how) refl (record { rows = w.agrees.rows; nodes = w.agrees.nodes; asks = w.agrees.asks; closings = w.agrees.closings; masters = w.agrees.masters }) refl refl refl
+      (λ q. row_changed (changed (of_app.KeepEnd how)) id q t.rows))
+      (posted_good h t.sched (dropped_by (row_of t.rows id) id) (dropped_none id (row_of t.rows id)) w.nodes) (record { apart = w.book.apart; rows = w.book.rows; left = w.book.left; launches = w.book.launches })
+
+  -- a Remove: nothing is said of an application once it is retired
+  pub remove_kept_whole : (id : AppId) (rest : List Op) → t.awaiting ≡ ops.Remove id ∷ rest → fits_records t.tree (ops.Remove id) ≡ true → PreservesCore settings h t (KeptEntry (ops.Remove id), kept (ops.Remove id) t)
+  remove_kept_whole id rest front fits =
+      let op : Op = ops.Remove id in
+      let life : LifeState = kept_life op in
+      stepped_whole settings h t (KeptEntry op) (kept op t) life (record { next = _; joins = remove_kept_joins settings h t w.keeps w.marks id rest front handed }) refl (sound_step t.tree op w.sound fits)
+      (record { rows = w.agrees.rows; nodes = w.agrees.nodes; asks = w.agrees.asks; closings = λ q. closing q (is_app id q) refl; masters = λ q. master q (is_app id q.app) refl })
+      w.nodes (record { apart = w.book.apart; rows = w.book.rows; left = w.book.left; launches = w.book.launches })
+    where
+      retired_now : (q : AppId) (b : Bool) → is_app id q ≡ b → has_app (h.apps.retired ++ id ∷ []) q ≡ (has_app h.apps.retired q || b)
+      retired_now q b e = list_any-append (λ one. is_app one q) h.apps.retired (id ∷ []) ∙ rw e (last b)
+        where
+          last : (c : Bool) → (has_app h.apps.retired q || (c || false)) ≡ (has_app h.apps.retired q || c)
+          last true = refl
+          last false = refl
+
+      gone : (b : Bool) → (b || true) ≡ true
+      gone true = refl
+      gone false = refl
+
+      still : (b : Bool) → (b || false) ≡ b
+      still true = refl
+      still false = refl
+
+      closing : (q : AppId) (b : Bool) → is_app id q ≡ b → ClosingsAgree h.endings.outbox q (has_app (h.apps.retired ++ id ∷ []) q) (row_of (without_row id t.rows) q)
+      closing q true e = let now : has_app (h.apps.retired ++ id ∷ []) q ≡ true = retired_now q true e ∙ gone (has_app h.apps.retired q) in rw (row_gone id q t.rows, e, now) (λ r. cc)
+      closing q false e = let now : has_app (h.apps.retired ++ id ∷ []) q ≡ has_app h.apps.retired q = retired_now q false e ∙ still (has_app h.apps.retired q) in rw (row_gone id q t.rows, e, now) (w.agrees.closings q)
+
+      master : (q : AttemptId) (b : Bool) → is_app id q.app ≡ b → RowAgrees h.masters.registered h.granted (has_app (h.apps.retired ++ id ∷ []) q.app) q (row_of (without_row id t.rows) q.app)
+      master q true e = let now : has_app (h.apps.retired ++ id ∷ []) q.app ≡ true = retired_now q.app true e ∙ gone (has_app h.apps.retired q.app) in rw (row_gone id q.app t.rows, e, now) (λ r. cc)
+      master q false e = let now : has_app (h.apps.retired ++ id ∷ []) q.app ≡ has_app h.apps.retired q.app = retired_now q.app false e ∙ still (has_app h.apps.retired q.app) in rw (row_gone id q.app t.rows, e, now) (w.agrees.masters q)

@@ -1,0 +1,150 @@
+-- AttemptSaved, as a whole step that keeps all that holds of an open life: the attempt is ended, or the launch of its master is ordered at the
+-- node where that stands.
+use Rattle.std.proofs.Common.{◌≡◌, ℕ, List, [], ◌∷◌, ◌++◌, Bool, true, false, Option, None, Some, is_some, refl, sym, ◌∙◌, ap, subst}
+use Rattle.std.specs.Prelude.{if◌then◌else◌, option_and_then, option_map}
+use Rattle.std.specs.Str.{bytes_eq}
+use Rattle.rm_types.specs.declared.entries.Entry.{Entry}
+use Rattle.rm_types.specs.declared.entries.Entry.TheVariants.{Ordered}
+use Rattle.rm_types.specs.declared.ids.AttemptId.{AttemptId}
+use Rattle.rm_types.specs.declared.ids.ContainerId.{ContainerId}
+use Rattle.rm_types.specs.declared.operations.How.TheVariants as ways
+use Rattle.rm_types.specs.declared.settings.Settings.{Settings}
+use Rattle.rm_model.specs.Changes.{orders}
+use Rattle.rm_model.specs.Containers.{ids_on, lives_on}
+use Rattle.rm_model.specs.Issuing.{killed_text, lost_text}
+use Rattle.rm_model.specs.Nodes.{node_of, with_node}
+use Rattle.rm_model.specs.State.{LifeState, NodeState, Row}
+use Rattle.rm_tables.specs.declared.events.MainEvent.{MainEvent}
+use Rattle.rm_tables.specs.declared.events.MainEvent.TheVariants as mains
+use Rattle.rm_tables.specs.declared.events.SchedEvent.{SchedEvent}
+use Rattle.rm_tables.specs.declared.rows.AppRow.{AppRow}
+use Rattle.rm_tables.specs.declared.rows.Current.{Current}
+use Rattle.rm_tables.specs.declared.tables.Tables.{Tables}
+use Rattle.rm_tables.specs.Actions.{main_popped, main_quiet, main_worked}
+use Rattle.rm_tables.specs.MainEvents.{launch_of_master, launch_of_row, launch_of_tests, launch_of_place, launch_of_living, launch_of_current, is_living_one, main_step, node_at, with_order}
+use Rattle.rm_tables.specs.Nodes.{ordered_row}
+use Rattle.rm_tables.specs.Rows.{row_of}
+use Rattle.rm_refinement.specs.Agreement.{PlainNode}
+use Rattle.rm_refinement.proofs.Found.{other_told, own_told, same_name}
+use Rattle.rm_refinement.proofs.Nodes.{with_same}
+use Rattle.rm_refinement.specs.History.{History, abstract_life}
+use Rattle.rm_invariant.specs.nodes.Invariant.{NodesInvariant, NodeInvariant, events_of}
+use Rattle.rm_invariant.specs.nodes.Book.{All, AreLaunches, BookInvariant, BookRowInvariant}
+use Rattle.rm_invariant.proofs.nodes.Holds.{all_append, all_map}
+use Rattle.rm_invariant.specs.masters.Preserves.{PreservesContainersTo}
+use Rattle.rm_invariant.specs.masters.Invariant.{MastersAreOwn}
+use Rattle.rm_invariant.proofs.masters.Held.{same_node, stands}
+use Rattle.rm_invariant.proofs.masters.Launched.{launched_joins}
+use Rattle.rm_invariant.specs.events.Refines.{Refines}
+use Rattle.rm_invariant.specs.Core.{Nothing, CoreInvariant, PreservesCore}
+use Rattle.rm_invariant.proofs.events.Leaving.{stepped_whole}
+use Rattle.rm_invariant.proofs.events.MasterMoves.{end_whole}
+use Rattle.rm_invariant.proofs.events.Moving.{quiet_whole}
+
+module _ (c : ContainerId) (name : List ℕ) where
+  -- a node that is to launch it too
+  abbrev launching : NodeState → NodeState
+  launching node = record node { launches = node.launches ++ c ∷ [] }
+
+  -- what isn't worked off at a node is the same
+  launching_good : (o : Option NodeState) (events : List SchedEvent) (on : List ContainerId) → NodeInvariant o events on → NodeInvariant (option_map launching o) events on
+  launching_good None events on good = good
+  launching_good (Some node) events on good = good
+
+  nodes_good : (nodes : List NodeState) (book : List Row) (sched : List SchedEvent) → NodesInvariant nodes book sched → NodesInvariant (with_node launching name nodes) book sched
+  nodes_good nodes book sched good = λ q. by q (bytes_eq name q) refl
+    where
+      by : (q : List ℕ) (b : Bool) → bytes_eq name q ≡ b → NodeInvariant (node_of (with_node launching name nodes) q) (events_of q sched) (ids_on book q)
+      by q true e =
+          let here : NodeInvariant (node_of (with_node launching name nodes) name) (events_of name sched) (ids_on book name) =
+          subst (λ (o : Option NodeState). NodeInvariant o (events_of name sched) (ids_on book name)) (sym (own_told launching name nodes (λ one. refl))) (launching_good (node_of nodes name) (events_of name sched) (ids_on book name) (good name)) in
+          subst (λ (z : List ℕ). NodeInvariant (node_of (with_node launching name nodes) z) (events_of z sched) (ids_on book z)) (same_name name q e) here
+      by q false e = subst (λ (o : Option NodeState). NodeInvariant o (events_of q sched) (ids_on book q)) (sym (other_told launching name q nodes (λ one. refl) e)) (good q)
+
+  -- what each node is to launch stands on it
+  launches_stand : (book : List Row) → lives_on book name c ≡ true → (nodes : List NodeState) → All (AreLaunches book) nodes → All (AreLaunches book) (with_node launching name nodes)
+  launches_stand book on nodes all = all_map (AreLaunches book) (AreLaunches book) (λ node. if bytes_eq node.name name then launching node else node) (λ node here. by node (bytes_eq node.name name) refl here) nodes all
+    where
+      by : (node : NodeState) (b : Bool) → bytes_eq node.name name ≡ b → AreLaunches book node → AreLaunches book (if b then launching node else node)
+      by node true e here =
+          let same : node.name ≡ name = same_name node.name name e in
+          let there : lives_on book node.name c ≡ true = rw same on in
+          all_append (λ id. lives_on book node.name id ≡ true) node.launches (c ∷ []) here (there, tt)
+      by node false e here = here
+
+  -- a node offers what it did
+  offers_still : (nodes : List NodeState) (q : List ℕ) → option_and_then (λ (node : NodeState). node.capability) (node_of (with_node launching name nodes) q) ≡ option_and_then (λ (node : NodeState). node.capability) (node_of nodes q)
+  offers_still nodes q = by (bytes_eq name q) refl
+    where
+      of : (o : Option NodeState) → option_and_then (λ (node : NodeState). node.capability) (option_map launching o) ≡ option_and_then (λ (node : NodeState). node.capability) o
+      of None = refl
+      of (Some node) = refl
+
+      by : (b : Bool) → bytes_eq name q ≡ b → option_and_then (λ (node : NodeState). node.capability) (node_of (with_node launching name nodes) q) ≡ option_and_then (λ (node : NodeState). node.capability) (node_of nodes q)
+      by true e =
+          subst (λ (z : List ℕ). option_and_then (λ (node : NodeState). node.capability) (node_of (with_node launching name nodes) z) ≡ option_and_then (λ (node : NodeState). node.capability) (node_of nodes z)) (same_name name q e)
+          (ap (λ (o : Option NodeState). option_and_then (λ (node : NodeState). node.capability) o) (own_told launching name nodes (λ one. refl)) ∙ of (node_of nodes name))
+      by false e = ap (λ (o : Option NodeState). option_and_then (λ (node : NodeState). node.capability) o) (other_told launching name q nodes (λ one. refl) e)
+
+  -- the book holds
+  orders_holds : (life : LifeState) → lives_on life.book name c ≡ true → BookInvariant life Nothing → BookInvariant (orders life c name) Nothing
+  orders_holds life on h = record { apart = h.apart; rows = all_rows life.book h.rows; left = h.left; launches = launches_stand life.book on life.nodes h.launches }
+    where
+      all_rows : (rows : List Row) → All (BookRowInvariant life Nothing) rows → All (BookRowInvariant (orders life c name) Nothing) rows
+      all_rows [] k = tt
+      all_rows (row ∷ rows) k = ((ap is_some (offers_still life.nodes row.node) ∙ k.0.0, k.0.1, k.0.2, k.0.3), all_rows rows k.1)
+
+module _ (settings : Settings) (h : History) (t : Tables) (w : CoreInvariant settings h t) where
+  -- what an event comes to, where the applications and masters allow it
+  abbrev Comes : Entry × Tables → Type 0
+  Comes done = PreservesContainersTo settings h t (main_worked done) → PreservesCore settings h t (main_worked done)
+
+  quiet : Comes (main_quiet t)
+  quiet joins = quiet_whole settings h t w joins
+
+  -- the launch is ordered
+  ordered_whole : (c : ContainerId) (name : List ℕ) → node_at t.book c ≡ Some name → Comes (Ordered c name, with_order c name t)
+  ordered_whole c name place joins =
+      let life : LifeState = orders (abstract_life h t) c name in
+      let on = (stands h.book c name (sym (same_node t.book h.book c w.agrees.rows) ∙ place)).on in
+      let agrees : Refines life (main_popped (with_order c name t)) =
+      record {
+        rows = w.agrees.rows;
+        nodes =
+            with_same t.book name (ordered_row c) (launching c name) t.nodes h.nodes (λ one. refl) w.agrees.nodes
+            (λ row node found there alike. ap (λ (x : PlainNode). record x { launches = x.launches ++ c ∷ [] }) alike);
+        asks = w.agrees.asks;
+        closings = w.agrees.closings;
+        masters = w.agrees.masters;
+      } in
+      stepped_whole settings h t (Ordered c name) (main_popped (with_order c name t)) life joins refl w.sound agrees (nodes_good c name h.nodes h.book t.sched w.nodes) (orders_holds c name (abstract_life h t) on w.book)
+
+  -- AttemptSaved
+  module _ (id : AttemptId) where
+    launched_place : (c : ContainerId) (place : Option (List ℕ)) → node_at t.book c ≡ place → Comes (launch_of_place place c t)
+    launched_place c None e joins = quiet joins
+    launched_place c (Some name) e joins = ordered_whole c name e joins
+
+    launched_master : (o : Option ContainerId) → Comes (launch_of_master o t)
+    launched_master None joins = quiet joins
+    launched_master (Some c) joins = launched_place c (node_at t.book c) refl joins
+
+    launched_now : (wish lost : Bool) (master : Option ContainerId) → Comes (launch_of_tests wish lost master id t)
+    launched_now true lost master joins = end_whole settings h t w id ways.Killed killed_text joins
+    launched_now false true master joins = end_whole settings h t w id ways.Failed lost_text joins
+    launched_now false false master joins = launched_master master joins
+
+    launched_living : (b wish : Bool) (current : Current) → Comes (launch_of_living b wish current id t)
+    launched_living true wish current joins = launched_now wish current.lost current.master joins
+    launched_living false wish current joins = quiet joins
+
+    launched_current : (c : Option Current) (wish : Bool) → Comes (launch_of_current c wish id t)
+    launched_current None wish joins = quiet joins
+    launched_current (Some current) wish joins = launched_living (is_living_one id current) wish current joins
+
+    launched_row : (o : Option AppRow) → Comes (launch_of_row o id t)
+    launched_row None joins = quiet joins
+    launched_row (Some row) joins = launched_current row.current row.wish joins
+
+    pub launched_whole : MastersAreOwn t.tree.apps → (rest : List MainEvent) → t.main ≡ mains.AttemptSaved id ∷ rest → PreservesCore settings h t (main_worked (main_step (mains.AttemptSaved id) t))
+    launched_whole apt rest front = launched_row (row_of t.rows id.app) (launched_joins settings h t w.keeps w.marks apt w.agrees.rows id rest front)

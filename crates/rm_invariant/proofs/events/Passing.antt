@@ -1,0 +1,84 @@
+-- The tables grant on a node what the judge grants there.
+use Rattle.std.proofs.Common.{◌≡◌, ℕ, List, [], Bool, ◌&&◌, not, Option, None, Some, filter, map, refl, sym, ◌∙◌, ap}
+use Rattle.std.specs.Prelude.{option_map, if◌then◌else◌}
+use Rattle.std.specs.Str.{bytes_eq}
+use Rattle.std.proofs.lemmas.Simd.{map-map}
+use Rattle.rm_types.specs.declared.containers.Ask.{Ask}
+use Rattle.rm_types.specs.declared.containers.BookRow.{BookRow}
+use Rattle.rm_types.specs.declared.containers.Grant.{Grant}
+use Rattle.rm_types.specs.declared.ids.AttemptId.{AttemptId}
+use Rattle.rm_types.specs.declared.resources.Resource.{Resource}
+use Rattle.rm_types.specs.declared.settings.Settings.{Settings}
+use Rattle.rm_types.specs.Passes.{pass_list}
+use Rattle.rm_book.specs.AskTables.{asks_of}
+use Rattle.rm_book.specs.Books.{sizes_on}
+use Rattle.rm_book.proofs.Lists.{filter_view}
+use Rattle.rm_model.specs.Containers.{rows_on}
+use Rattle.rm_model.specs.Nodes.{is_ready as ready_told, node_of as node_told}
+use Rattle.rm_model.specs.Passing.{asks_of as asks_told, first_fit_on, pass_of, turns, waits_for_nodes}
+use Rattle.rm_model.specs.State.{NodeState, Row, Scene}
+use Rattle.rm_node.specs.declared.states.NodeState.{NodeState as NodePhase}
+use Rattle.rm_node.specs.declared.states.NodeState.TheVariants as states
+use Rattle.rm_tables.specs.declared.nodes.NodeRow.{NodeRow}
+use Rattle.rm_tables.specs.declared.tables.Tables.{Tables}
+use Rattle.rm_tables.specs.Nodes.{is_ready, node_of}
+use Rattle.rm_tables.specs.Passing.{fitted_on, grants_on, still_waits}
+use Rattle.rm_refinement.specs.Agreement.{PlainNode, PlainRow, SameRows, bare_row, bare_node, phase_of, plain_row, plain_node}
+use Rattle.rm_refinement.proofs.Found.{same_name}
+use Rattle.rm_invariant.specs.events.Refines.{Refines}
+use Rattle.rm_invariant.specs.events.Asking.{AskersCurrent}
+use Rattle.rm_invariant.proofs.events.Lists.{found_passes}
+use Rattle.rm_invariant.proofs.events.Turns.{turns_same}
+
+-- the sizes of what stands on a node
+pub sizes_same : (name : List ℕ) (rows : List BookRow) (book : List Row) → SameRows rows book → sizes_on name rows ≡ map (λ row. row.size) (rows_on book name)
+sizes_same name rows book same =
+    sym (map-map size bare_row (filter (λ row. here (bare_row row)) rows))
+    ∙ ap (map size) (filter_view bare_row here rows ∙ ap (filter here) same ∙ sym (filter_view plain_row here book))
+    ∙ map-map size plain_row (filter (λ row. here (plain_row row)) book)
+  where
+    size : PlainRow → Resource
+    size row = row.size
+
+    here : PlainRow → Bool
+    here row = bytes_eq row.node name
+
+-- a node is found by its name
+pub found_name : (name : List ℕ) (nodes : List NodeState) (node : NodeState) → node_told nodes name ≡ Some node → node.name ≡ name
+found_name name nodes node found = same_name node.name name (found_passes (λ one. bytes_eq one.name name) nodes node found)
+
+-- it is ready on both sides, or on neither
+pub ready_same : (state : NodePhase) → is_ready state ≡ ready_told (phase_of state)
+ready_same states.Absent = refl
+ready_same states.Waiting = refl
+ready_same states.Ready = refl
+ready_same states.Lost = refl
+
+module _ (settings : Settings) (m : Scene) (t : Tables) (recorded : m.records ≡ t.tree) (epoch : m.life.epoch ≡ t.epoch) (same : Refines m.life t) (current : AskersCurrent t) where
+  -- what first fit grants
+  pub fitted_same : (name : List ℕ) (capability : Option Resource) → fitted_on name capability t ≡ first_fit_on m name capability
+  fitted_same name None = refl
+  fitted_same name (Some capability) =
+      turns_same m t recorded same current (record { node = name; capability = capability; sizes = sizes_on name t.book.rows; epoch = t.epoch })
+      ∙ ap (λ (asks : AttemptId → List Ask). pass_list (record { node = name; capability = capability; sizes = sizes_on name t.book.rows; epoch = t.epoch }) asks (turns m)) alike
+      ∙ ap (λ (sizes : List Resource). pass_list (record { node = name; capability = capability; sizes = sizes; epoch = t.epoch }) (asks_told m.life.asks) (turns m)) (sizes_same name t.book.rows m.life.book same.rows)
+      ∙ ap (λ (n : ℕ). pass_list (record { node = name; capability = capability; sizes = map (λ row. row.size) (rows_on m.life.book name); epoch = n }) (asks_told m.life.asks) (turns m)) (sym epoch)
+    where
+      alike : asks_of t.asks ≡ asks_told m.life.asks
+      alike = λ i attempt. same.asks attempt i
+
+  -- the tables grant what the judge grants
+  pub pass_same : (name : List ℕ) (row : NodeRow) (node : NodeState) → still_waits t ≡ waits_for_nodes settings m → node_of t.nodes name ≡ Some row → node_told m.life.nodes name ≡ Some node
+      → grants_on name row t ≡ pass_of settings m node
+  pass_same name row node waits found told =
+      ap (λ (capability : Option Resource). if is_ready row.state && not (still_waits t) then fitted_on name capability t else []) (ap (λ (n : PlainNode). n.capability) alike)
+      ∙ ap (λ (grants : List Grant). if is_ready row.state && not (still_waits t) then grants else []) (fitted_same name node.capability)
+      ∙ ap (λ (n : List ℕ). if is_ready row.state && not (still_waits t) then first_fit_on m n node.capability else []) (sym (found_name name m.life.nodes node told))
+      ∙ ap (λ (b : Bool). if b && not (still_waits t) then first_fit_on m node.name node.capability else []) (ready_same row.state ∙ ap (λ (n : PlainNode). ready_told n.phase) alike)
+      ∙ ap (λ (b : Bool). if ready_told node.phase && not b then first_fit_on m node.name node.capability else []) waits
+    where
+      alike : bare_node t.book name row ≡ plain_node node
+      alike =
+          let both : option_map (bare_node t.book name) (Some row) ≡ option_map plain_node (Some node) =
+          ap (option_map (bare_node t.book name)) (sym found) ∙ same.nodes name ∙ ap (option_map plain_node) told in
+          cc

@@ -1,0 +1,157 @@
+-- AppAdded and AttemptAdded, each as a whole step that keeps all that holds of an open life: an application is to be accepted, and an attempt
+-- that is scheduled asks for its master's container.
+use Rattle.std.proofs.Common.{◌≡◌, is_some, List, [], ◌∷◌, ◌++◌, Bool, true, false, ◌==◌, Option, None, Some, count_by, drop, filter, map, refl, sym, ◌∙◌, ap, subst, suc, append-nil, arith}
+use Rattle.std.specs.List.{list_any}
+use Rattle.std.proofs.lemmas.Bool.Decides.{nat_tests}
+use Rattle.std.proofs.lemmas.List.{map-append}
+use Rattle.std.proofs.lemmas.List.Elements.{filter-append}
+use Rattle.rm_types.specs.declared.containers.Ask.{Ask}
+use Rattle.rm_types.specs.declared.containers.AskOf.{AskOf}
+use Rattle.rm_types.specs.declared.entries.Entry.TheVariants.{Queued}
+use Rattle.rm_types.specs.declared.ids.AppId.{AppId}
+use Rattle.rm_types.specs.declared.ids.AttemptId.{AttemptId}
+use Rattle.rm_types.specs.declared.ids.ContainerId.{ContainerId}
+use Rattle.rm_types.specs.declared.records.AppRecord.{AppRecord}
+use Rattle.rm_types.specs.declared.resources.Resource.{Resource}
+use Rattle.rm_types.specs.declared.settings.Settings.{Settings}
+use Rattle.rm_types.specs.Ids.{is_attempt}
+use Rattle.rm_types.specs.Records.{record_of}
+use Rattle.rm_book.specs.AskTables.{AsksOf, asks_of, asks_set, is_for}
+use Rattle.rm_book.proofs.Ids.{same_attempt}
+use Rattle.rm_model.specs.Changes.{master_ask}
+use Rattle.std.specs.Prelude.{if◌then◌else◌}
+use Rattle.rm_model.specs.Passing.{asks_of as asks_told}
+use Rattle.rm_model.specs.State.{LifeState}
+use Rattle.rm_attempt.specs.declared.states.AttemptState.{AttemptState}
+use Rattle.rm_attempt.specs.declared.states.AttemptState.TheVariants as attempts
+use Rattle.rm_tables.specs.declared.events.SchedEvent.{SchedEvent}
+use Rattle.rm_tables.specs.declared.events.SchedEvent.TheVariants as scheds
+use Rattle.rm_tables.specs.declared.events.MainEvent.TheVariants as mains
+use Rattle.rm_tables.specs.declared.rows.AppRow.{AppRow}
+use Rattle.rm_tables.specs.declared.rows.Current.{Current}
+use Rattle.rm_tables.specs.declared.tables.Tables.{Tables}
+use Rattle.rm_tables.specs.Actions.{found_in, sched_popped, sched_quiet, sched_worked}
+use Rattle.rm_tables.specs.Rows.{row_of}
+use Rattle.rm_tables.specs.SchedEvents.{master_asked, queued_at, queued_by, queued_with, sched_step}
+use Rattle.rm_refinement.specs.Agreement.{SameAsks}
+use Rattle.rm_invariant.specs.apps.Invariant.{RowInvariant}
+use Rattle.rm_refinement.specs.History.{History, abstract_life}
+use Rattle.rm_invariant.specs.apps.View.{View, is_ask, one_if, sched_view, view}
+use Rattle.rm_invariant.proofs.apps.Counts.{at_front}
+use Rattle.rm_invariant.proofs.apps.Effects.{sched_taken}
+use Rattle.rm_invariant.proofs.apps.Found.{is_app-refl}
+use Rattle.rm_invariant.proofs.apps.Queueing.{queued_facts}
+use Rattle.rm_invariant.specs.nodes.Invariant.{NodesInvariant}
+use Rattle.rm_invariant.specs.masters.Preserves.{PreservesContainersTo}
+use Rattle.rm_invariant.proofs.masters.AppEvents.{added_joins, queued_joins}
+use Rattle.rm_invariant.specs.Core.{CoreInvariant, PreservesCore}
+use Rattle.rm_invariant.proofs.events.Answered.{other_asks, own_asks}
+use Rattle.rm_invariant.proofs.events.Events.{still_good}
+use Rattle.rm_invariant.proofs.events.Leaving.{idle_whole, stepped_whole}
+
+-- an attempt that doesn't ask for its master has no such ask
+none_for : (id : AttemptId) (size : Resource) (asks : List AskOf) → count_by (is_ask id) asks ≡ 0 → list_any (is_for 0 size) (asks_told asks id) ≡ false
+none_for id size [] none = refl
+none_for id size (one ∷ asks) none = by (is_attempt one.attempt id) refl (one.ask.priority == 0) refl (none_for id size asks)
+  where
+    counted : (b : Bool) → is_ask id one ≡ b → one_if b (count_by (is_ask id) asks) ≡ 0
+    counted b e = ap (λ c. one_if c (count_by (is_ask id) asks)) (sym e) ∙ sym (at_front (is_ask id) one asks) ∙ none
+
+    by : (b : Bool) → is_attempt one.attempt id ≡ b → (c : Bool) → (one.ask.priority == 0) ≡ c → (count_by (is_ask id) asks ≡ 0 → list_any (is_for 0 size) (asks_told asks id) ≡ false)
+        → list_any (is_for 0 size) (asks_told (one ∷ asks) id) ≡ false
+    by true e true f rest = absurd (let x = counted true (rw (e, f) refl) in cc)
+    by true e false f rest = rw (e, f) (rest (counted false (rw (e, f) refl)))
+    by false e c f rest = rw e (rest (counted false (rw e refl)))
+
+-- what an attempt asks for once a line more is there
+told_more : (asks : List AskOf) (line : AskOf) (q : AttemptId) (b : Bool) → is_attempt line.attempt q ≡ b → asks_told (asks ++ line ∷ []) q ≡ asks_told asks q ++ (if b then line.ask ∷ [] else [])
+told_more asks line q b e =
+    ap (map (λ one. one.ask)) (filter-append (λ one. is_attempt one.attempt q) asks (line ∷ []))
+    ∙ map-append (λ one. one.ask) (filter (λ one. is_attempt one.attempt q) asks) (filter (λ one. is_attempt one.attempt q) (line ∷ []))
+    ∙ by b e
+  where
+    by : (b : Bool) → is_attempt line.attempt q ≡ b → asks_told asks q ++ map (λ one. one.ask) (filter (λ one. is_attempt one.attempt q) (line ∷ [])) ≡ asks_told asks q ++ (if b then line.ask ∷ [] else [])
+    by true e = rw e refl
+    by false e = rw e refl
+
+-- the tables and the judge have the ask for a master alike
+asks_queued : (table : List AsksOf) (asks : List AskOf) (id : AttemptId) (app : AppRecord) → SameAsks table asks → count_by (is_ask id) asks ≡ 0 → SameAsks (master_asked id (Some app) table) (asks ++ master_ask id (Some app.submission))
+asks_queued table asks id app same none = λ q. by q (is_attempt id q) refl
+  where
+    ask : Ask
+    ask = record { priority = 0; count = 1; size = app.submission.master }
+
+    set : asks_set ask (asks_of table id) ≡ asks_told asks id ++ ask ∷ []
+    set = rw (same id) (let x = none_for id app.submission.master asks none in rw x refl)
+
+    by : (q : AttemptId) (b : Bool) → is_attempt id q ≡ b → asks_of (master_asked id (Some app) table) q ≡ asks_told (asks ++ master_ask id (Some app.submission)) q
+    by q true e =
+        subst (λ (x : AttemptId). asks_of (master_asked id (Some app) table) x ≡ asks_told (asks ++ master_ask id (Some app.submission)) x) (same_attempt id q e)
+        (own_asks id (asks_set ask (asks_of table id)) table ∙ set ∙ sym (told_more asks (record { attempt = id; ask = ask }) id true (let own : is_attempt id id ≡ true = grind (arith, nat_tests) in own)))
+    by q false e =
+        other_asks id q e (asks_set ask (asks_of table id)) table ∙ same q ∙ sym (append-nil (asks_told asks q)) ∙ sym (told_more asks (record { attempt = id; ask = ask }) q false e)
+
+-- a record that is found
+some_record : (o : Option AppRecord) → is_some o ≡ true → (app : AppRecord) × (o ≡ Some app)
+some_record None some = cc
+some_record (Some app) some = (app, refl)
+
+module _ (settings : Settings) (h : History) (t : Tables) (w : CoreInvariant settings h t) where
+  -- AppAdded
+  pub app_added_whole : (id : AppId) (rest : List SchedEvent) → t.sched ≡ scheds.AppAdded id ∷ rest → (list : List ContainerId) → PreservesCore settings h t (sched_worked (sched_step (scheds.AppAdded id) list t))
+  app_added_whole id rest front list =
+      idle_whole settings h t w (scheds.AppAdded id) rest front (t.main ++ mains.AppAccepted id ∷ []) (added_joins settings h t w.keeps w.marks id rest front list)
+      (still_good settings h t w (scheds.AppAdded id) rest front (λ q. refl))
+
+  -- AttemptAdded
+  module _ (id : AttemptId) (rest : List SchedEvent) (front : t.sched ≡ scheds.AttemptAdded id ∷ rest) where
+    good : NodesInvariant h.nodes h.book rest
+    good = still_good settings h t w (scheds.AttemptAdded id) rest front (λ q. refl)
+
+    -- the attempt has a record of its application and no ask for its master yet
+    facts : (row : AppRow) → row_of t.rows id.app ≡ Some row → (current : Current) → row.current ≡ Some current → current.state ≡ attempts.Scheduled → (current.number == id.number) ≡ true
+        → (app : AppRecord) × (record_of t.tree.apps id.app ≡ Some app) × (count_by (is_ask id) h.asks ≡ 0)
+    facts row found current is s n =
+        let gone : Tables = sched_popped t in
+        let here : RowInvariant settings id (Some row) (view h t id) = rw found at (w.keeps.all id) in
+        let self : sched_view id (scheds.AttemptAdded id) (view h gone id) ≡ record (view h gone id) { count = record (view h gone id).count { queueings = suc (view h gone id).count.queueings } } = (let number : (id.number == id.number) ≡ true = grind (arith, nat_tests) in rw (is_app-refl id.app, number) refl) in
+        let says = subst (λ (v : View). RowInvariant settings id (Some row) v) (sched_taken h t id (scheds.AttemptAdded id) rest front ∙ self) here in
+        let may = queued_facts settings id (view h gone id) row current is s n says in
+        let some = some_record (record_of t.tree.apps id.app) may.1.stopped.0 in
+        (some.0, some.1, may.1.none_ask)
+
+    asked : (app : AppRecord) → record_of t.tree.apps id.app ≡ Some app → count_by (is_ask id) h.asks ≡ 0
+        → PreservesContainersTo settings h t (Queued id, sched_popped (record t { asks = master_asked id (found_in t id.app) t.asks })) → PreservesCore settings h t (Queued id, sched_popped (record t { asks = master_asked id (found_in t id.app) t.asks }))
+    asked app found none joins =
+        let next : Tables = sched_popped (record t { asks = master_asked id (found_in t id.app) t.asks }) in
+        let life : LifeState = record (abstract_life h t) { asks = h.asks ++ master_ask id (Some app.submission) } in
+        stepped_whole settings h t (Queued id) next life joins (rw (w.keeps.recorded, found) refl) w.sound
+        (record { rows = w.agrees.rows; nodes = w.agrees.nodes; asks = rw found (asks_queued t.asks h.asks id app w.agrees.asks none); closings = w.agrees.closings; masters = w.agrees.masters })
+        (subst (NodesInvariant h.nodes h.book) (sym (ap (drop 1) front)) good) (record { apart = w.book.apart; rows = w.book.rows; left = w.book.left; launches = w.book.launches })
+
+    idle : PreservesContainersTo settings h t (sched_worked (sched_quiet t)) → PreservesCore settings h t (sched_worked (sched_quiet t))
+    idle joins = idle_whole settings h t w (scheds.AttemptAdded id) rest front t.main joins good
+
+    by_state : (row : AppRow) → row_of t.rows id.app ≡ Some row → (current : Current) → row.current ≡ Some current → (s : AttemptState) → current.state ≡ s → (b : Bool) → (current.number == id.number) ≡ b
+        → PreservesContainersTo settings h t (sched_worked (queued_at s b id t)) → PreservesCore settings h t (sched_worked (queued_at s b id t))
+    by_state row found current is attempts.Scheduled s true n joins = let f = facts row found current is s n in asked f.0 f.1 f.2 joins
+    by_state row found current is attempts.Scheduled s false n joins = idle joins
+    by_state row found current is attempts.Granted s b n joins = idle joins
+    by_state row found current is attempts.Saving s b n joins = idle joins
+    by_state row found current is attempts.Live s b n joins = idle joins
+    by_state row found current is attempts.Registered s b n joins = idle joins
+    by_state row found current is attempts.Finishing s b n joins = idle joins
+    by_state row found current is attempts.Ending s b n joins = idle joins
+    by_state row found current is attempts.Ended s b n joins = idle joins
+    by_state row found current is attempts.Dropped s b n joins = idle joins
+
+    by_current : (row : AppRow) → row_of t.rows id.app ≡ Some row → (c : Option Current) → row.current ≡ c → PreservesContainersTo settings h t (sched_worked (queued_with c id t)) → PreservesCore settings h t (sched_worked (queued_with c id t))
+    by_current row found None is joins = idle joins
+    by_current row found (Some current) is joins = by_state row found current is current.state refl (current.number == id.number) refl joins
+
+    by_row : (o : Option AppRow) → row_of t.rows id.app ≡ o → PreservesContainersTo settings h t (sched_worked (queued_by o id t)) → PreservesCore settings h t (sched_worked (queued_by o id t))
+    by_row None found joins = idle joins
+    by_row (Some row) found joins = by_current row found row.current refl joins
+
+    pub queued_whole : (list : List ContainerId) → PreservesCore settings h t (sched_worked (sched_step (scheds.AttemptAdded id) list t))
+    queued_whole list = by_row (row_of t.rows id.app) refl (queued_joins settings h t w.keeps w.marks id rest front list)

@@ -1,0 +1,78 @@
+-- The tables go over the attempts that ask for something, the judge over all: a pass grants the same.
+use Rattle.std.proofs.Common.{◌≡◌, ℕ, ◌+◌, suc, List, [], ◌∷◌, Bool, true, false, Option, None, Some, map, filter, fold, refl, sym, ◌∙◌, ap}
+use Rattle.std.specs.Prelude.{slice_get}
+use Rattle.rm_types.specs.declared.containers.Ask.{Ask}
+use Rattle.rm_types.specs.declared.containers.Grant.{Grant}
+use Rattle.rm_types.specs.declared.containers.Turn.{Turn}
+use Rattle.rm_types.specs.declared.ids.AppId.{AppId}
+use Rattle.rm_types.specs.declared.ids.AttemptId.{AttemptId}
+use Rattle.rm_types.specs.declared.ids.ContainerId.{ContainerId}
+use Rattle.rm_types.specs.declared.records.AppRecord.{AppRecord}
+use Rattle.rm_types.specs.Lists.{is_nil}
+use Rattle.rm_types.specs.Passes.{PassNode, by_priority, pass_list, with_granted, with_turn}
+use Rattle.rm_book.specs.AskTables.{AsksOf, asks_of}
+use Rattle.rm_model.specs.Attempts.{attempt_at}
+use Rattle.rm_model.specs.Facts.{has_app}
+use Rattle.rm_model.specs.Passing.{turn_of, turns}
+use Rattle.rm_model.specs.State.{LifeState, MasterState, Scene}
+use Rattle.rm_tables.specs.declared.rows.AppRow.{AppRow}
+use Rattle.rm_tables.specs.declared.rows.Current.{Current}
+use Rattle.rm_tables.specs.declared.tables.Tables.{Tables}
+use Rattle.rm_tables.specs.Passing.{asks_some, granted_by, granted_to, turn_in, turns_in}
+use Rattle.rm_tables.specs.Rows.{row_of}
+use Rattle.rm_refinement.specs.Agreement.{AttemptAgrees, RowAgrees, grants_of}
+use Rattle.rm_invariant.specs.events.Refines.{Refines}
+use Rattle.rm_invariant.specs.events.Asking.{AskersCurrent, is_current, is_numbered, is_numbered_in}
+use Rattle.rm_invariant.proofs.events.Lists.{nil_is}
+
+-- the current attempt's row counts its grants
+counts_grants : (registered : List MasterState) (granted : List ContainerId) (retired : Bool) (attempt : AttemptId) (o : Option AppRow) → is_numbered_in attempt.number o ≡ true
+    → RowAgrees registered granted retired attempt o → granted_by attempt.number o ≡ grants_of granted attempt
+counts_grants registered granted retired attempt None at same = cc
+counts_grants registered granted retired attempt (Some row) at same = by row.current at same
+  where
+    by : (o : Option Current) → is_numbered attempt.number o ≡ true → AttemptAgrees registered granted attempt row o → granted_to attempt.number o ≡ grants_of granted attempt
+    by None at same = cc
+    by (Some current) at same = rw at (let agrees = rw at at same in agrees.2)
+
+-- so its next grant is numbered on from them
+pub first_seq : (life : LifeState) (t : Tables) → Refines life t → (attempt : AttemptId) → is_current t.rows attempt ≡ true → (turn_in t.rows attempt).next_seq ≡ grants_of life.granted attempt + 1
+first_seq life t same attempt at =
+    ap (λ (n : ℕ). n + 1) (counts_grants life.masters.registered life.granted (has_app life.apps.retired attempt.app) attempt (row_of t.rows attempt.app) at (same.masters attempt))
+
+-- attempts that ask for nothing are granted nothing
+module _ (m : Scene) (rows : List (AppId × Option AppRow)) (asks : List AsksOf) (pass : PassNode) where
+  -- the turns of those that ask for something are the same
+  abbrev pub SameTurns : List AppRecord → Type 0
+  SameTurns apps = (place : ℕ) (app : AppRecord) → slice_get apps place ≡ Some app → asks_some asks (attempt_at app) ≡ true → turn_in rows (attempt_at app) ≡ turn_of m (attempt_at app)
+
+  turns_from : (apps : List AppRecord) → SameTurns apps → (grants : List Grant)
+      → fold (with_turn pass (asks_of asks)) grants (map (turn_in rows) (filter (asks_some asks) (map attempt_at apps)))
+      ≡ fold (with_turn pass (asks_of asks)) grants (map (λ app. turn_of m (attempt_at app)) apps)
+  turns_from [] same grants = refl
+  turns_from (app ∷ apps) same grants = by (is_nil (asks_of asks (attempt_at app))) refl (turns_from apps (λ place one e. same (suc place) one e))
+    where
+      ours : List Grant → List Grant
+      ours so_far = fold (with_turn pass (asks_of asks)) so_far (map (turn_in rows) (filter (asks_some asks) (map attempt_at apps)))
+
+      by : (b : Bool) → is_nil (asks_of asks (attempt_at app)) ≡ b
+          → ((so_far : List Grant) → ours so_far ≡ fold (with_turn pass (asks_of asks)) so_far (map (λ one. turn_of m (attempt_at one)) apps))
+          → fold (with_turn pass (asks_of asks)) grants (map (turn_in rows) (filter (asks_some asks) (map attempt_at (app ∷ apps))))
+          ≡ fold (with_turn pass (asks_of asks)) grants (map (λ one. turn_of m (attempt_at one)) (app ∷ apps))
+      by true e rest =
+          let none : asks_of asks (attempt_at app) ≡ [] = nil_is (asks_of asks (attempt_at app)) e in
+          let skipped : with_turn pass (asks_of asks) grants (turn_of m (attempt_at app)) ≡ grants =
+          ap (λ (l : List Ask). fold (with_granted pass (turn_of m (attempt_at app))) grants (by_priority l)) none in
+          rw e (rest grants ∙ ap (λ (so_far : List Grant). fold (with_turn pass (asks_of asks)) so_far (map (λ one. turn_of m (attempt_at one)) apps)) (sym skipped))
+      by false e rest =
+          let some : asks_some asks (attempt_at app) ≡ true = rw e refl in
+          rw e (ap (λ (turn : Turn). ours (with_turn pass (asks_of asks) grants turn)) (same 0 app refl some) ∙ rest (with_turn pass (asks_of asks) grants (turn_of m (attempt_at app))))
+
+-- a pass over the turns of the tables is one over those of the judge
+pub turns_same : (m : Scene) (t : Tables) → m.records ≡ t.tree → Refines m.life t → AskersCurrent t → (pass : PassNode) → pass_list pass (asks_of t.asks) (turns_in t) ≡ pass_list pass (asks_of t.asks) (turns m)
+turns_same m t recorded same current pass =
+    turns_from m t.rows t.asks pass t.tree.apps own [] ∙ ap (λ r. pass_list pass (asks_of t.asks) (map (λ app. turn_of m (attempt_at app)) r.apps)) (sym recorded)
+  where
+    own : SameTurns m t.rows t.asks pass t.tree.apps
+    own place app e some =
+        ap (λ (n : ℕ). record { attempt = attempt_at app; next_seq = n }) (first_seq m.life t same (attempt_at app) (current place app e some))

@@ -1,0 +1,186 @@
+-- What the entries of nodes do to what holds of a container, over its marks alone: containers leave the book, and enter it.
+use Rattle.std.proofs.Common.{◌⊎◌, inl, inr, ◌≡◌, ◌≤◌, ℕ, ◌+◌, ◌==◌, ◌&&◌, ◌||◌, not, Bool, true, false, Option, None, Some, refl, arith}
+use Rattle.std.proofs.lemmas.Bool.Decides.{nat_tests}
+use Rattle.rm_types.specs.declared.ids.AttemptId.{AttemptId}
+use Rattle.rm_types.specs.declared.ids.ContainerId.{ContainerId}
+use Rattle.rm_types.specs.declared.settings.Settings.{Settings}
+use Rattle.rm_types.specs.Ids.{is_container}
+use Rattle.rm_app.specs.declared.states.AppState.{AppState}
+use Rattle.rm_attempt.specs.declared.states.AttemptState.{AttemptState}
+use Rattle.rm_attempt.specs.declared.states.AttemptState.TheVariants as attempts
+use Rattle.rm_tables.specs.declared.rows.AppRow.{AppRow}
+use Rattle.rm_tables.specs.declared.rows.Current.{Current}
+use Rattle.rm_tables.specs.Changes.{changed, granted}
+use Rattle.rm_tables.specs.MainEvents.{is_alive, is_master_of}
+use Rattle.rm_tables.specs.declared.changes.RowChange.TheVariants as of_app
+use Rattle.rm_tables.specs.declared.changes.AttemptChange.TheVariants as of_attempt
+use Rattle.rm_refinement.specs.Services.{is_ending}
+use Rattle.rm_invariant.specs.apps.Invariant.{ActiveInvariant, RowInvariant, StateInvariant, is_active}
+use Rattle.rm_invariant.specs.apps.View.{View, one_if, set_if}
+use Rattle.rm_invariant.proofs.apps.Own.{active_row}
+use Rattle.rm_invariant.specs.masters.Invariant.{AliveInvariant, ContainerByNumber, ContainerByState, ContainerByCurrent, ContainerInvariant, MasterAlive, Untouched, is_final}
+use Rattle.rm_invariant.specs.masters.View.{ContainerView}
+
+-- containers leave, and this one does or not; so many MasterLost of it are posted
+abbrev pub left_marks : Bool → ℕ → ContainerView → ContainerView
+left_marks gone n v = record v { living = v.living && not gone; left = v.left || gone; losses = v.losses + n }
+
+-- a master of an attempt that is being saved or lives is told of
+abbrev pub IsTold : AttemptState → Bool → Bool → ℕ → Type 0
+IsTold attempts.Saving true true n = 1 ≤ n
+IsTold attempts.Live true true n = 1 ≤ n
+IsTold attempts.Registered true true n = 1 ≤ n
+IsTold attempts.Finishing true true n = 1 ≤ n
+IsTold s mine gone n = Unit {0}
+
+module _ (c : ContainerId) (v : ContainerView) where
+  alive_leaves : (lost m gone : Bool) (n : ℕ) → (gone ≡ true → v.living ≡ true) → (gone ≡ false → n ≡ 0) → (m ≡ true → gone ≡ true → 1 ≤ n) → AliveInvariant c lost m v → AliveInvariant c lost m (left_marks gone n v)
+  alive_leaves lost m gone n lives none told says =
+      (says.0, says.1, says.2, says.3, says.4, says.5, says.6, λ o. master lost gone (told o) lives none (says.7 o))
+    where
+      master : (lost gone : Bool) → (gone ≡ true → 1 ≤ n) → (gone ≡ true → v.living ≡ true) → (gone ≡ false → n ≡ 0) → MasterAlive lost v → MasterAlive lost (left_marks gone n v)
+      master lost true told lives none says = grind arith
+      master lost false told lives none says = grind arith
+
+  untouched_leaves : (gone : Bool) (n : ℕ) → (gone ≡ true → v.living ≡ true) → Untouched v → Untouched (left_marks gone n v)
+  untouched_leaves gone n lives says = grind arith
+
+  own_leaves : (s : AttemptState) (lost m gone : Bool) (n : ℕ) → (gone ≡ true → v.living ≡ true) → (gone ≡ false → n ≡ 0) → (m ≡ true → gone ≡ true → IsTold s true true n) → ContainerByState c s lost m v → ContainerByState c s lost m (left_marks gone n v)
+  own_leaves attempts.Scheduled lost m gone n lives none told says = untouched_leaves gone n lives says
+  own_leaves attempts.Granted lost false gone n lives none told says = untouched_leaves gone n lives says
+  own_leaves attempts.Granted lost true true n lives none told says = grind arith
+  own_leaves attempts.Granted lost true false n lives none told says = grind arith
+  own_leaves attempts.Saving lost false gone n lives none told says = grind arith
+  own_leaves attempts.Saving lost true true n lives none told says = grind arith
+  own_leaves attempts.Saving lost true false n lives none told says = grind arith
+  own_leaves attempts.Live lost m gone n lives none told says = alive_leaves lost m gone n lives none told says
+  own_leaves attempts.Registered lost m gone n lives none told says = alive_leaves lost m gone n lives none told says
+  own_leaves attempts.Finishing lost m gone n lives none told says = alive_leaves lost m gone n lives none told says
+  own_leaves attempts.Ending lost m gone n lives none told says = tt
+  own_leaves attempts.Ended lost m gone n lives none told says = grind arith
+  own_leaves attempts.Dropped lost m gone n lives none told says = tt
+
+  removal_leaves : (gone : Bool) → (v.living ≡ true → 1 ≤ v.removals) → (v.living && not gone) ≡ true → 1 ≤ v.removals
+  removal_leaves gone says = grind arith
+
+  loss_leaves : (gone : Bool) (n : ℕ) → (gone ≡ false → n ≡ 0) → (1 ≤ v.losses → v.left ≡ true) → 1 ≤ v.losses + n → (v.left || gone) ≡ true
+  loss_leaves true n none says some = by v.left
+    where
+      by : (b : Bool) → (b || true) ≡ true
+      by true = refl
+      by false = refl
+  loss_leaves false n none says some = let z = none refl in let l = says (omega (arith, some, z)) in rw l refl
+
+  number_leaves : (b : Bool) (current : Current) (gone : Bool) (n : ℕ) → (gone ≡ true → v.living ≡ true) → (gone ≡ false → n ≡ 0) → (b ≡ true → is_master_of c current.master ≡ true → gone ≡ true → IsTold current.state true true n) → ContainerByNumber c b current v → ContainerByNumber c b current (left_marks gone n v)
+  number_leaves true current gone n lives none told says = own_leaves current.state current.lost (is_master_of c current.master) gone n lives none (told refl) says
+  number_leaves false current gone n lives none told says = ((λ l. untouched_leaves gone n lives (says.0 l)), removal_leaves gone says.1)
+
+  current_leaves : (o : Option Current) (gone : Bool) (n : ℕ) → (gone ≡ true → v.living ≡ true) → (gone ≡ false → n ≡ 0) → ((current : Current) → o ≡ Some current → (current.number == c.attempt.number) ≡ true → is_master_of c current.master ≡ true → gone ≡ true → IsTold current.state true true n) → ContainerByCurrent c o v → ContainerByCurrent c o (left_marks gone n v)
+  current_leaves None gone n lives none told says = untouched_leaves gone n lives says
+  current_leaves (Some current) gone n lives none told says = number_leaves (current.number == c.attempt.number) current gone n lives none (told current refl) says
+
+  -- any containers that live leave for any cause, for every row
+  pub leaving_marks : (row : Option AppRow) (gone : Bool) (n : ℕ) → (gone ≡ true → v.living ≡ true) → (gone ≡ false → n ≡ 0)
+      → ((one : AppRow) (current : Current) → row ≡ Some one → one.current ≡ Some current → (current.number == c.attempt.number) ≡ true → is_master_of c current.master ≡ true → gone ≡ true → IsTold current.state true true n)
+      → ContainerInvariant c row v → ContainerInvariant c row (left_marks gone n v)
+  leaving_marks None gone n lives none told says = (loss_leaves gone n none says.0, ((λ r. untouched_leaves gone n lives (says.1.0 r)), removal_leaves gone says.1.1))
+  leaving_marks (Some row) gone n lives none told says = (loss_leaves gone n none says.0, (current_leaves row.current gone n lives none (λ current. told row current refl) says.1.0, λ f. removal_leaves gone (says.1.1 f)))
+
+-- an attempt may come to have no container: nothing that is said of it is lost
+module _ (settings : Settings) (q : AttemptId) (v : View) where
+  unheld_state : (s : AppState) (row : AppRow) → StateInvariant settings q s row v → StateInvariant settings q s row (record v { held = false })
+  unheld_state s row says = grind arith
+
+  -- for every row
+  pub unheld : (row : Option AppRow) → RowInvariant settings q row v → RowInvariant settings q row (record v { held = false })
+  unheld None good = grind arith
+  unheld (Some row) good =
+      let known = good.0 in
+      (record { wish = known.wish; pending = known.pending; stays = known.stays; one_kill = known.one_kill; killed = known.killed }, unheld_state row.state row good.1)
+
+-- a master's container is granted: it is new, so it neither lives nor left
+pub granting_marks : (c : ContainerId) (row : AppRow) (current : Current) (v : ContainerView) → row.current ≡ Some current → current.state ≡ attempts.Scheduled → (new : ContainerId) (e b : Bool) → (current.number == c.attempt.number) ≡ b → is_container new c ≡ e
+    → is_final row.state ≡ false → (e ≡ true → v.left ≡ false) → (e ≡ true → b ≡ true) → ContainerInvariant c (Some row) v → ContainerInvariant c (Some (changed (of_app.OfAttempt (of_attempt.Grant new)) row)) (record v { living = set_if e v.living; grants = one_if e v.grants })
+granting_marks c row current v is st new e b n is_new open_ fresh here good =
+    let says : ContainerByNumber c (current.number == c.attempt.number) current v = rw is at good.1.0 in
+    let final = good.1.1 in
+    let lost = good.0 in
+    rw is (grind (arith, nat_tests))
+
+-- and what is said of its attempt
+pub granting_says : (settings : Settings) (q : AttemptId) (row : AppRow) (current : Current) (v : View) (is : row.current ≡ Some current) (a : is_active row.state ≡ true) → current.state ≡ attempts.Scheduled → (new : ContainerId) (b : Bool) → (current.number == q.number) ≡ b
+    → RowInvariant settings q (Some row) (record v { count = record v.count { asks = one_if b v.count.asks } })
+    → RowInvariant settings q (Some (changed (of_app.OfAttempt (of_attempt.Grant new)) row)) (record v { held = set_if b v.held; count = record v.count { grants = one_if b v.count.grants } })
+granting_says settings q row current v is a st new b n good =
+    let known = good.0 in
+    let active = active_row settings q row (record v { count = record v.count { asks = one_if b v.count.asks } }) a good in
+    let says : ActiveInvariant settings q (Some current) row.wish (record v { count = record v.count { asks = one_if b v.count.asks } }) = rw is at active.current in
+    rw is (grind (arith, nat_tests))
+
+-- a container is granted to an attempt that lives, or taken of a node's report. A new one neither lives nor left, so it isn't the
+-- master of an attempt that was kept in this life; a taken one is of an attempt that was kept when the life began
+fresh_first : (v : ContainerView) (lost : Bool) → MasterAlive lost v → v.living ≡ false → v.left ≡ false → v.first ≡ true
+fresh_first v lost says new there = by v.first refl
+  where
+    by : (b : Bool) → v.first ≡ b → v.first ≡ true
+    by true f = f
+    by false f = absurd (let e = says.2 f in let g = rw (new, there) at e in cc)
+
+alive_enters : (c : ContainerId) (v : ContainerView) (lost m : Bool) → ((v.living ≡ false) × (v.left ≡ false)) ⊎ (v.first ≡ true) → AliveInvariant c lost m v → AliveInvariant c lost m (record v { living = true })
+alive_enters c v lost m fresh says =
+    (says.0, says.1, says.2, says.3, says.4, says.5, says.6, λ o. let x = says.7 o in (x.0, x.1, (λ n. absurd (let f = first fresh x in cc)), x.3))
+  where
+    first : ((v.living ≡ false) × (v.left ≡ false)) ⊎ (v.first ≡ true) → MasterAlive lost v → v.first ≡ true
+    first (inl n) x = fresh_first v lost x n.0 n.1
+    first (inr f) x = f
+
+own_enters : (c : ContainerId) (v : ContainerView) (s : AttemptState) (lost m : Bool) → (is_alive s || is_ending s) ≡ true → ((v.living ≡ false) × (v.left ≡ false)) ⊎ (v.first ≡ true) → ContainerByState c s lost m v → ContainerByState c s lost m (record v { living = true })
+own_enters c v attempts.Scheduled lost m a fresh says = cc
+own_enters c v attempts.Granted lost m a fresh says = cc
+own_enters c v attempts.Saving lost m a fresh says = cc
+own_enters c v attempts.Live lost m a fresh says = alive_enters c v lost m fresh says
+own_enters c v attempts.Registered lost m a fresh says = alive_enters c v lost m fresh says
+own_enters c v attempts.Finishing lost m a fresh says = alive_enters c v lost m fresh says
+own_enters c v attempts.Ending lost m a fresh says = tt
+own_enters c v attempts.Ended lost m a fresh says = cc
+own_enters c v attempts.Dropped lost m a fresh says = cc
+
+-- a container enters the book of an attempt that lives, or whose end is issued
+pub entering_marks : (c : ContainerId) (row : AppRow) (current : Current) (v : ContainerView) → row.current ≡ Some current → (is_alive current.state || is_ending current.state) ≡ true
+    → (e : Bool) → (e ≡ true → (current.number == c.attempt.number) ≡ true) → (e ≡ true → ((v.living ≡ false) × (v.left ≡ false)) ⊎ (v.first ≡ true)) → is_final row.state ≡ false
+    → ContainerInvariant c (Some row) v → ContainerInvariant c (Some row) (record v { living = set_if e v.living })
+entering_marks c row current v is a false here fresh open_ good = good
+entering_marks c row current v is a true here fresh open_ good =
+    let says : ContainerByNumber c (current.number == c.attempt.number) current v = rw is at good.1.0 in
+    let n = here refl in
+    let at_ : ContainerByState c current.state current.lost (is_master_of c current.master) v = rw n at says in
+    let new : ContainerByNumber c true current (record v { living = true }) = own_enters c v current.state current.lost (is_master_of c current.master) a (fresh refl) at_ in
+    (good.0, (rw (is, n) new, λ f. absurd (let o = open_ in cc)))
+
+-- a container is granted to an attempt that lives, or whose end is issued: its row counts the grant
+same_counted : (current : Current) (new : ContainerId) → (is_alive current.state || is_ending current.state) ≡ true → granted new current ≡ record current { granted = new.seq }
+same_counted current new a = by current.state refl
+  where
+    by : (s : AttemptState) → current.state ≡ s → granted new current ≡ record current { granted = new.seq }
+    by attempts.Scheduled e = absurd (let x = rw e at a in cc)
+    by attempts.Granted e = absurd (let x = rw e at a in cc)
+    by attempts.Saving e = absurd (let x = rw e at a in cc)
+    by attempts.Live e = rw e refl
+    by attempts.Registered e = rw e refl
+    by attempts.Finishing e = rw e refl
+    by attempts.Ending e = rw e refl
+    by attempts.Ended e = absurd (let x = rw e at a in cc)
+    by attempts.Dropped e = absurd (let x = rw e at a in cc)
+
+number_counted : (c : ContainerId) (b : Bool) (current : Current) (n : ℕ) (v : ContainerView) → ContainerByNumber c b current v → ContainerByNumber c b (record current { granted = n }) v
+number_counted c true current n v says = says
+number_counted c false current n v says = says
+
+-- nothing is lost that is said of containers
+pub counted_marks : (c : ContainerId) (row : AppRow) (current : Current) (v : ContainerView) → row.current ≡ Some current → (is_alive current.state || is_ending current.state) ≡ true → (new : ContainerId)
+    → ContainerInvariant c (Some row) v → ContainerInvariant c (Some (changed (of_app.OfAttempt (of_attempt.Grant new)) row)) v
+counted_marks c row current v is a new good =
+    let says : ContainerByNumber c (current.number == c.attempt.number) current v = rw is at good.1.0 in
+    let same = same_counted current new a in
+    let after : ContainerByCurrent c (Some (granted new current)) v = rw same (number_counted c (current.number == c.attempt.number) current new.seq v says) in
+    (good.0, (rw is after, good.1.1))

@@ -1,0 +1,376 @@
+-- The other operations once they are kept, each as a whole step that keeps what holds of containers too: App, AttemptEnd, AppEnd and
+-- Remove; and a submission that is taken.
+use Rattle.std.proofs.Common.{◌≡◌, ℕ, ◌==◌, suc, List, [], ◌∷◌, ◌++◌, Bool, true, false, Option, None, Some, count_by, drop, length, map, option_map, refl, sym, ◌∙◌, ap, subst, arith, ◌⊎◌, inl, inr, is_some}
+use Rattle.std.proofs.lemmas.Bool.Decides.{nat_tests}
+use Rattle.std.proofs.lemmas.List.{append-nil}
+use Rattle.rm_types.specs.declared.entries.Entry.TheVariants.{Kept as KeptEntry}
+use Rattle.rm_types.specs.declared.ids.AppId.{AppId}
+use Rattle.rm_types.specs.declared.ids.AttemptId.{AttemptId}
+use Rattle.rm_types.specs.declared.ids.ContainerId.{ContainerId}
+use Rattle.rm_types.specs.declared.operations.How.{How}
+use Rattle.rm_types.specs.declared.operations.Op.{Op}
+use Rattle.rm_types.specs.declared.operations.Submission.{Submission}
+use Rattle.rm_types.specs.declared.records.AppRecord.{AppRecord}
+use Rattle.rm_types.specs.declared.settings.Settings.{Settings}
+use Rattle.rm_types.specs.Ids.{is_app, is_attempt}
+use Rattle.rm_types.specs.Records.{new_record, record_of, recorded, with_end}
+use Rattle.rm_types.specs.declared.operations.How.TheVariants as ways
+use Rattle.rm_types.specs.declared.operations.Op.TheVariants as ops
+use Rattle.rm_model.specs.Facts.{attempts_in}
+use Rattle.rm_app.specs.declared.states.AppState.{AppState}
+use Rattle.rm_app.specs.declared.states.AppState.TheVariants as apps
+use Rattle.rm_attempt.specs.declared.states.AttemptState.{AttemptState}
+use Rattle.rm_attempt.specs.declared.states.AttemptState.TheVariants as attempts
+use Rattle.rm_tables.specs.declared.events.SchedEvent.{SchedEvent}
+use Rattle.rm_tables.specs.declared.rows.AppRow.{AppRow}
+use Rattle.rm_tables.specs.declared.rows.Current.{Current}
+use Rattle.rm_tables.specs.declared.tables.Tables.{Tables}
+use Rattle.rm_tables.specs.Changes.{current_after, after_failure, changed}
+use Rattle.rm_tables.specs.KeptOps.{dropped_at, dropped_by, dropped_of, kept}
+use Rattle.rm_tables.specs.Rows.{row_of, with_row, is_retired}
+use Rattle.rm_tables.specs.declared.changes.RowChange.TheVariants as of_app
+use Rattle.rm_tables.specs.declared.changes.AttemptChange.TheVariants as of_attempt
+use Rattle.rm_tables.specs.declared.events.MainEvent.TheVariants as mains
+use Rattle.rm_tables.specs.declared.events.SchedEvent.TheVariants as scheds
+use Rattle.rm_invariant.specs.apps.Invariant.{EndIssuedInvariant, RowInvariant, StateInvariant, is_active, AttemptsInvariant}
+use Rattle.rm_refinement.specs.History.{History}
+use Rattle.rm_invariant.specs.Step.{AppsInvariant}
+use Rattle.rm_invariant.specs.apps.View.{View, changed_if, one_if, op_view, put_if, view, counts, gone_if, set_if}
+use Rattle.rm_invariant.proofs.apps.Found.{has_end, row_put, is_app-refl, is_app_same, record_put, row_changed, found_gone}
+use Rattle.rm_invariant.proofs.apps.Saving.{app_kept, app_kept_steps, app_waits, joining, row_new, submitting}
+use Rattle.rm_invariant.proofs.apps.Counts.{at_end}
+use Rattle.rm_invariant.proofs.apps.Effects as views
+use Rattle.rm_invariant.proofs.apps.KeptEnds.{EndAwaits, OverAwaits, app_end_kept_steps, app_over, attempt_end_kept_steps, attempt_over, end_awaits, ended_record, over_awaits, with_end_op}
+use Rattle.rm_invariant.proofs.apps.Removing.{remove_kept_steps, removed, row_gone}
+use Rattle.rm_invariant.proofs.apps.Recorded.{record_changed}
+use Rattle.rm_invariant.specs.masters.Invariant.{ContainersInvariant, ContainerByCurrent, ContainerInvariant, is_final, RemovalInvariant, has_end_in}
+use Rattle.rm_invariant.specs.masters.Preserves.{PreservesContainers}
+use Rattle.rm_invariant.specs.masters.View.{ContainerView, container_view, is_removal}
+use Rattle.rm_invariant.proofs.masters.Saying.{active_unended}
+use Rattle.rm_invariant.proofs.masters.Others.{ended_marks, final_marks, gone_marks, new_marks}
+use Rattle.rm_invariant.proofs.masters.Effects.{main_posted, op_taken, sched_posted}
+use Rattle.rm_invariant.proofs.masters.Stepping.{marks_changed, marks_still}
+use Rattle.rm_invariant.proofs.masters.Ends.{last_in}
+use Rattle.rm_invariant.proofs.masters.Over.{over_ended, over_with_end}
+
+-- an application whose App awaits has no attempt
+saving_alone : (settings : Settings) (q : AttemptId) (row : AppRow) (v : View) → row.state ≡ apps.NewSaving → RowInvariant settings q (Some row) v → row.current ≡ None
+saving_alone settings q row v is good = let says = subst (λ (s : AppState). StateInvariant settings q s row v) is good.1 in says.0.no_attempt
+
+-- it is kept: nothing is said of its record
+kept_marks : (c : ContainerId) (row : AppRow) (v : ContainerView) (new : Option AppRecord) → row.current ≡ None → ContainerInvariant c (Some row) v → ContainerInvariant c (Some (changed of_app.Keep row)) (record v { found = new })
+kept_marks c row v new is good = let says : ContainerByCurrent c None v = rw is at good.1.0 in (good.0, (rw is says, λ f. cc))
+
+-- what was over is so with one more record
+put_over : (c : ContainerId) (new : AppRecord) (retired : Bool) (found : Option AppRecord) (b : Bool) → (retired ≡ true) ⊎ (has_end_in c.attempt found ≡ true) → (retired ≡ true) ⊎ (has_end_in c.attempt (put_if b new found) ≡ true)
+put_over c new retired found b (inl r) = inl r
+put_over c new retired None b (inr e) = cc
+put_over c new retired (Some one) true (inr e) = inr e
+put_over c new retired (Some one) false (inr e) = inr e
+
+-- Kept App
+module _ (settings : Settings) (h : History) (t : Tables) (k : AppsInvariant settings h t) (all : ContainersInvariant h t) (id : AppId) (s : Submission) (rest : List Op) (front : t.awaiting ≡ ops.App id s ∷ rest) where
+  -- the tables without the operation, and with what is recorded by it
+  abbrev app_left : Tables
+  app_left = record t { awaiting = drop 1 t.awaiting }
+
+  abbrev app_recorded : Tables
+  app_recorded = record app_left { tree = recorded t.tree (ops.App id s); handed = false; rows = with_row (changed of_app.Keep) id t.rows }
+
+  app_now : (c : ContainerId) → container_view (app_kept settings h t k id s rest front) (kept (ops.App id s) t) c ≡ record (container_view h t c) { found = put_if (is_app id c.attempt.app) (new_record id s) (container_view h t c).found }
+  app_now c =
+      let taken = op_taken h t c (ops.App id s) rest front in
+      let posted = main_posted (app_kept settings h t k id s rest front) app_recorded c (mains.AppSaved id) in
+      let found : container_view (app_kept settings h t k id s rest front) app_recorded c ≡ record (container_view h app_left c) { found = put_if (is_app id c.attempt.app) (new_record id s) (container_view h app_left c).found } = rw (record_put (new_record id s) c.attempt.app t.tree.apps) refl in
+      posted ∙ found ∙ ap (λ (v : ContainerView). record v { found = put_if (is_app id c.attempt.app) (new_record id s) v.found }) (sym taken)
+
+  pub app_kept_joins : t.handed ≡ true → PreservesContainers settings h t (KeptEntry (ops.App id s)) (app_kept settings h t k id s rest front) (kept (ops.App id s) t)
+  app_kept_joins handed =
+      let awaits = app_waits settings h t k id s rest front in
+      let zero : AttemptId = record { app = id; number = 0 } in
+      let at_row = awaits.is in
+      let good : RowInvariant settings zero (Some awaits.one) (view h t zero) = rw at_row at (k.all zero) in
+      let alone = saving_alone settings zero awaits.one (view h t zero) awaits.state good in
+      record {
+        step = app_kept_steps settings h t k id s rest front handed;
+        marks =
+            marks_changed h (app_kept settings h t k id s rest front) t (kept (ops.App id s) t) id (changed of_app.Keep) (Some awaits.one) (λ q. row_changed (changed of_app.Keep) id q t.rows) awaits.is
+            (λ c other. app_now c ∙ rw other refl)
+            (λ c same says. subst (λ (v : ContainerView). ContainerInvariant c (Some (changed of_app.Keep awaits.one)) v) (sym (app_now c)) (kept_marks c awaits.one (container_view h t c) (put_if (is_app id c.attempt.app) (new_record id s) (container_view h t c).found) alone says))
+            (λ c same says. subst (λ (v : ContainerView). RemovalInvariant c v) (sym (app_now c)) (λ n. put_over c (new_record id s) (container_view h t c).retired (container_view h t c).found (is_app id c.attempt.app) (says n))) all;
+      }
+
+-- an application that is active is none whose end is kept, also where its attempt ended
+ended_open : (how : How) (s : AppState) → is_active s ≡ true → is_final (after_failure how s) ≡ false
+ended_open ways.Finished s a = active_unended s a
+ended_open ways.Killed s a = active_unended s a
+ended_open ways.Failed apps.Accepted a = refl
+ended_open ways.Failed apps.Running a = refl
+ended_open ways.Failed apps.Killing a = refl
+ended_open ways.Failed apps.New a = refl
+ended_open ways.Failed apps.NewSaving a = refl
+ended_open ways.Failed apps.Submitted a = refl
+ended_open ways.Failed apps.FinalSaving a = refl
+ended_open ways.Failed apps.Finished a = cc
+ended_open ways.Failed apps.Failed a = cc
+ended_open ways.Failed apps.Killed a = cc
+
+-- the record with that end
+abbrev with_ended : AttemptId → How → List ℕ → AppRecord → AppRecord
+with_ended id how text one = record one { attempts = map (with_end id how text) one.attempts }
+
+-- Kept AttemptEnd
+module _ (settings : Settings) (h : History) (t : Tables) (k : AppsInvariant settings h t) (all : ContainersInvariant h t) (id : AttemptId) (how : How) (text : List ℕ) (rest : List Op) (front : t.awaiting ≡ ops.AttemptEnd id how text ∷ rest) where
+  -- the tables without the operation, the history after it, and the tables with what is recorded by it
+  abbrev end_left : Tables
+  end_left = record t { awaiting = drop 1 t.awaiting }
+
+  abbrev after_end : History
+  after_end = attempt_over settings h t k id how text rest front
+
+  abbrev end_recorded : Tables
+  end_recorded = record end_left { tree = recorded t.tree (ops.AttemptEnd id how text); handed = false; rows = (kept (ops.AttemptEnd id how text) t).rows; asks = (kept (ops.AttemptEnd id how text) t).asks }
+
+  end_now : (c : ContainerId) → container_view after_end (kept (ops.AttemptEnd id how text) t) c
+      ≡ record (container_view h t c) { found = changed_if (is_app id.app c.attempt.app) (with_ended id how text) (container_view h t c).found; removals = one_if (is_attempt id c.attempt) (container_view h t c).removals }
+  end_now c =
+      let taken = op_taken h t c (ops.AttemptEnd id how text) rest front in
+      let posted = main_posted after_end (record end_recorded { sched = t.sched ++ scheds.AttemptRemoved id ∷ [] }) c (mains.AttemptDone id) in
+      let removed_ = sched_posted after_end end_recorded c (scheds.AttemptRemoved id) in
+      let found : container_view after_end end_recorded c ≡ record (container_view h end_left c) { found = changed_if (is_app id.app c.attempt.app) (with_ended id how text) (container_view h end_left c).found } =
+      rw (record_changed (with_ended id how text) (λ one. refl) id.app c.attempt.app t.tree.apps) refl in
+      posted ∙ removed_ ∙ ap (λ (v : ContainerView). record v { removals = one_if (is_attempt id c.attempt) v.removals }) (found ∙ ap (λ (v : ContainerView). record v { found = changed_if (is_app id.app c.attempt.app) (with_ended id how text) v.found }) (sym taken))
+
+  same_number : (n : ℕ) → (n == n) ≡ true
+  same_number n = grind (arith, nat_tests)
+
+  end_waits : EndAwaits settings id (row_of t.rows id.app) (view h end_left id)
+  end_waits =
+      let own : op_view id (ops.AttemptEnd id how text) (view h end_left id) ≡ with_end_op id (view h end_left id) = rw (is_app-refl id.app, same_number id.number) refl in
+      end_awaits settings id (view h end_left id) (row_of t.rows id.app) (subst (λ (v : View). RowInvariant settings id (row_of t.rows id.app) v) (views.op_taken h t id (ops.AttemptEnd id how text) rest front ∙ own) (k.all id))
+
+  -- the attempt is over, and so is what was
+  end_over : (c : ContainerId) → is_app id.app c.attempt.app ≡ true → (b : Bool) → is_attempt id c.attempt ≡ b → RemovalInvariant c (container_view h t c)
+      → RemovalInvariant c (record (container_view h t c) { found = option_map (with_ended id how text) (container_view h t c).found; removals = one_if b (container_view h t c).removals })
+  end_over c same true e says n =
+      let here : id ≡ c.attempt = grind (arith, nat_tests) in
+      inr (subst (λ (q : AttemptId). has_end_in q (option_map (with_ended id how text) (record_of t.tree.apps q.app)) ≡ true) here
+      (over_ended id how text (record_of t.tree.apps id.app) (last_in id (attempts_in (record_of t.tree.apps id.app)) end_waits.goes.2)))
+  end_over c same false e says n = by (says n)
+    where
+      by : ((container_view h t c).retired ≡ true) ⊎ (has_end_in c.attempt (container_view h t c).found ≡ true) → ((container_view h t c).retired ≡ true) ⊎ (has_end_in c.attempt (option_map (with_ended id how text) (container_view h t c).found) ≡ true)
+      by (inl r) = inl r
+      by (inr e) = inr (over_with_end c.attempt id how text (container_view h t c).found e)
+
+  pub attempt_end_kept_joins : t.handed ≡ true → PreservesContainers settings h t (KeptEntry (ops.AttemptEnd id how text)) after_end (kept (ops.AttemptEnd id how text) t)
+  attempt_end_kept_joins handed =
+      let awaits = end_waits in
+      let ended = ended_record id how text (record_of t.tree.apps id.app) awaits.goes in
+      let at_current = awaits.current_is in
+      let number = awaits.number in
+      record {
+        step = attempt_end_kept_steps settings h t k id how text rest front handed;
+        marks =
+            marks_changed h after_end t (kept (ops.AttemptEnd id how text) t) id.app (changed (of_app.OfAttempt (of_attempt.KeepEnd how))) (Some awaits.one) (λ q. row_changed (changed (of_app.OfAttempt (of_attempt.KeepEnd how))) id.app q t.rows) awaits.is
+            (λ c other. end_now c ∙ rw other refl)
+            (λ c same says.
+            let here : id.app ≡ c.attempt.app = is_app_same id.app c.attempt.app same in
+            let lengths : length (attempts_in (option_map (with_ended id how text) (record_of t.tree.apps c.attempt.app))) ≡ length (attempts_in (record_of t.tree.apps c.attempt.app)) = rw (← here) ended.same in
+            let now : container_view after_end (kept (ops.AttemptEnd id how text) t) c ≡ record (container_view h t c) { found = option_map (with_ended id how text) (container_view h t c).found; removals = one_if (awaits.current.number == c.attempt.number) (container_view h t c).removals } = end_now c ∙ rw (same, number) refl in
+            subst (λ (v : ContainerView). ContainerInvariant c (Some (changed (of_app.OfAttempt (of_attempt.KeepEnd how)) awaits.one)) v) (sym now)
+            (ended_marks c awaits.one (container_view h t c) awaits.current awaits.current_is (changed (of_app.OfAttempt (of_attempt.KeepEnd how)) awaits.one) (rw at_current refl) (ended_open how awaits.one.state awaits.active) awaits.state
+            (option_map (with_ended id how text) (record_of t.tree.apps c.attempt.app)) lengths (awaits.current.number == c.attempt.number) refl says))
+            (λ c same says.
+            let now : container_view after_end (kept (ops.AttemptEnd id how text) t) c ≡ record (container_view h t c) { found = option_map (with_ended id how text) (container_view h t c).found; removals = one_if (is_attempt id c.attempt) (container_view h t c).removals } = end_now c ∙ rw same refl in
+            subst (λ (v : ContainerView). RemovalInvariant c v) (sym now) (end_over c same (is_attempt id c.attempt) refl says)) all;
+      }
+
+-- the attempt of an application that ends was dropped, and is the container's
+abbrev is_dropped : AttemptState → Bool
+is_dropped attempts.Scheduled = false
+is_dropped attempts.Granted = false
+is_dropped attempts.Saving = false
+is_dropped attempts.Live = false
+is_dropped attempts.Registered = false
+is_dropped attempts.Finishing = false
+is_dropped attempts.Ending = false
+is_dropped attempts.Ended = false
+is_dropped attempts.Dropped = true
+
+abbrev drops_at : Bool → AttemptId → ContainerId → Bool
+drops_at true id c = is_attempt id c.attempt
+drops_at false id c = false
+
+abbrev drops : AppId → ContainerId → Option Current → Bool
+drops id c None = false
+drops id c (Some current) = drops_at (is_dropped current.state) (record { app = id; number = current.number }) c
+
+-- what is posted of it
+dropped_count : (c : ContainerId) (id : AttemptId) (s : AttemptState) (xs : List SchedEvent) → count_by (is_removal c) (xs ++ dropped_at s id) ≡ one_if (drops_at (is_dropped s) id c) (count_by (is_removal c) xs)
+dropped_count c id attempts.Dropped xs = at_end (is_removal c) xs (scheds.AttemptRemoved id)
+dropped_count c id attempts.Scheduled xs = rw (append-nil xs) refl
+dropped_count c id attempts.Granted xs = rw (append-nil xs) refl
+dropped_count c id attempts.Saving xs = rw (append-nil xs) refl
+dropped_count c id attempts.Live xs = rw (append-nil xs) refl
+dropped_count c id attempts.Registered xs = rw (append-nil xs) refl
+dropped_count c id attempts.Finishing xs = rw (append-nil xs) refl
+dropped_count c id attempts.Ending xs = rw (append-nil xs) refl
+dropped_count c id attempts.Ended xs = rw (append-nil xs) refl
+
+posted_count : (c : ContainerId) (id : AppId) (o : Option Current) (xs : List SchedEvent) → count_by (is_removal c) (xs ++ dropped_of o id) ≡ one_if (drops id c o) (count_by (is_removal c) xs)
+posted_count c id None xs = rw (append-nil xs) refl
+posted_count c id (Some current) xs = dropped_count c (record { app = id; number = current.number }) current.state xs
+
+-- the record with the end of the application
+abbrev with_app_end : How → List ℕ → ℕ → AppRecord → AppRecord
+with_app_end how text order one = record one { ending = Some (how, text); end_order = order }
+
+same_attempts : (how : How) (text : List ℕ) (order : ℕ) (found : Option AppRecord) → attempts_in (option_map (with_app_end how text order) found) ≡ attempts_in found
+same_attempts how text order None = refl
+same_attempts how text order (Some one) = refl
+
+app_over_ended : (q : AttemptId) (how : How) (text : List ℕ) (order : ℕ) (found : Option AppRecord) → is_some found ≡ true → has_end_in q (option_map (with_app_end how text order) found) ≡ true
+app_over_ended q how text order None e = cc
+app_over_ended q how text order (Some one) e = refl
+
+-- the end of an application without an attempt is kept
+final_alone : (c : ContainerId) (row : AppRow) (v : ContainerView) (how : How) (new : Option AppRecord) → row.current ≡ None → ContainerInvariant c (Some row) v → ContainerInvariant c (Some (changed (of_app.KeepEnd how) row)) (record v { found = new })
+final_alone c row v how new is good =
+    let says : ContainerByCurrent c None v = rw is at good.1.0 in
+    (good.0, (rw is says, λ f l. absurd (let n = says.1 in cc)))
+
+-- Kept AppEnd
+module _ (settings : Settings) (h : History) (t : Tables) (k : AppsInvariant settings h t) (all : ContainersInvariant h t) (id : AppId) (how : How) (text : List ℕ) (rest : List Op) (front : t.awaiting ≡ ops.AppEnd id how text ∷ rest) where
+  -- the tables without the operation, the history after it, and the tables with what is recorded by it
+  abbrev over_left : Tables
+  over_left = record t { awaiting = drop 1 t.awaiting }
+
+  abbrev after_over : History
+  after_over = app_over settings h t k id how text rest front
+
+  abbrev over_recorded : Tables
+  over_recorded = record over_left { tree = recorded t.tree (ops.AppEnd id how text); handed = false; rows = (kept (ops.AppEnd id how text) t).rows; going = (kept (ops.AppEnd id how text) t).going; ended = t.ended ++ id ∷ [] }
+
+  over_waits : OverAwaits (row_of t.rows id) (view h over_left (record { app = id; number = 0 }))
+  over_waits =
+      let good = subst (λ (v : View). RowInvariant settings (record { app = id; number = 0 }) (row_of t.rows id) v) (views.op_taken h t (record { app = id; number = 0 }) (ops.AppEnd id how text) rest front) (k.all (record { app = id; number = 0 })) in
+      over_awaits settings (record { app = id; number = 0 }) (row_of t.rows id) (view h over_left (record { app = id; number = 0 })) (let g = rw (is_app-refl id) at good in g)
+
+  over_now : (c : ContainerId) → container_view after_over (kept (ops.AppEnd id how text) t) c
+      ≡ record (container_view h t c) { found = changed_if (is_app id c.attempt.app) (with_app_end how text t.tree.applied) (container_view h t c).found; removals = one_if (drops id c over_waits.one.current) (container_view h t c).removals }
+  over_now c =
+      let taken = op_taken h t c (ops.AppEnd id how text) rest front in
+      let at_row = over_waits.is in
+      let posted : count_by (is_removal c) (t.sched ++ dropped_by (row_of t.rows id) id) ≡ one_if (drops id c over_waits.one.current) (count_by (is_removal c) t.sched) = rw at_row (posted_count c id over_waits.one.current t.sched) in
+      let dropped : container_view after_over (kept (ops.AppEnd id how text) t) c ≡ record (container_view after_over (record over_recorded { main = t.main ++ mains.Retire ∷ [] }) c) { removals = one_if (drops id c over_waits.one.current) (count_by (is_removal c) t.sched) } =
+      ap (λ (n : ℕ). record (container_view after_over (record over_recorded { main = t.main ++ mains.Retire ∷ [] }) c) { removals = n }) posted in
+      let retired_ = main_posted after_over over_recorded c mains.Retire in
+      let found : container_view after_over over_recorded c ≡ record (container_view h over_left c) { found = changed_if (is_app id c.attempt.app) (with_app_end how text t.tree.applied) (container_view h over_left c).found } =
+      rw (record_changed (with_app_end how text t.tree.applied) (λ one. refl) id c.attempt.app t.tree.apps) refl in
+      let rest_ : container_view after_over (record over_recorded { main = t.main ++ mains.Retire ∷ [] }) c ≡ record (container_view h t c) { found = changed_if (is_app id c.attempt.app) (with_app_end how text t.tree.applied) (container_view h t c).found } =
+      retired_ ∙ found ∙ ap (λ (v : ContainerView). record v { found = changed_if (is_app id c.attempt.app) (with_app_end how text t.tree.applied) v.found }) (sym taken) in
+      dropped ∙ ap (λ (v : ContainerView). record v { removals = one_if (drops id c over_waits.one.current) (container_view h t c).removals }) rest_
+
+  own_final : (c : ContainerId) → is_app id c.attempt.app ≡ true → (o : Option Current) → over_waits.one.current ≡ o → EndIssuedInvariant o (view h t (record { app = id; number = 0 })) → ContainerInvariant c (Some over_waits.one) (container_view h t c)
+      → ContainerInvariant c (Some (changed (of_app.KeepEnd how) over_waits.one)) (record (container_view h t c) { found = option_map (with_app_end how text t.tree.applied) (container_view h t c).found; removals = one_if (drops id c o) (container_view h t c).removals })
+  own_final c same None is over says = final_alone c over_waits.one (container_view h t c) how (option_map (with_app_end how text t.tree.applied) (container_view h t c).found) is says
+  own_final c same (Some current) is over says =
+      final_marks c over_waits.one (container_view h t c) current is how (option_map (with_app_end how text t.tree.applied) (container_view h t c).found) (ap length (same_attempts how text t.tree.applied (container_view h t c).found)) over.0
+      (current.number == c.attempt.number) refl (drops id c (Some current)) (λ b dropped. rw (dropped, same) b) says
+
+  pub app_end_kept_joins : t.handed ≡ true → PreservesContainers settings h t (KeptEntry (ops.AppEnd id how text)) after_over (kept (ops.AppEnd id how text) t)
+  app_end_kept_joins handed =
+      let awaits = over_waits in
+      let at_row = awaits.is in
+      let good : RowInvariant settings (record { app = id; number = 0 }) (Some awaits.one) (view h t (record { app = id; number = 0 })) = rw at_row at (k.all (record { app = id; number = 0 })) in
+      let says : StateInvariant settings (record { app = id; number = 0 }) apps.FinalSaving awaits.one (view h t (record { app = id; number = 0 })) =
+      subst (λ (s : AppState). StateInvariant settings (record { app = id; number = 0 }) s awaits.one (view h t (record { app = id; number = 0 }))) awaits.state good.1 in
+      record {
+        step = app_end_kept_steps settings h t k id how text rest front handed;
+        marks =
+            marks_changed h after_over t (kept (ops.AppEnd id how text) t) id (changed (of_app.KeepEnd how)) (Some awaits.one) (λ q. row_changed (changed (of_app.KeepEnd how)) id q t.rows) awaits.is
+            (λ c other. over_now c ∙ rw (other, not_dropped c other over_waits.one.current) refl)
+            (λ c same marks_say.
+            let now : container_view after_over (kept (ops.AppEnd id how text) t) c ≡ record (container_view h t c) { found = option_map (with_app_end how text t.tree.applied) (container_view h t c).found; removals = one_if (drops id c over_waits.one.current) (container_view h t c).removals } = over_now c ∙ rw same refl in
+            subst (λ (v : ContainerView). ContainerInvariant c (Some (changed (of_app.KeepEnd how) awaits.one)) v) (sym now) (own_final c same over_waits.one.current refl says.6 marks_say))
+            (λ c same says n.
+            let here : id ≡ c.attempt.app = is_app_same id c.attempt.app same in
+            let kept_ : is_some (record_of t.tree.apps c.attempt.app) ≡ true = rw (← here) awaits.kept in
+            let now : has_end_in c.attempt (container_view after_over (kept (ops.AppEnd id how text) t) c).found ≡ true = ap (λ (v : ContainerView). has_end_in c.attempt v.found) (over_now c) ∙ rw same (app_over_ended c.attempt how text t.tree.applied (record_of t.tree.apps c.attempt.app) kept_) in
+            inr now) all;
+      }
+    where
+      not_dropped : (c : ContainerId) → is_app id c.attempt.app ≡ false → (o : Option Current) → drops id c o ≡ false
+      not_dropped c other None = refl
+      not_dropped c other (Some current) = by (is_dropped current.state)
+        where
+          by : (b : Bool) → drops_at b (record { app = id; number = current.number }) c ≡ false
+          by true = rw other refl
+          by false = refl
+
+-- an application whose Remove awaits has a kept end
+final_by : (settings : Settings) (q : AttemptId) (row : AppRow) (v : View) (s : AppState) → StateInvariant settings q s row (record v { count = record v.count { removes = suc v.count.removes } }) → is_final s ≡ true
+final_by settings q row v s says = grind (arith, nat_tests)
+
+-- Kept Remove
+module _ (settings : Settings) (h : History) (t : Tables) (k : AppsInvariant settings h t) (all : ContainersInvariant h t) (id : AppId) (rest : List Op) (front : t.awaiting ≡ ops.Remove id ∷ rest) where
+  -- the tables without the operation, and the history after it
+  abbrev remove_left : Tables
+  remove_left = record t { awaiting = drop 1 t.awaiting }
+
+  abbrev after_remove : History
+  after_remove = removed settings h t k id rest front
+
+  remove_now : (c : ContainerId) → container_view after_remove (kept (ops.Remove id) t) c ≡ record (container_view h t c) { found = gone_if (is_app id c.attempt.app) (container_view h t c).found; retired = set_if (is_app id c.attempt.app) (container_view h t c).retired }
+  remove_now c =
+      let taken = op_taken h t c (ops.Remove id) rest front in
+      let found : container_view after_remove (kept (ops.Remove id) t) c ≡ record (container_view h remove_left c) { found = gone_if (is_app id c.attempt.app) (container_view h remove_left c).found; retired = set_if (is_app id c.attempt.app) (container_view h remove_left c).retired } =
+      rw (found_gone (λ (one : AppRecord). one.id) id c.attempt.app t.tree.apps, has_end h.apps.retired id c.attempt.app) refl in
+      found ∙ ap (λ (v : ContainerView). record v { found = gone_if (is_app id c.attempt.app) v.found; retired = set_if (is_app id c.attempt.app) v.retired }) (sym taken)
+
+  pub remove_kept_joins : t.handed ≡ true → PreservesContainers settings h t (KeptEntry (ops.Remove id)) after_remove (kept (ops.Remove id) t)
+  remove_kept_joins handed = record { step = remove_kept_steps settings h t k id rest front handed; marks = λ c. (rw (row_gone id c.attempt.app t.rows) (by c (is_app id c.attempt.app) refl), subst (λ (v : ContainerView). RemovalInvariant c v) (sym (remove_now c)) (gone_over c (is_app id c.attempt.app))) }
+    where
+      gone_over : (c : ContainerId) (b : Bool) → RemovalInvariant c (record (container_view h t c) { found = gone_if b (container_view h t c).found; retired = set_if b (container_view h t c).retired })
+      gone_over c true = λ n. inl refl
+      gone_over c false = (all c).1
+
+      own : (c : ContainerId) → is_app id c.attempt.app ≡ true → (o : Option AppRow) → RowInvariant settings c.attempt o (op_view c.attempt (ops.Remove id) (view h remove_left c.attempt)) → ContainerInvariant c o (container_view h t c) → ContainerInvariant c None (record (container_view h t c) { found = None; retired = true })
+      own c same None good says = (says.0, ((λ r. cc), says.1.1))
+      own c same (Some row) good says =
+          let with_it : RowInvariant settings c.attempt (Some row) (record (view h remove_left c.attempt) { count = record (counts h remove_left c.attempt) { removes = suc (counts h remove_left c.attempt).removes } }) = rw same at good in
+          gone_marks c row (container_view h t c) (final_by settings c.attempt row (view h remove_left c.attempt) row.state with_it.1) says
+
+      by : (c : ContainerId) (b : Bool) → is_app id c.attempt.app ≡ b → ContainerInvariant c (gone_if b (row_of t.rows c.attempt.app)) (container_view after_remove (kept (ops.Remove id) t) c)
+      by c true e =
+          let now : container_view after_remove (kept (ops.Remove id) t) c ≡ record (container_view h t c) { found = None; retired = true } = remove_now c ∙ rw e refl in
+          subst (λ (v : ContainerView). ContainerInvariant c None v) (sym now)
+          (own c e (row_of t.rows c.attempt.app) (subst (λ (v : View). RowInvariant settings c.attempt (row_of t.rows c.attempt.app) v) (views.op_taken h t c.attempt (ops.Remove id) rest front) (k.all c.attempt)) (all c).0)
+      by c false e =
+          let now : container_view after_remove (kept (ops.Remove id) t) c ≡ container_view h t c = remove_now c ∙ rw e refl in
+          subst (λ (v : ContainerView). ContainerInvariant c (row_of t.rows c.attempt.app) v) (sym now) (all c).0
+
+-- a submission is taken of an application that isn't known and was not removed
+pub joined_marks : (settings : Settings) (h : History) (t : Tables) (says : AttemptsInvariant settings h t) (all : ContainersInvariant h t) (id : AppId) (s : Submission) → row_of t.rows id ≡ None → is_retired t.rows id ≡ false
+    → ((q : AttemptId) → is_app id q.app ≡ true → (view h t q).retired ≡ false) → ContainersInvariant (submitting settings h t says id s) (joining settings h t says id s)
+joined_marks settings h t says all id s found fresh stays = λ c. (rw (row_put id c.attempt.app (row_new s) t.rows fresh) (subst (λ (v : ContainerView). ContainerInvariant c (put_if (is_app id c.attempt.app) (row_new s) (row_of t.rows c.attempt.app)) v) (sym (main_posted h t c (mains.AppStart id))) (by c (is_app id c.attempt.app) refl)), subst (λ (v : ContainerView). RemovalInvariant c v) (sym (main_posted h t c (mains.AppStart id))) (all c).1)
+  where
+    by : (c : ContainerId) (b : Bool) → is_app id c.attempt.app ≡ b → ContainerInvariant c (put_if b (row_new s) (row_of t.rows c.attempt.app)) (container_view h t c)
+    by c true e =
+        let same : id ≡ c.attempt.app = is_app_same id c.attempt.app e in
+        let none : row_of t.rows c.attempt.app ≡ None = rw (← same) found in
+        let old : ContainerInvariant c None (container_view h t c) = rw none at (all c).0 in
+        rw none (new_marks c (row_new s) (container_view h t c) refl refl (stays c.attempt e) old)
+    by c false e = (all c).0
+
+-- a client wishes to kill an application for the first time in a life: its attempt stays as it is
+wish_current : (o : Option Current) → current_after of_app.Wish o ≡ o
+wish_current None = refl
+wish_current (Some current) = refl
+
+pub wished_marks : (h : History) (t : Tables) (all : ContainersInvariant h t) (id : AppId) (wishes : List AppId) (row : AppRow) → row_of t.rows id ≡ Some row
+    → ContainersInvariant (record h { apps = record h.apps { wishes = wishes } }) (record t { rows = with_row (changed of_app.Wish) id t.rows; main = t.main ++ mains.AppKill id ∷ [] })
+wished_marks h t all id wishes row found =
+    marks_still h (record h { apps = record h.apps { wishes = wishes } }) t (record t { rows = with_row (changed of_app.Wish) id t.rows; main = t.main ++ mains.AppKill id ∷ [] }) id (changed of_app.Wish) row (λ q. row_changed (changed of_app.Wish) id q t.rows) found
+    (λ c. main_posted h (record t { rows = with_row (changed of_app.Wish) id t.rows }) c (mains.AppKill id))
+    (λ c same says. let stays = wish_current row.current in (says.0, (rw stays says.1.0, says.1.1))) all

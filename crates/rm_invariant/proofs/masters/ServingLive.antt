@@ -1,0 +1,61 @@
+-- The clock and a master are served, of an attempt that is live for the judge: each whole step as `Serving` has it, whose row is found.
+use Rattle.std.proofs.Common.{◌≡◌, List, [], ◌∷◌, ◌++◌, true, Option, inl, inr, refl, ℕ}
+use Rattle.rm_types.specs.declared.entries.Entry.TheVariants.{Served}
+use Rattle.rm_types.specs.declared.ids.AttemptId.{AttemptId}
+use Rattle.rm_types.specs.declared.messages.ClockAsk.TheVariants.{ExpireMaster}
+use Rattle.rm_types.specs.declared.messages.MasterAsk.TheVariants.{Finish, Register}
+use Rattle.rm_types.specs.declared.settings.Settings.{Settings}
+use Rattle.rm_types.specs.declared.messages.Message.TheVariants as messages
+use Rattle.rm_types.specs.declared.messages.Sender.TheVariants as senders
+use Rattle.rm_types.specs.declared.replies.Reply.TheVariants as replies
+use Rattle.rm_model.specs.Attempts.{has_registered, is_live, is_registered}
+use Rattle.rm_model.specs.MasterReplies.{with_master}
+use Rattle.rm_model.specs.Replies.{reply_to}
+use Rattle.rm_attempt.specs.declared.states.AttemptState.{AttemptState}
+use Rattle.rm_tables.specs.declared.rows.Dialogue.{Dialogue}
+use Rattle.rm_tables.specs.declared.tables.Tables.{Tables}
+use Rattle.rm_tables.specs.Rows.{with_row}
+use Rattle.rm_tables.specs.declared.events.MainEvent.TheVariants as mains
+use Rattle.rm_refinement.specs.History.{History, abstract_scene}
+use Rattle.rm_invariant.specs.Step.{AppsInvariant}
+use Rattle.rm_invariant.specs.apps.Invariant.{is_active}
+use Rattle.rm_invariant.specs.apps.View.{view}
+use Rattle.rm_invariant.specs.masters.Invariant.{ContainersInvariant}
+use Rattle.rm_invariant.specs.masters.Sound.{RecordsAreSound}
+use Rattle.rm_invariant.specs.masters.Preserves.{PreservesContainers}
+use Rattle.rm_invariant.proofs.masters.Ends.{Alive}
+use Rattle.rm_invariant.proofs.masters.Living.{LivesHere, live_here}
+use Rattle.rm_invariant.proofs.masters.Saying.{active_of, goes_on}
+use Rattle.rm_invariant.proofs.masters.Serving.{expire_joins, finish_joins, register_joins, registered_row, said_row}
+use Rattle.rm_invariant.proofs.masters.Finishing.{new_master, says_so}
+
+module _ (settings : Settings) (h : History) (t : Tables) (k : AppsInvariant settings h t) (all : ContainersInvariant h t) (each : RecordsAreSound t.tree.apps) (id : AttemptId) (live : is_live (abstract_scene h t) id ≡ true) where
+  here : LivesHere t id
+  here = live_here settings h t k each id live
+
+  goes_by : (s : AttemptState) → Alive s → goes_on s ≡ true
+  goes_by s (inl e) = rw e refl
+  goes_by s (inr (inl e)) = rw e refl
+  goes_by s (inr (inr e)) = rw e refl
+
+  active : is_active here.row.state ≡ true
+  active =
+      let at_row = here.found in
+      active_of settings id here.row (view h t id) here.current here.is (goes_by here.current.state here.alive) (rw at_row at (k.all id))
+
+  -- its master's lease ran out
+  pub expire_live_joins : replies.Ok ≡ reply_to settings (abstract_scene h t) (messages.Clock (ExpireMaster id))
+      → PreservesContainers settings h t (Served senders.Clock (messages.Clock (ExpireMaster id)) replies.Ok) (record h { masters = record h.masters { expired = h.masters.expired ++ id ∷ [] } }) (record t { main = t.main ++ mains.AttemptExpired id ∷ [] })
+  expire_live_joins reply = expire_joins settings h t k all id here.row here.found here.current here.is here.alive here.number reply
+
+  -- its master, which registered, says that it finishes
+  pub finish_live_joins : (talk : Option Dialogue → Option Dialogue) (text : List ℕ) → replies.Finishing ≡ reply_to settings (abstract_scene h t) (messages.Master id (Finish text)) → is_registered (abstract_scene h t) id ≡ true → has_registered (abstract_scene h t) id ≡ true
+      → PreservesContainers settings h t (Served senders.Master (messages.Master id (Finish text)) replies.Finishing) (record h { masters = with_master (says_so text) id h.masters })
+      (record t { rows = with_row (said_row talk) id.app t.rows; main = t.main ++ mains.AttemptFinish id ∷ [] })
+  finish_live_joins talk text reply registered has = finish_joins settings h t k all id here.row here.found here.current here.is here.alive here.number active talk text reply registered has
+
+  -- its master registers
+  pub register_live_joins : (talk : Option Dialogue → Option Dialogue) → replies.MasterRegistered ≡ reply_to settings (abstract_scene h t) (messages.Master id Register)
+      → PreservesContainers settings h t (Served senders.Master (messages.Master id Register) replies.MasterRegistered) (record h { masters = record h.masters { registered = h.masters.registered ++ new_master id ∷ [] } })
+      (record t { rows = with_row (registered_row talk) id.app t.rows })
+  register_live_joins talk reply = register_joins settings h t k all id here.row here.found here.current here.is here.alive here.number active talk reply

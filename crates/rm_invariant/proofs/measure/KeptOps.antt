@@ -1,0 +1,152 @@
+-- An operation that is kept makes less of what is left to do.
+use Rattle.std.proofs.Common.{◌≡◌, ℕ, ◌+◌, ◌*◌, ◌<◌, ◌≤◌, ◌⊎◌, inl, inr, List, [], ◌∷◌, ◌++◌, Bool, true, false, None, Some, Option, is_some, length, refl, append-nil, arith}
+use Rattle.std.specs.List.{flat_map, sum_by}
+use Rattle.std.proofs.lemmas.List.{length-append}
+use Rattle.std.proofs.lemmas.List.Sums.{sum_by-append, sum_by-cons}
+use Rattle.rm_types.specs.declared.ids.AppId.{AppId}
+use Rattle.rm_types.specs.declared.ids.AttemptId.{AttemptId}
+use Rattle.rm_types.specs.declared.ids.ContainerId.{ContainerId}
+use Rattle.rm_types.specs.declared.operations.How.{How}
+use Rattle.rm_types.specs.declared.operations.Op.{Op}
+use Rattle.rm_types.specs.declared.operations.Op.TheVariants as ops
+use Rattle.rm_types.specs.declared.operations.Submission.{Submission}
+use Rattle.rm_types.specs.declared.records.AppRecord.{AppRecord}
+use Rattle.rm_types.specs.declared.records.AttemptRecord.{AttemptRecord}
+use Rattle.rm_types.specs.Records.{last_attempt}
+use Rattle.rm_model.specs.Facts.{is_epoch_op}
+use Rattle.rm_attempt.specs.declared.states.AttemptState.{AttemptState}
+use Rattle.rm_attempt.specs.declared.states.AttemptState.TheVariants as attempts
+use Rattle.rm_tables.specs.declared.changes.AttemptChange.TheVariants as of_attempt
+use Rattle.rm_tables.specs.declared.changes.RowChange.TheVariants as of_app
+use Rattle.rm_tables.specs.declared.events.MainEvent.TheVariants as mains
+use Rattle.rm_tables.specs.declared.events.SchedEvent.{SchedEvent}
+use Rattle.rm_tables.specs.declared.events.SchedEvent.TheVariants as scheds
+use Rattle.rm_tables.specs.declared.rows.AppRow.{AppRow}
+use Rattle.rm_tables.specs.declared.rows.Current.{Current}
+use Rattle.rm_tables.specs.declared.tables.Tables.{Tables}
+use Rattle.rm_tables.specs.Changes.{changed}
+use Rattle.rm_tables.specs.KeptOps.{dropped_at, dropped_by, dropped_of, kept}
+use Rattle.rm_tables.specs.Opening.{main_by, main_of, opening_sched, sched_by, sched_of}
+use Rattle.rm_tables.specs.Rows.{row_of}
+use Rattle.rm_invariant.specs.measure.Measure.{attempt_end_measure, main_measure, opening_measure, sched_measure, untried_measure, measure}
+use Rattle.rm_invariant.proofs.measure.Rows.{attempt_end_falls, attempt_rises, end_kept_falls, saved_rises}
+use Rattle.rm_invariant.proofs.measure.Sums.{main_push, op_front, row_removed, row_rises, sched_push}
+
+-- where a life is open, nothing weighs that is still to be gone through
+open_weighs : (is_open alive : Bool) (apps : List AppRecord) → is_open ≡ true → opening_measure is_open alive apps ≡ 0
+open_weighs true alive apps o = refl
+open_weighs false alive apps o = cc
+
+-- the scheduler is told of an attempt that was dropped, if one was
+few_dropped : (row : Option AppRow) (id : AppId) (xs : List SchedEvent) → sum_by sched_measure (xs ++ dropped_by row id) ≤ sum_by sched_measure xs + 1
+few_dropped row id xs = by (dropped_by row id) (is_one row)
+  where
+    is_one : (row : Option AppRow) → (dropped_by row id ≡ []) ⊎ ((one : AttemptId) × (dropped_by row id ≡ scheds.AttemptRemoved one ∷ []))
+    is_one None = inl refl
+    is_one (Some row) = at_current row.current
+      where
+        at_state : (s : AttemptState) (one : AttemptId) → (dropped_at s one ≡ []) ⊎ ((two : AttemptId) × (dropped_at s one ≡ scheds.AttemptRemoved two ∷ []))
+        at_state attempts.Dropped one = inr (one, refl)
+        at_state attempts.Scheduled one = inl refl
+        at_state attempts.Granted one = inl refl
+        at_state attempts.Saving one = inl refl
+        at_state attempts.Live one = inl refl
+        at_state attempts.Registered one = inl refl
+        at_state attempts.Finishing one = inl refl
+        at_state attempts.Ending one = inl refl
+        at_state attempts.Ended one = inl refl
+
+        at_current : (c : Option Current) → (dropped_of c id ≡ []) ⊎ ((one : AttemptId) × (dropped_of c id ≡ scheds.AttemptRemoved one ∷ []))
+        at_current None = inl refl
+        at_current (Some current) = at_state current.state (record { app = id; number = current.number })
+
+    by : (events : List SchedEvent) → (events ≡ []) ⊎ ((one : AttemptId) × (events ≡ scheds.AttemptRemoved one ∷ [])) → sum_by sched_measure (xs ++ events) ≤ sum_by sched_measure xs + 1
+    by events (inl none) = rw (none, append-nil xs) (omega arith)
+    by events (inr (one, is)) = rw is (omega (arith, sched_push xs (scheds.AttemptRemoved one)))
+
+-- an operation is kept in an open life
+module _ (t : Tables) (rest : List Op) (o : t.is_open ≡ true) where
+  pub app_lighter : (id : AppId) (s : Submission) → t.awaiting ≡ ops.App id s ∷ rest → measure (kept (ops.App id s) t) < measure t
+  app_lighter id s front =
+      let f = op_front t.settings.max_attempts t.awaiting (ops.App id s) rest front in
+      let before = open_weighs t.is_open t.alive t.tree.apps o in
+      let now = open_weighs t.is_open t.alive (kept (ops.App id s) t).tree.apps o in
+      let rows = row_rises t.settings.max_attempts (untried_measure t.settings.max_attempts) (changed of_app.Keep) id t.rows (saved_rises t.settings.max_attempts) in
+      omega (arith, f, before, now, rows, main_push t.settings.max_attempts t.main (mains.AppSaved id))
+
+  pub attempt_lighter : (id : AttemptId) (master : ContainerId) (node : List ℕ) → t.awaiting ≡ ops.Attempt id master node ∷ rest → measure (kept (ops.Attempt id master node) t) < measure t
+  attempt_lighter id master node front =
+      let f = op_front t.settings.max_attempts t.awaiting (ops.Attempt id master node) rest front in
+      let before = open_weighs t.is_open t.alive t.tree.apps o in
+      let now = open_weighs t.is_open t.alive (kept (ops.Attempt id master node) t).tree.apps o in
+      let rows = row_rises t.settings.max_attempts attempt_end_measure (changed (of_app.OfAttempt of_attempt.Keep)) id.app t.rows (attempt_rises t.settings.max_attempts) in
+      omega (arith, f, before, now, rows, main_push t.settings.max_attempts t.main (mains.AttemptSaved id))
+
+  pub attempt_end_lighter : (id : AttemptId) (how : How) (text : List ℕ) → t.awaiting ≡ ops.AttemptEnd id how text ∷ rest → measure (kept (ops.AttemptEnd id how text) t) < measure t
+  attempt_end_lighter id how text front =
+      let f = op_front t.settings.max_attempts t.awaiting (ops.AttemptEnd id how text) rest front in
+      let before = open_weighs t.is_open t.alive t.tree.apps o in
+      let now = open_weighs t.is_open t.alive (kept (ops.AttemptEnd id how text) t).tree.apps o in
+      let rows = row_rises t.settings.max_attempts 0 (changed (of_app.OfAttempt (of_attempt.KeepEnd how))) id.app t.rows (λ row. omega (arith, attempt_end_falls t.settings.max_attempts row how)) in
+      omega (arith, f, before, now, rows, main_push t.settings.max_attempts t.main (mains.AttemptDone id), sched_push t.sched (scheds.AttemptRemoved id))
+
+  pub app_end_lighter : (id : AppId) (how : How) (text : List ℕ) → t.awaiting ≡ ops.AppEnd id how text ∷ rest → measure (kept (ops.AppEnd id how text) t) < measure t
+  app_end_lighter id how text front =
+      let f = op_front t.settings.max_attempts t.awaiting (ops.AppEnd id how text) rest front in
+      let before = open_weighs t.is_open t.alive t.tree.apps o in
+      let now = open_weighs t.is_open t.alive (kept (ops.AppEnd id how text) t).tree.apps o in
+      let rows = row_rises t.settings.max_attempts 0 (changed (of_app.KeepEnd how)) id t.rows (λ row. omega (arith, end_kept_falls t.settings.max_attempts row how)) in
+      let posted = main_push t.settings.max_attempts t.main mains.Retire in
+      let dropped = few_dropped (row_of t.rows id) id t.sched in
+      let more = length-append t.ended (id ∷ []) in
+      omega (arith, f, before, now, rows, posted, dropped, more)
+
+  pub remove_lighter : (id : AppId) → t.awaiting ≡ ops.Remove id ∷ rest → measure (kept (ops.Remove id) t) < measure t
+  remove_lighter id front =
+      let f = op_front t.settings.max_attempts t.awaiting (ops.Remove id) rest front in
+      let before = open_weighs t.is_open t.alive t.tree.apps o in
+      let now = open_weighs t.is_open t.alive (kept (ops.Remove id) t).tree.apps o in
+      let rows = row_removed t.settings.max_attempts id t.rows in
+      omega (arith, f, before, now, rows)
+
+-- whichever it is but an Epoch
+pub kept_lighter : (t : Tables) (op : Op) (rest : List Op) → t.awaiting ≡ op ∷ rest → t.is_open ≡ true → is_epoch_op op ≡ false → measure (kept op t) < measure t
+kept_lighter t (ops.Epoch next stamp) rest front o other = cc
+kept_lighter t (ops.App id s) rest front o other = app_lighter t rest o id s front
+kept_lighter t (ops.Attempt id master node) rest front o other = attempt_lighter t rest o id master node front
+kept_lighter t (ops.AttemptEnd id how text) rest front o other = attempt_end_lighter t rest o id how text front
+kept_lighter t (ops.AppEnd id how text) rest front o other = app_end_lighter t rest o id how text front
+kept_lighter t (ops.Remove id) rest front o other = remove_lighter t rest o id front
+
+-- the events with which a life opens
+module _ (most : ℕ) where
+  opens_with : (app : AppRecord) → sum_by (main_measure most) (main_of app) + sum_by sched_measure (sched_of app) ≤ 3
+  opens_with app = by app.ending (last_attempt app.attempts)
+    where
+      last_is : (last : AttemptRecord) (b : Bool) → is_some last.ending ≡ b → sum_by (main_measure most) (main_by None (Some last) app.id) + sum_by sched_measure (sched_by None (Some last) app.id) ≤ 3
+      last_is last true e = rw e (omega (arith, sum_by-cons (main_measure most) (mains.AttemptDone (record { app = app.id; number = last.id.number })) []))
+      last_is last false e = rw e (omega (arith, sum_by-cons sched_measure (scheds.AttemptRecovered (record { app = app.id; number = last.id.number })) []))
+
+      by : (end : Option (How × List ℕ)) (last : Option AttemptRecord) → sum_by (main_measure most) (main_by end last app.id) + sum_by sched_measure (sched_by end last app.id) ≤ 3
+      by (Some end) last = omega arith
+      by None None = omega (arith, sum_by-cons (main_measure most) (mains.AppSaved app.id) [])
+      by None (Some last) = last_is last (is_some last.ending) refl
+
+  opening_weighs : (apps : List AppRecord) → sum_by (main_measure most) (flat_map main_of apps) + sum_by sched_measure (opening_sched apps) ≤ 3 * length apps
+  opening_weighs [] = omega arith
+  opening_weighs (app ∷ apps) =
+      let more = opening_weighs apps in
+      let one = opens_with app in
+      let of_main = sum_by-append (main_measure most) (main_of app) (flat_map main_of apps) in
+      let of_sched = sum_by-append sched_measure (sched_of app) (flat_map sched_of apps) in
+      omega (arith, more, one, of_main, of_sched)
+
+-- the life's Epoch is kept, over whatever is recorded
+pub epoch_lighter : (t : Tables) (next stamp : ℕ) (rest : List Op) → t.awaiting ≡ ops.Epoch next stamp ∷ rest → t.alive ≡ true → t.is_open ≡ false → t.main ≡ [] → t.sched ≡ []
+    → measure (kept (ops.Epoch next stamp) t) < measure t
+epoch_lighter t next stamp rest front a o m s =
+    let f = op_front t.settings.max_attempts t.awaiting (ops.Epoch next stamp) rest front in
+    let before : opening_measure t.is_open t.alive t.tree.apps ≡ 3 * length t.tree.apps = rw (o, a) refl in
+    let events = opening_weighs t.settings.max_attempts t.tree.apps in
+    let all = main_push t.settings.max_attempts (flat_map main_of t.tree.apps) mains.Retire in
+    omega (arith, f, before, events, all)

@@ -1,0 +1,233 @@
+-- What a row of an application weighs at most, and how that changes with what happens to it.
+use Rattle.std.proofs.Common.{◌≡◌, ◌≤◌, ℕ, ◌+◌, ◌*◌, ◌-◌, true, Option, None, Some, refl, arith}
+use Rattle.rm_types.specs.declared.ids.ContainerId.{ContainerId}
+use Rattle.rm_types.specs.declared.operations.How.{How}
+use Rattle.rm_types.specs.declared.operations.How.TheVariants as ways
+use Rattle.rm_app.specs.declared.states.AppState.{AppState}
+use Rattle.rm_app.specs.declared.states.AppState.TheVariants as apps
+use Rattle.rm_app.specs.Table.{state_of}
+use Rattle.rm_attempt.specs.declared.states.AttemptState.{AttemptState}
+use Rattle.rm_attempt.specs.declared.states.AttemptState.TheVariants as attempts
+use Rattle.rm_tables.specs.declared.changes.AttemptChange.TheVariants as of_attempt
+use Rattle.rm_tables.specs.declared.changes.RowChange.TheVariants as of_app
+use Rattle.rm_tables.specs.declared.rows.AppRow.{AppRow}
+use Rattle.rm_tables.specs.declared.rows.Current.{Current}
+use Rattle.rm_tables.specs.Changes.{after_failure, changed, current_after, dropped_state, granted, granted_at, killed_state}
+use Rattle.rm_tables.specs.MainEvents.{is_alive}
+use Rattle.rm_invariant.specs.events.Outcomes.{waits_at}
+use Rattle.rm_invariant.specs.apps.Invariant.{is_active}
+use Rattle.rm_invariant.specs.measure.Measure.{app_end_measure, app_measure, attempt_end_measure, attempt_op_measure, attempt_measure, current_measure, next_measure, number_in, row_measure, untried_measure}
+
+-- the most that an application, an attempt and a row weigh
+pub app_most : (most : ℕ) (s : AppState) (number : ℕ) → app_measure most s number ≤ untried_measure most
+app_most most apps.New number = omega arith
+app_most most apps.NewSaving number = omega arith
+app_most most apps.Submitted number = omega arith
+app_most most apps.Accepted number = omega arith
+app_most most apps.Running number = omega arith
+app_most most apps.Killing number = omega arith
+app_most most apps.FinalSaving number = omega arith
+app_most most apps.Finished number = omega arith
+app_most most apps.Failed number = omega arith
+app_most most apps.Killed number = omega arith
+
+pub attempt_most : (s : AttemptState) → attempt_measure s ≤ attempt_op_measure
+attempt_most attempts.Scheduled = omega arith
+attempt_most attempts.Granted = omega arith
+attempt_most attempts.Saving = omega arith
+attempt_most attempts.Live = omega arith
+attempt_most attempts.Registered = omega arith
+attempt_most attempts.Finishing = omega arith
+attempt_most attempts.Ending = omega arith
+attempt_most attempts.Ended = omega arith
+attempt_most attempts.Dropped = omega arith
+
+pub current_most : (c : Option Current) → current_measure c ≤ attempt_op_measure
+current_most None = omega arith
+current_most (Some current) = attempt_most current.state
+
+pub row_most : (most : ℕ) (row : AppRow) → row_measure most row ≤ untried_measure most + attempt_op_measure
+row_most most row = omega (arith, app_most most row.state (number_in row.current), current_most row.current)
+
+-- an application that goes on, by the number of its current attempt
+pub going_weighs : (most : ℕ) (s : AppState) (number : ℕ) → is_active s ≡ true → app_measure most s number ≡ app_end_measure + next_measure * (most - number)
+going_weighs most apps.New number g = cc
+going_weighs most apps.NewSaving number g = cc
+going_weighs most apps.Submitted number g = cc
+going_weighs most apps.Accepted number g = refl
+going_weighs most apps.Running number g = refl
+going_weighs most apps.Killing number g = refl
+going_weighs most apps.FinalSaving number g = cc
+going_weighs most apps.Finished number g = cc
+going_weighs most apps.Failed number g = cc
+going_weighs most apps.Killed number g = cc
+
+-- an attempt that lives weighs its end
+pub alive_weighs : (s : AttemptState) → is_alive s ≡ true → attempt_measure s ≡ attempt_end_measure
+alive_weighs attempts.Scheduled a = cc
+alive_weighs attempts.Granted a = cc
+alive_weighs attempts.Saving a = cc
+alive_weighs attempts.Live a = refl
+alive_weighs attempts.Registered a = refl
+alive_weighs attempts.Finishing a = refl
+alive_weighs attempts.Ending a = cc
+alive_weighs attempts.Ended a = cc
+alive_weighs attempts.Dropped a = cc
+
+-- one that lives ends where its application is killed, and one that is being saved, ends or has ended stays as it is
+pub killed_weighs : (s : AttemptState) → is_alive s ≡ true → attempt_measure (killed_state s) ≡ 0
+killed_weighs attempts.Scheduled a = cc
+killed_weighs attempts.Granted a = cc
+killed_weighs attempts.Saving a = cc
+killed_weighs attempts.Live a = refl
+killed_weighs attempts.Registered a = refl
+killed_weighs attempts.Finishing a = refl
+killed_weighs attempts.Ending a = cc
+killed_weighs attempts.Ended a = cc
+killed_weighs attempts.Dropped a = cc
+
+pub waiting_weighs : (s : AttemptState) → waits_at s ≡ true → attempt_measure (killed_state s) ≡ attempt_measure s
+waiting_weighs attempts.Scheduled a = cc
+waiting_weighs attempts.Granted a = cc
+waiting_weighs attempts.Saving a = refl
+waiting_weighs attempts.Live a = cc
+waiting_weighs attempts.Registered a = cc
+waiting_weighs attempts.Finishing a = cc
+waiting_weighs attempts.Ending a = refl
+waiting_weighs attempts.Ended a = refl
+waiting_weighs attempts.Dropped a = cc
+
+dropped_weighs : (s : AttemptState) → attempt_measure (dropped_state s) ≤ attempt_measure s
+dropped_weighs attempts.Scheduled = omega arith
+dropped_weighs attempts.Granted = omega arith
+dropped_weighs attempts.Saving = omega arith
+dropped_weighs attempts.Live = omega arith
+dropped_weighs attempts.Registered = omega arith
+dropped_weighs attempts.Finishing = omega arith
+dropped_weighs attempts.Ending = omega arith
+dropped_weighs attempts.Ended = omega arith
+dropped_weighs attempts.Dropped = omega arith
+
+-- a grant is nothing to what is left of an attempt
+pub grant_weighs : (container : ContainerId) (current : Current) → attempt_measure (granted container current).state ≡ attempt_measure current.state
+grant_weighs container current = by current.state refl
+  where
+    by : (s : AttemptState) → current.state ≡ s → attempt_measure (granted_at s container current).state ≡ attempt_measure current.state
+    by attempts.Scheduled e = rw e refl
+    by attempts.Granted e = refl
+    by attempts.Saving e = refl
+    by attempts.Live e = refl
+    by attempts.Registered e = refl
+    by attempts.Finishing e = refl
+    by attempts.Ending e = refl
+    by attempts.Ended e = refl
+    by attempts.Dropped e = refl
+
+grant_numbers : (container : ContainerId) (current : Current) → (granted container current).number ≡ current.number
+grant_numbers container current = by current.state
+  where
+    by : (s : AttemptState) → (granted_at s container current).number ≡ current.number
+    by attempts.Scheduled = refl
+    by attempts.Granted = refl
+    by attempts.Saving = refl
+    by attempts.Live = refl
+    by attempts.Registered = refl
+    by attempts.Finishing = refl
+    by attempts.Ending = refl
+    by attempts.Ended = refl
+    by attempts.Dropped = refl
+
+module _ (most : ℕ) (row : AppRow) where
+  -- an application is saved
+  pub saved_rises : row_measure most (changed of_app.Keep row) ≤ row_measure most row + untried_measure most
+  saved_rises = omega (arith, by row.current)
+    where
+      by : (c : Option Current) → current_measure (current_after of_app.Keep c) ≤ current_measure c
+      by None = omega arith
+      by (Some current) = omega arith
+
+  -- its App is issued
+  pub issued_falls : row_measure most (changed of_app.Issue row) ≤ row_measure most row
+  issued_falls = omega (arith, by row.current)
+    where
+      by : (c : Option Current) → current_measure (current_after of_app.Issue c) ≤ current_measure c
+      by None = omega arith
+      by (Some current) = omega arith
+
+  -- a client wishes to kill it
+  pub wished_same : row_measure most (changed of_app.Wish row) ≡ row_measure most row
+  wished_same = by row.current
+    where
+      by : (c : Option Current) → app_measure most row.state (number_in (current_after of_app.Wish c)) + current_measure (current_after of_app.Wish c) ≡ app_measure most row.state (number_in c) + current_measure c
+      by None = refl
+      by (Some current) = refl
+
+  -- its end is issued
+  pub end_falls : row_measure most (changed of_app.End row) ≤ current_measure row.current
+  end_falls = by row.current
+    where
+      by : (c : Option Current) → 0 + current_measure (current_after of_app.End c) ≤ current_measure c
+      by None = omega arith
+      by (Some current) = omega (arith, dropped_weighs current.state)
+
+  -- its end is kept
+  pub end_kept_falls : (how : How) → row_measure most (changed (of_app.KeepEnd how) row) ≤ row_measure most row
+  end_kept_falls how = omega (arith, ended how, by row.current)
+    where
+      ended : (how : How) → app_measure most (state_of how) (number_in (current_after (of_app.KeepEnd how) row.current)) ≡ 0
+      ended ways.Finished = refl
+      ended ways.Failed = refl
+      ended ways.Killed = refl
+
+      by : (c : Option Current) → current_measure (current_after (of_app.KeepEnd how) c) ≤ current_measure c
+      by None = omega arith
+      by (Some current) = omega arith
+
+  -- an attempt is scheduled
+  pub scheduled_weighs : (number : ℕ) → row_measure most (changed (of_app.Schedule number) row) ≡ (app_end_measure + next_measure * (most - number)) + attempt_op_measure
+  scheduled_weighs number = by row.current
+    where
+      by : (c : Option Current) → (app_end_measure + next_measure * (most - number_in (current_after (of_app.Schedule number) c))) + current_measure (current_after (of_app.Schedule number) c) ≡ (app_end_measure + next_measure * (most - number)) + attempt_op_measure
+      by None = refl
+      by (Some current) = refl
+
+  -- its attempt is kept, which lives
+  pub attempt_rises : row_measure most (changed (of_app.OfAttempt of_attempt.Keep) row) ≤ row_measure most row + attempt_end_measure
+  attempt_rises = by row.current
+    where
+      by : (c : Option Current) → app_measure most row.state (number_in (current_after (of_app.OfAttempt of_attempt.Keep) c)) + current_measure (current_after (of_app.OfAttempt of_attempt.Keep) c)
+          ≤ app_measure most row.state (number_in c) + current_measure c + attempt_end_measure
+      by None = omega arith
+      by (Some current) = omega arith
+
+  -- the end of its attempt is kept
+  pub attempt_end_falls : (how : How) → row_measure most (changed (of_app.OfAttempt (of_attempt.KeepEnd how)) row) ≤ row_measure most row
+  attempt_end_falls how = by row.current
+    where
+      state : (how : How) (s : AppState) (number : ℕ) → app_measure most (after_failure how s) number ≡ app_measure most s number
+      state ways.Finished s number = refl
+      state ways.Killed s number = refl
+      state ways.Failed apps.New number = refl
+      state ways.Failed apps.NewSaving number = refl
+      state ways.Failed apps.Submitted number = refl
+      state ways.Failed apps.Accepted number = refl
+      state ways.Failed apps.Running number = refl
+      state ways.Failed apps.Killing number = refl
+      state ways.Failed apps.FinalSaving number = refl
+      state ways.Failed apps.Finished number = refl
+      state ways.Failed apps.Failed number = refl
+      state ways.Failed apps.Killed number = refl
+
+      by : (c : Option Current) → app_measure most (after_failure how row.state) (number_in (current_after (of_app.OfAttempt (of_attempt.KeepEnd how)) c)) + current_measure (current_after (of_app.OfAttempt (of_attempt.KeepEnd how)) c)
+          ≤ app_measure most row.state (number_in c) + current_measure c
+      by None = omega (arith, state how row.state 0)
+      by (Some current) = omega (arith, state how row.state current.number)
+
+  -- a container is granted to its attempt
+  pub granted_same : (container : ContainerId) → row_measure most (changed (of_app.OfAttempt (of_attempt.Grant container)) row) ≡ row_measure most row
+  granted_same container = by row.current
+    where
+      by : (c : Option Current) → app_measure most row.state (number_in (current_after (of_app.OfAttempt (of_attempt.Grant container)) c)) + current_measure (current_after (of_app.OfAttempt (of_attempt.Grant container)) c)
+          ≡ app_measure most row.state (number_in c) + current_measure c
+      by None = refl
+      by (Some current) = rw (grant_numbers container current, grant_weighs container current) refl

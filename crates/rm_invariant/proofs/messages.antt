@@ -1,0 +1,20 @@
+-- Each message keeps all of it.
+pub mod Answered
+pub mod Changes
+pub mod Clock
+pub mod Registering
+pub mod Beating
+pub mod Present
+pub mod Rows
+pub mod Known
+pub mod Shapes
+pub mod Marked
+pub mod MarkedMessages
+pub mod MarkedQueues
+pub mod MarkedOps
+pub mod Fitting
+pub mod FittingMoves
+pub mod Life
+pub mod Showing
+pub mod Masters
+pub mod Clients

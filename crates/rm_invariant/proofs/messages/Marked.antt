@@ -1,0 +1,65 @@
+-- Each row with the released mark has its release on its way: what keeps it, whatever the step.
+use Rattle.std.proofs.Common.{◌≡◌, List, [], ◌∷◌, ◌++◌, Bool, true, false, ◌||◌, Some, refl, sym, ◌∙◌, ap, subst}
+use Rattle.std.specs.List.{list_any}
+use Rattle.std.proofs.lemmas.Bool.{false≢true}
+use Rattle.std.proofs.lemmas.List.Folds.{list_any-append}
+use Rattle.rm_types.specs.declared.entries.Entry.{Entry}
+use Rattle.rm_types.specs.declared.records.AppRecord.{AppRecord}
+use Rattle.rm_types.specs.declared.settings.Settings.{Settings}
+use Rattle.rm_model.specs.Changes.{after}
+use Rattle.rm_model.specs.State.{Row}
+use Rattle.rm_tables.specs.declared.events.SchedEvent.{SchedEvent}
+use Rattle.rm_tables.specs.declared.tables.Tables.{Tables}
+use Rattle.rm_refinement.specs.History.{History, live_state}
+use Rattle.rm_invariant.specs.nodes.Book.{All}
+use Rattle.rm_invariant.specs.Core.{PreservesCore}
+use Rattle.rm_invariant.specs.messages.Released.{IsOnWay, ReleasesOnWay, is_release_of}
+use Rattle.rm_invariant.proofs.messages.Changes.{all_weaker}
+use Rattle.rm_invariant.proofs.messages.Shapes.{book_of}
+
+-- a release is on its way still where more is behind it
+pub later_on_way : (apps : List AppRecord) (sched more : List SchedEvent) (row : Row) → IsOnWay apps sched row → IsOnWay apps (sched ++ more) row
+later_on_way apps sched more row h marked = let on = h marked in (list_any-append (is_release_of row.id) sched more ∙ ap (λ (b : Bool). b || list_any (is_release_of row.id) more) on.0, on.1)
+
+pub all_later : (apps : List AppRecord) (sched more : List SchedEvent) (book : List Row) → All (IsOnWay apps sched) book → All (IsOnWay apps (sched ++ more)) book
+all_later apps sched more book h = all_weaker (IsOnWay apps sched) (IsOnWay apps (sched ++ more)) (later_on_way apps sched more) book h
+
+-- the history that a step goes to has the book that the judge has after its entry
+pub step_on_way : (settings : Settings) (h : History) (t : Tables) (entry : Entry) (next : Tables) (s : PreservesCore settings h t (entry, next)) (book : List Row) → book_of (after (live_state h t) entry) ≡ Some book
+    → All (IsOnWay next.tree.apps next.sched) book → ReleasesOnWay s.next next
+step_on_way settings h t entry next s book is on =
+    let some : Some s.next.book ≡ Some book = sym (ap book_of s.step.same) ∙ is in
+    let same : s.next.book ≡ book = cc in
+    subst (All (IsOnWay next.tree.apps next.sched)) (sym same) on
+
+-- whatever leaves the judge's book, what is recorded and the scheduler's queue
+pub still_on_way : (h g : History) (t next : Tables) → g.book ≡ h.book → next.tree ≡ t.tree → next.sched ≡ t.sched → ReleasesOnWay h t → ReleasesOnWay g next
+still_on_way h g t next book tree sched on = rw (book, tree, sched) on
+
+-- where the queue is empty no row has the mark
+pub none_marked : (h : History) (t : Tables) → ReleasesOnWay h t → t.sched ≡ [] → All (λ row. row.released ≡ false) h.book
+none_marked h t on empty = all_weaker (IsOnWay t.tree.apps t.sched) (λ row. row.released ≡ false) unmarked h.book on
+  where
+    unmarked : (row : Row) → IsOnWay t.tree.apps t.sched row → row.released ≡ false
+    unmarked row on = by row.released refl
+      where
+        by : (b : Bool) → row.released ≡ b → row.released ≡ false
+        by false e = e
+        by true e = let some = (on e).0 in let none : false ≡ true = rw empty at some in absurd (false≢true none)
+
+-- each row is found among all
+pub all_found : (alike : Row → Row → Bool) → ((row : Row) → alike row row ≡ true) → (rows : List Row) → All (λ row. list_any (λ one. alike one row) rows ≡ true) rows
+all_found alike itself [] = tt
+all_found alike itself (row ∷ rows) = (
+  (let own = itself row in rw own refl),
+  all_weaker (λ one. list_any (λ other. alike other one) rows ≡ true) (λ one. list_any (λ other. alike other one) (row ∷ rows) ≡ true) (λ one found. or_last (alike row one) (list_any (λ other. alike other one) rows) found) rows
+      (all_found alike itself rows),
+)
+  where
+    or_last : (a b : Bool) → b ≡ true → (a || b) ≡ true
+    or_last true b e = refl
+    or_last false b e = e
+
+pub all_both : {X : Type 0} (P Q : X → Type 0) (xs : List X) → All P xs → All Q xs → All (λ x. P x × Q x) xs
+all_both P Q [] h k = tt
+all_both P Q (x ∷ xs) h k = ((h.0, k.0), all_both P Q xs h.1 k.1)

@@ -1,0 +1,235 @@
+-- Each row with the released mark has its release on its way: each event of both queues keeps it. Once the release comes, what it names has left.
+use Rattle.std.proofs.Common.{◌≡◌, drop, inl, inr, ℕ, List, [], ◌∷◌, Bool, true, false, not, ◌&&◌, ◌==◌, Option, None, Some, filter, map, refl, sym, ◌∙◌, ap, subst}
+use Rattle.std.specs.Prelude.{if◌then◌else◌}
+use Rattle.std.specs.List.{list_any}
+use Rattle.std.proofs.lemmas.Bool.{false≢true}
+use Rattle.rm_types.specs.declared.containers.Cause.{Cause}
+use Rattle.rm_types.specs.declared.containers.Cause.TheVariants as causes
+use Rattle.rm_types.specs.declared.containers.ContainerState.TheVariants.{Running}
+use Rattle.rm_types.specs.declared.containers.Grant.{Grant}
+use Rattle.rm_types.specs.declared.containers.Held.{Held}
+use Rattle.rm_types.specs.declared.entries.Entry.{Entry}
+use Rattle.rm_types.specs.declared.ids.AttemptId.{AttemptId}
+use Rattle.rm_types.specs.declared.ids.ContainerId.{ContainerId}
+use Rattle.rm_types.specs.declared.records.AppRecord.{AppRecord}
+use Rattle.rm_types.specs.declared.settings.Settings.{Settings}
+use Rattle.rm_types.specs.Ids.{is_attempt, is_container}
+use Rattle.rm_types.specs.Records.{Records}
+use Rattle.rm_attempt.specs.declared.states.AttemptState.{AttemptState}
+use Rattle.rm_attempt.specs.declared.states.AttemptState.TheVariants as attempts
+use Rattle.rm_book.specs.Books.{has_row, row_of as book_row_of}
+use Rattle.rm_model.specs.Absorbing.{is_held, row_absorbed, row_taken}
+use Rattle.rm_model.specs.Changes.{after}
+use Rattle.rm_model.specs.Containers.{is_living, once}
+use Rattle.rm_model.specs.Facts.{has_container}
+use Rattle.rm_model.specs.Passing.{row_granted}
+use Rattle.rm_model.specs.State.{Row}
+use Rattle.rm_tables.specs.declared.events.MainEvent.{MainEvent}
+use Rattle.rm_tables.specs.declared.events.SchedEvent.{SchedEvent}
+use Rattle.rm_tables.specs.declared.events.SchedEvent.TheVariants as scheds
+use Rattle.rm_tables.specs.declared.nodes.NodeRow.{NodeRow}
+use Rattle.rm_tables.specs.declared.rows.AppRow.{AppRow}
+use Rattle.rm_tables.specs.declared.rows.Current.{Current}
+use Rattle.rm_tables.specs.declared.tables.Tables.{Tables}
+use Rattle.rm_tables.specs.Absorbing.{absorbed_by, absorbed_if}
+use Rattle.rm_tables.specs.Actions.{main_worked, sched_quiet, sched_worked}
+use Rattle.rm_tables.specs.Leaving.{ended_by, is_masters_in}
+use Rattle.rm_tables.specs.MainEvents.{main_step}
+use Rattle.rm_tables.specs.Nodes.{is_waiting, node_of}
+use Rattle.rm_tables.specs.Passing.{updated_by}
+use Rattle.rm_tables.specs.Rows.{row_of}
+use Rattle.rm_tables.specs.SchedEvents.{is_on, is_released, queued_at, queued_by, queued_with, sched_step}
+use Rattle.rm_refinement.specs.History.{History, live_state}
+use Rattle.rm_invariant.specs.nodes.Book.{All}
+use Rattle.rm_invariant.proofs.nodes.Holds.{all_append, all_filter, all_map, all_passing}
+use Rattle.rm_invariant.proofs.nodes.Lists.{container-refl, same_container}
+use Rattle.rm_invariant.proofs.masters.LeavingEvents.{same_living}
+use Rattle.rm_invariant.specs.events.Outcomes.{Outcome}
+use Rattle.rm_invariant.specs.Core.{CoreInvariant, PreservesCore}
+use Rattle.rm_invariant.specs.messages.Released.{IsOnWay, ReleasesOnWay, is_release_of}
+use Rattle.rm_invariant.proofs.messages.Changes.{all_weaker}
+use Rattle.rm_invariant.proofs.messages.Marked.{all_both, all_found, all_later, step_on_way}
+use Rattle.rm_invariant.proofs.messages.Shapes.{QueueBy, book_of, main_shape}
+
+-- THE MAIN QUEUE
+
+pub main_on_way : (settings : Settings) (h : History) (t : Tables) → ReleasesOnWay h t → (e : MainEvent) → Outcome t (main_step e t) → (s : PreservesCore settings h t (main_worked (main_step e t))) → ReleasesOnWay s.next (main_worked (main_step e t)).1
+main_on_way settings h t on e outcome s =
+    let shape = main_shape h t (main_step e t) outcome in
+    step_on_way settings h t (main_worked (main_step e t)).0 (main_worked (main_step e t)).1 s h.book shape.book
+    (subst (λ (r : Records). All (IsOnWay r.apps (main_step e t).1.sched) h.book) (sym shape.tree) (by (main_step e t).1.sched shape.sched))
+  where
+    by : (sched : List SchedEvent) → QueueBy t.sched sched → All (IsOnWay t.tree.apps sched) h.book
+    by sched (inl same) = subst (λ (l : List SchedEvent). All (IsOnWay t.tree.apps l) h.book) (sym same) on
+    by sched (inr more) = subst (λ (l : List SchedEvent). All (IsOnWay t.tree.apps l) h.book) (sym more.1) (all_later t.tree.apps t.sched (more.0 ∷ []) h.book on)
+
+-- THE SCHEDULER
+
+-- one of some ids that passes a test is one of those that do
+passes_among : (p : ContainerId → Bool) (ids : List ContainerId) (c : ContainerId) → has_container ids c ≡ true → p c ≡ true → has_container (filter p ids) c ≡ true
+passes_among p [] c among passes = cc
+passes_among p (id ∷ ids) c among passes = by (p id) (is_container id c) refl refl (passes_among p ids c)
+  where
+    by : (a b : Bool) → p id ≡ a → is_container id c ≡ b → (has_container ids c ≡ true → p c ≡ true → has_container (filter p ids) c ≡ true) → has_container (filter p (id ∷ ids)) c ≡ true
+    by true true f g rest = rw (f, g) refl
+    by true false f g rest = rw (f, g) (rest (rw g at among) passes)
+    by false true f g rest = absurd (let x : false ≡ true = sym f ∙ ap p (same_container id c g) ∙ passes in false≢true x)
+    by false false f g rest = rw f (rest (rw g at among) passes)
+
+-- and one of those with each once
+once_among : (ids : List ContainerId) (c : ContainerId) → has_container ids c ≡ true → has_container (once ids) c ≡ true
+once_among [] c among = among
+once_among (id ∷ ids) c among = by (is_container id c) refl (once_among ids c)
+  where
+    by : (b : Bool) → is_container id c ≡ b → (has_container ids c ≡ true → has_container (once ids) c ≡ true) → has_container (once (id ∷ ids)) c ≡ true
+    by true f rest = rw f refl
+    by false f rest = rw f (passes_among (λ other. not (is_container other id)) (once ids) c (rest (rw f at among)) (apart f))
+      where
+        apart : is_container id c ≡ false → not (is_container c id) ≡ true
+        apart f = by_other (is_container c id) refl
+          where
+            by_other : (b : Bool) → is_container c id ≡ b → not (is_container c id) ≡ true
+            by_other false e = rw e refl
+            by_other true e = absurd (let x : false ≡ true = sym f ∙ ap (λ (one : ContainerId). is_container one c) (sym (same_container c id e)) ∙ container-refl c in false≢true x)
+
+-- what an event that is worked off leaves: the judge's book, each marked row of which has its release behind that event
+record LeavesOnWay (h : History) (t : Tables) (rest : List SchedEvent) (done : Entry × Tables) : Type 0 where
+  pub book : List Row
+  pub is : book_of (after (live_state h t) done.0) ≡ Some book
+  pub sched : done.1.sched ≡ t.sched
+  pub tree : done.1.tree ≡ t.tree
+  pub on : All (IsOnWay t.tree.apps rest) book
+
+module _ (h : History) (t : Tables) (rest : List SchedEvent) (on : All (IsOnWay t.tree.apps rest) h.book) where
+  abbrev On : Row → Type 0
+  On = IsOnWay t.tree.apps rest
+
+  quiet_leaves : LeavesOnWay h t rest (sched_quiet t)
+  quiet_leaves = record { book = h.book; is = refl; sched = refl; tree = refl; on = on }
+
+  ended_leaves : (cause : Cause) (list : List ContainerId) → LeavesOnWay h t rest (ended_by cause list t)
+  ended_leaves cause [] = quiet_leaves
+  ended_leaves cause (id ∷ ids) = record { book = _; is = refl; sched = refl; tree = refl; on = all_filter On (λ row. not (has_container (id ∷ ids) row.id)) h.book on }
+
+  queued_leaves : (o : Option AppRow) (id : AttemptId) → LeavesOnWay h t rest (queued_by o id t)
+  queued_leaves None id = quiet_leaves
+  queued_leaves (Some row) id = with_current row.current
+    where
+      at_state : (s : AttemptState) (b : Bool) → LeavesOnWay h t rest (queued_at s b id t)
+      at_state attempts.Scheduled true = record { book = h.book; is = refl; sched = refl; tree = refl; on = on }
+      at_state attempts.Scheduled false = quiet_leaves
+      at_state _ b = quiet_leaves
+
+      with_current : (o : Option Current) → LeavesOnWay h t rest (queued_with o id t)
+      with_current None = quiet_leaves
+      with_current (Some current) = at_state current.state (current.number == id.number)
+
+  -- rows that enter have no mark
+  absorbed_new : (name : List ℕ) (taken : List Held) → All On (map (row_absorbed name) taken)
+  absorbed_new name [] = tt
+  absorbed_new name (held ∷ taken) = ((λ marked. absurd (false≢true marked)), absorbed_new name taken)
+
+  granted_new : (grants : List Grant) → All On (map row_granted grants)
+  granted_new [] = tt
+  granted_new (grant ∷ grants) = ((λ marked. absurd (false≢true marked)), granted_new grants)
+
+  taken_on : (taken : List Held) (row : Row) → On row → On (row_taken taken row)
+  taken_on taken row on = by (is_held taken row.id)
+    where
+      by : (b : Bool) → On (if b then record row { state = Running } else row)
+      by true = on
+      by false = on
+
+  absorbed_leaves : (o : Option NodeRow) (name : List ℕ) (turn : ℕ) (ended : List ContainerId) → LeavesOnWay h t rest (absorbed_by o name turn ended t)
+  absorbed_leaves None name turn ended = quiet_leaves
+  absorbed_leaves (Some row) name turn ended = by (is_waiting row.state && (row.turn == turn))
+    where
+      by : (b : Bool) → LeavesOnWay h t rest (absorbed_if b name row ended t)
+      by true =
+          record {
+            book = _;
+            is = refl;
+            sched = refl;
+            tree = refl;
+            on =
+                all_append On _ _
+                (all_map On On (row_taken _) (taken_on _) (filter (λ one. not (has_container ended one.id)) h.book) (all_filter On (λ one. not (has_container ended one.id)) h.book on))
+                (absorbed_new name _);
+          }
+      by false = quiet_leaves
+
+  updated_leaves : (o : Option NodeRow) (name : List ℕ) → LeavesOnWay h t rest (updated_by o name t)
+  updated_leaves None name = quiet_leaves
+  updated_leaves (Some row) name = record { book = _; is = refl; sched = refl; tree = refl; on = all_append On h.book _ on (granted_new _) }
+
+-- an event that is no release isn't missed
+rest_on : (apps : List AppRecord) (e : SchedEvent) (rest : List SchedEvent) → ((id : ContainerId) → is_release_of id e ≡ false) → (book : List Row) → All (IsOnWay apps (e ∷ rest)) book → All (IsOnWay apps rest) book
+rest_on apps e rest none book on = all_weaker (IsOnWay apps (e ∷ rest)) (IsOnWay apps rest) (λ row h marked. ((let apart = none row.id in let x = (h marked).0 in rw apart at x), (h marked).1)) book on
+
+module _ (settings : Settings) (h : History) (t : Tables) (w : CoreInvariant settings h t) (rest : List SchedEvent) where
+  -- a release: what it names, lives and is of its attempt leaves
+  module _ (attempt : AttemptId) (list : List ContainerId) (on : All (IsOnWay t.tree.apps (scheds.Release attempt list ∷ rest)) h.book) where
+    abbrev given_back : List ContainerId
+    given_back = once (filter (is_released attempt t) list)
+
+    stays : (row : Row) → (is_living h.book row.id ≡ true) × IsOnWay t.tree.apps (scheds.Release attempt list ∷ rest) row → has_container given_back row.id ≡ false → IsOnWay t.tree.apps rest row
+    stays row h_row left marked = ((by (is_attempt row.id.attempt attempt) refl (has_container list row.id) refl (h_row.1 marked).0), no_master)
+      where
+        no_master : is_masters_in t.tree.apps row.id ≡ false
+        no_master = (h_row.1 marked).1
+
+        in_book : has_row t.book row.id ≡ true
+        in_book = same_living row.id t.book.rows h.book w.agrees.rows ∙ h_row.0
+
+        by : (a : Bool) → is_attempt row.id.attempt attempt ≡ a → (b : Bool) → has_container list row.id ≡ b → list_any (is_release_of row.id) (scheds.Release attempt list ∷ rest) ≡ true → list_any (is_release_of row.id) rest ≡ true
+        by true e true f some =
+            let released : is_released attempt t row.id ≡ true = rw (in_book, e, no_master) refl in
+            absurd (let x : false ≡ true = sym left ∙ once_among (filter (is_released attempt t) list) row.id (passes_among (is_released attempt t) list row.id f released) in false≢true x)
+        by true e false f some = rw (e, f) at some
+        by false e b f some = rw e at some
+
+    released_by_list : (ended : List ContainerId) → given_back ≡ ended → LeavesOnWay h t rest (ended_by causes.Released ended t)
+    released_by_list [] e =
+        record {
+          book = h.book;
+          is = refl;
+          sched = refl;
+          tree = refl;
+          on = all_weaker (λ row. (is_living h.book row.id ≡ true) × IsOnWay t.tree.apps (scheds.Release attempt list ∷ rest) row) (IsOnWay t.tree.apps rest)
+              (λ row k. stays row k (ap (λ (ids : List ContainerId). has_container ids row.id) e)) h.book (all_both (λ row. is_living h.book row.id ≡ true) (IsOnWay t.tree.apps (scheds.Release attempt list ∷ rest)) h.book (all_found (λ one row. is_container one.id row.id) (λ row. container-refl row.id) h.book) on);
+        }
+    released_by_list (id ∷ ids) e =
+        record {
+          book = _;
+          is = refl;
+          sched = refl;
+          tree = refl;
+          on =
+              all_passing (λ row. (is_living h.book row.id ≡ true) × IsOnWay t.tree.apps (scheds.Release attempt list ∷ rest) row) (IsOnWay t.tree.apps rest) (λ row. not (has_container (id ∷ ids) row.id))
+              (λ row goes k. stays row k (ap (λ (some : List ContainerId). has_container some row.id) e ∙ not_true (has_container (id ∷ ids) row.id) goes)) h.book
+              (all_both (λ row. is_living h.book row.id ≡ true) (IsOnWay t.tree.apps (scheds.Release attempt list ∷ rest)) h.book (all_found (λ one row. is_container one.id row.id) (λ row. container-refl row.id) h.book) on);
+        }
+      where
+        not_true : (b : Bool) → not b ≡ true → b ≡ false
+        not_true true x = absurd (false≢true x)
+        not_true false x = refl
+
+  step_leaves : (e : SchedEvent) (list : List ContainerId) → All (IsOnWay t.tree.apps (e ∷ rest)) h.book → LeavesOnWay h t rest (sched_step e list t)
+  step_leaves (scheds.AppAdded id) list on =
+      record { book = h.book; is = refl; sched = refl; tree = refl; on = rest_on t.tree.apps (scheds.AppAdded id) rest (λ c. refl) h.book on }
+  step_leaves (scheds.AttemptRecovered id) list on = quiet_leaves h t rest (rest_on t.tree.apps (scheds.AttemptRecovered id) rest (λ c. refl) h.book on)
+  step_leaves (scheds.AttemptAdded id) list on = queued_leaves h t rest (rest_on t.tree.apps (scheds.AttemptAdded id) rest (λ c. refl) h.book on) (row_of t.rows id.app) id
+  step_leaves (scheds.AttemptRemoved id) list on = ended_leaves h t rest (rest_on t.tree.apps (scheds.AttemptRemoved id) rest (λ c. refl) h.book on) causes.Attempt list
+  step_leaves (scheds.Release attempt released) list on = released_by_list attempt released on (given_back attempt released on) refl
+  step_leaves (scheds.NodeAdded node turn) list on = absorbed_leaves h t rest (rest_on t.tree.apps (scheds.NodeAdded node turn) rest (λ c. refl) h.book on) (node_of t.nodes node) node turn list
+  step_leaves (scheds.NodeDone node done) list on =
+      ended_leaves h t rest (rest_on t.tree.apps (scheds.NodeDone node done) rest (λ c. refl) h.book on) causes.Done (once (filter (λ id. is_on node (book_row_of t.book id)) done))
+  step_leaves (scheds.NodeUpdate node) list on = updated_leaves h t rest (rest_on t.tree.apps (scheds.NodeUpdate node) rest (λ c. refl) h.book on) (node_of t.nodes node) node
+  step_leaves (scheds.NodeLost node) list on = ended_leaves h t rest (rest_on t.tree.apps (scheds.NodeLost node) rest (λ c. refl) h.book on) causes.Node list
+
+  pub sched_on_way : ReleasesOnWay h t → (e : SchedEvent) → t.sched ≡ e ∷ rest → (list : List ContainerId) (s : PreservesCore settings h t (sched_worked (sched_step e list t))) → ReleasesOnWay s.next (sched_worked (sched_step e list t)).1
+  sched_on_way on e front list s =
+      let leaves = step_leaves e list (subst (λ (l : List SchedEvent). All (IsOnWay t.tree.apps l) h.book) front on) in
+      let queue : rest ≡ drop 1 (sched_step e list t).1.sched = sym (ap (drop 1) (leaves.sched ∙ front)) in
+      step_on_way settings h t (sched_worked (sched_step e list t)).0 (sched_worked (sched_step e list t)).1 s leaves.book leaves.is
+      (subst (λ (r : Records). All (IsOnWay r.apps (drop 1 (sched_step e list t).1.sched)) leaves.book) (sym leaves.tree) (subst (λ (l : List SchedEvent). All (IsOnWay t.tree.apps l) leaves.book) queue leaves.on))

@@ -1,0 +1,103 @@
+-- Lists of containers: each once, and what is left of a list without them.
+use Rattle.std.proofs.Common.{◌≡◌, ℕ, List, [], ◌∷◌, Bool, true, false, not, ◌||◌, filter, refl, sym, ◌∙◌, arith}
+use Rattle.std.specs.List.{list_any}
+use Rattle.std.specs.Str.{bytes_eq}
+use Rattle.std.proofs.lemmas.Bool.{false≢true}
+use Rattle.std.proofs.lemmas.Bool.Decides.{nat_tests}
+use Rattle.rm_types.specs.declared.ids.ContainerId.{ContainerId}
+use Rattle.rm_types.specs.Ids.{is_container}
+use Rattle.rm_model.specs.State.{Row}
+use Rattle.rm_model.specs.Facts.{has_container}
+use Rattle.rm_model.specs.Containers.{ids_on, lives_on, once}
+use Rattle.rm_invariant.proofs.nodes.Views.{fewer}
+
+pub same_container : (a b : ContainerId) → is_container a b ≡ true → a ≡ b
+same_container a b h = grind (arith, nat_tests)
+
+pub container-refl : (a : ContainerId) → is_container a a ≡ true
+container-refl a = grind (arith, nat_tests)
+
+-- what is among those that go does not stay
+out_more : (gone on : List ContainerId) (x id : ContainerId) (b c : Bool) → has_container gone x ≡ b → is_container x id ≡ c → has_container gone id ≡ true
+    → has_container (filter (λ y. not (has_container gone y)) on) id ≡ false → has_container (filter (λ y. not (has_container gone y)) (x ∷ on)) id ≡ false
+out_more gone on x id true c e f h rest = rw e rest
+out_more gone on x id false true e f h rest =
+    let g : has_container gone x ≡ true = rw (same_container x id f) h in absurd (false≢true (sym e ∙ g))
+out_more gone on x id false false e f h rest = rw (e, f) rest
+
+pub filtered_out : (gone on : List ContainerId) (id : ContainerId) → has_container gone id ≡ true → has_container (filter (λ y. not (has_container gone y)) on) id ≡ false
+filtered_out gone [] id h = refl
+filtered_out gone (x ∷ on) id h = out_more gone on x id (has_container gone x) (is_container x id) refl refl h (filtered_out gone on id h)
+
+-- each once: nothing is lost
+kept_more : (out : List ContainerId) (x id y : ContainerId) (b c : Bool) → is_container y id ≡ b → is_container y x ≡ c → is_container x id ≡ false
+    → (has_container out id ≡ true → has_container (filter (λ other. not (is_container other x)) out) id ≡ true)
+    → has_container (y ∷ out) id ≡ true → has_container (filter (λ other. not (is_container other x)) (y ∷ out)) id ≡ true
+kept_more out x id y true true e f n rest h = let g : is_container x id ≡ true = rw (← same_container y x f) e in absurd (false≢true (sym n ∙ g))
+kept_more out x id y true false e f n rest h = rw (f, e) refl
+kept_more out x id y false true e f n rest h = rw f (rest (rw e at h))
+kept_more out x id y false false e f n rest h = rw (f, e) (rest (rw e at h))
+
+kept_beside : (out : List ContainerId) (x id : ContainerId) → is_container x id ≡ false → has_container out id ≡ true → has_container (filter (λ other. not (is_container other x)) out) id ≡ true
+kept_beside [] x id n h = h
+kept_beside (y ∷ out) x id n h = kept_more out x id y (is_container y id) (is_container y x) refl refl n (kept_beside out x id n) h
+
+once_more : (x : ContainerId) (ids : List ContainerId) (id : ContainerId) (b : Bool) → is_container x id ≡ b → (has_container ids id ≡ true → has_container (once ids) id ≡ true)
+    → has_container (x ∷ ids) id ≡ true → has_container (once (x ∷ ids)) id ≡ true
+once_more x ids id true e rest h = rw e refl
+once_more x ids id false e rest h = rw e (kept_beside (once ids) x id e (rest (rw e at h)))
+
+pub once_has : (ids : List ContainerId) (id : ContainerId) → has_container ids id ≡ true → has_container (once ids) id ≡ true
+once_has [] id h = h
+once_has (x ∷ ids) id h = once_more x ids id (is_container x id) refl (once_has ids id) h
+
+-- all go
+pub all_go : (gone : List ContainerId) (on : List ContainerId) → ((id : ContainerId) → has_container on id ≡ true → has_container gone id ≡ true)
+    → filter (λ y. not (has_container gone y)) on ≡ []
+all_go gone [] all = refl
+all_go gone (x ∷ on) all =
+    let first : has_container gone x ≡ true = all x (let e = container-refl x in rw e refl) in
+    rw first (all_go gone on (λ id h. all id (more x on id (is_container x id) refl h)))
+  where
+    more : (x : ContainerId) (on : List ContainerId) (id : ContainerId) (b : Bool) → is_container x id ≡ b → has_container on id ≡ true → has_container (x ∷ on) id ≡ true
+    more x on id true e h = rw e refl
+    more x on id false e h = rw e h
+
+-- a container lives on a node where it is among those on it
+lives_by : (row : Row) (book : List Row) (name : List ℕ) (id : ContainerId) (b c : Bool) → bytes_eq row.node name ≡ b → is_container row.id id ≡ c
+    → lives_on book name id ≡ has_container (ids_on book name) id → lives_on (row ∷ book) name id ≡ has_container (ids_on (row ∷ book) name) id
+lives_by row book name id true true e f rest = rw (e, f) refl
+lives_by row book name id true false e f rest = rw (e, f) rest
+lives_by row book name id false true e f rest = rw (e, f) rest
+lives_by row book name id false false e f rest = rw (e, f) rest
+
+pub lives_is : (book : List Row) (name : List ℕ) (id : ContainerId) → lives_on book name id ≡ has_container (ids_on book name) id
+lives_is [] name id = refl
+lives_is (row ∷ book) name id = lives_by row book name id (bytes_eq row.node name) (is_container row.id id) refl refl (lives_is book name id)
+
+-- of a done list, those that live on the node go: then none of it does
+left_by : (on : List ContainerId) (x : ContainerId) (gone : List ContainerId) (b : Bool) → has_container on x ≡ b → (has_container on x ≡ true → has_container gone x ≡ true)
+    → has_container (filter (λ y. not (has_container gone y)) on) x ≡ false
+left_by on x gone true e h = filtered_out gone on x (h e)
+left_by on x gone false e h = fewer (λ y. not (has_container gone y)) on x e
+
+passes_more : (test : ContainerId → Bool) (x y : ContainerId) (ids : List ContainerId) (b : Bool) → test y ≡ b → (has_container (filter test ids) x ≡ true)
+    → has_container (filter test (y ∷ ids)) x ≡ true
+passes_more test x y ids true e h = rw e (or_true (is_container y x) h)
+  where
+    or_true : (a : Bool) → has_container (filter test ids) x ≡ true → (a || has_container (filter test ids) x) ≡ true
+    or_true true g = refl
+    or_true false g = g
+passes_more test x y ids false e h = rw e h
+
+none_by : (on : List ContainerId) (gone : List ContainerId) (ids : List ContainerId)
+    → ((x : ContainerId) → has_container (filter (has_container on) ids) x ≡ true → has_container gone x ≡ true)
+    → list_any (has_container (filter (λ y. not (has_container gone y)) on)) ids ≡ false
+none_by on gone [] all = refl
+none_by on gone (x ∷ ids) all =
+    let here : has_container (filter (λ y. not (has_container gone y)) on) x ≡ false =
+    left_by on x gone (has_container on x) refl (λ t. all x (let e = container-refl x in rw t (rw e refl))) in
+    rw here (none_by on gone ids (λ y h. all y (passes_more (has_container on) y x ids (has_container on x) refl h)))
+
+pub none_left : (on ids : List ContainerId) → list_any (has_container (filter (λ y. not (has_container (once (filter (has_container on) ids)) y)) on)) ids ≡ false
+none_left on ids = none_by on (once (filter (has_container on) ids)) ids (λ x h. once_has (filter (has_container on) ids) x h)

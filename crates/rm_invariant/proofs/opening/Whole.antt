@@ -1,0 +1,221 @@
+-- A life begins over whatever is recorded, issues its Epoch, and is open once that is kept.
+use Rattle.std.proofs.Common.{◌≡◌, ◌<◌, ◌^◌, ℕ, List, [], ◌∷◌, Bool, true, false, Option, None, Some, drop, refl, sym, ◌∙◌, ap, subst, arith}
+use Rattle.std.specs.Prelude.{if◌then◌else◌, is_some}
+use Rattle.std.specs.List.{flat_map, list_any}
+use Rattle.rm_types.specs.declared.entries.Entry.TheVariants.{Kept as KeptEntry}
+use Rattle.rm_types.specs.declared.operations.How.{How}
+use Rattle.rm_types.specs.declared.operations.Op.{Op}
+use Rattle.rm_types.specs.declared.operations.Op.TheVariants as ops
+use Rattle.rm_types.specs.declared.records.AppRecord.{AppRecord}
+use Rattle.rm_types.specs.declared.records.AttemptRecord.{AttemptRecord}
+use Rattle.rm_types.specs.Records.{Records, last_attempt, records}
+use Rattle.rm_model.specs.Changes.{after}
+use Rattle.rm_model.specs.Rules.{Allowed}
+use Rattle.rm_model.specs.State.{Manager}
+use Rattle.rm_tables.specs.declared.events.MainEvent.{MainEvent}
+use Rattle.rm_tables.specs.declared.events.MainEvent.TheVariants as mains
+use Rattle.rm_tables.specs.declared.tables.Tables.{Tables}
+use Rattle.rm_tables.specs.Actions.{main_worked}
+use Rattle.rm_tables.specs.KeptOps.{kept}
+use Rattle.rm_tables.specs.Lives.{begun, handed_out}
+use Rattle.rm_tables.specs.MainEvents.{main_step}
+use Rattle.rm_tables.specs.Opening.{main_by, main_of}
+use Rattle.rm_refinement.specs.History.{History, initial_history, live_state, abstract_state}
+use Rattle.rm_invariant.specs.Core.{PreservesCore}
+use Rattle.rm_invariant.specs.messages.Ranges.{KeepsLimits}
+use Rattle.rm_invariant.proofs.messages.FittingMoves.{opened_fits}
+use Rattle.rm_invariant.proofs.messages.Shapes.{book_of}
+use Rattle.rm_invariant.proofs.messages.MarkedOps.{opened_on_way}
+use Rattle.rm_invariant.specs.opening.Begun.{IsBegun, IsStored}
+use Rattle.rm_invariant.proofs.opening.Auxiliary.{opened_sides, opened_whole}
+use Rattle.rm_invariant.specs.bounds.InBounds.{AreRecords}
+use Rattle.rm_invariant.proofs.bounds.KeptOps.{handed_ranged, kept_ranged}
+use Rattle.rm_invariant.proofs.bounds.MainEvents.{epoch_ranged}
+use Rattle.rm_invariant.proofs.opening.Bounds.{begun_ranged}
+use Rattle.rm_invariant.proofs.resting.Names.{step_apart}
+use Rattle.rm_invariant.proofs.measure.MainEvents.{epoch_start_lighter}
+use Rattle.rm_invariant.proofs.measure.KeptOps.{epoch_lighter}
+use Rattle.rm_invariant.specs.Phases.{Beginning, SimulatesInternal, Saving, Starting, running, saving}
+use Rattle.rm_invariant.specs.Invariant.{NoneOpens, LifeInvariant, is_epoch_start}
+use Rattle.rm_invariant.proofs.Staying.{none_more}
+
+-- the tables of a life that stands tell it
+pub told_standing : (h : History) (t : Tables) → t.alive ≡ true → abstract_state h t ≡ live_state h t
+told_standing h t a = rw a refl
+
+-- a life that is beginning
+module _ (h : History) (t : Tables) (b : Beginning h t) where
+  pub stands : t.alive ≡ true
+  stands = ap (λ (x : Tables). x.alive) b.begun.tables
+
+  pub closed : t.is_open ≡ false
+  closed = ap (λ (x : Tables). x.is_open) b.begun.tables
+
+  pub unblown : t.blown ≡ false
+  unblown = ap (λ (x : Tables). x.blown) b.begun.tables
+
+  pub no_sched : t.sched ≡ []
+  no_sched = ap (λ (x : Tables). x.sched) b.begun.tables
+
+  pub recorded : records h.kept ≡ t.tree
+  recorded = b.begun.recorded
+
+  -- it is still, after a change of what waits and what awaits
+  still : (next : Tables) → next ≡ record t { main = next.main; awaiting = next.awaiting; handed = next.handed } → IsBegun h next
+  still next is =
+      subst (IsBegun h) (sym is)
+      (record {
+        new = b.begun.new;
+        recorded = b.begun.recorded;
+        stored = b.begun.stored;
+        tables = ap (λ (x : Tables). record x { main = next.main; awaiting = next.awaiting; handed = next.handed }) b.begun.tables;
+      })
+
+-- A LIFE BEGINS
+
+-- a life begins over records that a store may hold, under a stamp that is above the recorded one
+pub begin_starts : (t : Tables) (tree : Records) (stamp : ℕ) (kept_ops : List Op) → records kept_ops ≡ tree → IsStored tree → AreRecords tree.apps → KeepsLimits t.settings → tree.next_epoch < 2 ^ 24 → tree.stamp < stamp → stamp < 2 ^ 63
+    → Starting (initial_history kept_ops) (begun tree stamp t)
+begin_starts t tree stamp kept_ops is stored few limits epoch rises fits =
+    record {
+      begins = record {
+        begun = record { new = refl; recorded = is; stored = stored; tables = refl };
+        limits = limits;
+        ranged = begun_ranged tree stamp t few epoch;
+        rises = rises;
+        fits = fits;
+      };
+      main = refl;
+      awaiting = refl;
+      handed = refl;
+    }
+
+-- its first event: its Epoch is issued
+pub start_leads : (h : History) (t : Tables) (rest : List MainEvent) → Starting h t → t.main ≡ mains.EpochStart ∷ rest
+    → SimulatesInternal h t (main_worked (main_step mains.EpochStart t)).0 (main_worked (main_step mains.EpochStart t)).1
+start_leads h t rest s front =
+    let b = s.begins in
+    let alive = stands h t b in
+    let nothing : drop 1 t.main ≡ [] = rw s.main refl in
+    let rises = b.rises in
+    let fits = b.fits in
+    record {
+      leads = record {
+        history = h;
+        lawful = rw alive (record { closed = closed h t b; once = rw s.awaiting refl; follows = refl; of_life = refl });
+        same = rw alive refl;
+        recorded = recorded h t b;
+        phase =
+            saving (record {
+              begins = record {
+                begun = still h t b (main_worked (main_step mains.EpochStart t)).1 refl;
+                limits = b.limits;
+                ranged = epoch_ranged t b.ranged (omega (arith, rises), omega (arith, fits));
+                rises = rises;
+                fits = fits;
+              };
+              main = nothing;
+              awaiting = rw s.awaiting refl;
+            });
+        settings = refl;
+        alloc = refl;
+      };
+      decreases = epoch_start_lighter t rest front;
+      stood = alive;
+      stands = alive;
+      blown = refl;
+      served = refl;
+    }
+
+-- THE EPOCH IS HANDED AND KEPT
+
+pub hand_saving : (h : History) (t : Tables) → Saving h t → Saving h (handed_out t)
+hand_saving h t s =
+    record {
+      begins = record { begun = still h t s.begins (handed_out t) refl; limits = s.begins.limits; ranged = handed_ranged t s.begins.ranged; rises = s.begins.rises; fits = s.begins.fits };
+      main = s.main;
+      awaiting = s.awaiting;
+    }
+
+-- what a life opens with begins nothing
+opening_none : (apps : List AppRecord) → list_any is_epoch_start (flat_map main_of apps) ≡ false
+opening_none [] = refl
+opening_none (app ∷ more) = none_more is_epoch_start (main_of app) (flat_map main_of more) (by app.ending (last_attempt app.attempts)) (opening_none more)
+  where
+    ended : (last : AttemptRecord) (b : Bool) → list_any is_epoch_start (if b then mains.AttemptDone (record { app = app.id; number = last.id.number }) ∷ [] else []) ≡ false
+    ended last true = refl
+    ended last false = refl
+
+    by : (end : Option (How × List ℕ)) (last : Option AttemptRecord) → list_any is_epoch_start (main_by end last app.id) ≡ false
+    by (Some end) last = refl
+    by None None = refl
+    by None (Some last) = ended last (is_some last.ending)
+
+module _ (h : History) (t : Tables) (s : Saving h t) (next stamp : ℕ) (rest : List Op) (front : t.awaiting ≡ ops.Epoch next stamp ∷ rest) (handed : t.handed ≡ true) where
+  alone : rest ≡ []
+  alone = let e = sym s.awaiting ∙ front in cc
+
+  only : t.awaiting ≡ ops.Epoch next stamp ∷ []
+  only = front ∙ ap (λ (l : List Op). ops.Epoch next stamp ∷ l) alone
+
+  abbrev opened : Tables
+  opened = kept (ops.Epoch next stamp) t
+
+  open_whole : PreservesCore t.settings h t (KeptEntry (ops.Epoch next stamp), opened)
+  open_whole = opened_whole h t s.begins.begun next stamp only s.main handed
+
+  begins_nothing : NoneOpens opened
+  begins_nothing = record { main = none_more is_epoch_start (flat_map main_of t.tree.apps) (mains.Retire ∷ []) (opening_none t.tree.apps) refl; awaiting = rw only refl }
+
+  no_nodes : t.nodes ≡ []
+  no_nodes = ap (λ (x : Tables). x.nodes) s.begins.begun.tables
+
+  no_book : open_whole.next.book ≡ []
+  no_book =
+      let none : h.book ≡ [] = ap (λ (x : History). x.book) s.begins.begun.new in
+      let same : Some h.book ≡ Some open_whole.next.book = ap book_of open_whole.step.same in
+      let book : h.book ≡ open_whole.next.book = cc in
+      sym book ∙ none
+
+  opened_running : LifeInvariant open_whole.next opened
+  opened_running =
+      let b = s.begins in
+      let w = open_whole in
+      record {
+        alive = stands h t b;
+        calm = λ blown. refl;
+        handed = λ is. cc;
+        limits = b.limits;
+        whole = w.whole;
+        sides = opened_sides h t b.begun next stamp only s.main handed w;
+        fits = opened_fits opened b.begun.stored.sound (ap (λ (x : Tables). x.rows) b.begun.tables);
+        ranged = kept_ranged t b.ranged (ops.Epoch next stamp) rest front;
+        reported = let none = no_nodes in λ name row found. cc;
+        on_way = opened_on_way w.next opened no_book;
+        apart = step_apart t.settings h t _ w.next _ w.step (rw b.begun.new tt);
+        begun = begins_nothing;
+      }
+
+  -- the life's Epoch is kept: it is open
+  pub open_leads : SimulatesInternal h t (KeptEntry (ops.Epoch next stamp)) opened
+  open_leads =
+      let b = s.begins in
+      let w = open_whole in
+      let alive = stands h t b in
+      let is = told_standing h t alive in
+      record {
+        leads = record {
+          history = w.next;
+          lawful = subst (λ (m : Manager). Allowed t.settings m (KeptEntry (ops.Epoch next stamp))) (sym is) w.step.lawful;
+          same = ap (λ (m : Manager). after m (KeptEntry (ops.Epoch next stamp))) is ∙ w.step.same ∙ sym (told_standing w.next opened alive);
+          recorded = w.step.keeps.recorded;
+          phase = running opened_running;
+          settings = refl;
+          alloc = refl;
+        };
+        decreases = epoch_lighter t next stamp rest front alive (closed h t b) s.main (no_sched h t b);
+        stood = alive;
+        stands = alive;
+        blown = refl;
+        served = refl;
+      }

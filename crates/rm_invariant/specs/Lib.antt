@@ -1,0 +1,14 @@
+pub mod apps
+pub mod nodes
+pub mod masters
+pub mod events
+pub mod messages
+pub mod auxiliary
+pub mod opening
+pub mod bounds
+pub mod measure
+pub mod Step
+pub mod Core
+pub mod Invariant
+pub mod Preserves
+pub mod Phases

@@ -1,0 +1,3 @@
+-- What else holds of an open life.
+pub mod Invariant
+pub mod Parts

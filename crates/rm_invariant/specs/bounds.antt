@@ -1,0 +1,2 @@
+-- What is in its range in a life.
+pub mod InBounds

@@ -1,0 +1,5 @@
+-- Messages: what they stand on.
+pub mod Ranges
+pub mod Clients
+pub mod Fits
+pub mod Released

@@ -1,0 +1,2 @@
+-- What holds where a life begins.
+pub mod Begun

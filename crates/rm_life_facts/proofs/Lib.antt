@@ -1,9 +1,0 @@
-pub mod Rows
-pub mod Parts
-pub mod Starting
-pub mod MainSides
-pub mod SchedSides
-pub mod KeptSides
-pub mod MessageSides
-pub mod Facts
-pub mod OpeningSides

@@ -1,4 +1,0 @@
-pub mod Sound
-pub mod Marks
-pub mod Says
-pub mod Joined

@@ -1,0 +1,4 @@
+pub mod Agreement
+pub mod Services
+pub mod History
+pub mod Clients

@@ -1,0 +1,59 @@
+-- What the tables show of the judge's scene, as far as masters, nodes and the clock are answered from them: who makes a move shows that they
+-- do. This project's own.
+use Rattle.std.specs.Prelude.{◌≡◌, Bool, true, false, ◌&&◌, ◌==◌, Option, None, Some}
+use Rattle.rm_types.specs.declared.ids.AppId.{AppId}
+use Rattle.rm_types.specs.declared.ids.AttemptId.{AttemptId}
+use Rattle.rm_attempt.specs.declared.states.AttemptState.{AttemptState}
+use Rattle.rm_attempt.specs.declared.states.AttemptState.TheVariants as attempts
+use Rattle.rm_model.specs.Attempts.{is_live}
+use Rattle.rm_model.specs.Facts.{awaits, has_app}
+use Rattle.rm_model.specs.MasterReplies.{is_finished_op}
+use Rattle.rm_model.specs.State.{Scene}
+use Rattle.rm_tables.specs.declared.rows.AppRow.{AppRow}
+use Rattle.rm_tables.specs.declared.rows.Current.{Current}
+use Rattle.rm_tables.specs.declared.tables.Tables.{Tables}
+use Rattle.rm_tables.specs.MainEvents.{is_alive}
+use Rattle.rm_tables.specs.Rows.{row_of}
+use Rattle.rm_refinement.specs.Agreement.{ClosingsAgree, RowAgrees, SameAsks, SameNodes, SameRows}
+
+-- the end of an attempt awaits
+abbrev pub is_ending : AttemptState → Bool
+is_ending attempts.Scheduled = false
+is_ending attempts.Granted = false
+is_ending attempts.Saving = false
+is_ending attempts.Live = false
+is_ending attempts.Registered = false
+is_ending attempts.Finishing = false
+is_ending attempts.Ending = true
+is_ending attempts.Ended = false
+is_ending attempts.Dropped = false
+
+-- an attempt is the current one of its application and lives; its end awaits, as FINISHED
+abbrev pub lives_with : AttemptId → Option Current → Bool
+lives_with attempt None = false
+lives_with attempt (Some current) = (current.number == attempt.number) && is_alive current.state
+
+abbrev pub lives_by : AttemptId → Option AppRow → Bool
+lives_by attempt None = false
+lives_by attempt (Some row) = lives_with attempt row.current
+
+abbrev pub finishes_with : AttemptId → Option Current → Bool
+finishes_with attempt None = false
+finishes_with attempt (Some current) = (current.number == attempt.number) && (is_ending current.state && current.finished)
+
+abbrev pub finishes_by : AttemptId → Option AppRow → Bool
+finishes_by attempt None = false
+finishes_by attempt (Some row) = finishes_with attempt row.current
+
+-- the tables show the scene: what is recorded, the life's epoch, the containers, the nodes, the asks, the endings that are to be told, and
+-- each attempt
+pub record RefinesLife (m : Scene) (t : Tables) : Type 0 where
+  pub records : m.records ≡ t.tree
+  pub epoch : m.life.epoch ≡ t.epoch
+  pub rows : SameRows t.book.rows m.life.book
+  pub nodes : SameNodes t.book t.nodes m.life.nodes
+  pub asks : SameAsks t.asks m.life.asks
+  pub closings : (id : AppId) → ClosingsAgree m.life.endings.outbox id (has_app m.life.apps.retired id) (row_of t.rows id)
+  pub masters : (attempt : AttemptId) → RowAgrees m.life.masters.registered m.life.granted (has_app m.life.apps.retired attempt.app) attempt (row_of t.rows attempt.app)
+  pub live : (attempt : AttemptId) → is_live m attempt ≡ lives_by attempt (row_of t.rows attempt.app)
+  pub finishes : (attempt : AttemptId) → awaits m (is_finished_op attempt) ≡ finishes_by attempt (row_of t.rows attempt.app)

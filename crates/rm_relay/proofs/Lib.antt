@@ -1,2 +1,0 @@
-mod Logged
-mod Knowing

@@ -1,6 +1,0 @@
--- A note is an entry that any pass may add.
-use Rattle.rm_baton.proofs.Growing.{adds_one}
-use Rattle.rm_relay.proofs.held.Held.note.Goals as goal
-
-pub returns-clause-ok : goal.returns-clause-ok
-returns-clause-ok c = adds_one _ _ _ tt c.in_ok-push.ensures.ok

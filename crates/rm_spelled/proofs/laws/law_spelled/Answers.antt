@@ -1,5 +1,0 @@
-use Rattle.rm_spelled.proofs.Spelling.{spelled_lawful}
-use Rattle.rm_spelled.proofs.laws.law_spelled.Goals as goal
-
-pub returns : goal.returns
-returns c = λ opening k. spelled_lawful c.args.core.now.settings opening c.args.core.now.log (c.log.ensures.allowed opening k)
