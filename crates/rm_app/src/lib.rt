@@ -11,8 +11,6 @@
 
 mod laws;
 mod states;
-#[cfg(test)]
-mod tests;
 mod transitions;
 
 pub use laws::{

@@ -12,8 +12,6 @@
 
 mod laws;
 mod states;
-#[cfg(test)]
-mod tests;
 mod transitions;
 
 pub use laws::{

@@ -16,5 +16,3 @@ mod words;
 
 pub use serving::serve;
 
-#[cfg(test)]
-mod tests;

@@ -14,8 +14,6 @@ mod laws;
 mod queues;
 mod readings;
 mod rules;
-#[cfg(test)]
-mod tests;
 
 pub use clusters::{ClusterError, read_cluster};
 pub use laws::one_answer;

@@ -16,6 +16,4 @@ mod feeds;
 mod moves;
 
 pub use desk::Desk;
-
-#[cfg(test)]
-mod tests;
+pub use feed::Feed;

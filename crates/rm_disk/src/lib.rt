@@ -16,10 +16,6 @@ mod file;
 mod fuse;
 mod held;
 mod memory;
-#[cfg(test)]
-mod recorded;
-#[cfg(test)]
-mod tests;
 mod window;
 
 pub use calls::Call;

@@ -12,8 +12,6 @@ mod decoding;
 mod encoding;
 mod fields;
 mod laws;
-#[cfg(test)]
-mod tests;
 
 pub use decoding::{FrameError, decode};
 pub use encoding::Encoder;

@@ -13,8 +13,6 @@ mod numbers;
 mod parts;
 mod reading;
 mod steps;
-#[cfg(test)]
-mod tests;
 mod writing;
 
 pub use laws::texts_are_apart;

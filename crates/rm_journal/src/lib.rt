@@ -11,8 +11,6 @@
 mod fault;
 mod journal;
 mod region;
-#[cfg(test)]
-mod tests;
 
 pub use fault::JournalError;
 pub use journal::Journal;

@@ -8,7 +8,7 @@ use Rattle.rm_formats.specs.Device.{DeviceHolds}
 use Rattle.rm_plain.specs.Starts.{DiskStays}
 use Rattle.rm_plain.specs.Survives.{SurvivesAll, SurvivesNow}
 use Rattle.rm_store.specs.Store.{seen}
-use Rattle.rm_main.specs.declared.top.Ended.{Ended}
+use Rattle.rm_main.specs.declared.plain.Ended.{Ended}
 
 -- what a call made: what its disk held when it was opened, its log, and the disk before it and after it
 pub record Made (D : Type 0) : Type 0 where

@@ -13,7 +13,7 @@ ghost use Rattle.rm_main.specs.Ways.{IsOfRun};
 ghost use Rattle.rm_words.specs.Words.{Run, Workers as ByWorkers, asked, has_flags, mode_of, shows_moves, without_threads};
 
 use crate::inputs::{Files, Inputs, read_inputs};
-use crate::top::{Ended, nothing, top_plain};
+use crate::plain::{Ended, nothing, top_plain};
 use crate::writing::{Shown, outcome_of, write_shown};
 use rm_disk::{Disk, Fuse};
 use rm_outside::{Shelf, Sink};

@@ -18,5 +18,3 @@ mod serving;
 
 pub use serving::serve;
 
-#[cfg(test)]
-mod tests;

@@ -10,8 +10,6 @@
 
 mod laws;
 mod states;
-#[cfg(test)]
-mod tests;
 mod transitions;
 
 pub use laws::{

@@ -37,6 +37,13 @@ impl<R> FileShelf<R> {
 }
 
 impl<R> FileShelf<R> {
+    /// How many calls failed.
+    pub fn faults(&self) -> u64
+        ensures { result ≡ self.now }
+    {
+        self.faults
+    }
+
     /// How many reads were answered with bytes, for who wants to tell which one wasn't. Contracts don't see it.
     pub fn answered(&self) -> u64 {
         self.answered
@@ -84,39 +91,4 @@ fn read_part<R: Files + AllocGlobal>(rt: &R, name: &str) -> io::Result<Vec<u8>>
     // `take` keeps to this already, but no clause of a reader of unknown bytes says so.
     bytes.truncate(MOST_READ);
     Ok(bytes)
-}
-
-#[cfg(test)]
-mod tests {
-    use super::*;
-    use std::test::Fail;
-
-    #[test]
-    fn a_shelf_of_files_reads_those_named_and_counts_a_missing_one(
-        rt: HostRuntime,
-    ) -> Result<(), Fail> {
-        fs::write(&rt, "input", "begin\n")?;
-        let mut shelf = FileShelf::new(rt);
-        assert_eq!(rt; shelf.read("input")?.as_slice(), b"begin\n".as_slice());
-        fs::write(&rt, "other", "other\n")?;
-        assert_eq!(rt; shelf.read("other")?.as_slice(), b"other\n".as_slice());
-        assert_eq!(rt; shelf.read("input")?.as_slice(), b"begin\n".as_slice());
-        fs::remove_file(&rt, "other")?;
-        assert_eq!(rt; shelf.faults, 0);
-        assert_eq!(rt; shelf.answered(), 3);
-        assert!(rt; matches!(shelf.read("output"), Err(ShelfError::Failed)));
-        assert_eq!(rt; shelf.faults, 1);
-        Ok(())
-    }
-
-    #[test]
-    fn a_file_too_long_is_read_up_to_one_byte_past_the_longest(
-        rt: HostRuntime,
-    ) -> Result<(), Fail> {
-        let file = fs::create(&rt, "input")?;
-        file.set_len(MOST_READ as u64 + 1)?;
-        let mut shelf = FileShelf::new(rt);
-        assert_eq!(rt; shelf.read("input")?.len(), MOST_READ);
-        Ok(())
-    }
 }

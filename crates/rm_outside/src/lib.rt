@@ -14,8 +14,6 @@ mod files;
 mod outputs;
 mod shelves;
 mod sinks;
-#[cfg(test)]
-mod tests;
 mod writes;
 
 pub use files::FileShelf;

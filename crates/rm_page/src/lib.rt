@@ -15,8 +15,6 @@ mod messages;
 mod operations;
 mod pages;
 mod replies;
-#[cfg(test)]
-mod tests;
 mod writing;
 
 pub use laws::{lines_tell_entries, texts_are_apart};

@@ -13,8 +13,6 @@ mod acls;
 mod nodes;
 mod paths;
 mod places;
-#[cfg(test)]
-mod tests;
 mod trees;
 
 pub use acls::Acl;

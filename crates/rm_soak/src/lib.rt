@@ -16,8 +16,6 @@ mod lines;
 mod messages;
 mod scripts;
 mod settings;
-#[cfg(test)]
-mod tests;
 
 pub use limits::MOST_SOAKED;
 pub use lines::soak_page;

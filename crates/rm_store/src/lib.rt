@@ -12,8 +12,6 @@ mod fault;
 mod laws;
 mod reading;
 mod store;
-#[cfg(test)]
-mod tests;
 mod writing;
 
 pub use fault::StoreError;

@@ -24,8 +24,6 @@ mod recorded;
 mod rows;
 mod tables;
 mod talks;
-#[cfg(test)]
-mod tests;
 
 pub use changes::{AttemptChange, RowChange};
 pub use events::{MainEvent, Refused, SchedEvent};

@@ -17,5 +17,3 @@ mod serving;
 
 pub use serving::{serve, serve_clock};
 
-#[cfg(test)]
-mod tests;

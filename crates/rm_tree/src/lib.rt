@@ -11,8 +11,6 @@
 mod apps;
 mod attempts;
 mod recording;
-#[cfg(test)]
-mod tests;
 mod tree;
 
 pub use tree::{Tree, TreeError};

@@ -25,8 +25,6 @@ mod replies;
 mod resources;
 mod scripts;
 mod settings;
-#[cfg(test)]
-mod tests;
 mod texts;
 
 pub use boxed::Boxed;

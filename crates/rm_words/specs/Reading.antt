@@ -16,7 +16,7 @@ named = record (new_rule (codes "names")) { action = Some Append }
 
 -- a command whose words are its arguments alone, and which has no flag for help
 abbrev pub bare : App
-bare = record { top = record (new_shape (codes "rm_main")) { no_binary_name = true; disable_help_flag = true }; subs = [] }
+bare = record { top = record (new_shape (codes "yewendro")) { no_binary_name = true; disable_help_flag = true }; subs = [] }
 
 -- the command that the words are read by: the two flags, and any number of names
 abbrev pub program : App

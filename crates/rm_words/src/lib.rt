@@ -13,8 +13,6 @@ mod command;
 mod flags;
 mod modes;
 mod reading;
-#[cfg(test)]
-mod tests;
 
 pub use command::{CommandLine, command_line};
 pub use flags::name_at;

@@ -19,7 +19,7 @@ fn program<'a>(alloc: Global) -> Result<Command<'a>, AllocError>
         .long("moves")
         .action(ArgAction::SetTrue);
     let names = Arg::new(alloc, "names").action(ArgAction::Append);
-    Command::new(alloc, "rm_main")
+    Command::new(alloc, "yewendro")
         .no_binary_name(true)
         .disable_help_flag(true)
         .arg(in_file)?

@@ -1,0 +1,48 @@
+//! What the tests share: ids, a size, texts, and tables that know nothing yet.
+ghost use Rattle.std.specs.Prelude.{◌≡◌, []};
+
+use rm_tables::Tables;
+use rm_types::{AppId, AttemptId, Items, Resource, Settings, Text};
+use std::alloc::Global;
+use std::process::Abort;
+
+pub const APP: AppId = AppId {
+    stamp: 5,
+    number: 1,
+};
+
+pub const ATTEMPT: AttemptId = AttemptId {
+    app: APP,
+    number: 1,
+};
+
+pub const SIZE: Resource = Resource {
+    memory_mb: 1024,
+    vcores: 1,
+};
+
+pub fn wants<R: Abort>(rt: &R, is_so: bool) {
+    assert!(rt; is_so);
+}
+
+pub fn text<R: Abort>(rt: &R, alloc: Global, words: &str) -> Text {
+    Text::from_bytes(alloc, words.as_bytes()).expect(rt, "memory")
+}
+
+/// Tables that know nothing yet.
+pub fn tables(alloc: Global) -> Tables
+    ensures { result.rows ≡ [] }
+{
+    let settings = Settings {
+        max_attempts: 2,
+        max_completed: 1,
+        max_apps: 10,
+        wait_ms: 0,
+        acl_enable: false,
+        admin_acl: Text::empty(alloc),
+        greatest: SIZE,
+        groups: Items::new(alloc),
+        queues: Items::new(alloc),
+    };
+    Tables::new(alloc, settings)
+}

@@ -1,0 +1,168 @@
+//! What no clause says: that a master can be answered, by the words that the rules give.
+ghost use Rattle.std.specs.Prelude.{◌≡◌, []};
+
+use crate::helpers::{ATTEMPT, SIZE, tables, text, wants};
+use rm_app::AppState;
+use rm_attempt::AttemptState;
+use rm_book::Book;
+use rm_master::serve;
+use rm_tables::{AppRow, Current, Tables};
+use rm_types::{
+    Ask, Cause, Closing, ContainerId, ContainerState, Items, MasterAsk, Reply, Resource,
+};
+use std::alloc::Global;
+use std::process::Abort;
+
+/// A container that was granted.
+const GRANTED: ContainerId = ContainerId {
+    attempt: ATTEMPT,
+    epoch: 0,
+    seq: 2,
+};
+
+/// A container that ended.
+const ENDED: Closing = Closing {
+    id: ContainerId {
+        attempt: ATTEMPT,
+        epoch: 0,
+        seq: 3,
+    },
+    cause: Cause::Done,
+};
+
+/// More than a container may have.
+const LARGE: Resource = Resource {
+    memory_mb: 2048,
+    vcores: 1,
+};
+
+/// The row of an application whose first attempt lives, and is to be told of an ending.
+fn row<R: Abort>(rt: &R, alloc: Global) -> AppRow {
+    let current = Current {
+        number: 1,
+        state: AttemptState::Live,
+        master: None,
+        registered: false,
+        lost: false,
+        granted: 3,
+        finished: false,
+    };
+    let mut closings = Items::new(alloc);
+    closings.push(ENDED).expect(rt, "memory");
+    AppRow {
+        state: AppState::Accepted,
+        wish: false,
+        pending: None,
+        current: Some(current),
+        first: 0,
+        dialogue: None,
+        closings,
+    }
+}
+
+/// The book with the container that was granted.
+fn book<R: Abort>(rt: &R, alloc: Global) -> Book {
+    let node = text(rt, alloc, "n1:1");
+    let mut book = Book::new(alloc);
+    book.set_node(&node, SIZE).expect(rt, "memory");
+    assert!(rt; book.free_of(&node).is_some());
+    let added = book.add(GRANTED, &node, SIZE, ContainerState::Granted);
+    wants(rt, added.is_ok());
+    book
+}
+
+/// The row enters the tables, and they have the book.
+fn fill<R: Abort>(rt: &R, tables: &mut Tables)
+    requires { tables.old.rows ≡ [] }
+{
+    let row = row(rt, tables.alloc);
+    tables.rows.add(ATTEMPT.app, row).expect(rt, "memory");
+    tables.book = book(rt, tables.alloc);
+}
+
+fn register<R: Abort>(rt: &R, tables: &mut Tables) -> Reply {
+    serve(tables, ATTEMPT, &MasterAsk::Register).expect(rt, "memory")
+}
+
+fn finish<R: Abort>(rt: &R, tables: &mut Tables) -> Reply {
+    let text = text(rt, tables.alloc, "done");
+    serve(tables, ATTEMPT, &MasterAsk::Finish { text }).expect(rt, "memory")
+}
+
+/// The first allocation: the master asks for two containers of a size, and releases one that ended.
+fn allocate<R: Abort>(rt: &R, tables: &mut Tables, size: Resource) -> Reply {
+    let mut asks = Items::new(tables.alloc);
+    let ask = Ask {
+        priority: 1,
+        count: 2,
+        size,
+    };
+    asks.push(ask).expect(rt, "memory");
+    let mut release = Items::new(tables.alloc);
+    release.push(ENDED.id).expect(rt, "memory");
+    let ask = MasterAsk::Allocate {
+        id: 0,
+        asks,
+        release,
+    };
+    serve(tables, ATTEMPT, &ask).expect(rt, "memory")
+}
+
+#[test]
+fn a_master_registers_once(rt: HostRuntime) {
+    let mut tables = tables(rt.alloc());
+    fill(&rt, &mut tables);
+    wants(
+        &rt,
+        matches!(register(&rt, &mut tables), Reply::MasterRegistered),
+    );
+    wants(&rt, matches!(register(&rt, &mut tables), Reply::Already));
+}
+
+/// The reply to the first allocation tells of the grant and of the ending.
+fn is_told(reply: &Reply) -> bool {
+    match reply {
+        Reply::Allocated {
+            id: 1,
+            grants,
+            ended,
+        } => {
+            ended.as_slice() == [ENDED].as_slice()
+                && grants.len() == 1
+                && grants.as_slice().iter().all(|grant| grant.id == GRANTED)
+        }
+        _ => false,
+    }
+}
+
+#[test]
+fn a_master_is_told_of_grants_and_endings(rt: HostRuntime) {
+    let mut tables = tables(rt.alloc());
+    fill(&rt, &mut tables);
+    register(&rt, &mut tables);
+    wants(&rt, is_told(&allocate(&rt, &mut tables, SIZE)));
+    wants(&rt, is_told(&allocate(&rt, &mut tables, SIZE)));
+    wants(&rt, tables.sched.len() == 1);
+}
+
+#[test]
+fn a_master_may_not_ask_for_too_much(rt: HostRuntime) {
+    let mut tables = tables(rt.alloc());
+    fill(&rt, &mut tables);
+    register(&rt, &mut tables);
+    wants(
+        &rt,
+        matches!(allocate(&rt, &mut tables, LARGE), Reply::TooLarge),
+    );
+    wants(&rt, tables.asks.of(ATTEMPT).is_none());
+}
+
+#[test]
+fn a_master_finishes(rt: HostRuntime) {
+    let mut tables = tables(rt.alloc());
+    fill(&rt, &mut tables);
+    register(&rt, &mut tables);
+    wants(&rt, matches!(finish(&rt, &mut tables), Reply::Finishing));
+    wants(&rt, matches!(finish(&rt, &mut tables), Reply::Finishing));
+    wants(&rt, tables.main.len() == 1);
+}

@@ -1,0 +1,266 @@
+//! What no clause says: what disks answer to calls one after another, and what a file holds afterwards.
+use crate::helpers::{disk_of, read, told, wants, wants_words, write};
+use crate::recorded::{Calls, Recorded};
+use rm_disk::{Disk, Fallen, FileDisk, Fuse, MemDisk, Window};
+use rm_types::Items;
+use std::alloc::Global;
+use std::fs;
+use std::fs::Files;
+use std::process::Abort;
+
+/// How many bytes a disk in a file has.
+const FILE_SIZE: u64 = 4_194_304;
+
+/// A disk of four bytes reads these.
+fn reads<R: Abort, D: Disk>(rt: &R, disk: &mut D, wanted: &[u8; 4]) {
+    assert!(rt; disk.size() == 4);
+    let mut bytes = [0; 4];
+    read(rt, disk, 0, &mut bytes);
+    assert!(rt; bytes == *wanted);
+}
+
+/// A new disk of four bytes, whose calls with these numbers fail.
+fn new_disk<R: Abort>(rt: &R, alloc: Global, failing: &[u64]) -> MemDisk {
+    let failing = Items::from_vec(failing.to_vec(alloc).expect(rt, "memory"));
+    MemDisk::new(alloc, 4, failing).expect(rt, "memory")
+}
+
+fn sends<T: Send>() {}
+
+#[test]
+fn a_disk_under_a_fuse_may_change_threads() {
+    sends::<Fuse<MemDisk>>();
+    sends::<Fuse<Window<FileDisk<'static, HostRuntime>>>>();
+}
+
+#[test]
+fn a_new_disk_reads_zeros_and_fails_by_number(rt: HostRuntime) {
+    let mut disk = new_disk(&rt, rt.alloc(), &[2, 4]);
+    reads(&rt, &mut disk, &[0, 0, 0, 0]);
+    wants_words(&rt, told(write(&rt, &mut disk, 1, &[7])), "disk fault");
+    wants_words(&rt, told(disk.sync()), "ok");
+    wants_words(&rt, told(disk.sync()), "disk fault");
+    reads(&rt, &mut disk, &[0, 0, 0, 0]);
+}
+
+/// The image that a disk falls to, and what it reads then.
+const IMAGES: [(u32, [u8; 4]); 3] = [(0, [1, 2, 3, 4]), (1, [1, 9, 8, 4]), (2, [1, 79, 80, 4])];
+
+/// A disk of four bytes, of which the last was written and synced, and those between written since.
+fn written_disk<R: Abort>(rt: &R, alloc: Global) -> MemDisk {
+    let bytes = [1, 2, 3, 0].to_vec(alloc).expect(rt, "memory");
+    let mut disk = disk_of(rt, alloc, bytes, &[]);
+    wants(rt, disk.size() == 4);
+    wants_words(rt, told(write(rt, &mut disk, 3, &[4])), "ok");
+    wants_words(rt, told(disk.sync()), "ok");
+    wants(rt, disk.size() == 4);
+    wants_words(rt, told(write(rt, &mut disk, 1, &[9, 8])), "ok");
+    disk
+}
+
+#[test]
+fn a_fall_takes_the_image_that_is_named(rt: HostRuntime) {
+    for (image, wanted) in IMAGES.as_slice() {
+        let mut disk = written_disk(&rt, rt.alloc());
+        disk.fall(*image);
+        reads(&rt, &mut disk, wanted);
+    }
+}
+
+/// The falls of a disk under a fuse.
+const FALLS: [Fallen; 2] = [
+    Fallen {
+        calls: 2,
+        image: 3,
+        blown: true,
+    },
+    Fallen {
+        calls: 9,
+        image: 1,
+        blown: false,
+    },
+];
+
+/// Arms a fuse with so many calls.
+fn arm<R: Abort>(rt: &R, fuse: &mut Fuse<MemDisk>, passes: u32) {
+    fuse.arm(passes).expect(rt, "memory");
+}
+
+/// A fuse that is armed with two calls lets a write and a sync through, and no other write.
+fn blows<R: Abort>(rt: &R, fuse: &mut Fuse<MemDisk>) {
+    arm(rt, fuse, 2);
+    wants(rt, fuse.size() == 4);
+    wants_words(rt, told(write(rt, fuse, 0, &[5])), "ok");
+    wants_words(rt, told(fuse.sync()), "ok");
+    wants(rt, !fuse.blown());
+    wants(rt, fuse.size() == 4);
+    wants_words(rt, told(write(rt, fuse, 0, &[6])), "disk fault");
+    wants(rt, fuse.blown());
+    wants(rt, fuse.passed() == 2);
+    reads(rt, fuse, &[5, 0, 0, 0]);
+}
+
+/// A fuse that is blown keeps the falls of its disk, and those that come unarmed by number.
+fn falls<R: Abort>(rt: &R, fuse: &mut Fuse<MemDisk>) {
+    fuse.fall(3);
+    wants(rt, !fuse.blown());
+    arm(rt, fuse, 9);
+    fuse.fall(1);
+    fuse.fall(1);
+    wants(rt, fuse.falls().as_slice() == FALLS.as_slice());
+    wants(rt, fuse.unarmed_falls() == 1);
+}
+
+#[test]
+fn a_fuse_lets_as_many_through_as_it_is_armed_with(rt: HostRuntime) {
+    let mut fuse = Fuse::new(rt.alloc(), new_disk(&rt, rt.alloc(), &[]));
+    blows(&rt, &mut fuse);
+    falls(&rt, &mut fuse);
+    arm(&rt, &mut fuse, 0);
+    wants_words(&rt, told(fuse.sync()), "disk fault");
+    fuse.disarm();
+    wants_words(&rt, told(fuse.sync()), "ok");
+    reads(&rt, &mut fuse.inner(), &[5, 0, 0, 0]);
+}
+
+/// Writes bytes at the end of a disk in a file, where nothing was written before, and lets them last.
+fn writes_its_end<R: Abort, D: Disk>(rt: &R, disk: &mut D) {
+    wants(rt, disk.size() == FILE_SIZE);
+    let mut bytes = [1; 3];
+    read(rt, disk, 4_194_301, &mut bytes);
+    wants(rt, bytes == [0, 0, 0]);
+    wants_words(rt, told(write(rt, disk, 4_194_301, &[7, 8, 9])), "ok");
+    wants_words(rt, told(disk.sync()), "ok");
+    disk.fall(0);
+}
+
+/// Why a disk in a file can't be used, or nothing where it can.
+fn refusal<R: Abort>(rt: &R, files: HostRuntime, name: &str) -> String {
+    let mut disk = FileDisk::new(&files, name);
+    let _ = disk.sync();
+    match disk.last_fault() {
+        Some(fault) => format!(in files.alloc(); "{fault}").expect(rt, "memory"),
+        None => String::new(files.alloc()),
+    }
+}
+
+/// Writes to a disk in a file and closes it; the answer is why it couldn't be opened a second time meanwhile.
+fn write_and_close<R: Abort>(rt: &R, files: HostRuntime, name: &str) -> String {
+    let mut disk = FileDisk::new(&files, name);
+    writes_its_end(rt, &mut disk);
+    refusal(rt, files, name)
+}
+
+/// The bytes of a file.
+fn file_bytes<R: Abort>(rt: &R, files: HostRuntime, name: &str) -> Vec<u8> {
+    fs::read(&files, name).expect(rt, "the file is read")
+}
+
+fn write_file<R: Abort + Files>(rt: &R, name: &str, words: &str) {
+    fs::write(rt, name, words).expect(rt, "the file is written");
+}
+
+fn remove_file<R: Abort + Files>(rt: &R, name: &str) {
+    fs::remove_file(rt, name).expect(rt, "the file is removed");
+}
+
+/// These are the bytes of a whole file, zeros but for the last.
+fn wants_whole<R: Abort>(rt: &R, whole: &[u8]) {
+    wants(rt, whole.len() == 4_194_304);
+    wants(
+        rt,
+        whole.iter().position(|byte| *byte != 0) == Some(4_194_301),
+    );
+    wants(rt, whole.ends_with(&[7, 8, 9]));
+}
+
+#[test]
+fn a_file_keeps_what_was_written(rt: HostRuntime) {
+    let name = "rm_disk_kept.store";
+    let _ = fs::remove_file(&rt, name);
+    // What a maker that was killed leaves.
+    write_file(&rt, "rm_disk_kept.store.new", "draft");
+    wants_words(
+        &rt,
+        write_and_close(&rt, rt, name).as_str(),
+        "the file is in use",
+    );
+    wants_whole(&rt, file_bytes(&rt, rt, name).as_slice());
+    wants(
+        &rt,
+        !fs::exists(&rt, "rm_disk_kept.store.new").expect(&rt, "the folder"),
+    );
+    write_file(&rt, name, "short");
+    wants_words(
+        &rt,
+        refusal(&rt, rt, name).as_str(),
+        "the file has 5 bytes, and a disk has 4194304",
+    );
+    wants(
+        &rt,
+        file_bytes(&rt, rt, name).as_slice() == b"short".as_slice(),
+    );
+    remove_file(&rt, name);
+}
+
+/// A disk in a file that isn't there is made whole, and is synced until that isn't interrupted.
+fn see_making<R: Abort, D: Disk + Drop>(rt: &R, mut disk: D, calls: &Calls) {
+    wants_words(rt, told(write(rt, &mut disk, 1, &[7])), "ok");
+    // All of its bytes were written and synced when it got its name, and its folder was synced after that.
+    wants(rt, calls.named_after.get() == (FILE_SIZE, 1));
+    wants(rt, calls.whole_syncs.get() == 2);
+    wants(rt, calls.syncs.get() == 0);
+    calls.interruptions.set(2);
+    wants_words(rt, told(disk.sync()), "ok");
+    wants(rt, calls.syncs.get() == 1);
+}
+
+#[test]
+fn a_file_is_made_whole_before_it_has_its_name(rt: HostRuntime) {
+    let name = "rm_disk_made.store";
+    let _ = fs::remove_file(&rt, name);
+    let calls = Calls::new();
+    let files = Recorded {
+        files: &rt,
+        calls: &calls,
+    };
+    see_making(&rt, FileDisk::new(&files, name), &calls);
+    remove_file(&rt, name);
+}
+
+/// A disk of a file's size reads this byte behind a place, and zeros around it.
+fn reads_after<R: Abort, D: Disk>(rt: &R, disk: &mut D, at: u64, wanted: u8) {
+    wants(rt, disk.size() == FILE_SIZE);
+    let mut bytes = [1; 4];
+    read(rt, disk, at, &mut bytes);
+    wants(rt, bytes == [0, wanted, 0, 0]);
+}
+
+/// Where four bytes are read, and how many calls of the system there were then.
+const READS: [(u64, u32); 4] = [(0, 1), (65_532, 1), (65_533, 2), (65_540, 2)];
+
+/// A disk reads ahead, until a byte is written.
+fn see_reads<R: Abort, D: Disk + Drop>(rt: &R, mut disk: D, calls: &Calls) {
+    for (at, many) in READS.as_slice() {
+        reads_after(rt, &mut disk, *at, 0);
+        assert!(rt; calls.reads.get() == *many, "{at}");
+    }
+    wants(rt, disk.size() == FILE_SIZE);
+    wants_words(rt, told(write(rt, &mut disk, 65_541, &[7])), "ok");
+    reads_after(rt, &mut disk, 65_540, 7);
+    wants(rt, calls.reads.get() == 3);
+}
+
+#[test]
+fn a_window_reads_ahead_and_forgets_at_a_write(rt: HostRuntime) {
+    let name = "rm_disk_window.store";
+    let _ = fs::remove_file(&rt, name);
+    let calls = Calls::new();
+    let files = Recorded {
+        files: &rt,
+        calls: &calls,
+    };
+    let disk = Window::new(rt.alloc(), FileDisk::new(&files, name));
+    see_reads(&rt, disk, &calls);
+    remove_file(&rt, name);
+}

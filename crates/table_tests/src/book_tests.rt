@@ -1,0 +1,398 @@
+//! What no clause says: that calls succeed, and small cases by hand.
+ghost use Rattle.std.specs.Prelude.{◌≡◌, ◌++◌, ◌∷◌, []};
+ghost use Rattle.rm_book.specs.Books.{empty_book, set_node_in};
+
+use crate::helpers::{FIRST, SECOND, ask, size, text, wants, wants_words};
+use rm_book::{Asks, Book, BookError};
+use rm_types::{
+    Ask, AttemptId, ContainerId, ContainerState, Duplicate, Grant, Items, Resource, Text,
+};
+use std::alloc::Global;
+use std::process::Abort;
+
+fn container(attempt: AttemptId, seq: u64) -> ContainerId
+    ensures { result ≡ record { attempt = attempt; epoch = 0; seq = seq } }
+{
+    ContainerId {
+        attempt,
+        epoch: 0,
+        seq,
+    }
+}
+
+/// What comes of adding a granted container on a node.
+fn outcome(book: &mut Book, id: ContainerId, node: &Text, size: Resource) -> &'static str {
+    if book.free_of(node).is_none() {
+        return "no capability";
+    }
+    match book.add(id, node, size, ContainerState::Granted) {
+        Ok(()) => "ok",
+        Err(BookError::Held) => "held",
+        Err(BookError::NoRoom) => "no room",
+        Err(BookError::Memory) => "no memory",
+    }
+}
+
+/// A container is granted on a node, and this comes of it.
+fn grant<R: Abort>(
+    rt: &R,
+    book: &mut Book,
+    id: ContainerId,
+    node: &Text,
+    size: Resource,
+    wanted: &str,
+) {
+    wants_words(rt, outcome(book, id, node, size), wanted);
+}
+
+fn is_free(book: &Book, node: &Text, memory_mb: u32, vcores: u32) -> bool {
+    book.free_of(node) == Some(size(memory_mb, vcores))
+}
+
+/// These containers live on a node.
+fn live_on<R: Abort>(rt: &R, book: &Book, node: &Text, wanted: &[ContainerId]) {
+    let ids = book.of_node(node).expect(rt, "memory");
+    assert!(rt; ids.as_slice() == wanted);
+}
+
+/// These containers of an attempt live.
+fn live_of<R: Abort>(rt: &R, book: &Book, attempt: AttemptId, wanted: &[ContainerId]) {
+    let ids = book.of_attempt(attempt).expect(rt, "memory");
+    assert!(rt; ids.as_slice() == wanted);
+}
+
+/// A book of two nodes: containers of two attempts stand on one, and a container on the other.
+fn shared<R: Abort>(rt: &R, alloc: Global, one: &Text, other: &Text) -> Book {
+    let mut book = Book::new(alloc);
+    book.set_node(one, size(4096, 4)).expect(rt, "memory");
+    book.set_node(other, size(1024, 1)).expect(rt, "memory");
+    wants(rt, is_free(&book, one, 4096, 4));
+    grant(
+        rt,
+        &mut book,
+        container(SECOND, 1),
+        one,
+        size(1024, 1),
+        "ok",
+    );
+    grant(rt, &mut book, container(FIRST, 2), one, size(2048, 1), "ok");
+    grant(
+        rt,
+        &mut book,
+        container(FIRST, 1),
+        other,
+        size(1024, 1),
+        "ok",
+    );
+    book
+}
+
+const ON_ONE: [ContainerId; 2] = [
+    ContainerId {
+        attempt: FIRST,
+        epoch: 0,
+        seq: 2,
+    },
+    ContainerId {
+        attempt: SECOND,
+        epoch: 0,
+        seq: 1,
+    },
+];
+
+const OF_FIRST: [ContainerId; 2] = [
+    ContainerId {
+        attempt: FIRST,
+        epoch: 0,
+        seq: 1,
+    },
+    ContainerId {
+        attempt: FIRST,
+        epoch: 0,
+        seq: 2,
+    },
+];
+
+#[test]
+fn two_attempts_share_a_node(rt: HostRuntime) {
+    let one = text(&rt, rt.alloc(), b"n1:1");
+    let other = text(&rt, rt.alloc(), b"n2:1");
+    let mut book = shared(&rt, rt.alloc(), &one, &other);
+    wants(&rt, is_free(&book, &one, 1024, 2));
+    wants(&rt, is_free(&book, &other, 0, 0));
+    live_on(&rt, &book, &one, ON_ONE.as_slice());
+    live_of(&rt, &book, FIRST, OF_FIRST.as_slice());
+    grant(
+        &rt,
+        &mut book,
+        container(FIRST, 2),
+        &other,
+        size(9999, 9),
+        "held",
+    );
+    let third = container(SECOND, 2);
+    grant(&rt, &mut book, third, &one, size(1025, 1), "no room");
+    grant(&rt, &mut book, third, &one, size(1, 3), "no room");
+    grant(&rt, &mut book, third, &one, size(1024, 2), "ok");
+    wants(&rt, book.len() == 4);
+}
+
+fn is_told(book: &Book, id: ContainerId, told: u64) -> bool {
+    match book.get(id) {
+        Some(row) => row.told == told,
+        None => false,
+    }
+}
+
+fn is_in_state(book: &Book, id: ContainerId, state: ContainerState) -> bool {
+    match book.get(id) {
+        Some(row) => row.state == state,
+        None => false,
+    }
+}
+
+fn is_gone(book: &Book, id: ContainerId) -> bool {
+    book.get(id).is_none()
+}
+
+/// A container that stood on a node under this number ends.
+fn end<R: Abort>(rt: &R, book: &mut Book, id: ContainerId, node: &Text, told: u64) {
+    let row = book.end(id).expect(rt, "the row is there");
+    wants(rt, row.told == told);
+    wants(rt, row.node.is_same(node));
+}
+
+/// A book of one node with two containers of the first attempt, of which the second runs.
+fn two_of_one<R: Abort>(rt: &R, alloc: Global, node: &Text) -> Book {
+    let mut book = Book::new(alloc);
+    wants(rt, book.free_of(node).is_none());
+    book.set_node(node, size(2048, 2)).expect(rt, "memory");
+    grant(
+        rt,
+        &mut book,
+        container(FIRST, 1),
+        node,
+        size(1024, 1),
+        "ok",
+    );
+    grant(
+        rt,
+        &mut book,
+        container(FIRST, 2),
+        node,
+        size(1024, 1),
+        "ok",
+    );
+    wants(
+        rt,
+        book.set_state(container(FIRST, 2), ContainerState::Running),
+    );
+    wants(
+        rt,
+        !book.set_state(container(FIRST, 3), ContainerState::Running),
+    );
+    book
+}
+
+#[test]
+fn an_ended_container_gives_its_room_back_and_keeps_its_number(rt: HostRuntime) {
+    let node = text(&rt, rt.alloc(), b"n1:1");
+    let mut book = two_of_one(&rt, rt.alloc(), &node);
+    let first = container(FIRST, 1);
+    end(&rt, &mut book, first, &node, 1);
+    wants(&rt, book.end(first).is_none());
+    wants(&rt, is_free(&book, &node, 1024, 1));
+    grant(&rt, &mut book, first, &node, size(512, 1), "ok");
+    wants(&rt, is_told(&book, first, 3));
+    wants(
+        &rt,
+        is_in_state(&book, container(FIRST, 2), ContainerState::Running),
+    );
+    wants(&rt, is_gone(&book, container(FIRST, 3)));
+}
+
+/// A book of one node, where nothing stands.
+fn book_of<R: Abort>(rt: &R, alloc: Global, node: &Text, capability: Resource) -> Book
+    ensures { result ≡ set_node_in empty_book node.now capability }
+{
+    let mut book = Book::new(alloc);
+    book.set_node(node, capability).expect(rt, "memory");
+    book
+}
+
+/// One more grant on a node.
+fn push<R: Abort>(rt: &R, grants: &mut Items<Grant>, id: ContainerId, node: &Text, size: Resource)
+    ensures { grants.new ≡ grants.old ++ record { id = id; node = node.now; size = size } ∷ [] }
+{
+    let node = node.copy().expect(rt, "memory");
+    grants.push(Grant { id, node, size }).expect(rt, "memory");
+}
+
+/// A book of one node, in which the grants of a pass were entered at once.
+fn entered<R: Abort>(rt: &R, alloc: Global) -> Book {
+    let node = text(rt, alloc, b"n1:1");
+    let mut book = book_of(rt, alloc, &node, size(4096, 4));
+    let mut grants = Items::new(alloc);
+    push(rt, &mut grants, container(FIRST, 1), &node, size(1024, 1));
+    push(rt, &mut grants, container(SECOND, 1), &node, size(2048, 2));
+    book.add_grants(&node, &grants).expect(rt, "memory");
+    book
+}
+
+#[test]
+fn the_grants_of_a_pass_enter_and_end_at_once(rt: HostRuntime) {
+    let node = text(&rt, rt.alloc(), b"n1:1");
+    let mut book = entered(&rt, rt.alloc());
+    let second = container(SECOND, 1);
+    wants(&rt, is_told(&book, second, 2));
+    wants(&rt, is_in_state(&book, second, ContainerState::Granted));
+    wants(&rt, is_free(&book, &node, 1024, 1));
+    book.end_all(&[second, container(FIRST, 2)]);
+    wants(&rt, book.len() == 1);
+    wants(&rt, !is_gone(&book, container(FIRST, 1)));
+    wants(&rt, is_free(&book, &node, 3072, 3));
+}
+
+/// The priority, the number and the memory of each ask of the first attempt are these.
+fn wants_asks<R: Abort>(rt: &R, alloc: Global, asks: &Asks, wanted: &str) {
+    let mut found = String::new(alloc);
+    if let Some(lines) = asks.of(FIRST) {
+        for line in lines.as_slice() {
+            write!(
+                found,
+                "{} {} {}, ",
+                line.ask.priority, line.ask.count, line.ask.size.memory_mb
+            )
+            .expect(rt, "memory");
+        }
+    }
+    wants_words(rt, found.as_str(), wanted);
+}
+
+/// Sets an ask of an attempt, for containers of one core.
+fn set<R: Abort>(
+    rt: &R,
+    asks: &mut Asks,
+    attempt: AttemptId,
+    priority: u32,
+    count: u32,
+    memory_mb: u32,
+) {
+    let line = ask(priority, count, memory_mb);
+    asks.set(attempt, line).expect(rt, "memory");
+}
+
+fn is_asking(asks: &Asks, attempt: AttemptId) -> bool {
+    asks.of(attempt).is_some()
+}
+
+/// Asks of two attempts, of which two of the first have one priority.
+fn asked<R: Abort>(rt: &R, alloc: Global) -> Asks {
+    let mut asks = Asks::new(alloc);
+    wants(rt, !is_asking(&asks, FIRST));
+    set(rt, &mut asks, FIRST, 2, 1, 512);
+    set(rt, &mut asks, FIRST, 1, 3, 1024);
+    set(rt, &mut asks, SECOND, 1, 1, 1024);
+    set(rt, &mut asks, FIRST, 1, 2, 256);
+    asks
+}
+
+/// One of each of two sizes is granted to the first attempt, and no other of the last.
+fn are_granted<R: Abort>(rt: &R, asks: &mut Asks) {
+    wants(rt, asks.granted(FIRST, 1, size(256, 1)));
+    wants(rt, asks.granted(FIRST, 2, size(512, 1)));
+    wants(rt, !asks.granted(FIRST, 2, size(512, 1)));
+}
+
+#[test]
+fn asks_of_equal_priority_stand_in_the_order_of_asking(rt: HostRuntime) {
+    let alloc = rt.alloc();
+    let mut asks = asked(&rt, alloc);
+    wants_asks(&rt, alloc, &asks, "1 3 1024, 1 2 256, 2 1 512, ");
+    set(&rt, &mut asks, FIRST, 1, 5, 1024);
+    wants_asks(&rt, alloc, &asks, "1 5 1024, 1 2 256, 2 1 512, ");
+    set(&rt, &mut asks, FIRST, 1, 0, 1024);
+    set(&rt, &mut asks, FIRST, 1, 1, 1024);
+    wants_asks(&rt, alloc, &asks, "1 2 256, 1 1 1024, 2 1 512, ");
+    are_granted(&rt, &mut asks);
+    wants_asks(&rt, alloc, &asks, "1 1 256, 1 1 1024, ");
+    asks.clear(FIRST);
+    wants(&rt, !is_asking(&asks, FIRST));
+    wants(&rt, is_asking(&asks, SECOND));
+}
+
+/// Sets many asks of the first attempt, of which so many may stand; whether they were set.
+fn set_all<R: Abort>(rt: &R, asks: &mut Asks, more: &[Ask], most: usize) -> bool {
+    asks.set_all(FIRST, more, most).expect(rt, "memory")
+}
+
+const MORE: [Ask; 2] = [
+    Ask {
+        priority: 1,
+        count: 3,
+        size: Resource {
+            memory_mb: 1024,
+            vcores: 1,
+        },
+    },
+    Ask {
+        priority: 2,
+        count: 4,
+        size: Resource {
+            memory_mb: 512,
+            vcores: 1,
+        },
+    },
+];
+
+#[test]
+fn many_asks_are_set_or_none(rt: HostRuntime) {
+    let alloc = rt.alloc();
+    let mut asks = Asks::new(alloc);
+    set(&rt, &mut asks, FIRST, 2, 1, 512);
+    wants(&rt, !set_all(&rt, &mut asks, MORE.as_slice(), 1));
+    wants_asks(&rt, alloc, &asks, "2 1 512, ");
+    wants(&rt, set_all(&rt, &mut asks, MORE.as_slice(), 2));
+    wants_asks(&rt, alloc, &asks, "1 3 1024, 2 4 512, ");
+}
+
+/// The only container that an attempt was granted and not told of is this.
+fn is_granted<R: Abort>(rt: &R, book: &Book, attempt: AttemptId, wanted: ContainerId) {
+    let granted = book.granted_to(attempt).expect(rt, "memory");
+    wants(rt, granted.len() == 1);
+    wants(rt, granted.as_slice().iter().all(|one| one.id == wanted));
+}
+
+#[test]
+fn what_nobody_was_told_of_is_granted(rt: HostRuntime) {
+    let alloc = rt.alloc();
+    let node = text(&rt, alloc, b"n1:1");
+    let mut book = Book::new(alloc);
+    book.set_node(&node, size(4096, 4)).expect(&rt, "memory");
+    grant(
+        &rt,
+        &mut book,
+        container(FIRST, 1),
+        &node,
+        size(1024, 1),
+        "ok",
+    );
+    grant(
+        &rt,
+        &mut book,
+        container(FIRST, 2),
+        &node,
+        size(1024, 1),
+        "ok",
+    );
+    grant(
+        &rt,
+        &mut book,
+        container(SECOND, 3),
+        &node,
+        size(1024, 1),
+        "ok",
+    );
+    book.set_state(container(FIRST, 1), ContainerState::Acquired);
+    is_granted(&rt, &book, FIRST, container(FIRST, 2));
+}

@@ -1,0 +1,79 @@
+//! What no clause says: that a life begins and goes down where there is memory, and that its rows are found.
+use crate::helpers::{size, wants};
+use rm_app::AppState;
+use rm_tables::{AppRow, RowChange, Rows, Tables};
+use rm_tree::Tree;
+use rm_types::{AppId, Items, Lane, Settings, Text};
+use std::alloc::Global;
+use std::process::Abort;
+
+fn settings(alloc: Global) -> Settings {
+    Settings {
+        max_attempts: 2,
+        max_completed: 1,
+        max_apps: 10,
+        wait_ms: 0,
+        acl_enable: false,
+        admin_acl: Text::empty(alloc),
+        greatest: size(8192, 8),
+        groups: Items::new(alloc),
+        queues: Items::new(alloc),
+    }
+}
+
+fn see_life<R: Abort>(rt: &R, alloc: Global, tables: &mut Tables) {
+    wants(rt, tables.is_ready(Lane::Begin));
+    tables.begin(Tree::new(alloc), 5).expect(rt, "memory");
+    wants(rt, tables.is_ready(Lane::Main));
+    wants(rt, !tables.is_ready(Lane::Client));
+    wants(rt, tables.may_go_down());
+    tables.hand();
+    wants(rt, !tables.may_go_down());
+    tables.blow();
+    wants(rt, tables.is_ready(Lane::Client));
+    tables.go_down();
+    wants(rt, tables.is_ready(Lane::Begin));
+    wants(rt, tables.stamp == 5);
+}
+
+#[test]
+fn a_life_begins_and_goes_down(rt: HostRuntime) {
+    let mut tables = Tables::new(rt.alloc(), settings(rt.alloc()));
+    see_life(&rt, rt.alloc(), &mut tables);
+}
+
+/// The row of an application that was submitted.
+fn new_row(alloc: Global) -> AppRow {
+    AppRow {
+        state: AppState::New,
+        wish: false,
+        pending: None,
+        current: None,
+        first: 0,
+        dialogue: None,
+        closings: Items::new(alloc),
+    }
+}
+
+fn is_in_state(rows: &Rows, id: AppId, state: AppState) -> bool {
+    match rows.find(id) {
+        Some(row) => row.state == state,
+        None => false,
+    }
+}
+
+#[test]
+fn a_row_is_found_until_it_is_retired(rt: HostRuntime) {
+    let alloc = rt.alloc();
+    let mut rows = Rows::new(alloc);
+    let id = AppId {
+        stamp: 5,
+        number: 1,
+    };
+    rows.add(id, new_row(alloc)).expect(&rt, "memory");
+    rows.change(id, RowChange::Schedule { number: 1 });
+    wants(&rt, is_in_state(&rows, id, AppState::Accepted));
+    rows.remove(id);
+    wants(&rt, rows.find(id).is_none());
+    wants(&rt, rows.is_retired(id));
+}
