@@ -1,0 +1,61 @@
+#!/bin/bash
+# Tries the wrong bodies that the gate leaves out, those in crates/NAME/wrong-bodies: the prover has to refuse each.
+#
+#   bench/wrong-bodies.sh [NAME..]      those of the crates that are named, or of all
+#
+# A wrong body is a file in the form of the gate's must-fail edits. The crates are proved and built first, where no
+# earlier check built them in this checkout as they are committed. Then the wrong bodies of so many crates are tried
+# side by side as JOBS in the environment says, or as there are processors, each by a check of its whole crate: all of
+# them take several hours of one processor. It works in a clone of what is committed, in a new folder that it removes,
+# so this checkout stays as it is. The last line is `N refused, M proved`, where what could not be tried counts as
+# proved and is told above, and the status is 0 where M is 0. It needs `rt` on the path.
+set -euo pipefail
+
+here=$(cd "$(dirname "$0")/.." && pwd)
+jobs=${JOBS:-$(nproc)}
+folder=$(mktemp -d)
+trap 'rm -rf "$folder"' EXIT
+
+git clone -q "$here" "$folder/clone"
+cd "$folder/clone"
+
+crates=()
+for bodies in crates/*/wrong-bodies; do
+  crate=$(basename "$(dirname "$bodies")")
+  if [ $# -eq 0 ] || [[ " $* " == *" $crate "* ]]; then
+    crates+=("$crate")
+    rm -rf "crates/$crate/must-fail"
+    mv "$bodies" "crates/$crate/must-fail"
+  fi
+done
+if [ ${#crates[@]} -eq 0 ]; then
+  echo "no crate of that name has wrong bodies" >&2
+  exit 1
+fi
+
+for built in "$here"/crates/*/out/rlib; do
+  [ -d "$built" ] || continue
+  out=crates/$(basename "$(dirname "$(dirname "$built")")")/out
+  mkdir -p "$out"
+  cp -a "$built" "$out/rlib"
+done
+for crate in "${crates[@]}"; do
+  (cd "crates/$crate" && rt lib > built.txt 2>&1) || { cat "crates/$crate/built.txt" >&2; exit 1; }
+done
+
+# A crate's lines are told once all of its wrong bodies were tried, whatever came of them: they are counted below.
+try() {
+  rt must-fail "$1" > "$1.txt" 2>&1 || true
+  cat "$1.txt"
+}
+export -f try
+printf '%s\n' "${crates[@]}" | xargs -P "$jobs" -I{} bash -c 'try {}'
+
+refused=0
+all=0
+for crate in "${crates[@]}"; do
+  all=$((all + $(find "crates/$crate/must-fail" -name '*.edit' | wc -l)))
+  refused=$((refused + $(grep -c "must-fail $crate/.*: refused, as it must be" "$crate.txt" || true)))
+done
+echo "$refused refused, $((all - refused)) proved"
+[ "$refused" -eq "$all" ]
