@@ -11,7 +11,7 @@
 # equally many others. The time is the processor's, outside the system, and the least of ROUNDS in the environment, in turn over
 # all scripts. Where valgrind is installed, the instructions are counted too, by the same differences.
 #
-# It builds crates/rm_main by `rt run`, and needs nothing else.
+# It builds crates/yewendro by `rt run`, and needs nothing else.
 set -euo pipefail
 
 rounds=${ROUNDS:-7}
@@ -21,12 +21,12 @@ lives=20
 here=$(cd "$(dirname "$0")/.." && pwd)
 folder=$(mktemp -d "${1:-$PWD}/manager.XXXXXX")
 trap 'rm -rf "$folder"' EXIT
-program=$here/crates/rm_main/out/rm_main
+program=$here/crates/yewendro/out/yewendro
 stamp=1410901177871
 kinds=(new report unknown repeated refused)
 TIMEFORMAT=%U
 
-(cd "$here/crates/rm_main" && rt run -- store > /dev/null 2>&1) || { echo "rm_main was not built" >&2; exit 1; }
+(cd "$here/crates/yewendro" && rt run -- store > /dev/null 2>&1) || { echo "yewendro was not built" >&2; exit 1; }
 
 # The line of a client that submits the application of a number to a queue.
 submission() { printf 'client alice submit application_%s_%04d queue=%s name=job memory=1024 vcores=1 attempts=0\n' "$stamp" "$1" "$2"; }
