@@ -1,6 +1,6 @@
 //! What no clause says: that calls succeed, what a shelf reads of files, in memory and of the system, and how often
 //! an output is asked.
-use crate::helpers::{bytes_of, push, text, wants, wants_in};
+use crate::helpers::{bytes_of, push, text, wants};
 use rm_outside::{
     FileShelf, MOST_READ, MemShelf, MemSink, NamedFile, OutSink, Shelf, ShelfError, Sink, Written,
     write_all,
@@ -37,29 +37,29 @@ fn failing<R: Abort + AllocGlobal>(rt: &R, number: u64) -> Items<u64> {
     numbers
 }
 
-/// Sees that the shelf reads these bytes under the name.
-fn reads<R: Abort, S: Shelf>(rt: &R, shelf: &mut S, name: &str, want: &[u8]) {
-    let bytes = shelf.read(name).expect(rt, name);
-    wants_in(rt, name, bytes.as_slice() == want);
+/// Sees that a read gave these bytes.
+fn gave<R: Abort>(rt: &R, read: Result<Vec<u8>, ShelfError>, want: &[u8]) {
+    let bytes = read.expect(rt, "the file is read");
+    wants(rt, bytes.as_slice() == want);
 }
 
-/// Whether a read of the name fails.
-fn fails<S: Shelf>(shelf: &mut S, name: &str) -> bool {
-    matches!(shelf.read(name), Err(ShelfError::Failed))
+/// Whether a read failed.
+fn failed(read: Result<Vec<u8>, ShelfError>) -> bool {
+    matches!(read, Err(ShelfError::Failed))
 }
 
 #[test]
 fn a_shelf_in_memory_gives_the_first_file_of_a_name(rt: HostRuntime) {
     let mut shelf = shelf(&rt, Items::new(rt.alloc()));
-    reads(&rt, &mut shelf, "input", b"begin\n");
-    wants(&rt, fails(&mut shelf, "output"));
+    gave(&rt, shelf.read("input"), b"begin\n");
+    wants(&rt, failed(shelf.read("output")));
 }
 
 #[test]
 fn a_shelf_in_memory_fails_at_its_first_call(rt: HostRuntime) {
     let mut shelf = shelf(&rt, failing(&rt, 1));
-    wants(&rt, fails(&mut shelf, "input"));
-    reads(&rt, &mut shelf, "input", b"begin\n");
+    wants(&rt, failed(shelf.read("input")));
+    gave(&rt, shelf.read("input"), b"begin\n");
 }
 
 /// Writes a file of the system.

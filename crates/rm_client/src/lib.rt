@@ -15,4 +15,3 @@ mod submissions;
 mod words;
 
 pub use serving::serve;
-

@@ -17,4 +17,3 @@ mod registering;
 mod serving;
 
 pub use serving::serve;
-

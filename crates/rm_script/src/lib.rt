@@ -29,4 +29,3 @@ pub use errors::ScriptError;
 pub use laws::{law_lines, law_one_line, law_one_script, law_values};
 pub use numbers::number_in;
 pub use reading::read_script;
-

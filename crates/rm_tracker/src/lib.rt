@@ -16,4 +16,3 @@ mod registering;
 mod serving;
 
 pub use serving::{serve, serve_clock};
-
