@@ -37,10 +37,12 @@ fn failing<R: Abort + AllocGlobal>(rt: &R, number: u64) -> Items<u64> {
     numbers
 }
 
-/// Sees that a read gave these bytes.
-fn gave<R: Abort>(rt: &R, read: Result<Vec<u8>, ShelfError>, want: &[u8]) {
-    let bytes = read.expect(rt, "the file is read");
-    wants(rt, bytes.as_slice() == want);
+/// Whether a read gave these bytes.
+fn gives(read: Result<Vec<u8>, ShelfError>, want: &[u8]) -> bool {
+    match read {
+        Ok(bytes) => bytes.as_slice() == want,
+        Err(_) => false,
+    }
 }
 
 /// Whether a read failed.
@@ -51,7 +53,7 @@ fn failed(read: Result<Vec<u8>, ShelfError>) -> bool {
 #[test]
 fn a_shelf_in_memory_gives_the_first_file_of_a_name(rt: HostRuntime) {
     let mut shelf = shelf(&rt, Items::new(rt.alloc()));
-    gave(&rt, shelf.read("input"), b"begin\n");
+    wants(&rt, gives(shelf.read("input"), b"begin\n"));
     wants(&rt, failed(shelf.read("output")));
 }
 
@@ -59,7 +61,7 @@ fn a_shelf_in_memory_gives_the_first_file_of_a_name(rt: HostRuntime) {
 fn a_shelf_in_memory_fails_at_its_first_call(rt: HostRuntime) {
     let mut shelf = shelf(&rt, failing(&rt, 1));
     wants(&rt, failed(shelf.read("input")));
-    gave(&rt, shelf.read("input"), b"begin\n");
+    wants(&rt, gives(shelf.read("input"), b"begin\n"));
 }
 
 /// Writes a file of the system.
@@ -69,14 +71,6 @@ fn put<R: Abort + Files>(rt: &R, name: &str, bytes: &str) {
 
 fn remove<R: Abort + Files>(rt: &R, name: &str) {
     fs::remove_file(rt, name).expect(rt, name);
-}
-
-/// Whether a read gave these bytes.
-fn gives(answer: Result<Vec<u8>, ShelfError>, want: &[u8]) -> bool {
-    match answer {
-        Ok(bytes) => bytes.as_slice() == want,
-        Err(_) => false,
-    }
 }
 
 #[test]
@@ -90,8 +84,7 @@ fn a_shelf_of_files_reads_those_named_and_counts_a_missing_one(rt: HostRuntime) 
     remove(&rt, "other");
     wants(&rt, shelf.faults() == 0);
     wants(&rt, shelf.answered() == 3);
-    let missing = shelf.read("output");
-    wants(&rt, matches!(missing, Err(ShelfError::Failed)));
+    wants(&rt, failed(shelf.read("output")));
     wants(&rt, shelf.faults() == 1);
     remove(&rt, "input");
 }
