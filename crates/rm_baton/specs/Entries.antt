@@ -13,6 +13,7 @@ IsCommon Settled = ⊥
 IsCommon Down = ⊥
 IsCommon _ = Unit {0}
 
+-- any pass may add each of these entries
 abbrev pub AllCommon : List Entry → Type 0
 AllCommon [] = Unit {0}
 AllCommon (e ∷ es) = IsCommon e × AllCommon es

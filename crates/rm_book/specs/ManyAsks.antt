@@ -14,6 +14,7 @@ asks_after asks new = fold (λ so_far ask. asks_set ask so_far) asks new
 abbrev pub one_asked : AttemptId → List AsksOf → Ask → List AsksOf
 one_asked attempt table ask = with_asks_of attempt (asks_set ask (asks_of table attempt)) table
 
+-- the table after many asks of an attempt were set, one after the other
 abbrev pub all_asked : AttemptId → List AsksOf → List Ask → List AsksOf
 all_asked attempt table new = fold (one_asked attempt) table new
 

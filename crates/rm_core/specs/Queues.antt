@@ -35,6 +35,7 @@ abbrev pub main_moved : List MainEvent → Tables → Tables
 main_moved [] t = t
 main_moved (event ∷ rest) t = (main_worked (main_step event t)).1
 
+-- the first event of the scheduler's queue is worked off, where there is one; these containers end by it
 abbrev pub sched_moved : List SchedEvent → List ContainerId → Tables → Tables
 sched_moved [] list t = t
 sched_moved (event ∷ rest) list t = (sched_worked (sched_step event list t)).1
@@ -66,6 +67,7 @@ abbrev pub landed_first : List Op → Records → ℕ
 landed_first [] tree = 0
 landed_first (op ∷ rest) tree = if shows tree op then 1 else 0
 
+-- how many of the awaiting operations landed, by a tree of what is stored: none unless the last life blew
 abbrev pub landed_where : Bool → List Op → Records → ℕ
 landed_where true awaiting tree = landed_first awaiting tree
 landed_where false awaiting tree = 0

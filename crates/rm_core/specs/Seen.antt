@@ -9,6 +9,7 @@ use Rattle.rm_model.specs.Lawful.{IsAtRest, state_after}
 use Rattle.rm_tables.specs.declared.tables.Tables.{Tables}
 use Rattle.rm_core.specs.Invariant.{LogInvariant}
 
+-- a manager as its callers see it
 pub record Seen : Type 0 where
   pub settings : Settings
   pub tables : Tables

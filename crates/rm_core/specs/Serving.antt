@@ -28,6 +28,7 @@ abbrev pub IsReplyWhere : Bool → Tables → Message → Reply → Type 0
 IsReplyWhere true t message reply = IsOpenReply t message reply
 IsReplyWhere false t message reply = reply ≡ NotOpen
 
+-- the message is answered so: as the tables show the judge's scene where the life is open, and else by NOTOPEN
 abbrev pub IsReply : Tables → Message → Reply → Type 0
 IsReply t message reply = IsReplyWhere t.is_open t message reply
 

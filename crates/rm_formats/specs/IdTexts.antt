@@ -1,4 +1,5 @@
--- The texts of ids. After YARN's documentation of `ApplicationId`, `ApplicationAttemptId` and `ContainerId`.
+-- The texts of ids. Their parts are those of YARN's `ApplicationId`, `ApplicationAttemptId` and `ContainerId`; that they are in lower case, and
+-- have one spelling each, is this project's own.
 use Rattle.std.specs.Prelude.{ℕ, ◌-◌, ◌==◌, List, ◌++◌, length, replicate, codes, decimal, if◌then◌else◌}
 use Rattle.rm_types.specs.declared.ids.AppId.{AppId}
 use Rattle.rm_types.specs.declared.ids.AttemptId.{AttemptId}

@@ -112,6 +112,7 @@ message_words (Master attempt ask) = codes "master" ∷ attempt_text attempt ∷
 message_words (Node node ask) = codes "node" ∷ node ∷ node_words ask
 message_words (Clock ask) = codes "clock" ∷ clock_words ask
 
+-- the words of a message, with a space between each two
 abbrev pub message_text : Message → List ℕ
 message_text message = spaced (message_words message)
 
@@ -130,6 +131,7 @@ op_words (AttemptEnd id how text) = codes "attempt-end" ∷ attempt_text id ∷ 
 op_words (AppEnd id how text) = codes "app-end" ∷ app_text id ∷ how_text how ∷ (codes "text=" ++ text) ∷ []
 op_words (Remove id) = codes "remove" ∷ app_text id ∷ []
 
+-- the words of a store operation, with a space between each two
 abbrev pub op_text : Op → List ℕ
 op_text op = spaced (op_words op)
 
@@ -220,5 +222,6 @@ reply_words (replies.Beat id launch clean) =
     ∷ []
 reply_words replies.Ok = codes "ok" ∷ []
 
+-- the words of a reply, with a space between each two
 abbrev pub reply_text : Reply → List ℕ
 reply_text reply = spaced (reply_words reply)

@@ -66,6 +66,7 @@ master_fields = NumberFrom w32 0 (2 ^ 24 - 1) ∷ NumberFrom w64 1 (2 ^ 40 - 1) 
 abbrev pub memory_field : Field
 memory_field = NumberFrom w32 1 greatest_memory_mb
 
+-- the virtual cores of a container
 abbrev pub cores_field : Field
 cores_field = NumberFrom w32 1 greatest_vcores
 

@@ -16,6 +16,7 @@ use Rattle.rm_invariant.specs.events.Refines.{Refines}
 abbrev pub Nothing : ContainerId → Type 0
 Nothing id = Unit {0}
 
+-- what holds of applications, of masters' containers, of what is recorded, of nodes and of the book, with tables and life that agree
 pub record CoreInvariant (settings : Settings) (h : History) (t : Tables) : Type 0 where
   pub keeps : AppsInvariant settings h t
   pub marks : ContainersInvariant h t

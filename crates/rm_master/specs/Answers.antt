@@ -40,6 +40,7 @@ release_events attempt (id ∷ ids) = scheds.Release attempt (id ∷ ids) ∷ []
 abbrev pub ids_granted : List Grant → List ContainerId
 ids_granted grants = map (λ grant. grant.id) grants
 
+-- the containers of which a reply tells the master
 abbrev pub told_by : Reply → List ContainerId
 told_by (Allocated id grants ended) = ids_granted grants
 told_by _ = []
@@ -48,6 +49,7 @@ told_by _ = []
 abbrev pub acquired_row : List ContainerId → BookRow → BookRow
 acquired_row told row = record row { state = if has_container told row.id then Acquired else row.state }
 
+-- the book in which the masters were told of these containers
 abbrev pub acquired : List ContainerId → BookOf → BookOf
 acquired told book = record book { rows = map (acquired_row told) book.rows }
 

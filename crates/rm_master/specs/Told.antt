@@ -45,6 +45,7 @@ abbrev pub spoken_in : Option AppRow → Option Dialogue
 spoken_in None = None
 spoken_in (Some row) = row.dialogue
 
+-- the dialogue with the master of an attempt that lives, where it registered, by the row of its application
 abbrev pub spoken_by : AttemptId → Option AppRow → Option Dialogue
 spoken_by attempt row = spoken_in (living_row attempt row)
 
@@ -67,10 +68,12 @@ abbrev pub is_finished_end : Option (How × List ℕ) → Bool
 is_finished_end None = false
 is_finished_end (Some ending) = is_finished ending.0
 
+-- an attempt that is recorded has a kept end, FINISHED
 abbrev pub has_finished : Option AttemptRecord → Bool
 has_finished None = false
 has_finished (Some one) = is_finished_end one.ending
 
+-- an attempt of an application that is recorded has a kept end, FINISHED
 abbrev pub finished_in : AttemptId → Option AppRecord → Bool
 finished_in attempt None = false
 finished_in attempt (Some app) = has_finished (attempt_in app attempt)
@@ -120,6 +123,7 @@ abbrev pub spoken_told : Tables → AttemptId → ℕ → List Ask → AppRow �
 spoken_told t attempt id asks row None = Resync
 spoken_told t attempt id asks row (Some one) = said_told t attempt id asks row one
 
+-- what an allocation is answered: RESYNC where the attempt doesn't live, and else by its dialogue
 abbrev pub allocate_told : Tables → AttemptId → ℕ → List Ask → Option AppRow → Reply
 allocate_told t attempt id asks None = Resync
 allocate_told t attempt id asks (Some row) = spoken_told t attempt id asks row row.dialogue

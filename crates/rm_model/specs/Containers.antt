@@ -83,7 +83,8 @@ closings m cause list = map (λ id. record { id = id; cause = cause }) (filter (
 abbrev pub without_launches : List ContainerId → NodeState → NodeState
 without_launches list node = record node { launches = filter (λ id. not (has_container list id)) node.launches }
 
--- the life after these containers left the book for a cause: their rows go, launches of them go, and masters are to be told
+-- the life after these containers left the book for a cause: their rows go, launches of them go, masters are to be told, and they
+-- join those that left
 abbrev pub leave : Scene → Cause → List ContainerId → LifeState
 leave m cause list =
     record m.life {

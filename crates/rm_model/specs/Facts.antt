@@ -129,7 +129,7 @@ submission_of m id = submission_in (kept_record m id) (waiting_submission m.life
 abbrev pub is_submitted : List Submitted → AppId → Bool
 is_submitted submitted id = list_any (λ one. is_app one.id id) submitted
 
--- an application is known where it was submitted in this life and not retired, or is kept
+-- an application is known where it was submitted in this life and isn't kept, or is kept
 abbrev pub is_known : Scene → AppId → Bool
 is_known m id = is_submitted m.life.apps.submitted id || is_kept m id
 

@@ -89,8 +89,8 @@ end_by settings m id (Some (Finished, text)) = Some (Finished, text)
 end_by settings m id (Some (Killed, text)) = Some (Killed, killed_text)
 end_by settings m id (Some (Failed, text)) = if is_wished m id then Some (Killed, killed_text) else failed_end settings m id text
 
--- an AppEnd may be issued where App is kept, no AppEnd is issued, no Attempt awaits and each kept attempt's end is kept; with
--- the end that the application comes to
+-- an AppEnd may be issued where App is kept, no AppEnd is issued, the Attempt of its next attempt doesn't await and each kept attempt's end is
+-- kept; with the end that the application comes to
 pub record MayIssueAppEnd (settings : Settings) (m : Scene) (id : AppId) (how : How) (text : List ℕ) : Type 0 where
   pub opened : m.life.is_open ≡ true
   pub kept : is_kept m id ≡ true

@@ -1,5 +1,5 @@
 -- What a pass grants on a node: first fit, application by application, as `Passes` in `rm_types` says. That a scheduler
--- allocates when a node beats is after YARN's schedulers; the order is that of its FIFO scheduler.
+-- allocates when a node beats is after YARN's schedulers; first fit, and the order of submission, are this project's own.
 use Rattle.std.specs.Prelude.{ℕ, ◌+◌, ◌-◌, List, [], ◌++◌, map, filter, find, fold, drop, Bool, false, ◌&&◌, ◌||◌, not, nat_lt, Option, None, Some, is_none, if◌then◌else◌, count_by}
 use Rattle.std.specs.List.{list_any}
 use Rattle.rm_types.specs.declared.containers.Ask.{Ask}

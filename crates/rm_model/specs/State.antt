@@ -104,7 +104,8 @@ pub record NodeState : Type 0 where
 
 -- what belongs to one life, from a start of the manager to its crash; all of it falls with the life
 pub record LifeState : Type 0 where
-  -- how many lives began before it (YARN-556), and its stamp, which stands in the ids that it gives (YARN's cluster timestamp)
+  -- the next epoch that was recorded when it began, so that each life whose Epoch is kept makes it greater by 1 (YARN-556); and its stamp,
+  -- which stands in the ids that it gives (YARN's cluster timestamp)
   pub epoch : ℕ
   pub stamp : ℕ
   -- what was recorded when the life began

@@ -6,6 +6,7 @@ use Rattle.rm_plain.specs.declared.halts.Halt.TheVariants as halts
 use Rattle.rm_plain.specs.declared.halts.Stop.{Stop}
 use Rattle.rm_plain.specs.declared.halts.Stop.TheVariants.{DiskFault, Damaged, Full, Schedule, Memory}
 
+-- why a run stops, by why its life halted
 abbrev pub stop_of : Halt → Stop
 stop_of halts.DiskFault = DiskFault
 stop_of (halts.Full needed room) = Full needed room

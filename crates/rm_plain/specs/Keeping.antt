@@ -29,6 +29,7 @@ abbrev pub blown_in : Option LifeState → Bool → Bool
 blown_in None blew = blew
 blown_in (Some life) blew = life.blown
 
+-- the life that stands was blown, or the last one where none stands
 abbrev pub has_blown : Manager → Bool
 has_blown s = blown_in s.life s.blew
 
@@ -38,6 +39,7 @@ abbrev pub HoldsBy : Bool → Manager → List ℕ → Type 0
 HoldsBy false s bytes = DeviceHolds bytes s.kept
 HoldsBy true s bytes = HoldsKept s bytes
 
+-- these bytes hold what is kept, or this and the operation that awaits first where the store refused it
 abbrev pub HoldsIn : Manager → List ℕ → Type 0
 HoldsIn s bytes = HoldsBy (has_blown s) s bytes
 

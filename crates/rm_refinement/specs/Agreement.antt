@@ -36,6 +36,7 @@ pub record PlainRow : Type 0 where
 abbrev pub bare_row : BookRow → PlainRow
 bare_row row = record { id = row.id; node = row.node; size = row.size; state = row.state }
 
+-- a row of the book in the judge's life without its mark
 abbrev pub plain_row : Row → PlainRow
 plain_row row = record { id = row.id; node = row.node; size = row.size; state = row.state }
 
@@ -71,6 +72,7 @@ bare_node book name row =
       launches = row.launches;
     }
 
+-- a node of the judge's life without what is not worked off
 abbrev pub plain_node : NodeState → PlainNode
 plain_node node =
     record {
@@ -105,9 +107,11 @@ pub record PlainDialogue : Type 0 where
   pub last_reply : Reply
   pub finishing : Option (List ℕ)
 
+-- what was said to a master and by it, as the tables have it
 abbrev pub bare_dialogue : Dialogue → PlainDialogue
 bare_dialogue one = record { last_id = one.last_id; last_reply = one.last_reply; finishing = one.finishing }
 
+-- what was said to a master and by it, as the judge's life has it
 abbrev pub plain_dialogue : MasterState → PlainDialogue
 plain_dialogue one = record { last_id = one.last_id; last_reply = one.last_reply; finishing = one.finishing }
 
@@ -126,14 +130,17 @@ CurrentAgrees registered granted attempt row current =
     × (current.registered ≡ is_some row.dialogue)
     × (current.granted ≡ grants_of granted attempt)
 
+-- no master of the attempt registered in this life, and none of its containers was granted
 abbrev pub HasNoSession : List MasterState → List ContainerId → AttemptId → Type 0
 HasNoSession registered granted attempt = (session_of registered attempt ≡ None) × (grants_of granted attempt ≡ 0)
 
+-- by whether the attempt is the current one, has a greater number, or a smaller one
 abbrev pub NumberAgrees : Bool → Bool → List MasterState → List ContainerId → AttemptId → AppRow → Current → Type 0
 NumberAgrees true later registered granted attempt row current = CurrentAgrees registered granted attempt row current
 NumberAgrees false true registered granted attempt row current = HasNoSession registered granted attempt
 NumberAgrees false false registered granted attempt row current = Unit {0}
 
+-- by whether the application has a current attempt; where it has none, nobody spoke with a master of it
 abbrev pub AttemptAgrees : List MasterState → List ContainerId → AttemptId → AppRow → Option Current → Type 0
 AttemptAgrees registered granted attempt row None = HasNoSession registered granted attempt × (row.dialogue ≡ None)
 AttemptAgrees registered granted attempt row (Some current) =

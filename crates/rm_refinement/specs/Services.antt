@@ -33,14 +33,17 @@ abbrev pub lives_with : AttemptId → Option Current → Bool
 lives_with attempt None = false
 lives_with attempt (Some current) = (current.number == attempt.number) && is_alive current.state
 
+-- an attempt is the current one of a row, and lives
 abbrev pub lives_by : AttemptId → Option AppRow → Bool
 lives_by attempt None = false
 lives_by attempt (Some row) = lives_with attempt row.current
 
+-- an attempt is the current one, and its end awaits, as FINISHED
 abbrev pub finishes_with : AttemptId → Option Current → Bool
 finishes_with attempt None = false
 finishes_with attempt (Some current) = (current.number == attempt.number) && (is_ending current.state && current.finished)
 
+-- an attempt is the current one of a row, and its end awaits, as FINISHED
 abbrev pub finishes_by : AttemptId → Option AppRow → Bool
 finishes_by attempt None = false
 finishes_by attempt (Some row) = finishes_with attempt row.current

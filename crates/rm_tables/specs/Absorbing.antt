@@ -82,6 +82,7 @@ not_taken book name taken = filter (λ id. not (is_held taken id)) (ids_on book 
 abbrev pub unlaunched_here : List ℕ → List (List ℕ × NodeRow) → ContainerId → List (List ℕ × NodeRow)
 unlaunched_here name nodes id = with_node (changed_row (Unlaunch id)) name nodes
 
+-- the nodes without the launches of these containers on one of them
 abbrev pub unlaunched_on : List ℕ → List (List ℕ × NodeRow) → List ContainerId → List (List ℕ × NodeRow)
 unlaunched_on name nodes ids = fold (unlaunched_here name) nodes ids
 
@@ -97,10 +98,12 @@ absorbed_with name capability taken ended t =
 abbrev pub absorbs : List ℕ → Resource → List Held → List ContainerId → Tables → Entry × Tables
 absorbs name capability taken ended t = (Absorbed name taken ended, absorbed_with name capability taken ended t)
 
+-- where the node waits and this is its last registration, its report is absorbed; else nothing is done
 abbrev pub absorbed_if : Bool → List ℕ → NodeRow → List ContainerId → Tables → Entry × Tables
 absorbed_if true name row ended t = absorbs name row.capability (taken_in t name row) ended t
 absorbed_if false name row ended t = sched_quiet t
 
+-- NodeAdded, by the row of the node: where there is none, nothing is done
 abbrev pub absorbed_by : Option NodeRow → List ℕ → ℕ → List ContainerId → Tables → Entry × Tables
 absorbed_by None name turn ended t = sched_quiet t
 absorbed_by (Some row) name turn ended t = absorbed_if (is_waiting row.state && (row.turn == turn)) name row ended t

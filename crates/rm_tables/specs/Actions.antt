@@ -24,6 +24,7 @@ use Rattle.rm_tables.specs.Rows.{with_row}
 abbrev pub main_popped : Tables → Tables
 main_popped t = record t { main = drop 1 t.main }
 
+-- the tables without the first event of the scheduler's queue
 abbrev pub sched_popped : Tables → Tables
 sched_popped t = record t { sched = drop 1 t.sched }
 
@@ -31,6 +32,7 @@ sched_popped t = record t { sched = drop 1 t.sched }
 abbrev pub main_worked : Entry × Tables → Entry × Tables
 main_worked done = (done.0, main_popped done.1)
 
+-- what an event of the scheduler's queue did, and the queue without it
 abbrev pub sched_worked : Entry × Tables → Entry × Tables
 sched_worked done = (done.0, sched_popped done.1)
 
@@ -38,6 +40,7 @@ sched_worked done = (done.0, sched_popped done.1)
 abbrev pub main_quiet : Tables → Entry × Tables
 main_quiet t = (Quiet lanes.Main, t)
 
+-- an event of the scheduler's queue had nothing to do
 abbrev pub sched_quiet : Tables → Entry × Tables
 sched_quiet t = (Quiet lanes.Sched, t)
 
@@ -62,6 +65,7 @@ app_ends id how text t =
       awaiting = t.awaiting ++ ops.AppEnd id how text ∷ [];
     }
 
+-- the end of an application is issued, and is logged
 abbrev pub ends_app : AppId → How → List ℕ → Tables → Entry × Tables
 ends_app id how text t = (Issued (ops.AppEnd id how text), app_ends id how text t)
 
@@ -73,6 +77,7 @@ attempt_ends id how text t =
       awaiting = t.awaiting ++ ops.AttemptEnd id how text ∷ [];
     }
 
+-- the end of an attempt is issued, and is logged
 abbrev pub ends_attempt : AttemptId → How → List ℕ → Tables → Entry × Tables
 ends_attempt id how text t = (Issued (ops.AttemptEnd id how text), attempt_ends id how text t)
 

@@ -62,6 +62,7 @@ granted_at attempts.Scheduled container current =
     record current { state = attempts.Granted; master = Some container; lost = false; granted = container.seq }
 granted_at _ container current = record current { granted = container.seq }
 
+-- the current attempt after a grant, by its state
 abbrev pub granted : ContainerId → Current → Current
 granted container current = granted_at current.state container current
 

@@ -43,6 +43,7 @@ attempt_kept id t =
 abbrev pub attempt_end_posted : AttemptId → Tables → Tables
 attempt_end_posted id t = record t { sched = t.sched ++ scheds.AttemptRemoved id ∷ []; main = t.main ++ mains.AttemptDone id ∷ [] }
 
+-- the tables once an AttemptEnd is kept
 abbrev pub attempt_end_kept : AttemptId → How → Tables → Tables
 attempt_end_kept id how t =
     record (attempt_end_posted id t) {
@@ -55,10 +56,12 @@ abbrev pub dropped_at : AttemptState → AttemptId → List SchedEvent
 dropped_at attempts.Dropped id = scheds.AttemptRemoved id ∷ []
 dropped_at _ id = []
 
+-- the current attempt of an application that ends, where it was dropped
 abbrev pub dropped_of : Option Current → AppId → List SchedEvent
 dropped_of None id = []
 dropped_of (Some current) id = dropped_at current.state (record { app = id; number = current.number })
 
+-- the attempt of a row whose application ends, where it was dropped
 abbrev pub dropped_by : Option AppRow → AppId → List SchedEvent
 dropped_by None id = []
 dropped_by (Some row) id = dropped_of row.current id
@@ -68,6 +71,7 @@ abbrev pub app_end_posted : AppId → Tables → Tables
 app_end_posted id t =
     record t { ended = t.ended ++ id ∷ []; main = t.main ++ mains.Retire ∷ []; sched = t.sched ++ dropped_by (row_of t.rows id) id }
 
+-- the tables once an AppEnd is kept: one application fewer goes on
 abbrev pub app_end_kept : AppId → How → Tables → Tables
 app_end_kept id how t = record (app_end_posted id t) { rows = with_row (changed (of_app.KeepEnd how)) id t.rows; going = t.going - 1 }
 

@@ -34,6 +34,7 @@ abbrev pub is_own_or_unkept : ContainerId → Option AttemptRecord → Bool
 is_own_or_unkept id None = true
 is_own_or_unkept id (Some one) = is_container one.master id
 
+-- a container is a master's by the record of its application: the record of its attempt names it, or there is none
 abbrev pub masters_by : ContainerId → Option AppRecord → Bool
 masters_by id None = false
 masters_by id (Some app) = is_own_or_unkept id (attempt_in app id.attempt)
@@ -42,10 +43,12 @@ masters_by id (Some app) = is_own_or_unkept id (attempt_in app id.attempt)
 abbrev pub is_masters_in : List AppRecord → ContainerId → Bool
 is_masters_in apps id = masters_by id (record_of apps id.attempt.app)
 
+-- the end of a recorded attempt is kept
 abbrev pub has_end : Option AttemptRecord → Bool
 has_end None = false
 has_end (Some one) = is_some one.ending
 
+-- an attempt is over: its end or that of its application is kept, or the application is not recorded
 abbrev pub over_by : AttemptId → Option AppRecord → Bool
 over_by id None = true
 over_by id (Some app) = is_some app.ending || has_end (attempt_in app id)
@@ -74,6 +77,7 @@ telling closings row = record row { closings = closings }
 abbrev pub closed : Closing → AppRow → AppRow
 closed closing row = record row { closings = row.closings ++ closing ∷ [] }
 
+-- the rows with one more ending that a master is to be told
 abbrev pub closed_one : List (AppId × Option AppRow) → Closing → List (AppId × Option AppRow)
 closed_one rows closing = with_row (closed closing) closing.id.attempt.app rows
 
@@ -86,6 +90,7 @@ abbrev pub unlaunched_at : Option BookRow → ContainerId → List (List ℕ × 
 unlaunched_at None id nodes = nodes
 unlaunched_at (Some row) id nodes = with_node (changed_row (of_node.Unlaunch id)) row.node nodes
 
+-- the nodes without the launch of a container, by its row in the book
 abbrev pub unlaunched_one : BookOf → List (List ℕ × NodeRow) → ContainerId → List (List ℕ × NodeRow)
 unlaunched_one book nodes id = unlaunched_at (book_row_of book id) id nodes
 

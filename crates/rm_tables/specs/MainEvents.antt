@@ -50,6 +50,7 @@ start_of_submission (Some submission) id t = (
   record t { rows = with_row (changed of_app.Issue) id t.rows; awaiting = t.awaiting ++ ops.App id submission ∷ [] },
 )
 
+-- AppStart, by the row of the application
 abbrev pub start_of_row : Option AppRow → AppId → Tables → Entry × Tables
 start_of_row None id t = main_quiet t
 start_of_row (Some row) id t = start_of_submission row.pending id t
@@ -60,6 +61,7 @@ save_of_state apps.Submitted true id t = ends_app id ways.Killed killed_text t
 save_of_state apps.Submitted false id t = (Quiet lanes.Main, record t { sched = t.sched ++ scheds.AppAdded id ∷ [] })
 save_of_state _ wish id t = main_quiet t
 
+-- AppSaved, by the row of the application
 abbrev pub save_of_row : Option AppRow → AppId → Tables → Entry × Tables
 save_of_row None id t = main_quiet t
 save_of_row (Some row) id t = save_of_state row.state row.wish id t
@@ -69,6 +71,7 @@ abbrev pub accept_of_state : AppState → AppId → Tables → Entry × Tables
 accept_of_state apps.Submitted id t = (Accepted id, schedules (record { app = id; number = 1 }) t)
 accept_of_state _ id t = main_quiet t
 
+-- AppAccepted, by the row of the application
 abbrev pub accept_of_row : Option AppRow → AppId → Tables → Entry × Tables
 accept_of_row None id t = main_quiet t
 accept_of_row (Some row) id t = accept_of_state row.state id t
@@ -93,6 +96,7 @@ kill_of_attempt_state attempts.Ending id t = (Quiet lanes.Main, app_changed of_a
 kill_of_attempt_state attempts.Ended id t = (Quiet lanes.Main, app_changed of_app.Kill id.app t)
 kill_of_attempt_state attempts.Dropped id t = main_quiet t
 
+-- AppKill, by the state of the application
 abbrev pub kill_of_state : AppState → Option Current → AppId → Tables → Entry × Tables
 kill_of_state apps.Submitted current id t = ends_app id ways.Killed killed_text t
 kill_of_state apps.Accepted (Some current) id t = kill_of_attempt_state current.state (record { app = id; number = current.number }) t
@@ -100,6 +104,7 @@ kill_of_state apps.Running (Some current) id t = kill_of_attempt_state current.s
 kill_of_state apps.Killing (Some current) id t = kill_of_attempt_state current.state (record { app = id; number = current.number }) t
 kill_of_state _ current id t = main_quiet t
 
+-- AppKill, by the row of the application
 abbrev pub kill_of_row : Option AppRow → AppId → Tables → Entry × Tables
 kill_of_row None id t = main_quiet t
 kill_of_row (Some row) id t = kill_of_state row.state row.current id t
@@ -122,20 +127,24 @@ abbrev pub decision_of_end : Option (How × List ℕ) → AppId → Tables → E
 decision_of_end None id t = (Quiet lanes.Main, schedules (next_in t id) t)
 decision_of_end (Some end) id t = ends_app id end.0 end.1 t
 
+-- AttemptDone, by the state of the attempt: only one that has ended is decided
 abbrev pub decision_of_attempt_state : AttemptState → Bool → AppId → Tables → Entry × Tables
 decision_of_attempt_state attempts.Ended wish id t = decision_of_end (end_with t.settings wish (found_in t id) (last_end_in (found_in t id))) id t
 decision_of_attempt_state _ wish id t = main_quiet t
 
+-- AttemptDone, by the state of the application: only one that was accepted and has not ended is decided
 abbrev pub decision_of_state : AppState → AttemptState → Bool → AppId → Tables → Entry × Tables
 decision_of_state apps.Accepted state wish id t = decision_of_attempt_state state wish id t
 decision_of_state apps.Running state wish id t = decision_of_attempt_state state wish id t
 decision_of_state apps.Killing state wish id t = decision_of_attempt_state state wish id t
 decision_of_state _ state wish id t = main_quiet t
 
+-- AttemptDone, by the current attempt of the application
 abbrev pub decision_of_current : AppState → Option Current → Bool → AppId → Tables → Entry × Tables
 decision_of_current app None wish id t = main_quiet t
 decision_of_current app (Some current) wish id t = decision_of_state app current.state wish id t
 
+-- AttemptDone, by the row of the application
 abbrev pub decision_of_row : Option AppRow → AppId → Tables → Entry × Tables
 decision_of_row None id t = main_quiet t
 decision_of_row (Some row) id t = decision_of_current row.state row.current row.wish id t
@@ -164,23 +173,28 @@ with_attempt_issued container node t =
       awaiting = t.awaiting ++ ops.Attempt container.attempt container node ∷ [];
     }
 
+-- the tables where the attempt is to wait for another container for its master
 abbrev pub with_attempt_requeued : AttemptId → Tables → Tables
 with_attempt_requeued id t =
     record t { rows = with_row (changed (of_app.OfAttempt of_attempt.Requeue)) id.app t.rows; sched = t.sched ++ scheds.AttemptAdded id ∷ [] }
 
+-- MasterGranted, by the node on which the container lives
 abbrev pub grant_of_place : Option (List ℕ) → ContainerId → Tables → Entry × Tables
 grant_of_place (Some node) container t = (Issued (ops.Attempt container.attempt container node), with_attempt_issued container node t)
 grant_of_place None container t = (Quiet lanes.Main, with_attempt_requeued container.attempt t)
 
+-- MasterGranted, by the state of the attempt and whether the container is its master's
 abbrev pub grant_of_state : AttemptState → Bool → ContainerId → Tables → Entry × Tables
 grant_of_state attempts.Granted true container t = grant_of_place (node_at t.book container) container t
 grant_of_state _ same container t = main_quiet t
 
+-- MasterGranted, by the current attempt of the application
 abbrev pub grant_of_current : Option Current → ContainerId → Tables → Entry × Tables
 grant_of_current None container t = main_quiet t
 grant_of_current (Some current) container t =
     grant_of_state current.state ((current.number == container.attempt.number) && is_master_of container current.master) container t
 
+-- MasterGranted, by the row of the application
 abbrev pub grant_of_row : Option AppRow → ContainerId → Tables → Entry × Tables
 grant_of_row None container t = main_quiet t
 grant_of_row (Some row) container t = grant_of_current row.current container t
@@ -206,27 +220,33 @@ is_living_one id current = (current.number == id.number) && is_alive current.sta
 abbrev pub with_order : ContainerId → List ℕ → Tables → Tables
 with_order container node t = record t { nodes = with_node (ordered_row container) node t.nodes }
 
+-- AttemptSaved, by the node on which the master's container lives
 abbrev pub launch_of_place : Option (List ℕ) → ContainerId → Tables → Entry × Tables
 launch_of_place None container t = main_quiet t
 launch_of_place (Some node) container t = (Ordered container node, with_order container node t)
 
+-- AttemptSaved, by the master's container
 abbrev pub launch_of_master : Option ContainerId → Tables → Entry × Tables
 launch_of_master None t = main_quiet t
 launch_of_master (Some container) t = launch_of_place (node_at t.book container) container t
 
+-- AttemptSaved, by whether a kill is wished and whether the container is lost
 abbrev pub launch_of_tests : Bool → Bool → Option ContainerId → AttemptId → Tables → Entry × Tables
 launch_of_tests true lost master id t = ends_attempt id ways.Killed killed_text t
 launch_of_tests false true master id t = ends_attempt id ways.Failed lost_text t
 launch_of_tests false false master id t = launch_of_master master t
 
+-- AttemptSaved, by whether the attempt is the current one and lives
 abbrev pub launch_of_living : Bool → Bool → Current → AttemptId → Tables → Entry × Tables
 launch_of_living true wish current id t = launch_of_tests wish current.lost current.master id t
 launch_of_living false wish current id t = main_quiet t
 
+-- AttemptSaved, by the current attempt of the application
 abbrev pub launch_of_current : Option Current → Bool → AttemptId → Tables → Entry × Tables
 launch_of_current None wish id t = main_quiet t
 launch_of_current (Some current) wish id t = launch_of_living (is_living_one id current) wish current id t
 
+-- AttemptSaved, by the row of the application
 abbrev pub launch_of_row : Option AppRow → AttemptId → Tables → Entry × Tables
 launch_of_row None id t = main_quiet t
 launch_of_row (Some row) id t = launch_of_current row.current row.wish id t
@@ -239,11 +259,13 @@ loss_of_state attempts.Registered true container t = ends_attempt container.atte
 loss_of_state attempts.Finishing true container t = ends_attempt container.attempt ways.Failed lost_text t
 loss_of_state _ mine container t = main_quiet t
 
+-- MasterLost, by the current attempt of the application
 abbrev pub loss_of_current : Option Current → ContainerId → Tables → Entry × Tables
 loss_of_current None container t = main_quiet t
 loss_of_current (Some current) container t =
     loss_of_state current.state ((current.number == container.attempt.number) && is_master_of container current.master) container t
 
+-- MasterLost, by the row of the application
 abbrev pub loss_of_row : Option AppRow → ContainerId → Tables → Entry × Tables
 loss_of_row None container t = main_quiet t
 loss_of_row (Some row) container t = loss_of_current row.current container t
@@ -253,10 +275,12 @@ abbrev pub expiry_of_living : Bool → AttemptId → Tables → Entry × Tables
 expiry_of_living true id t = ends_attempt id ways.Failed expired_text t
 expiry_of_living false id t = main_quiet t
 
+-- AttemptExpired, by the current attempt of the application
 abbrev pub expiry_of_current : Option Current → AttemptId → Tables → Entry × Tables
 expiry_of_current None id t = main_quiet t
 expiry_of_current (Some current) id t = expiry_of_living (is_living_one id current) id t
 
+-- AttemptExpired, by the row of the application
 abbrev pub expiry_of_row : Option AppRow → AttemptId → Tables → Entry × Tables
 expiry_of_row None id t = main_quiet t
 expiry_of_row (Some row) id t = expiry_of_current row.current id t
@@ -266,15 +290,18 @@ abbrev pub finishing_in : Option Dialogue → Option (List ℕ)
 finishing_in None = None
 finishing_in (Some dialogue) = dialogue.finishing
 
+-- AttemptFinish, by whether the attempt is the current one and lives, and what its master said
 abbrev pub finish_of_living : Bool → Option (List ℕ) → AttemptId → Tables → Entry × Tables
 finish_of_living true (Some text) id t = ends_attempt id ways.Finished text t
 finish_of_living true None id t = main_quiet t
 finish_of_living false text id t = main_quiet t
 
+-- AttemptFinish, by the current attempt of the application
 abbrev pub finish_of_current : Option Current → Option (List ℕ) → AttemptId → Tables → Entry × Tables
 finish_of_current None text id t = main_quiet t
 finish_of_current (Some current) text id t = finish_of_living (is_living_one id current) text id t
 
+-- AttemptFinish, by the row of the application
 abbrev pub finish_of_row : Option AppRow → AttemptId → Tables → Entry × Tables
 finish_of_row None id t = main_quiet t
 finish_of_row (Some row) id t = finish_of_current row.current (finishing_in row.dialogue) id t

@@ -33,6 +33,7 @@ is_waiting states.Waiting = true
 is_waiting states.Ready = false
 is_waiting states.Lost = false
 
+-- its report was absorbed, and its lease has not run out
 abbrev pub is_ready : NodeState → Bool
 is_ready states.Absent = false
 is_ready states.Waiting = false

@@ -64,6 +64,7 @@ main_by (Some end) last id = []
 main_by None None id = mains.AppSaved id ∷ []
 main_by None (Some last) id = if is_some last.ending then mains.AttemptDone (record { app = id; number = last.id.number }) ∷ [] else []
 
+-- the main queue's event of a recorded application
 abbrev pub main_of : AppRecord → List MainEvent
 main_of one = main_by one.ending (last_attempt one.attempts) one.id
 
@@ -73,6 +74,7 @@ sched_by (Some end) last id = []
 sched_by None None id = []
 sched_by None (Some last) id = if is_some last.ending then [] else scheds.AttemptRecovered (record { app = id; number = last.id.number }) ∷ []
 
+-- the scheduler's event of a recorded application
 abbrev pub sched_of : AppRecord → List SchedEvent
 sched_of one = sched_by one.ending (last_attempt one.attempts) one.id
 
@@ -80,5 +82,6 @@ sched_of one = sched_by one.ending (last_attempt one.attempts) one.id
 abbrev pub opening_main : List AppRecord → List MainEvent
 opening_main records = flat_map main_of records ++ mains.Retire ∷ []
 
+-- with which events of the scheduler's queue a life opens
 abbrev pub opening_sched : List AppRecord → List SchedEvent
 opening_sched records = flat_map sched_of records

@@ -35,6 +35,7 @@ abbrev pub granted_to : ℕ → Option Current → ℕ
 granted_to number None = 0
 granted_to number (Some current) = if current.number == number then current.granted else 0
 
+-- how many containers this life granted to the attempt of this number, by the row of its application
 abbrev pub granted_by : ℕ → Option AppRow → ℕ
 granted_by number None = 0
 granted_by number (Some row) = granted_to number row.current
@@ -70,6 +71,7 @@ abbrev pub answered : List AsksOf → Grant → Option Ask → List AsksOf
 answered asks grant None = asks
 answered asks grant (Some ask) = granted_in grant.id.attempt ask.priority grant.size asks
 
+-- the asks after a grant, of whatever attempt it is
 abbrev pub without_granted : List AsksOf → Grant → List AsksOf
 without_granted asks grant = answered asks grant (find (λ one. is_size one.size grant.size) (by_priority (asks_of asks grant.id.attempt)))
 
@@ -82,10 +84,12 @@ abbrev pub waits_at : AttemptState → Bool
 waits_at attempts.Scheduled = true
 waits_at _ = false
 
+-- the current attempt waits for its master's container
 abbrev pub waits_with : Option Current → Bool
 waits_with None = false
 waits_with (Some current) = waits_at current.state
 
+-- the current attempt of a row waits for its master's container
 abbrev pub waits_for_master : Option AppRow → Bool
 waits_for_master None = false
 waits_for_master (Some row) = waits_with row.current

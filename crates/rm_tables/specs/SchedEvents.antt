@@ -42,14 +42,17 @@ master_asked id None asks = asks
 master_asked id (Some app) asks =
     with_asks_of id (asks_set (record { priority = 0; count = 1; size = app.submission.master }) (asks_of asks id)) asks
 
+-- AttemptAdded, by the state of the attempt and whether it is the current one
 abbrev pub queued_at : AttemptState → Bool → AttemptId → Tables → Entry × Tables
 queued_at attempts.Scheduled true id t = (Queued id, record t { asks = master_asked id (found_in t id.app) t.asks })
 queued_at _ current id t = sched_quiet t
 
+-- AttemptAdded, by the current attempt of the application
 abbrev pub queued_with : Option Current → AttemptId → Tables → Entry × Tables
 queued_with None id t = sched_quiet t
 queued_with (Some current) id t = queued_at current.state (current.number == id.number) id t
 
+-- AttemptAdded, by the row of the application
 abbrev pub queued_by : Option AppRow → AttemptId → Tables → Entry × Tables
 queued_by None id t = sched_quiet t
 queued_by (Some row) id t = queued_with row.current id t
@@ -64,6 +67,7 @@ is_on name (Some row) = bytes_eq row.node name
 abbrev pub is_released : AttemptId → Tables → ContainerId → Bool
 is_released attempt t id = has_row t.book id && (is_attempt id.attempt attempt && not (is_masters_in t.tree.apps id))
 
+-- Release: those end of the list that the attempt may release, each once
 abbrev pub released_by : AttemptId → List ContainerId → Tables → Entry × Tables
 released_by attempt list t = ended_by causes.Released (once (filter (is_released attempt t) list)) t
 
@@ -77,10 +81,12 @@ abbrev pub EndsIf : Bool → List ℕ → NodeRow → Tables → List ContainerI
 EndsIf true name row t list = Ascend (not_taken t.book name (taken_in t name row)) list
 EndsIf false name row t list = Unit {0}
 
+-- which containers end where a node is absorbed, by its row
 abbrev pub EndsAbsorbed : Option NodeRow → List ℕ → ℕ → Tables → List ContainerId → Type 0
 EndsAbsorbed None name turn t list = Unit {0}
 EndsAbsorbed (Some row) name turn t list = EndsIf (is_waiting row.state && (row.turn == turn)) name row t list
 
+-- which containers end by an event: those of an attempt that is over, or on a node that is lost or is absorbed
 abbrev pub EndsBy : SchedEvent → Tables → List ContainerId → Type 0
 EndsBy (scheds.AttemptRemoved id) t list = Ascend (ids_of t.book id) list
 EndsBy (scheds.NodeLost node) t list = Ascend (ids_on t.book node) list

@@ -18,9 +18,11 @@ use Rattle.rm_tables.specs.Changes.{changed}
 abbrev pub registered_row : (Option Dialogue → Option Dialogue) → AppRow → AppRow
 registered_row talk row = record (changed of_app.Register row) { dialogue = talk row.dialogue }
 
+-- the row after its master finished
 abbrev pub said_row : (Option Dialogue → Option Dialogue) → AppRow → AppRow
 said_row talk row = record (changed (of_app.OfAttempt of_attempt.Finish) row) { dialogue = talk row.dialogue }
 
+-- the row after its master was told of endings
 abbrev pub told_row : (Option Dialogue → Option Dialogue) → (List Closing → List Closing) → AppRow → AppRow
 told_row talk tell row = record row { dialogue = talk row.dialogue; closings = tell row.closings }
 

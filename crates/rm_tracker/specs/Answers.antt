@@ -45,6 +45,7 @@ registered_by (Some row) name turn capability running reply t =
 abbrev pub is_on : List ℕ → BookRow → Bool
 is_on name row = bytes_eq row.node name
 
+-- a row of the book is on this node, and nobody was told of its container yet
 abbrev pub is_untold : List ℕ → BookRow → Bool
 is_untold name row = bytes_eq row.node name && is_granted row.state
 

@@ -59,6 +59,7 @@ strangers_in book name running = once (filter (λ id. not (lives_at book name id
 abbrev pub launch_told : NodeRow → List ContainerId
 launch_told row = if is_ready row.state then row.launches else []
 
+-- what a node is told to clean at a new beat: where it is ready, what it reports as running that is not in the book
 abbrev pub clean_told : BookOf → List ℕ → List Held → NodeRow → List ContainerId
 clean_told book name running row = if is_ready row.state then strangers_in book name running else []
 

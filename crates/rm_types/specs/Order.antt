@@ -1,4 +1,4 @@
--- Ids in order. They compare by their parts in the order in which they are written, as `ApplicationId`, `ApplicationAttemptId`
+-- Ids in order. They compare by stamp, number, attempt, epoch and sequence, one after the other, as `ApplicationId`, `ApplicationAttemptId`
 -- and `ContainerId` of YARN do; that the epoch comes before the sequence follows from a container's number.
 use Rattle.std.specs.Prelude.{List, IsPermutation}
 use Rattle.std.specs.declared.cmp.Ordering.{Ordering}

@@ -1,6 +1,6 @@
--- The grants of one allocation pass on a node. That applications go in turn, and that the least priority number goes
--- first, is after YARN's documentation of its FIFO scheduler and of `Priority`; that an ask that doesn't fit stops no later
--- one is this project's own.
+-- The grants of one allocation pass on a node. That the least priority number goes first is after YARN's documentation
+-- of `Priority`; that applications go in turn in the order of their submission, and that an ask that doesn't fit stops no later one, is this
+-- project's own.
 use Rattle.std.specs.Prelude.{ℕ, zero, suc, ◌+◌, ◌*◌, nat_lt, List, [], ◌∷◌, ◌++◌, map, fold, sum_by, count_by, if◌then◌else◌}
 use Rattle.std.specs.List.{range_with_len}
 use Rattle.rm_types.specs.declared.containers.Ask.{Ask}

@@ -38,6 +38,7 @@ no_settings =
       queues = [];
     }
 
+-- where no life began: a desk and a device that have nothing
 abbrev pub nothing_began : Began
 nothing_began =
     record {

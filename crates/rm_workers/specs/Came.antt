@@ -40,6 +40,7 @@ abbrev pub fall_by : Option Close → Bool → List Fallen
 fall_by (Some (Crash calls image)) blown = fall calls image blown ∷ []
 fall_by _ blown = []
 
+-- the fall of the device at an entry, where the life goes down by it
 abbrev pub falls_on : Option Close → Bool → Entry → List Fallen
 falls_on close blown Down = fall_by close blown
 falls_on close blown _ = []

@@ -9,8 +9,10 @@ pub record HeldView : Type 0 where
   pub desk : DeskView
   pub halt : Option Halt
 
+-- the log of the desk
 abbrev pub log_of : HeldView → List Entry
 log_of held = held.desk.core.log
 
+-- there is one run for all
 abbrev pub run_of : HeldView → Unit {0}
 run_of held = tt

@@ -3,7 +3,7 @@ ghost use Rattle.std.specs.Prelude.{◌≡◌, ◌+◌, ◌<◌, ◌^◌};
 ghost use Rattle.rm_types.specs.Records.{no_records};
 ghost use Rattle.rm_tables.specs.Lives.{no_life};
 
-use crate::helpers::{APP, SIZE, text, wants};
+use crate::helpers::{APP, SIZE, text, wants, wants_words, word};
 use rm_app::AppState;
 use rm_client::serve;
 use rm_queues::{QueueTree, starts_at_root};
@@ -57,6 +57,9 @@ fn cluster<R: Abort>(rt: &R, alloc: Global) -> (QueueTree, Tables)
     (queues, Tables::new(alloc, settings))
 }
 
+/// Drops both, in one place for all tests.
+fn let_go(_queues: QueueTree, _tables: Tables) {}
+
 /// A job of alice.
 fn job<R: Abort>(rt: &R, alloc: Global) -> Submission {
     let user = text(rt, alloc, "alice");
@@ -95,25 +98,45 @@ fn answered<R: Abort>(rt: &R, queues: &QueueTree, tables: &mut Tables, ask: &Cli
     serve(queues, tables, &user, ask).expect(rt, "memory")
 }
 
+/// Whether a reply gives the first id.
+fn gives_first(reply: &Reply) -> bool {
+    matches!(reply, Reply::New(id) if *id == APP)
+}
+
+fn see_id<R: Abort>(rt: &R, queues: &QueueTree, tables: &mut Tables)
+    requires settings { queues.now ≡ tables.old.settings }
+    requires tables { tables.old ≡ no_life tables.old.alloc tables.old.settings }
+{
+    tables.stamp = 5;
+    let reply = answered(rt, queues, tables, &ClientAsk::New);
+    wants(rt, gives_first(&reply));
+    wants(rt, tables.given == 1);
+}
+
 #[test]
 fn a_new_id_has_the_stamp_and_the_next_number(rt: HostRuntime) {
     let (queues, mut tables) = cluster(&rt, rt.alloc());
+    see_id(&rt, &queues, &mut tables);
+    let_go(queues, tables);
+}
+
+fn see_submission<R: Abort>(rt: &R, queues: &QueueTree, tables: &mut Tables)
+    requires settings { queues.now ≡ tables.old.settings }
+    requires tables { tables.old ≡ no_life tables.old.alloc tables.old.settings }
+{
     tables.stamp = 5;
-    let reply = answered(&rt, &queues, &mut tables, &ClientAsk::New);
-    wants(&rt, matches!(reply, Reply::New(id) if id == APP));
-    wants(&rt, tables.given == 1);
+    tables.given = 1;
+    let ask = ClientAsk::Submit(APP, job(rt, tables.alloc));
+    wants_words(rt, word(answered(rt, queues, tables, &ask)), "submitted");
+    wants(rt, tables.going == 1);
+    wants(rt, tables.rows.find(APP).is_some());
 }
 
 #[test]
 fn a_submission_joins_what_is_known(rt: HostRuntime) {
     let (queues, mut tables) = cluster(&rt, rt.alloc());
-    tables.stamp = 5;
-    tables.given = 1;
-    let ask = ClientAsk::Submit(APP, job(&rt, rt.alloc()));
-    let reply = answered(&rt, &queues, &mut tables, &ask);
-    wants(&rt, matches!(reply, Reply::Submitted));
-    wants(&rt, tables.going == 1);
-    wants(&rt, tables.rows.find(APP).is_some());
+    see_submission(&rt, &queues, &mut tables);
+    let_go(queues, tables);
 }
 
 fn is_wished(tables: &Tables) -> bool {
@@ -123,16 +146,22 @@ fn is_wished(tables: &Tables) -> bool {
     }
 }
 
+fn see_kill<R: Abort>(rt: &R, queues: &QueueTree, tables: &mut Tables)
+    requires settings { queues.now ≡ tables.old.settings }
+    requires tables { tables.old ≡ no_life tables.old.alloc tables.old.settings }
+{
+    let known = row(rt, tables.alloc);
+    tables.rows.add(APP, known).expect(rt, "memory");
+    let ask = ClientAsk::Kill(APP);
+    wants_words(rt, word(answered(rt, queues, tables, &ask)), "killing");
+    wants(rt, is_wished(tables));
+}
+
 #[test]
 fn a_kill_is_wished_for(rt: HostRuntime) {
     let (queues, mut tables) = cluster(&rt, rt.alloc());
-    tables
-        .rows
-        .add(APP, row(&rt, rt.alloc()))
-        .expect(&rt, "memory");
-    let reply = answered(&rt, &queues, &mut tables, &ClientAsk::Kill(APP));
-    wants(&rt, matches!(reply, Reply::Killing));
-    wants(&rt, is_wished(&tables));
+    see_kill(&rt, &queues, &mut tables);
+    let_go(queues, tables);
 }
 
 /// A container of an application lives on a node.
@@ -149,21 +178,29 @@ fn lives<R: Abort>(rt: &R, tables: &mut Tables, app: AppId, node: &Text)
     wants(rt, added.is_ok());
 }
 
+/// Whether a reply reports that one container lives.
+fn has_one_alive(reply: &Reply) -> bool {
+    matches!(reply, Reply::Report(report) if report.live == 1)
+}
+
+fn see_report<R: Abort>(rt: &R, queues: &QueueTree, tables: &mut Tables)
+    requires settings { queues.now ≡ tables.old.settings }
+    requires tables { tables.old ≡ no_life tables.old.alloc tables.old.settings }
+{
+    let known = row(rt, tables.alloc);
+    tables.rows.add(APP, known).expect(rt, "memory");
+    let node = text(rt, tables.alloc, "n1:1");
+    let offer = tables.settings.greatest;
+    tables.book.set_node(&node, offer).expect(rt, "memory");
+    lives(rt, tables, APP, &node);
+    lives(rt, tables, SECOND, &node);
+    let reply = answered(rt, queues, tables, &ClientAsk::Report(APP));
+    wants(rt, has_one_alive(&reply));
+}
+
 #[test]
 fn a_report_counts_the_living_of_its_application(rt: HostRuntime) {
     let (queues, mut tables) = cluster(&rt, rt.alloc());
-    tables
-        .rows
-        .add(APP, row(&rt, rt.alloc()))
-        .expect(&rt, "memory");
-    let node = text(&rt, rt.alloc(), "n1:1");
-    let offer = tables.settings.greatest;
-    tables.book.set_node(&node, offer).expect(&rt, "memory");
-    lives(&rt, &mut tables, APP, &node);
-    lives(&rt, &mut tables, SECOND, &node);
-    let reply = answered(&rt, &queues, &mut tables, &ClientAsk::Report(APP));
-    wants(
-        &rt,
-        matches!(&reply, Reply::Report(report) if report.live == 1),
-    );
+    see_report(&rt, &queues, &mut tables);
+    let_go(queues, tables);
 }

@@ -1,8 +1,8 @@
-//! What the tests share: ids, a size, texts, and tables that know nothing yet.
+//! What the tests share: ids, a size, texts, the words of replies, and tables that know nothing yet.
 ghost use Rattle.std.specs.Prelude.{◌≡◌, []};
 
 use rm_tables::Tables;
-use rm_types::{AppId, AttemptId, Items, Resource, Settings, Text};
+use rm_types::{AppId, AttemptId, Items, Reply, Resource, Settings, Text};
 use std::alloc::Global;
 use std::process::Abort;
 
@@ -23,6 +23,26 @@ pub const SIZE: Resource = Resource {
 
 pub fn wants<R: Abort>(rt: &R, is_so: bool) {
     assert!(rt; is_so);
+}
+
+/// The words that were found are those that were wanted.
+pub fn wants_words<R: Abort>(rt: &R, found: &str, wanted: &str) {
+    assert!(rt; found == wanted, "`{found}` in place of `{wanted}`");
+}
+
+/// The word of a reply that is no more than that.
+pub fn word(reply: Reply) -> &'static str {
+    match reply {
+        Reply::Submitted => "submitted",
+        Reply::Killing => "killing",
+        Reply::MasterRegistered => "registered",
+        Reply::Already => "already",
+        Reply::TooLarge => "too large",
+        Reply::Finishing => "finishing",
+        Reply::Resync => "resync",
+        Reply::Ok => "ok",
+        _ => "another",
+    }
 }
 
 pub fn text<R: Abort>(rt: &R, alloc: Global, words: &str) -> Text {
@@ -46,3 +66,6 @@ pub fn tables(alloc: Global) -> Tables
     };
     Tables::new(alloc, settings)
 }
+
+/// Drops tables, in one place for all tests.
+pub fn let_go(_tables: Tables) {}

@@ -1,7 +1,7 @@
 //! What no clause says: that a master can be answered, by the words that the rules give.
 ghost use Rattle.std.specs.Prelude.{◌≡◌, []};
 
-use crate::helpers::{ATTEMPT, SIZE, tables, text, wants};
+use crate::helpers::{ATTEMPT, SIZE, let_go, tables, text, wants, wants_words, word};
 use rm_app::AppState;
 use rm_attempt::AttemptState;
 use rm_book::Book;
@@ -80,13 +80,13 @@ fn fill<R: Abort>(rt: &R, tables: &mut Tables)
     tables.book = book(rt, tables.alloc);
 }
 
-fn register<R: Abort>(rt: &R, tables: &mut Tables) -> Reply {
-    serve(tables, ATTEMPT, &MasterAsk::Register).expect(rt, "memory")
+fn register<R: Abort>(rt: &R, tables: &mut Tables) -> &'static str {
+    word(serve(tables, ATTEMPT, &MasterAsk::Register).expect(rt, "memory"))
 }
 
-fn finish<R: Abort>(rt: &R, tables: &mut Tables) -> Reply {
+fn finish<R: Abort>(rt: &R, tables: &mut Tables) -> &'static str {
     let text = text(rt, tables.alloc, "done");
-    serve(tables, ATTEMPT, &MasterAsk::Finish { text }).expect(rt, "memory")
+    word(serve(tables, ATTEMPT, &MasterAsk::Finish { text }).expect(rt, "memory"))
 }
 
 /// The first allocation: the master asks for two containers of a size, and releases one that ended.
@@ -108,61 +108,92 @@ fn allocate<R: Abort>(rt: &R, tables: &mut Tables, size: Resource) -> Reply {
     serve(tables, ATTEMPT, &ask).expect(rt, "memory")
 }
 
+fn see_registrations<R: Abort>(rt: &R, tables: &mut Tables)
+    requires { tables.old.rows ≡ [] }
+{
+    fill(rt, tables);
+    wants_words(rt, register(rt, tables), "registered");
+    wants_words(rt, register(rt, tables), "already");
+}
+
 #[test]
 fn a_master_registers_once(rt: HostRuntime) {
     let mut tables = tables(rt.alloc());
-    fill(&rt, &mut tables);
-    wants(
-        &rt,
-        matches!(register(&rt, &mut tables), Reply::MasterRegistered),
-    );
-    wants(&rt, matches!(register(&rt, &mut tables), Reply::Already));
+    see_registrations(&rt, &mut tables);
+    let_go(tables);
 }
 
 /// The reply to the first allocation tells of the grant and of the ending.
-fn is_told(reply: &Reply) -> bool {
+fn wants_told<R: Abort>(rt: &R, reply: &Reply) {
     match reply {
         Reply::Allocated {
             id: 1,
             grants,
             ended,
         } => {
-            ended.as_slice() == [ENDED].as_slice()
-                && grants.len() == 1
-                && grants.as_slice().iter().all(|grant| grant.id == GRANTED)
+            wants(rt, ended.as_slice() == [ENDED].as_slice());
+            wants(rt, grants.len() == 1);
+            wants(
+                rt,
+                grants.as_slice().iter().all(|grant| grant.id == GRANTED),
+            );
         }
-        _ => false,
+        _ => wants(rt, false),
     }
+}
+
+/// The master is told of the grant and of the ending.
+fn see_allocation<R: Abort>(rt: &R, tables: &mut Tables) {
+    let reply = allocate(rt, tables, SIZE);
+    wants_told(rt, &reply);
+}
+
+fn see_allocations<R: Abort>(rt: &R, tables: &mut Tables)
+    requires { tables.old.rows ≡ [] }
+{
+    fill(rt, tables);
+    register(rt, tables);
+    see_allocation(rt, tables);
+    see_allocation(rt, tables);
+    wants(rt, tables.sched.len() == 1);
 }
 
 #[test]
 fn a_master_is_told_of_grants_and_endings(rt: HostRuntime) {
     let mut tables = tables(rt.alloc());
-    fill(&rt, &mut tables);
-    register(&rt, &mut tables);
-    wants(&rt, is_told(&allocate(&rt, &mut tables, SIZE)));
-    wants(&rt, is_told(&allocate(&rt, &mut tables, SIZE)));
-    wants(&rt, tables.sched.len() == 1);
+    see_allocations(&rt, &mut tables);
+    let_go(tables);
+}
+
+fn see_refusal<R: Abort>(rt: &R, tables: &mut Tables)
+    requires { tables.old.rows ≡ [] }
+{
+    fill(rt, tables);
+    register(rt, tables);
+    wants_words(rt, word(allocate(rt, tables, LARGE)), "too large");
+    wants(rt, tables.asks.of(ATTEMPT).is_none());
 }
 
 #[test]
 fn a_master_may_not_ask_for_too_much(rt: HostRuntime) {
     let mut tables = tables(rt.alloc());
-    fill(&rt, &mut tables);
-    register(&rt, &mut tables);
-    wants(
-        &rt,
-        matches!(allocate(&rt, &mut tables, LARGE), Reply::TooLarge),
-    );
-    wants(&rt, tables.asks.of(ATTEMPT).is_none());
+    see_refusal(&rt, &mut tables);
+    let_go(tables);
+}
+
+fn see_finish<R: Abort>(rt: &R, tables: &mut Tables)
+    requires { tables.old.rows ≡ [] }
+{
+    fill(rt, tables);
+    register(rt, tables);
+    wants_words(rt, finish(rt, tables), "finishing");
+    wants_words(rt, finish(rt, tables), "finishing");
+    wants(rt, tables.main.len() == 1);
 }
 
 #[test]
 fn a_master_finishes(rt: HostRuntime) {
     let mut tables = tables(rt.alloc());
-    fill(&rt, &mut tables);
-    register(&rt, &mut tables);
-    wants(&rt, matches!(finish(&rt, &mut tables), Reply::Finishing));
-    wants(&rt, matches!(finish(&rt, &mut tables), Reply::Finishing));
-    wants(&rt, tables.main.len() == 1);
+    see_finish(&rt, &mut tables);
+    let_go(tables);
 }

@@ -13,6 +13,7 @@ abbrev pub order_in : Option AppRecord → ℕ
 order_in None = 0
 order_in (Some one) = one.end_order
 
+-- when the end of the application with this id was kept, as a place among the operations
 abbrev pub order_of : List AppRecord → AppId → ℕ
 order_of apps id = order_in (record_of apps id)
 

@@ -29,6 +29,7 @@ use Rattle.rm_invariant.specs.apps.View.{Counts, View, view}
 abbrev pub ops_of : Counts → ℕ
 ops_of c = c.apps + (c.attempts + (c.attempt_ends + (c.app_ends + c.removes)))
 
+-- how many events are on its way to being accepted
 abbrev pub way : Counts → ℕ
 way c = c.saves + (c.adds + c.accepts)
 

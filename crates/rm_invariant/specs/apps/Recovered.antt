@@ -24,6 +24,7 @@ pub data Recoverable (id : AppId) (one : AppRecord) : Type 0 where
   over_after : (end : How × List ℕ) (last : AttemptRecord) → one.ending ≡ Some end → last_attempt one.attempts ≡ Some last → is_some last.ending ≡ true
       → Recoverable id one
 
+-- the end of a recorded application is kept
 abbrev pub has_ended : AppRecord → Bool
 has_ended one = is_some one.ending
 

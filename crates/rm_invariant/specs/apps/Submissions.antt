@@ -16,10 +16,12 @@ abbrev pub saving : Op → List AppId
 saving (App id submission) = id ∷ []
 saving _ = []
 
+-- the application whose App an event is to issue
 abbrev pub starting : MainEvent → List AppId
 starting (mains.AppStart id) = id ∷ []
 starting _ = []
 
+-- the applications that were submitted and are not kept
 abbrev pub submitted_ids : List Submitted → List AppId
 submitted_ids submitted = map (λ one. one.id) submitted
 

@@ -61,34 +61,42 @@ abbrev pub is_start : AppId → MainEvent → Bool
 is_start q (mains.AppStart id) = is_app id q
 is_start q _ = false
 
+-- the application was saved
 abbrev pub is_save : AppId → MainEvent → Bool
 is_save q (mains.AppSaved id) = is_app id q
 is_save q _ = false
 
+-- the application was accepted by the scheduler
 abbrev pub is_accept : AppId → MainEvent → Bool
 is_accept q (mains.AppAccepted id) = is_app id q
 is_accept q _ = false
 
+-- a client wishes the application killed
 abbrev pub is_kill : AppId → MainEvent → Bool
 is_kill q (mains.AppKill id) = is_app id q
 is_kill q _ = false
 
+-- an attempt of the application has ended
 abbrev pub is_done : AppId → MainEvent → Bool
 is_done q (mains.AttemptDone id) = is_app id.app q
 is_done q _ = false
 
+-- the attempt's master was granted its container
 abbrev pub is_grant : AttemptId → MainEvent → Bool
 is_grant q (mains.MasterGranted master) = is_attempt master.attempt q
 is_grant q _ = false
 
+-- the attempt was saved, and its master is to be launched
 abbrev pub is_launch : AttemptId → MainEvent → Bool
 is_launch q (mains.AttemptSaved id) = is_attempt id q
 is_launch q _ = false
 
+-- the application is new to the scheduler
 abbrev pub is_add : AppId → SchedEvent → Bool
 is_add q (scheds.AppAdded id) = is_app id q
 is_add q _ = false
 
+-- the attempt is to be queued by the scheduler
 abbrev pub is_queueing : AttemptId → SchedEvent → Bool
 is_queueing q (scheds.AttemptAdded id) = is_attempt id q
 is_queueing q _ = false
@@ -102,10 +110,12 @@ abbrev pub is_attempt_op_of : AppId → Op → Bool
 is_attempt_op_of q (ops.Attempt id master node) = is_app id.app q
 is_attempt_op_of q _ = false
 
+-- the operation is an AttemptEnd of the application
 abbrev pub is_attempt_end_op_of : AppId → Op → Bool
 is_attempt_end_op_of q (ops.AttemptEnd id how text) = is_app id.app q
 is_attempt_end_op_of q _ = false
 
+-- the operation is the Attempt or the AttemptEnd of the attempt
 abbrev pub is_own_op : AttemptId → Op → Bool
 is_own_op q op = is_attempt_op q op || is_attempt_end_op q op
 
@@ -163,9 +173,11 @@ main_more q e c =
       launches = one_if (is_launch q e) c.launches;
     }
 
+-- the counts with one more event of the scheduler's queue
 abbrev pub sched_more : AttemptId → SchedEvent → Counts → Counts
 sched_more q e c = record c { adds = one_if (is_add q.app e) c.adds; queueings = one_if (is_queueing q e) c.queueings }
 
+-- the counts with one more awaiting operation
 abbrev pub op_more : AttemptId → Op → Counts → Counts
 op_more q op c =
     record c {
@@ -181,9 +193,11 @@ op_more q op c =
 abbrev pub main_view : AttemptId → MainEvent → View → View
 main_view q e v = record v { count = main_more q e v.count }
 
+-- the view with one more event of the scheduler's queue
 abbrev pub sched_view : AttemptId → SchedEvent → View → View
 sched_view q e v = record v { count = sched_more q e v.count }
 
+-- the view with one more awaiting operation
 abbrev pub op_view : AttemptId → Op → View → View
 op_view q op v = record v { count = op_more q op v.count }
 
@@ -192,11 +206,13 @@ abbrev pub changed_if : {X : Type 0} → Bool → (X → X) → Option X → Opt
 changed_if true change found = option_map change found
 changed_if false change found = found
 
+-- what is found, where this application, or another one, was put
 abbrev pub put_if : {X : Type 0} → Bool → X → Option X → Option X
 put_if true one None = Some one
 put_if true one (Some found) = Some found
 put_if false one found = found
 
+-- what is found, where this application, or another one, went
 abbrev pub gone_if : {X : Type 0} → Bool → Option X → Option X
 gone_if true found = None
 gone_if false found = found

@@ -37,6 +37,7 @@ abbrev pub goes_numbered : ℕ → Option Current → Bool
 goes_numbered number None = false
 goes_numbered number (Some current) = (current.number == number) && goes_with (Some current)
 
+-- the current attempt of a row has this number, and it lives or its end is issued
 abbrev pub goes_by : ℕ → Option AppRow → Bool
 goes_by number None = false
 goes_by number (Some row) = goes_numbered number row.current
@@ -70,6 +71,7 @@ abbrev pub IsUnfinished : Option Current → Type 0
 IsUnfinished None = Unit {0}
 IsUnfinished (Some current) = is_over current.state ≡ false → current.finished ≡ false
 
+-- in no row did an attempt finish of which no end is issued
 abbrev pub AreUnfinished : List (AppId × Option AppRow) → Type 0
 AreUnfinished rows = (id : AppId) (row : AppRow) → row_of rows id ≡ Some row → IsUnfinished row.current
 

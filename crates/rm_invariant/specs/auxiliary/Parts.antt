@@ -13,9 +13,11 @@ pub record FixedParts : Type 0 where
   pub submitted : List Submitted
   pub releases : List Release
 
+-- these parts as the history has them
 abbrev pub fixed_parts : History → FixedParts
 fixed_parts h = record { first = h.first; retired = h.apps.retired; submitted = h.apps.submitted; releases = h.endings.releases }
 
+-- these parts as the judge's life has them
 abbrev pub life_parts : LifeState → FixedParts
 life_parts life = record { first = life.first; retired = life.apps.retired; submitted = life.apps.submitted; releases = life.endings.releases }
 

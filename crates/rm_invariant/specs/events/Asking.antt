@@ -21,6 +21,7 @@ abbrev pub is_numbered : ℕ → Option Current → Bool
 is_numbered number None = false
 is_numbered number (Some current) = current.number == number
 
+-- the current attempt of a row has this number
 abbrev pub is_numbered_in : ℕ → Option AppRow → Bool
 is_numbered_in number None = false
 is_numbered_in number (Some row) = is_numbered number row.current

@@ -38,6 +38,7 @@ IsSilent (Some current) dialogue = is_unissued current.state ≡ true → dialog
 abbrev pub AreSilent : List (AppId × Option AppRow) → Type 0
 AreSilent rows = (id : AppId) (row : AppRow) → row_of rows id ≡ Some row → IsSilent row.current row.dialogue
 
+-- in none of the rows does an attempt that is not issued have a dialogue with its master
 abbrev pub UnissuedSilent : Tables → Type 0
 UnissuedSilent t = AreSilent t.rows
 

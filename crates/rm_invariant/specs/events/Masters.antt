@@ -19,6 +19,7 @@ abbrev pub goes_with : Option Current → Bool
 goes_with None = false
 goes_with (Some current) = is_alive current.state || is_ending current.state
 
+-- the current attempt of a row lives, or its end is issued
 abbrev pub goes_in : Option AppRow → Bool
 goes_in None = false
 goes_in (Some row) = goes_with row.current
@@ -27,6 +28,7 @@ goes_in (Some row) = goes_with row.current
 abbrev pub is_single : Ask → Bool
 is_single ask = not (ask.priority == 0) || (ask.count == 1)
 
+-- each ask for a master's container is for one
 abbrev pub are_single : List Ask → Bool
 are_single asks = list_all is_single asks
 

@@ -47,22 +47,27 @@ abbrev pub is_granting : ContainerId → MainEvent → Bool
 is_granting c (mains.MasterGranted master) = is_container master c
 is_granting c _ = false
 
+-- the container was a master's, and is lost
 abbrev pub is_losing : ContainerId → MainEvent → Bool
 is_losing c (mains.MasterLost master) = is_container master c
 is_losing c _ = false
 
+-- the lease of the attempt's master ran out
 abbrev pub is_expiry : ContainerId → MainEvent → Bool
 is_expiry c (mains.AttemptExpired id) = is_attempt id c.attempt
 is_expiry c _ = false
 
+-- the attempt's master finished
 abbrev pub is_finish : ContainerId → MainEvent → Bool
 is_finish c (mains.AttemptFinish id) = is_attempt id c.attempt
 is_finish c _ = false
 
+-- the attempt's containers are to end
 abbrev pub is_removal : ContainerId → SchedEvent → Bool
 is_removal c (scheds.AttemptRemoved id) = is_attempt id c.attempt
 is_removal c _ = false
 
+-- the operation is the Attempt of which the container is the master's
 abbrev pub is_saving : ContainerId → Op → Bool
 is_saving c (ops.Attempt id master node) = is_container master c
 is_saving c _ = false
@@ -99,8 +104,10 @@ container_view_main c e v =
       finishes = one_if (is_finish c e) v.finishes;
     }
 
+-- the view with one more event of the scheduler's queue
 abbrev pub container_view_sched : ContainerId → SchedEvent → ContainerView → ContainerView
 container_view_sched c e v = record v { removals = one_if (is_removal c e) v.removals }
 
+-- the view with one more awaiting operation
 abbrev pub container_view_op : ContainerId → Op → ContainerView → ContainerView
 container_view_op c op v = record v { savings = one_if (is_saving c op) v.savings }

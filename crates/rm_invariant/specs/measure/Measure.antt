@@ -25,6 +25,7 @@ use Rattle.rm_tables.specs.declared.tables.Tables.{Tables}
 abbrev pub most_grants : ℕ
 most_grants = 256
 
+-- a node reports at most so many containers
 abbrev pub most_reported : ℕ
 most_reported = 1000
 
@@ -105,6 +106,7 @@ attempt_measure attempts.Ending = 0
 attempt_measure attempts.Ended = 0
 attempt_measure attempts.Dropped = 0
 
+-- the current attempt counts what is still to be issued of it, where there is one
 abbrev pub current_measure : Option Current → ℕ
 current_measure None = 0
 current_measure (Some current) = attempt_measure current.state
@@ -131,6 +133,7 @@ app_measure most apps.Killed number = 0
 abbrev pub row_measure : ℕ → AppRow → ℕ
 row_measure most row = app_measure most row.state (number_in row.current) + current_measure row.current
 
+-- a slot counts its row, and nothing where the application was removed
 abbrev pub slot_measure : ℕ → Option AppRow → ℕ
 slot_measure most None = 0
 slot_measure most (Some row) = row_measure most row
@@ -163,6 +166,7 @@ measure_with most t =
     + (length t.book.rows
     + (one_unless t.handed + (2 * one_unless t.blown + opening_measure t.is_open t.alive t.tree.apps)))))))
 
+-- how much is left to do in all, by the number of attempts that the settings allow
 abbrev pub measure : Tables → ℕ
 measure t = measure_with t.settings.max_attempts t
 

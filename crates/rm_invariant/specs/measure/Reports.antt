@@ -11,6 +11,7 @@ use Rattle.rm_invariant.specs.measure.Measure.{most_grants, most_reported}
 abbrev pub ReportFew : List (List ℕ × NodeRow) → Type 0
 ReportFew nodes = (name : List ℕ) (row : NodeRow) → node_of nodes name ≡ Some row → length row.running ≤ most_reported
 
+-- each node of the tables reported few containers
 abbrev pub FewReported : Tables → Type 0
 FewReported t = ReportFew t.nodes
 

@@ -55,20 +55,24 @@ IsClientAsk (clients.Submit id submission) = IsOperation (App id submission)
 IsClientAsk (clients.Report id) = Unit {0}
 IsClientAsk (clients.Kill id) = Unit {0}
 
+-- what masters say has its parts in their ranges
 abbrev pub IsMasterAsk : MasterAsk → Type 0
 IsMasterAsk masters.Register = Unit {0}
 IsMasterAsk (masters.Finish text) = IsText Note text
 IsMasterAsk (masters.Allocate id asks release) = IsResponse id × IsList IsAsk asks × IsList IsContainerId release
 
+-- what nodes say has its parts in their ranges
 abbrev pub IsNodeAsk : NodeAsk → Type 0
 IsNodeAsk (nodes.Register turn capability running) = IsSize capability × IsList IsHeld running
 IsNodeAsk (nodes.Beat id running done) = IsResponse id × IsList IsHeld running × IsList IsContainerId done
 
+-- what the clock says has its parts in their ranges
 abbrev pub IsClockAsk : ClockAsk → Type 0
 IsClockAsk (clocks.Tick time) = time ≤ 1000000000
 IsClockAsk (clocks.ExpireNode node) = Unit {0}
 IsClockAsk (clocks.ExpireMaster attempt) = Unit {0}
 
+-- a message of whatever sender has its parts in their ranges
 abbrev pub IsMessage : Message → Type 0
 IsMessage (messages.Client user ask) = IsClientAsk ask
 IsMessage (messages.Master attempt ask) = IsMasterAsk ask

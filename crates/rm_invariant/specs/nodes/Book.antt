@@ -29,9 +29,11 @@ IsAbsorbed nodes name = is_some (option_and_then (λ node. node.capability) (nod
 abbrev pub BookRowInvariant : LifeState → (ContainerId → Type 0) → Row → Type 0
 BookRowInvariant life more row = IsAbsorbed life.nodes row.node × IsGranted life row.id × (row.id.epoch ≡ life.epoch → has_container life.endings.left row.id ≡ false) × more row.id
 
+-- each container that a node is to launch lives on it
 abbrev pub AreLaunches : List Row → NodeState → Type 0
 AreLaunches book node = All (λ id. lives_on book node.name id ≡ true) node.launches
 
+-- no two rows are of one container, each row is as its life says, each container that left was granted, and each launch lives on its node
 pub record BookInvariant (life : LifeState) (more : ContainerId → Type 0) : Type 0 where
   pub apart : AreApart life.book
   pub rows : All (BookRowInvariant life more) life.book

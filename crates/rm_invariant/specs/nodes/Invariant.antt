@@ -76,9 +76,11 @@ pub record RegisteredInvariant (v : NodeView) : Type 0 where
   pub turns : are_turns v.turn (pending v.events half) ≡ true
   pub same : v.undone ≡ without_idle (idle_in v) (pending v.events half)
 
+-- the events of a node in the scheduler's queue
 abbrev pub events_of : List ℕ → List SchedEvent → List SchedEvent
 events_of name sched = filter (is_of name) sched
 
+-- a node with its events and the containers on it
 abbrev pub view_of : NodeState → List SchedEvent → List ContainerId → NodeView
 view_of node events on = record { turn = node.last.turn; phase = node.phase; on = on; events = events; undone = node.undone }
 
@@ -87,5 +89,6 @@ abbrev pub NodeInvariant : Option NodeState → List SchedEvent → List Contain
 NodeInvariant None events on = (events ≡ []) × (on ≡ [])
 NodeInvariant (Some node) events on = RegisteredInvariant (view_of node events on)
 
+-- it holds of every name there may be, with the node, the events and the containers that have it
 abbrev pub NodesInvariant : List NodeState → List Row → List SchedEvent → Type 0
 NodesInvariant nodes book sched = (q : List ℕ) → NodeInvariant (node_of nodes q) (events_of q sched) (ids_on book q)
