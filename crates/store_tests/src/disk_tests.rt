@@ -100,7 +100,7 @@ fn blows<R: Abort>(rt: &R, fuse: &mut Fuse<MemDisk>) {
     reads(rt, fuse, &[5, 0, 0, 0]);
 }
 
-/// A fuse that is blown keeps the falls of its disk, and those that come unarmed by number.
+/// A fuse keeps the falls of its disk that come while it is armed, and counts the others.
 fn falls<R: Abort>(rt: &R, fuse: &mut Fuse<MemDisk>) {
     fuse.fall(3);
     wants(rt, !fuse.blown());
@@ -204,8 +204,8 @@ fn a_file_keeps_what_was_written(rt: HostRuntime) {
 }
 
 /// A disk in a file that isn't there is made whole, and is synced until that isn't interrupted.
-fn see_making<R: Abort, D: Disk + Drop>(rt: &R, mut disk: D, calls: &Calls) {
-    wants_words(rt, told(write(rt, &mut disk, 1, &[7])), "ok");
+fn see_making<R: Abort, D: Disk>(rt: &R, disk: &mut D, calls: &Calls) {
+    wants_words(rt, told(write(rt, disk, 1, &[7])), "ok");
     // All of its bytes were written and synced when it got its name, and its folder was synced after that.
     wants(rt, calls.named_after.get() == (FILE_SIZE, 1));
     wants(rt, calls.whole_syncs.get() == 2);
@@ -224,7 +224,7 @@ fn a_file_is_made_whole_before_it_has_its_name(rt: HostRuntime) {
         files: &rt,
         calls: &calls,
     };
-    see_making(&rt, FileDisk::new(&files, name), &calls);
+    see_making(&rt, &mut FileDisk::new(&files, name), &calls);
     remove_file(&rt, name);
 }
 
@@ -240,14 +240,14 @@ fn reads_after<R: Abort, D: Disk>(rt: &R, disk: &mut D, at: u64, wanted: u8) {
 const READS: [(u64, u32); 4] = [(0, 1), (65_532, 1), (65_533, 2), (65_540, 2)];
 
 /// A disk reads ahead, until a byte is written.
-fn see_reads<R: Abort, D: Disk + Drop>(rt: &R, mut disk: D, calls: &Calls) {
+fn see_reads<R: Abort, D: Disk>(rt: &R, disk: &mut D, calls: &Calls) {
     for (at, many) in READS.as_slice() {
-        reads_after(rt, &mut disk, *at, 0);
+        reads_after(rt, disk, *at, 0);
         assert!(rt; calls.reads.get() == *many, "{at}");
     }
     wants(rt, disk.size() == FILE_SIZE);
-    wants_words(rt, told(write(rt, &mut disk, 65_541, &[7])), "ok");
-    reads_after(rt, &mut disk, 65_540, 7);
+    wants_words(rt, told(write(rt, disk, 65_541, &[7])), "ok");
+    reads_after(rt, disk, 65_540, 7);
     wants(rt, calls.reads.get() == 3);
 }
 
@@ -260,7 +260,7 @@ fn a_window_reads_ahead_and_forgets_at_a_write(rt: HostRuntime) {
         files: &rt,
         calls: &calls,
     };
-    let disk = Window::new(rt.alloc(), FileDisk::new(&files, name));
-    see_reads(&rt, disk, &calls);
+    let mut disk = Window::new(rt.alloc(), FileDisk::new(&files, name));
+    see_reads(&rt, &mut disk, &calls);
     remove_file(&rt, name);
 }

@@ -1,5 +1,4 @@
 //! What no clause says: what bytes an append writes, and what a crash or a fault at each of its calls leaves.
-ghost use Rattle.std.specs.Prelude.{◌≤◌, length};
 ghost use Rattle.rm_journal.specs.Journal.{JournalInvariant};
 
 use crate::helpers::{disk_of, filled, read, wants};
@@ -52,33 +51,23 @@ fn fused<R: Abort>(rt: &R, alloc: Global, size: usize, passes: u32) -> Fuse<MemD
     fuse
 }
 
+/// The record of the payload behind a closed gate.
+const CLOSED: [u8; 20] = [
+    9, 0, 0, 0, 13, 1, 0, 0, 0, 1, 0, 0, 1, 72, 128, 67, 118, 15, 0, 9,
+];
+
+/// The record behind an open gate.
+const OPEN: [u8; 20] = [
+    1, 0, 0, 0, 13, 1, 0, 0, 0, 1, 0, 0, 1, 72, 128, 67, 118, 15, 0, 9,
+];
+
 /// How many calls pass, which are opening's sync and then those of the append, and what the disk reads then.
 const WRITTEN: [(u32, [u8; 20]); 5] = [
     (1, [9; 20]),
-    (
-        2,
-        [
-            9, 0, 0, 0, 13, 1, 0, 0, 0, 1, 0, 0, 1, 72, 128, 67, 118, 15, 0, 9,
-        ],
-    ),
-    (
-        3,
-        [
-            9, 0, 0, 0, 13, 1, 0, 0, 0, 1, 0, 0, 1, 72, 128, 67, 118, 15, 0, 9,
-        ],
-    ),
-    (
-        4,
-        [
-            1, 0, 0, 0, 13, 1, 0, 0, 0, 1, 0, 0, 1, 72, 128, 67, 118, 15, 0, 9,
-        ],
-    ),
-    (
-        5,
-        [
-            1, 0, 0, 0, 13, 1, 0, 0, 0, 1, 0, 0, 1, 72, 128, 67, 118, 15, 0, 9,
-        ],
-    ),
+    (2, CLOSED),
+    (3, CLOSED),
+    (4, OPEN),
+    (5, OPEN),
 ];
 
 /// The disk reads this after an append of which so many calls pass.

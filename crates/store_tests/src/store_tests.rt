@@ -113,22 +113,14 @@ fn operations_are_read_back_in_order(rt: HostRuntime) {
     );
 }
 
-/// A disk in a file, behind a window and under a fuse.
-fn disk_in_file<'a>(
-    files: &'a HostRuntime,
-    name: &'a str,
-) -> Fuse<Window<FileDisk<'a, HostRuntime>>> {
-    let file = FileDisk::new(files, name);
-    Fuse::new(files.alloc(), Window::new(files.alloc(), file))
-}
-
 #[test]
 fn a_store_is_kept_in_a_file(rt: HostRuntime) {
-    let name = "rm_store_test.store";
+    let (alloc, name) = (rt.alloc(), "rm_store_test.store");
     let _ = fs::remove_file(&rt, name);
-    wants(&rt, outcome(rt.alloc(), disk_in_file(&rt, name)).is_ok());
-    let found = found(rt.alloc(), disk_in_file(&rt, name));
-    wants(&rt, found == Ok((2, 1, 1_410_901_177_871, 1)));
+    let file = Fuse::new(alloc, Window::new(alloc, FileDisk::new(&rt, name)));
+    wants(&rt, outcome(alloc, file).is_ok());
+    let file = Fuse::new(alloc, Window::new(alloc, FileDisk::new(&rt, name)));
+    wants(&rt, found(alloc, file) == Ok((2, 1, 1_410_901_177_871, 1)));
     fs::remove_file(&rt, name).expect(&rt, "the file is removed");
 }
 
