@@ -8,5 +8,5 @@ use rm_main::{run_program, status_of};
 use std::process::ExitCode;
 
 fn main(rt: HostRuntime) -> ExitCode {
-    ExitCode::from(status_of(run_program(rt)))
+    ExitCode::from(status_of(run_program(&rt, rt)))
 }
