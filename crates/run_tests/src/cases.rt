@@ -48,6 +48,7 @@ pub(crate) const EMPTY: Device<'static> = Device {
     failing: &[],
 };
 
+/// A run by the plain policy, on a device that is empty.
 pub(crate) fn plain<'a>(script: &'a [&'a str]) -> Case<'a> {
     Case {
         words: &PLAIN,
@@ -68,6 +69,11 @@ pub(crate) fn replay<'a>(script: &'a [&'a str], schedule: &'a [u8]) -> Case<'a> 
         schedule,
         ..plain(script)
     }
+}
+
+/// Checks that this is so.
+pub(crate) fn wants<R: Abort>(rt: &R, is_so: bool) {
+    assert!(rt; is_so);
 }
 
 /// A text of these parts.
@@ -98,6 +104,7 @@ fn put_file<R: Abort + AllocGlobal>(
     files.push(NamedFile { name, bytes }).expect(rt, "memory");
 }
 
+/// The shelf with the files of a run.
 pub(crate) fn shelf_of<R: Abort + AllocGlobal>(rt: &R, case: &Case<'_>) -> MemShelf {
     let mut files = Items::new(rt.alloc());
     put_file(rt, &mut files, "cluster", case.cluster.as_bytes());
@@ -106,6 +113,7 @@ pub(crate) fn shelf_of<R: Abort + AllocGlobal>(rt: &R, case: &Case<'_>) -> MemSh
     MemShelf::new(rt.alloc(), files, numbers(rt, case.failing_reads))
 }
 
+/// The words of a run.
 pub(crate) fn words_of<R: Abort + AllocGlobal>(rt: &R, case: &Case<'_>) -> Vec<String> {
     let mut words = Vec::new(rt.alloc());
     for word in case.words {
@@ -115,6 +123,7 @@ pub(crate) fn words_of<R: Abort + AllocGlobal>(rt: &R, case: &Case<'_>) -> Vec<S
     words
 }
 
+/// A device in memory.
 pub(crate) fn device_of<R: Abort + AllocGlobal>(rt: &R, device: Device<'_>) -> MemDisk {
     let mut bytes = Vec::from_slice(rt.alloc(), device.bytes).expect(rt, "memory");
     bytes.resize(device.size, 0).expect(rt, "memory");
@@ -122,6 +131,7 @@ pub(crate) fn device_of<R: Abort + AllocGlobal>(rt: &R, device: Device<'_>) -> M
     MemDisk::of(rt.alloc(), Items::from_vec(bytes), failing).expect(rt, "memory")
 }
 
+/// The sink that takes the page of a run.
 pub(crate) fn sink_of<R: Abort + AllocGlobal>(rt: &R, case: &Case<'_>) -> MemSink {
     MemSink::new(rt.alloc(), numbers(rt, case.failing_writes), case.most)
 }
@@ -132,6 +142,7 @@ pub(crate) fn page_of<R: Abort + AllocGlobal>(rt: &R, sink: &MemSink) -> String 
     String::from_str(rt.alloc(), page).expect(rt, "memory")
 }
 
+/// Makes a run on this device.
 fn run_on<R: Abort + AllocGlobal>(rt: &R, case: &Case<'_>, device: MemDisk) -> Left {
     let mut shelf = shelf_of(rt, case);
     let mut sink = sink_of(rt, case);
@@ -196,13 +207,9 @@ pub(crate) fn begins<R: Abort>(rt: &R, device: MemDisk, wanted: &[u8]) {
     let mut device = device;
     assert!(rt; device.size() >= 20);
     let mut bytes = [255; 20];
-    assert_eq!(rt; device.read(0, &mut bytes), Ok(()));
+    device.read(0, &mut bytes).expect(rt, "a read");
     for (place, byte) in bytes.iter().enumerate() {
         let is_so = *byte == *wanted.get(place).unwrap_or(&0);
         assert!(rt; is_so, "byte {place} is {byte}");
     }
-}
-
-pub(crate) fn wants<R: Abort>(rt: &R, is_so: bool) {
-    assert!(rt; is_so);
 }
