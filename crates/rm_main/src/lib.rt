@@ -1,8 +1,8 @@
-//! The program: it reads a cluster file and a script, runs the script over a device in memory or in a file, and
+//! All that the program does: it reads a cluster file and a script, runs the script over a device in memory or in a file, and
 //! writes the page of the run to standard output; or it writes what the device's store keeps.
 //!
 //! `top` is the call that does this, over any shelf, sink and device, and by `top_plain` all but the runs of workers in
-//! threads; `main` hands it the system's files, the standard output and a device of 4 MiB: an empty one in memory, or that
+//! threads; `run_program` hands it the system's files, the standard output and a device of 4 MiB: an empty one in memory, or that
 //! in the file `rm.store`. It promises that the log of a run is lawful for the settings and the script of these files and
 //! for what the device held, that its moves are those of the schedule and then the plain policy's, or by workers of lanes
 //! that were ready, that what was written is the log's page or a beginning of it, that a run that is Done has come to its
