@@ -3,7 +3,7 @@ ghost use Rattle.std.specs.Prelude.{◌≡◌, ◌+◌, ◌<◌, ◌^◌};
 ghost use Rattle.rm_types.specs.Records.{no_records};
 ghost use Rattle.rm_tables.specs.Lives.{no_life};
 
-use crate::helpers::{APP, SIZE, text, wants, wants_words, word};
+use crate::helpers::{APP, SIZE, let_go, text, wants, wants_words, word};
 use rm_app::AppState;
 use rm_client::serve;
 use rm_queues::{QueueTree, starts_at_root};
@@ -58,7 +58,9 @@ fn cluster<R: Abort>(rt: &R, alloc: Global) -> (QueueTree, Tables)
 }
 
 /// Drops both, in one place for all tests.
-fn let_go(_queues: QueueTree, _tables: Tables) {}
+fn let_go_both(_queues: QueueTree, tables: Tables) {
+    let_go(tables);
+}
 
 /// A job of alice.
 fn job<R: Abort>(rt: &R, alloc: Global) -> Submission {
@@ -117,7 +119,7 @@ fn see_id<R: Abort>(rt: &R, queues: &QueueTree, tables: &mut Tables)
 fn a_new_id_has_the_stamp_and_the_next_number(rt: HostRuntime) {
     let (queues, mut tables) = cluster(&rt, rt.alloc());
     see_id(&rt, &queues, &mut tables);
-    let_go(queues, tables);
+    let_go_both(queues, tables);
 }
 
 fn see_submission<R: Abort>(rt: &R, queues: &QueueTree, tables: &mut Tables)
@@ -136,7 +138,7 @@ fn see_submission<R: Abort>(rt: &R, queues: &QueueTree, tables: &mut Tables)
 fn a_submission_joins_what_is_known(rt: HostRuntime) {
     let (queues, mut tables) = cluster(&rt, rt.alloc());
     see_submission(&rt, &queues, &mut tables);
-    let_go(queues, tables);
+    let_go_both(queues, tables);
 }
 
 fn is_wished(tables: &Tables) -> bool {
@@ -161,7 +163,7 @@ fn see_kill<R: Abort>(rt: &R, queues: &QueueTree, tables: &mut Tables)
 fn a_kill_is_wished_for(rt: HostRuntime) {
     let (queues, mut tables) = cluster(&rt, rt.alloc());
     see_kill(&rt, &queues, &mut tables);
-    let_go(queues, tables);
+    let_go_both(queues, tables);
 }
 
 /// A container of an application lives on a node.
@@ -202,5 +204,5 @@ fn see_report<R: Abort>(rt: &R, queues: &QueueTree, tables: &mut Tables)
 fn a_report_counts_the_living_of_its_application(rt: HostRuntime) {
     let (queues, mut tables) = cluster(&rt, rt.alloc());
     see_report(&rt, &queues, &mut tables);
-    let_go(queues, tables);
+    let_go_both(queues, tables);
 }

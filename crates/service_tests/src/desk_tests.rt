@@ -1,5 +1,5 @@
 //! What no clause says: each call once, over messages of all four senders.
-use crate::helpers::{APP, ATTEMPT, text, wants};
+use crate::helpers::{APP, ATTEMPT, text, wants, wants_words};
 use rm_desk::Feed;
 use rm_types::{ClientAsk, ClockAsk, Items, MasterAsk, Message, NodeAsk, Sender};
 use std::alloc::Global;
@@ -52,22 +52,24 @@ fn first(feed: &Feed, sender: Sender) -> &'static str {
     }
 }
 
+fn see_feeds<R: Abort>(rt: &R, feed: &mut Feed) {
+    wants_words(rt, first(feed, Sender::Client), "new");
+    feed.take(Sender::Client);
+    wants_words(rt, first(feed, Sender::Client), "report");
+    wants_words(rt, first(feed, Sender::Node), "beat");
+    feed.take(Sender::Client);
+    wants(rt, !feed.has(Sender::Client) && feed.has(Sender::Node));
+    feed.take(Sender::Node);
+    wants(rt, !feed.has(Sender::Node));
+    wants_words(rt, first(feed, Sender::Node), "none");
+    wants_words(rt, first(feed, Sender::Clock), "tick");
+    wants_words(rt, first(feed, Sender::Master), "register");
+}
+
 #[test]
 fn each_sender_has_a_feed(rt: HostRuntime) {
     let mut feed = Feed::from_items(mixed(&rt, rt.alloc()));
-    wants(&rt, first(&feed, Sender::Client) == "new");
-    feed.take(Sender::Client);
-    wants(&rt, first(&feed, Sender::Client) == "report");
-    wants(&rt, first(&feed, Sender::Node) == "beat");
-    feed.take(Sender::Client);
-    wants(&rt, !feed.has(Sender::Client) && feed.has(Sender::Node));
-    feed.take(Sender::Node);
-    wants(
-        &rt,
-        !feed.has(Sender::Node) && first(&feed, Sender::Node) == "none",
-    );
-    wants(&rt, first(&feed, Sender::Clock) == "tick");
-    wants(&rt, first(&feed, Sender::Master) == "register");
+    see_feeds(&rt, &mut feed);
 }
 
 #[test]
