@@ -6,4 +6,5 @@ pub mod FuseLaws
 pub mod Images
 pub mod MemDisk
 pub mod Memory
+pub mod Scan
 pub mod Window

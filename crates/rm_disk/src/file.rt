@@ -2,8 +2,9 @@ ghost use Rattle.std.specs.Prelude.{◌≡◌, ◌+◌, ◌≤◌, ℕ, None, le
 ghost use Rattle.rm_disk.specs.Disk.{put, IsAsBefore, IsDurable, IsQuiet, MayWrite};
 ghost use Rattle.rm_types.specs.Counts.{Rose};
 
+use crate::causes::{Failure, FileCause, FileFault};
 use crate::device::{Disk, DiskError};
-use crate::held::{FILE_SIZE, FileFault, HeldFile, open_or_make, sync_bytes};
+use crate::held::{FILE_SIZE, HeldFile, Opened, open_or_make, sync_named};
 use std::alloc::Alloc;
 use std::fs::Files;
 use std::marker::Model;
@@ -13,15 +14,16 @@ use std::os::unix::fs::FileExt;
 ///
 /// It tells no bytes: no proof says what a file holds. Each read and each write is one call of the system at an
 /// offset, and a sync is the system's `fdatasync`; none of them takes memory. A call that the system says was
-/// interrupted is tried again. While the file is open no other disk opens it. Contracts see of a disk in a file how
-/// often it failed.
+/// interrupted is tried again. While the file is open no other disk opens it. A sync fails too where the file lost its name
+/// or its length since it was opened. Contracts see of a disk in a file how often it failed.
 pub struct FileDisk<'a, R: Files> {
     runtime: &'a R,
     name: &'a str,
     file: Option<R::File>,
+    made: bool,
     lost: bool,
     faults: u64,
-    last_fault: Option<FileFault>,
+    last_failure: Option<Failure>,
 }
 
 impl<R: Files> Drop for FileDisk<'_, R> {
@@ -30,9 +32,10 @@ impl<R: Files> Drop for FileDisk<'_, R> {
             runtime: _,
             name: _,
             file: _,
+            made: _,
             lost: _,
             faults: _,
-            last_fault: _,
+            last_failure: _,
         } = self;
     }
 }
@@ -42,7 +45,8 @@ where
     R::File: HeldFile,
 {
     /// The disk in the file of that name. The file is opened, or made with all bytes 0, at the first read,
-    /// write or sync; a failure there, or a file of another length, is a fault of that call.
+    /// write or sync; a failure there, a file of another length, or one with bytes that no store can have left, is a fault
+    /// of that call, and leaves the file as it is.
     pub fn new(runtime: &'a R, name: &'a str) -> FileDisk<'a, R>
         ensures { (⟦<FileDisk<'a, R> as Disk>⟧.view result).faults ≡ 0 }
     {
@@ -50,29 +54,44 @@ where
             runtime,
             name,
             file: None,
+            made: false,
             lost: false,
             faults: 0,
-            last_fault: None,
+            last_failure: None,
         }
     }
 
     /// Why the last call that failed did so.
-    pub fn last_fault(&self) -> Option<&FileFault> {
-        self.last_fault.as_ref()
+    pub fn last_fault(&self) -> Option<FileCause<'_>> {
+        let Some(Failure { subject, fault }) = &self.last_failure else {
+            return None;
+        };
+        Some(FileCause {
+            name: self.name,
+            subject: *subject,
+            fault,
+        })
+    }
+
+    /// Whether the file was made by this disk.
+    pub fn made_new(&self) -> bool {
+        self.made
     }
 
     // Opens or makes the file, if that was not done yet.
-    fn open(&mut self) -> Result<(), FileFault>
+    fn open(&mut self) -> Result<(), Failure>
         ensures same { self.new.faults ≡ self.old.faults }
         ensures opened { OnOk result (IsSome self.new.file) }
     {
         if self.file.is_none() {
-            self.file = Some(open_or_make(self.runtime, self.name)?);
+            let Opened { file, is_new } = open_or_make(self.runtime, self.name)?;
+            self.file = Some(file);
+            self.made = is_new;
         }
         Ok(())
     }
 
-    fn try_read(&mut self, at: u64, into: &mut [u8]) -> Result<(), FileFault>
+    fn try_read(&mut self, at: u64, into: &mut [u8]) -> Result<(), Failure>
         ensures { self.new.faults ≡ self.old.faults }
     {
         self.open()?;
@@ -80,7 +99,7 @@ where
         Ok(())
     }
 
-    fn try_write(&mut self, at: u64, bytes: &[u8]) -> Result<(), FileFault>
+    fn try_write(&mut self, at: u64, bytes: &[u8]) -> Result<(), Failure>
         ensures { self.new.faults ≡ self.old.faults }
     {
         self.open()?;
@@ -90,21 +109,21 @@ where
 
     // After a sync that failed the system may have forgotten what it could not write, and the next one would
     // not tell: so each later one fails too.
-    fn try_sync(&mut self) -> Result<(), FileFault>
+    fn try_sync(&mut self) -> Result<(), Failure>
         ensures { self.new.faults ≡ self.old.faults }
     {
         self.open()?;
         if self.lost {
-            return Err(FileFault::Lost);
+            return Err(Failure::from(FileFault::Lost));
         }
-        let outcome = sync_bytes(self.file.as_ref().unwrap());
+        let outcome = sync_named(self.runtime, self.file.as_ref().unwrap(), self.name);
         self.lost = outcome.is_err();
         outcome?;
         Ok(())
     }
 
     // Counts a failure as a fault, and keeps its cause.
-    fn counted(&mut self, outcome: Result<(), FileFault>) -> Result<(), DiskError>
+    fn counted(&mut self, outcome: Result<(), Failure>) -> Result<(), DiskError>
         ensures later { self.old.faults ≤ self.new.faults }
         ensures fault { IsErrOf result DiskError.DiskFault → Rose self.old.faults self.new.faults }
         ensures memory { IsErrOf result DiskError.Memory → ⊥ }
@@ -112,7 +131,7 @@ where
         match outcome {
             Ok(()) => Ok(()),
             Err(why) => {
-                self.last_fault = Some(why);
+                self.last_failure = Some(why);
                 self.faults = self.faults.saturating_add(1);
                 Err(DiskError::DiskFault)
             }

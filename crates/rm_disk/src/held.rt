@@ -1,59 +1,20 @@
-use std::alloc::{Alloc, AllocError};
-use std::fmt::{Display, Formatter};
-use std::fs::{File, Files, OpenFile, OpenOptions, TryLockError};
+use crate::causes::{Failure, FileFault};
+use crate::draft::make;
+use crate::scan::Scan;
+use std::alloc::Alloc;
+use std::fs::{File, Files, Metadata, OpenFile, OpenOptions, TryLockError};
 use std::io::ErrorKind;
 use std::os::unix::fs::{FileExt, MetadataExt};
-use std::{fmt, fs, io};
+use std::{fs, io};
 
 /// How many bytes the file of a disk has.
 pub const FILE_SIZE: u64 = 4_194_304;
 
-// How many bytes 0 are written at once where a file is made.
-const ZEROS: usize = 16_384;
+/// How many bytes are read or written at once where a whole file is.
+pub const BLOCK: usize = 16_384;
 
 // How often an interrupted call is tried again before it counts as failed.
 const MOST_TRIES: u32 = 1_000_000;
-
-/// Why a disk in a file failed.
-#[derive(Debug, Drop)]
-pub enum FileFault {
-    /// The file has so many bytes, and not those of a disk. It is left as it is.
-    OtherLength { length: u64 },
-    /// Another disk, in this process or in another, has the file open, or is making it.
-    InUse,
-    /// An earlier sync failed, so that it isn't known what lasts.
-    Lost,
-    /// No memory was found for the name under which the file is made.
-    Memory,
-    /// The system refused a call.
-    System(io::Error),
-}
-
-impl Display for FileFault {
-    fn fmt<W: fmt::Write>(&self, f: &mut Formatter<W>) -> fmt::Result {
-        match self {
-            FileFault::OtherLength { length } => {
-                write!(f, "the file has {length} bytes, and a disk has {FILE_SIZE}")
-            }
-            FileFault::InUse => f.write_str("the file is in use"),
-            FileFault::Lost => f.write_str("an earlier sync of the file failed"),
-            FileFault::Memory => f.write_str("out of memory"),
-            FileFault::System(error) => Display::fmt(error, f),
-        }
-    }
-}
-
-impl From<io::Error> for FileFault {
-    fn from(error: io::Error) -> FileFault {
-        FileFault::System(error)
-    }
-}
-
-impl From<AllocError> for FileFault {
-    fn from(_error: AllocError) -> FileFault {
-        FileFault::Memory
-    }
-}
 
 /// An open file as a disk uses it.
 pub trait HeldFile: FileExt {
@@ -71,71 +32,101 @@ impl HeldFile for File {
     }
 }
 
-/// Opens the file of that name and holds it, or makes it where there is none. Either way its name lasts afterwards: who
-/// made it may have died before that.
-pub fn open_or_make<R: Files + Alloc>(runtime: &R, name: &str) -> Result<R::File, FileFault>
+/// A file that is held, and whether it was made for that.
+#[derive(Drop)]
+pub struct Opened<F: Drop> {
+    pub file: F,
+    pub is_new: bool,
+}
+
+/// Opens the file of that name, or of the name that a link leads to, and holds it; or makes it where there is none. Either
+/// way its name lasts afterwards: who made it may have died before that.
+pub fn open_or_make<R: Files + Alloc>(runtime: &R, name: &str) -> Result<Opened<R::File>, Failure>
 where
     R::File: HeldFile,
 {
-    let opened = OpenOptions::new()
+    let found = OpenOptions::new()
         .read(true)
         .write(true)
         .open(runtime, name);
-    let file = match opened {
-        Ok(file) => whole(file)?,
-        Err(error) if error.kind() == ErrorKind::NotFound => make(runtime, name)?,
-        Err(error) => return Err(FileFault::System(error)),
+    let opened = match found {
+        Ok(file) => Opened {
+            file: whole(file)?,
+            is_new: false,
+        },
+        Err(error) if error.kind() == ErrorKind::NotFound => Opened {
+            file: make(runtime, name)?,
+            is_new: true,
+        },
+        Err(error) => return Err(Failure::from(error)),
     };
-    sync_folder(runtime, name)?;
-    Ok(file)
+    sync_folder(runtime, name).map_err(Failure::of_folder)?;
+    Ok(opened)
 }
 
-// Holds the file, which must have the length of a disk.
+// Holds the file, which must have the length of a disk, and bytes that a store may have left.
 fn whole<F: HeldFile + OpenFile + Drop>(file: F) -> Result<F, FileFault> {
     file.hold()?;
     let length = file.metadata()?.len();
     if length != FILE_SIZE {
         return Err(FileFault::OtherLength { length });
     }
+    refuse_foreign(&file)?;
     Ok(file)
 }
 
-// Makes the file under another name, whole and lasting, before it gets its own. So at each moment there is no file of
-// that name or a whole one, and from then on a sync of the bytes alone serves.
-fn make<R: Files + Alloc>(runtime: &R, name: &str) -> Result<R::File, FileFault>
-where
-    R::File: HeldFile,
-{
-    let draft = format!(in runtime.alloc(); "{name}.new")?;
-    let file = OpenOptions::new()
-        .read(true)
-        .write(true)
-        .create(true)
-        .open(runtime, draft.as_str())?;
-    file.hold()?;
-    // Whoever held the draft before may have made the file of it.
-    if !is_named(runtime, &file, draft.as_str())? || fs::exists(runtime, name)? {
-        return Err(FileFault::InUse);
+// What stands behind an open gate is for the reader of the records to judge.
+fn refuse_foreign<F: FileExt>(file: &F) -> Result<(), FileFault> {
+    let mut scan = Scan::new();
+    let mut block = [0; BLOCK];
+    'blocks: for part in 0..FILE_SIZE / BLOCK as u64 {
+        file.read_exact_at(&mut block, part * BLOCK as u64)?;
+        scan.see(&block);
+        if scan.is_open() {
+            break;
+        }
     }
-    fill(&file)?;
-    sync_whole(&file)?;
-    fs::rename(runtime, draft.as_str(), name)?;
-    Ok(file)
+    if scan.may_be_store() {
+        Ok(())
+    } else {
+        Err(FileFault::NoStore)
+    }
 }
 
-// Whether a file has that name.
-fn is_named<R: Files>(runtime: &R, file: &R::File, name: &str) -> io::Result<bool> {
-    let (own, named) = (file.metadata()?, fs::metadata(runtime, name)?);
-    Ok(own.dev() == named.dev() && own.ino() == named.ino())
+/// What has that name, a link in place of what it leads to.
+pub fn look<R: Files>(runtime: &R, name: &str) -> io::Result<Option<Metadata>> {
+    match fs::symlink_metadata(runtime, name) {
+        Ok(found) => Ok(Some(found)),
+        Err(error) if error.kind() == ErrorKind::NotFound => Ok(None),
+        Err(error) => Err(error),
+    }
 }
 
-// Gives the file its size, with all bytes 0. They are written, so that no later write has to find room for them.
-fn fill<F: OpenFile + FileExt>(file: &F) -> io::Result<()> {
-    let zeros = [0; ZEROS];
-    'parts: for part in 0..FILE_SIZE / ZEROS as u64 {
-        file.write_all_at(&zeros, part * ZEROS as u64)?;
+/// Whether two names or openings are of one file.
+pub fn is_same(one: &Metadata, other: &Metadata) -> bool {
+    one.dev() == other.dev() && one.ino() == other.ino()
+}
+
+/// Lets what was written to the file of that name last, and refuses a file that lost its name or its length.
+///
+/// The look comes behind the sync: where both succeed, what was written lasted and could then be found under the name. A look
+/// before it would miss a file that went while it was synced.
+pub fn sync_named<R: Files>(runtime: &R, file: &R::File, name: &str) -> Result<(), FileFault> {
+    sync_bytes(file)?;
+    let named = match fs::metadata(runtime, name) {
+        Ok(named) => named,
+        Err(error) if error.kind() == ErrorKind::NotFound => return Err(FileFault::Removed),
+        Err(error) => return Err(FileFault::System(error)),
+    };
+    let own = file.metadata()?;
+    if !is_same(&own, &named) {
+        return Err(FileFault::Replaced);
     }
-    set_size(file)
+    let length = own.len();
+    if length != FILE_SIZE {
+        return Err(FileFault::Resized { length });
+    }
+    Ok(())
 }
 
 // Lets the names in the folder of a file last.
@@ -146,8 +137,8 @@ fn sync_folder<R: Files>(runtime: &R, name: &str) -> io::Result<()> {
     sync_whole(&folder)
 }
 
-// The folder in which the file of that name stands.
-fn folder_of(name: &str) -> &str {
+/// The folder in which the file of that name stands.
+pub fn folder_of(name: &str) -> &str {
     match name.rsplit_once('/') {
         Some(("", _)) => "/",
         Some((folder, _)) => folder,
@@ -163,8 +154,8 @@ fn was_interrupted(outcome: &io::Result<()>) -> bool {
     }
 }
 
-/// Lets what was written last.
-pub fn sync_bytes<F: OpenFile>(file: &F) -> io::Result<()> {
+// Lets what was written last.
+fn sync_bytes<F: OpenFile>(file: &F) -> io::Result<()> {
     let mut outcome = file.sync_data();
     'again: for _ in 0..MOST_TRIES {
         if !was_interrupted(&outcome) {
@@ -175,7 +166,8 @@ pub fn sync_bytes<F: OpenFile>(file: &F) -> io::Result<()> {
     outcome
 }
 
-fn sync_whole<F: OpenFile>(file: &F) -> io::Result<()> {
+/// Lets a file or a folder last.
+pub fn sync_whole<F: OpenFile>(file: &F) -> io::Result<()> {
     let mut outcome = file.sync_all();
     'again: for _ in 0..MOST_TRIES {
         if !was_interrupted(&outcome) {
@@ -186,7 +178,8 @@ fn sync_whole<F: OpenFile>(file: &F) -> io::Result<()> {
     outcome
 }
 
-fn set_size<F: OpenFile>(file: &F) -> io::Result<()> {
+/// Gives a file the length of a disk.
+pub fn set_size<F: OpenFile>(file: &F) -> io::Result<()> {
     let mut outcome = file.set_len(FILE_SIZE);
     'again: for _ in 0..MOST_TRIES {
         if !was_interrupted(&outcome) {

@@ -10,19 +10,23 @@
 #![tactic(auto)]
 
 mod calls;
+mod causes;
 mod device;
+mod draft;
 mod fallen;
 mod file;
 mod fuse;
 mod held;
 mod memory;
+mod scan;
 mod window;
 
 pub use calls::Call;
+pub use causes::{FileCause, FileFault, Subject};
 pub use device::{Disk, DiskError};
 pub use fallen::Fallen;
 pub use file::FileDisk;
 pub use fuse::Fuse;
-pub use held::{FileFault, HeldFile};
+pub use held::HeldFile;
 pub use memory::MemDisk;
 pub use window::Window;

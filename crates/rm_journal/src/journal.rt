@@ -179,6 +179,9 @@ impl Journal {
         ensures kept { D.keeps (is_ok result) disk.old disk.new }
         ensures region_alone { MayWrite self.old.from (self.old.end - self.old.from) (D.view disk.old) (D.view disk.new) }
 
+        // Of the region it writes no more than the closed gate, what it puts behind that, and the next gate.
+        ensures place_alone { MayWrite self.old.gate (length payload.now + 6) (D.view disk.old) (D.view disk.new) }
+
         // When each error comes, and what it leaves.
         ensures refused { IfErr result (λ error. IsRefusal error → (self.new ≡ self.old) × (disk.new ≡ disk.old)) }
         ensures errors { IfErr result IsAppendError }

@@ -1,12 +1,14 @@
 -- A store of operations on a disk that may fall at any moment.
 use Rattle.std.specs.Prelude.{◌≡◌, ◌⊎◌, ◌+◌, ◌-◌, ℕ, Bool, false, None, Some, List, [], ◌∷◌, ◌++◌, length, map, All}
 use Rattle.rm_types.specs.declared.operations.Op.{Op}
+use Rattle.rm_types.specs.declared.operations.Op.TheVariants.{Epoch}
 use Rattle.rm_formats.specs.Frames.{frame}
 use Rattle.rm_types.specs.Ranges.{IsOperation}
 use Rattle.rm_types.specs.Records.{Records, records, stray}
 use Rattle.rm_formats.specs.Device.{DeviceHolds, journal_records}
 use Rattle.rm_disk.specs.Disk.{DiskView, EachImage, AtEachMoment}
 use Rattle.rm_disk.specs.Fuse.{Fused, fused_view}
+use Rattle.rm_disk.specs.Scan.{MayBeStore}
 use Rattle.rm_journal.specs.Journal.{Place, JournalInvariant}
 
 -- A store as contracts see it: its disk under a fuse, its journal there, and whether a fault broke it.
@@ -63,3 +65,20 @@ needed_for op = length (frame op) + 6
 -- How many bytes a disk of so many has left behind the records of these operations.
 abbrev pub room_behind : ℕ → List Op → ℕ
 room_behind size ops = size - length (journal_records (map frame ops))
+
+-- Whatever a crash now leaves of the disk may be what a store left, and so is what a read gives, which is one of these.
+abbrev pub LooksOwn : DiskView → Type 0
+LooksOwn disk = EachImage disk MayBeStore
+
+-- The operation begins a life.
+abbrev pub IsEpoch : Op → Type 0
+IsEpoch (Epoch next stamp) = Unit {0}
+IsEpoch _ = ⊥
+
+-- An operation that is added to none is an Epoch.
+abbrev pub BeginsByEpoch : List Op → Op → Type 0
+BeginsByEpoch ops op = ops ≡ [] → IsEpoch op
+
+-- At each moment a crash leaves what may be a store's.
+abbrev pub StaysOwn : DiskView → DiskView → Type 0
+StaysOwn old new = AtEachMoment old new MayBeStore

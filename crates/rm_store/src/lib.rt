@@ -15,5 +15,7 @@ mod store;
 mod writing;
 
 pub use fault::StoreError;
-pub use laws::{law_held_is_faultless, law_one_list, law_one_record_each};
+pub use laws::{
+    law_fresh_may_be_store, law_held_is_faultless, law_one_list, law_one_record_each, law_stays_own,
+};
 pub use store::{OpenFail, Store};

@@ -7,7 +7,7 @@ ghost use Rattle.rm_disk.specs.Disk.{IfTold, EachImage, IsQuiet, IsLaterView};
 ghost use Rattle.rm_disk.specs.Fuse.{FaultedFuse, KeepsFuse};
 ghost use Rattle.rm_store.specs.Causes.{IsWhy, IsFaultless};
 ghost use Rattle.rm_store.specs.Errors.{IsOpenError, IsAppendError, IsRefusal, broken_after};
-ghost use Rattle.rm_store.specs.Store.{with_disk, seen, IsWhole, StoreInvariant, AreRead, Has, LeavesOps, AddsOp, needed_for, room_behind};
+ghost use Rattle.rm_store.specs.Store.{with_disk, seen, IsWhole, StoreInvariant, AreRead, Has, LeavesOps, AddsOp, LooksOwn, BeginsByEpoch, StaysOwn, needed_for, room_behind};
 
 use crate::fault::StoreError;
 use crate::reading::{Read, read_all};
@@ -105,6 +105,9 @@ impl<D: Disk> Store<D> {
         ensures added { OnOk result ((ops : List AnyOp) → Has (seen D.view self.old.disk) ops → fits_records (records ops) op.now ≡ true → AddsOp (seen D.view self.new.disk) ops op.now) }
         ensures kept { KeepsFuse D.view (D.keeps (is_ok result)) (is_ok result) self.old.disk self.new.disk }
         ensures goes_on { IsLaterView (seen D.view self.old.disk) (seen D.view self.new.disk) }
+
+        // Where a store is begun by an Epoch, no crash leaves what is taken for another's file.
+        ensures own { (ops : List AnyOp) → Has (seen D.view self.old.disk) ops → BeginsByEpoch ops op.now → LooksOwn (seen D.view self.old.disk) → StaysOwn (seen D.view self.old.disk) (seen D.view self.new.disk) }
 
         // When each error comes, and what it leaves.
         ensures errors { IfErr result IsAppendError }

@@ -4,7 +4,7 @@ ghost use Rattle.rm_types.specs.Ranges.{IsOperation};
 ghost use Rattle.rm_types.specs.Records.{records, fits_records};
 ghost use Rattle.rm_disk.specs.Disk.{IsLaterView};
 ghost use Rattle.rm_store.specs.Errors.{IsWriteError, IsRefusal};
-ghost use Rattle.rm_store.specs.Store.{IsWhole, Has, LeavesOps, AddsOp, needed_for, room_behind};
+ghost use Rattle.rm_store.specs.Store.{IsWhole, Has, LeavesOps, AddsOp, LooksOwn, BeginsByEpoch, StaysOwn, needed_for, room_behind};
 
 use crate::fault::StoreError;
 use rm_disk::Disk;
@@ -29,6 +29,7 @@ pub fn write_op<D: Disk>(
     ensures added { OnOk result ((ops : List AnyOp) → Has (D.view disk.old) ops → fits_records (records ops) op.now ≡ true → AddsOp (D.view disk.new) ops op.now) }
     ensures kept { D.keeps (is_ok result) disk.old disk.new }
     ensures goes_on { IsLaterView (D.view disk.old) (D.view disk.new) }
+    ensures own { (ops : List AnyOp) → Has (D.view disk.old) ops → BeginsByEpoch ops op.now → LooksOwn (D.view disk.old) → StaysOwn (D.view disk.old) (D.view disk.new) }
 
     ensures errors { IfErr result IsWriteError }
     ensures refused { IfErr result (λ error. IsRefusal error → (journal.new ≡ journal.old) × (disk.new ≡ disk.old)) }

@@ -1,15 +1,14 @@
 //! What no clause says: what disks answer to calls one after another, and what a file holds afterwards.
-use crate::helpers::{disk_of, read, told, wants, wants_words, write};
+use crate::helpers::{
+    FILE_SIZE, disk_of, file_bytes, read, refusal, remove_file, told, wants, wants_words, write,
+    write_file,
+};
 use crate::recorded::{Calls, Recorded};
 use rm_disk::{Disk, Fallen, FileDisk, Fuse, MemDisk, Window};
 use rm_types::Items;
 use std::alloc::Global;
 use std::fs;
-use std::fs::Files;
 use std::process::Abort;
-
-/// How many bytes a disk in a file has.
-const FILE_SIZE: u64 = 4_194_304;
 
 /// A disk of four bytes reads these.
 fn reads<R: Abort, D: Disk>(rt: &R, disk: &mut D, wanted: &[u8; 4]) {
@@ -134,34 +133,11 @@ fn writes_its_end<R: Abort, D: Disk>(rt: &R, disk: &mut D) {
     disk.fall(0);
 }
 
-/// Why a disk in a file can't be used, or nothing where it can.
-fn refusal<R: Abort>(rt: &R, files: HostRuntime, name: &str) -> String {
-    let mut disk = FileDisk::new(&files, name);
-    let _ = disk.sync();
-    match disk.last_fault() {
-        Some(fault) => format!(in files.alloc(); "{fault}").expect(rt, "memory"),
-        None => String::new(files.alloc()),
-    }
-}
-
 /// Writes to a disk in a file and closes it; the answer is why it couldn't be opened a second time meanwhile.
 fn write_and_close<R: Abort>(rt: &R, files: HostRuntime, name: &str) -> String {
     let mut disk = FileDisk::new(&files, name);
     writes_its_end(rt, &mut disk);
     refusal(rt, files, name)
-}
-
-/// The bytes of a file.
-fn file_bytes<R: Abort>(rt: &R, files: HostRuntime, name: &str) -> Vec<u8> {
-    fs::read(&files, name).expect(rt, "the file is read")
-}
-
-fn write_file<R: Abort + Files>(rt: &R, name: &str, words: &str) {
-    fs::write(rt, name, words).expect(rt, "the file is written");
-}
-
-fn remove_file<R: Abort + Files>(rt: &R, name: &str) {
-    fs::remove_file(rt, name).expect(rt, "the file is removed");
 }
 
 /// These are the bytes of a whole file, zeros but for the last.
@@ -179,7 +155,7 @@ fn a_file_keeps_what_was_written(rt: HostRuntime) {
     let name = "rm_disk_kept.store";
     let _ = fs::remove_file(&rt, name);
     // What a maker that was killed leaves.
-    write_file(&rt, "rm_disk_kept.store.new", "draft");
+    write_file(&rt, "rm_disk_kept.store.new", b"draft");
     wants_words(
         &rt,
         write_and_close(&rt, rt, name).as_str(),
@@ -190,7 +166,7 @@ fn a_file_keeps_what_was_written(rt: HostRuntime) {
         &rt,
         !fs::exists(&rt, "rm_disk_kept.store.new").expect(&rt, "the folder"),
     );
-    write_file(&rt, name, "short");
+    write_file(&rt, name, b"short");
     wants_words(
         &rt,
         refusal(&rt, rt, name).as_str(),

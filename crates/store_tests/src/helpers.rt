@@ -1,8 +1,13 @@
-//! What the tests share: disks of memory, what calls of a disk answer, and how values are compared.
-use rm_disk::{Disk, DiskError, MemDisk};
+//! What the tests share: disks of memory, files, what calls of a disk answer, and how values are compared.
+use rm_disk::{Disk, DiskError, FileDisk, MemDisk};
 use rm_types::Items;
 use std::alloc::Global;
+use std::fs;
+use std::fs::Files;
 use std::process::Abort;
+
+/// How many bytes a disk in a file has.
+pub const FILE_SIZE: u64 = 4_194_304;
 
 pub fn wants<R: Abort>(rt: &R, is_so: bool) {
     assert!(rt; is_so);
@@ -51,4 +56,36 @@ pub fn read<R: Abort, D: Disk>(rt: &R, disk: &mut D, at: u64, into: &mut [u8]) {
     let size = disk.size();
     assert!(rt; at <= size && into.len() as u64 <= size - at);
     assert!(rt; disk.read(at, into).is_ok());
+}
+
+/// Why a disk in a file can't be used, or nothing where it can.
+pub fn refusal<R: Abort>(rt: &R, files: HostRuntime, name: &str) -> String {
+    let mut disk = FileDisk::new(&files, name);
+    let _ = disk.sync();
+    last_words(rt, files, &disk)
+}
+
+/// Why a disk in a file last failed, or nothing.
+pub fn last_words<R: Abort>(
+    rt: &R,
+    files: HostRuntime,
+    disk: &FileDisk<'_, HostRuntime>,
+) -> String {
+    match disk.last_fault() {
+        Some(cause) => format!(in files.alloc(); "{cause}").expect(rt, "memory"),
+        None => String::new(files.alloc()),
+    }
+}
+
+/// The bytes of a file.
+pub fn file_bytes<R: Abort>(rt: &R, files: HostRuntime, name: &str) -> Vec<u8> {
+    fs::read(&files, name).expect(rt, "the file is read")
+}
+
+pub fn write_file<R: Abort + Files>(rt: &R, name: &str, bytes: &[u8]) {
+    fs::write(rt, name, bytes).expect(rt, "the file is written");
+}
+
+pub fn remove_file<R: Abort + Files>(rt: &R, name: &str) {
+    fs::remove_file(rt, name).expect(rt, "the file is removed");
 }

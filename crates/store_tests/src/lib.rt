@@ -8,6 +8,8 @@
 #[cfg(test)]
 mod disk_tests;
 #[cfg(test)]
+mod file_tests;
+#[cfg(test)]
 mod helpers;
 #[cfg(test)]
 mod journal_tests;

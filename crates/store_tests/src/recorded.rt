@@ -14,6 +14,8 @@ pub struct Calls {
     pub reads: Cell<u32>,
     /// How many bytes were written to files.
     pub written: Cell<u64>,
+    /// How many bytes more the system has room for.
+    pub room: Cell<u64>,
     /// How many bytes were written and how many whole syncs made when a file last got its name.
     pub named_after: Cell<(u64, u32)>,
     /// How many syncs of a file's bytes were made.
@@ -29,6 +31,7 @@ impl Calls {
         Calls {
             reads: Cell::new(0),
             written: Cell::new(0),
+            room: Cell::new(u64::MAX),
             named_after: Cell::new((0, 0)),
             syncs: Cell::new(0),
             whole_syncs: Cell::new(0),
@@ -84,8 +87,14 @@ impl<F: FileExt + Drop> FileExt for RecordedFile<'_, F> {
     }
 
     fn write_at(&self, buf: &[u8], offset: u64) -> io::Result<usize> {
-        let written = &self.calls.written;
-        written.set(written.get().saturating_add(buf.len() as u64));
+        let (written, room) = (&self.calls.written, &self.calls.room);
+        let size = buf.len() as u64;
+        let left = room.get();
+        if size > left {
+            return Err(io::Error::from(ErrorKind::StorageFull));
+        }
+        room.set(left - size);
+        written.set(written.get().saturating_add(size));
         self.file.write_at(buf, offset)
     }
 }

@@ -2,11 +2,13 @@ use Rattle.std.proofs.Common.{◌≡◌, ℕ, ◌+◌, Result, Err, length, inl,
 use Rattle.std.proofs.lemmas.Bool.{cases_lt}
 use Rattle.std.proofs.lemmas.Result.{err_from_is_err_and}
 use Rattle.rm_formats.specs.Frames.{frame}
+use Rattle.rm_disk.specs.Disk.{MayWrite}
 use Rattle.rm_journal.specs.declared.fault.JournalError
 use Rattle.rm_journal.specs.Journal.{LeavesEither, AppendsPayload}
 use Rattle.rm_store.specs.declared.fault.StoreError
 use Rattle.rm_store.specs.Errors.{of_journal}
 use Rattle.rm_store.specs.Store.{LeavesOps, needed_for}
+use Rattle.rm_store.proofs.Owned.{still_own, append_own}
 use Rattle.rm_store.proofs.Writes.{still_leaves, append_leaves, append_adds, room_is}
 use Rattle.rm_store.proofs.writing.write_op.Goals as goal
 
@@ -122,3 +124,26 @@ returns-clause-full g c = λ ops has small.
     let full = (c.append.ensures.full c.requires.unbroken).1 (omega (arith, small, room, long)) in
     let was = c.in_ok-append.was in
     absurd (let never = sym was ∙ full in cc)
+
+pub returns-in_err-bytes-clause-own : goal.returns-in_err-bytes-clause-own
+returns-in_err-bytes-clause-own g c = λ ops has begins own. still_own (g.D.Disk.view c.args.disk.now) own
+
+pub returns-in_err-append-clause-own : goal.returns-in_err-append-clause-own
+returns-in_err-append-clause-own g c = λ ops has begins own.
+    let d = g.met.D.Disk in
+    let v = g.D.Disk.view c.args.disk.now in
+    let v' = g.D.Disk.view c.append.new.disk in
+    let j = c.args.journal.now in
+    let payload : c.in_ok-bytes.bytes.now ≡ frame c.args.op.now = c.in_ok-bytes.ensures in
+    append_own v v' j ops c.args.op.now c.requires.whole c.requires.unbroken (d.image_size c.args.disk.now) (d.as_it_reads c.args.disk.now) has begins
+    (subst (λ l. MayWrite j.gate (length l + 6) v v') payload c.append.ensures.place_alone) own
+
+pub returns-clause-own : goal.returns-clause-own
+returns-clause-own g c = λ ops has begins own.
+    let d = g.met.D.Disk in
+    let v = g.D.Disk.view c.args.disk.now in
+    let v' = g.D.Disk.view c.append.new.disk in
+    let j = c.args.journal.now in
+    let payload : c.in_ok-bytes.bytes.now ≡ frame c.args.op.now = c.in_ok-bytes.ensures in
+    append_own v v' j ops c.args.op.now c.requires.whole c.requires.unbroken (d.image_size c.args.disk.now) (d.as_it_reads c.args.disk.now) has begins
+    (subst (λ l. MayWrite j.gate (length l + 6) v v') payload c.append.ensures.place_alone) own
