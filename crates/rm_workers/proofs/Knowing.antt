@@ -57,6 +57,10 @@ knows_put Is Then v w z x y knows took' gave' fact = held_on (Knows Then) v w z 
 pub knows_same : (Is : List Entry → Type 0) (v w : View) → Knows Is v → w ≡ v → Knows Is w
 knows_same Is v w knows same = subst (Knows Is) (sym same) knows
 
+-- what is known of a log says more of it
+pub knows_then : (Is Then : List Entry → Type 0) → ((log : List Entry) → Is log → Then log) → (v : View) → Knows Is v → Knows Then v
+knows_then Is Then says v knows = record { idle = knows.idle; mark = knows.mark; fact = says v.latest knows.fact }
+
 pub knows_half : (Is : List Entry → Type 0) (v u : View) → Knows Is v → u ≡ with_half v → Knows Is u
 knows_half Is v u knows e = subst (Knows Is) (sym e) (record { idle = knows.idle; mark = knows.mark; fact = knows.fact })
 

@@ -294,6 +294,16 @@ module _ {D : Type 0} (view : D → DiskView) (began : Began) where
 
   -- A HALT
 
+  -- where nothing more is done
+  pub serving_halts : (store : StoreState D) (log : List Entry) → Serving view began store log → Halting view began store Memory log
+  serving_halts store log s =
+      record {
+        stands = s.stands;
+        stays = s.stays;
+        why = tt;
+        left = λ opening k has. keeps_leaves opening began.desk.core.log log (seen_then began) (seen view store.disk) (s.kept opening k has);
+      }
+
   -- where the manager found no memory to learn what came of the operation
   pub tried_halts : (store : StoreState D) (op : Op) (log : List Entry) → Tried view began store op log → Halting view began store Memory log
   tried_halts store op log t =

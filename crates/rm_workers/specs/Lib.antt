@@ -6,3 +6,4 @@ pub mod Work
 pub mod Turns
 pub mod Ends
 pub mod Still
+pub mod Start

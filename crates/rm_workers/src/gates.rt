@@ -2,6 +2,10 @@ use rm_types::{Lane, Sender};
 
 /// What stands between the workers' steps. A gate may wait, and so bring about an order of the moves.
 pub trait Gate {
+    /// Before a worker joins the others at a life's start, once in each life. The lane is the worker's own, and `Hand` for the
+    /// store's worker. A gate that doesn't say otherwise lets it through.
+    fn before_start(&self, _lane: Lane) {}
+
     /// Before the worker of a service takes the baton, each time.
     fn before_serve(&self, sender: Sender);
 

@@ -5,6 +5,7 @@ ghost use Rattle.rm_desk.specs.Runs.{IsScriptOver};
 ghost use Rattle.rm_baton.specs.Entries.{AddsCommon};
 ghost use Rattle.rm_baton.specs.Passes.{IsPassOf};
 ghost use Rattle.rm_baton.specs.Views.{IsIdle, Meets, took, view};
+ghost use Rattle.rm_plain.specs.declared.halts.Halt.{Halt};
 ghost use Rattle.rm_workers.specs.Carried.{log_of, run_of};
 ghost use Rattle.rm_workers.specs.Turns.{EndFact, IsHelpers, LearnedFact, TurnFact, TurnOp};
 ghost use Rattle.rm_workers.specs.Work.{Halting, IsHelper, Knows, Refused as WasRefused, Serving, Wrote};
@@ -141,6 +142,23 @@ pub(crate) fn hold_halt<S: Since, D: Disk, R: Wait>(
     held.stop(halt);
     baton.put(rt, &mut pass, held);
     pass
+}
+
+/// The hold of the store's worker where not all workers came: want of threads halts the life.
+pub(crate) fn hold_unstarted<S: Since, D: Disk, R: Wait>(
+    rt: &R,
+    baton: &Baton<Held<S>>,
+    pass: Pass<Held<S>>,
+    store: &Store<D>,
+) -> (Pass<Held<S>>, Halt)
+    requires of { IsPassOf baton.now pass }
+    requires knows { Knows (Serving D.view S.began store.now) (view pass) }
+    ensures of { IsPassOf baton.now result.0 }
+    ensures knows { Knows (Halting D.view S.began store.now result.1) (view result.0) }
+    ensures memory { result.1 ≡ Halt.Memory }
+{
+    let halt = Halt::Memory;
+    (hold_halt(rt, baton, pass, store, halt), halt)
 }
 
 /// The last hold, by the only pass that is left: the value as the workers left it, which is over.

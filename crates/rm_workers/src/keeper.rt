@@ -9,7 +9,8 @@ ghost use Rattle.rm_workers.specs.Work.{Knows, Owing, Serving};
 use crate::bells::Bell;
 use crate::gates::Gate;
 use crate::held::Held;
-use crate::holds::{hold_blown, hold_halt, hold_kept, hold_turn};
+use crate::holds::{hold_blown, hold_halt, hold_kept, hold_turn, hold_unstarted};
+use crate::signals::Signals;
 use crate::since::Since;
 use crate::storing::write;
 use crate::turns::{End, Turn, Written};
@@ -50,9 +51,9 @@ fn lane_of(end: End) -> Lane {
     }
 }
 
-/// The store's worker: it is handed operations, writes and keeps them, and closes segments, until the life is over or a halt
-/// stands.
-pub(crate) fn keeper<S: Since, D: Disk, G: Gate, R: Wait>(
+// The turns of the store's worker: it is handed operations, writes and keeps them, and closes segments, until the life is over
+// or a halt stands.
+fn keep_to_end<S: Since, D: Disk, G: Gate, R: Wait>(
     rt: &R,
     baton: &Baton<Held<S>>,
     gate: &G,
@@ -103,4 +104,27 @@ pub(crate) fn keeper<S: Since, D: Disk, G: Gate, R: Wait>(
         }
     }
     unreachable!()
+}
+
+/// The store's worker. Where not all workers came, it halts the life in which none of them moved.
+pub(crate) fn keeper<S: Since, D: Disk, G: Gate, R: Wait>(
+    rt: &R,
+    baton: &Baton<Held<S>>,
+    gate: &G,
+    signals: &Signals,
+    pass: Pass<Held<S>>,
+    store: Store<D>,
+) -> (Pass<Held<S>>, Store<D>, End)
+    requires of { IsPassOf baton.now pass }
+    requires knows { Knows (Serving D.view S.began store) (view pass) }
+    ensures of { IsPassOf baton.now result.0 }
+    ensures knows { Knows (EndFact D.view S.began result.1 result.2) (view result.0) }
+{
+    gate.before_start(Lane::Hand);
+    if signals.start.all_come(rt) {
+        return keep_to_end(rt, baton, gate, &signals.bell, pass, store);
+    }
+    let (pass, halt) = hold_unstarted(rt, baton, pass, &store);
+    gate.after_hold(Lane::Hand);
+    (pass, store, End::Halted(halt))
 }

@@ -11,10 +11,10 @@ ghost use Rattle.rm_workers.specs.Ends.{Ended};
 ghost use Rattle.rm_workers.specs.Turns.{EndFact};
 ghost use Rattle.rm_workers.specs.Work.{Knows, Serving};
 
-use crate::bells::Bell;
 use crate::gates::Gate;
 use crate::held::Held;
 use crate::holds::hold_last;
+use crate::signals::Signals;
 use crate::since::Since;
 use crate::turns::End;
 use crate::workers::seven;
@@ -82,8 +82,8 @@ fn live<S: Since + Send + Sync, D: Disk + Drop + Send, G: Gate + Sync, R: Thread
     match start::<S, D>(alloc, desk, &store) {
         Err(held) => stopped(held, store),
         Ok((baton, pass)) => {
-            let bell = Bell::new();
-            let (pass, store, end) = seven(rt, &baton, gate, &bell, pass, store);
+            let signals = Signals::new();
+            let (pass, store, end) = seven(rt, &baton, gate, &signals, pass, store);
             let held = hold_last(rt, &baton, pass, &store, end);
             finish(held, store, end)
         }
@@ -113,6 +113,10 @@ fn begins<D: Disk>(desk: &Desk, store: &Store<D>)
 
 /// Runs the life that stands, to its end, by seven workers in threads of their own, which call the gate between their steps.
 /// Each of them joins before this returns.
+///
+/// Before any of them moves they wait for one another. Where the system refuses a thread, some of them can't come; then after
+/// some seconds the life is halted with `Memory`, and nothing was added to its log. The same seven in fewer threads would wait
+/// for each other for ever.
 ///
 /// `DiskFault` comes only where the disk's count of faults rose, and `Full` only where the operation with the store needs more
 /// than the disk has left. After a halt the desk is as the moves made so far left it.

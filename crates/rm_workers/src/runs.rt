@@ -65,6 +65,10 @@ struct CountedOn<'a, G> {
 }
 
 impl<G: Gate> Gate for CountedOn<'_, G> {
+    fn before_start(&self, lane: Lane) {
+        self.gate.before_start(lane);
+    }
+
     fn before_serve(&self, sender: Sender) {
         self.gate.before_serve(sender);
     }

@@ -10,6 +10,7 @@ use crate::gates::Gate;
 use crate::held::Held;
 use crate::holds::hold_help;
 use crate::keeper::keeper;
+use crate::signals::Signals;
 use crate::since::Since;
 use crate::turns::{End, Helped};
 use rm_baton::{Baton, Pass};
@@ -31,8 +32,8 @@ fn sender_of(lane: Lane) -> Option<Sender> {
     }
 }
 
-// The worker of one lane, until the life is over or a halt stands.
-fn helper<S: Since, G: Gate, R: Wait>(
+// The turns of one lane's worker, until the life is over or a halt stands.
+fn help_to_end<S: Since, G: Gate, R: Wait>(
     rt: &R,
     baton: &Baton<Held<S>>,
     gate: &G,
@@ -71,12 +72,34 @@ fn helper<S: Since, G: Gate, R: Wait>(
     unreachable!()
 }
 
+// The worker of one lane. Where not all workers came, it makes no turn.
+fn helper<S: Since, G: Gate, R: Wait>(
+    rt: &R,
+    baton: &Baton<Held<S>>,
+    gate: &G,
+    signals: &Signals,
+    pass: Pass<Held<S>>,
+    lane: Lane,
+) -> Pass<Held<S>>
+    requires of { IsPassOf baton.now pass }
+    requires helper { IsHelper (view pass) }
+    requires lane { IsHelpers lane }
+    ensures of { IsPassOf baton.now result }
+    ensures helper { IsHelper (view result) }
+{
+    gate.before_start(lane);
+    if !signals.start.all_come(rt) {
+        return pass;
+    }
+    help_to_end(rt, baton, gate, &signals.bell, pass, lane)
+}
+
 // Two workers side by side. The pass of the one takes up that of the other.
 fn pair<S: Since + Send + Sync, G: Gate + Sync, R: Threads + Wait + Sync>(
     rt: &R,
     baton: &Baton<Held<S>>,
     gate: &G,
-    bell: &Bell,
+    signals: &Signals,
     one: (Pass<Held<S>>, Lane),
     other: (Pass<Held<S>>, Lane),
 ) -> Pass<Held<S>>
@@ -90,11 +113,11 @@ fn pair<S: Since + Send + Sync, G: Gate + Sync, R: Threads + Wait + Sync>(
         move ||
             requires { IsPassOf baton.now one.0 × IsHelper (view one.0) × IsHelpers one.1 }
             ensures { IsPassOf baton.entry.now result × IsHelper (view result) }
-        { helper(rt, baton, gate, bell, one.0, one.1) },
+        { helper(rt, baton, gate, signals, one.0, one.1) },
         move ||
             requires { IsPassOf baton.now other.0 × IsHelper (view other.0) × IsHelpers other.1 }
             ensures { IsPassOf baton.entry.now result × IsHelper (view result) }
-        { helper(rt, baton, gate, bell, other.0, other.1) },
+        { helper(rt, baton, gate, signals, other.0, other.1) },
     );
     baton.join(&mut mine, theirs);
     mine
@@ -105,7 +128,7 @@ fn services<S: Since + Send + Sync, G: Gate + Sync, R: Threads + Wait + Sync>(
     rt: &R,
     baton: &Baton<Held<S>>,
     gate: &G,
-    bell: &Bell,
+    signals: &Signals,
     first: (Pass<Held<S>>, Pass<Held<S>>),
     second: (Pass<Held<S>>, Pass<Held<S>>),
 ) -> Pass<Held<S>>
@@ -124,7 +147,7 @@ fn services<S: Since + Send + Sync, G: Gate + Sync, R: Threads + Wait + Sync>(
                 rt,
                 baton,
                 gate,
-                bell,
+                signals,
                 (first.0, Lane::Client),
                 (first.1, Lane::Master),
             )
@@ -137,7 +160,7 @@ fn services<S: Since + Send + Sync, G: Gate + Sync, R: Threads + Wait + Sync>(
                 rt,
                 baton,
                 gate,
-                bell,
+                signals,
                 (second.0, Lane::Node),
                 (second.1, Lane::Clock),
             )
@@ -159,7 +182,7 @@ fn six<S: Since + Send + Sync, G: Gate + Sync, R: Threads + Wait + Sync>(
     rt: &R,
     baton: &Baton<Held<S>>,
     gate: &G,
-    bell: &Bell,
+    signals: &Signals,
     all: Six<S>,
 ) -> Pass<Held<S>>
     requires first { IsPassOf baton.now all.0.0 × IsHelper (view all.0.0) × IsPassOf baton.now all.0.1 × IsHelper (view all.0.1) }
@@ -174,7 +197,7 @@ fn six<S: Since + Send + Sync, G: Gate + Sync, R: Threads + Wait + Sync>(
         move ||
             requires { (IsPassOf baton.now first.0 × IsHelper (view first.0) × IsPassOf baton.now first.1 × IsHelper (view first.1)) × (IsPassOf baton.now second.0 × IsHelper (view second.0) × IsPassOf baton.now second.1 × IsHelper (view second.1)) }
             ensures { IsPassOf baton.entry.now result × IsHelper (view result) }
-        { services(rt, baton, gate, bell, first, second) },
+        { services(rt, baton, gate, signals, first, second) },
         move ||
             requires { IsPassOf baton.now third.0 × IsHelper (view third.0) × IsPassOf baton.now third.1 × IsHelper (view third.1) }
             ensures { IsPassOf baton.entry.now result × IsHelper (view result) }
@@ -183,7 +206,7 @@ fn six<S: Since + Send + Sync, G: Gate + Sync, R: Threads + Wait + Sync>(
                 rt,
                 baton,
                 gate,
-                bell,
+                signals,
                 (third.0, Lane::Main),
                 (third.1, Lane::Sched),
             )
@@ -198,7 +221,7 @@ fn beside<S: Since + Send + Sync, D: Disk + Drop + Send, G: Gate + Sync, R: Thre
     rt: &R,
     baton: &Baton<Held<S>>,
     gate: &G,
-    bell: &Bell,
+    signals: &Signals,
     pass: Pass<Held<S>>,
     store: Store<D>,
     all: Six<S>,
@@ -216,11 +239,11 @@ fn beside<S: Since + Send + Sync, D: Disk + Drop + Send, G: Gate + Sync, R: Thre
         move ||
             requires { IsPassOf baton.now pass × Knows (Serving D.view S.began store) (view pass) }
             ensures { IsPassOf baton.entry.now result.0 × Knows (EndFact D.view S.began result.1 result.2) (view result.0) }
-        { keeper(rt, baton, gate, bell, pass, store) },
+        { keeper(rt, baton, gate, signals, pass, store) },
         move ||
             requires { (IsPassOf baton.now all.0.0 × IsHelper (view all.0.0) × IsPassOf baton.now all.0.1 × IsHelper (view all.0.1)) × (IsPassOf baton.now all.1.0 × IsHelper (view all.1.0) × IsPassOf baton.now all.1.1 × IsHelper (view all.1.1)) × (IsPassOf baton.now all.2.0 × IsHelper (view all.2.0) × IsPassOf baton.now all.2.1 × IsHelper (view all.2.1)) }
             ensures { IsPassOf baton.entry.now result × IsHelper (view result) }
-        { six(rt, baton, gate, bell, all) },
+        { six(rt, baton, gate, signals, all) },
     );
     baton.join(&mut pass, rest);
     (pass, store, end)
@@ -252,7 +275,7 @@ pub(crate) fn seven<
     rt: &R,
     baton: &Baton<Held<S>>,
     gate: &G,
-    bell: &Bell,
+    signals: &Signals,
     mut pass: Pass<Held<S>>,
     store: Store<D>,
 ) -> (Pass<Held<S>>, Store<D>, End)
@@ -268,5 +291,5 @@ pub(crate) fn seven<
     let main = assist(baton, &mut pass, &store);
     let sched = assist(baton, &mut pass, &store);
     let all = ((client, master), (node, clock), (main, sched));
-    beside(rt, baton, gate, bell, pass, store, all)
+    beside(rt, baton, gate, signals, pass, store, all)
 }

@@ -28,11 +28,12 @@ fn outcome_of<R: Threads + Wait + Sync + AllocGlobal, G: Gate + Sync>(
     top(rt, rt.alloc(), words, shelf, sink, disk, gate).outcome
 }
 
-/// Makes a run by workers to its end, and gives back its page.
-fn run_by_workers<R: Threads + Wait + Sync + Abort + AllocGlobal, G: Gate + Sync>(
+/// Makes a run by workers, and gives back its page where the outcome is the wanted one.
+fn page_by_workers<R: Threads + Wait + Sync + Abort + AllocGlobal, G: Gate + Sync>(
     rt: &R,
     gate: &G,
     script: &[&str],
+    wanted: Outcome,
 ) -> String {
     let case = Case {
         words: &THREADS,
@@ -43,8 +44,17 @@ fn run_by_workers<R: Threads + Wait + Sync + Abort + AllocGlobal, G: Gate + Sync
     let words = words_of(rt, &case);
     let device = device_of(rt, case.device);
     let outcome = outcome_of(rt, gate, words.as_slice(), &mut shelf, &mut sink, device);
-    assert_eq!(rt; outcome, Outcome::Done);
+    assert_eq!(rt; outcome, wanted);
     page_of(rt, &sink)
+}
+
+/// Makes a run by workers to its end, and gives back its page.
+fn run_by_workers<R: Threads + Wait + Sync + Abort + AllocGlobal, G: Gate + Sync>(
+    rt: &R,
+    gate: &G,
+    script: &[&str],
+) -> String {
+    page_by_workers(rt, gate, script, Outcome::Done)
 }
 
 /// How many lines of a page are this one.
@@ -111,6 +121,8 @@ struct BeatAmidAppend {
 }
 
 impl Gate for BeatAmidAppend {
+    fn before_start(&self, _lane: Lane) {}
+
     fn before_serve(&self, sender: Sender) {
         if sender == Sender::Node {
             self.held_node.store(true, Ordering::SeqCst);
@@ -200,6 +212,8 @@ impl SevenAtOnce {
 }
 
 impl Gate for SevenAtOnce {
+    fn before_start(&self, _lane: Lane) {}
+
     fn before_serve(&self, _sender: Sender) {}
 
     fn before_append(&self, _number: u64) {}
@@ -223,4 +237,57 @@ fn seven_workers_are_held_at_once(rt: HostRuntime) {
     wants(&rt, gate.come.load(Ordering::SeqCst) == 7);
     wants(&rt, !gate.late.load(Ordering::SeqCst));
     wants(&rt, count_of(page.as_str(), RESYNCED_BEAT) == 1);
+}
+
+/// Keeps the scheduler's worker from coming until the store's worker put the baton back, as a thread does that can't be had.
+#[derive(Drop)]
+struct MissingWorker {
+    halted: AtomicU64,
+    /// Whether any other worker moved or tried to.
+    moved: AtomicBool,
+    /// Whether the hold took too long.
+    late: AtomicBool,
+}
+
+impl Gate for MissingWorker {
+    fn before_start(&self, lane: Lane) {
+        if lane == Lane::Sched && !holds_until(&self.halted, 1) {
+            self.late.store(true, Ordering::SeqCst);
+        }
+    }
+
+    fn before_serve(&self, _sender: Sender) {
+        self.moved.store(true, Ordering::SeqCst);
+    }
+
+    fn before_append(&self, _number: u64) {
+        self.moved.store(true, Ordering::SeqCst);
+    }
+
+    fn after_hold(&self, lane: Lane) {
+        match lane {
+            Lane::Hand => {
+                self.halted.fetch_add(1, Ordering::SeqCst);
+            }
+            _ => self.moved.store(true, Ordering::SeqCst),
+        }
+    }
+}
+
+// It takes the five seconds for which workers wait for one another. That the missing one comes at last changes nothing.
+#[test]
+fn a_life_is_halted_whose_workers_do_not_all_come(rt: HostRuntime) {
+    let gate = MissingWorker {
+        halted: AtomicU64::new(0),
+        moved: AtomicBool::new(false),
+        late: AtomicBool::new(false),
+    };
+    let page = page_by_workers(&rt, &gate, &[BEATEN], Outcome::Memory);
+    assert_eq!(&rt;
+        page.as_str(),
+        "opened landed=0 epoch=0 stamp=1410901177871\n"
+    );
+    wants(&rt, gate.halted.load(Ordering::SeqCst) == 1);
+    wants(&rt, !gate.moved.load(Ordering::SeqCst));
+    wants(&rt, !gate.late.load(Ordering::SeqCst));
 }
