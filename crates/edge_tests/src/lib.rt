@@ -4,11 +4,15 @@
 #![tactic(auto)]
 
 #[cfg(test)]
+mod cluster_hint_tests;
+#[cfg(test)]
 mod cluster_tests;
 #[cfg(test)]
 mod helpers;
 #[cfg(test)]
 mod outside_tests;
+#[cfg(test)]
+mod script_hint_tests;
 #[cfg(test)]
 mod script_tests;
 #[cfg(test)]

@@ -2,8 +2,8 @@
 //! an output is asked.
 use crate::helpers::{bytes_of, push, text, wants};
 use rm_outside::{
-    FileShelf, MOST_READ, MemShelf, MemSink, NamedFile, OutSink, Shelf, ShelfError, Sink, Written,
-    write_all,
+    FileShelf, MOST_READ, MemShelf, MemSink, NamedFile, OutSink, Shelf, ShelfError, Sink,
+    StandardDescriptors, Written, write_all,
 };
 use rm_types::Items;
 use std::cell::Cell;
@@ -87,6 +87,37 @@ fn a_shelf_of_files_reads_those_named_and_counts_a_missing_one(rt: HostRuntime) 
     wants(&rt, failed(shelf.read("output")));
     wants(&rt, shelf.faults() == 1);
     remove(&rt, "input");
+}
+
+#[test]
+fn a_shelf_of_files_keeps_what_it_read_last_and_why_it_failed(rt: HostRuntime) {
+    put(&rt, "last", "begin\n");
+    let mut shelf = FileShelf::new(rt);
+    wants(&rt, shelf.last_read().is_empty());
+    wants(&rt, gives(shelf.read("last"), b"begin\n"));
+    remove(&rt, "last");
+    wants(&rt, failed(shelf.read("last")));
+    wants(&rt, shelf.last_read() == b"begin\n".as_slice());
+    wants(&rt, is_missing(shelf.last_fault()));
+}
+
+/// Whether a fault is that a file isn't there.
+fn is_missing(fault: Option<&io::Error>) -> bool {
+    match fault {
+        Some(error) => error.kind() == ErrorKind::NotFound,
+        None => false,
+    }
+}
+
+/// Whether a file takes nothing.
+fn takes_nothing<F: io::Write>(file: &mut F) -> bool {
+    file.write(b"text").is_err()
+}
+
+#[test]
+fn the_standard_descriptors_are_taken_for_reading_alone(rt: HostRuntime) {
+    let mut held = StandardDescriptors::take(&rt).expect(&rt, "descriptors");
+    wants(&rt, takes_nothing(held.output()));
 }
 
 /// Makes a file of zeros.

@@ -1,6 +1,6 @@
 //! What no clause says: that words are answered at all, here by rows that are worked out by hand.
 use crate::helpers::{shows, wants, wants_in};
-use rm_words::{command_line, name_at};
+use rm_words::{command_line, name_at, word_fault};
 use std::process::Abort;
 
 /// Words, the mode that they ask for as it shows, and whether they have `--moves` and `--file`.
@@ -46,27 +46,48 @@ const ASKED: &[(&[&str], &str, bool, bool)] = &[
     (&["store", "--file"], "Store", false, true),
 ];
 
-/// Words that ask for nothing.
-const OTHERS: &[&[&str]] = &[
-    &[],
-    &[""],
-    &["--moves"],
-    &["plain", "a"],
-    &["plain", "a", "b", "c"],
-    &["plain", "a", "b", "c", "d"],
-    &["soak", "0"],
-    &["soak", "05"],
-    &["soak", "1001"],
-    &["soak", "5", "--moves"],
-    &["store", "--moves"],
-    &["--file", "--file", "plain", "a", "b"],
-    &["--file=c", "plain", "a", "b"],
-    &["-", "plain", "a", "b"],
-    &["--", "plain", "a", "b"],
-    &["-h"],
-    &["--help"],
-    &["--version"],
-    &["help"],
+/// Words that ask for nothing, and what is wrong with them.
+const OTHERS: &[(&[&str], &str)] = &[
+    (&[], "no mode is named"),
+    (&[""], "no mode is named"),
+    (&["--moves"], "no mode is named"),
+    (&["plain", "a"], "`plain` lacks the name of a script"),
+    (&["threads"], "`threads` lacks the name of a cluster file"),
+    (
+        &["replay", "a", "b"],
+        "`replay` lacks the name of a schedule",
+    ),
+    (
+        &["plain", "a", "b", "c"],
+        "`c` is one word too many for `plain`",
+    ),
+    (
+        &["plain", "a", "b", "c", "d"],
+        "`c` is one word too many for `plain`",
+    ),
+    (&["soak"], "`soak` lacks the number of its applications"),
+    (&["soak", "0"], "`0` is no number from 1 to 1000"),
+    (&["soak", "05"], "`05` is no number from 1 to 1000"),
+    (&["soak", "1001"], "`1001` is no number from 1 to 1000"),
+    (&["soak", "5", "--moves"], "`soak` writes no moves"),
+    (&["store", "--moves"], "`store` writes no moves"),
+    (&["store", "a"], "`a` is one word too many for `store`"),
+    (
+        &["--file", "--file", "plain", "a", "b"],
+        "`--file` stands more than once",
+    ),
+    (
+        &["--moves", "plain", "--moves", "a", "b"],
+        "`--moves` stands more than once",
+    ),
+    (&["--file=c", "plain", "a", "b"], "`--file=c` is no flag"),
+    (&["-", "plain", "a", "b"], "`-` is no flag"),
+    (&["--", "plain", "a", "b"], "`--` is no flag"),
+    (&["-h"], "`-h` is no flag"),
+    (&["--help"], "`--help` is no flag"),
+    (&["--version"], "`--version` is no flag"),
+    (&["help"], "`help` is no mode"),
+    (&["\u{1b}[2J"], "`\\u{1b}[2J` is no mode"),
 ];
 
 /// Adds a word at the end.
@@ -106,17 +127,21 @@ fn each_mode_is_asked_for(rt: HostRuntime) {
     }
 }
 
-/// Whether the words ask for nothing.
-fn asks_nothing<R: Abort + AllocGlobal>(rt: &R, words: &[&str]) -> bool {
+/// Sees that the words ask for nothing, and what is said of them.
+fn asks_nothing<R: Abort + AllocGlobal>(rt: &R, words: &[&str], wanted: &str) {
     let words = strings(rt, words);
     let line = command_line(rt.alloc(), words.as_slice()).expect(rt, "memory");
-    line.is_none()
+    wants_in(rt, wanted, line.is_none());
+    let fault = word_fault(rt.alloc(), words.as_slice()).expect(rt, "memory");
+    let fault = fault.expect(rt, wanted);
+    let told = format!(in rt.alloc(); "{fault}").expect(rt, "memory");
+    wants_in(rt, told.as_str(), told.as_str() == wanted);
 }
 
 #[test]
 fn other_words_ask_for_nothing(rt: HostRuntime) {
-    for words in OTHERS {
-        assert!(rt; asks_nothing(&rt, words), "{words:?}");
+    for (words, wanted) in OTHERS {
+        asks_nothing(&rt, words, wanted);
     }
 }
 

@@ -4,3 +4,4 @@ pub mod Queues
 pub mod Rules
 pub mod Ranges
 pub mod Clusters
+pub mod Faults

@@ -13,7 +13,7 @@ use serde_json::Value;
 use std::alloc::Global;
 
 /// The greatest length of a cluster file, in bytes.
-const GREATEST_LENGTH: usize = 1_048_576;
+pub(crate) const GREATEST_LENGTH: usize = 1_048_576;
 
 /// Why a cluster file wasn't read.
 #[derive(Clone, Copy, Debug, PartialEq, Eq)]

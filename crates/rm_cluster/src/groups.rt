@@ -40,7 +40,11 @@ fn users_of(
 
 /// A user, whose name is the key, and the groups that the value lists.
 #[tactic(auto, unfolding(crate::specs::Readings::user_of))]
-fn user_of(alloc: Global, key: &String, value: &Value) -> Result<Option<UserGroups>, NoMemory>
+pub(crate) fn user_of(
+    alloc: Global,
+    key: &String,
+    value: &Value,
+) -> Result<Option<UserGroups>, NoMemory>
     ensures { IfOk result (λ user. user ≡ user_of (string_bytes key.now) (view value.now)) }
 {
     let Some(user) = text_of(alloc, key.as_bytes(), TextKind::Name)? else {

@@ -11,10 +11,10 @@ use serde_json::{Map, Value};
 use std::alloc::Global;
 
 /// The greatest number of queues.
-const MOST_QUEUES: usize = 256;
+pub(crate) const MOST_QUEUES: usize = 256;
 
 /// The greatest number of dots in a name: its parts are one more.
-const MOST_DOTS: usize = 7;
+pub(crate) const MOST_DOTS: usize = 7;
 
 /// The queues of a cluster file: a list of 1 to 256 objects that are a tree.
 #[tactic(auto, unfolding(crate::specs::Queues::queue_tree_of))]
@@ -38,7 +38,10 @@ pub(crate) fn queue_tree_of(
 }
 
 /// The values as queues, where each is one.
-fn queue_list_of(alloc: Global, values: &[Value]) -> Result<Option<Items<QueueSpec>>, NoMemory>
+pub(crate) fn queue_list_of(
+    alloc: Global,
+    values: &[Value],
+) -> Result<Option<Items<QueueSpec>>, NoMemory>
     ensures { IfOk result (λ queues. queues ≡ queue_list_of (items_view values.now)) }
 {
     let mut queues = Items::new(alloc);
@@ -76,7 +79,7 @@ fn queue_of(alloc: Global, value: &Value) -> Result<Option<QueueSpec>, NoMemory>
 }
 
 #[tactic(auto, unfolding(crate::specs::Queues::is_queue_key))]
-fn is_queue_key(key: &str) -> bool
+pub(crate) fn is_queue_key(key: &str) -> bool
     ensures { result ≡ is_queue_key key.now }
 {
     matches!(key, "name" | "submit" | "admin")
@@ -90,7 +93,7 @@ fn are_queue_keys(members: &Map<String, Value>) -> bool
 
 /// Whether a value is an object with keys of a queue alone.
 #[tactic(auto, using(crate::proofs::Keys::key_tests), unfolding(crate::specs::Queues::has_queue_keys))]
-fn has_queue_keys(value: &Value) -> bool
+pub(crate) fn has_queue_keys(value: &Value) -> bool
     ensures { result ≡ has_queue_keys (view value.now) }
 {
     match value.as_object() {
@@ -101,7 +104,7 @@ fn has_queue_keys(value: &Value) -> bool
 
 /// The name of a queue, which has to stand.
 #[tactic(auto, unfolding(crate::specs::Queues::name_of))]
-fn name_of(alloc: Global, value: &Value) -> Result<Option<Text>, NoMemory>
+pub(crate) fn name_of(alloc: Global, value: &Value) -> Result<Option<Text>, NoMemory>
     ensures { IfOk result (λ name. name ≡ name_of (view value.now)) }
 {
     match value.get("name") {
@@ -122,7 +125,11 @@ fn some_list_of(alloc: Global, value: &Value) -> Result<Option<Option<Text>>, No
 
 /// A list of a queue at a key, where it stands.
 #[tactic(auto, unfolding(crate::specs::Queues::list_at))]
-fn list_at(alloc: Global, value: &Value, key: &str) -> Result<Option<Option<Text>>, NoMemory>
+pub(crate) fn list_at(
+    alloc: Global,
+    value: &Value,
+    key: &str,
+) -> Result<Option<Option<Text>>, NoMemory>
     ensures { IfOk result (λ list. list ≡ list_at key.now (view value.now)) }
 {
     match value.get(key) {
@@ -151,13 +158,13 @@ fn is_tree(queues: &[QueueSpec]) -> bool
 
 /// Whether a queue of this name may stand behind others: one of them is its parent, none has its name, and it has eight
 /// parts at most.
-fn may_follow(before: &[QueueSpec], name: &[u8]) -> bool
+pub(crate) fn may_follow(before: &[QueueSpec], name: &[u8]) -> bool
     ensures { result ≡ may_follow before.now name.now }
 {
     any_parent(before, name) && !is_queue(before, name) && dots_in(name) <= MOST_DOTS
 }
 
-fn any_parent(queues: &[QueueSpec], name: &[u8]) -> bool
+pub(crate) fn any_parent(queues: &[QueueSpec], name: &[u8]) -> bool
     ensures { result ≡ list_any (λ queue. is_child name.now queue.name) queues.now }
 {
     queues
@@ -165,7 +172,7 @@ fn any_parent(queues: &[QueueSpec], name: &[u8]) -> bool
         .any(|queue| is_child(name, queue.name.bytes()))
 }
 
-fn is_queue(queues: &[QueueSpec], name: &[u8]) -> bool
+pub(crate) fn is_queue(queues: &[QueueSpec], name: &[u8]) -> bool
     ensures { result ≡ is_queue queues.now name.now }
 {
     queues.iter().any(|queue| queue.name.bytes() == name)

@@ -14,8 +14,17 @@ use rm_types::{
 use serde_json::{Map, Value};
 use std::alloc::Global;
 
+/// How many completed applications are remembered at most.
+pub(crate) const MOST_COMPLETED: u32 = 10_000;
+
+/// How many applications may run at most.
+pub(crate) const MOST_APPS: u32 = 100_000;
+
+/// How long a recovered manager waits at most, in milliseconds.
+pub(crate) const LONGEST_WAIT_MS: u32 = 1_000_000_000;
+
 #[tactic(auto, unfolding(crate::specs::Rules::is_known))]
-fn is_known(key: &str) -> bool
+pub(crate) fn is_known(key: &str) -> bool
     ensures { result ≡ is_known key.now }
 {
     matches!(
@@ -63,7 +72,7 @@ pub(crate) fn max_attempts_of(file: &Value) -> Option<u32>
 pub(crate) fn max_completed_of(file: &Value) -> Option<u32>
     ensures { result ≡ max_completed_of (view file.now) }
 {
-    number_at(file, "max_completed", 0, 10_000, 1000)
+    number_at(file, "max_completed", 0, MOST_COMPLETED, 1000)
 }
 
 /// How many applications may run.
@@ -71,7 +80,7 @@ pub(crate) fn max_completed_of(file: &Value) -> Option<u32>
 pub(crate) fn max_apps_of(file: &Value) -> Option<u32>
     ensures { result ≡ max_apps_of (view file.now) }
 {
-    number_at(file, "max_apps", 1, 100_000, 10_000)
+    number_at(file, "max_apps", 1, MOST_APPS, 10_000)
 }
 
 /// How long a recovered manager waits, in milliseconds.
@@ -79,7 +88,7 @@ pub(crate) fn max_apps_of(file: &Value) -> Option<u32>
 pub(crate) fn wait_ms_of(file: &Value) -> Option<u32>
     ensures { result ≡ wait_ms_of (view file.now) }
 {
-    number_at(file, "wait_ms", 0, 1_000_000_000, 10_000)
+    number_at(file, "wait_ms", 0, LONGEST_WAIT_MS, 10_000)
 }
 
 /// Whether rights are checked.

@@ -7,12 +7,14 @@ use std::rt::Files;
 use std::{fs, io};
 
 /// The system's files as a shelf, whose names are their paths. It tells no bytes: contracts see the
-/// count of its faults alone.
+/// count of its faults alone. It keeps a copy of what it read last, for who wants to tell what is wrong with it.
 #[derive(Drop)]
 pub struct FileShelf<R> {
     rt: R,
     faults: u64,
     answered: u64,
+    last_read: Option<Vec<u8>>,
+    last_fault: Option<io::Error>,
 }
 
 impl<R> Model for FileShelf<R> {
@@ -32,6 +34,8 @@ impl<R> FileShelf<R> {
             rt,
             faults: 0,
             answered: 0,
+            last_read: None,
+            last_fault: None,
         }
     }
 }
@@ -47,6 +51,20 @@ impl<R> FileShelf<R> {
     /// How many reads were answered with bytes, for who wants to tell which one wasn't. Contracts don't see it.
     pub fn answered(&self) -> u64 {
         self.answered
+    }
+
+    /// What the last read that was answered gave; no bytes where there was none, or no memory for a copy. Contracts don't
+    /// see it.
+    pub fn last_read(&self) -> &[u8] {
+        match &self.last_read {
+            Some(bytes) => bytes.as_slice(),
+            None => &[],
+        }
+    }
+
+    /// Why the last read that failed did so. Contracts don't see it.
+    pub fn last_fault(&self) -> Option<&io::Error> {
+        self.last_fault.as_ref()
     }
 }
 
@@ -70,10 +88,12 @@ impl<R: Files + AllocGlobal> Shelf for FileShelf<R> {
         match read_part(&self.rt, name) {
             Ok(bytes) => {
                 self.answered = self.answered.saturating_add(1);
+                self.last_read = Vec::from_slice(self.rt.alloc(), bytes.as_slice()).ok();
                 Ok(bytes)
             }
             Err(error) if error.kind() == ErrorKind::OutOfMemory => Err(ShelfError::Memory),
-            Err(_) => {
+            Err(error) => {
+                self.last_fault = Some(error);
                 self.faults = self.faults.saturating_add(1);
                 Err(ShelfError::Failed)
             }

@@ -15,6 +15,7 @@ pub struct OutSink<R> {
     rt: R,
     faults: u64,
     idle: u64,
+    last_fault: Option<io::Error>,
 }
 
 impl<R> Model for OutSink<R> {
@@ -34,7 +35,13 @@ impl<R> OutSink<R> {
             rt,
             faults: 0,
             idle: 0,
+            last_fault: None,
         }
+    }
+
+    /// Why the last write that was refused was. Contracts don't see it.
+    pub fn last_fault(&self) -> Option<&io::Error> {
+        self.last_fault.as_ref()
     }
 }
 
@@ -63,7 +70,8 @@ impl<R: Print> Sink for OutSink<R> {
                 }
                 Ok(count)
             }
-            Err(_) => {
+            Err(error) => {
+                self.last_fault = Some(error);
                 self.faults = self.faults.saturating_add(1);
                 Err(SinkError::SinkFault)
             }

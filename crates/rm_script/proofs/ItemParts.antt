@@ -18,7 +18,7 @@ use Rattle.rm_script.specs.Words.{cut, held_parts, ask_parts}
 rejoined : {X : Type 0} (written : X → List ℕ) (parts : X → List (List ℕ)) (Fits : X → Type 0) → ((x : X) → written x ≡ join_with_byte 58 (parts x)) → ((x : X) → Fits x → cut 58 (written x) ≡ parts x)
     → (word : List ℕ) (answer : Result X LineError) → Finds answer (IsOf parts Fits (cut 58 word)) → Finds answer (IsOf written Fits word)
 rejoined written parts Fits joins cuts word (Ok x) is = record { same = sym (join_cut 58 word) ∙ ap (join_with_byte 58) is.same ∙ sym (joins x); fits = is.fits }
-rejoined written parts Fits joins cuts word (Err Refused) none = λ x is. none x (record { same = ap (cut 58) is.same ∙ cuts x is.fits; fits = is.fits })
+rejoined written parts Fits joins cuts word (Err (Refused fault)) none = λ x is. none x (record { same = ap (cut 58) is.same ∙ cuts x is.fits; fits = is.fits })
 rejoined written parts Fits joins cuts word (Err Memory) none = tt
 
 number_lacks : (number : ℕ) → number < 2 ^ 64 → lacks 58 (decimal number) ≡ true

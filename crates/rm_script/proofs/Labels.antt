@@ -39,7 +39,7 @@ after_label-label label text =
 pub labelled : {X : Type 0} (written : X → List ℕ) (Fits : X → Type 0) (label word text : List ℕ) (answer : Result X LineError) → after_label label word ≡ Some text → Finds answer (IsOf written Fits text)
     → Finds answer (IsOf (λ x. label ++ written x) Fits word)
 labelled written Fits label word text (Ok x) e is = record { same = after_label_is label word text e ∙ ap (λ (t : List ℕ). label ++ t) is.same; fits = is.fits }
-labelled written Fits label word text (Err Refused) e none = λ x is.
+labelled written Fits label word text (Err (Refused fault)) e none = λ x is.
     none x (record { same = same_Some text (written x) (sym e ∙ ap (after_label label) is.same ∙ after_label-label label (written x)); fits = is.fits })
 labelled written Fits label word text (Err Memory) e none = tt
 

@@ -16,3 +16,4 @@ pub mod Loop
 pub mod Cuts
 pub mod Feeds
 pub mod Values
+pub mod Broken

@@ -39,6 +39,12 @@ pub record IsAt (count : ℕ) (bytes rest : List ℕ) (draft : Draft) : Type 0 w
   pub left : lines_of rest ≡ drop count (lines_of bytes)
   pub size : size_of_first count bytes + length rest ≡ length bytes
 
+-- so many lines were passed, and the rest is left
+pub record IsCut (count : ℕ) (bytes rest : List ℕ) : Type 0 where
+  pub within : count ≤ length (lines_of bytes)
+  pub left : lines_of rest ≡ drop count (lines_of bytes)
+  pub size : size_of_first count bytes + length rest ≡ length bytes
+
 -- the one line more is this, and this is left after it
 pub record IsNext (count : ℕ) (bytes text after : List ℕ) : Type 0 where
   pub there : count < length (lines_of bytes)
@@ -67,9 +73,9 @@ length-next lines text =
     flat_map-append ended lines (text ∷ []) ∙ ap (λ (bs : List ℕ). flat_map ended lines ++ bs) (append-nil (ended text)) in
     omega (arith, ap length apart, length-append (flat_map ended lines) (ended text), length-append text (10 ∷ []))
 
-pub is_next : (count : ℕ) (bytes rest : List ℕ) (draft : Draft) (text after : List ℕ) → IsAt count bytes rest draft → 0 < length rest → lines_of rest ≡ text ∷ lines_of after
+pub next_line : (count : ℕ) (bytes rest text after : List ℕ) → IsCut count bytes rest → 0 < length rest → lines_of rest ≡ text ∷ lines_of after
     → (length rest ≡ length text + (1 + length after)) ⊎ ((length rest ≡ length text) × (length after ≡ 0)) → IsNext count bytes text after
-is_next count bytes rest draft text after is some lines cut =
+next_line count bytes rest text after is some lines cut =
     let all : List (List ℕ) = lines_of bytes in
     let dropped : drop count all ≡ text ∷ lines_of after = sym is.left ∙ lines in
     let step = take_next count all text (lines_of after) dropped in
@@ -84,6 +90,16 @@ is_next count bytes rest draft text after is some lines cut =
       left = sym (ap (λ (n : ℕ). drop n all) one_on ∙ step.1);
       size = ap (λ (n : ℕ). min (length bytes) n + length after) done ∙ grown;
     }
+
+pub is_next : (count : ℕ) (bytes rest : List ℕ) (draft : Draft) (text after : List ℕ) → IsAt count bytes rest draft → 0 < length rest → lines_of rest ≡ text ∷ lines_of after
+    → (length rest ≡ length text + (1 + length after)) ⊎ ((length rest ≡ length text) × (length after ≡ 0)) → IsNext count bytes text after
+is_next count bytes rest draft text after is some lines cut =
+    let passed : IsCut count bytes rest = record { within = is.within; left = is.left; size = is.size } in
+    next_line count bytes rest text after passed some lines cut
+
+-- one line on, where no draft is made
+pub cut_on : (count : ℕ) (bytes text after : List ℕ) → IsNext count bytes text after → IsCut (count + 1) bytes after
+cut_on count bytes text after line = record { within = omega (arith, line.there); left = line.left; size = line.size }
 
 -- the lines of the texts so far and one more
 
@@ -221,7 +237,7 @@ took count bytes rest draft next text after is line reads = by (is_skipped text)
 pub refuses : (error : LineError) (count : ℕ) (bytes rest : List ℕ) (draft : Draft) (text after : List ℕ) → IsAt count bytes rest draft → IsNext count bytes text after
     → FindsNone error (Takes draft text) → AnswersReading bytes (Err (at_line error (count + 1)))
 refuses faults.Memory count bytes rest draft text after is line fails = tt
-refuses faults.Refused count bytes rest draft text after is line none =
+refuses (faults.Refused fault) count bytes rest draft text after is line none =
     fails_after count bytes rest draft text after is line
     (λ next reads. let last = took count bytes rest draft next text after is line reads in none last.0 last.1)
 
@@ -241,5 +257,5 @@ ends script count bytes rest draft none is made = record { draft = draft; before
 pub ends_open : (error : LineError) (count : ℕ) (bytes rest : List ℕ) (draft : Draft) → rest ≡ [] → IsAt count bytes rest draft → Fails error (script_of_draft draft)
     → AnswersReading bytes (Err (at_line error (count + 1)))
 ends_open faults.Memory count bytes rest draft none is fails = tt
-ends_open faults.Refused count bytes rest draft none is fails =
+ends_open (faults.Refused fault) count bytes rest draft none is fails =
     inr (ap (λ (n : ℕ). n + 1) (all_read count bytes rest draft none is), record { draft = draft; before = reads_all count bytes rest draft none is; fails = fails })

@@ -135,7 +135,7 @@ one_says text one other is again = by (is_skipped text) refl
 -- what a draft gives with the line is what it gives with the text
 pub line_taken : (answer : Result Draft LineError) (draft : Draft) (line : Line) (text : List ℕ) → IsLineAs text line → Gives answer (with_line draft line) → Finds answer (Takes draft text)
 line_taken (Ok next) draft line text is given = record { line = line; is = is; next_is = given }
-line_taken (Err Refused) draft line text is none = λ next takes.
+line_taken (Err (Refused fault)) draft line text is none = λ next takes.
     let same : takes.line ≡ line = one_says text takes.line line takes.is.says is.says in
     not_some (with_line draft line) next none (ap (with_line draft) (sym same) ∙ takes.next_is)
 line_taken (Err Memory) draft line text is none = tt
@@ -163,7 +163,7 @@ line_found line text fine is = record { fine = fine; says = says text line (reco
 
 pub words_found : (answer : Result Line LineError) (text : List ℕ) → IsLineText text → is_skipped text ≡ false → Finds answer (IsOf line_words IsLine (words_of text)) → Finds answer (IsLineAs text)
 words_found (Ok line) text fine told is = line_found line text fine is
-words_found (Err Refused) text fine told none = λ line is.
+words_found (Err (Refused fault)) text fine told none = λ line is.
     let said = text_said text line told is.says in
     none line (record { same = ap words_of said.same ∙ words_back line said.fits; fits = said.fits })
 words_found (Err Memory) text fine told none = tt

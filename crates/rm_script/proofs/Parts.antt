@@ -12,7 +12,7 @@ use Rattle.rm_script.specs.Results.{Finds, FindsNone}
 pub stops : {X Y : Type 0} (answer : Result X LineError) (error : LineError) (Is : X → Type 0) (IsPart : Y → Type 0) → IsErrAnd answer (λ returned. returned ≡ error) → FindsNone error IsPart
     → ((x : X) → Is x → (y : Y) × IsPart y) → Finds answer Is
 stops (Ok value) error Is IsPart same none part = absurd same
-stops (Err returned) Refused Is IsPart same none part = rw same (λ x is. let y = part x is in none y.0 y.1)
+stops (Err returned) (Refused fault) Is IsPart same none part = rw same (λ x is. let y = part x is in none y.0 y.1)
 stops (Err returned) Memory Is IsPart same none part = rw same tt
 
 pub not_some : {Y : Type 0} (o : Option Y) (y : Y) → o ≡ None → o ≡ Some y → ⊥

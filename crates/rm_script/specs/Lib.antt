@@ -6,6 +6,7 @@ pub mod Spelling
 pub mod Scripts
 pub mod Refusals
 pub mod Values
+pub mod Faults
 pub mod Results
 pub mod Numbers
 pub mod Words

@@ -13,7 +13,7 @@ pub record IsOf {X Y : Type 0} (written : X → Y) (Fits : X → Type 0) (given 
 
 -- the error says that there is no value of which this holds, or that memory ran out
 abbrev pub FindsNone : {X : Type 0} → LineError → (X → Type 0) → Type 0
-FindsNone {X} Refused Is = (value : X) → Is value → ⊥
+FindsNone {X} (Refused fault) Is = (value : X) → Is value → ⊥
 FindsNone Memory Is = Unit {0}
 
 -- the answer is a value of which this holds, or there is none, unless memory ran out
@@ -28,7 +28,7 @@ o >>= f = option_and_then f o
 
 -- the error says that a function gives nothing, or that memory ran out
 abbrev pub Fails : {X : Type 0} → LineError → Option X → Type 0
-Fails Refused read = read ≡ None
+Fails (Refused fault) read = read ≡ None
 Fails Memory read = Unit {0}
 
 -- the answer is what a function gives, unless memory ran out
@@ -38,5 +38,5 @@ Gives (Err error) read = Fails error read
 
 -- the error of the script whose line this is
 abbrev pub at_line : LineError → ℕ → ScriptError
-at_line Refused line = scripts.Refused line
+at_line (Refused fault) line = scripts.Refused line
 at_line Memory line = scripts.Memory

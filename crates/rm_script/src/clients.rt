@@ -6,6 +6,7 @@ ghost use Rattle.rm_script.specs.Messages.{IsSubmission, IsClientAsk, IsMessage}
 ghost use Rattle.rm_script.specs.Results.{Finds, IsOf};
 
 use crate::errors::LineError;
+use crate::faults::{Excerpt, LineFault, Part};
 use crate::fields::{app_id, size_fields, text, text_field};
 use crate::numbers::number_field;
 use rm_types::{AppId, ClientAsk, GREATEST_ATTEMPTS, Message, Submission, Text, TextKind};
@@ -18,7 +19,7 @@ fn modify(alloc: Global, words: &[&[u8]]) -> Result<Text, LineError>
     match words {
         [] => Ok(Text::empty(alloc)),
         [word] => some_modify(alloc, word),
-        _ => Err(LineError::Refused),
+        _ => Err(LineError::Refused(LineFault::Form)),
     }
 }
 
@@ -26,9 +27,13 @@ fn modify(alloc: Global, words: &[&[u8]]) -> Result<Text, LineError>
 fn some_modify(alloc: Global, word: &[u8]) -> Result<Text, LineError>
     ensures { Finds result (IsOf (text_word (codes "modify=")) (IsText AclText) (word.now ∷ [])) }
 {
-    let text = text_field(alloc, word, "modify=", TextKind::AclText)?;
+    let text = text_field(alloc, word, "modify=", Part::Modify, TextKind::AclText)?;
     if text.bytes().is_empty() {
-        Err(LineError::Refused)
+        Err(LineError::Refused(LineFault::Text {
+            part: Part::Modify,
+            kind: TextKind::AclText,
+            found: Excerpt::of(text.bytes()),
+        }))
     } else {
         Ok(text)
     }
@@ -47,10 +52,10 @@ fn submission_of_fields(
 ) -> Result<Submission, LineError>
     ensures { Finds result (IsOf submission_words (IsSubmission user.now) (queue.now ∷ name.now ∷ memory.now ∷ vcores.now ∷ attempts.now ∷ map (λ word. word.now) more.now)) }
 {
-    let queue = text_field(alloc, queue, "queue=", TextKind::Queue)?;
-    let name = text_field(alloc, name, "name=", TextKind::Name)?;
+    let queue = text_field(alloc, queue, "queue=", Part::Queue, TextKind::Queue)?;
+    let name = text_field(alloc, name, "name=", Part::Name, TextKind::Name)?;
     let master = size_fields(memory, vcores)?;
-    let attempts = number_field(attempts, "attempts=", 0, GREATEST_ATTEMPTS)?;
+    let attempts = number_field(attempts, "attempts=", Part::Attempts, 0, GREATEST_ATTEMPTS)?;
     let modify = modify(alloc, more)?;
     let user = Text::from_bytes(alloc, user)?;
     Ok(Submission {
@@ -71,7 +76,7 @@ fn submission_of(alloc: Global, user: &[u8], fields: &[&[u8]]) -> Result<Submiss
         [queue, name, memory, vcores, attempts, more @ ..] => submission_of_fields(
             alloc, user, queue, name, memory, vcores, attempts, more,
         ),
-        _ => Err(LineError::Refused),
+        _ => Err(LineError::Refused(LineFault::Form)),
     }
 }
 
@@ -98,7 +103,7 @@ fn bare_ask(verb: &[u8], app: &[u8]) -> Result<ClientAsk, LineError>
     } else if verb == "kill".as_bytes() {
         Ok(ClientAsk::Kill(app_id(app)?))
     } else {
-        Err(LineError::Refused)
+        Err(LineError::Refused(LineFault::Form))
     }
 }
 
@@ -117,7 +122,7 @@ fn ask_for_app(
     }
     match fields {
         [] => bare_ask(verb, app),
-        _ => Err(LineError::Refused),
+        _ => Err(LineError::Refused(LineFault::Form)),
     }
 }
 
@@ -128,7 +133,7 @@ fn lone_ask(verb: &[u8]) -> Result<ClientAsk, LineError>
     if verb == "new".as_bytes() {
         Ok(ClientAsk::New)
     } else {
-        Err(LineError::Refused)
+        Err(LineError::Refused(LineFault::Form))
     }
 }
 
@@ -156,7 +161,7 @@ fn message_of(
 ) -> Result<Message, LineError>
     ensures { Finds result (IsOf message_words IsMessage (codes "client" ∷ user.now ∷ verb.now ∷ map (λ word. word.now) words.now)) }
 {
-    let name = text(alloc, user, TextKind::Name)?;
+    let name = text(alloc, user, Part::User, TextKind::Name)?;
     let ask = client_ask(alloc, name.bytes(), verb, words)?;
     Ok(Message::Client(name, ask))
 }
@@ -167,6 +172,6 @@ pub(crate) fn client_message(alloc: Global, words: &[&[u8]]) -> Result<Message, 
 {
     match words {
         [user, verb, more @ ..] => message_of(alloc, user, verb, more),
-        _ => Err(LineError::Refused),
+        _ => Err(LineError::Refused(LineFault::Form)),
     }
 }

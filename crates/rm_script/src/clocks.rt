@@ -4,6 +4,7 @@ ghost use Rattle.rm_script.specs.Messages.{IsClockAsk, IsMessage};
 ghost use Rattle.rm_script.specs.Results.{Finds, IsOf};
 
 use crate::errors::LineError;
+use crate::faults::{LineFault, Part};
 use crate::fields::{attempt_id, text};
 use crate::numbers::long_number;
 use rm_types::{ClockAsk, Message, TextKind};
@@ -17,9 +18,9 @@ fn tick(words: &[&[u8]]) -> Result<ClockAsk, LineError>
     ensures { Finds result (IsOf clock_words IsClockAsk (codes "tick" ∷ map (λ word. word.now) words.now)) }
 {
     match words {
-        [] => Err(LineError::Refused),
+        [] => Err(LineError::Refused(LineFault::Form)),
         [time] => tick_of(time),
-        _ => Err(LineError::Refused),
+        _ => Err(LineError::Refused(LineFault::Form)),
     }
 }
 
@@ -27,7 +28,7 @@ fn tick(words: &[&[u8]]) -> Result<ClockAsk, LineError>
 fn tick_of(time: &[u8]) -> Result<ClockAsk, LineError>
     ensures { Finds result (IsOf clock_words IsClockAsk (codes "tick" ∷ time.now ∷ [])) }
 {
-    Ok(ClockAsk::Tick(long_number(time, 1, GREATEST_TICK)?))
+    Ok(ClockAsk::Tick(long_number(time, Part::Time, 1, GREATEST_TICK)?))
 }
 
 /// A lease runs out, by the words after `expire`.
@@ -35,7 +36,7 @@ fn expiry(alloc: Global, words: &[&[u8]]) -> Result<ClockAsk, LineError>
     ensures { Finds result (IsOf clock_words IsClockAsk (codes "expire" ∷ map (λ word. word.now) words.now)) }
 {
     match words {
-        [] => Err(LineError::Refused),
+        [] => Err(LineError::Refused(LineFault::Form)),
         [whose, more @ ..] => lease(alloc, whose, more),
     }
 }
@@ -45,9 +46,9 @@ fn lease(alloc: Global, whose: &[u8], words: &[&[u8]]) -> Result<ClockAsk, LineE
     ensures { Finds result (IsOf clock_words IsClockAsk (codes "expire" ∷ whose.now ∷ map (λ word. word.now) words.now)) }
 {
     match words {
-        [] => Err(LineError::Refused),
+        [] => Err(LineError::Refused(LineFault::Form)),
         [name] => lease_of(alloc, whose, name),
-        _ => Err(LineError::Refused),
+        _ => Err(LineError::Refused(LineFault::Form)),
     }
 }
 
@@ -56,11 +57,11 @@ fn lease_of(alloc: Global, whose: &[u8], name: &[u8]) -> Result<ClockAsk, LineEr
     ensures { Finds result (IsOf clock_words IsClockAsk (codes "expire" ∷ whose.now ∷ name.now ∷ [])) }
 {
     if whose == "node".as_bytes() {
-        Ok(ClockAsk::ExpireNode(text(alloc, name, TextKind::Node)?))
+        Ok(ClockAsk::ExpireNode(text(alloc, name, Part::Node, TextKind::Node)?))
     } else if whose == "master".as_bytes() {
         Ok(ClockAsk::ExpireMaster(attempt_id(name)?))
     } else {
-        Err(LineError::Refused)
+        Err(LineError::Refused(LineFault::Form))
     }
 }
 
@@ -73,7 +74,7 @@ fn clock_ask(alloc: Global, verb: &[u8], words: &[&[u8]]) -> Result<ClockAsk, Li
     } else if verb == "expire".as_bytes() {
         expiry(alloc, words)
     } else {
-        Err(LineError::Refused)
+        Err(LineError::Refused(LineFault::Form))
     }
 }
 
@@ -89,7 +90,7 @@ pub(crate) fn clock_message(alloc: Global, words: &[&[u8]]) -> Result<Message, L
     ensures { Finds result (IsOf message_words IsMessage (codes "clock" ∷ map (λ word. word.now) words.now)) }
 {
     match words {
-        [] => Err(LineError::Refused),
+        [] => Err(LineError::Refused(LineFault::Form)),
         [verb, more @ ..] => message_of(alloc, verb, more),
     }
 }

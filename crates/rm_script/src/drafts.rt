@@ -3,6 +3,7 @@ ghost use Rattle.rm_script.specs.Results.{Finds, Gives};
 ghost use Rattle.rm_script.specs.Reading.{settled, with_start, with_settle, crashed, with_crash, with_message, with_loss, with_line, script_of_draft, Takes};
 
 use crate::errors::LineError;
+use crate::faults::LineFault;
 use crate::lines::{Line, line_of};
 use rm_types::{Close, Items, Life, Message, Script, Segment};
 use std::alloc::Global;
@@ -100,7 +101,7 @@ impl Draft {
                 };
                 Ok(Draft::Living(lives, living))
             }
-            Draft::Living(..) => Err(LineError::Refused),
+            Draft::Living(..) => Err(LineError::Refused(LineFault::Place)),
         }
     }
 
@@ -109,7 +110,7 @@ impl Draft {
         ensures { Gives result (with_settle self) }
     {
         match self {
-            Draft::Between(_) => Err(LineError::Refused),
+            Draft::Between(_) => Err(LineError::Refused(LineFault::Place)),
             Draft::Living(lives, living) => Ok(Draft::Living(lives, living.settle(alloc)?)),
         }
     }
@@ -119,7 +120,7 @@ impl Draft {
         ensures { Gives result (with_crash self calls image) }
     {
         match self {
-            Draft::Between(_) => Err(LineError::Refused),
+            Draft::Between(_) => Err(LineError::Refused(LineFault::Place)),
             Draft::Living(mut lives, living) => {
                 lives.push(living.crash(calls, image)?)?;
                 Ok(Draft::Between(lives))
@@ -132,7 +133,7 @@ impl Draft {
         ensures { Gives result (with_message self message) }
     {
         match self {
-            Draft::Between(_) => Err(LineError::Refused),
+            Draft::Between(_) => Err(LineError::Refused(LineFault::Place)),
             Draft::Living(lives, mut living) => {
                 living.messages.push(message)?;
                 living.is_sending = true;
@@ -146,7 +147,7 @@ impl Draft {
         ensures { Gives result (with_loss self) }
     {
         match self {
-            Draft::Between(_) => Err(LineError::Refused),
+            Draft::Between(_) => Err(LineError::Refused(LineFault::Place)),
             Draft::Living(lives, mut living) => {
                 living.is_sending = true;
                 Ok(Draft::Living(lives, living))
@@ -162,7 +163,7 @@ impl Draft {
             Draft::Between(lives) => Ok(Script { lives }),
             Draft::Living(mut lives, living) => {
                 if living.is_sending {
-                    return Err(LineError::Refused);
+                    return Err(LineError::Refused(LineFault::Place));
                 }
                 lives.push(Life {
                     stamp: living.stamp,

@@ -2,6 +2,7 @@ ghost use Rattle.std.specs.Prelude.{◌≡◌};
 ghost use Rattle.rm_script.specs.declared.errors.LineError.TheVariants.{Memory};
 ghost use Rattle.rm_script.specs.Results.{at_line};
 
+use crate::faults::LineFault;
 use rm_types::NoMemory;
 use std::alloc::{AllocError, AllocFailed};
 
@@ -16,10 +17,10 @@ pub enum ScriptError {
 }
 
 /// Why a line wasn't read, or a part of one.
-#[derive(Clone, Copy, Debug, PartialEq, Eq)]
+#[derive(Clone, Copy, Debug)]
 pub enum LineError {
     /// It is no such line, or may not stand there.
-    Refused,
+    Refused(LineFault),
     /// No memory was found.
     Memory,
 }
@@ -30,7 +31,7 @@ impl LineError {
         ensures { result ≡ at_line self line }
     {
         match self {
-            LineError::Refused => ScriptError::Refused { line },
+            LineError::Refused(_) => ScriptError::Refused { line },
             LineError::Memory => ScriptError::Memory,
         }
     }

@@ -6,6 +6,7 @@ ghost use Rattle.rm_script.specs.Messages.{IsSize};
 ghost use Rattle.rm_script.specs.Results.{Finds, IsOf};
 
 use crate::errors::LineError;
+use crate::faults::{Excerpt, LineFault, Part};
 use crate::numbers::{number, number_field};
 use crate::words::after_label;
 use rm_ids::{read_app, read_attempt, read_container};
@@ -16,12 +17,21 @@ use rm_types::{
 use std::alloc::Global;
 
 /// The text of this kind that the word is.
-pub(crate) fn text(alloc: Global, word: &[u8], kind: TextKind) -> Result<Text, LineError>
+pub(crate) fn text(
+    alloc: Global,
+    word: &[u8],
+    part: Part,
+    kind: TextKind,
+) -> Result<Text, LineError>
     ensures { Finds result (IsOf (λ text. text) (IsText kind) word.now) }
 {
     match Text::read(alloc, word, kind) {
         Ok(text) => Ok(text),
-        Err(TextError::NotText { .. }) => Err(LineError::Refused),
+        Err(TextError::NotText { .. }) => Err(LineError::Refused(LineFault::Text {
+            part,
+            kind,
+            found: Excerpt::of(word),
+        })),
         Err(TextError::Memory) => Err(LineError::Memory),
     }
 }
@@ -31,13 +41,14 @@ pub(crate) fn text_field(
     alloc: Global,
     word: &[u8],
     label: &str,
+    part: Part,
     kind: TextKind,
 ) -> Result<Text, LineError>
     ensures { Finds result (IsOf (λ text. label.now ++ text) (IsText kind) word.now) }
 {
     match after_label(word, label) {
-        Some(bytes) => text(alloc, bytes, kind),
-        None => Err(LineError::Refused),
+        Some(bytes) => text(alloc, bytes, part, kind),
+        None => Err(LineError::Refused(LineFault::Form)),
     }
 }
 
@@ -47,7 +58,10 @@ pub(crate) fn app_id(word: &[u8]) -> Result<AppId, LineError>
 {
     match read_app(word) {
         Ok(id) => Ok(id),
-        Err(_) => Err(LineError::Refused),
+        Err(_) => Err(LineError::Refused(LineFault::Id {
+            part: Part::App,
+            found: Excerpt::of(word),
+        })),
     }
 }
 
@@ -57,7 +71,10 @@ pub(crate) fn attempt_id(word: &[u8]) -> Result<AttemptId, LineError>
 {
     match read_attempt(word) {
         Ok(id) => Ok(id),
-        Err(_) => Err(LineError::Refused),
+        Err(_) => Err(LineError::Refused(LineFault::Id {
+            part: Part::Attempt,
+            found: Excerpt::of(word),
+        })),
     }
 }
 
@@ -67,7 +84,10 @@ pub(crate) fn container_id(word: &[u8]) -> Result<ContainerId, LineError>
 {
     match read_container(word) {
         Ok(id) => Ok(id),
-        Err(_) => Err(LineError::Refused),
+        Err(_) => Err(LineError::Refused(LineFault::Id {
+            part: Part::Container,
+            found: Excerpt::of(word),
+        })),
     }
 }
 
@@ -75,8 +95,8 @@ pub(crate) fn container_id(word: &[u8]) -> Result<ContainerId, LineError>
 pub(crate) fn size(memory: &[u8], vcores: &[u8]) -> Result<Resource, LineError>
     ensures { Finds result (IsOf (λ size. decimal size.memory_mb ∷ decimal size.vcores ∷ []) IsSize (memory.now ∷ vcores.now ∷ [])) }
 {
-    let memory_mb = number(memory, 1, GREATEST_MEMORY_MB)?;
-    let vcores = number(vcores, 1, GREATEST_VCORES)?;
+    let memory_mb = number(memory, Part::Memory, 1, GREATEST_MEMORY_MB)?;
+    let vcores = number(vcores, Part::Cores, 1, GREATEST_VCORES)?;
     Ok(Resource { memory_mb, vcores })
 }
 
@@ -84,7 +104,7 @@ pub(crate) fn size(memory: &[u8], vcores: &[u8]) -> Result<Resource, LineError>
 pub(crate) fn size_fields(memory: &[u8], vcores: &[u8]) -> Result<Resource, LineError>
     ensures { Finds result (IsOf (λ size. (codes "memory=" ++ decimal size.memory_mb) ∷ (codes "vcores=" ++ decimal size.vcores) ∷ []) IsSize (memory.now ∷ vcores.now ∷ [])) }
 {
-    let memory_mb = number_field(memory, "memory=", 1, GREATEST_MEMORY_MB)?;
-    let vcores = number_field(vcores, "vcores=", 1, GREATEST_VCORES)?;
+    let memory_mb = number_field(memory, "memory=", Part::Memory, 1, GREATEST_MEMORY_MB)?;
+    let vcores = number_field(vcores, "vcores=", Part::Cores, 1, GREATEST_VCORES)?;
     Ok(Resource { memory_mb, vcores })
 }

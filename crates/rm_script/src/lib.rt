@@ -5,7 +5,8 @@
 //! `Limits` has the limits, and `Lines` the lines of bytes; `Messages` the messages in their ranges;
 //! `Written` and `Spelling` a script as it is written, and its lines; `Scripts` says which bytes are which
 //! script, `Refusals` which line is refused first, and `Values` what holds of each script that is read; the
-//! others say what the private functions answer.
+//! others say what the private functions answer. Of a refused script `why` says the cause, for a person; a limit that is
+//! broken is told exactly where it is, as `Faults` says.
 //!
 //! It stands on the values of `rm_types`, on the wording of messages in `rm_formats`, on `rm_ids`, which
 //! reads ids, and on the law of `rm_page` that no two messages have one text.
@@ -15,17 +16,23 @@ mod clients;
 mod clocks;
 mod drafts;
 mod errors;
+mod faults;
 mod fields;
+mod forms;
 mod laws;
+mod limits;
 mod lines;
 mod lists;
 mod masters;
 mod nodes;
 mod numbers;
 mod reading;
+mod reasons;
 mod words;
 
 pub use errors::ScriptError;
+pub use faults::{Excerpt, Form, Limit, LineFault, Part, ScriptFault};
 pub use laws::{law_lines, law_one_line, law_one_script, law_values};
 pub use numbers::number_in;
 pub use reading::read_script;
+pub use reasons::why;

@@ -10,15 +10,14 @@ ghost use Rattle.rm_script.specs.Reading.{line_words, IsLine, IsLineAs};
 use crate::clients::client_message;
 use crate::clocks::clock_message;
 use crate::errors::LineError;
+use crate::faults::{LineFault, Part};
+use crate::limits::MOST_LINE_BYTES;
 use crate::masters::master_message;
 use crate::nodes::node_message;
 use crate::numbers::{long_number, number};
 use crate::words::words_of;
 use rm_types::{GREATEST_STAMP, Message};
 use std::alloc::Global;
-
-/// How many bytes a line may have, without its line feed.
-const MOST_LINE_BYTES: usize = 65536;
 
 /// How many device calls a crash lets pass at most.
 const GREATEST_CALLS: u32 = 1_000_000;
@@ -70,7 +69,7 @@ fn start_line(words: &[&[u8]]) -> Result<Line, LineError>
 {
     match words {
         [stamp] => start_at(stamp),
-        _ => Err(LineError::Refused),
+        _ => Err(LineError::Refused(LineFault::Form)),
     }
 }
 
@@ -78,7 +77,7 @@ fn start_line(words: &[&[u8]]) -> Result<Line, LineError>
 fn start_at(stamp: &[u8]) -> Result<Line, LineError>
     ensures { Finds result (IsOf line_words IsLine (codes "start" ∷ stamp.now ∷ [])) }
 {
-    Ok(Line::Start(long_number(stamp, 1, GREATEST_STAMP)?))
+    Ok(Line::Start(long_number(stamp, Part::Stamp, 1, GREATEST_STAMP)?))
 }
 
 /// A line that settles a segment, by the words after `settle`: there are none.
@@ -87,7 +86,7 @@ fn settle_line(words: &[&[u8]]) -> Result<Line, LineError>
 {
     match words {
         [] => Ok(Line::Settle),
-        _ => Err(LineError::Refused),
+        _ => Err(LineError::Refused(LineFault::Form)),
     }
 }
 
@@ -95,8 +94,8 @@ fn settle_line(words: &[&[u8]]) -> Result<Line, LineError>
 fn crash_at(calls: &[u8], image: &[u8]) -> Result<Line, LineError>
     ensures { Finds result (IsOf line_words IsLine (codes "crash" ∷ calls.now ∷ image.now ∷ [])) }
 {
-    let calls = number(calls, 0, GREATEST_CALLS)?;
-    let image = number(image, 0, GREATEST_IMAGE)?;
+    let calls = number(calls, Part::Calls, 0, GREATEST_CALLS)?;
+    let image = number(image, Part::Image, 0, GREATEST_IMAGE)?;
     Ok(Line::Crash { calls, image })
 }
 
@@ -106,7 +105,7 @@ fn crash_line(words: &[&[u8]]) -> Result<Line, LineError>
 {
     match words {
         [calls, image] => crash_at(calls, image),
-        _ => Err(LineError::Refused),
+        _ => Err(LineError::Refused(LineFault::Form)),
     }
 }
 
@@ -123,7 +122,7 @@ fn message_from(alloc: Global, sender: &[u8], words: &[&[u8]]) -> Result<Message
     } else if sender == "clock".as_bytes() {
         clock_message(alloc, words)
     } else {
-        Err(LineError::Refused)
+        Err(LineError::Refused(LineFault::Form))
     }
 }
 
@@ -133,7 +132,7 @@ fn lose_line(alloc: Global, words: &[&[u8]]) -> Result<Line, LineError>
 {
     match words {
         [sender, more @ ..] => Ok(Line::Lose(message_from(alloc, sender, more)?)),
-        [] => Err(LineError::Refused),
+        [] => Err(LineError::Refused(LineFault::Form)),
     }
 }
 
@@ -160,12 +159,12 @@ fn line_of_words(alloc: Global, words: &[&[u8]]) -> Result<Line, LineError>
 {
     match words {
         [word, more @ ..] => line_from(alloc, word, more),
-        [] => Err(LineError::Refused),
+        [] => Err(LineError::Refused(LineFault::Form)),
     }
 }
 
 /// Whether a line says nothing: it is empty, or begins with `#`.
-fn is_skipped(text: &[u8]) -> bool
+pub(crate) fn is_skipped(text: &[u8]) -> bool
     ensures { result ≡ is_skipped text.now }
 {
     match text {
@@ -174,11 +173,18 @@ fn is_skipped(text: &[u8]) -> bool
     }
 }
 
-/// Whether each byte is printable.
+/// Whether a byte is printable.
+pub(crate) fn is_printable(byte: u8) -> bool
+    ensures { result ≡ is_printable byte }
+{
+    byte >= 0x20 && byte <= 0x7e
+}
+
+/// Whether each byte is.
 fn all_printable(text: &[u8]) -> bool
     ensures { result ≡ list_all is_printable text.now }
 {
-    text.iter().all(|byte| *byte >= 0x20 && *byte <= 0x7e)
+    text.iter().all(|byte| is_printable(*byte))
 }
 
 /// A line by itself.
@@ -186,7 +192,7 @@ pub(crate) fn line_of(alloc: Global, text: &[u8]) -> Result<Line, LineError>
     ensures { Finds result (IsLineAs text.now) }
 {
     if text.len() > MOST_LINE_BYTES || !all_printable(text) {
-        return Err(LineError::Refused);
+        return Err(LineError::Refused(LineFault::Limit));
     }
     if is_skipped(text) {
         return Ok(Line::Skipped);

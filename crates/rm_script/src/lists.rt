@@ -8,14 +8,13 @@ ghost use Rattle.rm_script.specs.Words.{after_label, held_parts, ask_parts, IsSo
 ghost use Rattle.rm_script.specs.Laws.{HasNoComma, container_lacks_comma, held_lacks_comma, ask_lacks_comma};
 
 use crate::errors::LineError;
+use crate::faults::{LineFault, Part};
 use crate::fields::{container_id, size};
+use crate::limits::MOST_LISTED;
 use crate::numbers::number;
 use crate::words::{after_label, pieces};
 use rm_types::{Ask, ContainerId, Held, Items};
 use std::alloc::Global;
-
-/// How many items a list has at most.
-const MOST_LISTED: usize = 1000;
 
 /// The greatest priority of an ask.
 const GREATEST_PRIORITY: u32 = 1000;
@@ -80,7 +79,7 @@ fn held_of(parts: &[&[u8]]) -> Result<Held, LineError>
 {
     match parts {
         [id, memory, vcores] => held_with(id, memory, vcores),
-        _ => Err(LineError::Refused),
+        _ => Err(LineError::Refused(LineFault::Form)),
     }
 }
 
@@ -99,7 +98,7 @@ fn ask_of(parts: &[&[u8]]) -> Result<Ask, LineError>
 {
     match parts {
         [priority, count, memory, vcores] => ask_with(priority, count, memory, vcores),
-        _ => Err(LineError::Refused),
+        _ => Err(LineError::Refused(LineFault::Form)),
     }
 }
 
@@ -107,8 +106,8 @@ fn ask_of(parts: &[&[u8]]) -> Result<Ask, LineError>
 fn ask_with(priority: &[u8], count: &[u8], memory: &[u8], vcores: &[u8]) -> Result<Ask, LineError>
     ensures { Finds result (IsOf ask_parts IsAsk (priority.now ∷ count.now ∷ memory.now ∷ vcores.now ∷ [])) }
 {
-    let priority = number(priority, 1, GREATEST_PRIORITY)?;
-    let count = number(count, 0, GREATEST_COUNT)?;
+    let priority = number(priority, Part::Priority, 1, GREATEST_PRIORITY)?;
+    let count = number(count, Part::Count, 0, GREATEST_COUNT)?;
     let size = size(memory, vcores)?;
     Ok(Ask {
         priority,
@@ -123,7 +122,7 @@ fn items_of<T: Listed + Drop>(alloc: Global, text: &[u8]) -> Result<Items<T>, Li
 {
     let words = pieces(alloc, text, b',')?;
     if words.len() > MOST_LISTED {
-        return Err(LineError::Refused);
+        return Err(LineError::Refused(LineFault::Items { count: words.len() }));
     }
     let mut items = Items::new(alloc);
     'words: for word in &words {
@@ -142,7 +141,7 @@ fn list_field<T: Listed + Drop>(
 {
     match after_label(word, label) {
         Some(text) => items_of(alloc, text),
-        None => Err(LineError::Refused),
+        None => Err(LineError::Refused(LineFault::Form)),
     }
 }
 
@@ -157,7 +156,7 @@ pub(crate) fn one_list<T: Listed + Drop>(
     match words {
         [] => Ok(Items::new(alloc)),
         [word] => list_field(alloc, word, label),
-        _ => Err(LineError::Refused),
+        _ => Err(LineError::Refused(LineFault::Form)),
     }
 }
 
@@ -197,6 +196,6 @@ pub(crate) fn two_lists<A: Listed + Drop, B: Listed + Drop>(
             let other = list_field(alloc, other, second)?;
             Ok((one, other))
         }
-        _ => Err(LineError::Refused),
+        _ => Err(LineError::Refused(LineFault::Form)),
     }
 }

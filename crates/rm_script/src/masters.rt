@@ -4,6 +4,7 @@ ghost use Rattle.rm_script.specs.Messages.{IsMasterAsk, IsMessage};
 ghost use Rattle.rm_script.specs.Results.{Finds, IsOf};
 
 use crate::errors::LineError;
+use crate::faults::{Excerpt, LineFault, Part};
 use crate::fields::{attempt_id, text};
 use crate::lists::two_lists;
 use crate::numbers::number;
@@ -19,7 +20,7 @@ fn register_ask(words: &[&[u8]]) -> Result<MasterAsk, LineError>
 {
     match words {
         [] => Ok(MasterAsk::Register),
-        _ => Err(LineError::Refused),
+        _ => Err(LineError::Refused(LineFault::Form)),
     }
 }
 
@@ -28,9 +29,13 @@ fn last_word(alloc: Global, note: &[u8]) -> Result<MasterAsk, LineError>
     ensures { Finds result (IsOf master_words IsMasterAsk (codes "finish" ∷ note.now ∷ [])) }
 {
     if note.is_empty() {
-        return Err(LineError::Refused);
+        return Err(LineError::Refused(LineFault::Text {
+            part: Part::Note,
+            kind: TextKind::Note,
+            found: Excerpt::of(note),
+        }));
     }
-    let text = text(alloc, note, TextKind::Note)?;
+    let text = text(alloc, note, Part::Note, TextKind::Note)?;
     Ok(MasterAsk::Finish { text })
 }
 
@@ -39,9 +44,9 @@ fn finish_ask(alloc: Global, words: &[&[u8]]) -> Result<MasterAsk, LineError>
     ensures { Finds result (IsOf master_words IsMasterAsk (codes "finish" ∷ map (λ word. word.now) words.now)) }
 {
     match words {
-        [] => Err(LineError::Refused),
+        [] => Err(LineError::Refused(LineFault::Form)),
         [note] => last_word(alloc, note),
-        _ => Err(LineError::Refused),
+        _ => Err(LineError::Refused(LineFault::Form)),
     }
 }
 
@@ -49,7 +54,7 @@ fn finish_ask(alloc: Global, words: &[&[u8]]) -> Result<MasterAsk, LineError>
 fn allocation(alloc: Global, id: &[u8], lists: &[&[u8]]) -> Result<MasterAsk, LineError>
     ensures { Finds result (IsOf master_words IsMasterAsk (codes "allocate" ∷ id.now ∷ map (λ word. word.now) lists.now)) }
 {
-    let id = number(id, 0, GREATEST_RESPONSE)?;
+    let id = number(id, Part::Response, 0, GREATEST_RESPONSE)?;
     let (asks, release) = two_lists(alloc, lists, "ask=", "release=")?;
     Ok(MasterAsk::Allocate { id, asks, release })
 }
@@ -60,7 +65,7 @@ fn allocate_ask(alloc: Global, words: &[&[u8]]) -> Result<MasterAsk, LineError>
 {
     match words {
         [id, lists @ ..] => allocation(alloc, id, lists),
-        [] => Err(LineError::Refused),
+        [] => Err(LineError::Refused(LineFault::Form)),
     }
 }
 
@@ -75,7 +80,7 @@ fn master_ask(alloc: Global, verb: &[u8], words: &[&[u8]]) -> Result<MasterAsk, 
     } else if verb == "finish".as_bytes() {
         finish_ask(alloc, words)
     } else {
-        Err(LineError::Refused)
+        Err(LineError::Refused(LineFault::Form))
     }
 }
 
@@ -99,6 +104,6 @@ pub(crate) fn master_message(alloc: Global, words: &[&[u8]]) -> Result<Message, 
 {
     match words {
         [attempt, verb, more @ ..] => message_of(alloc, attempt, verb, more),
-        _ => Err(LineError::Refused),
+        _ => Err(LineError::Refused(LineFault::Form)),
     }
 }

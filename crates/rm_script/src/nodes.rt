@@ -4,6 +4,7 @@ ghost use Rattle.rm_script.specs.Messages.{IsNodeAsk, IsMessage};
 ghost use Rattle.rm_script.specs.Results.{Finds, IsOf};
 
 use crate::errors::LineError;
+use crate::faults::{LineFault, Part};
 use crate::fields::{size_fields, text};
 use crate::lists::{one_list, two_lists};
 use crate::numbers::number;
@@ -26,7 +27,7 @@ fn registration(
 ) -> Result<NodeAsk, LineError>
     ensures { Finds result (IsOf node_words IsNodeAsk (codes "register" ∷ turn.now ∷ memory.now ∷ vcores.now ∷ map (λ word. word.now) lists.now)) }
 {
-    let turn = number(turn, 1, GREATEST_TURN)?;
+    let turn = number(turn, Part::Turn, 1, GREATEST_TURN)?;
     let capability = size_fields(memory, vcores)?;
     let running = one_list(alloc, lists, "running=")?;
     Ok(NodeAsk::Register {
@@ -42,7 +43,7 @@ fn register_ask(alloc: Global, words: &[&[u8]]) -> Result<NodeAsk, LineError>
 {
     match words {
         [turn, memory, vcores, lists @ ..] => registration(alloc, turn, memory, vcores, lists),
-        _ => Err(LineError::Refused),
+        _ => Err(LineError::Refused(LineFault::Form)),
     }
 }
 
@@ -50,7 +51,7 @@ fn register_ask(alloc: Global, words: &[&[u8]]) -> Result<NodeAsk, LineError>
 fn beat(alloc: Global, id: &[u8], lists: &[&[u8]]) -> Result<NodeAsk, LineError>
     ensures { Finds result (IsOf node_words IsNodeAsk (codes "beat" ∷ id.now ∷ map (λ word. word.now) lists.now)) }
 {
-    let id = number(id, 0, GREATEST_RESPONSE)?;
+    let id = number(id, Part::Response, 0, GREATEST_RESPONSE)?;
     let (running, done) = two_lists(alloc, lists, "running=", "done=")?;
     Ok(NodeAsk::Beat { id, running, done })
 }
@@ -61,7 +62,7 @@ fn beat_ask(alloc: Global, words: &[&[u8]]) -> Result<NodeAsk, LineError>
 {
     match words {
         [id, lists @ ..] => beat(alloc, id, lists),
-        [] => Err(LineError::Refused),
+        [] => Err(LineError::Refused(LineFault::Form)),
     }
 }
 
@@ -74,7 +75,7 @@ fn node_ask(alloc: Global, verb: &[u8], words: &[&[u8]]) -> Result<NodeAsk, Line
     } else if verb == "beat".as_bytes() {
         beat_ask(alloc, words)
     } else {
-        Err(LineError::Refused)
+        Err(LineError::Refused(LineFault::Form))
     }
 }
 
@@ -87,7 +88,7 @@ fn message_of(
 ) -> Result<Message, LineError>
     ensures { Finds result (IsOf message_words IsMessage (codes "node" ∷ node.now ∷ verb.now ∷ map (λ word. word.now) words.now)) }
 {
-    let node = text(alloc, node, TextKind::Node)?;
+    let node = text(alloc, node, Part::Node, TextKind::Node)?;
     let ask = node_ask(alloc, verb, words)?;
     Ok(Message::Node(node, ask))
 }
@@ -98,6 +99,6 @@ pub(crate) fn node_message(alloc: Global, words: &[&[u8]]) -> Result<Message, Li
 {
     match words {
         [node, verb, more @ ..] => message_of(alloc, node, verb, more),
-        _ => Err(LineError::Refused),
+        _ => Err(LineError::Refused(LineFault::Form)),
     }
 }

@@ -5,6 +5,7 @@ ghost use Rattle.rm_script.specs.Numbers.{digit_after, number_after, number_of, 
 ghost use Rattle.rm_script.specs.Results.{Finds, IsOf};
 
 use crate::errors::LineError;
+use crate::faults::{Excerpt, LineFault, Part};
 use crate::words::after_label;
 
 /// The number that decimal digits write: at least one, with no zero before them. `None` where the text is
@@ -61,21 +62,31 @@ pub fn number_in(text: &[u8], least: u64, greatest: u64) -> Option<u64>
     number_within(number, least, greatest)
 }
 
-/// The number that the word is, neither below the least nor above the greatest.
-pub(crate) fn long_number(word: &[u8], least: u64, greatest: u64) -> Result<u64, LineError>
+/// The number that the part is, neither below the least nor above the greatest.
+pub(crate) fn long_number(
+    word: &[u8],
+    part: Part,
+    least: u64,
+    greatest: u64,
+) -> Result<u64, LineError>
     ensures { Finds result (IsOf decimal (IsWithin least greatest) word.now) }
 {
     match number_in(word, least, greatest) {
         Some(number) => Ok(number),
-        None => Err(LineError::Refused),
+        None => Err(LineError::Refused(LineFault::Number {
+            part,
+            least,
+            greatest,
+            found: Excerpt::of(word),
+        })),
     }
 }
 
 /// The same of a number of 32 bits.
-pub(crate) fn number(word: &[u8], least: u32, greatest: u32) -> Result<u32, LineError>
+pub(crate) fn number(word: &[u8], part: Part, least: u32, greatest: u32) -> Result<u32, LineError>
     ensures { Finds result (IsOf decimal (IsWithin least greatest) word.now) }
 {
-    let number = long_number(word, u64::from(least), u64::from(greatest))?;
+    let number = long_number(word, part, u64::from(least), u64::from(greatest))?;
     Ok(number as u32)
 }
 
@@ -83,13 +94,14 @@ pub(crate) fn number(word: &[u8], least: u32, greatest: u32) -> Result<u32, Line
 pub(crate) fn number_field(
     word: &[u8],
     label: &str,
+    part: Part,
     least: u32,
     greatest: u32,
 ) -> Result<u32, LineError>
     ensures { Finds result (IsOf (λ number. label.now ++ decimal number) (IsWithin least greatest) word.now) }
 {
     match after_label(word, label) {
-        Some(text) => number(text, least, greatest),
-        None => Err(LineError::Refused),
+        Some(text) => number(text, part, least, greatest),
+        None => Err(LineError::Refused(LineFault::Form)),
     }
 }

@@ -6,12 +6,10 @@ ghost use Rattle.rm_script.specs.Reading.{AnswersReading};
 
 use crate::drafts::Draft;
 use crate::errors::ScriptError;
+use crate::limits::MOST_BYTES;
 use crate::lines::cut_line;
 use rm_types::{Items, MOST_LINES, Script};
 use std::alloc::Global;
-
-/// How many bytes a script may have.
-const MOST_BYTES: usize = 16_777_216;
 
 /// Reads a script: the one that the bytes are. `Refused` names the first line that is refused, where they
 /// are none. `Memory` may come of any bytes. Time and memory are linear in their number.

@@ -3,7 +3,7 @@ ghost use Rattle.std.specs.List.{count_by};
 ghost use Rattle.rm_words.specs.Words.{has_flags, is_flag, is_unknown, names, stands_once, times};
 
 /// Whether a word begins with `-`.
-fn is_flag(word: &str) -> bool
+pub(crate) fn is_flag(word: &str) -> bool
     ensures { result ≡ is_flag word.now }
 {
     match word.as_bytes() {
@@ -13,7 +13,7 @@ fn is_flag(word: &str) -> bool
 }
 
 /// Whether a word begins with `-` and is none of the two flags.
-fn is_unknown(word: &str) -> bool
+pub(crate) fn is_unknown(word: &str) -> bool
     ensures { result ≡ is_unknown word.now }
 {
     is_flag(word) && word != "--file" && word != "--moves"
@@ -27,7 +27,7 @@ fn times(word: &str, words: &[String]) -> usize
 }
 
 /// Whether a word stands once at most.
-fn stands_once(word: &str, words: &[String]) -> bool
+pub(crate) fn stands_once(word: &str, words: &[String]) -> bool
     ensures { result ≡ stands_once word.now (map string_bytes words.now) }
 {
     times(word, words) < 2

@@ -2,7 +2,7 @@
 //!
 //! It promises that `command_line` answers exactly what `mode_of` of `specs/Words.antt` says of the words, for a soak with
 //! a number within its range, and each flag as it stands among them. Want of memory may come on any words but those with a
-//! flag that is unknown or repeated.
+//! flag that is unknown or repeated. `word_fault` says which word is wrong where they ask for nothing.
 //!
 //! It stands on `clap`, whose contracts give a command's matches as a function of the words. `clap` reads them as one
 //! command that has no flag for help or a version; words with a flag that is unknown or repeated never come to it. The
@@ -10,10 +10,12 @@
 #![tactic(auto)]
 
 mod command;
+mod faults;
 mod flags;
 mod modes;
 mod reading;
 
 pub use command::{CommandLine, command_line};
+pub use faults::{WordFault, word_fault};
 pub use flags::name_at;
 pub use modes::Mode;

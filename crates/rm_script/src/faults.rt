@@ -1,0 +1,361 @@
+use crate::limits::{MOST_BYTES, MOST_LINE_BYTES, MOST_LISTED};
+use rm_types::{MOST_LINES, TextKind};
+use std::fmt;
+use std::fmt::InlineText;
+
+/// How many bytes of what is at fault are told at most.
+const MOST_TOLD: usize = 48;
+
+/// What stands in a file, in printable bytes: others are escaped, and it is cut where it is long.
+#[derive(Clone, Copy)]
+pub struct Excerpt {
+    text: InlineText<MOST_TOLD>,
+}
+
+impl Excerpt {
+    pub(crate) fn of(bytes: &[u8]) -> Excerpt {
+        Excerpt {
+            text: InlineText::of(bytes.escape_ascii()),
+        }
+    }
+}
+
+impl fmt::Display for Excerpt {
+    fn fmt<W: fmt::Write>(&self, f: &mut fmt::Formatter<W>) -> fmt::Result {
+        match self.text.as_str() {
+            "" => write!(f, "nothing"),
+            text => write!(f, "{text}"),
+        }
+    }
+}
+
+impl fmt::Debug for Excerpt {
+    fn fmt<W: fmt::Write>(&self, f: &mut fmt::Formatter<W>) -> fmt::Result {
+        write!(f, "{self}")
+    }
+}
+
+/// A part of a line, by its word in the forms of lines.
+#[derive(Clone, Copy, Debug, PartialEq, Eq)]
+pub enum Part {
+    Stamp,
+    Calls,
+    Image,
+    User,
+    Queue,
+    Name,
+    Memory,
+    Cores,
+    Attempts,
+    Modify,
+    App,
+    Attempt,
+    Container,
+    Response,
+    Priority,
+    Count,
+    Note,
+    Node,
+    Turn,
+    Time,
+}
+
+impl Part {
+    fn word(self) -> &'static str {
+        match self {
+            Part::Stamp => "STAMP",
+            Part::Calls => "CALLS",
+            Part::Image => "IMAGE",
+            Part::User => "USER",
+            Part::Queue => "QUEUE",
+            Part::Name => "NAME",
+            Part::Memory => "MB",
+            Part::Cores => "CORES",
+            Part::Attempts => "N",
+            Part::Modify => "ACL",
+            Part::App => "APP",
+            Part::Attempt => "ATTEMPT",
+            Part::Container => "CONTAINER",
+            Part::Response => "ID",
+            Part::Priority => "PRIORITY",
+            Part::Count => "COUNT",
+            Part::Note => "NOTE",
+            Part::Node => "NODE",
+            Part::Turn => "TURN",
+            Part::Time => "MS",
+        }
+    }
+}
+
+impl fmt::Display for Part {
+    fn fmt<W: fmt::Write>(&self, f: &mut fmt::Formatter<W>) -> fmt::Result {
+        write!(f, "{}", self.word())
+    }
+}
+
+/// Why a line is refused, by itself or where it stands.
+#[derive(Clone, Copy, Debug)]
+pub enum LineFault {
+    /// It is too long, or has a byte that isn't printable.
+    Limit,
+    /// Its words are those of no line.
+    Form,
+    /// A part is no number from the least to the greatest.
+    Number {
+        part: Part,
+        least: u64,
+        greatest: u64,
+        found: Excerpt,
+    },
+    /// A part is no text of the kind.
+    Text {
+        part: Part,
+        kind: TextKind,
+        found: Excerpt,
+    },
+    /// A part is no id.
+    Id {
+        part: Part,
+        found: Excerpt,
+    },
+    /// A list has more than 1000 items: this many.
+    Items {
+        count: usize,
+    },
+    /// It may not stand where it does.
+    Place,
+}
+
+/// The texts of a kind that a line may have: none of them is empty.
+fn kind_text(kind: TextKind) -> &'static str {
+    match kind {
+        TextKind::Name => "1 to 64 letters, digits, `_`, `.` and `-`",
+        TextKind::Node => "1 to 64 letters, digits, `_`, `.`, `-` and `:`",
+        TextKind::Queue => "1 to 128 lower-case letters, digits, `_`, `-` and `.`",
+        TextKind::Note => "1 to 256 printable bytes",
+        TextKind::AclText => "1 to 512 printable bytes",
+    }
+}
+
+/// The text of an id.
+fn id_text(part: Part) -> &'static str {
+    match part {
+        Part::App => "an application's id, application_STAMP_NUMBER",
+        Part::Attempt => "an attempt's id, appattempt_STAMP_NUMBER_ATTEMPT",
+        _ =>
+            "a container's id, container_STAMP_NUMBER_ATTEMPT_SEQUENCE or container_eEPOCH_STAMP_NUMBER_ATTEMPT_SEQUENCE",
+    }
+}
+
+impl fmt::Display for LineFault {
+    fn fmt<W: fmt::Write>(&self, f: &mut fmt::Formatter<W>) -> fmt::Result {
+        match self {
+            LineFault::Limit => write!(
+                f,
+                "it has at most {MOST_LINE_BYTES} bytes, each of them printable"
+            ),
+            LineFault::Form => write!(f, "its words are others"),
+            LineFault::Number {
+                part,
+                least,
+                greatest,
+                found,
+            } => write!(f, "{part} is {least} to {greatest}, found {found}"),
+            LineFault::Text { part, kind, found } => {
+                write!(f, "{part} is {}, found {found}", kind_text(*kind))
+            }
+            LineFault::Id { part, found } => {
+                write!(f, "{part} is {}, found {found}", id_text(*part))
+            }
+            LineFault::Items { count } => {
+                write!(f, "a list has 1 to {MOST_LISTED} items, found {count}")
+            }
+            LineFault::Place => write!(f, "it may not stand there"),
+        }
+    }
+}
+
+/// A limit of a script that a line breaks.
+#[derive(Clone, Copy, Debug, PartialEq, Eq)]
+pub enum Limit {
+    /// The line is one of too many.
+    Lines,
+    /// With it the script has too many bytes.
+    Bytes,
+    /// It is too long: it has this many bytes.
+    LineBytes { length: usize },
+    /// This byte isn't printable. Columns are counted from 1.
+    Printable { column: usize, byte: u8 },
+}
+
+impl fmt::Display for Limit {
+    fn fmt<W: fmt::Write>(&self, f: &mut fmt::Formatter<W>) -> fmt::Result {
+        match self {
+            Limit::Lines => write!(f, "a script has at most {MOST_LINES} lines"),
+            Limit::Bytes => write!(f, "a script has at most {MOST_BYTES} bytes"),
+            Limit::LineBytes { length } => write!(
+                f,
+                "a line has at most {MOST_LINE_BYTES} bytes, found {length}"
+            ),
+            Limit::Printable {
+                column,
+                byte: b'\r',
+            } => write!(
+                f,
+                "a carriage return at column {column}: a line ends with a line feed alone"
+            ),
+            Limit::Printable { column, byte } => write!(
+                f,
+                "the byte 0x{byte:02x} at column {column}: a line has printable bytes alone, 0x20 to 0x7e"
+            ),
+        }
+    }
+}
+
+/// Why a script is refused at a line.
+#[derive(Clone, Copy, Debug)]
+pub enum ScriptFault {
+    /// The line breaks a limit.
+    Limit(Limit),
+    /// It is no line by itself. The form is that of the lines that begin as it does.
+    Line { form: Form, fault: LineFault },
+    /// It starts a life where one goes on.
+    LifeGoesOn,
+    /// It needs a life, and none goes on.
+    NoLife { form: Form },
+    /// It is the line after the last, and messages before it are closed by nothing.
+    Unclosed,
+    /// The bytes don't tell it, or there was no memory to find it out.
+    Untold { form: Form },
+}
+
+impl fmt::Display for ScriptFault {
+    fn fmt<W: fmt::Write>(&self, f: &mut fmt::Formatter<W>) -> fmt::Result {
+        match self {
+            ScriptFault::Limit(limit) => write!(f, "{limit}"),
+            ScriptFault::Line {
+                form,
+                fault: LineFault::Form,
+            } => write!(f, "{form}"),
+            ScriptFault::Line { form, fault } => write!(f, "{}: {fault}", form.words()),
+            ScriptFault::LifeGoesOn => write!(
+                f,
+                "a life begins with `start STAMP`, first or after a `crash`, and here one goes on"
+            ),
+            ScriptFault::NoLife { form } => write!(
+                f,
+                "{}: it stands inside a life, and here none goes on: a life begins with `start STAMP`",
+                form.words()
+            ),
+            ScriptFault::Unclosed => write!(
+                f,
+                "the messages at the end are closed by no `settle` or `crash`"
+            ),
+            ScriptFault::Untold { form } => write!(f, "{form}"),
+        }
+    }
+}
+
+/// The form of the lines that begin as a line does.
+#[derive(Clone, Copy, Debug, PartialEq, Eq)]
+pub enum Form {
+    Start,
+    Settle,
+    Crash,
+    New,
+    Submit,
+    Report,
+    Kill,
+    /// A client's message of no kind.
+    Client,
+    MasterRegister,
+    Allocate,
+    Finish,
+    /// A master's message of no kind.
+    Master,
+    NodeRegister,
+    Beat,
+    /// A node's message of no kind.
+    Node,
+    Tick,
+    ExpireNode,
+    ExpireMaster,
+    /// A message of the clock of no kind.
+    Clock,
+    /// What is lost is no message.
+    Lose,
+    /// No line begins so.
+    Unknown,
+}
+
+impl Form {
+    /// The words of the lines of this form.
+    fn words(self) -> &'static str {
+        match self {
+            Form::Start => "start STAMP",
+            Form::Settle => "settle",
+            Form::Crash => "crash CALLS IMAGE",
+            Form::New => "client USER new",
+            Form::Submit =>
+                "client USER submit APP queue=QUEUE name=NAME memory=MB vcores=CORES attempts=N[ modify=ACL]",
+            Form::Report => "client USER report APP",
+            Form::Kill => "client USER kill APP",
+            Form::Client => "client USER ..",
+            Form::MasterRegister => "master ATTEMPT register",
+            Form::Allocate =>
+                "master ATTEMPT allocate ID[ ask=PRIORITY:COUNT:MB:CORES,..][ release=CONTAINER,..]",
+            Form::Finish => "master ATTEMPT finish NOTE",
+            Form::Master => "master ATTEMPT ..",
+            Form::NodeRegister =>
+                "node NODE register TURN memory=MB vcores=CORES[ running=CONTAINER:MB:CORES,..]",
+            Form::Beat => "node NODE beat ID[ running=CONTAINER:MB:CORES,..][ done=CONTAINER,..]",
+            Form::Node => "node NODE ..",
+            Form::Tick => "clock tick MS",
+            Form::ExpireNode => "clock expire node NODE",
+            Form::ExpireMaster => "clock expire master ATTEMPT",
+            Form::Clock => "clock ..",
+            Form::Lose => "lose MESSAGE",
+            Form::Unknown => "a line",
+        }
+    }
+}
+
+impl fmt::Display for Form {
+    fn fmt<W: fmt::Write>(&self, f: &mut fmt::Formatter<W>) -> fmt::Result {
+        match self {
+            Form::Client => write!(
+                f,
+                "a client's message is `client USER new`, `{}`, `client USER report APP` or `client USER kill APP`",
+                Form::Submit.words()
+            ),
+            Form::Master => write!(
+                f,
+                "a master's message is `master ATTEMPT register`, `{}` or `master ATTEMPT finish NOTE`",
+                Form::Allocate.words()
+            ),
+            Form::Node => write!(
+                f,
+                "a node's message is `{}` or `{}`",
+                Form::NodeRegister.words(),
+                Form::Beat.words()
+            ),
+            Form::Clock => write!(
+                f,
+                "the clock's message is `clock tick MS`, `clock expire node NODE` or `clock expire master ATTEMPT`"
+            ),
+            Form::Lose => write!(
+                f,
+                "a message that is lost is `lose` and the line of a client, a master, a node or the clock"
+            ),
+            Form::Unknown => write!(
+                f,
+                "a line begins with `start`, `client`, `master`, `node`, `clock`, `lose`, `settle`, `crash` or `#`"
+            ),
+            form => write!(
+                f,
+                "the line is `{}`, with one space between words",
+                form.words()
+            ),
+        }
+    }
+}
