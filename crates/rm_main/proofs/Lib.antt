@@ -3,4 +3,5 @@ pub mod Outcomes
 pub mod Devices
 pub mod Completing
 pub mod Laws
+pub mod FilesRead
 mod Rooted

@@ -6,7 +6,7 @@ use Rattle.std.proofs.lemmas.List.{take_all}
 use Rattle.rm_types.specs.declared.operations.Op.{Op}
 use Rattle.rm_types.specs.declared.outcomes.Outcome.{Outcome}
 use Rattle.rm_types.specs.declared.outcomes.Outcome.TheVariants.{Done, Usage, ReadFault, WriteFault, ClusterRefused, ScriptRefused, ScheduleRefused, DiskFault, StoreDamaged, StoreFull, EpochsSpent, Memory}
-use Rattle.rm_disk.specs.Disk.{DiskView, IfTold}
+use Rattle.rm_disk.specs.Disk.{DiskView, EachImage, IfTold}
 use Rattle.rm_disk.specs.Fuse.{Fused}
 use Rattle.rm_formats.specs.Device.{DeviceHolds}
 use Rattle.rm_plain.specs.declared.halts.Stop.{Stop}
@@ -15,7 +15,7 @@ use Rattle.rm_plain.specs.Starts.{IsUnopenedBy}
 use Rattle.rm_plain.specs.Stops.{IsStoppedBy}
 use Rattle.rm_store.specs.Store.{seen}
 use Rattle.rm_main.specs.Made.{Made}
-use Rattle.rm_main.specs.Runs.{Ends, IsCausedBy, IsListed, Ran, Told, Writes, WritesPage}
+use Rattle.rm_main.specs.Runs.{Ends, IsCausedBy, IsListed, IsWritten, Ran, Told, Writes, WritesPage}
 use Rattle.rm_main.specs.Ways.{IsOfRun, IsOfWriting, outcome_of}
 use Rattle.rm_words.specs.Words.{Asked}
 
@@ -97,6 +97,22 @@ fault_written (Err stop) (StoreFull needed room) took_nothing is = is
 fault_written (Err stop) EpochsSpent took_nothing is = is
 fault_written (Err stop) Memory took_nothing is = is
 
+-- where a run's page was written whole, the writing was
+wholly_written : (ended : Result (Unit {0}) Stop) (written : Outcome) → IsOfWriting written → IsWritten (outcome_of ended written) → IsWritten written
+wholly_written (Ok done) written h is = is
+wholly_written (Err stop) Done h is = tt
+wholly_written (Err stop) Usage h is = absurd h
+wholly_written (Err stop) ReadFault h is = absurd h
+wholly_written (Err stop) (WriteFault took_nothing) h is = is
+wholly_written (Err stop) (ClusterRefused place) h is = absurd h
+wholly_written (Err stop) (ScriptRefused line) h is = absurd h
+wholly_written (Err stop) (ScheduleRefused place) h is = absurd h
+wholly_written (Err stop) DiskFault h is = absurd h
+wholly_written (Err stop) (StoreDamaged offset) h is = absurd h
+wholly_written (Err stop) (StoreFull needed room) h is = absurd h
+wholly_written (Err stop) EpochsSpent h is = absurd h
+wholly_written (Err stop) Memory h is = is
+
 -- what the sink took is what the run's outcome says
 pub still_page : {K : Type 0} (taken : K → Option (List ℕ)) (faults idle : K → ℕ) (old new : K) (bytes : List ℕ) (ended : Result (Unit {0}) Stop) (written : Outcome) → IsOfWriting written
     → WritesPage taken faults idle old new bytes written → WritesPage taken faults idle old new bytes (outcome_of ended written)
@@ -105,6 +121,7 @@ still_page taken faults idle old new bytes ended written h w =
       writes = still_writes (taken old) (taken new) bytes ended written h w.writes;
       write_fault = λ is. w.write_fault (fault_written ended written false is);
       took_nothing = λ is. w.took_nothing (fault_written ended written true is);
+      quiet = λ is. w.quiet (wholly_written ended written h is);
       untouched = w.untouched;
     }
 
@@ -143,7 +160,7 @@ caused view due refuses made (Err stop) Memory h why = tt
 
 -- what is listed is what the store holds, and nothing where it wasn't opened
 pub listed : {D : Type 0} (view : D → DiskView) (made : Made D) (ended : Result (Unit {0}) Stop) (written : Outcome) → IsOfWriting written → IfErr ended (IsUnopenedBy view made.before made.after) → IfErr ended (λ stop. made.opening ≡ [])
-    → (IsOk ended → IfTold (seen view made.before) (λ bytes. DeviceHolds bytes made.opening)) → IsListed view made (outcome_of ended written)
+    → (IsOk ended → IfTold (seen view made.before) (λ bytes. DeviceHolds bytes made.opening × EachImage (seen view made.after) (λ image. DeviceHolds image made.opening))) → IsListed view made (outcome_of ended written)
 listed view made (Ok done) Done h why empty holds = holds refl
 listed view made (Ok done) (WriteFault took_nothing) h why empty holds = tt
 listed view made (Ok done) Memory h why empty holds = tt

@@ -9,7 +9,7 @@ use Rattle.rm_types.specs.declared.outcomes.Outcome.TheVariants.{Done, Usage, Re
 use Rattle.rm_types.specs.declared.scripts.Script.{Script}
 use Rattle.rm_types.specs.declared.settings.Settings.{Settings}
 use Rattle.rm_types.specs.Counts.{Rose}
-use Rattle.rm_disk.specs.Disk.{DiskView, IfTold}
+use Rattle.rm_disk.specs.Disk.{DiskView, EachImage, IfTold}
 use Rattle.rm_formats.specs.Device.{DeviceHolds}
 use Rattle.rm_model.specs.Downs.{AllGoDownAtRest}
 use Rattle.rm_model.specs.Lawful.{Lawful, IsDone}
@@ -83,11 +83,11 @@ IsCausedBy view due stops made EpochsSpent = IsStoppedBy view due stops made.bef
 IsCausedBy view due stops made _ = Unit {0}
 
 -- what a listing shows, by its outcome: the disk inside the fuse counted a fault, or it holds no store, and then nothing is
--- listed; or it holds what is listed
+-- listed; or it holds what is listed, and so does whatever a crash leaves of it from now on
 abbrev pub IsListed : {D : Type 0} → (D → DiskView) → Made D → Outcome → Type 0
 IsListed view made DiskFault = (made.opening ≡ []) × Rose (view made.before.inner).faults (view made.after.inner).faults
 IsListed view made (StoreDamaged offset) = (made.opening ≡ []) × IfTold (seen view made.before) (IsNoStore offset)
-IsListed view made Done = IfTold (seen view made.before) (λ bytes. DeviceHolds bytes made.opening)
+IsListed view made Done = IfTold (seen view made.before) (λ bytes. DeviceHolds bytes made.opening × EachImage (seen view made.after) (λ image. DeviceHolds image made.opening))
 IsListed view made _ = Unit {0}
 
 -- what a run is made from: the settings, the script and the schedule that the named files hold, or those of a soak, which has no schedule
@@ -187,20 +187,44 @@ Ends view told asked made (StoreFull needed room) = Ran view told asked made (St
 Ends view told asked made EpochsSpent = Ran view told asked made EpochsSpent
 Ends view told asked made Memory = Ran view told asked made Memory ⊎ RanNothing made
 
--- which were read behind the cluster file
-abbrev pub AreReadBehind : {F : Type 0} → (List ℕ → F → F → Type 0) → List ℕ → Option (List ℕ) → F → F → Type 0
-AreReadBehind reads script None old new = reads script old new
-AreReadBehind {F = F} reads script (Some schedule) old new = reads script old new ⊎ ((mid : F) × reads script old mid × reads schedule mid new)
+-- the cluster file was read, which holds settings, and then the script's file
+pub record ReadsScript {F : Type 0} (reads : List ℕ → F → F → Type 0) (told : Told) (cluster script : List ℕ) (old new : F) : Type 0 where
+  pub settings : Settings
+  pub of_cluster : AreSettings (told cluster) settings
+  pub mid : F
+  pub first : reads cluster old mid
+  pub second : reads script mid new
 
--- which files were read: of a run the cluster file, or it and then the script's file, or these and then that of the schedule, if there is one; else none
-abbrev pub AreRead : {F : Type 0} → (List ℕ → F → F → Type 0) → Option Asked → F → F → Type 0
-AreRead {F = F} reads (Some (Run cluster script schedule mover)) old new = reads cluster old new ⊎ ((mid : F) × reads cluster old mid × AreReadBehind reads script schedule mid new)
-AreRead reads _ old new = new ≡ old
+-- these two were read, the script's file holds a script, and then the file of the schedule was read
+pub record ReadsSchedule {F : Type 0} (reads : List ℕ → F → F → Type 0) (told : Told) (cluster script schedule : List ℕ) (old new : F) : Type 0 where
+  pub spelled : Script
+  pub of_script : IsScriptOf (told script) spelled
+  pub mid : F
+  pub front : ReadsScript reads told cluster script old mid
+  pub last : reads schedule mid new
 
--- which files were read, by the outcome: those of what was asked for, but for none where memory ran out before the words were read
-abbrev pub ReadsFor : {F : Type 0} → (List ℕ → F → F → Type 0) → Option Asked → Outcome → F → F → Type 0
-ReadsFor reads asked Memory old new = AreRead reads asked old new ⊎ (new ≡ old)
-ReadsFor reads asked outcome old new = AreRead reads asked old new
+-- all files of a run were read, that of the schedule if there is one
+abbrev pub ReadsAll : {F : Type 0} → (List ℕ → F → F → Type 0) → Told → List ℕ → List ℕ → Option (List ℕ) → F → F → Type 0
+ReadsAll reads told cluster script None old new = ReadsScript reads told cluster script old new
+ReadsAll reads told cluster script (Some schedule) old new = ReadsSchedule reads told cluster script schedule old new
+
+-- a beginning of the files of a run was read, each of them only where those before it hold what they are to hold
+abbrev pub ReadsSome : {F : Type 0} → (List ℕ → F → F → Type 0) → Told → List ℕ → List ℕ → Option (List ℕ) → F → F → Type 0
+ReadsSome reads told cluster script schedule old new = reads cluster old new ⊎ (ReadsScript reads told cluster script old new ⊎ ReadsAll reads told cluster script schedule old new)
+
+-- which files of a run were read, by its outcome: a refused cluster file alone; that and the script's where this one is refused; where a file couldn't be read those
+-- up to it, and where memory ran out those up to then; and else all
+abbrev pub ReadsBy : {F : Type 0} → (List ℕ → F → F → Type 0) → Told → List ℕ → List ℕ → Option (List ℕ) → Outcome → F → F → Type 0
+ReadsBy reads told cluster script schedule (ClusterRefused place) old new = reads cluster old new
+ReadsBy reads told cluster script schedule (ScriptRefused line) old new = ReadsScript reads told cluster script old new
+ReadsBy reads told cluster script schedule ReadFault old new = ReadsSome reads told cluster script schedule old new
+ReadsBy reads told cluster script schedule Memory old new = (new ≡ old) ⊎ ReadsSome reads told cluster script schedule old new
+ReadsBy reads told cluster script schedule _ old new = ReadsAll reads told cluster script schedule old new
+
+-- which files were read by what was asked for: those of a run, and else none
+abbrev pub ReadsFor : {F : Type 0} → (List ℕ → F → F → Type 0) → Told → Option Asked → Outcome → F → F → Type 0
+ReadsFor reads told (Some (Run cluster script schedule mover)) outcome old new = ReadsBy reads told cluster script schedule outcome old new
+ReadsFor reads told _ outcome old new = new ≡ old
 
 -- the outcome of a call that stopped before it used the device
 abbrev pub StopsBefore : Outcome → Type 0
@@ -233,10 +257,17 @@ Writes EpochsSpent old new bytes = Appends old new bytes
 Writes Memory old new bytes = AppendsPrefix old new bytes
 Writes _ old new bytes = Appends old new []
 
+-- the page was written whole
+abbrev pub IsWritten : Outcome → Type 0
+IsWritten (WriteFault took_nothing) = ⊥
+IsWritten Memory = ⊥
+IsWritten _ = Unit {0}
+
 -- what a call wrote to its sink, whose counts are those of its faults and of its idle writes: a fault of writing comes only where one of
--- them rose, and where the page is empty the sink is as it was
+-- them rose; where the page was written whole neither did; and where the page is empty the sink is as it was
 pub record WritesPage {K : Type 0} (taken : K → Option (List ℕ)) (faults idle : K → ℕ) (old new : K) (page : List ℕ) (outcome : Outcome) : Type 0 where
   pub writes : Writes outcome (taken old) (taken new) page
   pub write_fault : outcome ≡ WriteFault false → Rose (faults old) (faults new)
   pub took_nothing : outcome ≡ WriteFault true → Rose (idle old) (idle new)
+  pub quiet : IsWritten outcome → (faults new ≡ faults old) × (idle new ≡ idle old)
   pub untouched : page ≡ [] → new ≡ old

@@ -1,67 +1,115 @@
-use std::rt::Files;
-use std::{fs, io};
+use rm_cluster::ClusterFault;
+use rm_script::ScriptFault;
+use rm_types::Lane;
+use std::alloc::Global;
+use std::fmt;
 
-/// What the cluster file should have at a place: the key, and what it may be.
-pub fn cluster_hint(place: u32) -> &'static str {
-    match place {
-        1 => "the file: at most 1048576 bytes, which are one JSON value",
-        2 => "the file: an object, with no key but the ten that docs/FORMATS.md lists",
-        3 => "max_attempts: a whole number from 1 to 100",
-        4 => "max_completed: a whole number from 0 to 10000",
-        5 => "max_apps: a whole number from 1 to 100000",
-        6 => "wait_ms: a whole number from 0 to 1000000000",
-        7 => "acl_enable: true or false",
-        8 => "admin_acl: a string of at most 512 printable bytes",
-        9 => "max_memory_mb: a whole number from 1 to 16777216",
-        10 => "max_vcores: a whole number from 1 to 256",
-        11 => "groups: an object of names, each with a list of names",
-        12 =>
-            "queues: a list of objects with a `name` and maybe `submit` and `admin`; the first is `root`, and each other one is a part below one before it",
-        _ => "docs/FORMATS.md lists what may stand there",
-    }
-}
+/// How many bytes of a schedule may have letters.
+const MOST_SCHEDULED: u64 = 16_777_216;
 
-/// What a refused line of a script should be, by how it begins.
-fn line_hint(line: &str) -> &'static str {
-    if line.starts_with("client ") {
-        "a client's message stands inside a life, as `client USER new`, `client USER submit APP queue=QUEUE name=NAME memory=MB vcores=CORES attempts=N[ modify=ACL]`, `client USER report APP` or `client USER kill APP`"
-    } else if line.starts_with("master ") {
-        "a master's message stands inside a life, as `master ATTEMPT register`, `master ATTEMPT allocate ID[ ask=PRIORITY:COUNT:MB:CORES,..][ release=CONTAINER,..]` or `master ATTEMPT finish NOTE`"
-    } else if line.starts_with("node ") {
-        "a node's message stands inside a life, as `node NODE register TURN memory=MB vcores=CORES[ running=CONTAINER:MB:CORES,..]` or `node NODE beat ID[ running=CONTAINER:MB:CORES,..][ done=CONTAINER,..]`"
-    } else if line.starts_with("clock ") {
-        "the clock's message stands inside a life, as `clock tick MS`, `clock expire node NODE` or `clock expire master ATTEMPT`"
-    } else if line.starts_with("lose ") {
-        "a message that is lost stands inside a life, as `lose` and the line of a client, a master, a node or the clock"
-    } else if line.starts_with("crash") {
-        "a crash is `crash CALLS IMAGE`, inside a life, with 0 to 1000000 calls and an image of 0 to 4294967295"
-    } else if line.starts_with("settle") {
-        "`settle` stands alone, inside a life"
-    } else if line.starts_with("start") {
-        "a life begins with `start STAMP`, first or after a `crash`"
-    } else if line.is_empty() {
-        "the messages at the end are closed by no `settle` or `crash`"
+/// Why the bytes of a cluster file are refused at a place, as what should stand there. Of no bytes it is the place's rule.
+pub fn cluster_hint(alloc: Global, bytes: &[u8], place: u32) -> ClusterFault {
+    if bytes.is_empty() {
+        ClusterFault::Untold { place }
     } else {
-        "a line begins with `start`, `client`, `master`, `node`, `clock`, `lose`, `settle`, `crash` or `#`, and has printable bytes alone"
+        rm_cluster::why(alloc, bytes, place)
     }
 }
 
-/// The line of this number, counted from 1, of a file that can be read a second time.
-fn line_of<R: Files + AllocGlobal>(rt: &R, name: &str, number: u32) -> io::Result<String> {
-    if fs::metadata(rt, name)?.is_file() {
-        let text = fs::read_to_string(rt, name)?;
-        let before = number.saturating_sub(1) as usize;
-        let line = text.as_str().lines().nth(before).unwrap_or("");
-        Ok(String::from_str(rt.alloc(), line)?)
-    } else {
-        Err(io::Error::from(io::ErrorKind::Other))
+/// Why the bytes of a script are refused at a line. Of no bytes it is how lines begin.
+pub fn script_hint(alloc: Global, bytes: &[u8], line: u32) -> ScriptFault {
+    rm_script::why(alloc, bytes, line)
+}
+
+/// Why a run can't follow a schedule at a letter.
+#[derive(Clone, Copy, Debug, PartialEq, Eq)]
+pub enum ScheduleFault {
+    /// The byte is no letter.
+    Unknown { byte: u8 },
+    /// It stands past the bytes that may have letters.
+    TooLong,
+    /// The letter's lane isn't ready.
+    NotReady { lane: Lane },
+    /// No life stands that has a segment left, for the plain policy to move it.
+    NoSegment,
+    /// The bytes don't tell it.
+    Untold,
+}
+
+/// The lane of a letter.
+fn lane_of(letter: u8) -> Option<Lane> {
+    match letter {
+        b'c' => Some(Lane::Client),
+        b'm' => Some(Lane::Master),
+        b'n' => Some(Lane::Node),
+        b'k' => Some(Lane::Clock),
+        b'd' => Some(Lane::Main),
+        b's' => Some(Lane::Sched),
+        b'h' => Some(Lane::Hand),
+        b'w' => Some(Lane::Write),
+        b'e' => Some(Lane::End),
+        b'o' => Some(Lane::Begin),
+        _ => None,
     }
 }
 
-/// What a refused line of a script's file should be, as far as that can be told.
-pub fn script_hint<R: Files + AllocGlobal>(rt: &R, name: &str, number: u32) -> &'static str {
-    match line_of(rt, name, number) {
-        Ok(line) => line_hint(line.as_str()),
-        Err(_) => "docs/FORMATS.md has the lines of a script",
+/// What a lane is, by its letter, and when it is ready.
+fn lane_text(lane: Lane) -> &'static str {
+    match lane {
+        Lane::Client =>
+            "`c`, where a message of a client is left in the segment, once the life's epoch is kept",
+        Lane::Master =>
+            "`m`, where a message of a master is left in the segment, once the life's epoch is kept",
+        Lane::Node =>
+            "`n`, where a message of a node is left in the segment, once the life's epoch is kept",
+        Lane::Clock =>
+            "`k`, where a message of the clock is left in the segment, once the life's epoch is kept",
+        Lane::Main => "`d`, where the main queue isn't empty",
+        Lane::Sched => "`s`, where the scheduler's queue isn't empty",
+        Lane::Hand => "`h`, where an operation awaits and none is with the store",
+        Lane::Write => "`w`, where an operation is with the store",
+        Lane::End => "`e`, where the segment can close",
+        Lane::Begin => "`o`, where no life stands and the script has one left",
+    }
+}
+
+impl fmt::Display for ScheduleFault {
+    fn fmt<W: fmt::Write>(&self, f: &mut fmt::Formatter<W>) -> fmt::Result {
+        match self {
+            ScheduleFault::Unknown { byte } => write!(
+                f,
+                "expected one of the letters c m n k d s h w e o p, found `{}`",
+                (*byte).escape_ascii()
+            ),
+            ScheduleFault::TooLong => write!(
+                f,
+                "expected at most {MOST_SCHEDULED} bytes, and the run is not at its end behind them"
+            ),
+            ScheduleFault::NotReady { lane } => {
+                write!(f, "the lane isn't ready: it is {}", lane_text(*lane))
+            }
+            ScheduleFault::NoSegment => write!(
+                f,
+                "the plain policy isn't ready: it is `p`, where a life stands and has a segment left"
+            ),
+            ScheduleFault::Untold => write!(f, "expected the letter of a lane that is ready"),
+        }
+    }
+}
+
+/// Why a run was stopped at this byte of a schedule, counted from 0.
+pub fn schedule_hint(bytes: &[u8], place: u64) -> ScheduleFault {
+    let letter = match usize::try_from(place) {
+        Ok(place) => bytes.get(place),
+        Err(_) => None,
+    };
+    match letter {
+        None => ScheduleFault::Untold,
+        Some(_) if place >= MOST_SCHEDULED => ScheduleFault::TooLong,
+        Some(b'p') => ScheduleFault::NoSegment,
+        Some(byte) => match lane_of(*byte) {
+            Some(lane) => ScheduleFault::NotReady { lane },
+            None => ScheduleFault::Unknown { byte: *byte },
+        },
     }
 }

@@ -4,9 +4,8 @@ ghost use Rattle.rm_queues.specs.Rules.{KeepsRules};
 ghost use Rattle.rm_invariant.specs.messages.Ranges.{KeepsLimits};
 ghost use Rattle.rm_desk.specs.Scripts.{CanGoAlong};
 ghost use Rattle.std.specs.Option.{option_copied};
-ghost use Rattle.rm_main.specs.Runs.{AreMoves, AreRead, AreSettings, IsScriptOf, WereRead};
-ghost use Rattle.rm_main.specs.Inputs.{IsOneMore, IsUnread, StopsAtCluster, StopsAtScript, StopsEarly, asked_of};
-ghost use Rattle.rm_words.specs.Words.{OneThread};
+ghost use Rattle.rm_main.specs.Runs.{AreMoves, AreSettings, IsScriptOf, ReadsAll, ReadsBy, WereRead};
+ghost use Rattle.rm_main.specs.Inputs.{IsOneMore, IsUnread, StopsAtCluster, StopsAtScript, StopsEarly};
 
 use rm_cluster::{ClusterError, read_cluster};
 use rm_outside::{Shelf, ShelfError};
@@ -122,7 +121,8 @@ pub fn read_inputs<F: Shelf>(
     ensures can_run { IfOk result (λ inputs. CanGoAlong inputs.script) }
     ensures schedule { IfOk result (λ inputs. AreMoves (F.bytes_of shelf.old) (option_copied files.entry.schedule) inputs.schedule.items) }
     ensures refused { IfErr result (StopsEarly (F.bytes_of shelf.old) files.entry.cluster.now files.entry.script.now) }
-    ensures order { AreRead F.reads (Some (asked_of OneThread files.entry)) shelf.old shelf.new }
+    ensures reads { OnOk result (ReadsAll F.reads (F.bytes_of shelf.old) files.entry.cluster.now files.entry.script.now (option_copied files.entry.schedule) shelf.old shelf.new) }
+    ensures read { IfErr result (λ outcome. ReadsBy F.reads (F.bytes_of shelf.old) files.entry.cluster.now files.entry.script.now (option_copied files.entry.schedule) outcome shelf.old shelf.new) }
     ensures fault { result ≡ Err Outcome.ReadFault → Rose (F.faults shelf.old) (F.faults shelf.new) }
 {
     let settings = read_settings(alloc, shelf, files.cluster)?;

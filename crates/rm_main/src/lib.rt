@@ -17,6 +17,7 @@
 mod hints;
 mod inputs;
 mod listing;
+mod messages;
 mod plain;
 mod program;
 mod progress;
@@ -25,6 +26,8 @@ mod terminal;
 mod threads;
 mod writing;
 
+pub use hints::{ScheduleFault, schedule_hint};
+pub use messages::{Cause, Message, Names};
 pub use plain::{Ended, top_plain};
 pub use program::run_program;
 pub use progress::Watched;

@@ -1,5 +1,5 @@
 ghost use Rattle.std.specs.Prelude.{◌≡◌, [], IsOk, IfErr, None};
-ghost use Rattle.rm_disk.specs.Disk.{IsQuiet, IfTold};
+ghost use Rattle.rm_disk.specs.Disk.{EachImage, IsQuiet, IfTold};
 ghost use Rattle.rm_formats.specs.Device.{DeviceHolds};
 ghost use Rattle.rm_plain.specs.Starts.{DiskStays, IsAtEase, IsUnopenedBy};
 ghost use Rattle.rm_store.specs.Store.{seen};
@@ -19,10 +19,11 @@ pub struct Listing<D: Disk> {
 }
 
 /// Opens the store that a disk holds, and closes it again: what it keeps, in the order in which it was kept.
-/// The disk is left as it was.
+/// The disk is left as it was, and what is listed is what a crash leaves of it from then on.
 pub fn list_store<D: Disk>(alloc: Global, disk: Fuse<D>) -> Listing<D>
     requires { disk.armed ≡ None }
     ensures holds { IsOk result.ended → IfTold (seen D.view disk) (λ bytes. DeviceHolds bytes result.ops) }
+    ensures lasts { IsOk result.ended → IfTold (seen D.view disk) (λ _. EachImage (seen D.view result.disk) (λ image. DeviceHolds image result.ops)) }
     ensures stopped { IfErr result.ended (IsUnopenedBy D.view disk result.disk) }
     ensures empty { IfErr result.ended (λ _. result.ops ≡ []) }
     ensures quiet { IsQuiet (seen D.view disk) (seen D.view result.disk) }

@@ -1,5 +1,6 @@
 ghost use Rattle.std.specs.Prelude.{◌≡◌, ◌⊎◌, ◌≤◌, IfOk, [], map, string_bytes, None, Some, false};
 ghost use Rattle.rm_formats.specs.Page.{page, store_page};
+ghost use Rattle.std.specs.Option.{option_copied};
 ghost use Rattle.rm_types.specs.Counts.{Rose};
 ghost use Rattle.rm_desk.specs.Scripts.{CanGoAlong};
 ghost use Rattle.rm_queues.specs.Rules.{KeepsRules};
@@ -8,7 +9,7 @@ ghost use Rattle.rm_plain.specs.Schedule.{by_letters, steps_of};
 ghost use Rattle.rm_main.specs.Complete.{HasPlace, IsAccepted, IsFollowed, NoneRose};
 ghost use Rattle.rm_main.specs.Inputs.{asked_of};
 ghost use Rattle.rm_main.specs.Made.{LeavesDevice, made_by};
-ghost use Rattle.rm_main.specs.Runs.{AreRead, Ends, IsListed, RanBy, ReadsFor, StopsBefore, Told, WritesPage, page_for};
+ghost use Rattle.rm_main.specs.Runs.{Ends, IsListed, RanBy, ReadsBy, ReadsFor, StopsBefore, Told, WritesPage, page_for};
 ghost use Rattle.rm_main.specs.Shown.{shown_in};
 ghost use Rattle.rm_soak.specs.Limits.{most_soaked};
 ghost use Rattle.rm_soak.specs.Lines.{soak_page};
@@ -120,7 +121,7 @@ fn run_files<F: Shelf, K: Sink, D: Disk>(
 ) -> Ended<D>
     requires { disk.armed ≡ None }
     ensures ends { Ends D.view (F.bytes_of shelf.old) (Some (asked_of OneThread files.entry)) (made_by disk result) result.outcome }
-    ensures reads { AreRead F.reads (Some (asked_of OneThread files.entry)) shelf.old shelf.new }
+    ensures reads { ReadsBy F.reads (F.bytes_of shelf.old) files.entry.cluster.now files.entry.script.now (option_copied files.entry.schedule) result.outcome shelf.old shelf.new }
     ensures writes { WritesPage K.taken K.faults K.idle sink.old sink.new (page result.log moves) result.outcome }
     ensures read_fault { result.outcome ≡ Outcome.ReadFault → Rose (F.faults shelf.old) (F.faults shelf.new) }
     ensures unused { StopsBefore result.outcome → result.disk ≡ disk }
@@ -178,7 +179,7 @@ fn run_line<F: Shelf, K: Sink, D: Disk>(
     requires within { IsWithinSoak line.mode }
     requires unarmed { disk.armed ≡ None }
     ensures ends { Ends D.view (F.bytes_of shelf.old) (without_threads (Some (asked line.entry.mode))) (made_by disk result) result.outcome }
-    ensures reads { AreRead F.reads (without_threads (Some (asked line.entry.mode))) shelf.old shelf.new }
+    ensures reads { ReadsFor F.reads (F.bytes_of shelf.old) (without_threads (Some (asked line.entry.mode))) result.outcome shelf.old shelf.new }
     ensures writes { WritesPage K.taken K.faults K.idle sink.old sink.new (page_for line.entry.shows_moves (without_threads (Some (asked line.entry.mode))) result.opening result.log) result.outcome }
     ensures read_fault { result.outcome ≡ Outcome.ReadFault → Rose (F.faults shelf.old) (F.faults shelf.new) }
     ensures unused { StopsBefore result.outcome → result.disk ≡ disk }
@@ -257,7 +258,7 @@ pub fn top_plain<F: Shelf, K: Sink, D: Disk>(
         → NoneRose (F.faults shelf.old) (F.faults shelf.new) (K.faults sink.old) (K.faults sink.new) (K.idle sink.old) (K.idle sink.new)
         → (result.outcome ≡ Outcome.Done) ⊎ (result.outcome ≡ Outcome.Memory) }
     ensures flags { has_flags (map string_bytes words.now) ≡ false → result.outcome ≡ Outcome.Usage }
-    ensures reads { ReadsFor F.reads (plain_mode_of (map string_bytes words.now)) result.outcome shelf.old shelf.new }
+    ensures reads { ReadsFor F.reads (F.bytes_of shelf.old) (plain_mode_of (map string_bytes words.now)) result.outcome shelf.old shelf.new }
     ensures writes { WritesPage K.taken K.faults K.idle sink.old sink.new (page_for (shows_moves (map string_bytes words.now)) (plain_mode_of (map string_bytes words.now)) result.opening result.log) result.outcome }
     ensures read_fault { result.outcome ≡ Outcome.ReadFault → Rose (F.faults shelf.old) (F.faults shelf.new) }
 

@@ -1,14 +1,15 @@
-use crate::hints::{cluster_hint, script_hint};
+use crate::hints::{cluster_hint, schedule_hint, script_hint};
+use crate::messages::{Cause, Message, Names, explain};
 use crate::plain::Ended;
 use crate::progress::Watched;
-use crate::statuses::{Told, explain};
 use crate::terminal::is_terminal;
 use crate::threads::top;
-use rm_disk::{Disk, FileDisk, Fuse, MemDisk};
-use rm_outside::{FileShelf, OutSink};
+use rm_disk::{Disk, FileCause, FileDisk, Fuse, MemDisk};
+use rm_outside::{FileShelf, OutSink, StandardDescriptors};
 use rm_types::{Items, NoMemory, Outcome};
-use rm_words::{command_line, name_at};
+use rm_words::{command_line, name_at, word_fault};
 use rm_workers::NoGate;
+use std::fmt::Display;
 use std::rt::Env;
 use std::sync::Wait;
 use std::thread::Threads;
@@ -19,6 +20,9 @@ const DEVICE_SIZE: u64 = 4_194_304;
 
 /// The file of the device that lasts, in the folder in which the program runs.
 const STORE_FILE: &str = "rm.store";
+
+/// The device in memory, as messages name it.
+const MEMORY_DEVICE: &str = "the one in memory";
 
 /// The program's path as these pages have it, where the system tells none.
 const PROGRAM: &str = "crates/yewendro/out/yewendro";
@@ -32,22 +36,33 @@ fn words_of<R: Env + AllocGlobal>(rt: &R) -> io::Result<Vec<String>> {
     Ok(words)
 }
 
-/// What a call came to, for the texts about it.
+/// What a call came to, and its edges as they were left, for what is told of it.
 #[derive(Drop)]
 struct Call {
     outcome: Outcome,
-    /// How many files were read whole.
-    answered: u64,
-    /// Why the device failed, empty where it didn't or where that isn't known.
-    fault: String,
+    shelf: FileShelf<HostRuntime>,
+    sink: OutSink<HostRuntime>,
+}
+
+impl Call {
+    /// Why the file, the output or the device failed, where that is what the call came to.
+    fn cause<'a>(&'a self, device: Option<FileCause<'a>>) -> Cause<'a> {
+        let error = match self.outcome {
+            Outcome::ReadFault => self.shelf.last_fault(),
+            Outcome::WriteFault { .. } => self.sink.last_fault(),
+            Outcome::DiskFault => return device.map_or(Cause::Unknown, Cause::Device),
+            _ => None,
+        };
+        error.map_or(Cause::Unknown, Cause::System)
+    }
 }
 
 /// A call that came to this before any file was read.
 fn stopped(rt: HostRuntime, outcome: Outcome) -> Call {
     Call {
         outcome,
-        answered: 0,
-        fault: String::new(rt.alloc()),
+        shelf: FileShelf::new(rt),
+        sink: OutSink::new(rt),
     }
 }
 
@@ -77,8 +92,8 @@ fn run_over<R: Threads + Wait + Sync, D: Disk + Drop + Send>(
     );
     let call = Call {
         outcome,
-        answered: shelf.answered(),
-        fault: String::new(alloc),
+        shelf,
+        sink,
     };
     (call, disk.inner())
 }
@@ -94,29 +109,95 @@ fn run_in_memory<R: Threads + Wait + Sync>(
     rt: HostRuntime,
     program: &str,
     words: &[String],
-) -> Call {
+) -> Outcome {
     let alloc = rt.alloc();
-    match MemDisk::new(alloc, DEVICE_SIZE, Items::new(alloc)) {
+    let call = match MemDisk::new(alloc, DEVICE_SIZE, Items::new(alloc)) {
         Ok(device) => run_over(threads, rt, words, watched(rt, program, device)).0,
         Err(NoMemory) => stopped(rt, Outcome::Memory),
-    }
+    };
+    tell(&rt, program, words, &call, MEMORY_DEVICE, None);
+    call.outcome
 }
 
-/// What it does over the device in the store's file, which is made where there is none.
+/// What it does over the device in the store's file, which is made where there is none. Where it was made that is told on
+/// standard error: whoever meant another folder has to know.
 fn run_in_file<R: Threads + Wait + Sync>(
     threads: &R,
     rt: HostRuntime,
     program: &str,
     words: &[String],
-) -> Call {
+) -> Outcome {
     let device = watched(rt, program, FileDisk::new(&rt, STORE_FILE));
-    let (mut call, device) = run_over(threads, rt, words, device);
-    if let Some(fault) = device.inner().last_fault() {
-        if let Ok(text) = format!(in rt.alloc(); "{STORE_FILE}: {fault}") {
-            call.fault = text;
-        }
+    let (call, device) = run_over(threads, rt, words, device);
+    let device = device.inner();
+    if device.made_new() {
+        let program = program.escape_default();
+        let _ = eprintln!(rt; "{program}: the store in {STORE_FILE} is new");
     }
-    call
+    tell(&rt, program, words, &call, STORE_FILE, device.last_fault());
+    call.outcome
+}
+
+/// Tells on standard error what stopped a call, if anything did.
+fn tell(
+    rt: &HostRuntime,
+    program: &str,
+    words: &[String],
+    call: &Call,
+    device: &str,
+    fault: Option<FileCause<'_>>,
+) {
+    let names = Names {
+        program,
+        cluster: name_at(words, 1),
+        script: name_at(words, 2),
+        schedule: name_at(words, 3),
+        unread: name_at(words, (call.shelf.answered().min(2) + 1) as usize),
+        device,
+    };
+    let cause = call.cause(fault);
+    let bytes = call.shelf.last_read();
+    let outcome = call.outcome;
+    match outcome {
+        Outcome::Usage => match word_fault(rt.alloc(), words) {
+            Ok(Some(hint)) => tell_hint(rt, outcome, names, hint, cause),
+            _ => tell_hint(rt, outcome, names, "the words ask for nothing", cause),
+        },
+        Outcome::ClusterRefused { place } => {
+            let hint = cluster_hint(rt.alloc(), bytes, place);
+            tell_hint(rt, outcome, names, hint, cause)
+        }
+        Outcome::ScriptRefused { line } => {
+            tell_hint(
+                rt,
+                outcome,
+                names,
+                script_hint(rt.alloc(), bytes, line),
+                cause,
+            )
+        }
+        Outcome::ScheduleRefused { place } => {
+            tell_hint(rt, outcome, names, schedule_hint(bytes, place), cause)
+        }
+        _ => tell_hint(rt, outcome, names, "", cause),
+    }
+}
+
+/// Tells the same with what is wrong with the words or a file.
+fn tell_hint<H: Display + Drop>(
+    rt: &HostRuntime,
+    outcome: Outcome,
+    names: Names<'_>,
+    hint: H,
+    cause: Cause<'_>,
+) {
+    let message = Message {
+        outcome,
+        names,
+        hint,
+        cause,
+    };
+    explain(rt, &message);
 }
 
 /// What the program does by the words behind its path; it tells on standard error what stopped it.
@@ -125,55 +206,58 @@ fn run_by<R: Threads + Wait + Sync>(threads: &R, rt: HostRuntime, all: &[String]
         Some((first, rest)) => (first.as_str(), rest),
         None => (PROGRAM, all),
     };
-    let call = match command_line(rt.alloc(), words) {
+    match command_line(rt.alloc(), words) {
         Ok(Some(line)) if line.is_in_file => run_in_file(threads, rt, path, words),
         Ok(_) => run_in_memory(threads, rt, path, words),
-        Err(NoMemory) => stopped(rt, Outcome::Memory),
+        Err(NoMemory) => {
+            tell_before(&rt, Outcome::Memory, "", Cause::Unknown);
+            Outcome::Memory
+        }
+    }
+}
+
+/// Tells what stopped the program before it had its words.
+fn tell_before(rt: &HostRuntime, outcome: Outcome, hint: &str, cause: Cause<'_>) {
+    let names = Names {
+        program: PROGRAM,
+        cluster: "",
+        script: "",
+        schedule: "",
+        unread: "/dev/null",
+        device: STORE_FILE,
     };
-    let (outcome, answered, fault) = (call.outcome, call.answered, call.fault.as_str());
-    let cluster = name_at(words, 1);
-    let script = name_at(words, 2);
-    let schedule = name_at(words, 3);
-    let unread = name_at(words, (answered.min(2) + 1) as usize);
-    let hint = match outcome {
-        Outcome::ClusterRefused { place } => cluster_hint(place),
-        Outcome::ScriptRefused { line } => script_hint(&rt, script, line),
-        Outcome::DiskFault => fault,
-        _ => "",
-    };
-    let told = Told {
-        program: path,
-        cluster,
-        script,
-        schedule,
-        unread,
-        hint,
-    };
-    explain(&rt, outcome, told);
-    outcome
+    tell_hint(rt, outcome, names, hint, cause);
 }
 
 /// What the program does by its command line; it tells on standard error what stopped it. Nothing comes back but the
 /// outcome: the page is on standard output by then. Workers run in the threads of the first runtime.
+///
+/// Before any other file is opened the descriptors of the standard streams are taken, so that none of them that is closed
+/// becomes the store's file.
 pub fn run_program<R: Threads + Wait + Sync>(threads: &R, rt: HostRuntime) -> Outcome {
+    let held = match StandardDescriptors::take(&rt) {
+        Ok(held) => held,
+        Err(error) => {
+            tell_before(&rt, Outcome::ReadFault, "", Cause::System(&error));
+            return Outcome::ReadFault;
+        }
+    };
+    let outcome = run_words(threads, rt);
+    drop(held);
+    outcome
+}
+
+/// The same once these are taken.
+fn run_words<R: Threads + Wait + Sync>(threads: &R, rt: HostRuntime) -> Outcome {
     match words_of(&rt) {
         Ok(words) => run_by(threads, rt, words.as_slice()),
-        Err(error) => {
-            let outcome = if error.kind() == io::ErrorKind::OutOfMemory {
-                Outcome::Memory
-            } else {
-                Outcome::Usage
-            };
-            let told = Told {
-                program: PROGRAM,
-                cluster: "",
-                script: "",
-                schedule: "",
-                unread: "",
-                hint: "",
-            };
-            explain(&rt, outcome, told);
-            outcome
+        Err(error) if error.kind() == io::ErrorKind::OutOfMemory => {
+            tell_before(&rt, Outcome::Memory, "", Cause::Unknown);
+            Outcome::Memory
+        }
+        Err(_) => {
+            tell_before(&rt, Outcome::Usage, "the words are no text", Cause::Unknown);
+            Outcome::Usage
         }
     }
 }

@@ -68,7 +68,7 @@ impl<D, R: Eprint> Watched<'_, D, R> {
     {
         self.syncs = self.syncs.saturating_add(1);
         if self.tells && self.syncs % (SYNCS_PER_OPERATION * OPERATIONS_PER_LINE) == 0 {
-            let program = self.program;
+            let program = self.program.escape_default();
             let operations = self.syncs / SYNCS_PER_OPERATION;
             let _ = eprintln!(self.rt; "{program}: {operations} operations kept");
         }

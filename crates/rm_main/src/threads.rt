@@ -1,5 +1,6 @@
 ghost use Rattle.std.specs.Prelude.{◌≡◌, ◌⊎◌, map, string_bytes, IfNone, IfSome, None, Some, false};
 ghost use Rattle.rm_formats.specs.Page.{page};
+ghost use Rattle.std.specs.Option.{option_copied};
 ghost use Rattle.rm_types.specs.Counts.{Rose};
 ghost use Rattle.rm_desk.specs.Scripts.{CanGoAlong};
 ghost use Rattle.rm_queues.specs.Rules.{KeepsRules};
@@ -8,7 +9,7 @@ ghost use Rattle.rm_main.specs.Complete.{HasPlace, IsAccepted, IsFollowed, NoneR
 ghost use Rattle.rm_workers.specs.AnyOrder.{any_order};
 ghost use Rattle.rm_main.specs.Inputs.{asked_of};
 ghost use Rattle.rm_main.specs.Made.{LeavesDevice, made_by};
-ghost use Rattle.rm_main.specs.Runs.{AreRead, Ends, RanBy, ReadsFor, StopsBefore, WritesPage, page_for};
+ghost use Rattle.rm_main.specs.Runs.{Ends, RanBy, ReadsBy, ReadsFor, StopsBefore, WritesPage, page_for};
 ghost use Rattle.rm_main.specs.Ways.{IsOfRun};
 ghost use Rattle.rm_words.specs.Words.{Run, Workers as ByWorkers, asked, has_flags, mode_of, shows_moves, without_threads};
 
@@ -76,7 +77,7 @@ fn run_files_by_workers<
 ) -> Ended<D>
     requires { disk.armed ≡ None }
     ensures ends { Ends D.view (F.bytes_of shelf.old) (Some (asked_of ByWorkers files.entry)) (made_by disk result) result.outcome }
-    ensures reads { AreRead F.reads (Some (asked_of ByWorkers files.entry)) shelf.old shelf.new }
+    ensures reads { ReadsBy F.reads (F.bytes_of shelf.old) files.entry.cluster.now files.entry.script.now (option_copied files.entry.schedule) result.outcome shelf.old shelf.new }
     ensures writes { WritesPage K.taken K.faults K.idle sink.old sink.new (page result.log moves) result.outcome }
     ensures read_fault { result.outcome ≡ Outcome.ReadFault → Rose (F.faults shelf.old) (F.faults shelf.new) }
     ensures unused { StopsBefore result.outcome → result.disk ≡ disk }
@@ -123,7 +124,7 @@ pub fn top<R: Threads + Wait + Sync, F: Shelf, K: Sink, D: Disk + Drop + Send, G
         → NoneRose (F.faults shelf.old) (F.faults shelf.new) (K.faults sink.old) (K.faults sink.new) (K.idle sink.old) (K.idle sink.new)
         → (result.outcome ≡ Outcome.Done) ⊎ (result.outcome ≡ Outcome.Memory) }
     ensures flags { has_flags (map string_bytes words.now) ≡ false → result.outcome ≡ Outcome.Usage }
-    ensures reads { ReadsFor F.reads (mode_of (map string_bytes words.now)) result.outcome shelf.old shelf.new }
+    ensures reads { ReadsFor F.reads (F.bytes_of shelf.old) (mode_of (map string_bytes words.now)) result.outcome shelf.old shelf.new }
     ensures writes { WritesPage K.taken K.faults K.idle sink.old sink.new (page_for (shows_moves (map string_bytes words.now)) (mode_of (map string_bytes words.now)) result.opening result.log) result.outcome }
     ensures read_fault { result.outcome ≡ Outcome.ReadFault → Rose (F.faults shelf.old) (F.faults shelf.new) }
 

@@ -1,7 +1,7 @@
 ghost use Rattle.std.specs.Prelude.{◌≡◌, [], IfOk, false, true};
 ghost use Rattle.rm_formats.specs.Page.{store_page};
 ghost use Rattle.rm_types.specs.Counts.{Rose};
-ghost use Rattle.rm_main.specs.Runs.{Writes};
+ghost use Rattle.rm_main.specs.Runs.{IsWritten, Writes};
 ghost use Rattle.rm_main.specs.Shown.{shown_in};
 ghost use Rattle.rm_main.specs.Ways.{IsOfWriting, outcome_of, outcome_of_stop};
 
@@ -18,6 +18,7 @@ fn write<K: Sink>(sink: &mut K, page: &[u8]) -> Outcome
     ensures writes { Writes result (K.taken sink.old) (K.taken sink.new) page.now }
     ensures write_fault { result ≡ Outcome.WriteFault false → Rose (K.faults sink.old) (K.faults sink.new) }
     ensures took_nothing { result ≡ Outcome.WriteFault true → Rose (K.idle sink.old) (K.idle sink.new) }
+    ensures quiet { IsWritten result → (K.faults sink.new ≡ K.faults sink.old) × (K.idle sink.new ≡ K.idle sink.old) }
     ensures untouched { page.now ≡ [] → sink.new ≡ sink.old }
 {
     match write_all(sink, page) {
@@ -60,6 +61,7 @@ pub fn write_shown<K: Sink>(
     ensures writes { Writes result (K.taken sink.old) (K.taken sink.new) (shown_in shown log.now) }
     ensures write_fault { result ≡ Outcome.WriteFault false → Rose (K.faults sink.old) (K.faults sink.new) }
     ensures took_nothing { result ≡ Outcome.WriteFault true → Rose (K.idle sink.old) (K.idle sink.new) }
+    ensures quiet { IsWritten result → (K.faults sink.new ≡ K.faults sink.old) × (K.idle sink.new ≡ K.idle sink.old) }
     ensures untouched { shown_in shown log.now ≡ [] → sink.new ≡ sink.old }
 {
     let Ok(bytes) = shown_in(alloc, log, shown) else {
@@ -74,6 +76,7 @@ pub fn write_store<K: Sink>(alloc: Global, sink: &mut K, ops: &Items<Op>) -> Out
     ensures writes { Writes result (K.taken sink.old) (K.taken sink.new) (store_page ops.now) }
     ensures write_fault { result ≡ Outcome.WriteFault false → Rose (K.faults sink.old) (K.faults sink.new) }
     ensures took_nothing { result ≡ Outcome.WriteFault true → Rose (K.idle sink.old) (K.idle sink.new) }
+    ensures quiet { IsWritten result → (K.faults sink.new ≡ K.faults sink.old) × (K.idle sink.new ≡ K.idle sink.old) }
     ensures untouched { store_page ops.now ≡ [] → sink.new ≡ sink.old }
 {
     let Ok(bytes) = store_page(alloc, ops) else {

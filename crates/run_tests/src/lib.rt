@@ -13,9 +13,13 @@ mod crash_tests;
 #[cfg(test)]
 mod device_tests;
 #[cfg(test)]
+mod hint_tests;
+#[cfg(test)]
 mod job_tests;
 #[cfg(test)]
 mod kill_tests;
+#[cfg(test)]
+mod message_tests;
 #[cfg(test)]
 mod progress_tests;
 #[cfg(test)]

@@ -10,7 +10,7 @@ returns-clause-listed g c =
     let of = c.list_store-listed.ensures in
     let written = c.write_store-written in
     rw c.outcome_of.ensures
-    (listed g.D.Disk.view (record { opening = made.ops; log = []; before = c.args.disk; after = made.disk }) made.ended written.result written.ensures.of_writing of.stopped of.empty of.holds)
+    (listed g.D.Disk.view (record { opening = made.ops; log = []; before = c.args.disk; after = made.disk }) made.ended written.result written.ensures.of_writing of.stopped of.empty (λ ok bytes told. (of.holds ok bytes told, of.lasts ok bytes told)))
 
 pub returns-clause-device : goal.returns-clause-device
 returns-clause-device g c =
@@ -25,4 +25,4 @@ returns-clause-writes g c =
     let written = c.write_store-written in
     rw c.outcome_of.ensures
     (still_page g.K.Sink.taken g.K.Sink.faults g.K.Sink.idle c.args.sink.now written.new.sink (store_page made.ops) made.ended written.result written.ensures.of_writing
-    (record { writes = written.ensures.writes; write_fault = written.ensures.write_fault; took_nothing = written.ensures.took_nothing; untouched = written.ensures.untouched }))
+    (record { writes = written.ensures.writes; write_fault = written.ensures.write_fault; took_nothing = written.ensures.took_nothing; quiet = written.ensures.quiet; untouched = written.ensures.untouched }))

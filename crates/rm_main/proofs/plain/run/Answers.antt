@@ -37,7 +37,7 @@ returns-clause-writes g c =
     let written = c.write_shown-written in
     rw c.outcome_of.ensures
     (still_page g.K.Sink.taken g.K.Sink.faults g.K.Sink.idle c.args.sink.now written.new.sink (shown_in c.args.shown result.log) result.ended written.result written.ensures.of_writing
-    (record { writes = written.ensures.writes; write_fault = written.ensures.write_fault; took_nothing = written.ensures.took_nothing; untouched = written.ensures.untouched }))
+    (record { writes = written.ensures.writes; write_fault = written.ensures.write_fault; took_nothing = written.ensures.took_nothing; quiet = written.ensures.quiet; untouched = written.ensures.untouched }))
 
 pub returns-clause-device : goal.returns-clause-device
 returns-clause-device g c =

@@ -2,6 +2,7 @@ use Rattle.std.proofs.Common.{Some}
 use Rattle.rm_main.specs.Inputs.{asked_of}
 use Rattle.rm_words.specs.Words.{OneThread}
 use Rattle.rm_main.proofs.Outcomes.{run_ends}
+use Rattle.rm_main.proofs.FilesRead.{of_run}
 use Rattle.rm_main.proofs.plain.run_files.Goals as goal
 
 pub returns-in-Ok-clause-ends : goal.returns-in-Ok-clause-ends
@@ -18,3 +19,6 @@ returns-in-Ok-clause-ends g c =
       alloc = c.args.alloc;
       ran = run.ran;
     })
+
+pub returns-in-Ok-clause-reads : goal.returns-in-Ok-clause-reads
+returns-in-Ok-clause-reads g c = of_run g.F.Shelf.reads (g.F.Shelf.bytes_of c.args.shelf.now) _ _ _ _ _ c.run.result.outcome c.run.ensures.of_run c.in-Ok.ensures.reads

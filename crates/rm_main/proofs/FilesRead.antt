@@ -1,0 +1,83 @@
+-- Which files of a run were read, by what it came to.
+use Rattle.std.proofs.Common.{◌≡◌, ◌⊎◌, ℕ, List, Option, None, Some, inl, inr, refl, subst, sym}
+use Rattle.rm_types.specs.declared.outcomes.Outcome.{Outcome}
+use Rattle.rm_types.specs.declared.outcomes.Outcome.TheVariants.{Done, Usage, ReadFault, WriteFault, ClusterRefused, ScriptRefused, ScheduleRefused, DiskFault, StoreDamaged, StoreFull, EpochsSpent, Memory}
+use Rattle.rm_types.specs.declared.scripts.Script.{Script}
+use Rattle.rm_main.specs.Inputs.{IsOneMore, IsUnread, StopsAtCluster, StopsAtScript}
+use Rattle.rm_main.specs.Runs.{IsScriptOf, ReadsAll, ReadsBy, ReadsFor, ReadsScript, Told}
+use Rattle.rm_main.specs.Ways.{IsOfRun}
+use Rattle.rm_words.specs.Words.{Asked, Listing, Run, Soak}
+
+module _ {F : Type 0} (reads : List ℕ → F → F → Type 0) (told : Told) (cluster script : List ℕ) (schedule : Option (List ℕ)) (old new : F) where
+  -- a run that stopped at its cluster file read that alone
+  pub at_cluster : (bytes : Option (List ℕ)) (outcome : Outcome) → StopsAtCluster bytes outcome → reads cluster old new → ReadsBy reads told cluster script schedule outcome old new
+  at_cluster bytes ReadFault stops read = inl read
+  at_cluster bytes (ClusterRefused place) stops read = read
+  at_cluster bytes Memory stops read = inr (inl read)
+  at_cluster bytes Done stops read = absurd stops
+  at_cluster bytes Usage stops read = absurd stops
+  at_cluster bytes (WriteFault took_nothing) stops read = absurd stops
+  at_cluster bytes (ScriptRefused line) stops read = absurd stops
+  at_cluster bytes (ScheduleRefused place) stops read = absurd stops
+  at_cluster bytes DiskFault stops read = absurd stops
+  at_cluster bytes (StoreDamaged offset) stops read = absurd stops
+  at_cluster bytes (StoreFull needed room) stops read = absurd stops
+  at_cluster bytes EpochsSpent stops read = absurd stops
+
+  -- one that stopped at its script read the cluster file and the script's
+  pub at_script : (bytes : Option (List ℕ)) (outcome : Outcome) → StopsAtScript bytes outcome → ReadsScript reads told cluster script old new → ReadsBy reads told cluster script schedule outcome old new
+  at_script bytes ReadFault stops read = inr (inl read)
+  at_script bytes (ScriptRefused line) stops read = read
+  at_script bytes Memory stops read = inr (inr (inl read))
+  at_script bytes Done stops read = absurd stops
+  at_script bytes Usage stops read = absurd stops
+  at_script bytes (WriteFault took_nothing) stops read = absurd stops
+  at_script bytes (ClusterRefused place) stops read = absurd stops
+  at_script bytes (ScheduleRefused place) stops read = absurd stops
+  at_script bytes DiskFault stops read = absurd stops
+  at_script bytes (StoreDamaged offset) stops read = absurd stops
+  at_script bytes (StoreFull needed room) stops read = absurd stops
+  at_script bytes EpochsSpent stops read = absurd stops
+
+  -- one that stopped at its schedule read all
+  pub at_schedule : (outcome : Outcome) → IsUnread outcome → ReadsAll reads told cluster script schedule old new → ReadsBy reads told cluster script schedule outcome old new
+  at_schedule ReadFault unread read = inr (inr read)
+  at_schedule Memory unread read = inr (inr (inr read))
+  at_schedule Done unread read = absurd unread
+  at_schedule Usage unread read = absurd unread
+  at_schedule (WriteFault took_nothing) unread read = absurd unread
+  at_schedule (ClusterRefused place) unread read = absurd unread
+  at_schedule (ScriptRefused line) unread read = absurd unread
+  at_schedule (ScheduleRefused place) unread read = absurd unread
+  at_schedule DiskFault unread read = absurd unread
+  at_schedule (StoreDamaged offset) unread read = absurd unread
+  at_schedule (StoreFull needed room) unread read = absurd unread
+  at_schedule EpochsSpent unread read = absurd unread
+
+  -- one that was made read all
+  pub of_run : (outcome : Outcome) → IsOfRun outcome → ReadsAll reads told cluster script schedule old new → ReadsBy reads told cluster script schedule outcome old new
+  of_run Done of read = read
+  of_run (WriteFault took_nothing) of read = read
+  of_run (ScheduleRefused place) of read = read
+  of_run DiskFault of read = read
+  of_run (StoreDamaged offset) of read = read
+  of_run (StoreFull needed room) of read = read
+  of_run EpochsSpent of read = read
+  of_run Memory of read = inr (inr (inr read))
+  of_run Usage of read = absurd of
+  of_run ReadFault of read = absurd of
+  of_run (ClusterRefused place) of read = absurd of
+  of_run (ScriptRefused line) of read = absurd of
+
+-- all is read once one more file is, if there is one
+pub then_one_more : {F : Type 0} (reads : List ℕ → F → F → Type 0) (told : Told) (cluster script : List ℕ) (schedule : Option (List ℕ)) (old mid new : F) (spelled : Script) → IsScriptOf (told script) spelled
+    → ReadsScript reads told cluster script old mid → IsOneMore reads schedule mid new → ReadsAll reads told cluster script schedule old new
+then_one_more {F = F} reads told cluster script None old mid new spelled of front same = subst (λ (end : F). ReadsScript reads told cluster script old end) (sym same) front
+then_one_more reads told cluster script (Some schedule) old mid new spelled of front last = record { spelled = spelled; of_script = of; mid = mid; front = front; last = last }
+
+-- where memory ran out before the words were read no file was
+pub none_read : {F : Type 0} (reads : List ℕ → F → F → Type 0) (told : Told) (asked : Option Asked) (shelf : F) → ReadsFor reads told asked Memory shelf shelf
+none_read reads told (Some (Run cluster script schedule mover)) shelf = inl refl
+none_read reads told (Some (Soak number)) shelf = refl
+none_read reads told (Some Listing) shelf = refl
+none_read reads told None shelf = refl

@@ -1,0 +1,134 @@
+//! What is told on standard error of a call that wasn't Done: no clause speaks of it.
+
+use crate::cases::wants;
+use rm_main::{Cause, Message, Names};
+use rm_types::Outcome;
+use std::io;
+use std::io::ErrorKind;
+use std::process::Abort;
+
+/// Names that a terminal must not be sent as they are.
+const NAMES: Names<'static> = Names {
+    program: "yewendro",
+    cluster: "clus\u{1b}[2Jter.json",
+    script: "job\n.txt",
+    schedule: "caf\u{e9}",
+    unread: "gone\r.txt",
+    device: "rm.store",
+};
+
+/// Each outcome but Done and Usage, the hint that it has, and its line.
+const LINES: &[(Outcome, &str, &str)] = &[
+    (
+        Outcome::ReadFault,
+        "",
+        "yewendro: the file gone\\r.txt could not be read",
+    ),
+    (
+        Outcome::WriteFault {
+            took_nothing: false,
+        },
+        "",
+        "yewendro: the page could not be written",
+    ),
+    (
+        Outcome::WriteFault { took_nothing: true },
+        "",
+        "yewendro: the output takes nothing of the page",
+    ),
+    (
+        Outcome::ClusterRefused { place: 5 },
+        "max_apps",
+        "yewendro: the cluster file clus\\u{1b}[2Jter.json is refused at place 5: max_apps",
+    ),
+    (
+        Outcome::ScriptRefused { line: 7 },
+        "too long",
+        "yewendro: the script job\\n.txt is refused at line 7: too long",
+    ),
+    (
+        Outcome::ScheduleRefused { place: 2 },
+        "no letter",
+        "yewendro: the schedule caf\\u{e9} is refused at byte 2: no letter",
+    ),
+    (
+        Outcome::DiskFault,
+        "",
+        "yewendro: the store's device, rm.store, failed",
+    ),
+    (
+        Outcome::StoreDamaged { offset: 19 },
+        "",
+        "yewendro: rm.store holds no store: it is damaged at offset 19",
+    ),
+    (
+        Outcome::StoreFull {
+            needed: 59,
+            room: 4,
+        },
+        "",
+        "yewendro: the store in rm.store is full: 59 bytes are needed, 4 are left",
+    ),
+    (
+        Outcome::EpochsSpent,
+        "",
+        "yewendro: no epoch, or no stamp, is left for one more life",
+    ),
+    (Outcome::Memory, "", "yewendro: out of memory"),
+];
+
+/// The text of a message.
+fn text_of<R: Abort + AllocGlobal>(
+    rt: &R,
+    outcome: Outcome,
+    hint: &str,
+    cause: Cause<'_>,
+) -> String {
+    let message = Message {
+        outcome,
+        names: NAMES,
+        hint,
+        cause,
+    };
+    format!(in rt.alloc(); "{message}").expect(rt, "memory")
+}
+
+/// Sees that a text is the one that is wanted.
+fn is_told<R: Abort>(rt: &R, told: &str, wanted: &str) {
+    assert!(rt; told == wanted, "`{told}` in place of `{wanted}`");
+}
+
+#[test]
+fn each_outcome_has_its_line(rt: HostRuntime) {
+    for (outcome, hint, wanted) in LINES {
+        let told = text_of(&rt, *outcome, hint, Cause::Unknown);
+        is_told(&rt, told.as_str(), wanted);
+    }
+    let told = text_of(&rt, Outcome::Done, "", Cause::Unknown);
+    is_told(&rt, told.as_str(), "");
+}
+
+#[test]
+fn a_cause_stands_behind_what_failed(rt: HostRuntime) {
+    let error = io::Error::from(ErrorKind::PermissionDenied);
+    let told = text_of(&rt, Outcome::ReadFault, "", Cause::System(&error));
+    let wanted = "yewendro: the file gone\\r.txt could not be read: permission denied";
+    is_told(&rt, told.as_str(), wanted);
+}
+
+#[test]
+fn wrong_words_are_told_the_modes_behind_their_fault(rt: HostRuntime) {
+    let told = text_of(&rt, Outcome::Usage, "`run` is no mode", Cause::Unknown);
+    let mut lines = told.as_str().lines();
+    is_told(
+        &rt,
+        lines.next().unwrap_or(""),
+        "yewendro: `run` is no mode",
+    );
+    is_told(&rt, lines.next().unwrap_or(""), "modes of yewendro:");
+    for mode in ["plain", "threads", "replay", "soak", "store"] {
+        let line = lines.next().unwrap_or("");
+        wants(&rt, line.split_whitespace().next() == Some(mode));
+    }
+    wants(&rt, lines.all(|line| line.len() <= 100));
+}
