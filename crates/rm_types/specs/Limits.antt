@@ -1,26 +1,27 @@
 -- The greatest values that sizes, counts and stamps have wherever they stand: in a cluster file, a script, a message or a
 -- store. This project's own.
 use Rattle.std.specs.Prelude.{ℕ}
+use Rattle.rm_types.specs.declared.limits.TheConstants.{GREATEST_MEMORY_MB, GREATEST_VCORES, GREATEST_ATTEMPTS, GREATEST_STAMP, MOST_LINES}
 
 -- the most memory, in megabytes, of a container or a node: 16 TiB
 abbrev pub greatest_memory_mb : ℕ
-greatest_memory_mb = 16777216
+greatest_memory_mb = GREATEST_MEMORY_MB
 
 -- the most virtual cores of a container or a node
 abbrev pub greatest_vcores : ℕ
-greatest_vcores = 256
+greatest_vcores = GREATEST_VCORES
 
 -- the most attempts that an application may have
 abbrev pub greatest_attempts : ℕ
-greatest_attempts = 100
+greatest_attempts = GREATEST_ATTEMPTS
 
 -- the greatest stamp with which a life starts
 abbrev pub greatest_stamp : ℕ
-greatest_stamp = 1000000000000000
+greatest_stamp = GREATEST_STAMP
 
 -- how many lines a script may have
 abbrev pub most_lines : ℕ
-most_lines = 100000
+most_lines = MOST_LINES
 
 -- how many messages are served in one life at most: each is a line of the script
 abbrev pub most_served : ℕ

@@ -9,6 +9,7 @@ use Rattle.rm_types.specs.declared.operations.Op.TheVariants.{Epoch, App, Attemp
 use Rattle.rm_types.specs.declared.operations.Submission.{Submission}
 use Rattle.rm_types.specs.declared.texts.TextKind.{TextKind}
 use Rattle.rm_types.specs.declared.texts.TextKind.TheVariants.{Name, Node, Queue, Note, AclText}
+use Rattle.rm_types.specs.declared.limits.TheConstants.{EPOCHS, SEQUENCES, NUMBERS, STAMPS}
 use Rattle.rm_types.specs.Limits.{greatest_attempts, greatest_memory_mb, greatest_vcores}
 use Rattle.rm_types.specs.Texts.{fault_of}
 
@@ -18,19 +19,19 @@ IsWithin least greatest number = (least ≤ number) × (number ≤ greatest)
 
 -- the parts of an application's id are in their ranges
 pub record IsAppId (id : AppId) : Type 0 where
-  pub stamp : IsWithin 1 (2 ^ 63 - 1) id.stamp
-  pub number : IsWithin 1 (2 ^ 31 - 1) id.number
+  pub stamp : IsWithin 1 (STAMPS - 1) id.stamp
+  pub number : IsWithin 1 (NUMBERS - 1) id.number
 
 -- and those of an attempt's
 pub record IsAttemptId (id : AttemptId) : Type 0 where
   pub app : IsAppId id.app
-  pub number : IsWithin 1 (2 ^ 31 - 1) id.number
+  pub number : IsWithin 1 (NUMBERS - 1) id.number
 
 -- and those of a container's
 pub record IsContainerId (id : ContainerId) : Type 0 where
   pub attempt : IsAttemptId id.attempt
-  pub epoch : IsWithin 0 (2 ^ 24 - 1) id.epoch
-  pub seq : IsWithin 1 (2 ^ 40 - 1) id.seq
+  pub epoch : IsWithin 0 (EPOCHS - 1) id.epoch
+  pub seq : IsWithin 1 (SEQUENCES - 1) id.seq
 
 -- the bytes are a text of the kind
 abbrev pub IsText : TextKind → List ℕ → Type 0
@@ -53,7 +54,7 @@ pub record IsMasterOf (id : AttemptId) (master : ContainerId) : Type 0 where
 
 -- the parts of a store operation are in their ranges
 abbrev pub IsOperation : Op → Type 0
-IsOperation (Epoch next stamp) = IsWithin 1 (2 ^ 24) next × IsWithin 1 (2 ^ 63 - 1) stamp
+IsOperation (Epoch next stamp) = IsWithin 1 EPOCHS next × IsWithin 1 (STAMPS - 1) stamp
 IsOperation (App id submission) = IsAppId id × IsSubmission submission
 IsOperation (Attempt id master node) = IsAttemptId id × IsMasterOf id master × IsText Node node
 IsOperation (AttemptEnd id how text) = IsAttemptId id × IsText Note text

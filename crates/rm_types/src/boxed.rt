@@ -1,7 +1,7 @@
 ghost use Rattle.std.specs.Prelude.{◌≡◌, IfOk};
 
 use crate::duplicate::{Duplicate, NoMemory};
-use std::alloc::Global;
+use std::alloc::{AllocError, Global};
 use std::marker::Model;
 
 /// A value behind a pointer, so that what holds it is small. Contracts see the value itself.
@@ -51,10 +51,16 @@ impl<T> Boxed<T> {
     }
 }
 
-impl<T: Duplicate + Drop> Duplicate for Boxed<T> {
-    fn copy(&self) -> Result<Boxed<T>, NoMemory> {
-        let value = self.get().copy()?;
-        let inside = Box::new(*Box::allocator(&self.inside), value)?;
-        Ok(Boxed { inside })
+impl<T: Duplicate> Clone for Boxed<T> {
+    ghost is_clone = { λ x y. y ≡ x };
+
+    fn clone(&self) -> Result<Boxed<T>, AllocError> {
+        Ok(Boxed {
+            inside: self.inside.clone()?,
+        })
     }
+}
+
+impl<T: Duplicate> Duplicate for Boxed<T> {
+    ghost same = { λ x y e. e };
 }

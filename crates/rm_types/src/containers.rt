@@ -1,6 +1,7 @@
 ghost use Rattle.std.specs.Prelude.{◌≡◌, IfOk};
+ghost use Rattle.std.proofs.Common.{rules};
 
-use crate::duplicate::{Duplicate, NoMemory};
+use crate::duplicate::Duplicate;
 use crate::ids::{AttemptId, ContainerId};
 use crate::resources::Resource;
 use crate::texts::Text;
@@ -13,7 +14,7 @@ pub struct Held {
 }
 
 /// A container that a pass grants, and the node that it is granted on.
-#[derive(Debug, Drop)]
+#[derive(Clone, Debug, Drop)]
 pub struct Grant {
     pub id: ContainerId,
     pub node: Text,
@@ -59,7 +60,7 @@ pub struct Closing {
 
 /// A living container in the book. `told` is its number among all that were ever added, from 1: the
 /// order of grants.
-#[derive(Debug, Drop)]
+#[derive(Clone, Debug, Drop)]
 pub struct BookRow {
     pub id: ContainerId,
     pub node: Text,
@@ -90,61 +91,33 @@ pub struct Turn {
 }
 
 impl Duplicate for Held {
-    fn copy(&self) -> Result<Held, NoMemory> {
-        Ok(*self)
-    }
+    ghost same = { Prim.search (rules) };
 }
 
 impl Duplicate for Grant {
-    fn copy(&self) -> Result<Grant, NoMemory> {
-        let node = self.node.copy()?;
-        Ok(Grant {
-            id: self.id,
-            node,
-            size: self.size,
-        })
-    }
+    ghost same = { Prim.search (rules) };
 }
 
 impl Duplicate for Ask {
-    fn copy(&self) -> Result<Ask, NoMemory> {
-        Ok(*self)
-    }
+    ghost same = { Prim.search (rules) };
 }
 
 impl Duplicate for Closing {
-    fn copy(&self) -> Result<Closing, NoMemory> {
-        Ok(*self)
-    }
+    ghost same = { Prim.search (rules) };
 }
 
 impl Duplicate for BookRow {
-    fn copy(&self) -> Result<BookRow, NoMemory> {
-        let node = self.node.copy()?;
-        Ok(BookRow {
-            id: self.id,
-            node,
-            size: self.size,
-            state: self.state,
-            told: self.told,
-        })
-    }
+    ghost same = { Prim.search (rules) };
 }
 
 impl Duplicate for AskLine {
-    fn copy(&self) -> Result<AskLine, NoMemory> {
-        Ok(*self)
-    }
+    ghost same = { Prim.search (rules) };
 }
 
 impl Duplicate for AskOf {
-    fn copy(&self) -> Result<AskOf, NoMemory> {
-        Ok(*self)
-    }
+    ghost same = { Prim.search (rules) };
 }
 
 impl Duplicate for Turn {
-    fn copy(&self) -> Result<Turn, NoMemory> {
-        Ok(*self)
-    }
+    ghost same = { Prim.search (rules) };
 }

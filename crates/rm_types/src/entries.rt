@@ -1,8 +1,9 @@
 ghost use Rattle.std.specs.Prelude.{◌≡◌, IfOk};
+ghost use Rattle.std.proofs.Common.{rules};
 
 use crate::boxed::Boxed;
 use crate::containers::{Cause, Grant, Held};
-use crate::duplicate::{Duplicate, NoMemory};
+use crate::duplicate::Duplicate;
 use crate::ids::{AppId, AttemptId, ContainerId};
 use crate::items::Items;
 use crate::messages::{Lane, Message, Sender};
@@ -12,7 +13,7 @@ use crate::texts::Text;
 
 /// One entry of the manager's log: what one move did. What may be large stands behind a pointer, so that an
 /// entry takes 32 bytes and a log of mostly silent ones stays small.
-#[derive(Debug, Drop)]
+#[derive(Clone, Debug, Drop)]
 pub enum Entry {
     /// A life began: how many awaiting operations of the life before had landed in the store, and this
     /// life's epoch and stamp.
@@ -82,59 +83,5 @@ pub enum Entry {
 }
 
 impl Duplicate for Entry {
-    fn copy(&self) -> Result<Entry, NoMemory> {
-        match self {
-            Entry::Opened {
-                landed,
-                epoch,
-                stamp,
-            } => Ok(Entry::Opened {
-                landed: *landed,
-                epoch: *epoch,
-                stamp: *stamp,
-            }),
-            Entry::Issued { op } => Ok(Entry::Issued { op: op.copy()? }),
-            Entry::Handed => Ok(Entry::Handed),
-            Entry::Kept { op } => Ok(Entry::Kept { op: op.copy()? }),
-            Entry::Blown { passed } => Ok(Entry::Blown { passed: *passed }),
-            Entry::Served {
-                sender,
-                message,
-                reply,
-            } => {
-                let message = message.copy()?;
-                let reply = reply.copy()?;
-                Ok(Entry::Served {
-                    sender: *sender,
-                    message,
-                    reply,
-                })
-            }
-            Entry::Accepted { app } => Ok(Entry::Accepted { app: *app }),
-            Entry::Queued { attempt } => Ok(Entry::Queued { attempt: *attempt }),
-            Entry::Absorbed { node, taken, ended } => {
-                let node = node.copy()?;
-                let taken = taken.copy()?;
-                let ended = ended.copy()?;
-                Ok(Entry::Absorbed { node, taken, ended })
-            }
-            Entry::Pass { node, grants } => {
-                let node = node.copy()?;
-                let grants = grants.copy()?;
-                Ok(Entry::Pass { node, grants })
-            }
-            Entry::Ordered { container, node } => {
-                let container = container.copy()?;
-                let node = node.copy()?;
-                Ok(Entry::Ordered { container, node })
-            }
-            Entry::Ended { cause, list } => Ok(Entry::Ended {
-                cause: *cause,
-                list: list.copy()?,
-            }),
-            Entry::Settled => Ok(Entry::Settled),
-            Entry::Down => Ok(Entry::Down),
-            Entry::Quiet { lane } => Ok(Entry::Quiet { lane: *lane }),
-        }
-    }
+    ghost same = { Prim.search (rules) };
 }

@@ -1,10 +1,10 @@
-ghost use Rattle.std.specs.Prelude.{◌≡◌, ◌<◌, List, [], ◌∷◌, ◌++◌, length, IsTrue, ◌↔◌, OnOk, OnErr, Some, slice_get};
+ghost use Rattle.std.specs.Prelude.{◌≡◌, ◌<◌, List, [], ◌∷◌, ◌++◌, length, IsTrue, ◌↔◌, Ok, Err, IfErr, OnOk, OnErr, ◌⊎◌, Some, slice_get};
 ghost use Rattle.rm_types.specs.Lists.{is_nil};
-ghost use Rattle.std.specs.Fn.{CalledAt};
+ghost use Rattle.std.specs.Fn.{CalledAt, FnOnceReturnsAtMut};
 ghost use Rattle.std.specs.List.Retain.{IsFiltered};
 
 use crate::duplicate::{Duplicate, NoMemory};
-use std::alloc::Global;
+use std::alloc::{AllocError, Global};
 use std::marker::Model;
 
 /// A list of items in order. Contracts see the list alone, and not the room that was made for it.
@@ -86,6 +86,42 @@ impl<T> Items<T> {
         Ok(())
     }
 
+    /// Takes the room for one more item, has it made over a state, and adds it. Where no memory is found the state is as it was;
+    /// where no item is made the list is as it was, and the state as `make` left it.
+    pub fn push_made<S, E: From<NoMemory>, F: FnOnce(&mut S) -> Result<T, E>>(
+        &mut self,
+        state: &mut S,
+        make: F,
+    ) -> Result<(), E>
+    where
+        F: Drop,
+        requires { F.IsAlwaysCallable make }
+        ensures ok { OnOk result ((item : T) × FnOnceReturnsAtMut F.FnOnce make state.old (Ok item) state.new × (self.new ≡ self.old ++ item ∷ [])) }
+        ensures err { OnErr result (self.new ≡ self.old) }
+        ensures err_state { IfErr result (λ error. (state.new ≡ state.old) ⊎ FnOnceReturnsAtMut F.FnOnce make state.old (Err error) state.new) }
+    {
+        if self.list.reserve(1).is_err() {
+            return Err(E::from(NoMemory));
+        }
+        match make(state) {
+            Ok(item) => {
+                self.list.push_reserved(item);
+                Ok(())
+            }
+            Err(error) => Err(error),
+        }
+    }
+
+    /// Adds all items of another list, which is left empty, or none where there is no memory for them all: `NoMemory` leaves both
+    /// lists as they were.
+    pub fn append(&mut self, other: &mut Items<T>) -> Result<(), NoMemory>
+        ensures ok { OnOk result ((self.new ≡ self.old ++ other.old) × (other.new ≡ [])) }
+        ensures err { OnErr result ((self.new ≡ self.old) × (other.new ≡ other.old)) }
+    {
+        self.list.append(&mut other.list)?;
+        Ok(())
+    }
+
     /// Keeps the items that pass the test, in their order.
     pub fn retain<F: FnMut(&T) -> bool>(&mut self, test: F)
     where
@@ -138,12 +174,16 @@ pub fn push_both<S: Drop, T: Drop>(
     }
 }
 
-impl<T: Duplicate + Drop> Duplicate for Items<T> {
-    fn copy(&self) -> Result<Items<T>, NoMemory> {
-        let mut list = Vec::with_capacity(*self.list.allocator(), self.list.len())?;
-        for item in &self.list {
-            list.push(item.copy()?)?;
-        }
-        Ok(Items { list })
+impl<T: Duplicate> Clone for Items<T> {
+    ghost is_clone = { λ x y. y ≡ x };
+
+    fn clone(&self) -> Result<Items<T>, AllocError> {
+        Ok(Items {
+            list: self.list.clone()?,
+        })
     }
+}
+
+impl<T: Duplicate> Duplicate for Items<T> {
+    ghost same = { λ x y e. e };
 }

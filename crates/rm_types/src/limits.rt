@@ -14,3 +14,16 @@ pub const GREATEST_STAMP: u64 = 1_000_000_000_000_000;
 
 /// How many lines a script may have.
 pub const MOST_LINES: u32 = 100_000;
+
+/// The epochs of lives are below it: a container's number has 24 bits for them, as YARN's has.
+pub const EPOCHS: u32 = 1 << 24;
+
+/// The sequences of an attempt's containers in one life are below it: a container's number has 40 bits for them.
+pub const SEQUENCES: u64 = 1 << 40;
+
+/// The numbers of a life's applications, and of an application's attempts, are below it: YARN has them in a signed integer
+/// of 32 bits.
+pub const NUMBERS: u32 = 1 << 31;
+
+/// The stamps of lives are below it: YARN has them in a signed integer of 64 bits.
+pub const STAMPS: u64 = 1 << 63;

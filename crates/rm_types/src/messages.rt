@@ -1,7 +1,8 @@
 ghost use Rattle.std.specs.Prelude.{◌≡◌, IfOk};
+ghost use Rattle.std.proofs.Common.{rules};
 
 use crate::containers::{Ask, Held};
-use crate::duplicate::{Duplicate, NoMemory};
+use crate::duplicate::Duplicate;
 use crate::ids::{AppId, AttemptId, ContainerId};
 use crate::items::Items;
 use crate::operations::Submission;
@@ -9,7 +10,7 @@ use crate::resources::Resource;
 use crate::texts::Text;
 
 /// What a client asks.
-#[derive(Debug, Drop)]
+#[derive(Clone, Debug, Drop)]
 pub enum ClientAsk {
     New,
     Submit(AppId, Submission),
@@ -18,7 +19,7 @@ pub enum ClientAsk {
 }
 
 /// What an application's master asks.
-#[derive(Debug, Drop)]
+#[derive(Clone, Debug, Drop)]
 pub enum MasterAsk {
     Register,
     Finish {
@@ -32,7 +33,7 @@ pub enum MasterAsk {
 }
 
 /// What a node says.
-#[derive(Debug, Drop)]
+#[derive(Clone, Debug, Drop)]
 pub enum NodeAsk {
     Register {
         turn: u32,
@@ -47,7 +48,7 @@ pub enum NodeAsk {
 }
 
 /// What the clock says: so many milliseconds went by, or a lease ran out.
-#[derive(Debug, Drop)]
+#[derive(Clone, Debug, Drop)]
 pub enum ClockAsk {
     Tick(u64),
     ExpireNode(Text),
@@ -55,7 +56,7 @@ pub enum ClockAsk {
 }
 
 /// A message to the manager, with who sent it.
-#[derive(Debug, Drop)]
+#[derive(Clone, Debug, Drop)]
 pub enum Message {
     Client(Text, ClientAsk),
     Master(AttemptId, MasterAsk),
@@ -88,82 +89,21 @@ pub enum Lane {
 }
 
 impl Duplicate for ClientAsk {
-    fn copy(&self) -> Result<ClientAsk, NoMemory> {
-        match self {
-            ClientAsk::New => Ok(ClientAsk::New),
-            ClientAsk::Submit(id, submission) => Ok(ClientAsk::Submit(*id, submission.copy()?)),
-            ClientAsk::Report(id) => Ok(ClientAsk::Report(*id)),
-            ClientAsk::Kill(id) => Ok(ClientAsk::Kill(*id)),
-        }
-    }
+    ghost same = { Prim.search (rules) };
 }
 
 impl Duplicate for MasterAsk {
-    fn copy(&self) -> Result<MasterAsk, NoMemory> {
-        match self {
-            MasterAsk::Register => Ok(MasterAsk::Register),
-            MasterAsk::Finish { text } => Ok(MasterAsk::Finish { text: text.copy()? }),
-            MasterAsk::Allocate { id, asks, release } => {
-                let asks = asks.copy()?;
-                let release = release.copy()?;
-                Ok(MasterAsk::Allocate {
-                    id: *id,
-                    asks,
-                    release,
-                })
-            }
-        }
-    }
+    ghost same = { Prim.search (rules) };
 }
 
 impl Duplicate for NodeAsk {
-    fn copy(&self) -> Result<NodeAsk, NoMemory> {
-        match self {
-            NodeAsk::Register {
-                turn,
-                capability,
-                running,
-            } => Ok(NodeAsk::Register {
-                turn: *turn,
-                capability: *capability,
-                running: running.copy()?,
-            }),
-            NodeAsk::Beat { id, running, done } => {
-                let running = running.copy()?;
-                let done = done.copy()?;
-                Ok(NodeAsk::Beat {
-                    id: *id,
-                    running,
-                    done,
-                })
-            }
-        }
-    }
+    ghost same = { Prim.search (rules) };
 }
 
 impl Duplicate for ClockAsk {
-    fn copy(&self) -> Result<ClockAsk, NoMemory> {
-        match self {
-            ClockAsk::Tick(time) => Ok(ClockAsk::Tick(*time)),
-            ClockAsk::ExpireNode(node) => Ok(ClockAsk::ExpireNode(node.copy()?)),
-            ClockAsk::ExpireMaster(attempt) => Ok(ClockAsk::ExpireMaster(*attempt)),
-        }
-    }
+    ghost same = { Prim.search (rules) };
 }
 
 impl Duplicate for Message {
-    fn copy(&self) -> Result<Message, NoMemory> {
-        match self {
-            Message::Client(user, ask) => {
-                let user = user.copy()?;
-                Ok(Message::Client(user, ask.copy()?))
-            }
-            Message::Master(attempt, ask) => Ok(Message::Master(*attempt, ask.copy()?)),
-            Message::Node(node, ask) => {
-                let node = node.copy()?;
-                Ok(Message::Node(node, ask.copy()?))
-            }
-            Message::Clock(ask) => Ok(Message::Clock(ask.copy()?)),
-        }
-    }
+    ghost same = { Prim.search (rules) };
 }

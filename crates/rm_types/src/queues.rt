@@ -1,4 +1,5 @@
-ghost use Rattle.std.specs.Prelude.{◌≡◌, List, [], ◌∷◌, ◌++◌, length, IsTrue, ◌↔◌, IfSome, IfNone, drop, OnOk, OnErr, slice_get};
+ghost use Rattle.std.specs.Prelude.{◌≡◌, List, [], ◌∷◌, ◌++◌, length, IsTrue, ◌↔◌, IfSome, IfNone, drop, Ok, Err, IfErr, OnOk, OnErr, ◌⊎◌, slice_get};
+ghost use Rattle.std.specs.Fn.{FnOnceReturnsAtMut};
 ghost use Rattle.std.specs.Option.{option_copied};
 ghost use Rattle.std.specs.VecDeque.Iter.{deque_iter_rest, deque_iter_steps};
 ghost use Rattle.std.specs.Iterator.Runs.{YieldsRefsInOrder};
@@ -85,6 +86,47 @@ impl<T> Queue<T> {
     {
         self.line.push_back(item)?;
         Ok(())
+    }
+
+    /// Adds all these items at the end, or none where there is no memory for them all: `NoMemory` leaves the queue as it was.
+    pub fn push_all(&mut self, items: &[T]) -> Result<(), NoMemory>
+    where
+        T: Copy + Drop,
+        ensures ok { OnOk result (self.new ≡ self.old ++ items.now) }
+        ensures err { OnErr result (self.new ≡ self.old) }
+    {
+        self.line.reserve(items.len())?;
+        for item in items {
+            self.line.push_back(*item).unwrap();
+        }
+        Ok(())
+    }
+
+    /// Takes the room for one more item, has it made over a state, and adds it. Where no memory is found the state is as it was;
+    /// where no item is made the queue is as it was, and the state as `make` left it.
+    pub fn push_made<S, E: From<NoMemory>, F: FnOnce(&mut S) -> Result<T, E>>(
+        &mut self,
+        state: &mut S,
+        make: F,
+    ) -> Result<(), E>
+    where
+        T: Drop,
+        F: Drop,
+        requires { F.IsAlwaysCallable make }
+        ensures ok { OnOk result ((item : T) × FnOnceReturnsAtMut F.FnOnce make state.old (Ok item) state.new × (self.new ≡ self.old ++ item ∷ [])) }
+        ensures err { OnErr result (self.new ≡ self.old) }
+        ensures err_state { IfErr result (λ error. (state.new ≡ state.old) ⊎ FnOnceReturnsAtMut F.FnOnce make state.old (Err error) state.new) }
+    {
+        if self.line.reserve(1).is_err() {
+            return Err(E::from(NoMemory));
+        }
+        match make(state) {
+            Ok(item) => {
+                self.line.push_back(item).unwrap();
+                Ok(())
+            }
+            Err(error) => Err(error),
+        }
     }
 
     /// Takes the item at the front, if there is one.

@@ -1,13 +1,14 @@
 ghost use Rattle.std.specs.Prelude.{◌≡◌, IfOk};
+ghost use Rattle.std.proofs.Common.{rules};
 
-use crate::duplicate::{Duplicate, NoMemory};
+use crate::duplicate::Duplicate;
 use crate::ids::{AppId, AttemptId, ContainerId};
 use crate::items::Items;
 use crate::operations::{How, Submission};
 use crate::texts::Text;
 
 /// What the store holds of an attempt.
-#[derive(Debug, Drop)]
+#[derive(Clone, Debug, Drop)]
 pub struct AttemptRecord {
     pub id: AttemptId,
     pub master: ContainerId,
@@ -17,7 +18,7 @@ pub struct AttemptRecord {
 
 /// What the store holds of an application. `end_order` is 0 without an end, else the number of its
 /// `AppEnd` among the store's operations.
-#[derive(Debug, Drop)]
+#[derive(Clone, Debug, Drop)]
 pub struct AppRecord {
     pub id: AppId,
     pub submission: Submission,
@@ -26,40 +27,10 @@ pub struct AppRecord {
     pub end_order: u64,
 }
 
-/// A copy of how something ended, if it has.
-fn copy_ending(ending: &Option<(How, Text)>) -> Result<Option<(How, Text)>, NoMemory>
-    ensures { IfOk result (λ other. other ≡ ending.now) }
-{
-    match ending {
-        Some((how, text)) => Ok(Some((*how, text.copy()?))),
-        None => Ok(None),
-    }
-}
-
 impl Duplicate for AttemptRecord {
-    fn copy(&self) -> Result<AttemptRecord, NoMemory> {
-        let node = self.node.copy()?;
-        let ending = copy_ending(&self.ending)?;
-        Ok(AttemptRecord {
-            id: self.id,
-            master: self.master,
-            node,
-            ending,
-        })
-    }
+    ghost same = { Prim.search (rules) };
 }
 
 impl Duplicate for AppRecord {
-    fn copy(&self) -> Result<AppRecord, NoMemory> {
-        let submission = self.submission.copy()?;
-        let attempts = self.attempts.copy()?;
-        let ending = copy_ending(&self.ending)?;
-        Ok(AppRecord {
-            id: self.id,
-            submission,
-            attempts,
-            ending,
-            end_order: self.end_order,
-        })
-    }
+    ghost same = { Prim.search (rules) };
 }

@@ -1,7 +1,8 @@
 ghost use Rattle.std.specs.Prelude.{◌≡◌, IfOk};
+ghost use Rattle.std.proofs.Common.{rules};
 
 use crate::containers::{Closing, Grant};
-use crate::duplicate::{Duplicate, NoMemory};
+use crate::duplicate::Duplicate;
 use crate::ids::{AppId, ContainerId};
 use crate::items::Items;
 use crate::texts::Text;
@@ -15,7 +16,7 @@ pub enum AclOp {
 
 /// A right that wasn't there: for what, the queue that was consulted first, and all the lists that were
 /// consulted.
-#[derive(Debug, Drop)]
+#[derive(Clone, Debug, Drop)]
 pub struct Denial {
     pub op: AclOp,
     pub queue: Text,
@@ -37,7 +38,7 @@ pub enum StateWord {
 
 /// What a client is told of an application: `attempts` is how many of its attempts are kept, `live` how
 /// many of its containers are in the book, and the text that of its kept end, else empty.
-#[derive(Debug, Drop)]
+#[derive(Clone, Debug, Drop)]
 pub struct Report {
     pub state: StateWord,
     pub user: Text,
@@ -49,7 +50,7 @@ pub struct Report {
 }
 
 /// The answer to a message.
-#[derive(Debug, Drop)]
+#[derive(Clone, Debug, Drop)]
 pub enum Reply {
     NotOpen,
     New(AppId),
@@ -90,82 +91,13 @@ pub enum Reply {
 }
 
 impl Duplicate for Denial {
-    fn copy(&self) -> Result<Denial, NoMemory> {
-        let queue = self.queue.copy()?;
-        let lists = self.lists.copy()?;
-        Ok(Denial {
-            op: self.op,
-            queue,
-            lists,
-        })
-    }
+    ghost same = { Prim.search (rules) };
 }
 
 impl Duplicate for Report {
-    fn copy(&self) -> Result<Report, NoMemory> {
-        let user = self.user.copy()?;
-        let queue = self.queue.copy()?;
-        let name = self.name.copy()?;
-        let text = self.text.copy()?;
-        Ok(Report {
-            state: self.state,
-            user,
-            queue,
-            name,
-            attempts: self.attempts,
-            live: self.live,
-            text,
-        })
-    }
+    ghost same = { Prim.search (rules) };
 }
 
 impl Duplicate for Reply {
-    fn copy(&self) -> Result<Reply, NoMemory> {
-        match self {
-            Reply::NotOpen => Ok(Reply::NotOpen),
-            Reply::New(id) => Ok(Reply::New(*id)),
-            Reply::Submitted => Ok(Reply::Submitted),
-            Reply::BadId => Ok(Reply::BadId),
-            Reply::Retired => Ok(Reply::Retired),
-            Reply::NoQueue => Ok(Reply::NoQueue),
-            Reply::Denied(denial) => Ok(Reply::Denied(denial.copy()?)),
-            Reply::TooLarge => Ok(Reply::TooLarge),
-            Reply::Full => Ok(Reply::Full),
-            Reply::Unknown => Ok(Reply::Unknown),
-            Reply::Report(report) => Ok(Reply::Report(report.copy()?)),
-            Reply::Killing => Ok(Reply::Killing),
-            Reply::AppEnded => Ok(Reply::AppEnded),
-            Reply::MasterRegistered => Ok(Reply::MasterRegistered),
-            Reply::Already => Ok(Reply::Already),
-            Reply::Gone => Ok(Reply::Gone),
-            Reply::Resync => Ok(Reply::Resync),
-            Reply::WrongId => Ok(Reply::WrongId),
-            Reply::NotRegistered => Ok(Reply::NotRegistered),
-            Reply::Finishing => Ok(Reply::Finishing),
-            Reply::Finished => Ok(Reply::Finished),
-            Reply::Allocated { id, grants, ended } => {
-                let grants = grants.copy()?;
-                let ended = ended.copy()?;
-                Ok(Reply::Allocated {
-                    id: *id,
-                    grants,
-                    ended,
-                })
-            }
-            Reply::NodeRegistered { turn, epoch } => Ok(Reply::NodeRegistered {
-                turn: *turn,
-                epoch: *epoch,
-            }),
-            Reply::Beat { id, launch, clean } => {
-                let launch = launch.copy()?;
-                let clean = clean.copy()?;
-                Ok(Reply::Beat {
-                    id: *id,
-                    launch,
-                    clean,
-                })
-            }
-            Reply::Ok => Ok(Reply::Ok),
-        }
-    }
+    ghost same = { Prim.search (rules) };
 }

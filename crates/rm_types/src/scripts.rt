@@ -1,6 +1,7 @@
 ghost use Rattle.std.specs.Prelude.{◌≡◌, IfOk};
+ghost use Rattle.std.proofs.Common.{rules};
 
-use crate::duplicate::{Duplicate, NoMemory};
+use crate::duplicate::Duplicate;
 use crate::items::Items;
 use crate::messages::Message;
 
@@ -14,48 +15,33 @@ pub enum Close {
 
 /// The messages that are delivered in a segment, in the script's order, and how it closes. Lost messages
 /// are not among them.
-#[derive(Debug, Drop)]
+#[derive(Clone, Debug, Drop)]
 pub struct Segment {
     pub messages: Items<Message>,
     pub close: Close,
 }
 
 /// A life of the manager: the stamp on its `start` line, and its segments.
-#[derive(Debug, Drop)]
+#[derive(Clone, Debug, Drop)]
 pub struct Life {
     pub stamp: u64,
     pub segments: Items<Segment>,
 }
 
 /// A script: its lives in order.
-#[derive(Debug, Drop)]
+#[derive(Clone, Debug, Drop)]
 pub struct Script {
     pub lives: Items<Life>,
 }
 
 impl Duplicate for Segment {
-    fn copy(&self) -> Result<Segment, NoMemory> {
-        let messages = self.messages.copy()?;
-        Ok(Segment {
-            messages,
-            close: self.close,
-        })
-    }
+    ghost same = { Prim.search (rules) };
 }
 
 impl Duplicate for Life {
-    fn copy(&self) -> Result<Life, NoMemory> {
-        let segments = self.segments.copy()?;
-        Ok(Life {
-            stamp: self.stamp,
-            segments,
-        })
-    }
+    ghost same = { Prim.search (rules) };
 }
 
 impl Duplicate for Script {
-    fn copy(&self) -> Result<Script, NoMemory> {
-        let lives = self.lives.copy()?;
-        Ok(Script { lives })
-    }
+    ghost same = { Prim.search (rules) };
 }

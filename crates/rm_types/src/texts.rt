@@ -7,9 +7,10 @@ ghost use Rattle.std.specs.Str.{bytes_eq};
 ghost use Rattle.rm_types.specs.Texts.{is_allowed, is_name_byte, is_queue_byte, least_length, greatest_length, first_not_allowed, fault_of};
 
 use crate::duplicate::{Duplicate, NoMemory};
-use std::alloc::Global;
+use std::alloc::{AllocError, Global};
 use std::hash::{Hash, Hasher};
 use std::marker::Model;
+use thiserror::Error;
 
 /// What a text is for, which says the bytes that may stand in it and how many.
 #[derive(Clone, Copy, Debug, PartialEq, Eq)]
@@ -27,12 +28,14 @@ pub enum TextKind {
 }
 
 /// Why a text wasn't read.
-#[derive(Clone, Copy, Debug, PartialEq, Eq)]
+#[derive(Clone, Copy, Debug, PartialEq, Eq, Error)]
 pub enum TextError {
     /// The bytes are no text of the kind. The place is the least of: the first byte that isn't allowed;
     /// the greatest length, where the text is longer; 0, where it is empty and mustn't be.
+    #[error("no text of its kind: byte {place} is wrong, or the end")]
     NotText { place: usize },
     /// No memory was found for the text.
+    #[error("out of memory")]
     Memory,
 }
 
@@ -99,11 +102,18 @@ impl Text {
     }
 }
 
-impl Duplicate for Text {
-    fn copy(&self) -> Result<Text, NoMemory> {
-        let list = self.list.clone()?;
-        Ok(Text { list })
+impl Clone for Text {
+    ghost is_clone = { λ x y. y ≡ x };
+
+    fn clone(&self) -> Result<Text, AllocError> {
+        Ok(Text {
+            list: self.list.clone()?,
+        })
     }
+}
+
+impl Duplicate for Text {
+    ghost same = { λ x y e. e };
 }
 
 /// Texts are equal where their bytes are, so that a text can be a map's key.
