@@ -3,13 +3,14 @@ use Rattle.std.specs.Prelude.{◌≡◌, ◌≤◌, ◌⊎◌, ℕ, List, length
 use Rattle.serde_json.specs.Data.{Data}
 use Rattle.serde_json.specs.Read.{read}
 use Rattle.rm_types.specs.declared.settings.Settings.{Settings}
+use Rattle.rm_cluster.specs.declared.limits.TheConstants.{GREATEST_LENGTH}
 use Rattle.rm_cluster.specs.Rules.{first_broken, IsSettingsOf}
 use Rattle.rm_cluster.specs.declared.clusters.ClusterError.{ClusterError}
 use Rattle.rm_cluster.specs.declared.clusters.ClusterError.TheVariants.{Refused, Memory}
 
 -- the greatest length of a cluster file, in bytes
 abbrev pub greatest_length : ℕ
-greatest_length = 1048576
+greatest_length = GREATEST_LENGTH
 
 -- the bytes are few enough, are UTF-8, and are read as this value
 pub record FileHolds (bytes : List ℕ) (file : Data) : Type 0 where

@@ -72,7 +72,7 @@ abbrev pub is_tree : List QueueSpec → Bool
 is_tree [] = false
 is_tree (first ∷ more) = bytes_eq first.name root_name && all_follow (first ∷ []) more
 
--- a list of 1 to 256 queues that are a tree
+-- a list of queues that are a tree, and no more than may be
 unfoldable pub queue_tree_of : Data → Option (List QueueSpec)
 queue_tree_of value =
     option_and_then (λ queues. if nat_le (length queues) most_queues && is_tree queues then Some queues else None)

@@ -25,7 +25,7 @@ pub record HasTexts (queue : QueueSpec) : Type 0 where
   pub submit : IsList queue.submit
   pub admin : IsList queue.admin
 
--- the queues are 1 to 256, have their texts, and are a tree
+-- the queues are not too many, have their texts, and are a tree
 pub record AreQueues (queues : List QueueSpec) : Type 0 where
   pub few : length queues ≤ most_queues
   pub texts : All HasTexts queues

@@ -1,6 +1,6 @@
 -- The rules of the cluster file, one for each place. They are this project's own, but that an application has two attempts
 -- and that a manager waits ten seconds after a restart, where nothing else is set, is after YARN's documentation.
-use Rattle.std.specs.Prelude.{◌≡◌, ℕ, List, [], ◌∷◌, Bool, false, not, Option, Some, None, is_some, option_map, option_and_then, find, if◌then◌else◌, codes}
+use Rattle.std.specs.Prelude.{◌≡◌, ℕ, List, [], ◌∷◌, Bool, false, not, Option, Some, None, is_some, option_map, find, codes}
 use Rattle.std.specs.List.{list_any}
 use Rattle.std.specs.Str.{bytes_eq}
 use Rattle.serde_json.specs.Data.{Data}
@@ -10,6 +10,7 @@ use Rattle.rm_types.specs.declared.settings.Settings.{Settings}
 use Rattle.rm_types.specs.declared.settings.UserGroups.{UserGroups}
 use Rattle.rm_types.specs.declared.texts.TextKind.TheVariants.{AclText}
 use Rattle.rm_types.specs.Limits.{greatest_attempts, greatest_memory_mb, greatest_vcores}
+use Rattle.rm_cluster.specs.declared.limits.TheConstants.{DEFAULT_APPS, DEFAULT_ATTEMPTS, DEFAULT_COMPLETED, DEFAULT_MEMORY_MB, DEFAULT_VCORES, DEFAULT_WAIT_MS}
 use Rattle.rm_cluster.specs.Limits.{longest_wait_ms, most_apps, most_completed}
 use Rattle.rm_cluster.specs.Queues.{queue_tree_of}
 use Rattle.rm_cluster.specs.Readings.{at_key, number_within, string_of, user_groups_of, has_only}
@@ -28,21 +29,21 @@ is_known key = list_any (bytes_eq key) known_keys
 unfoldable pub has_known_keys : Data → Bool
 has_known_keys = has_only is_known
 
--- the global bound on attempts: 1 to the most, and 2 where the key is absent
+-- the global bound on attempts: 1 to the most, and the default where the key is absent
 unfoldable pub max_attempts_of : Data → Option ℕ
-max_attempts_of = at_key (codes "max_attempts") (number_within 1 greatest_attempts) 2
+max_attempts_of = at_key (codes "max_attempts") (number_within 1 greatest_attempts) DEFAULT_ATTEMPTS
 
--- how many completed applications are remembered: 0 to the most, and 1000 where the key is absent
+-- how many completed applications are remembered: 0 to the most, and the default where the key is absent
 unfoldable pub max_completed_of : Data → Option ℕ
-max_completed_of = at_key (codes "max_completed") (number_within 0 most_completed) 1000
+max_completed_of = at_key (codes "max_completed") (number_within 0 most_completed) DEFAULT_COMPLETED
 
--- how many applications may run: 1 to the most, and 10000 where the key is absent
+-- how many applications may run: 1 to the most, and the default where the key is absent
 unfoldable pub max_apps_of : Data → Option ℕ
-max_apps_of = at_key (codes "max_apps") (number_within 1 most_apps) 10000
+max_apps_of = at_key (codes "max_apps") (number_within 1 most_apps) DEFAULT_APPS
 
--- how long a recovered manager waits, in milliseconds: 0 to the longest, and 10000 where the key is absent
+-- how long a recovered manager waits, in milliseconds: 0 to the longest, and the default where the key is absent
 unfoldable pub wait_ms_of : Data → Option ℕ
-wait_ms_of = at_key (codes "wait_ms") (number_within 0 longest_wait_ms) 10000
+wait_ms_of = at_key (codes "wait_ms") (number_within 0 longest_wait_ms) DEFAULT_WAIT_MS
 
 -- whether rights are checked: false where the key is absent
 unfoldable pub acl_enable_of : Data → Option Bool
@@ -52,13 +53,13 @@ acl_enable_of = at_key (codes "acl_enable") as_bool false
 unfoldable pub admin_acl_of : Data → Option (List ℕ)
 admin_acl_of = at_key (codes "admin_acl") (string_of AclText) (codes "*")
 
--- the memory of the greatest container, in MB: 1 to the most, and 8192 where the key is absent
+-- the memory of the greatest container, in MB: 1 to the most, and the default where the key is absent
 unfoldable pub max_memory_of : Data → Option ℕ
-max_memory_of = at_key (codes "max_memory_mb") (number_within 1 greatest_memory_mb) 8192
+max_memory_of = at_key (codes "max_memory_mb") (number_within 1 greatest_memory_mb) DEFAULT_MEMORY_MB
 
--- the cores of the greatest container: 1 to the most, and 8 where the key is absent
+-- the cores of the greatest container: 1 to the most, and the default where the key is absent
 unfoldable pub max_vcores_of : Data → Option ℕ
-max_vcores_of = at_key (codes "max_vcores") (number_within 1 greatest_vcores) 8
+max_vcores_of = at_key (codes "max_vcores") (number_within 1 greatest_vcores) DEFAULT_VCORES
 
 -- the groups of users: none where the key is absent
 unfoldable pub groups_of : Data → Option (List UserGroups)

@@ -4,6 +4,7 @@ ghost use Rattle.rm_cluster.specs.Clusters.{IsCluster, IsNoCluster, IsBrokenBy};
 ghost use Rattle.rm_cluster.specs.Ranges.{IsInRange};
 ghost use Rattle.rm_cluster.specs.Rules.{IsSettingsOf};
 
+use crate::limits::GREATEST_LENGTH;
 use crate::rules::{
     acl_enable_of, admin_acl_of, groups_of, has_known_keys, max_apps_of, max_attempts_of,
     max_completed_of, max_memory_of, max_vcores_of, queues_of, wait_ms_of,
@@ -11,19 +12,19 @@ use crate::rules::{
 use rm_types::{NoMemory, Resource, Settings};
 use serde_json::Value;
 use std::alloc::Global;
-
-/// The greatest length of a cluster file, in bytes.
-pub(crate) const GREATEST_LENGTH: usize = 1_048_576;
+use thiserror::Error;
 
 /// Why a cluster file wasn't read.
-#[derive(Clone, Copy, Debug, PartialEq, Eq)]
+#[derive(Clone, Copy, Debug, PartialEq, Eq, Error)]
 pub enum ClusterError {
     /// The bytes break a rule of the cluster file. The place is that of the first rule that is broken: 1 where
     /// they are too many or no JSON value, 2 where that is no object or has an unknown key, and from 3 to 12 the
     /// key whose value is out of its range, in the order `max_attempts`, `max_completed`, `max_apps`, `wait_ms`,
     /// `acl_enable`, `admin_acl`, `max_memory_mb`, `max_vcores`, `groups`, `queues`.
+    #[error("the cluster file is refused at place {place}")]
     Refused { place: u32 },
     /// No memory was found for the settings.
+    #[error("out of memory")]
     Memory,
 }
 

@@ -1,10 +1,11 @@
-use crate::clusters::GREATEST_LENGTH;
-use crate::queues::{MOST_DOTS, MOST_QUEUES};
-use crate::rules::{LONGEST_WAIT_MS, MOST_APPS, MOST_COMPLETED};
+use crate::limits::{
+    GREATEST_LENGTH, LONGEST_WAIT_MS, MOST_APPS, MOST_COMPLETED, MOST_DOTS, MOST_QUEUES,
+};
 use rm_types::{GREATEST_ATTEMPTS, GREATEST_MEMORY_MB, GREATEST_VCORES};
-use serde_json::{Error, Value};
+use serde_json::Value;
 use std::fmt;
 use std::fmt::InlineText;
+use thiserror::Error;
 
 /// How many bytes of what is at fault are told at most.
 const MOST_TOLD: usize = 48;
@@ -95,39 +96,20 @@ impl fmt::Display for Key {
 }
 
 /// What is wrong with the groups of a file.
-#[derive(Clone, Copy, Debug)]
+#[derive(Clone, Copy, Debug, Error)]
 pub enum GroupsFault {
     /// They are no object.
+    #[error("an object of names, each with a list of names, found {found}")]
     NoObject { found: Excerpt },
     /// The user is no name.
+    #[error("a user of 1 to 64 letters, digits, `_`, `.` and `-`, found `{user}`")]
     User { user: Excerpt },
     /// The user has no list.
+    #[error("a list of names for the user `{user}`, found {found}")]
     NoList { user: Excerpt, found: Excerpt },
     /// A group of the user is no name.
+    #[error("groups of 1 to 64 letters, digits, `_`, `.` and `-` for the user `{user}`, found {found}")]
     Group { user: Excerpt, found: Excerpt },
-}
-
-impl fmt::Display for GroupsFault {
-    fn fmt<W: fmt::Write>(&self, f: &mut fmt::Formatter<W>) -> fmt::Result {
-        match self {
-            GroupsFault::NoObject { found } => write!(
-                f,
-                "an object of names, each with a list of names, found {found}"
-            ),
-            GroupsFault::User { user } => write!(
-                f,
-                "a user of 1 to 64 letters, digits, `_`, `.` and `-`, found `{user}`"
-            ),
-            GroupsFault::NoList { user, found } => write!(
-                f,
-                "a list of names for the user `{user}`, found {found}"
-            ),
-            GroupsFault::Group { user, found } => write!(
-                f,
-                "groups of 1 to 64 letters, digits, `_`, `.` and `-` for the user `{user}`, found {found}"
-            ),
-        }
-    }
 }
 
 /// A list of a queue.
@@ -148,180 +130,135 @@ impl QueueList {
 }
 
 /// What is wrong with the queues of a file. A place in their list is counted from 1.
-#[derive(Clone, Copy, Debug)]
+#[derive(Clone, Copy, Debug, Error)]
 pub enum QueuesFault {
     /// They are no list.
+    #[error("a list of objects with a `name` and maybe `submit` and `admin`, found {found}")]
     NoList {
         found: Excerpt,
     },
     /// There is none.
+    #[error("1 to {} queues, found none", MOST_QUEUES)]
     None,
     /// There are too many.
+    #[error("1 to {} queues, found {count}", MOST_QUEUES)]
     TooMany {
         count: usize,
     },
     /// The queue at the place is no object.
+    #[error("an object as queue {place} of the list, found {found}")]
     NoObject {
         place: usize,
         found: Excerpt,
     },
     /// It has a key of no queue.
+    #[error("no key but `name`, `submit` and `admin` in queue {place} of the list, found `{key}`")]
     UnknownKey {
         place: usize,
         key: Excerpt,
     },
     /// It has no name.
+    #[error("a `name` in queue {place} of the list, found none")]
     NoName {
         place: usize,
     },
     /// Its name is no queue's.
+    #[error("1 to 128 lower-case letters, digits, `_`, `-` and `.` as the `name` of queue {place} of the list, found {found}")]
     Name {
         place: usize,
         found: Excerpt,
     },
     /// A list of the queue of this name is no access list.
+    #[error("a string of at most 512 printable bytes as `{}` of the queue `{name}`, found {found}", .list.key())]
     List {
         name: Excerpt,
         list: QueueList,
         found: Excerpt,
     },
     /// The first queue isn't the root.
+    #[error("`root` as the first queue, found `{name}`")]
     NoRoot {
         name: Excerpt,
     },
     /// The queue's parent doesn't stand before it.
+    #[error("the parent of the queue `{name}` before it, and one part more in its name")]
     NoParent {
         name: Excerpt,
     },
     /// The queue stands twice.
+    #[error("the queue `{name}` once")]
     Twice {
         name: Excerpt,
     },
     /// The queue's name has too many parts.
+    #[error("at most {} parts in the name of the queue `{name}`", MOST_DOTS + 1)]
     Deep {
         name: Excerpt,
     },
 }
 
-impl fmt::Display for QueuesFault {
-    fn fmt<W: fmt::Write>(&self, f: &mut fmt::Formatter<W>) -> fmt::Result {
-        match self {
-            QueuesFault::NoList { found } => write!(
-                f,
-                "a list of objects with a `name` and maybe `submit` and `admin`, found {found}"
-            ),
-            QueuesFault::None => write!(f, "1 to {MOST_QUEUES} queues, found none"),
-            QueuesFault::TooMany { count } => {
-                write!(f, "1 to {MOST_QUEUES} queues, found {count}")
-            }
-            QueuesFault::NoObject { place, found } => write!(
-                f,
-                "an object as queue {place} of the list, found {found}"
-            ),
-            QueuesFault::UnknownKey { place, key } => write!(
-                f,
-                "no key but `name`, `submit` and `admin` in queue {place} of the list, found `{key}`"
-            ),
-            QueuesFault::NoName { place } => write!(
-                f,
-                "a `name` in queue {place} of the list, found none"
-            ),
-            QueuesFault::Name { place, found } => write!(
-                f,
-                "1 to 128 lower-case letters, digits, `_`, `-` and `.` as the `name` of queue {place} of the list, found {found}"
-            ),
-            QueuesFault::List { name, list, found } => write!(
-                f,
-                "a string of at most 512 printable bytes as `{}` of the queue `{name}`, found {found}",
-                list.key()
-            ),
-            QueuesFault::NoRoot { name } => {
-                write!(f, "`root` as the first queue, found `{name}`")
-            }
-            QueuesFault::NoParent { name } => write!(
-                f,
-                "the parent of the queue `{name}` before it, and one part more in its name"
-            ),
-            QueuesFault::Twice { name } => write!(f, "the queue `{name}` once"),
-            QueuesFault::Deep { name } => write!(
-                f,
-                "at most {} parts in the name of the queue `{name}`",
-                MOST_DOTS + 1
-            ),
-        }
-    }
-}
-
 /// Why a cluster file is refused.
-#[derive(Clone, Copy, Debug)]
+#[derive(Clone, Copy, Debug, Error)]
 pub enum ClusterFault {
     /// It has too many bytes.
+    #[error("expected the file: at most {} bytes, found more", GREATEST_LENGTH)]
     TooLong,
     /// It is no JSON value.
-    Json(Error),
+    #[error("expected the file: one JSON value, found {0}")]
+    Json(serde_json::Error),
     /// The value is no object.
+    #[error("expected the file: an object, found {found}")]
     NoObject { found: Excerpt },
     /// A key is none of the file's.
+    #[error("expected {}, found `{key}`", rule_at(&2))]
     UnknownKey { key: Excerpt },
     /// The value at a key is another than it may be.
+    #[error("expected {key}, found {found}")]
     Key { key: Key, found: Excerpt },
+    #[error("expected groups: {0}")]
     Groups(GroupsFault),
+    #[error("expected queues: {0}")]
     Queues(QueuesFault),
     /// The bytes don't tell it, or there was no memory to find it out: the rule at the place is broken.
+    #[error("expected {}", rule_at(.place))]
     Untold { place: u32 },
 }
 
-/// What may stand at a place.
-fn rule_text(place: u32) -> &'static str {
-    match place {
-        1 => "the file: at most 1048576 bytes, which are one JSON value",
-        2 =>
-            "the file: an object, with no key but `max_attempts`, `max_completed`, `max_apps`, `wait_ms`, `acl_enable`, `admin_acl`, `max_memory_mb`, `max_vcores`, `groups` and `queues`",
-        11 => "groups: an object of names, each with a list of names",
-        12 =>
-            "queues: a list of objects with a `name` and maybe `submit` and `admin`; the first is `root`, and each other one is a part below one before it",
-        _ => "what docs/FORMATS.md says of that place",
-    }
+/// The rule at a place, as a text that says what may stand there.
+#[derive(Clone, Copy)]
+struct Rule {
+    place: u32,
 }
 
-/// The key whose rule has a place, where its value is no list and no object.
-fn key_at(place: u32) -> Option<Key> {
-    match place {
-        3 => Some(Key::MaxAttempts),
-        4 => Some(Key::MaxCompleted),
-        5 => Some(Key::MaxApps),
-        6 => Some(Key::WaitMs),
-        7 => Some(Key::AclEnable),
-        8 => Some(Key::AdminAcl),
-        9 => Some(Key::MaxMemory),
-        10 => Some(Key::MaxVcores),
-        _ => None,
-    }
+fn rule_at(place: &u32) -> Rule {
+    Rule { place: *place }
 }
 
-impl fmt::Display for ClusterFault {
+impl fmt::Display for Rule {
     fn fmt<W: fmt::Write>(&self, f: &mut fmt::Formatter<W>) -> fmt::Result {
-        match self {
-            ClusterFault::TooLong => write!(
+        match self.place {
+            1 => write!(
                 f,
-                "expected the file: at most {GREATEST_LENGTH} bytes, found more"
+                "the file: at most {GREATEST_LENGTH} bytes, which are one JSON value"
             ),
-            ClusterFault::Json(error) => {
-                write!(f, "expected the file: one JSON value, found {error}")
-            }
-            ClusterFault::NoObject { found } => {
-                write!(f, "expected the file: an object, found {found}")
-            }
-            ClusterFault::UnknownKey { key } => {
-                write!(f, "expected {}, found `{key}`", rule_text(2))
-            }
-            ClusterFault::Key { key, found } => write!(f, "expected {key}, found {found}"),
-            ClusterFault::Groups(fault) => write!(f, "expected groups: {fault}"),
-            ClusterFault::Queues(fault) => write!(f, "expected queues: {fault}"),
-            ClusterFault::Untold { place } => match key_at(*place) {
-                Some(key) => write!(f, "expected {key}"),
-                None => write!(f, "expected {}", rule_text(*place)),
-            },
+            2 => write!(
+                f,
+                "the file: an object, with no key but `max_attempts`, `max_completed`, `max_apps`, `wait_ms`, `acl_enable`, `admin_acl`, `max_memory_mb`, `max_vcores`, `groups` and `queues`"
+            ),
+            3 => write!(f, "{}", Key::MaxAttempts),
+            4 => write!(f, "{}", Key::MaxCompleted),
+            5 => write!(f, "{}", Key::MaxApps),
+            6 => write!(f, "{}", Key::WaitMs),
+            7 => write!(f, "{}", Key::AclEnable),
+            8 => write!(f, "{}", Key::AdminAcl),
+            9 => write!(f, "{}", Key::MaxMemory),
+            10 => write!(f, "{}", Key::MaxVcores),
+            11 => write!(f, "groups: an object of names, each with a list of names"),
+            12 => write!(
+                f,
+                "queues: a list of objects with a `name` and maybe `submit` and `admin`; the first is `root`, and each other one is a part below one before it"
+            ),
+            _ => write!(f, "what docs/FORMATS.md says of that place"),
         }
     }
 }

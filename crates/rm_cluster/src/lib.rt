@@ -12,6 +12,7 @@ mod clusters;
 mod faults;
 mod groups;
 mod laws;
+mod limits;
 mod queues;
 mod readings;
 mod reasons;
@@ -20,4 +21,8 @@ mod rules;
 pub use clusters::{ClusterError, read_cluster};
 pub use faults::{ClusterFault, Excerpt, GroupsFault, Key, QueueList, QueuesFault};
 pub use laws::one_answer;
+pub use limits::{
+    DEFAULT_APPS, DEFAULT_ATTEMPTS, DEFAULT_COMPLETED, DEFAULT_MEMORY_MB, DEFAULT_VCORES,
+    DEFAULT_WAIT_MS,
+};
 pub use reasons::why;

@@ -5,18 +5,13 @@ ghost use Rattle.serde_json.specs.View.{view, items_view};
 ghost use Rattle.rm_types.specs.Rights.{is_below, is_queue};
 ghost use Rattle.rm_cluster.specs.Queues.{has_queue_keys, is_child, is_part, is_queue_key, is_tree, list_at, may_follow, name_of, queue_list_of, queue_of, queue_tree_of, some_list_of};
 
+use crate::limits::{MOST_DOTS, MOST_QUEUES};
 use crate::readings::string_of;
 use rm_types::{Items, NoMemory, QueueSpec, Text, TextKind};
 use serde_json::{Map, Value};
 use std::alloc::Global;
 
-/// The greatest number of queues.
-pub(crate) const MOST_QUEUES: usize = 256;
-
-/// The greatest number of dots in a name: its parts are one more.
-pub(crate) const MOST_DOTS: usize = 7;
-
-/// The queues of a cluster file: a list of 1 to 256 objects that are a tree.
+/// The queues of a cluster file: a list of objects that are a tree, and no more than may be.
 #[tactic(auto, unfolding(crate::specs::Queues::queue_tree_of))]
 pub(crate) fn queue_tree_of(
     alloc: Global,

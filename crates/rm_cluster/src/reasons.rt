@@ -2,12 +2,11 @@ ghost use Rattle.std.specs.Prelude.{◌≡◌, ◌<◌, ◌↔◌, IfOk, length}
 ghost use Rattle.rm_cluster.specs.Clusters.{HoldsNone, greatest_length};
 ghost use Rattle.rm_cluster.specs.Faults.{IsJson, IsOfValue};
 
-use crate::clusters::GREATEST_LENGTH;
 use crate::faults::{ClusterFault, Excerpt, GroupsFault, Key, QueueList, QueuesFault};
 use crate::groups::user_of;
+use crate::limits::{GREATEST_LENGTH, MOST_QUEUES};
 use crate::queues::{
-    MOST_QUEUES, any_parent, has_queue_keys, is_queue, is_queue_key, list_at, may_follow, name_of,
-    queue_list_of,
+    any_parent, has_queue_keys, is_queue, is_queue_key, list_at, may_follow, name_of, queue_list_of,
 };
 use crate::readings::{string_of, text_of};
 use crate::rules::{

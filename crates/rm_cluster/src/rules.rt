@@ -5,6 +5,10 @@ ghost use Rattle.serde_json.specs.View.{view};
 ghost use Rattle.rm_cluster.specs.Rules.{is_known, has_known_keys, max_attempts_of, max_completed_of, max_apps_of, wait_ms_of, acl_enable_of, admin_acl_of, max_memory_of, max_vcores_of, groups_of, queues_of, bare_queue, default_queues};
 
 use crate::groups::user_groups_of;
+use crate::limits::{
+    DEFAULT_APPS, DEFAULT_ATTEMPTS, DEFAULT_COMPLETED, DEFAULT_MEMORY_MB, DEFAULT_VCORES,
+    DEFAULT_WAIT_MS, LONGEST_WAIT_MS, MOST_APPS, MOST_COMPLETED,
+};
 use crate::queues::queue_tree_of;
 use crate::readings::{number_at, string_of};
 use rm_types::{
@@ -13,15 +17,6 @@ use rm_types::{
 };
 use serde_json::{Map, Value};
 use std::alloc::Global;
-
-/// How many completed applications are remembered at most.
-pub(crate) const MOST_COMPLETED: u32 = 10_000;
-
-/// How many applications may run at most.
-pub(crate) const MOST_APPS: u32 = 100_000;
-
-/// How long a recovered manager waits at most, in milliseconds.
-pub(crate) const LONGEST_WAIT_MS: u32 = 1_000_000_000;
 
 #[tactic(auto, unfolding(crate::specs::Rules::is_known))]
 pub(crate) fn is_known(key: &str) -> bool
@@ -64,7 +59,7 @@ pub(crate) fn has_known_keys(file: &Value) -> bool
 pub(crate) fn max_attempts_of(file: &Value) -> Option<u32>
     ensures { result ≡ max_attempts_of (view file.now) }
 {
-    number_at(file, "max_attempts", 1, GREATEST_ATTEMPTS, 2)
+    number_at(file, "max_attempts", 1, GREATEST_ATTEMPTS, DEFAULT_ATTEMPTS)
 }
 
 /// How many completed applications are remembered.
@@ -72,7 +67,7 @@ pub(crate) fn max_attempts_of(file: &Value) -> Option<u32>
 pub(crate) fn max_completed_of(file: &Value) -> Option<u32>
     ensures { result ≡ max_completed_of (view file.now) }
 {
-    number_at(file, "max_completed", 0, MOST_COMPLETED, 1000)
+    number_at(file, "max_completed", 0, MOST_COMPLETED, DEFAULT_COMPLETED)
 }
 
 /// How many applications may run.
@@ -80,7 +75,7 @@ pub(crate) fn max_completed_of(file: &Value) -> Option<u32>
 pub(crate) fn max_apps_of(file: &Value) -> Option<u32>
     ensures { result ≡ max_apps_of (view file.now) }
 {
-    number_at(file, "max_apps", 1, MOST_APPS, 10_000)
+    number_at(file, "max_apps", 1, MOST_APPS, DEFAULT_APPS)
 }
 
 /// How long a recovered manager waits, in milliseconds.
@@ -88,7 +83,7 @@ pub(crate) fn max_apps_of(file: &Value) -> Option<u32>
 pub(crate) fn wait_ms_of(file: &Value) -> Option<u32>
     ensures { result ≡ wait_ms_of (view file.now) }
 {
-    number_at(file, "wait_ms", 0, LONGEST_WAIT_MS, 10_000)
+    number_at(file, "wait_ms", 0, LONGEST_WAIT_MS, DEFAULT_WAIT_MS)
 }
 
 /// Whether rights are checked.
@@ -118,7 +113,13 @@ pub(crate) fn admin_acl_of(alloc: Global, file: &Value) -> Result<Option<Text>, 
 pub(crate) fn max_memory_of(file: &Value) -> Option<u32>
     ensures { result ≡ max_memory_of (view file.now) }
 {
-    number_at(file, "max_memory_mb", 1, GREATEST_MEMORY_MB, 8192)
+    number_at(
+        file,
+        "max_memory_mb",
+        1,
+        GREATEST_MEMORY_MB,
+        DEFAULT_MEMORY_MB,
+    )
 }
 
 /// The cores of the greatest container.
@@ -126,7 +127,7 @@ pub(crate) fn max_memory_of(file: &Value) -> Option<u32>
 pub(crate) fn max_vcores_of(file: &Value) -> Option<u32>
     ensures { result ≡ max_vcores_of (view file.now) }
 {
-    number_at(file, "max_vcores", 1, GREATEST_VCORES, 8)
+    number_at(file, "max_vcores", 1, GREATEST_VCORES, DEFAULT_VCORES)
 }
 
 /// The groups of users.

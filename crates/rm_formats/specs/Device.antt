@@ -1,14 +1,15 @@
 -- What a device holds: the payloads of the journal that its bytes are, and the operations whose frames these are.
-use Rattle.std.specs.Prelude.{◌≡◌, ◌≢◌, ◌≤◌, ◌+◌, ℕ, List, [], ◌∷◌, ◌++◌, length, map, All, flat_map, None}
+use Rattle.std.specs.Prelude.{◌≡◌, ◌≢◌, ◌≤◌, ℕ, List, [], ◌∷◌, ◌++◌, length, map, All, flat_map, None}
 use Rattle.std.specs.Int.{w32, to_be_bytes}
 use Rattle.rm_types.specs.declared.operations.Op.{Op}
 use Rattle.rm_formats.specs.Frames.{frame}
 use Rattle.rm_types.specs.Ranges.{IsOperation}
 use Rattle.rm_types.specs.Records.{stray}
+use Rattle.rm_formats.specs.declared.TheConstants.{MOST_PAYLOAD}
 
 -- A payload has 1 to 1,024 bytes.
 abbrev pub IsPayload : List ℕ → Type 0
-IsPayload payload = (1 ≤ length payload) × (length payload ≤ 1024)
+IsPayload payload = (1 ≤ length payload) × (length payload ≤ MOST_PAYLOAD)
 
 -- A payload behind its length, which stands in 4 bytes, the highest first.
 abbrev pub sized : List ℕ → List ℕ

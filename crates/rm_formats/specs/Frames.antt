@@ -9,6 +9,9 @@ use Rattle.rm_types.specs.declared.operations.How.TheVariants.{Finished, Failed,
 use Rattle.rm_types.specs.declared.operations.Op.{Op}
 use Rattle.rm_types.specs.declared.operations.Op.TheVariants.{Epoch, App, Attempt, AttemptEnd, AppEnd, Remove}
 use Rattle.rm_types.specs.declared.operations.Submission.{Submission}
+use Rattle.rm_formats.specs.declared.codes.FrameKind.{FrameKind}
+use Rattle.rm_formats.specs.declared.codes.FrameKind.TheVariants as kind
+use Rattle.rm_formats.specs.declared.codes.TheConstants.{EPOCH_CODE, APP_CODE, ATTEMPT_CODE, ATTEMPT_END_CODE, APP_END_CODE, REMOVE_CODE, FINISHED_CODE, FAILED_CODE, KILLED_CODE}
 
 -- a text: its length in 2 bytes, and its bytes
 abbrev pub text_frame : List ℕ → List ℕ
@@ -28,9 +31,9 @@ master_frame master = to_be_bytes w32 master.epoch ++ to_be_bytes w64 master.seq
 
 -- how something ended, as one byte
 abbrev pub how_code : How → ℕ
-how_code Finished = 1
-how_code Failed = 2
-how_code Killed = 3
+how_code Finished = FINISHED_CODE
+how_code Failed = FAILED_CODE
+how_code Killed = KILLED_CODE
 
 -- what was submitted: three texts, the master's memory, its cores and the bound on attempts in 4 bytes each, and a text
 abbrev pub submission_frame : Submission → List ℕ
@@ -39,11 +42,20 @@ submission_frame submission =
     ++ (to_be_bytes w32 submission.master.memory_mb ++ (to_be_bytes w32 submission.master.vcores
     ++ (to_be_bytes w32 submission.attempts ++ text_frame submission.modify)))))
 
+-- the kind of a frame, as one byte
+abbrev pub kind_code : FrameKind → ℕ
+kind_code kind.Epoch = EPOCH_CODE
+kind_code kind.App = APP_CODE
+kind_code kind.Attempt = ATTEMPT_CODE
+kind_code kind.AttemptEnd = ATTEMPT_END_CODE
+kind_code kind.AppEnd = APP_END_CODE
+kind_code kind.Remove = REMOVE_CODE
+
 -- an operation: a byte for its kind, and its fields in order; a number's highest byte comes first
 abbrev pub frame : Op → List ℕ
-frame (Epoch next stamp) = 1 ∷ (to_be_bytes w32 next ++ to_be_bytes w64 stamp)
-frame (App id submission) = 2 ∷ (app_id_frame id ++ submission_frame submission)
-frame (Attempt id master node) = 3 ∷ (attempt_id_frame id ++ (master_frame master ++ text_frame node))
-frame (AttemptEnd id how text) = 4 ∷ (attempt_id_frame id ++ (how_code how ∷ text_frame text))
-frame (AppEnd id how text) = 5 ∷ (app_id_frame id ++ (how_code how ∷ text_frame text))
-frame (Remove id) = 6 ∷ app_id_frame id
+frame (Epoch next stamp) = kind_code kind.Epoch ∷ (to_be_bytes w32 next ++ to_be_bytes w64 stamp)
+frame (App id submission) = kind_code kind.App ∷ (app_id_frame id ++ submission_frame submission)
+frame (Attempt id master node) = kind_code kind.Attempt ∷ (attempt_id_frame id ++ (master_frame master ++ text_frame node))
+frame (AttemptEnd id how text) = kind_code kind.AttemptEnd ∷ (attempt_id_frame id ++ (how_code how ∷ text_frame text))
+frame (AppEnd id how text) = kind_code kind.AppEnd ∷ (app_id_frame id ++ (how_code how ∷ text_frame text))
+frame (Remove id) = kind_code kind.Remove ∷ app_id_frame id

@@ -4,3 +4,22 @@
 //!
 //! It stands on `rm_types`, whose values it speaks of, and knows nothing of what the manager does.
 #![tactic(auto)]
+
+mod codes;
+
+pub use codes::{
+    APP_CODE, APP_END_CODE, ATTEMPT_CODE, ATTEMPT_END_CODE, EPOCH_CODE, FAILED_CODE, FINISHED_CODE,
+    FrameKind, KILLED_CODE, REMOVE_CODE,
+};
+
+/// The most bytes of a script or a schedule.
+pub const MOST_FILE_BYTES: usize = 16_777_216;
+
+/// The longest payload of a record.
+pub const MOST_PAYLOAD: usize = 1024;
+
+/// How many bytes stand before a record's payload: the gate, and the payload's length in 4 bytes.
+pub const RECORD_HEAD: u64 = 5;
+
+/// How many bytes a record needs beside its payload: those before it, and the next gate.
+pub const RECORD_FRAME: u64 = RECORD_HEAD + 1;

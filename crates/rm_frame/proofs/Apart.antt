@@ -19,6 +19,7 @@ use Rattle.rm_formats.specs.Frames.{frame, text_frame, app_id_frame, attempt_id_
 use Rattle.rm_types.specs.Ranges.{IsOperation, IsText, IsSubmission}
 use Rattle.rm_types.specs.Ranges.{IsAppId, IsAttemptId, IsContainerId}
 use Rattle.rm_types.specs.Texts.{fault_of, first_not_allowed, least_length, greatest_length}
+use Rattle.rm_formats.specs.declared.codes.TheConstants.{EPOCH_CODE, APP_CODE, ATTEMPT_CODE, ATTEMPT_END_CODE, APP_END_CODE, REMOVE_CODE}
 use Rattle.rm_frame.specs.Framed.{IsFramed}
 use Rattle.rm_frame.specs.Reads.{ReadsOp}
 use Rattle.rm_frame.proofs.Numbers.{wide16, wide32, wide64, number_alike}
@@ -160,33 +161,33 @@ submission_alike a b x y is_a is_b e =
 
 pub frames_alike : (a b : Op) (x y : List ℕ) → IsOperation a → IsOperation b → frame a ++ x ≡ frame b ++ y → (a ≡ b) × (x ≡ y)
 frames_alike (Epoch next stamp) (Epoch next2 stamp2) x y can_a can_b e =
-    let h = heads_alike 1 1 (to_be_bytes w32 next ++ (to_be_bytes w64 stamp ++ x)) (to_be_bytes w32 next2 ++ (to_be_bytes w64 stamp2 ++ y)) e in
+    let h = heads_alike EPOCH_CODE EPOCH_CODE (to_be_bytes w32 next ++ (to_be_bytes w64 stamp ++ x)) (to_be_bytes w32 next2 ++ (to_be_bytes w64 stamp2 ++ y)) e in
     let n = number32_alike next next2 (to_be_bytes w64 stamp ++ x) (to_be_bytes w64 stamp2 ++ y) (omega (arith, can_a.0)) (omega (arith, can_b.0)) h.1 in
     let s = number64_alike stamp stamp2 x y (omega (arith, can_a.1)) (omega (arith, can_b.1)) n.1 in
     (ap (λ (k : ℕ). Epoch k stamp) n.0 ∙ ap (Epoch next2) s.0, s.1)
 frames_alike (App id submission) (App id2 submission2) x y can_a can_b e =
-    let h = heads_alike 2 2 (app_id_frame id ++ (submission_frame submission ++ x)) (app_id_frame id2 ++ (submission_frame submission2 ++ y)) e in
+    let h = heads_alike APP_CODE APP_CODE (app_id_frame id ++ (submission_frame submission ++ x)) (app_id_frame id2 ++ (submission_frame submission2 ++ y)) e in
     let i = app_id_alike id id2 (submission_frame submission ++ x) (submission_frame submission2 ++ y) can_a.0 can_b.0 h.1 in
     let s = submission_alike submission submission2 x y can_a.1 can_b.1 i.1 in
     (ap (λ (k : AppId). App k submission) i.0 ∙ ap (App id2) s.0, s.1)
 frames_alike (Attempt id master node) (Attempt id2 master2 node2) x y can_a can_b e =
-    let h = heads_alike 3 3 (attempt_id_frame id ++ (master_frame master ++ (text_frame node ++ x))) (attempt_id_frame id2 ++ (master_frame master2 ++ (text_frame node2 ++ y))) e in
+    let h = heads_alike ATTEMPT_CODE ATTEMPT_CODE (attempt_id_frame id ++ (master_frame master ++ (text_frame node ++ x))) (attempt_id_frame id2 ++ (master_frame master2 ++ (text_frame node2 ++ y))) e in
     let i = attempt_id_alike id id2 (master_frame master ++ (text_frame node ++ x)) (master_frame master2 ++ (text_frame node2 ++ y)) can_a.0 can_b.0 h.1 in
     let m = master_alike master master2 (text_frame node ++ x) (text_frame node2 ++ y) can_a.1.container can_b.1.container (can_a.1.attempt ∙ i.0 ∙ sym can_b.1.attempt) i.1 in
     let t = text_alike Node node node2 x y can_a.2 can_b.2 m.1 in
     (ap (λ (k : AttemptId). Attempt k master node) i.0 ∙ ap (λ (k : ContainerId). Attempt id2 k node) m.0 ∙ ap (Attempt id2 master2) t.0, t.1)
 frames_alike (AttemptEnd id how text) (AttemptEnd id2 how2 text2) x y can_a can_b e =
-    let h = heads_alike 4 4 (attempt_id_frame id ++ (how_code how ∷ (text_frame text ++ x))) (attempt_id_frame id2 ++ (how_code how2 ∷ (text_frame text2 ++ y))) e in
+    let h = heads_alike ATTEMPT_END_CODE ATTEMPT_END_CODE (attempt_id_frame id ++ (how_code how ∷ (text_frame text ++ x))) (attempt_id_frame id2 ++ (how_code how2 ∷ (text_frame text2 ++ y))) e in
     let i = attempt_id_alike id id2 (how_code how ∷ (text_frame text ++ x)) (how_code how2 ∷ (text_frame text2 ++ y)) can_a.0 can_b.0 h.1 in
     let t = end_alike how how2 text text2 x y can_a.1 can_b.1 i.1 in
     (ap (λ (k : AttemptId). AttemptEnd k how text) i.0 ∙ ap (λ (k : How). AttemptEnd id2 k text) t.0 ∙ ap (AttemptEnd id2 how2) t.1, t.2)
 frames_alike (AppEnd id how text) (AppEnd id2 how2 text2) x y can_a can_b e =
-    let h = heads_alike 5 5 (app_id_frame id ++ (how_code how ∷ (text_frame text ++ x))) (app_id_frame id2 ++ (how_code how2 ∷ (text_frame text2 ++ y))) e in
+    let h = heads_alike APP_END_CODE APP_END_CODE (app_id_frame id ++ (how_code how ∷ (text_frame text ++ x))) (app_id_frame id2 ++ (how_code how2 ∷ (text_frame text2 ++ y))) e in
     let i = app_id_alike id id2 (how_code how ∷ (text_frame text ++ x)) (how_code how2 ∷ (text_frame text2 ++ y)) can_a.0 can_b.0 h.1 in
     let t = end_alike how how2 text text2 x y can_a.1 can_b.1 i.1 in
     (ap (λ (k : AppId). AppEnd k how text) i.0 ∙ ap (λ (k : How). AppEnd id2 k text) t.0 ∙ ap (AppEnd id2 how2) t.1, t.2)
 frames_alike (Remove id) (Remove id2) x y can_a can_b e =
-    let h = heads_alike 6 6 (app_id_frame id ++ x) (app_id_frame id2 ++ y) e in
+    let h = heads_alike REMOVE_CODE REMOVE_CODE (app_id_frame id ++ x) (app_id_frame id2 ++ y) e in
     let i = app_id_alike id id2 x y can_a can_b h.1 in
     (ap Remove i.0, i.1)
 frames_alike a b x y can_a can_b e = absurd (omega (arith, ap (λ (l : List ℕ). get_or l 0 0) e))

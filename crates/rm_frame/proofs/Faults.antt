@@ -12,7 +12,7 @@ use Rattle.rm_types.specs.Ranges.{IsWithin}
 use Rattle.rm_types.specs.Texts.{fault_of}
 use Rattle.rm_frame.specs.declared.fields.FieldError.{FieldError}
 use Rattle.rm_frame.specs.declared.fields.FieldError.TheVariants.{Bad}
-use Rattle.rm_frame.specs.Fields.{Field, ByteFrom, NumberFrom, TextOf, told_length, size_of, stands, left_at_fault, fields_of, layout, fault_place}
+use Rattle.rm_frame.specs.Fields.{Field, ByteFrom, NumberFrom, TextOf, told_length, size_of, stands, left_at_fault, fields_of, kind_field, layout, fault_place}
 use Rattle.rm_frame.specs.Reads.{TakesFields, Stops}
 use Rattle.rm_frame.proofs.Numbers.{IsBytes, IsBytes-take, IsWide, wide16}
 
@@ -183,11 +183,11 @@ left_within (field ∷ fields) bytes left e = left_within_by field fields bytes 
 
 -- ---- an operation
 
-pub layout_stops : (kind : ℕ) (bytes rest : List ℕ) (left : ℕ) → TakesFields (ByteFrom 1 6 ∷ []) bytes (kind ∷ []) rest → Stops (fields_of kind) rest left → Stops (layout bytes) bytes left
+pub layout_stops : (kind : ℕ) (bytes rest : List ℕ) (left : ℕ) → TakesFields (kind_field ∷ []) bytes (kind ∷ []) rest → Stops (fields_of kind) rest left → Stops (layout bytes) bytes left
 layout_stops kind bytes rest left reads stops =
     let e : slice_index bytes 0 ≡ kind = ap (λ (all : List ℕ). slice_index all 0) reads.parts in
     let later : Stops (fields_of (slice_index bytes 0)) rest left = subst (λ (k : ℕ). Stops (fields_of k) rest left) (sym e) stops in
-    stops_then (ByteFrom 1 6 ∷ []) (fields_of (slice_index bytes 0)) bytes (kind ∷ []) rest left reads later
+    stops_then (kind_field ∷ []) (fields_of (slice_index bytes 0)) bytes (kind ∷ []) rest left reads later
 
 pub stops_left : (fields : List Field) (bytes : List ℕ) (left : ℕ) → Stops fields bytes left → left_at_fault fields bytes ≡ Some left
 stops_left fields bytes left stops = ap (λ (all : List Field). left_at_fault all bytes) (sym (append-nil fields)) ∙ stops.at []

@@ -16,7 +16,9 @@ use Rattle.rm_formats.specs.Frames.{frame, text_frame, app_id_frame, attempt_id_
 use Rattle.rm_types.specs.Ranges.{IsOperation, IsText, IsSubmission}
 use Rattle.rm_types.specs.Ranges.{IsWithin, IsAppId, IsAttemptId, IsContainerId}
 use Rattle.rm_types.specs.Limits.{greatest_attempts, greatest_memory_mb, greatest_vcores}
-use Rattle.rm_frame.specs.Fields.{Field, ByteFrom, NumberFrom, TextOf, told_length, left_at_fault, stamp_field, number_field, app_id_fields, attempt_id_fields, master_fields, submission_fields, end_fields, epoch_fields, layout, attempts_field, cores_field, memory_field}
+use Rattle.rm_types.specs.declared.limits.TheConstants.{EPOCHS, SEQUENCES, NUMBERS, STAMPS}
+use Rattle.rm_formats.specs.declared.codes.TheConstants.{EPOCH_CODE, APP_CODE, ATTEMPT_CODE, ATTEMPT_END_CODE, APP_END_CODE, REMOVE_CODE, FINISHED_CODE, KILLED_CODE}
+use Rattle.rm_frame.specs.Fields.{Field, ByteFrom, NumberFrom, TextOf, told_length, left_at_fault, stamp_field, number_field, kind_field, how_field, app_id_fields, attempt_id_fields, master_fields, submission_fields, end_fields, epoch_fields, layout, attempts_field, cores_field, memory_field}
 use Rattle.rm_frame.specs.Framed.{IsFramed}
 use Rattle.rm_frame.specs.Reads.{TakesFields, Stops}
 use Rattle.rm_frame.proofs.Numbers.{IsWide, wide16, wide32, wide64, again_before}
@@ -76,19 +78,19 @@ number64_written least greatest n rest small h = number_written w64 (2 ^ 64) wid
 app_id_written : (id : AppId) (rest : List ℕ) → IsAppId id → TakesFields app_id_fields (app_id_frame id ++ rest) (app_id_frame id) rest
 app_id_written id rest h =
     written_then (stamp_field ∷ []) (number_field ∷ []) (to_be_bytes w64 id.stamp) (to_be_bytes w32 id.number) rest
-    (number64_written 1 (2 ^ 63 - 1) id.stamp (to_be_bytes w32 id.number ++ rest) (omega arith) h.stamp) (number32_written 1 (2 ^ 31 - 1) id.number rest (omega arith) h.number)
+    (number64_written 1 (STAMPS - 1) id.stamp (to_be_bytes w32 id.number ++ rest) (omega arith) h.stamp) (number32_written 1 (NUMBERS - 1) id.number rest (omega arith) h.number)
 
 attempt_id_written : (id : AttemptId) (rest : List ℕ) → IsAttemptId id → TakesFields attempt_id_fields (attempt_id_frame id ++ rest) (attempt_id_frame id) rest
 attempt_id_written id rest h =
     written_then app_id_fields (number_field ∷ []) (app_id_frame id.app) (to_be_bytes w32 id.number) rest
-    (app_id_written id.app (to_be_bytes w32 id.number ++ rest) h.app) (number32_written 1 (2 ^ 31 - 1) id.number rest (omega arith) h.number)
+    (app_id_written id.app (to_be_bytes w32 id.number ++ rest) h.app) (number32_written 1 (NUMBERS - 1) id.number rest (omega arith) h.number)
 
 master_written : (master : ContainerId) (rest : List ℕ) → IsContainerId master → TakesFields master_fields (master_frame master ++ rest) (master_frame master) rest
 master_written master rest h =
-    written_then (NumberFrom w32 0 (2 ^ 24 - 1) ∷ []) (NumberFrom w64 1 (2 ^ 40 - 1) ∷ []) (to_be_bytes w32 master.epoch) (to_be_bytes w64 master.seq) rest
-    (number32_written 0 (2 ^ 24 - 1) master.epoch (to_be_bytes w64 master.seq ++ rest) (omega arith) h.epoch) (number64_written 1 (2 ^ 40 - 1) master.seq rest (omega arith) h.seq)
+    written_then (NumberFrom w32 0 (EPOCHS - 1) ∷ []) (NumberFrom w64 1 (SEQUENCES - 1) ∷ []) (to_be_bytes w32 master.epoch) (to_be_bytes w64 master.seq) rest
+    (number32_written 0 (EPOCHS - 1) master.epoch (to_be_bytes w64 master.seq ++ rest) (omega arith) h.epoch) (number64_written 1 (SEQUENCES - 1) master.seq rest (omega arith) h.seq)
 
-code_within : (how : How) → IsWithin 1 3 (how_code how)
+code_within : (how : How) → IsWithin FINISHED_CODE KILLED_CODE (how_code how)
 code_within Finished = (omega arith, omega arith)
 code_within Failed = (omega arith, omega arith)
 code_within Killed = (omega arith, omega arith)
@@ -96,8 +98,8 @@ code_within Killed = (omega arith, omega arith)
 end_written : (how : How) (text rest : List ℕ) → IsText Note text → TakesFields end_fields ((how_code how ∷ text_frame text) ++ rest) (how_code how ∷ text_frame text) rest
 end_written how text rest h =
     let code = code_within how in
-    written_then (ByteFrom 1 3 ∷ []) (TextOf Note ∷ []) (how_code how ∷ []) (text_frame text) rest
-    (byte_reads 1 3 (how_code how) (how_code how ∷ (text_frame text ++ rest)) (text_frame text ++ rest) refl code.0 code.1) (text_written Note text rest h)
+    written_then (how_field ∷ []) (TextOf Note ∷ []) (how_code how ∷ []) (text_frame text) rest
+    (byte_reads FINISHED_CODE KILLED_CODE (how_code how) (how_code how ∷ (text_frame text ++ rest)) (text_frame text ++ rest) refl code.0 code.1) (text_written Note text rest h)
 
 submission_written : (one : Submission) (rest : List ℕ) → IsSubmission one → TakesFields submission_fields (submission_frame one ++ rest) (submission_frame one) rest
 submission_written one rest h =
@@ -122,34 +124,34 @@ submission_written one rest h =
 
 -- ---- operations
 
-kind_written : (kind : ℕ) (fields : List Field) (front rest : List ℕ) → IsWithin 1 6 kind → TakesFields fields (front ++ rest) front rest → TakesFields (ByteFrom 1 6 ∷ fields) (kind ∷ (front ++ rest)) (kind ∷ front) rest
+kind_written : (kind : ℕ) (fields : List Field) (front rest : List ℕ) → IsWithin EPOCH_CODE REMOVE_CODE kind → TakesFields fields (front ++ rest) front rest → TakesFields (kind_field ∷ fields) (kind ∷ (front ++ rest)) (kind ∷ front) rest
 kind_written kind fields front rest h reads =
-    written_then (ByteFrom 1 6 ∷ []) fields (kind ∷ []) front rest (byte_reads 1 6 kind (kind ∷ (front ++ rest)) (front ++ rest) refl h.0 h.1) reads
+    written_then (kind_field ∷ []) fields (kind ∷ []) front rest (byte_reads EPOCH_CODE REMOVE_CODE kind (kind ∷ (front ++ rest)) (front ++ rest) refl h.0 h.1) reads
 
 op_written : (op : Op) (rest : List ℕ) → IsOperation op → TakesFields (layout (frame op ++ rest)) (frame op ++ rest) (frame op) rest
 op_written (Epoch next stamp) rest h =
-    kind_written 1 epoch_fields (to_be_bytes w32 next ++ to_be_bytes w64 stamp) rest (omega arith, omega arith)
-    (written_then (NumberFrom w32 1 (2 ^ 24) ∷ []) (stamp_field ∷ []) (to_be_bytes w32 next) (to_be_bytes w64 stamp) rest
-    (number32_written 1 (2 ^ 24) next (to_be_bytes w64 stamp ++ rest) (omega arith) h.0) (number64_written 1 (2 ^ 63 - 1) stamp rest (omega arith) h.1))
+    kind_written EPOCH_CODE epoch_fields (to_be_bytes w32 next ++ to_be_bytes w64 stamp) rest (omega arith, omega arith)
+    (written_then (NumberFrom w32 1 EPOCHS ∷ []) (stamp_field ∷ []) (to_be_bytes w32 next) (to_be_bytes w64 stamp) rest
+    (number32_written 1 EPOCHS next (to_be_bytes w64 stamp ++ rest) (omega arith) h.0) (number64_written 1 (STAMPS - 1) stamp rest (omega arith) h.1))
 op_written (App id submission) rest h =
-    kind_written 2 (app_id_fields ++ submission_fields) (app_id_frame id ++ submission_frame submission) rest (omega arith, omega arith)
+    kind_written APP_CODE (app_id_fields ++ submission_fields) (app_id_frame id ++ submission_frame submission) rest (omega arith, omega arith)
     (written_then app_id_fields submission_fields (app_id_frame id) (submission_frame submission) rest
     (app_id_written id (submission_frame submission ++ rest) h.0) (submission_written submission rest h.1))
 op_written (Attempt id master node) rest h =
-    kind_written 3 (attempt_id_fields ++ (master_fields ++ TextOf Node ∷ [])) (attempt_id_frame id ++ (master_frame master ++ text_frame node)) rest (omega arith, omega arith)
+    kind_written ATTEMPT_CODE (attempt_id_fields ++ (master_fields ++ TextOf Node ∷ [])) (attempt_id_frame id ++ (master_frame master ++ text_frame node)) rest (omega arith, omega arith)
     (written_then attempt_id_fields (master_fields ++ TextOf Node ∷ []) (attempt_id_frame id) (master_frame master ++ text_frame node) rest
     (attempt_id_written id ((master_frame master ++ text_frame node) ++ rest) h.0)
     (written_then master_fields (TextOf Node ∷ []) (master_frame master) (text_frame node) rest
     (master_written master (text_frame node ++ rest) h.1.container) (text_written Node node rest h.2)))
 op_written (AttemptEnd id how text) rest h =
-    kind_written 4 (attempt_id_fields ++ end_fields) (attempt_id_frame id ++ (how_code how ∷ text_frame text)) rest (omega arith, omega arith)
+    kind_written ATTEMPT_END_CODE (attempt_id_fields ++ end_fields) (attempt_id_frame id ++ (how_code how ∷ text_frame text)) rest (omega arith, omega arith)
     (written_then attempt_id_fields end_fields (attempt_id_frame id) (how_code how ∷ text_frame text) rest
     (attempt_id_written id ((how_code how ∷ text_frame text) ++ rest) h.0) (end_written how text rest h.1))
 op_written (AppEnd id how text) rest h =
-    kind_written 5 (app_id_fields ++ end_fields) (app_id_frame id ++ (how_code how ∷ text_frame text)) rest (omega arith, omega arith)
+    kind_written APP_END_CODE (app_id_fields ++ end_fields) (app_id_frame id ++ (how_code how ∷ text_frame text)) rest (omega arith, omega arith)
     (written_then app_id_fields end_fields (app_id_frame id) (how_code how ∷ text_frame text) rest
     (app_id_written id ((how_code how ∷ text_frame text) ++ rest) h.0) (end_written how text rest h.1))
-op_written (Remove id) rest h = kind_written 6 app_id_fields (app_id_frame id) rest (omega arith, omega arith) (app_id_written id rest h)
+op_written (Remove id) rest h = kind_written REMOVE_CODE app_id_fields (app_id_frame id) rest (omega arith, omega arith) (app_id_written id rest h)
 
 -- ---- bytes that begin with a frame
 

@@ -1,10 +1,12 @@
 -- The layout of a frame: its fields one after another, each with its range, and the first of them that bytes lack.
-use Rattle.std.specs.Prelude.{ℕ, ◌+◌, ◌-◌, ◌^◌, ◌==◌, List, [], ◌∷◌, ◌++◌, length, take, drop, slice_index, Bool, ◌&&◌, nat_le, Option, Some, None, is_none, option_map, if◌then◌else◌}
+use Rattle.std.specs.Prelude.{ℕ, ◌+◌, ◌-◌, ◌==◌, List, [], ◌∷◌, ◌++◌, length, take, drop, slice_index, Bool, ◌&&◌, nat_le, Option, Some, None, is_none, option_map, if◌then◌else◌}
 use Rattle.std.specs.Int.{Width, byte_len, from_be_bytes, w16, w32, w64}
 use Rattle.rm_types.specs.declared.texts.TextKind.{TextKind}
 use Rattle.rm_types.specs.declared.texts.TextKind.TheVariants.{Name, Node, Queue, Note, AclText}
 use Rattle.rm_types.specs.Limits.{greatest_attempts, greatest_memory_mb, greatest_vcores}
+use Rattle.rm_types.specs.declared.limits.TheConstants.{EPOCHS, SEQUENCES, NUMBERS, STAMPS}
 use Rattle.rm_types.specs.Texts.{fault_of}
+use Rattle.rm_formats.specs.declared.codes.TheConstants.{EPOCH_CODE, APP_CODE, ATTEMPT_CODE, ATTEMPT_END_CODE, APP_END_CODE, REMOVE_CODE, FINISHED_CODE, KILLED_CODE}
 
 -- a field: a byte or a number, from the least to the greatest, or a text of a kind behind its length
 pub data Field : Type 0 where
@@ -44,11 +46,11 @@ left_at_fault (field ∷ fields) bytes =
 
 -- a stamp
 abbrev pub stamp_field : Field
-stamp_field = NumberFrom w64 1 (2 ^ 63 - 1)
+stamp_field = NumberFrom w64 1 (STAMPS - 1)
 
 -- the number of an application or an attempt
 abbrev pub number_field : Field
-number_field = NumberFrom w32 1 (2 ^ 31 - 1)
+number_field = NumberFrom w32 1 (NUMBERS - 1)
 
 -- an application's id
 abbrev pub app_id_fields : List Field
@@ -60,7 +62,7 @@ attempt_id_fields = app_id_fields ++ number_field ∷ []
 
 -- a master's container, of which the attempt is known
 abbrev pub master_fields : List Field
-master_fields = NumberFrom w32 0 (2 ^ 24 - 1) ∷ NumberFrom w64 1 (2 ^ 40 - 1) ∷ []
+master_fields = NumberFrom w32 0 (EPOCHS - 1) ∷ NumberFrom w64 1 (SEQUENCES - 1) ∷ []
 
 -- the memory, in megabytes, and the virtual cores of a container
 abbrev pub memory_field : Field
@@ -79,26 +81,34 @@ abbrev pub submission_fields : List Field
 submission_fields =
     TextOf Name ∷ TextOf Queue ∷ TextOf Name ∷ memory_field ∷ cores_field ∷ attempts_field ∷ TextOf AclText ∷ []
 
+-- how something ended
+abbrev pub how_field : Field
+how_field = ByteFrom FINISHED_CODE KILLED_CODE
+
 -- how something ended, and its diagnostics
 abbrev pub end_fields : List Field
-end_fields = ByteFrom 1 3 ∷ TextOf Note ∷ []
+end_fields = how_field ∷ TextOf Note ∷ []
 
 -- the life's next epoch, and its stamp
 abbrev pub epoch_fields : List Field
-epoch_fields = NumberFrom w32 1 (2 ^ 24) ∷ stamp_field ∷ []
+epoch_fields = NumberFrom w32 1 EPOCHS ∷ stamp_field ∷ []
 
 -- the fields of an operation behind the byte for its kind
 abbrev pub fields_of : ℕ → List Field
-fields_of kind =
-    if kind == 1 then epoch_fields else
-    (if kind == 2 then app_id_fields ++ submission_fields else
-    (if kind == 3 then attempt_id_fields ++ (master_fields ++ TextOf Node ∷ []) else
-    (if kind == 4 then attempt_id_fields ++ end_fields else
-    (if kind == 5 then app_id_fields ++ end_fields else app_id_fields))))
+fields_of code =
+    if code == EPOCH_CODE then epoch_fields else
+    (if code == APP_CODE then app_id_fields ++ submission_fields else
+    (if code == ATTEMPT_CODE then attempt_id_fields ++ (master_fields ++ TextOf Node ∷ []) else
+    (if code == ATTEMPT_END_CODE then attempt_id_fields ++ end_fields else
+    (if code == APP_END_CODE then app_id_fields ++ end_fields else app_id_fields))))
+
+-- the kind of a frame
+abbrev pub kind_field : Field
+kind_field = ByteFrom EPOCH_CODE REMOVE_CODE
 
 -- all fields of the frame that bytes may begin with: their first byte says which kind it is
 abbrev pub layout : List ℕ → List Field
-layout bytes = ByteFrom 1 6 ∷ fields_of (slice_index bytes 0)
+layout bytes = kind_field ∷ fields_of (slice_index bytes 0)
 
 -- where the first field begins that is short or out of range, if one is
 abbrev pub fault_place : List ℕ → Option ℕ

@@ -1,30 +1,35 @@
-ghost use Rattle.std.specs.Prelude.{◌≡◌, ℕ, ◌∷◌, IfOk, IfErr, Some, Ok};
+ghost use Rattle.std.specs.Prelude.{◌≡◌, ℕ, [], ◌∷◌, IfOk, IfErr, Some, Ok};
 ghost use Rattle.std.specs.Int.{to_be_bytes, w32, w64};
 ghost use Rattle.rm_types.specs.declared.operations.Op.{Op as AnyOp};
 ghost use Rattle.rm_types.specs.Ranges.{IsSubmission};
-ghost use Rattle.rm_formats.specs.Frames.{submission_frame};
-ghost use Rattle.rm_types.specs.Ranges.{IsWithin};
-ghost use Rattle.rm_frame.specs.Fields.{submission_fields, master_fields, epoch_fields, app_id_fields, attempt_id_fields, end_fields, TextOf, layout, left_at_fault, fault_place, fields_of};
+ghost use Rattle.rm_formats.specs.Frames.{submission_frame, kind_code};
+ghost use Rattle.rm_formats.specs.declared.codes.TheConstants.{EPOCH_CODE, APP_CODE, ATTEMPT_CODE, ATTEMPT_END_CODE, APP_END_CODE, REMOVE_CODE};
+ghost use Rattle.rm_frame.specs.Fields.{submission_fields, master_fields, epoch_fields, app_id_fields, attempt_id_fields, end_fields, TextOf, layout, left_at_fault, fault_place, fields_of, kind_field};
 ghost use Rattle.rm_frame.specs.Framed.{IsFramed};
 ghost use Rattle.rm_frame.specs.Reads.{TakesFields, Stops, StopsBy, ReadsOp};
 
 use crate::fields::{
-    End, FieldError, MAX_STAMP, app_id_at, attempt_id_at, byte_within, end_at, text_at, u32_within,
-    u64_within,
+    End, FieldError, app_id_at, attempt_id_at, byte_within, end_at, text_at, u32_within, u64_within,
+};
+use rm_formats::{
+    APP_CODE, APP_END_CODE, ATTEMPT_CODE, ATTEMPT_END_CODE, EPOCH_CODE, FrameKind, REMOVE_CODE,
 };
 use rm_types::{
-    ContainerId, GREATEST_ATTEMPTS, GREATEST_MEMORY_MB, GREATEST_VCORES, Op, Resource, Submission,
-    TextKind,
+    ContainerId, EPOCHS, GREATEST_ATTEMPTS, GREATEST_MEMORY_MB, GREATEST_VCORES, Op, Resource,
+    SEQUENCES, STAMPS, Submission, TextKind,
 };
 use std::alloc::Global;
+use thiserror::Error;
 
 /// Why no operation was read.
-#[derive(Clone, Copy, Debug, PartialEq, Eq)]
+#[derive(Clone, Copy, Debug, PartialEq, Eq, Error)]
 pub enum FrameError {
     /// The bytes begin with no operation's frame. The place is where the first field begins that is
     /// short or out of range.
+    #[error("no frame of an operation: byte {place} begins a field that is short or out of range")]
     BadFrame { place: usize },
     /// No memory was found for the operation.
+    #[error("out of memory")]
     Memory,
 }
 
@@ -49,38 +54,54 @@ fn op_at(alloc: Global, bytes: &[u8]) -> Result<(Op, &[u8]), FieldError>
     ensures read { IfOk result (λ read. ReadsOp bytes.now read.0 read.1.now) }
     ensures bad { IfErr result (λ error. StopsBy (layout bytes.now) bytes.now error) }
 {
-    let (kind, rest) = byte_within(bytes, 1, 6)?;
+    let (kind, rest) = kind_at(bytes)?;
     fields_at(alloc, kind, rest)
 }
 
 /// The operation of a kind, from the bytes behind the byte for its kind.
-fn fields_at(alloc: Global, kind: u8, bytes: &[u8]) -> Result<(Op, &[u8]), FieldError>
-    requires { IsWithin 1 6 kind }
-    ensures read { IfOk result (λ read. ReadsOp (kind ∷ bytes.now) read.0 read.1.now) }
-    ensures bad { IfErr result (λ error. StopsBy (fields_of kind) bytes.now error) }
+fn fields_at(alloc: Global, kind: FrameKind, bytes: &[u8]) -> Result<(Op, &[u8]), FieldError>
+    ensures read { IfOk result (λ read. ReadsOp (kind_code kind ∷ bytes.now) read.0 read.1.now) }
+    ensures bad { IfErr result (λ error. StopsBy (fields_of (kind_code kind)) bytes.now error) }
 {
     match kind {
-        1 => epoch_at(bytes),
-        2 => app_at(alloc, bytes),
-        3 => attempt_at(alloc, bytes),
-        4 => attempt_end_at(alloc, bytes),
-        5 => app_end_at(alloc, bytes),
-        _ => remove_at(bytes),
+        FrameKind::Epoch => epoch_at(bytes),
+        FrameKind::App => app_at(alloc, bytes),
+        FrameKind::Attempt => attempt_at(alloc, bytes),
+        FrameKind::AttemptEnd => attempt_end_at(alloc, bytes),
+        FrameKind::AppEnd => app_end_at(alloc, bytes),
+        FrameKind::Remove => remove_at(bytes),
     }
 }
 
+/// The kind of a frame, and the bytes after the byte for it.
+fn kind_at(bytes: &[u8]) -> Result<(FrameKind, &[u8]), FieldError>
+    ensures read { IfOk result (λ read. TakesFields (kind_field ∷ []) bytes.now (kind_code read.0 ∷ []) read.1.now) }
+    ensures bad { IfErr result (λ error. StopsBy (kind_field ∷ []) bytes.now error) }
+{
+    let (code, rest) = byte_within(bytes, EPOCH_CODE, REMOVE_CODE)?;
+    let kind = match code {
+        EPOCH_CODE => FrameKind::Epoch,
+        APP_CODE => FrameKind::App,
+        ATTEMPT_CODE => FrameKind::Attempt,
+        ATTEMPT_END_CODE => FrameKind::AttemptEnd,
+        APP_END_CODE => FrameKind::AppEnd,
+        _ => FrameKind::Remove,
+    };
+    Ok((kind, rest))
+}
+
 fn epoch_at(bytes: &[u8]) -> Result<(Op, &[u8]), FieldError>
-    ensures read { IfOk result (λ read. ReadsOp (1 ∷ bytes.now) read.0 read.1.now) }
+    ensures read { IfOk result (λ read. ReadsOp (EPOCH_CODE ∷ bytes.now) read.0 read.1.now) }
     ensures bad { IfErr result (λ error. StopsBy epoch_fields bytes.now error) }
 {
-    let (next, rest) = u32_within(bytes, 1, 1 << 24)?;
-    let (stamp, rest) = u64_within(rest, 1, MAX_STAMP)?;
+    let (next, rest) = u32_within(bytes, 1, EPOCHS)?;
+    let (stamp, rest) = u64_within(rest, 1, STAMPS - 1)?;
     Ok((Op::Epoch { next, stamp }, rest))
 }
 
 fn app_at(alloc: Global, bytes: &[u8]) -> Result<(Op, &[u8]), FieldError>
-    ensures read { IfOk result (λ read. ReadsOp (2 ∷ bytes.now) read.0 read.1.now) }
-    ensures bad { IfErr result (λ error. StopsBy (fields_of 2) bytes.now error) }
+    ensures read { IfOk result (λ read. ReadsOp (APP_CODE ∷ bytes.now) read.0 read.1.now) }
+    ensures bad { IfErr result (λ error. StopsBy (fields_of APP_CODE) bytes.now error) }
 {
     let (id, rest) = app_id_at(bytes)?;
     let (submission, rest) = submission_at(alloc, rest)?;
@@ -112,12 +133,12 @@ fn submission_at(alloc: Global, bytes: &[u8]) -> Result<(Submission, &[u8]), Fie
 }
 
 fn attempt_at(alloc: Global, bytes: &[u8]) -> Result<(Op, &[u8]), FieldError>
-    ensures read { IfOk result (λ read. ReadsOp (3 ∷ bytes.now) read.0 read.1.now) }
-    ensures bad { IfErr result (λ error. StopsBy (fields_of 3) bytes.now error) }
+    ensures read { IfOk result (λ read. ReadsOp (ATTEMPT_CODE ∷ bytes.now) read.0 read.1.now) }
+    ensures bad { IfErr result (λ error. StopsBy (fields_of ATTEMPT_CODE) bytes.now error) }
 {
     let (id, rest) = attempt_id_at(bytes)?;
-    let (epoch, rest) = u32_within(rest, 0, (1 << 24) - 1)?;
-    let (seq, rest) = u64_within(rest, 1, (1 << 40) - 1)?;
+    let (epoch, rest) = u32_within(rest, 0, EPOCHS - 1)?;
+    let (seq, rest) = u64_within(rest, 1, SEQUENCES - 1)?;
     let (node, rest) = text_at(alloc, rest, TextKind::Node)?;
     let master = ContainerId {
         attempt: id,
@@ -128,8 +149,8 @@ fn attempt_at(alloc: Global, bytes: &[u8]) -> Result<(Op, &[u8]), FieldError>
 }
 
 fn attempt_end_at(alloc: Global, bytes: &[u8]) -> Result<(Op, &[u8]), FieldError>
-    ensures read { IfOk result (λ read. ReadsOp (4 ∷ bytes.now) read.0 read.1.now) }
-    ensures bad { IfErr result (λ error. StopsBy (fields_of 4) bytes.now error) }
+    ensures read { IfOk result (λ read. ReadsOp (ATTEMPT_END_CODE ∷ bytes.now) read.0 read.1.now) }
+    ensures bad { IfErr result (λ error. StopsBy (fields_of ATTEMPT_END_CODE) bytes.now error) }
 {
     let (id, rest) = attempt_id_at(bytes)?;
     let (End { how, text }, rest) = end_at(alloc, rest)?;
@@ -137,8 +158,8 @@ fn attempt_end_at(alloc: Global, bytes: &[u8]) -> Result<(Op, &[u8]), FieldError
 }
 
 fn app_end_at(alloc: Global, bytes: &[u8]) -> Result<(Op, &[u8]), FieldError>
-    ensures read { IfOk result (λ read. ReadsOp (5 ∷ bytes.now) read.0 read.1.now) }
-    ensures bad { IfErr result (λ error. StopsBy (fields_of 5) bytes.now error) }
+    ensures read { IfOk result (λ read. ReadsOp (APP_END_CODE ∷ bytes.now) read.0 read.1.now) }
+    ensures bad { IfErr result (λ error. StopsBy (fields_of APP_END_CODE) bytes.now error) }
 {
     let (id, rest) = app_id_at(bytes)?;
     let (End { how, text }, rest) = end_at(alloc, rest)?;
@@ -146,7 +167,7 @@ fn app_end_at(alloc: Global, bytes: &[u8]) -> Result<(Op, &[u8]), FieldError>
 }
 
 fn remove_at(bytes: &[u8]) -> Result<(Op, &[u8]), FieldError>
-    ensures read { IfOk result (λ read. ReadsOp (6 ∷ bytes.now) read.0 read.1.now) }
+    ensures read { IfOk result (λ read. ReadsOp (REMOVE_CODE ∷ bytes.now) read.0 read.1.now) }
     ensures bad { IfErr result (λ error. StopsBy app_id_fields bytes.now error) }
 {
     let (id, rest) = app_id_at(bytes)?;

@@ -1,8 +1,12 @@
-ghost use Rattle.std.specs.Prelude.{◌≡◌, ◌<◌, ◌^◌, ◌∷◌, ◌++◌, length, OnOk, OnErr, IfOk};
+ghost use Rattle.std.specs.Prelude.{◌≡◌, ◌<◌, ◌^◌, [], ◌∷◌, ◌++◌, length, OnOk, OnErr, IfOk};
 ghost use Rattle.std.specs.Int.{to_be_bytes, w32, w64};
-ghost use Rattle.rm_formats.specs.Frames.{frame, text_frame, app_id_frame, attempt_id_frame, submission_frame, how_code};
+ghost use Rattle.rm_formats.specs.Frames.{frame, text_frame, app_id_frame, attempt_id_frame, submission_frame, how_code, kind_code};
 ghost use Rattle.rm_types.specs.Ranges.{IsOperation, IsSubmission, IsText};
 
+use rm_formats::{
+    APP_CODE, APP_END_CODE, ATTEMPT_CODE, ATTEMPT_END_CODE, EPOCH_CODE, FAILED_CODE, FINISHED_CODE,
+    FrameKind, KILLED_CODE, REMOVE_CODE,
+};
 use rm_types::{AppId, AttemptId, ContainerId, How, NoMemory, Op, Submission, Text, TextKind};
 use std::alloc::Global;
 
@@ -50,7 +54,7 @@ fn put_op(out: &mut Vec<u8>, op: &Op) -> Result<(), NoMemory>
 fn put_epoch(out: &mut Vec<u8>, next: u32, stamp: u64) -> Result<(), NoMemory>
     ensures { OnOk result (out.new.items ≡ out.old.items ++ frame (Op.Epoch next stamp)) }
 {
-    out.push(1)?;
+    put_kind(out, FrameKind::Epoch)?;
     put_u32(out, next)?;
     put_u64(out, stamp)?;
     Ok(())
@@ -60,7 +64,7 @@ fn put_app(out: &mut Vec<u8>, id: AppId, submission: &Submission) -> Result<(), 
     requires { IsSubmission submission.now }
     ensures { OnOk result (out.new.items ≡ out.old.items ++ frame (Op.App id submission.now)) }
 {
-    out.push(2)?;
+    put_kind(out, FrameKind::App)?;
     put_app_id(out, id)?;
     put_submission(out, submission)?;
     Ok(())
@@ -75,7 +79,7 @@ fn put_attempt(
     requires { IsText TextKind.Node node.now }
     ensures { OnOk result (out.new.items ≡ out.old.items ++ frame (Op.Attempt id master node.now)) }
 {
-    out.push(3)?;
+    put_kind(out, FrameKind::Attempt)?;
     put_attempt_id(out, id)?;
     put_u32(out, master.epoch)?;
     put_u64(out, master.seq)?;
@@ -87,7 +91,7 @@ fn put_attempt_end(out: &mut Vec<u8>, id: AttemptId, how: How, text: &Text) -> R
     requires { IsText TextKind.Note text.now }
     ensures { OnOk result (out.new.items ≡ out.old.items ++ frame (Op.AttemptEnd id how text.now)) }
 {
-    out.push(4)?;
+    put_kind(out, FrameKind::AttemptEnd)?;
     put_attempt_id(out, id)?;
     put_end(out, how, text)?;
     Ok(())
@@ -97,7 +101,7 @@ fn put_app_end(out: &mut Vec<u8>, id: AppId, how: How, text: &Text) -> Result<()
     requires { IsText TextKind.Note text.now }
     ensures { OnOk result (out.new.items ≡ out.old.items ++ frame (Op.AppEnd id how text.now)) }
 {
-    out.push(5)?;
+    put_kind(out, FrameKind::AppEnd)?;
     put_app_id(out, id)?;
     put_end(out, how, text)?;
     Ok(())
@@ -106,8 +110,16 @@ fn put_app_end(out: &mut Vec<u8>, id: AppId, how: How, text: &Text) -> Result<()
 fn put_remove(out: &mut Vec<u8>, id: AppId) -> Result<(), NoMemory>
     ensures { OnOk result (out.new.items ≡ out.old.items ++ frame (Op.Remove id)) }
 {
-    out.push(6)?;
+    put_kind(out, FrameKind::Remove)?;
     put_app_id(out, id)
+}
+
+/// The byte for a kind of frame.
+fn put_kind(out: &mut Vec<u8>, kind: FrameKind) -> Result<(), NoMemory>
+    ensures { OnOk result (out.new.items ≡ out.old.items ++ kind_code kind ∷ []) }
+{
+    out.push(kind_code(kind))?;
+    Ok(())
 }
 
 fn put_submission(out: &mut Vec<u8>, submission: &Submission) -> Result<(), NoMemory>
@@ -178,8 +190,21 @@ fn how_code(how: How) -> u8
     ensures { result ≡ how_code how }
 {
     match how {
-        How::Finished => 1,
-        How::Failed => 2,
-        How::Killed => 3,
+        How::Finished => FINISHED_CODE,
+        How::Failed => FAILED_CODE,
+        How::Killed => KILLED_CODE,
+    }
+}
+
+fn kind_code(kind: FrameKind) -> u8
+    ensures { result ≡ kind_code kind }
+{
+    match kind {
+        FrameKind::Epoch => EPOCH_CODE,
+        FrameKind::App => APP_CODE,
+        FrameKind::Attempt => ATTEMPT_CODE,
+        FrameKind::AttemptEnd => ATTEMPT_END_CODE,
+        FrameKind::AppEnd => APP_END_CODE,
+        FrameKind::Remove => REMOVE_CODE,
     }
 }

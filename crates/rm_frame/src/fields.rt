@@ -3,22 +3,21 @@ ghost use Rattle.std.specs.Int.{from_be_bytes, to_be_bytes, w16, w32, w64};
 ghost use Rattle.rm_types.specs.Ranges.{IsText};
 ghost use Rattle.rm_formats.specs.Frames.{text_frame, app_id_frame, attempt_id_frame, how_code};
 ghost use Rattle.rm_types.specs.Ranges.{IsWithin, IsAppId, IsAttemptId};
-ghost use Rattle.rm_frame.specs.Fields.{ByteFrom, NumberFrom, TextOf, app_id_fields, attempt_id_fields, end_fields};
+ghost use Rattle.rm_frame.specs.Fields.{ByteFrom, NumberFrom, TextOf, how_field, app_id_fields, attempt_id_fields, end_fields};
 ghost use Rattle.rm_frame.specs.Reads.{TakesFields, Stops, StopsBy};
 
-use rm_types::{AppId, AttemptId, How, Text, TextError, TextKind};
+use rm_formats::{FAILED_CODE, FINISHED_CODE, KILLED_CODE};
+use rm_types::{AppId, AttemptId, How, NUMBERS, STAMPS, Text, TextError, TextKind};
 use std::alloc::Global;
-
-/// The greatest stamp.
-pub const MAX_STAMP: u64 = (1 << 63) - 1;
-/// The greatest number of an application or an attempt.
-pub const MAX_NUMBER: u32 = (1 << 31) - 1;
+use thiserror::Error;
 
 /// Why a field wasn't read: it is short or out of range, with how many bytes are left where it begins; or
 /// no memory was found for its text.
-#[derive(Clone, Copy, Debug, PartialEq, Eq)]
+#[derive(Clone, Copy, Debug, PartialEq, Eq, Error)]
 pub enum FieldError {
+    #[error("a field is short or out of range, {left} bytes before the end")]
     Bad { left: usize },
+    #[error("out of memory")]
     Memory,
 }
 
@@ -145,8 +144,8 @@ pub fn app_id_at(bytes: &[u8]) -> Result<(AppId, &[u8]), FieldError>
     ensures read { IfOk result (λ read. TakesFields app_id_fields bytes.now (app_id_frame read.0) read.1.now) }
     ensures bad { IfErr result (λ error. StopsBy app_id_fields bytes.now error) }
 {
-    let (stamp, rest) = u64_within(bytes, 1, MAX_STAMP)?;
-    let (number, rest) = u32_within(rest, 1, MAX_NUMBER)?;
+    let (stamp, rest) = u64_within(bytes, 1, STAMPS - 1)?;
+    let (number, rest) = u32_within(rest, 1, NUMBERS - 1)?;
     Ok((AppId { stamp, number }, rest))
 }
 
@@ -157,19 +156,19 @@ pub fn attempt_id_at(bytes: &[u8]) -> Result<(AttemptId, &[u8]), FieldError>
     ensures bad { IfErr result (λ error. StopsBy attempt_id_fields bytes.now error) }
 {
     let (app, rest) = app_id_at(bytes)?;
-    let (number, rest) = u32_within(rest, 1, MAX_NUMBER)?;
+    let (number, rest) = u32_within(rest, 1, NUMBERS - 1)?;
     Ok((AttemptId { app, number }, rest))
 }
 
 /// How something ended, and the bytes after it.
 fn how_at(bytes: &[u8]) -> Result<(How, &[u8]), FieldError>
-    ensures read { IfOk result (λ read. TakesFields (ByteFrom 1 3 ∷ []) bytes.now (how_code read.0 ∷ []) read.1.now) }
-    ensures bad { IfErr result (λ error. StopsBy (ByteFrom 1 3 ∷ []) bytes.now error) }
+    ensures read { IfOk result (λ read. TakesFields (how_field ∷ []) bytes.now (how_code read.0 ∷ []) read.1.now) }
+    ensures bad { IfErr result (λ error. StopsBy (how_field ∷ []) bytes.now error) }
 {
-    let (code, rest) = byte_within(bytes, 1, 3)?;
+    let (code, rest) = byte_within(bytes, FINISHED_CODE, KILLED_CODE)?;
     let how = match code {
-        1 => How::Finished,
-        2 => How::Failed,
+        FINISHED_CODE => How::Finished,
+        FAILED_CODE => How::Failed,
         _ => How::Killed,
     };
     Ok((how, rest))

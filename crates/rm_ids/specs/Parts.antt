@@ -1,5 +1,6 @@
 -- The numbers in the texts of ids: digits and ranges as `IdTexts` of `rm_types` has them, as a table.
-use Rattle.std.specs.Prelude.{ℕ, ◌-◌, ◌^◌}
+use Rattle.std.specs.Prelude.{ℕ, ◌-◌}
+use Rattle.rm_types.specs.declared.limits.TheConstants.{EPOCHS, SEQUENCES, NUMBERS, STAMPS}
 use Rattle.rm_ids.specs.declared.parts.Part.{Part}
 use Rattle.rm_ids.specs.declared.parts.Part.TheVariants.{Stamp, AppNumber, AttemptNumber, AttemptInContainer, Epoch, Sequence}
 
@@ -14,9 +15,9 @@ least_digits Sequence = 6
 
 -- the greatest; the least is 1
 abbrev pub greatest : Part → ℕ
-greatest Stamp = 2 ^ 63 - 1
-greatest AppNumber = 2 ^ 31 - 1
-greatest AttemptNumber = 2 ^ 31 - 1
-greatest AttemptInContainer = 2 ^ 31 - 1
-greatest Epoch = 2 ^ 24 - 1
-greatest Sequence = 2 ^ 40 - 1
+greatest Stamp = STAMPS - 1
+greatest AppNumber = NUMBERS - 1
+greatest AttemptNumber = NUMBERS - 1
+greatest AttemptInContainer = NUMBERS - 1
+greatest Epoch = EPOCHS - 1
+greatest Sequence = SEQUENCES - 1

@@ -1,6 +1,8 @@
 ghost use Rattle.std.specs.Prelude.{◌≡◌};
 ghost use Rattle.rm_ids.specs.Parts.{least_digits, greatest};
 
+use rm_types::{EPOCHS, NUMBERS, SEQUENCES, STAMPS};
+
 /// A number in the text of an id. Each is 1 at least: epoch 0 isn't shown.
 #[derive(Clone, Copy, Debug, PartialEq, Eq)]
 pub(crate) enum Part {
@@ -33,10 +35,12 @@ impl Part {
         ensures { result ≡ greatest self }
     {
         match self {
-            Part::Stamp => (1 << 63) - 1,
-            Part::AppNumber | Part::AttemptNumber | Part::AttemptInContainer => (1 << 31) - 1,
-            Part::Epoch => (1 << 24) - 1,
-            Part::Sequence => (1 << 40) - 1,
+            Part::Stamp => STAMPS - 1,
+            Part::AppNumber | Part::AttemptNumber | Part::AttemptInContainer => {
+                u64::from(NUMBERS - 1)
+            }
+            Part::Epoch => u64::from(EPOCHS - 1),
+            Part::Sequence => SEQUENCES - 1,
         }
     }
 }

@@ -1,9 +1,10 @@
-ghost use Rattle.std.specs.Prelude.{◌≡◌, ℕ, ◌-◌, ◌^◌, [], ◌++◌, IfOk, IfErr, Ok, codes};
+ghost use Rattle.std.specs.Prelude.{◌≡◌, ℕ, ◌-◌, [], ◌++◌, IfOk, IfErr, Ok, codes};
 ghost use Rattle.rm_types.specs.declared.ids.AppId.{AppId as AnyApp};
 ghost use Rattle.rm_types.specs.declared.ids.AttemptId.{AttemptId as AnyAttempt};
 ghost use Rattle.rm_types.specs.declared.ids.ContainerId.{ContainerId as AnyContainer};
 ghost use Rattle.rm_formats.specs.IdTexts.{app_text, attempt_text, container_text};
 ghost use Rattle.rm_types.specs.Ranges.{IsWithin, IsAppId, IsAttemptId, IsContainerId};
+ghost use Rattle.rm_types.specs.declared.limits.TheConstants.{EPOCHS, SEQUENCES};
 ghost use Rattle.rm_ids.specs.Fronts.{IsAppText, IsAttemptText, IsContainerText, IsPlace};
 ghost use Rattle.rm_ids.specs.Spelling.{app_parts, grant_parts, app_then, grant_text, epoch_then, IsGrantText};
 ghost use Rattle.rm_ids.specs.Steps.{AreFields, Refuses, Passes, Stops};
@@ -121,7 +122,7 @@ fn app_at(bytes: &[u8]) -> Result<(AppId, &[u8]), Stop>
 
 /// The epoch, which is 0 where none is shown, and what stands behind it.
 fn epoch_at(bytes: &[u8]) -> Result<(u32, &[u8]), Stop>
-    ensures within { IfOk result (λ read. IsWithin 0 (2 ^ 24 - 1) read.0) }
+    ensures within { IfOk result (λ read. IsWithin 0 (EPOCHS - 1) read.0) }
     ensures read { IfOk result (λ read. bytes.now ≡ epoch_then read.0 read.1.now) }
     ensures passes { IfOk result (λ read. (left : ℕ) → Refuses (AreFields grant_parts) read.1.now left → Refuses IsGrantText bytes.now left) }
     ensures stop { IfErr result (λ stop. Refuses IsGrantText bytes.now stop.left) }
@@ -136,7 +137,7 @@ fn epoch_at(bytes: &[u8]) -> Result<(u32, &[u8]), Stop>
 /// The attempt and the sequence of a container, where nothing stands behind them.
 fn grant_of(bytes: &[u8]) -> Result<(AttemptId, u64), Stop>
     ensures attempt { IfOk result (λ read. IsAttemptId read.0) }
-    ensures seq { IfOk result (λ read. IsWithin 1 (2 ^ 40 - 1) read.1) }
+    ensures seq { IfOk result (λ read. IsWithin 1 (SEQUENCES - 1) read.1) }
     ensures read { IfOk result (λ read. bytes.now ≡ grant_text read.0 read.1) }
     ensures stop { IfErr result (λ stop. Refuses (AreFields grant_parts) bytes.now stop.left) }
 {

@@ -4,20 +4,23 @@ ghost use Rattle.rm_types.specs.Counts.{risen, Rose};
 ghost use Rattle.rm_outside.specs.Shelves.{bytes_of_name, bytes_read};
 
 use crate::calls::Calls;
+use rm_formats::MOST_FILE_BYTES;
 use rm_types::{Items, Text};
 use std::alloc::Global;
 use std::marker::Model;
+use thiserror::Error;
 
-/// The most bytes that a read gives of a file: one more than the 16,777,216 bytes up to which it gives
-/// the whole file.
-pub const MOST_READ: usize = 16_777_217;
+/// The most bytes that a read gives of a file: one more than the bytes up to which it gives the whole file.
+pub const MOST_READ: usize = MOST_FILE_BYTES + 1;
 
 /// Why a file wasn't read.
-#[derive(Clone, Copy, Debug, PartialEq, Eq)]
+#[derive(Clone, Copy, Debug, PartialEq, Eq, Error)]
 pub enum ShelfError {
     /// The file isn't there, or the device refused. The count of faults rose.
+    #[error("the file could not be read")]
     Failed,
     /// No memory was found for the bytes.
+    #[error("out of memory")]
     Memory,
 }
 

@@ -8,13 +8,16 @@ use rm_types::{Items, NoMemory};
 use std::alloc::Global;
 use std::marker::Model;
 use std::mem;
+use thiserror::Error;
 
 /// Why a piece wasn't taken.
-#[derive(Clone, Copy, Debug, PartialEq, Eq)]
+#[derive(Clone, Copy, Debug, PartialEq, Eq, Error)]
 pub enum SinkError {
     /// The device refused. The count of faults rose.
+    #[error("the device refused the text")]
     SinkFault,
     /// No memory was found for the piece.
+    #[error("out of memory")]
     Memory,
 }
 

@@ -6,12 +6,10 @@ ghost use Rattle.rm_script.specs.Results.{Finds, IsOf};
 use crate::errors::LineError;
 use crate::faults::{LineFault, Part};
 use crate::fields::{attempt_id, text};
+use crate::limits::GREATEST_TICK;
 use crate::numbers::long_number;
 use rm_types::{ClockAsk, Message, TextKind};
 use std::alloc::Global;
-
-/// How many milliseconds one tick is at most.
-const GREATEST_TICK: u64 = 1_000_000_000;
 
 /// So many milliseconds go by, by the words after `tick`.
 fn tick(words: &[&[u8]]) -> Result<ClockAsk, LineError>

@@ -5,23 +5,28 @@ ghost use Rattle.rm_script.specs.Results.{at_line};
 use crate::faults::LineFault;
 use rm_types::NoMemory;
 use std::alloc::{AllocError, AllocFailed};
+use thiserror::Error;
 
 /// Why a script wasn't read.
-#[derive(Clone, Copy, Debug, PartialEq, Eq)]
+#[derive(Clone, Copy, Debug, PartialEq, Eq, Error)]
 pub enum ScriptError {
     /// The bytes are no script. The line is the first that is refused; lines are counted from 1, and the
     /// line after the last is at fault where the last segment isn't closed.
+    #[error("the script is refused at line {line}")]
     Refused { line: u32 },
     /// No memory was found for the script.
+    #[error("out of memory")]
     Memory,
 }
 
 /// Why a line wasn't read, or a part of one.
-#[derive(Clone, Copy, Debug)]
+#[derive(Clone, Copy, Debug, Error)]
 pub enum LineError {
     /// It is no such line, or may not stand there.
+    #[error("the line is refused: {0}")]
     Refused(LineFault),
     /// No memory was found.
+    #[error("out of memory")]
     Memory,
 }
 

@@ -2,6 +2,7 @@ use crate::limits::{MOST_BYTES, MOST_LINE_BYTES, MOST_LISTED};
 use rm_types::{MOST_LINES, TextKind};
 use std::fmt;
 use std::fmt::InlineText;
+use thiserror::Error;
 
 /// How many bytes of what is at fault are told at most.
 const MOST_TOLD: usize = 48;
@@ -94,13 +95,16 @@ impl fmt::Display for Part {
 }
 
 /// Why a line is refused, by itself or where it stands.
-#[derive(Clone, Copy, Debug)]
+#[derive(Clone, Copy, Debug, Error)]
 pub enum LineFault {
     /// It is too long, or has a byte that isn't printable.
+    #[error("it has at most {} bytes, each of them printable", MOST_LINE_BYTES)]
     Limit,
     /// Its words are those of no line.
+    #[error("its words are others")]
     Form,
     /// A part is no number from the least to the greatest.
+    #[error("{part} is {least} to {greatest}, found {found}")]
     Number {
         part: Part,
         least: u64,
@@ -108,21 +112,25 @@ pub enum LineFault {
         found: Excerpt,
     },
     /// A part is no text of the kind.
+    #[error("{part} is {}, found {found}", kind_text(*.kind))]
     Text {
         part: Part,
         kind: TextKind,
         found: Excerpt,
     },
     /// A part is no id.
+    #[error("{part} is {}, found {found}", id_text(*.part))]
     Id {
         part: Part,
         found: Excerpt,
     },
-    /// A list has more than 1000 items: this many.
+    /// A list has too many items: this many.
+    #[error("a list has 1 to {} items, found {count}", MOST_LISTED)]
     Items {
         count: usize,
     },
     /// It may not stand where it does.
+    #[error("it may not stand there")]
     Place,
 }
 
@@ -144,34 +152,6 @@ fn id_text(part: Part) -> &'static str {
         Part::Attempt => "an attempt's id, appattempt_STAMP_NUMBER_ATTEMPT",
         _ =>
             "a container's id, container_STAMP_NUMBER_ATTEMPT_SEQUENCE or container_eEPOCH_STAMP_NUMBER_ATTEMPT_SEQUENCE",
-    }
-}
-
-impl fmt::Display for LineFault {
-    fn fmt<W: fmt::Write>(&self, f: &mut fmt::Formatter<W>) -> fmt::Result {
-        match self {
-            LineFault::Limit => write!(
-                f,
-                "it has at most {MOST_LINE_BYTES} bytes, each of them printable"
-            ),
-            LineFault::Form => write!(f, "its words are others"),
-            LineFault::Number {
-                part,
-                least,
-                greatest,
-                found,
-            } => write!(f, "{part} is {least} to {greatest}, found {found}"),
-            LineFault::Text { part, kind, found } => {
-                write!(f, "{part} is {}, found {found}", kind_text(*kind))
-            }
-            LineFault::Id { part, found } => {
-                write!(f, "{part} is {}, found {found}", id_text(*part))
-            }
-            LineFault::Items { count } => {
-                write!(f, "a list has 1 to {MOST_LISTED} items, found {count}")
-            }
-            LineFault::Place => write!(f, "it may not stand there"),
-        }
     }
 }
 
@@ -213,45 +193,47 @@ impl fmt::Display for Limit {
 }
 
 /// Why a script is refused at a line.
-#[derive(Clone, Copy, Debug)]
+#[derive(Clone, Copy, Debug, Error)]
 pub enum ScriptFault {
     /// The line breaks a limit.
+    #[error("{0}")]
     Limit(Limit),
     /// It is no line by itself. The form is that of the lines that begin as it does.
+    #[error("{}", faulty_line(.form, .fault))]
     Line { form: Form, fault: LineFault },
     /// It starts a life where one goes on.
+    #[error("a life begins with `start STAMP`, first or after a `crash`, and here one goes on")]
     LifeGoesOn,
     /// It needs a life, and none goes on.
+    #[error("{}: it stands inside a life, and here none goes on: a life begins with `start STAMP`", .form.words())]
     NoLife { form: Form },
     /// It is the line after the last, and messages before it are closed by nothing.
+    #[error("the messages at the end are closed by no `settle` or `crash`")]
     Unclosed,
     /// The bytes don't tell it, or there was no memory to find it out.
+    #[error("{form}")]
     Untold { form: Form },
 }
 
-impl fmt::Display for ScriptFault {
+/// A line with a fault, as it is told: where its words are those of no line, the form says all.
+#[derive(Clone, Copy)]
+struct FaultyLine {
+    form: Form,
+    fault: LineFault,
+}
+
+fn faulty_line(form: &Form, fault: &LineFault) -> FaultyLine {
+    FaultyLine {
+        form: *form,
+        fault: *fault,
+    }
+}
+
+impl fmt::Display for FaultyLine {
     fn fmt<W: fmt::Write>(&self, f: &mut fmt::Formatter<W>) -> fmt::Result {
-        match self {
-            ScriptFault::Limit(limit) => write!(f, "{limit}"),
-            ScriptFault::Line {
-                form,
-                fault: LineFault::Form,
-            } => write!(f, "{form}"),
-            ScriptFault::Line { form, fault } => write!(f, "{}: {fault}", form.words()),
-            ScriptFault::LifeGoesOn => write!(
-                f,
-                "a life begins with `start STAMP`, first or after a `crash`, and here one goes on"
-            ),
-            ScriptFault::NoLife { form } => write!(
-                f,
-                "{}: it stands inside a life, and here none goes on: a life begins with `start STAMP`",
-                form.words()
-            ),
-            ScriptFault::Unclosed => write!(
-                f,
-                "the messages at the end are closed by no `settle` or `crash`"
-            ),
-            ScriptFault::Untold { form } => write!(f, "{form}"),
+        match self.fault {
+            LineFault::Form => write!(f, "{}", self.form),
+            fault => write!(f, "{}: {fault}", self.form.words()),
         }
     }
 }

@@ -11,19 +11,13 @@ use crate::clients::client_message;
 use crate::clocks::clock_message;
 use crate::errors::LineError;
 use crate::faults::{LineFault, Part};
-use crate::limits::MOST_LINE_BYTES;
+use crate::limits::{GREATEST_CALLS, GREATEST_IMAGE, MOST_LINE_BYTES};
 use crate::masters::master_message;
 use crate::nodes::node_message;
 use crate::numbers::{long_number, number};
 use crate::words::words_of;
 use rm_types::{GREATEST_STAMP, Message};
 use std::alloc::Global;
-
-/// How many device calls a crash lets pass at most.
-const GREATEST_CALLS: u32 = 1_000_000;
-
-/// The greatest number of an image that the device falls to.
-const GREATEST_IMAGE: u32 = 4_294_967_295;
 
 /// A line of a script by itself.
 #[derive(Debug, Drop)]

@@ -10,17 +10,11 @@ ghost use Rattle.rm_script.specs.Laws.{HasNoComma, container_lacks_comma, held_l
 use crate::errors::LineError;
 use crate::faults::{LineFault, Part};
 use crate::fields::{container_id, size};
-use crate::limits::MOST_LISTED;
+use crate::limits::{GREATEST_COUNT, GREATEST_PRIORITY, MOST_LISTED};
 use crate::numbers::number;
 use crate::words::{after_label, pieces};
 use rm_types::{Ask, ContainerId, Held, Items};
 use std::alloc::Global;
-
-/// The greatest priority of an ask.
-const GREATEST_PRIORITY: u32 = 1000;
-
-/// How many containers one ask is for at most.
-const GREATEST_COUNT: u32 = 1000;
 
 /// What may stand in a list, with a comma between each two.
 pub(crate) trait Listed: Sized {

@@ -6,13 +6,11 @@ ghost use Rattle.rm_script.specs.Results.{Finds, IsOf};
 use crate::errors::LineError;
 use crate::faults::{Excerpt, LineFault, Part};
 use crate::fields::{attempt_id, text};
+use crate::limits::GREATEST_RESPONSE;
 use crate::lists::two_lists;
 use crate::numbers::number;
 use rm_types::{MasterAsk, Message, TextKind};
 use std::alloc::Global;
-
-/// The greatest response id that a master names.
-const GREATEST_RESPONSE: u32 = 4_294_967_294;
 
 /// What a master asks that registers, by the words after `register`: there are none.
 fn register_ask(words: &[&[u8]]) -> Result<MasterAsk, LineError>

@@ -6,16 +6,11 @@ ghost use Rattle.rm_script.specs.Results.{Finds, IsOf};
 use crate::errors::LineError;
 use crate::faults::{LineFault, Part};
 use crate::fields::{size_fields, text};
+use crate::limits::{GREATEST_RESPONSE, GREATEST_TURN};
 use crate::lists::{one_list, two_lists};
 use crate::numbers::number;
 use rm_types::{Message, NodeAsk, TextKind};
 use std::alloc::Global;
-
-/// The greatest response id that a node names.
-const GREATEST_RESPONSE: u32 = 4_294_967_294;
-
-/// The greatest turn of a registration.
-const GREATEST_TURN: u32 = 4_294_967_295;
 
 /// What a node says that registers, by its turn, its capability and the words that may say what runs on it.
 fn registration(

@@ -10,13 +10,16 @@ use crate::attempts::{has_stopped, is_next_attempt, is_unended_last};
 use rm_types::{AppId, AppRecord, NoMemory, Op};
 use std::alloc::Global;
 use std::marker::Model;
+use thiserror::Error;
 
 /// Why an operation wasn't applied.
-#[derive(Clone, Copy, Debug, PartialEq, Eq)]
+#[derive(Clone, Copy, Debug, PartialEq, Eq, Error)]
 pub enum TreeError {
     /// The operation doesn't fit the records.
+    #[error("the operation doesn't fit the records")]
     Stray,
     /// No memory was found, or 2^64 - 1 operations were applied before.
+    #[error("out of memory, or of numbers to count operations by")]
     Memory,
 }
 

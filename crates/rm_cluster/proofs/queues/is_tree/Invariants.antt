@@ -1,4 +1,4 @@
-use Rattle.std.proofs.Common.{◌≡◌, ◌≤◌, drop, take, length}
+use Rattle.std.proofs.Common.{◌≡◌, drop, take}
 use Rattle.rm_cluster.specs.Queues.{all_follow}
 use Rattle.rm_cluster.proofs.queues.is_tree.Given as goal
 

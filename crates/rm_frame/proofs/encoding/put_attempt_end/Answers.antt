@@ -1,9 +1,10 @@
 use Rattle.std.proofs.Common.{◌∷◌, [], ◌++◌}
 use Rattle.rm_formats.specs.Frames.{text_frame, attempt_id_frame, how_code}
+use Rattle.rm_formats.specs.declared.codes.TheConstants.{ATTEMPT_END_CODE}
 use Rattle.rm_frame.proofs.Appends.{appends}
 use Rattle.rm_frame.proofs.encoding.put_attempt_end.Goals as goal
 
 pub returns : goal.returns
 returns c =
-    appends c.args.out.now.items c.push.new.self.items c.put_end.new.out.items (4 ∷ []) (attempt_id_frame c.args.id ++ (how_code c.args.how ∷ text_frame c.args.text.now)) c.in_ok-push.ensures.items
-    (appends c.push.new.self.items c.put_attempt_id.new.out.items c.put_end.new.out.items (attempt_id_frame c.args.id) (how_code c.args.how ∷ text_frame c.args.text.now) c.in_ok-put_attempt_id.ensures c.in_ok-put_end.ensures)
+    appends c.args.out.now.items c.put_kind.new.out.items c.put_end.new.out.items (ATTEMPT_END_CODE ∷ []) (attempt_id_frame c.args.id ++ (how_code c.args.how ∷ text_frame c.args.text.now)) c.in_ok-put_kind.ensures
+    (appends c.put_kind.new.out.items c.put_attempt_id.new.out.items c.put_end.new.out.items (attempt_id_frame c.args.id) (how_code c.args.how ∷ text_frame c.args.text.now) c.in_ok-put_attempt_id.ensures c.in_ok-put_end.ensures)
