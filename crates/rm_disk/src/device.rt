@@ -3,12 +3,16 @@ ghost use Rattle.rm_disk.specs.declared.device.DiskError.TheVariants.{DiskFault,
 ghost use Rattle.rm_disk.specs.Disk.{DiskView, put, IfTold, IsDurable, IsQuiet, MayWrite, Falls, IsAsBefore};
 ghost use Rattle.rm_types.specs.Counts.{Rose};
 
+use thiserror::Error;
+
 /// Why a call of a disk did not succeed.
-#[derive(Clone, Copy, Debug, PartialEq, Eq)]
+#[derive(Clone, Copy, Debug, PartialEq, Eq, Error)]
 pub enum DiskError {
     /// The disk failed, and counted the fault.
+    #[error("the disk failed")]
     DiskFault,
     /// No memory was found for what the disk keeps of the call.
+    #[error("out of memory")]
     Memory,
 }
 
@@ -33,6 +37,10 @@ pub trait Disk {
     /// disk.
     ghost falls_to: { ℕ → Self → Self → Type 0 };
 
+    /// How many writes and syncs the disk has counted, where it counts them: a read adds none, and a write or a sync one
+    /// at most. So what bounds it bounds the calls of a disk that counts each.
+    ghost counted: { Self → ℕ };
+
     /// How many bytes the disk has. It never changes.
     fn size(&self) -> u64
         ensures { result ≡ (view self.now).size };
@@ -45,6 +53,7 @@ pub trait Disk {
         ensures bytes { OnOk result (IfTold (view self.old) (λ told. into.new ≡ take (length into.old) (drop at told))) }
         ensures quiet { IsQuiet (view self.old) (view self.new) }
         ensures kept { keeps (is_ok result) self.old self.new }
+        ensures counted { counted self.new ≤ counted self.old }
         ensures fault { IsErrOf result DiskFault → faulted self.old self.new }
         ensures memory { IsErrOf result Memory → ⊥ };
 
@@ -58,6 +67,7 @@ pub trait Disk {
         ensures written { OnOk result ((view self.new).told ≡ option_map (put at bytes.now) (view self.old).told) }
         ensures in_range { MayWrite at (length bytes.now) (view self.old) (view self.new) }
         ensures kept { keeps (is_ok result) self.old self.new }
+        ensures counted { counted self.new ≤ counted self.old + 1 }
         ensures fault { IsErrOf result DiskFault → faulted self.old self.new }
         ensures memory { IsErrOf result Memory → IsAsBefore (view self.old) (view self.new) };
 
@@ -69,6 +79,7 @@ pub trait Disk {
         ensures durable { OnOk result (IsDurable (view self.new)) }
         ensures quiet { IsQuiet (view self.old) (view self.new) }
         ensures kept { keeps (is_ok result) self.old self.new }
+        ensures counted { counted self.new ≤ counted self.old + 1 }
         ensures fault { IsErrOf result DiskFault → faulted self.old self.new }
         ensures memory { IsErrOf result Memory → IsAsBefore (view self.old) (view self.new) };
 

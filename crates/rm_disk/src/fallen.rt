@@ -1,4 +1,6 @@
-use rm_types::{Duplicate, Items, NoMemory};
+ghost use Rattle.std.proofs.Common.{rules};
+
+use rm_types::{Duplicate, Items};
 
 /// A fall of an armed fuse.
 #[derive(Clone, Copy, Debug, PartialEq, Eq)]
@@ -12,9 +14,7 @@ pub struct Fallen {
 }
 
 impl Duplicate for Fallen {
-    fn copy(&self) -> Result<Fallen, NoMemory> {
-        Ok(*self)
-    }
+    ghost same = { Prim.search (rules) };
 }
 
 /// What an armed fuse holds: how many calls may pass, and the list that its fall will show, whose last place

@@ -154,6 +154,8 @@ where
 
     ghost keeps_on = { λ one two first second third _ _. tt };
 
+    ghost counted = { λ _. 0 };
+
     ghost faulted = { λ d e. Rose (file_view d.faults).faults (file_view e.faults).faults };
 
     ghost falls_to = { λ image d e. e ≡ d };
@@ -185,6 +187,7 @@ where
         ensures written { OnOk result ((file_view self.new.faults).told ≡ option_map (put at bytes.now) (file_view self.old.faults).told) }
         ensures in_range { MayWrite at (length bytes.now) (file_view self.old.faults) (file_view self.new.faults) }
         ensures kept { Unit {0} }
+        ensures counted { 0 ≤ 0 + 1 }
         ensures fault { IsErrOf result DiskError.DiskFault → Rose (file_view self.old.faults).faults (file_view self.new.faults).faults }
         ensures memory { IsErrOf result DiskError.Memory → IsAsBefore (file_view self.old.faults) (file_view self.new.faults) }
         ensures enough { IsErrOf result DiskError.Memory → ⊥ }
@@ -198,6 +201,7 @@ where
         ensures durable { OnOk result (IsDurable (file_view self.new.faults)) }
         ensures quiet { IsQuiet (file_view self.old.faults) (file_view self.new.faults) }
         ensures kept { Unit {0} }
+        ensures counted { 0 ≤ 0 + 1 }
         ensures fault { IsErrOf result DiskError.DiskFault → Rose (file_view self.old.faults).faults (file_view self.new.faults).faults }
         ensures memory { IsErrOf result DiskError.Memory → IsAsBefore (file_view self.old.faults) (file_view self.new.faults) }
         ensures enough { IsErrOf result DiskError.Memory → ⊥ }

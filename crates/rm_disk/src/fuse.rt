@@ -179,6 +179,8 @@ impl<D: Disk> Disk for Fuse<D> {
 
     ghost keeps_on = { λ one two x y z xy yz. keeps_fuse_on D.view D.keeps D.keeps_on one two x y z xy yz };
 
+    ghost counted = { λ f. f.passed };
+
     ghost faulted = { λ f g. FaultedFuse D.view D.faulted f g };
 
     ghost falls_to = { λ image f g. FallsThrough D.falls_to image f g };
@@ -206,6 +208,7 @@ impl<D: Disk> Disk for Fuse<D> {
         ensures bytes { OnOk result (IfTold (fused_view (D.view self.old.inner) self.old.refused) (λ told. into.new ≡ take (length into.old) (drop at told))) }
         ensures quiet { IsQuiet (fused_view (D.view self.old.inner) self.old.refused) (fused_view (D.view self.new.inner) self.new.refused) }
         ensures kept { KeepsFuse D.view (D.keeps (is_ok result)) (is_ok result) self.old self.new }
+        ensures counted { self.new.passed ≤ self.old.passed }
         ensures fault { IsErrOf result DiskError.DiskFault → FaultedFuse D.view D.faulted self.old self.new }
         ensures memory { IsErrOf result DiskError.Memory → ⊥ }
 
@@ -224,6 +227,7 @@ impl<D: Disk> Disk for Fuse<D> {
         ensures written { OnOk result ((fused_view (D.view self.new.inner) self.new.refused).told ≡ option_map (put at bytes.now) (fused_view (D.view self.old.inner) self.old.refused).told) }
         ensures in_range { MayWrite at (length bytes.now) (fused_view (D.view self.old.inner) self.old.refused) (fused_view (D.view self.new.inner) self.new.refused) }
         ensures kept { KeepsFuse D.view (D.keeps (is_ok result)) (is_ok result) self.old self.new }
+        ensures counted { self.new.passed ≤ self.old.passed + 1 }
         ensures fault { IsErrOf result DiskError.DiskFault → FaultedFuse D.view D.faulted self.old self.new }
         ensures memory { IsErrOf result DiskError.Memory → IsAsBefore (fused_view (D.view self.old.inner) self.old.refused) (fused_view (D.view self.new.inner) self.new.refused) }
 
@@ -246,6 +250,7 @@ impl<D: Disk> Disk for Fuse<D> {
         ensures durable { OnOk result (IsDurable (fused_view (D.view self.new.inner) self.new.refused)) }
         ensures quiet { IsQuiet (fused_view (D.view self.old.inner) self.old.refused) (fused_view (D.view self.new.inner) self.new.refused) }
         ensures kept { KeepsFuse D.view (D.keeps (is_ok result)) (is_ok result) self.old self.new }
+        ensures counted { self.new.passed ≤ self.old.passed + 1 }
         ensures fault { IsErrOf result DiskError.DiskFault → FaultedFuse D.view D.faulted self.old self.new }
         ensures memory { IsErrOf result DiskError.Memory → IsAsBefore (fused_view (D.view self.old.inner) self.old.refused) (fused_view (D.view self.new.inner) self.new.refused) }
 

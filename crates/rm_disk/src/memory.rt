@@ -90,6 +90,8 @@ impl Disk for MemDisk {
 
     ghost keeps_on = { λ one two first second third _ _. tt };
 
+    ghost counted = { λ m. length m.calls.items };
+
     ghost faulted = { λ d e. Rose (memory_view d).faults (memory_view e).faults };
 
     ghost falls_to = { λ image d e. FallsTo image d e };
@@ -116,6 +118,7 @@ impl Disk for MemDisk {
         ensures bytes { OnOk result (IfTold (memory_view self.old) (λ told. into.new ≡ take (length into.old) (drop at told))) }
         ensures quiet { IsQuiet (memory_view self.old) (memory_view self.new) }
         ensures kept { Unit {0} }
+        ensures counted { length self.new.calls.items ≤ length self.old.calls.items }
         ensures fault { IsErrOf result DiskError.DiskFault → Rose (memory_view self.old).faults (memory_view self.new).faults }
         ensures memory { IsErrOf result DiskError.Memory → ⊥ }
         ensures number { TakesNumber self.old self.new result }
@@ -134,6 +137,7 @@ impl Disk for MemDisk {
         ensures written { OnOk result ((memory_view self.new).told ≡ option_map (put at bytes.now) (memory_view self.old).told) }
         ensures in_range { MayWrite at (length bytes.now) (memory_view self.old) (memory_view self.new) }
         ensures kept { Unit {0} }
+        ensures counted { length self.new.calls.items ≤ length self.old.calls.items + 1 }
         ensures fault { IsErrOf result DiskError.DiskFault → Rose (memory_view self.old).faults (memory_view self.new).faults }
         ensures memory { IsErrOf result DiskError.Memory → IsAsBefore (memory_view self.old) (memory_view self.new) }
         ensures number { TakesNumber self.old self.new result }
@@ -162,6 +166,7 @@ impl Disk for MemDisk {
         ensures durable { OnOk result (IsDurable (memory_view self.new)) }
         ensures quiet { IsQuiet (memory_view self.old) (memory_view self.new) }
         ensures kept { Unit {0} }
+        ensures counted { length self.new.calls.items ≤ length self.old.calls.items + 1 }
         ensures fault { IsErrOf result DiskError.DiskFault → Rose (memory_view self.old).faults (memory_view self.new).faults }
         ensures memory { IsErrOf result DiskError.Memory → ⊥ }
         ensures number { TakesNumber self.old self.new result }

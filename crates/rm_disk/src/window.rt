@@ -65,6 +65,8 @@ impl<D: Disk> Disk for Window<D> {
 
     ghost keeps_on = { λ one two x y z xy yz. D.keeps_on one two x y z xy yz };
 
+    ghost counted = { λ w. D.counted w };
+
     ghost faulted = { λ w v. D.faulted w v };
 
     ghost falls_to = { λ image w v. D.falls_to image w v };
@@ -128,6 +130,7 @@ fn read_ahead<D: Disk>(disk: &mut D, at: u64, bytes: &mut Vec<u8>) -> Result<(),
     requires { at ≤ (D.view disk.old).size }
     ensures shows { ShowsBytes (D.view disk.new) at bytes.new.items }
     ensures kept { D.keeps (is_ok result) disk.old disk.new }
+    ensures counted { D.counted disk.new ≤ D.counted disk.old }
     ensures quiet { IsQuiet (D.view disk.old) (D.view disk.new) }
     ensures fault { IsErrOf result DiskError.DiskFault → D.faulted disk.old disk.new }
     ensures memory { IsErrOf result DiskError.Memory → ⊥ }

@@ -1,17 +1,22 @@
 ghost use Rattle.std.specs.Prelude.{◌≡◌, ◌+◌, ◌-◌, ◌<◌, ◌≤◌, ◌⊎◌, ◌↔◌, ℕ, List, [], ◌∷◌, ◌++◌, Bool, true, false, None, length, take, drop, vec_len, vec_capacity, is_ok, OnOk, OnErr, IfOk, IfErr, IfSome, IsErrOf, Err};
 ghost use Rattle.rm_disk.specs.Disk.{IfTold, MayWrite, IsQuiet};
 ghost use Rattle.rm_formats.specs.Device.{sized, HasPayloads, IsDamagedAt};
+ghost use Rattle.rm_journal.specs.declared.journal.TheConstants.{BODY_ROOM};
 ghost use Rattle.rm_journal.specs.Fault.{IsReadError, IsAppendError, IsRefusal};
 ghost use Rattle.rm_journal.specs.Journal.{region_of, Place, JournalInvariant, HasRead, IsOpened, GivesNext, LeavesEither, AppendsPayload, StaysInRegion, broken_after};
 
 use crate::fault::JournalError;
 use crate::region::{Region, record_at, write_through};
 use rm_disk::{Disk, DiskError};
+use rm_formats::{MOST_PAYLOAD, RECORD_FRAME, RECORD_HEAD};
 use std::alloc::Global;
 use std::marker::Model;
 
-// The room for what an append writes behind a gate: a length, 1,024 payload bytes, and the next gate.
-const BODY_ROOM: usize = 1029;
+/// How many writes and syncs of its disk an append makes at most: those of the record, and those of its gate.
+pub const CALLS_OF_APPEND: u64 = 4;
+
+// The room for what an append writes behind a gate: a length, a payload, and the next gate.
+const BODY_ROOM: usize = MOST_PAYLOAD + RECORD_HEAD as usize;
 
 /// A log of payloads in a region of a disk that may fail and fall at any moment.
 ///
@@ -34,15 +39,15 @@ impl Model for Journal {
 
     ghost view = { λ j. record { from = j.from; end = j.end; gate = j.gate; cursor = j.cursor; is_broken = j.is_broken } };
 
-    ghost invariant = { λ j. (j.from ≤ j.gate) × (j.gate ≤ j.end) × (j.from ≤ j.cursor) × (j.cursor ≤ j.end) × (1029 ≤ vec_capacity j.buffer) };
+    ghost invariant = { λ j. (j.from ≤ j.gate) × (j.gate ≤ j.end) × (j.from ≤ j.cursor) × (j.cursor ≤ j.end) × (BODY_ROOM ≤ vec_capacity j.buffer) };
 }
 
 // Puts what an append writes behind the gate into a buffer that has room for it.
 fn fill(buffer: &mut Vec<u8>, payload: &[u8])
-    requires room { 1029 ≤ vec_capacity buffer.old }
-    requires size { length payload.now ≤ 1024 }
+    requires room { BODY_ROOM ≤ vec_capacity buffer.old }
+    requires size { length payload.now ≤ MOST_PAYLOAD }
     ensures items { buffer.new.items ≡ sized payload.now ++ 0 ∷ [] }
-    ensures room { 1029 ≤ vec_capacity buffer.new }
+    ensures room { BODY_ROOM ≤ vec_capacity buffer.new }
 {
     let length = (payload.len() as u32).to_be_bytes();
     buffer.clear();
@@ -97,7 +102,7 @@ impl Journal {
         'gates: while gate < end {
             match record_at(disk, gate, end)? {
                 None => break,
-                Some(length) => gate += length + 5,
+                Some(length) => gate += length + RECORD_HEAD,
             }
         }
         let Ok(buffer) = Vec::with_capacity(alloc, BODY_ROOM) else {
@@ -145,11 +150,16 @@ impl Journal {
         if out.reserve(length as usize).is_err() {
             return Err(JournalError::Memory);
         }
-        fetch(disk, self.cursor + 5, length as usize, &mut self.buffer)?;
+        fetch(
+            disk,
+            self.cursor + RECORD_HEAD,
+            length as usize,
+            &mut self.buffer,
+        )?;
         out.clear();
         out.extend_from_slice(&self.buffer).unwrap();
         let gate = self.cursor;
-        self.cursor += length + 5;
+        self.cursor += length + RECORD_HEAD;
         Ok(Some(gate))
     }
 
@@ -166,7 +176,7 @@ impl Journal {
     pub fn append<D: Disk>(&mut self, disk: &mut D, payload: &[u8]) -> Result<(), JournalError>
         requires stands { JournalInvariant (D.view disk.old) self.old }
         requires low { 1 ≤ length payload.now }
-        requires high { length payload.now ≤ 1024 }
+        requires high { length payload.now ≤ MOST_PAYLOAD }
 
         ensures stands { JournalInvariant (D.view disk.new) self.new }
         ensures region { StaysInRegion self.old self.new }
@@ -175,25 +185,26 @@ impl Journal {
         // A crash at any moment leaves the payloads from before, or these and the new one.
         ensures any_moment { self.old.is_broken ≡ false → LeavesEither (D.view disk.old) (D.view disk.new) self.old payload.now }
         ensures added { OnOk result (AppendsPayload (D.view disk.old) (D.view disk.new) self.old payload.now) }
-        ensures gate { OnOk result (self.new.gate ≡ self.old.gate + length payload.now + 5) }
+        ensures gate { OnOk result (self.new.gate ≡ self.old.gate + length payload.now + RECORD_HEAD) }
         ensures kept { D.keeps (is_ok result) disk.old disk.new }
+        ensures counted { D.counted disk.new ≤ D.counted disk.old + CALLS_OF_APPEND }
         ensures region_alone { MayWrite self.old.from (self.old.end - self.old.from) (D.view disk.old) (D.view disk.new) }
 
         // Of the region it writes no more than the closed gate, what it puts behind that, and the next gate.
-        ensures place_alone { MayWrite self.old.gate (length payload.now + 6) (D.view disk.old) (D.view disk.new) }
+        ensures place_alone { MayWrite self.old.gate (length payload.now + RECORD_FRAME) (D.view disk.old) (D.view disk.new) }
 
         // When each error comes, and what it leaves.
         ensures refused { IfErr result (λ error. IsRefusal error → (self.new ≡ self.old) × (disk.new ≡ disk.old)) }
         ensures errors { IfErr result IsAppendError }
         ensures reopen { (result ≡ Err JournalError.NeedsReopen) ↔ (self.old.is_broken ≡ true) }
-        ensures full { self.old.is_broken ≡ false → (result ≡ Err (JournalError.Full (length payload.now + 6) (self.old.end - self.old.gate))) ↔ (self.old.end - self.old.gate < length payload.now + 6) }
-        ensures only_full { (needed room : ℕ) → result ≡ Err (JournalError.Full needed room) → (needed ≡ length payload.now + 6) × (room ≡ self.old.end - self.old.gate) × (room < needed) }
+        ensures full { self.old.is_broken ≡ false → (result ≡ Err (JournalError.Full (length payload.now + RECORD_FRAME) (self.old.end - self.old.gate))) ↔ (self.old.end - self.old.gate < length payload.now + RECORD_FRAME) }
+        ensures only_full { (needed room : ℕ) → result ≡ Err (JournalError.Full needed room) → (needed ≡ length payload.now + RECORD_FRAME) × (room ≡ self.old.end - self.old.gate) × (room < needed) }
         ensures fault { IsErrOf result JournalError.DiskFault → D.faulted disk.old disk.new }
     {
         if self.is_broken {
             return Err(JournalError::NeedsReopen);
         }
-        let needed = payload.len() as u64 + 6;
+        let needed = payload.len() as u64 + RECORD_FRAME;
         let room = self.end - self.gate;
         if needed > room {
             return Err(JournalError::Full { needed, room });

@@ -13,5 +13,5 @@ mod journal;
 mod region;
 
 pub use fault::JournalError;
-pub use journal::Journal;
+pub use journal::{CALLS_OF_APPEND, Journal};
 pub use region::Region;

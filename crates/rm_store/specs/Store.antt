@@ -5,6 +5,7 @@ use Rattle.rm_types.specs.declared.operations.Op.TheVariants.{Epoch}
 use Rattle.rm_formats.specs.Frames.{frame}
 use Rattle.rm_types.specs.Ranges.{IsOperation}
 use Rattle.rm_types.specs.Records.{Records, records, stray}
+use Rattle.rm_formats.specs.declared.TheConstants.{RECORD_FRAME}
 use Rattle.rm_formats.specs.Device.{DeviceHolds, journal_records}
 use Rattle.rm_disk.specs.Disk.{DiskView, EachImage, AtEachMoment}
 use Rattle.rm_disk.specs.Fuse.{Fused, fused_view}
@@ -60,7 +61,7 @@ pub record AddsOp (disk : DiskView) (ops : List Op) (op : Op) : Type 0 where
 
 -- How many bytes a disk must have left for one more operation: its frame's, a length's, and two gates'.
 abbrev pub needed_for : Op → ℕ
-needed_for op = length (frame op) + 6
+needed_for op = length (frame op) + RECORD_FRAME
 
 -- How many bytes a disk of so many has left behind the records of these operations.
 abbrev pub room_behind : ℕ → List Op → ℕ

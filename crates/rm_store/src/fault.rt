@@ -2,24 +2,31 @@ ghost use Rattle.std.specs.Prelude.{◌≡◌};
 
 use rm_journal::JournalError;
 use rm_types::NoMemory;
+use thiserror::Error;
 
 /// Why a call of a store did not succeed.
-#[derive(Clone, Copy, Debug, PartialEq, Eq)]
+#[derive(Clone, Copy, Debug, PartialEq, Eq, Error)]
 pub enum StoreError {
     /// The disk failed, and counted the fault.
+    #[error("the disk failed")]
     DiskFault,
     /// An open gate stands at this offset of the disk, and behind it no record, or one whose payload isn't
     /// exactly the frame of an operation.
+    #[error("the store is damaged at byte {offset}")]
     Damaged { offset: u64 },
     /// The operation of this number, counted from 0, doesn't fit those before it; its gate stands at this
     /// offset of the disk.
+    #[error("the store's operation {number} doesn't fit those before it, at byte {offset}")]
     Stray { number: u64, offset: u64 },
     /// The operation needs so many bytes behind those that are stored, and the disk has only this room.
+    #[error("the store is full: {needed} bytes are needed, {room} are left")]
     Full { needed: u64, room: u64 },
     /// An earlier append failed, so that what the disk holds is known again only once the store is opened
     /// anew.
+    #[error("an earlier append failed, so that the store must be opened anew")]
     NeedsReopen,
     /// No memory was found.
+    #[error("out of memory")]
     Memory,
 }
 

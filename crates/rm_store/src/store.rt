@@ -1,4 +1,4 @@
-ghost use Rattle.std.specs.Prelude.{◌≡◌, ◌⊎◌, ◌↔◌, ◌<◌, ℕ, List, Bool, true, false, is_ok, OnOk, IfOk, IfErr, IsErrOf, MatchResult, Err};
+ghost use Rattle.std.specs.Prelude.{◌≡◌, ◌⊎◌, ◌↔◌, ◌+◌, ◌<◌, ◌≤◌, ℕ, List, Bool, true, false, is_ok, OnOk, IfOk, IfErr, IsErrOf, MatchResult, Err};
 ghost use Rattle.rm_types.specs.declared.operations.Op.{Op as AnyOp};
 ghost use Rattle.rm_types.specs.Ranges.{IsOperation};
 ghost use Rattle.rm_types.specs.Records.{records, fits_records};
@@ -14,7 +14,7 @@ use crate::reading::{Read, read_all};
 use crate::writing::write_op;
 use rm_disk::{Disk, Fuse};
 use rm_frame::Encoder;
-use rm_journal::Journal;
+use rm_journal::{CALLS_OF_APPEND, Journal};
 use rm_tree::Tree;
 use rm_types::{Items, Op};
 use std::alloc::Global;
@@ -104,6 +104,7 @@ impl<D: Disk> Store<D> {
         ensures any_moment { self.old.is_broken ≡ false → (ops : List AnyOp) → Has (seen D.view self.old.disk) ops → fits_records (records ops) op.now ≡ true → LeavesOps (seen D.view self.old.disk) (seen D.view self.new.disk) ops op.now }
         ensures added { OnOk result ((ops : List AnyOp) → Has (seen D.view self.old.disk) ops → fits_records (records ops) op.now ≡ true → AddsOp (seen D.view self.new.disk) ops op.now) }
         ensures kept { KeepsFuse D.view (D.keeps (is_ok result)) (is_ok result) self.old.disk self.new.disk }
+        ensures counted { self.new.disk.passed ≤ self.old.disk.passed + CALLS_OF_APPEND }
         ensures goes_on { IsLaterView (seen D.view self.old.disk) (seen D.view self.new.disk) }
 
         // Where a store is begun by an Epoch, no crash leaves what is taken for another's file.

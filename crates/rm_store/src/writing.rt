@@ -1,4 +1,4 @@
-ghost use Rattle.std.specs.Prelude.{◌≡◌, ◌⊎◌, ◌<◌, ℕ, List, true, false, is_ok, OnOk, IfErr, IsErrOf, Err};
+ghost use Rattle.std.specs.Prelude.{◌≡◌, ◌⊎◌, ◌+◌, ◌<◌, ◌≤◌, ℕ, List, true, false, is_ok, OnOk, IfErr, IsErrOf, Err};
 ghost use Rattle.rm_types.specs.declared.operations.Op.{Op as AnyOp};
 ghost use Rattle.rm_types.specs.Ranges.{IsOperation};
 ghost use Rattle.rm_types.specs.Records.{records, fits_records};
@@ -9,7 +9,7 @@ ghost use Rattle.rm_store.specs.Store.{IsWhole, Has, LeavesOps, AddsOp, LooksOwn
 use crate::fault::StoreError;
 use rm_disk::Disk;
 use rm_frame::Encoder;
-use rm_journal::Journal;
+use rm_journal::{CALLS_OF_APPEND, Journal};
 use rm_types::Op;
 
 /// Writes an operation behind those that a disk holds.
@@ -28,6 +28,7 @@ pub fn write_op<D: Disk>(
     ensures any_moment { (ops : List AnyOp) → Has (D.view disk.old) ops → fits_records (records ops) op.now ≡ true → LeavesOps (D.view disk.old) (D.view disk.new) ops op.now }
     ensures added { OnOk result ((ops : List AnyOp) → Has (D.view disk.old) ops → fits_records (records ops) op.now ≡ true → AddsOp (D.view disk.new) ops op.now) }
     ensures kept { D.keeps (is_ok result) disk.old disk.new }
+    ensures counted { D.counted disk.new ≤ D.counted disk.old + CALLS_OF_APPEND }
     ensures goes_on { IsLaterView (D.view disk.old) (D.view disk.new) }
     ensures own { (ops : List AnyOp) → Has (D.view disk.old) ops → BeginsByEpoch ops op.now → LooksOwn (D.view disk.old) → StaysOwn (D.view disk.old) (D.view disk.new) }
 
