@@ -1,5 +1,5 @@
 -- Rows of the table, one by one.
-use Rattle.std.proofs.Common.{◌≡◌, Option, Some, None, refl, ap, ◌∙◌, sym}
+use Rattle.std.proofs.Common.{◌≡◌, ◌⊎◌, inl, inr, Option, Some, refl, ap, ◌∙◌, sym}
 use Rattle.rm_types.specs.declared.operations.How.{How}
 use Rattle.rm_types.specs.declared.operations.How.TheVariants.{Finished as Well, Failed as Badly, Killed as ByKill}
 use Rattle.rm_app.specs.declared.states.AppState.{AppState}
@@ -8,47 +8,28 @@ use Rattle.rm_app.specs.declared.states.AppEvent.{AppEvent}
 use Rattle.rm_app.specs.declared.states.AppEvent.TheVariants.{Start, Kept, Accept, Register, Failed as AttemptFailed, Kill, End, EndKept}
 use Rattle.rm_app.specs.declared.states.AppAction.{AppAction}
 use Rattle.rm_app.specs.declared.states.AppAction.TheVariants.{IssueApp, PostSaved, PostAttempt, IssueEnd, PostRetire, Nothing}
-use Rattle.rm_app.specs.Table.{Row, IsFinal, state_of}
+use Rattle.rm_app.specs.Table.{Row, IsFinal, transition, next_state, state_of}
 use Rattle.rm_app.specs.Laws.{RowsAreOne, EndIsKept, EndsAreKept}
 
--- the row of a state and an event, if there is one
-answer : AppState → AppEvent → Option (AppState × AppAction)
-answer New Start = Some (NewSaving, IssueApp)
-answer NewSaving Kept = Some (Submitted, PostSaved)
-answer Submitted Accept = Some (Accepted, PostAttempt)
-answer Submitted End = Some (FinalSaving, IssueEnd)
-answer Accepted Register = Some (Running, Nothing)
-answer Accepted Kill = Some (Killing, Nothing)
-answer Accepted End = Some (FinalSaving, IssueEnd)
-answer Running AttemptFailed = Some (Accepted, Nothing)
-answer Running Kill = Some (Killing, Nothing)
-answer Running End = Some (FinalSaving, IssueEnd)
-answer Killing End = Some (FinalSaving, IssueEnd)
-answer FinalSaving (EndKept Well) = Some (Finished, PostRetire)
-answer FinalSaving (EndKept Badly) = Some (Failed, PostRetire)
-answer FinalSaving (EndKept ByKill) = Some (Killed, PostRetire)
-answer _ _ = None
-
-answer-row : {state : AppState} {event : AppEvent} {next : AppState} {action : AppAction} → Row state event next action → answer state event ≡ Some (next, action)
-unfolding answer
-answer-row Row.start = refl
-answer-row Row.kept = refl
-answer-row Row.accept = refl
-answer-row Row.register = refl
-answer-row Row.attempt_failed = refl
-answer-row Row.kill_accepted = refl
-answer-row Row.kill_running = refl
-answer-row Row.end_submitted = refl
-answer-row Row.end_accepted = refl
-answer-row Row.end_running = refl
-answer-row Row.end_killing = refl
-answer-row Row.finished = refl
-answer-row Row.failed = refl
-answer-row Row.killed = refl
+transition_of_row : {state : AppState} {event : AppEvent} {next : AppState} {action : AppAction} → Row state event next action → transition state event ≡ Some (next, action)
+transition_of_row Row.start = refl
+transition_of_row Row.kept = refl
+transition_of_row Row.accept = refl
+transition_of_row Row.register = refl
+transition_of_row Row.attempt_failed = refl
+transition_of_row Row.kill_accepted = refl
+transition_of_row Row.kill_running = refl
+transition_of_row Row.end_submitted = refl
+transition_of_row Row.end_accepted = refl
+transition_of_row Row.end_running = refl
+transition_of_row Row.end_killing = refl
+transition_of_row Row.finished = refl
+transition_of_row Row.failed = refl
+transition_of_row Row.killed = refl
 
 pub rows_are_one : RowsAreOne
 rows_are_one state event next other action another one two =
-    let same : ◌≡◌ {A = Option (AppState × AppAction)} (Some (next, action)) (Some (other, another)) = sym (answer-row one) ∙ answer-row two in
+    let same : ◌≡◌ {A = Option (AppState × AppAction)} (Some (next, action)) (Some (other, another)) = sym (transition_of_row one) ∙ transition_of_row two in
     let both : ◌≡◌ {A = AppState × AppAction} (next, action) (other, another) = cc in
     (ap (λ (pair : AppState × AppAction). pair.0) both, ap (λ (pair : AppState × AppAction). pair.1) both)
 
@@ -103,3 +84,43 @@ ends Row.killed final = (refl, (ByKill, (refl, refl)))
 
 pub ends_are_kept : EndsAreKept
 ends_are_kept = record { into = λ state event next action row final. ends row final; retiring = λ state event next row. retires row }
+
+-- a row leads to the state after its event
+pub row_leads : {state : AppState} {event : AppEvent} {next : AppState} {action : AppAction} → Row state event next action → next_state state event ≡ next
+row_leads row = rw (transition_of_row row) refl
+
+-- where there is no row the state stays
+pub stays_without_row : (state : AppState) (event : AppEvent) → ((next : AppState) (action : AppAction) → ¬ Row state event next action) → next_state state event ≡ state
+stays_without_row New Start none = absurd (none NewSaving IssueApp Row.start)
+stays_without_row NewSaving Kept none = absurd (none Submitted PostSaved Row.kept)
+stays_without_row Submitted Accept none = absurd (none Accepted PostAttempt Row.accept)
+stays_without_row Submitted End none = absurd (none FinalSaving IssueEnd Row.end_submitted)
+stays_without_row Accepted Register none = absurd (none Running Nothing Row.register)
+stays_without_row Accepted Kill none = absurd (none Killing Nothing Row.kill_accepted)
+stays_without_row Accepted End none = absurd (none FinalSaving IssueEnd Row.end_accepted)
+stays_without_row Running AttemptFailed none = absurd (none Accepted Nothing Row.attempt_failed)
+stays_without_row Running Kill none = absurd (none Killing Nothing Row.kill_running)
+stays_without_row Running End none = absurd (none FinalSaving IssueEnd Row.end_running)
+stays_without_row Killing End none = absurd (none FinalSaving IssueEnd Row.end_killing)
+stays_without_row FinalSaving (EndKept Well) none = absurd (none Finished PostRetire Row.finished)
+stays_without_row FinalSaving (EndKept Badly) none = absurd (none Failed PostRetire Row.failed)
+stays_without_row FinalSaving (EndKept ByKill) none = absurd (none Killed PostRetire Row.killed)
+stays_without_row _ _ none = refl
+
+-- a state stays by an event, or a row leads to where it goes
+pub stays_or_row : (state : AppState) (event : AppEvent) → (next_state state event ≡ state) ⊎ ((by : AppEvent) × (action : AppAction) × Row state by (next_state state event) action)
+stays_or_row New Start = inr (Start, IssueApp, Row.start)
+stays_or_row NewSaving Kept = inr (Kept, PostSaved, Row.kept)
+stays_or_row Submitted Accept = inr (Accept, PostAttempt, Row.accept)
+stays_or_row Submitted End = inr (End, IssueEnd, Row.end_submitted)
+stays_or_row Accepted Register = inr (Register, Nothing, Row.register)
+stays_or_row Accepted Kill = inr (Kill, Nothing, Row.kill_accepted)
+stays_or_row Accepted End = inr (End, IssueEnd, Row.end_accepted)
+stays_or_row Running AttemptFailed = inr (AttemptFailed, Nothing, Row.attempt_failed)
+stays_or_row Running Kill = inr (Kill, Nothing, Row.kill_running)
+stays_or_row Running End = inr (End, IssueEnd, Row.end_running)
+stays_or_row Killing End = inr (End, IssueEnd, Row.end_killing)
+stays_or_row FinalSaving (EndKept Well) = inr ((EndKept Well), PostRetire, Row.finished)
+stays_or_row FinalSaving (EndKept Badly) = inr ((EndKept Badly), PostRetire, Row.failed)
+stays_or_row FinalSaving (EndKept ByKill) = inr ((EndKept ByKill), PostRetire, Row.killed)
+stays_or_row _ _ = inl refl

@@ -1,4 +1,5 @@
 -- The table of transitions of an application. This project's own, after the state machine of YARN's `RMAppImpl`.
+use Rattle.std.specs.Prelude.{Option, Some, None}
 use Rattle.rm_types.specs.declared.operations.How.{How}
 use Rattle.rm_types.specs.declared.operations.How.TheVariants.{Finished as Well, Failed as Badly, Killed as ByKill}
 use Rattle.rm_app.specs.declared.states.AppState.{AppState}
@@ -34,3 +35,31 @@ pub data Row : AppState → AppEvent → AppState → AppAction → Type 0 where
 -- no row leads from the state
 abbrev pub IsFinal : AppState → Type 0
 IsFinal state = (event : AppEvent) (next : AppState) (action : AppAction) → ¬ Row state event next action
+
+-- the transition that the table has for a state and an event, if it has one: the next state, and what is then to be done
+abbrev pub transition : AppState → AppEvent → Option (AppState × AppAction)
+transition New Start = Some (NewSaving, IssueApp)
+transition NewSaving Kept = Some (Submitted, PostSaved)
+transition Submitted Accept = Some (Accepted, PostAttempt)
+transition Submitted End = Some (FinalSaving, IssueEnd)
+transition Accepted Register = Some (Running, Nothing)
+transition Accepted Kill = Some (Killing, Nothing)
+transition Accepted End = Some (FinalSaving, IssueEnd)
+transition Running AttemptFailed = Some (Accepted, Nothing)
+transition Running Kill = Some (Killing, Nothing)
+transition Running End = Some (FinalSaving, IssueEnd)
+transition Killing End = Some (FinalSaving, IssueEnd)
+transition FinalSaving (EndKept Well) = Some (Finished, PostRetire)
+transition FinalSaving (EndKept Badly) = Some (Failed, PostRetire)
+transition FinalSaving (EndKept ByKill) = Some (Killed, PostRetire)
+transition _ _ = None
+
+-- the state that a transition leads to, and the one before where there is none
+abbrev pub target_of : AppState → Option (AppState × AppAction) → AppState
+target_of state None = state
+target_of state (Some row) = row.0
+
+-- the state after an event: where the transition of the two leads, if the table has one, and else the same, since an event that
+-- has no row is ignored
+abbrev pub next_state : AppState → AppEvent → AppState
+next_state state event = target_of state (transition state event)

@@ -1,4 +1,5 @@
 -- The table of transitions of an attempt. This project's own, after the state machine of YARN's `RMAppAttemptImpl`.
+use Rattle.std.specs.Prelude.{Bool, true, false, Option, Some, None}
 use Rattle.rm_attempt.specs.declared.states.AttemptState.{AttemptState}
 use Rattle.rm_attempt.specs.declared.states.AttemptState.TheVariants.{Scheduled, Granted, Saving, Live, Registered, Finishing, Ending, Ended, Dropped}
 use Rattle.rm_attempt.specs.declared.states.AttemptEvent.{AttemptEvent}
@@ -24,3 +25,41 @@ pub data Row : AttemptState → AttemptEvent → AttemptState → AttemptAction 
 -- no row leads from the state
 abbrev pub IsFinal : AttemptState → Type 0
 IsFinal state = (event : AttemptEvent) (next : AttemptState) (action : AttemptAction) → ¬ Row state event next action
+
+-- the transition that the table has for a state and an event, if it has one: the next state, and what is then to be done
+abbrev pub transition : AttemptState → AttemptEvent → Option (AttemptState × AttemptAction)
+transition Scheduled Grant = Some (Granted, PostGranted)
+transition Granted Requeue = Some (Scheduled, PostAdded)
+transition Granted Issue = Some (Saving, IssueAttempt)
+transition Saving Kept = Some (Live, PostSaved)
+transition Live Register = Some (Registered, Nothing)
+transition Registered Finish = Some (Finishing, PostFinish)
+transition Live End = Some (Ending, IssueEnd)
+transition Registered End = Some (Ending, IssueEnd)
+transition Finishing End = Some (Ending, IssueEnd)
+transition Ending EndKept = Some (Ended, PostDone)
+transition Scheduled Drop = Some (Dropped, Nothing)
+transition Granted Drop = Some (Dropped, Nothing)
+transition _ _ = None
+
+-- the state that a transition leads to, and the one before where there is none
+abbrev pub target_of : AttemptState → Option (AttemptState × AttemptAction) → AttemptState
+target_of state None = state
+target_of state (Some row) = row.0
+
+-- the state after an event: where the transition of the two leads, if the table has one, and else the same, since an event that
+-- has no row is ignored
+abbrev pub next_state : AttemptState → AttemptEvent → AttemptState
+next_state state event = target_of state (transition state event)
+
+-- an attempt lives: the store has it, and its end isn't on the way to the store
+abbrev pub is_alive : AttemptState → Bool
+is_alive Scheduled = false
+is_alive Granted = false
+is_alive Saving = false
+is_alive Live = true
+is_alive Registered = true
+is_alive Finishing = true
+is_alive Ending = false
+is_alive Ended = false
+is_alive Dropped = false

@@ -1,3 +1,6 @@
+ghost use Rattle.std.specs.Prelude.{◌≡◌};
+ghost use Rattle.rm_attempt.specs.Table.{is_alive};
+
 /// How far an attempt to run an application's master has come.
 #[derive(Clone, Copy, Debug, PartialEq, Eq)]
 pub enum AttemptState {
@@ -19,6 +22,18 @@ pub enum AttemptState {
     Ended,
     /// It was given up before it was saved.
     Dropped,
+}
+
+impl AttemptState {
+    /// Whether an attempt in this state lives: the store has it, and its end isn't on the way to the store.
+    pub fn is_alive(self) -> bool
+        ensures { result ≡ is_alive self }
+    {
+        matches!(
+            self,
+            AttemptState::Live | AttemptState::Registered | AttemptState::Finishing
+        )
+    }
 }
 
 /// What happens to an attempt.

@@ -9,3 +9,4 @@ mod Moving
 pub mod Telling
 pub mod Left
 mod Spelling
+mod FinalStates

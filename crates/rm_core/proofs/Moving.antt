@@ -35,12 +35,15 @@ use Rattle.rm_invariant.proofs.measure.Lives.{begin_weighs, blow_lighter, down_w
 use Rattle.rm_invariant.specs.Phases.{Simulates}
 use Rattle.rm_invariant.specs.Invariant.{LifeInvariant}
 use Rattle.rm_invariant.proofs.Phases.{blow_leads, down_leads, fits_in, framed_in, goes_leads, hand_leads, handed_awaits, keep_leads, main_called, main_leads, recorded_of, sched_leads, serving_open, serving_shut, shut_serves, unblown_of}
+use Rattle.rm_invariant.specs.Transitions.{NodesFollowTable, RowsFollowTables}
+use Rattle.rm_invariant.proofs.Transitions.{client_goes, clock_goes, kept_goes, main_goes, master_goes, node_goes, rows_stay, sched_goes}
+use Rattle.rm_invariant.proofs.NodeTransitions.{client_nodes, clock_nodes, kept_nodes, main_event_nodes, master_nodes, node_nodes, nodes_stay, sched_nodes}
 use Rattle.rm_invariant.proofs.Settling.{settle_leads}
 use Rattle.rm_core.specs.declared.manager.Move.{Move}
 use Rattle.rm_core.specs.declared.manager.Move.TheVariants.{Begin, Blown, Down, Hand, Kept, Main, Sched, Serve, Settle}
 use Rattle.rm_core.specs.Moves.{CanBeginOver, MoveEffect, LifeAround}
 use Rattle.rm_core.specs.Invariant.{HasPhase, IsSoundCore, LogInvariant}
-use Rattle.rm_core.specs.Queues.{answered_where, landed_in, served_moved}
+use Rattle.rm_core.specs.Queues.{answered, answered_where, landed_in, served_moved}
 use Rattle.rm_core.specs.Seen.{IsToBeKept, Seen, handed_op}
 use Rattle.rm_core.specs.Serving.{IsReply, IsReplyWhere, IsServed}
 use Rattle.rm_core.specs.Words.{new_manager}
@@ -111,6 +114,7 @@ module _ (t : Tables) (log : List Entry) (s : HasPhase t) where
           served = own.served;
           blown = own.blown;
           tables = tt;
+          states = (main_goes s.history t event rest s.phase front, main_event_nodes t event rest front);
           settings = own.leads.settings;
           began = began_on own.leads;
         };
@@ -152,6 +156,7 @@ module _ (t : Tables) (log : List Entry) (s : HasPhase t) where
           served = own.served;
           blown = own.blown;
           tables = tt;
+          states = (sched_goes t event list, sched_nodes t event list);
           settings = own.leads.settings;
           began = began_on own.leads;
         };
@@ -190,6 +195,7 @@ module _ (t : Tables) (log : List Entry) (s : HasPhase t) where
           served = refl;
           blown = refl;
           tables = tt;
+          states = (rows_stay t.rows, nodes_stay t.nodes);
           settings = refl;
           began = refl;
         };
@@ -215,6 +221,7 @@ module _ (t : Tables) (log : List Entry) (s : HasPhase t) where
           served = own.served;
           blown = own.blown;
           tables = tt;
+          states = (kept_goes op t, kept_nodes t op);
           settings = own.leads.settings;
           began = began_on own.leads;
         };
@@ -249,6 +256,7 @@ module _ (t : Tables) (log : List Entry) (s : HasPhase t) where
           served = refl;
           blown = refl;
           tables = tt;
+          states = (rows_stay t.rows, nodes_stay t.nodes);
           settings = refl;
           began = refl;
         };
@@ -283,6 +291,7 @@ module _ (t : Tables) (log : List Entry) (s : HasPhase t) where
           served = refl;
           blown = refl;
           tables = refl;
+          states = (rows_stay t.rows, nodes_stay t.nodes);
           settings = refl;
           began = refl;
         };
@@ -308,6 +317,7 @@ module _ (t : Tables) (log : List Entry) (s : HasPhase t) where
           served = refl;
           blown = refl;
           tables = tt;
+          states = tt;
           settings = refl;
           began = refl;
         };
@@ -334,6 +344,7 @@ module _ (t : Tables) (log : List Entry) (s : HasPhase t) where
           served = refl;
           blown = refl;
           tables = tt;
+          states = tt;
           settings = refl;
           began = refl;
         };
@@ -349,6 +360,16 @@ module _ (t : Tables) (log : List Entry) (s : HasPhase t) where
   -- a life that is open
   pub serving_runs : is_ready t Client ≡ true → t.is_open ≡ true → LifeInvariant s.history t
   serving_runs ready open_ = serving_open s.history t s.phase (both t.alive (t.is_open || t.blown) ready).0 open_
+
+  -- what a message of an open life does to the rows
+  serve_rows : (message : Message) (reply : Reply) → t.is_open ≡ true → RowsFollowTables t.rows (served_moved message reply t).rows × NodesFollowTable t.nodes (served_moved message reply t).nodes
+  serve_rows message reply open_ = subst (λ (b : Bool). RowsFollowTables t.rows (answered_where b message reply t).rows × NodesFollowTable t.nodes (answered_where b message reply t).nodes) (sym open_) (by message)
+    where
+      by : (message : Message) → RowsFollowTables t.rows (answered message reply t).rows × NodesFollowTable t.nodes (answered message reply t).nodes
+      by (messages.Client user ask) = (client_goes t ask reply, client_nodes t ask reply)
+      by (messages.Master attempt ask) = (master_goes t attempt ask reply, master_nodes t attempt ask reply)
+      by (messages.Node name ask) = (node_goes t name ask reply, node_nodes t name ask reply)
+      by (messages.Clock ask) = (clock_goes t ask reply, clock_nodes t ask reply)
 
   -- a message of an open life is answered
   open_made : (message : Message) → IsMessage message → t.served < most_served → is_ready t Client ≡ true → t.is_open ≡ true → (reply : Reply) → IsReply t message reply → (x : Unit {0})
@@ -373,6 +394,7 @@ module _ (t : Tables) (log : List Entry) (s : HasPhase t) where
           served = refl;
           blown = goes.stays.blown;
           tables = tt;
+          states = serve_rows message reply open_;
           settings = leads.settings;
           began = began_on leads;
         };
@@ -399,6 +421,7 @@ module _ (t : Tables) (log : List Entry) (s : HasPhase t) where
           served = refl;
           blown = refl;
           tables = tt;
+          states = (rows_stay t.rows, nodes_stay t.nodes);
           settings = refl;
           began = refl;
         };

@@ -22,3 +22,4 @@ pub mod Seen
 pub mod Moves
 pub mod Words
 pub mod Spelled
+pub mod FinalStates

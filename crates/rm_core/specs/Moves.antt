@@ -7,6 +7,7 @@ use Rattle.rm_types.specs.declared.messages.Lane.TheVariants.{Main as MainLane, 
 use Rattle.rm_types.specs.declared.operations.Op.{Op}
 use Rattle.rm_types.specs.declared.replies.Reply.{Reply}
 use Rattle.rm_types.specs.declared.settings.Settings.{Settings}
+use Rattle.rm_types.specs.declared.limits.TheConstants.{EPOCHS, STAMPS}
 use Rattle.rm_types.specs.Ranges.{IsOperation}
 use Rattle.rm_types.specs.Records.{Records, records, stray}
 use Rattle.rm_model.specs.Lawful.{state_after}
@@ -20,6 +21,7 @@ use Rattle.rm_tables.specs.declared.tables.Tables.{Tables}
 use Rattle.rm_tables.specs.Lives.{is_ready, may_go_down}
 use Rattle.rm_invariant.specs.messages.Ranges.{IsMessage}
 use Rattle.rm_invariant.specs.measure.Measure.{begin_measure, message_measure, measure}
+use Rattle.rm_invariant.specs.Transitions.{NodesFollowTable, RowsFollowTables}
 use Rattle.rm_core.specs.declared.manager.Move.{Move}
 use Rattle.rm_core.specs.declared.manager.Move.TheVariants.{Serve, Main, Sched, Hand, Kept, Blown, Settle, Down, Begin}
 
@@ -33,8 +35,8 @@ pub record IsOfStore (tree : Records) : Type 0 where
 -- a life may begin over what is recorded, whatever that is: there is an epoch and a stamp left
 pub record CanBeginOver (tree : Records) : Type 0 where
   pub of_store : IsOfStore tree
-  pub epoch : tree.next_epoch < 2 ^ 24
-  pub stamp : tree.stamp < 2 ^ 63 - 1
+  pub epoch : tree.next_epoch < EPOCHS
+  pub stamp : tree.stamp < STAMPS - 1
 
 -- a move may be asked for: the number that is handed to a life is 1 to 10^15; the parts of a message are in their ranges, and
 -- not more than 100,000 are served in a life
@@ -127,6 +129,13 @@ abbrev pub TablesStay : Move → Tables → Tables → Type 0
 TablesStay Settle old new = new ≡ old
 TablesStay _ old new = Unit {0}
 
+-- by a move the state of each application, and that of its current attempt, and that of each node, goes along a row of its
+-- table, or stays; of a life that begins or goes down this says nothing
+abbrev pub StatesFollowTables : Move → Tables → Tables → Type 0
+StatesFollowTables (Begin tree handed) old new = Unit {0}
+StatesFollowTables Down old new = Unit {0}
+StatesFollowTables _ old new = RowsFollowTables old.rows new.rows × NodesFollowTable old.nodes new.nodes
+
 -- what a move that is made does: it adds its entry; over each store for which the log was lawful, and over which a life that begins
 -- begins, it is lawful still; it was ready; less is left to do, as far as its kind says
 pub record MoveEffect (next : Move) (old new : Seen) : Type 0 where
@@ -138,5 +147,6 @@ pub record MoveEffect (next : Move) (old new : Seen) : Type 0 where
   pub served : new.tables.served ≡ served_after next old.tables.served
   pub blown : new.tables.blown ≡ blown_after next old.tables.blown
   pub tables : TablesStay next old.tables new.tables
+  pub states : StatesFollowTables next old.tables new.tables
   pub settings : new.settings ≡ old.settings
   pub began : as_new new ≡ as_new old

@@ -1,6 +1,7 @@
 ghost use Rattle.std.specs.Prelude.{List};
 ghost use Rattle.rm_types.specs.declared.operations.Op.{Op};
 ghost use Rattle.rm_model.specs.Lawful.{Lawful};
+ghost use Rattle.rm_core.specs.FinalStates.{AppEndsAreKept, AttemptEndsAreKept, FinalAppsStay, FinalAttemptsStay};
 ghost use Rattle.rm_core.specs.Seen.{StandsFor};
 ghost use Rattle.rm_core.specs.Spelled.{spelled};
 
@@ -12,3 +13,16 @@ pub fn law_spelled(core: &Core)
 {
     let _ = core.log();
 }
+
+/// No move within a life leads an application from a final state, or an attempt as long as it is the current one.
+pub fn law_final_states()
+    ensures applications { FinalAppsStay }
+    ensures attempts { FinalAttemptsStay }
+{}
+
+/// By the moves within a life an application comes to a final state only from where its end is being saved, and its current attempt to
+/// where it has ended likewise: so an end is told only once it is kept.
+pub fn law_ends_are_kept()
+    ensures applications { AppEndsAreKept }
+    ensures attempts { AttemptEndsAreKept }
+{}

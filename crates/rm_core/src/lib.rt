@@ -13,6 +13,6 @@ mod likeness;
 mod manager;
 mod moves;
 
-pub use laws::law_spelled;
+pub use laws::{law_ends_are_kept, law_final_states, law_spelled};
 pub use manager::{Core, Move};
 pub use rm_tables::Refused;

@@ -14,3 +14,5 @@ pub mod KeptPreserve
 pub mod MessagesPreserve
 pub mod Phases
 pub mod Settling
+pub mod Transitions
+pub mod NodeTransitions

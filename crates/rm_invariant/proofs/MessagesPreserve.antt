@@ -127,7 +127,7 @@ module _ (h : History) (t : Tables) (r : LifeInvariant h t) where
     master_runs attempt ask reply in_range is =
         let s = master_whole t.settings h t r.whole refl r.sides.finishes attempt ask reply in_range is in
         served_runs _ (after_master attempt ask reply t) s (master_stays t attempt ask reply) (master_sides h t r.sides (t.served + 1) r.whole life_shown.live attempt ask reply in_range is s)
-        (master_fits t.settings h t r.fits attempt ask reply s) (master_served t r.ranged few attempt ask reply in_range) (master_few attempt ask reply t r.reported)
+        (master_fits t.settings h t r.fits life_shown.live attempt ask reply is s) (master_served t r.ranged few attempt ask reply in_range) (master_few attempt ask reply t r.reported)
         (master_on_way t.settings h t r.on_way r.whole refl r.sides.finishes attempt ask reply is s)
 
     pub node_runs : (name : List ℕ) (ask : NodeAsk) (reply : Reply) → IsText Node name → IsNodeAsk ask → reply ≡ node_reply (abstract_scene h t) name ask

@@ -12,3 +12,4 @@ pub mod Core
 pub mod Invariant
 pub mod Preserves
 pub mod Phases
+pub mod Transitions

@@ -3,6 +3,7 @@ use Rattle.std.specs.Prelude.{◌≡◌, ◌≢◌, ◌+◌, ◌<◌, ◌^◌, L
 use Rattle.rm_types.specs.declared.entries.Entry.{Entry}
 use Rattle.rm_types.specs.declared.operations.Op.{Op}
 use Rattle.rm_types.specs.declared.operations.Op.TheVariants.{Epoch}
+use Rattle.rm_types.specs.declared.limits.TheConstants.{STAMPS}
 use Rattle.rm_types.specs.Records.{fits_records, records}
 use Rattle.rm_model.specs.Changes.{after}
 use Rattle.rm_model.specs.Rules.{Allowed}
@@ -29,7 +30,7 @@ pub record Beginning (h : History) (t : Tables) : Type 0 where
   pub limits : KeepsLimits t.settings
   pub ranged : InBounds t
   pub rises : t.tree.stamp < t.stamp
-  pub fits : t.stamp < 2 ^ 63
+  pub fits : t.stamp < STAMPS
 
 -- its first event waits
 pub record Starting (h : History) (t : Tables) : Type 0 where

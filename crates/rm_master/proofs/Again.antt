@@ -14,6 +14,7 @@ use Rattle.rm_book.specs.Books.{BookOf}
 use Rattle.rm_book.proofs.Ids.{same_attempt}
 use Rattle.rm_attempt.specs.declared.states.AttemptState.{AttemptState}
 use Rattle.rm_attempt.specs.declared.states.AttemptState.TheVariants as attempts
+use Rattle.rm_attempt.specs.Table.{is_alive}
 use Rattle.rm_model.specs.State.{Endings, LifeState, MasterState, Row, Scene}
 use Rattle.rm_model.specs.Facts.{has_app}
 use Rattle.rm_tables.specs.declared.events.MainEvent.{MainEvent}
@@ -21,7 +22,6 @@ use Rattle.rm_tables.specs.declared.events.SchedEvent.{SchedEvent}
 use Rattle.rm_tables.specs.declared.rows.AppRow.{AppRow}
 use Rattle.rm_tables.specs.declared.rows.Current.{Current}
 use Rattle.rm_tables.specs.declared.tables.Tables.{Tables}
-use Rattle.rm_tables.specs.MainEvents.{is_alive}
 use Rattle.rm_tables.specs.Rows.{row_of, with_row}
 use Rattle.rm_refinement.specs.Agreement.{AttemptAgrees, ClosingsAgree, HasNoSession, NumberAgrees, RowAgrees, SameAsks, SameNodes, SameRows, bare_dialogue, closings_for, session_of, plain_dialogue}
 use Rattle.rm_refinement.specs.Services.{RefinesLife, finishes_by, is_ending, lives_by}

@@ -25,6 +25,10 @@ use Rattle.rm_model.specs.Attempts.{is_finishing, is_last, is_live, is_registere
 use Rattle.rm_model.specs.Containers.{released_by}
 use Rattle.rm_model.specs.Facts.{has_container, kept_end}
 use Rattle.rm_model.specs.MasterReplies.{allocate_reply, allocated_reply, allocates, finish_reply, finished_issued, has_too_many as too_many_told, is_new_to_master, life_after_master, master_reply, outbox_of, register_reply, row_allocated, untold_rows, with_asks}
+use Rattle.rm_attempt.specs.declared.states.AttemptState.{AttemptState}
+use Rattle.rm_attempt.specs.declared.states.AttemptEvent.{AttemptEvent}
+use Rattle.rm_attempt.specs.declared.states.AttemptEvent.TheVariants as attempt_events
+use Rattle.rm_attempt.specs.Table.{next_state as next_attempt_state, is_alive}
 use Rattle.rm_tables.specs.declared.rows.AppRow.{AppRow}
 use Rattle.rm_tables.specs.declared.rows.Dialogue.{Dialogue}
 use Rattle.rm_tables.specs.declared.tables.Tables.{Tables}
@@ -58,6 +62,14 @@ still_there : (g : Dialogue → Dialogue) (d : Option Dialogue) → is_some d �
 still_there g None = refl
 still_there g (Some one) = refl
 
+-- an event that isn't its end leaves an attempt alive
+abbrev is_end : AttemptEvent → Bool
+is_end attempt_events.End = true
+is_end _ = false
+
+alive_still : (event : AttemptEvent) → is_end event ≡ false → (s : AttemptState) → is_alive s ≡ true → is_alive (next_attempt_state s event) ≡ true
+alive_still event goes s e = grind arith
+
 -- REGISTRATIONS
 
 none_told : (d : Option Dialogue) (o : Option MasterState) → option_map bare_dialogue d ≡ option_map plain_dialogue o → is_some d ≡ false → o ≡ None
@@ -71,7 +83,7 @@ module _ (m : Scene) (t : Tables) (attempt : AttemptId) (shows : RefinesLife m t
 
   joins : (here : Lives m t attempt) → master_of m attempt ≡ None → ShowsAfter m t attempt Register MasterRegistered
   joins here none =
-      again m t attempt shows here (registered_row (begun MasterRegistered)) (record here.current { state = attempts.Registered; registered = true }) (rw here.is refl) refl refl refl
+      again m t attempt shows here (registered_row (begun MasterRegistered)) (record here.current { state = next_attempt_state here.current.state attempt_events.Register; registered = true }) (rw here.is refl) refl refl (alive_still attempt_events.Register refl here.current.state here.alive)
       (m.life.masters.registered ++ new_master ∷ []) (rw (own_joined new_master m.life.masters.registered none) refl) refl
       (λ q apart. other_joined new_master q m.life.masters.registered apart)
       m.life.endings.outbox (closings_alike m t attempt here.row here.found shows) (λ q apart. refl)
@@ -132,7 +144,7 @@ module _ (m : Scene) (t : Tables) (attempt : AttemptId) (text : List ℕ) (shows
 
   says : (here : Lives m t attempt) → RefinesLife (record m { life = record m.life { masters = record m.life.masters { registered = map (λ one. if is_attempt one.attempt attempt then with_said one else one) m.life.masters.registered } } }) (said attempt text t)
   says here =
-      again m t attempt shows here (said_row (with_text text)) (record here.current { state = attempts.Finishing }) (rw here.is refl) refl refl refl
+      again m t attempt shows here (said_row (with_text text)) (record here.current { state = next_attempt_state here.current.state attempt_events.Finish }) (rw here.is refl) refl refl (alive_still attempt_events.Finish refl here.current.state here.alive)
       (map (λ one. if is_attempt one.attempt attempt then with_said one else one) m.life.masters.registered)
       (both_change (λ one. record one { finishing = Some text }) with_said (λ one. record one { finishing = Some text }) (λ one. refl) (λ one. refl) here.row.dialogue (master_of m attempt) here.agrees.0
       ∙ sym (ap (option_map plain_dialogue) (own_changed with_said (λ one. refl) attempt m.life.masters.registered)))

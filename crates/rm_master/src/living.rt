@@ -3,28 +3,17 @@ ghost use Rattle.std.specs.Prelude.{◌≡◌};
 ghost use Rattle.std.specs.Option.{option_copied};
 ghost use Rattle.rm_refinement.specs.Services.{lives_with};
 ghost use Rattle.rm_master.specs.Told.{goes_on, living_row, spoken_by};
-ghost use Rattle.rm_tables.specs.MainEvents.{is_alive};
 ghost use Rattle.rm_tables.specs.Rows.{row_of};
 
-use rm_attempt::AttemptState;
 use rm_tables::{AppRow, Dialogue, Rows};
 use rm_types::AttemptId;
-
-fn is_alive(state: AttemptState) -> bool
-    ensures { result ≡ is_alive state }
-{
-    match state {
-        AttemptState::Live | AttemptState::Registered | AttemptState::Finishing => true,
-        _ => false,
-    }
-}
 
 /// Whether an attempt is the current one of its application's row, and lives.
 fn lives(row: &AppRow, attempt: AttemptId) -> bool
     ensures { result ≡ lives_with attempt row.now.current }
 {
     match row.current {
-        Some(current) => current.number == attempt.number && is_alive(current.state),
+        Some(current) => current.number == attempt.number && current.state.is_alive(),
         None => false,
     }
 }

@@ -16,6 +16,7 @@ use Rattle.rm_types.specs.declared.messages.Sender.{Sender}
 use Rattle.rm_types.specs.declared.operations.Op.{Op}
 use Rattle.rm_types.specs.declared.replies.Reply.{Reply}
 use Rattle.rm_types.specs.declared.settings.Settings.{Settings}
+use Rattle.rm_types.specs.declared.limits.TheConstants.{EPOCHS, STAMPS}
 use Rattle.rm_types.specs.Ids.{is_attempt}
 use Rattle.rm_types.specs.Lanes.{sender_of}
 use Rattle.rm_types.specs.Order.{Ascend}
@@ -38,9 +39,9 @@ use Rattle.rm_model.specs.Owed.{Owed}
 pub record MayOpen (s : Manager) (landed epoch stamp : ℕ) : Type 0 where
   pub landing : (landed ≡ 0) ⊎ ((landed ≡ 1) × (s.blew ≡ true))
   pub next : epoch ≡ (records (kept_after_landing s landed)).next_epoch
-  pub in_range : epoch < 2 ^ 24
+  pub in_range : epoch < EPOCHS
   pub rises : (records (kept_after_landing s landed)).stamp < stamp
-  pub fits : stamp < 2 ^ 63
+  pub fits : stamp < STAMPS
 
 -- the first awaiting operation may be handed to the store where there is one, none is with the store, and the life is not blown
 pub record MayHand (m : Scene) : Type 0 where

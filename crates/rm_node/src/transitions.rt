@@ -1,5 +1,5 @@
 ghost use Rattle.std.specs.Prelude.{◌≡◌, ◌↔◌, ◌⊎◌, IsTrue, Some, IfSome};
-ghost use Rattle.rm_node.specs.Table.{Row};
+ghost use Rattle.rm_node.specs.Table.{Row, is_registered};
 
 use crate::states::{NodeAction, NodeEvent, NodeState};
 
@@ -25,6 +25,7 @@ pub fn step(state: NodeState, event: NodeEvent) -> Option<(NodeState, NodeAction
 /// Whether a node in this state is registered, and can be lost.
 pub fn is_registered(state: NodeState) -> bool
     ensures can_be_lost { IsTrue result ↔ Row state NodeEvent.Expire NodeState.Lost NodeAction.PostLost }
+    ensures test { result ≡ is_registered state }
     ensures which { IsTrue result ↔ ((state ≡ NodeState.Waiting) ⊎ (state ≡ NodeState.Ready)) }
 {
     matches!(state, NodeState::Waiting | NodeState::Ready)

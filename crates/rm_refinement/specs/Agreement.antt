@@ -46,7 +46,7 @@ SameRows rows book = map bare_row rows ≡ map plain_row book
 
 -- how a node stands; none that registered is absent
 abbrev pub phase_of : NodePhase → Phase
-phase_of states.Absent = Waiting
+phase_of states.Absent = Lost
 phase_of states.Waiting = Waiting
 phase_of states.Ready = Ready
 phase_of states.Lost = Lost

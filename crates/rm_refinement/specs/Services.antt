@@ -5,6 +5,7 @@ use Rattle.rm_types.specs.declared.ids.AppId.{AppId}
 use Rattle.rm_types.specs.declared.ids.AttemptId.{AttemptId}
 use Rattle.rm_attempt.specs.declared.states.AttemptState.{AttemptState}
 use Rattle.rm_attempt.specs.declared.states.AttemptState.TheVariants as attempts
+use Rattle.rm_attempt.specs.Table.{is_alive}
 use Rattle.rm_model.specs.Attempts.{is_live}
 use Rattle.rm_model.specs.Facts.{awaits, has_app}
 use Rattle.rm_model.specs.MasterReplies.{is_finished_op}
@@ -12,7 +13,6 @@ use Rattle.rm_model.specs.State.{Scene}
 use Rattle.rm_tables.specs.declared.rows.AppRow.{AppRow}
 use Rattle.rm_tables.specs.declared.rows.Current.{Current}
 use Rattle.rm_tables.specs.declared.tables.Tables.{Tables}
-use Rattle.rm_tables.specs.MainEvents.{is_alive}
 use Rattle.rm_tables.specs.Rows.{row_of}
 use Rattle.rm_refinement.specs.Agreement.{ClosingsAgree, RowAgrees, SameAsks, SameNodes, SameRows}
 

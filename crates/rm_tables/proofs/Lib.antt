@@ -3,3 +3,4 @@ pub mod Inserted
 pub mod Placed
 pub mod Stays
 pub mod Once
+pub mod Posted

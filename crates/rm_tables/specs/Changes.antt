@@ -6,11 +6,13 @@ use Rattle.rm_types.specs.declared.operations.How.{How}
 use Rattle.rm_types.specs.declared.operations.How.TheVariants as ways
 use Rattle.rm_types.specs.declared.operations.Submission.{Submission}
 use Rattle.rm_app.specs.declared.states.AppState.{AppState}
-use Rattle.rm_app.specs.declared.states.AppState.TheVariants as apps
-use Rattle.rm_app.specs.Table.{state_of}
+use Rattle.rm_app.specs.declared.states.AppEvent.TheVariants as app_events
+use Rattle.rm_app.specs.Table.{next_state}
 use Rattle.rm_model.specs.Attempts.{is_finished}
 use Rattle.rm_attempt.specs.declared.states.AttemptState.{AttemptState}
 use Rattle.rm_attempt.specs.declared.states.AttemptState.TheVariants as attempts
+use Rattle.rm_attempt.specs.declared.states.AttemptEvent.TheVariants as attempt_events
+use Rattle.rm_attempt.specs.Table.{next_state as next_attempt_state}
 use Rattle.rm_tables.specs.declared.rows.AppRow.{AppRow}
 use Rattle.rm_tables.specs.declared.rows.Current.{Current}
 use Rattle.rm_tables.specs.declared.rows.Dialogue.{Dialogue}
@@ -19,9 +21,9 @@ use Rattle.rm_tables.specs.declared.changes.RowChange.TheVariants.{Issue, Keep, 
 use Rattle.rm_tables.specs.declared.changes.AttemptChange.{AttemptChange}
 use Rattle.rm_tables.specs.declared.changes.AttemptChange.TheVariants as of_attempt
 
--- an application that runs is only accepted again once its attempt has failed
+-- the state of an application after the kept end of its attempt: a failure is an event of it
 abbrev pub after_failure : How → AppState → AppState
-after_failure ways.Failed apps.Running = apps.Accepted
+after_failure ways.Failed state = next_state state app_events.Failed
 after_failure _ state = state
 
 -- the state of an application after something happened to its current attempt
@@ -29,16 +31,16 @@ abbrev pub state_with : AttemptChange → AppState → AppState
 state_with (of_attempt.KeepEnd how) state = after_failure how state
 state_with _ state = state
 
--- the state of an application after a change
+-- the state of an application after a change: where the row of the change's event leads, if there is one
 abbrev pub state_after : RowChange → AppState → AppState
-state_after Issue state = apps.NewSaving
-state_after Keep state = apps.Submitted
+state_after Issue state = next_state state app_events.Start
+state_after Keep state = next_state state app_events.Kept
 state_after Wish state = state
-state_after Kill state = apps.Killing
-state_after (Schedule number) state = apps.Accepted
-state_after Register state = apps.Running
-state_after End state = apps.FinalSaving
-state_after (KeepEnd how) state = state_of how
+state_after Kill state = next_state state app_events.Kill
+state_after (Schedule number) state = next_state state app_events.Accept
+state_after Register state = next_state state app_events.Register
+state_after End state = next_state state app_events.End
+state_after (KeepEnd how) state = next_state state (app_events.EndKept how)
 state_after (OfAttempt change) state = state_with change state
 
 -- a wish to kill it stays until its life is over
@@ -59,7 +61,7 @@ scheduled number =
 -- an attempt after a grant: of its master's container, where it waits for that one
 abbrev pub granted_at : AttemptState → ContainerId → Current → Current
 granted_at attempts.Scheduled container current =
-    record current { state = attempts.Granted; master = Some container; lost = false; granted = container.seq }
+    record current { state = next_attempt_state attempts.Scheduled attempt_events.Grant; master = Some container; lost = false; granted = container.seq }
 granted_at _ container current = record current { granted = container.seq }
 
 -- the current attempt after a grant, by its state
@@ -69,41 +71,26 @@ granted container current = granted_at current.state container current
 -- an attempt after something happened to it
 abbrev pub attempt_after : AttemptChange → Current → Current
 attempt_after (of_attempt.Grant container) current = granted container current
-attempt_after of_attempt.Requeue current = record (scheduled current.number) { granted = current.granted }
-attempt_after of_attempt.Issue current = record current { state = attempts.Saving; lost = false }
+attempt_after of_attempt.Requeue current =
+    record (scheduled current.number) { state = next_attempt_state current.state attempt_events.Requeue; granted = current.granted }
+attempt_after of_attempt.Issue current = record current { state = next_attempt_state current.state attempt_events.Issue; lost = false }
 attempt_after of_attempt.Lose current = record current { lost = true }
-attempt_after of_attempt.Keep current = record current { state = attempts.Live }
-attempt_after of_attempt.Finish current = record current { state = attempts.Finishing }
-attempt_after (of_attempt.End how) current = record current { state = attempts.Ending; finished = is_finished how }
-attempt_after (of_attempt.KeepEnd how) current = record current { state = attempts.Ended }
+attempt_after of_attempt.Keep current = record current { state = next_attempt_state current.state attempt_events.Kept }
+attempt_after of_attempt.Finish current = record current { state = next_attempt_state current.state attempt_events.Finish }
+attempt_after (of_attempt.End how) current = record current { state = next_attempt_state current.state attempt_events.End; finished = is_finished how }
+attempt_after (of_attempt.KeepEnd how) current = record current { state = next_attempt_state current.state attempt_events.EndKept }
 
 -- an attempt whose application ends: dropped where it isn't issued
 abbrev pub dropped_state : AttemptState → AttemptState
-dropped_state attempts.Scheduled = attempts.Dropped
-dropped_state attempts.Granted = attempts.Dropped
-dropped_state attempts.Saving = attempts.Saving
-dropped_state attempts.Live = attempts.Live
-dropped_state attempts.Registered = attempts.Registered
-dropped_state attempts.Finishing = attempts.Finishing
-dropped_state attempts.Ending = attempts.Ending
-dropped_state attempts.Ended = attempts.Ended
-dropped_state attempts.Dropped = attempts.Dropped
+dropped_state state = next_attempt_state state attempt_events.Drop
 
 -- an attempt whose application is killed: its end is issued where it lives
 abbrev pub killed_state : AttemptState → AttemptState
-killed_state attempts.Scheduled = attempts.Scheduled
-killed_state attempts.Granted = attempts.Granted
-killed_state attempts.Saving = attempts.Saving
-killed_state attempts.Live = attempts.Ending
-killed_state attempts.Registered = attempts.Ending
-killed_state attempts.Finishing = attempts.Ending
-killed_state attempts.Ending = attempts.Ending
-killed_state attempts.Ended = attempts.Ended
-killed_state attempts.Dropped = attempts.Dropped
+killed_state state = next_attempt_state state attempt_events.End
 
 -- the current attempt after a change, where there is one
 abbrev pub current_with : RowChange → Current → Current
-current_with Register current = record current { state = attempts.Registered; registered = true }
+current_with Register current = record current { state = next_attempt_state current.state attempt_events.Register; registered = true }
 current_with Kill current = record current { state = killed_state current.state }
 current_with End current = record current { state = dropped_state current.state }
 current_with (OfAttempt change) current = attempt_after change current

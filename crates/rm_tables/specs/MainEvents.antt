@@ -23,6 +23,7 @@ use Rattle.rm_app.specs.declared.states.AppState.{AppState}
 use Rattle.rm_app.specs.declared.states.AppState.TheVariants as apps
 use Rattle.rm_attempt.specs.declared.states.AttemptState.{AttemptState}
 use Rattle.rm_attempt.specs.declared.states.AttemptState.TheVariants as attempts
+use Rattle.rm_attempt.specs.Table.{is_alive}
 use Rattle.rm_tables.specs.declared.changes.AttemptChange.TheVariants as of_attempt
 use Rattle.rm_tables.specs.declared.changes.RowChange.TheVariants as of_app
 use Rattle.rm_tables.specs.declared.events.MainEvent.{MainEvent}
@@ -198,18 +199,6 @@ grant_of_current (Some current) container t =
 abbrev pub grant_of_row : Option AppRow → ContainerId → Tables → Entry × Tables
 grant_of_row None container t = main_quiet t
 grant_of_row (Some row) container t = grant_of_current row.current container t
-
--- an attempt lives
-abbrev pub is_alive : AttemptState → Bool
-is_alive attempts.Scheduled = false
-is_alive attempts.Granted = false
-is_alive attempts.Saving = false
-is_alive attempts.Live = true
-is_alive attempts.Registered = true
-is_alive attempts.Finishing = true
-is_alive attempts.Ending = false
-is_alive attempts.Ended = false
-is_alive attempts.Dropped = false
 
 -- the current attempt is this one and lives
 abbrev pub is_living_one : AttemptId → Current → Bool

@@ -9,6 +9,8 @@ use Rattle.rm_types.specs.declared.resources.Resource.{Resource}
 use Rattle.rm_types.specs.Ids.{is_container}
 use Rattle.rm_node.specs.declared.states.NodeState.{NodeState}
 use Rattle.rm_node.specs.declared.states.NodeState.TheVariants as states
+use Rattle.rm_node.specs.declared.states.NodeEvent.TheVariants as events
+use Rattle.rm_node.specs.Table.{next_state}
 use Rattle.rm_tables.specs.declared.nodes.NodeChange.{NodeChange}
 use Rattle.rm_tables.specs.declared.nodes.NodeChange.TheVariants.{Absorb, Lose, Unlaunch}
 use Rattle.rm_tables.specs.declared.nodes.NodeRow.{NodeRow}
@@ -43,12 +45,12 @@ is_ready states.Lost = false
 -- the row of a node at its first registration
 abbrev pub new_row : ℕ → Resource → List Held → Reply → NodeRow
 new_row turn capability running reply =
-    record { turn = turn; capability = capability; running = running; state = states.Waiting; last_id = 0; last_reply = reply; launches = [] }
+    record { turn = turn; capability = capability; running = running; state = next_state states.Absent events.Register; last_id = 0; last_reply = reply; launches = [] }
 
 -- a row after a later registration: the node waits, and its last id is 0
 abbrev pub registered_row : ℕ → Resource → List Held → Reply → NodeRow → NodeRow
 registered_row turn capability running reply row =
-    record row { turn = turn; capability = capability; running = running; state = states.Waiting; last_id = 0; last_reply = reply }
+    record row { turn = turn; capability = capability; running = running; state = next_state row.state events.Register; last_id = 0; last_reply = reply }
 
 -- a row after a new beat: a node that is ready was told what it is to launch
 abbrev pub beaten_row : ℕ → Reply → NodeRow → NodeRow
@@ -64,6 +66,6 @@ row_without_launch container row = record row { launches = filter (λ one. not (
 
 -- a row after a change
 abbrev pub changed_row : NodeChange → NodeRow → NodeRow
-changed_row Absorb row = record row { state = states.Ready }
-changed_row Lose row = record row { state = states.Lost }
+changed_row Absorb row = record row { state = next_state row.state events.Absorb }
+changed_row Lose row = record row { state = next_state row.state events.Expire }
 changed_row (Unlaunch container) row = row_without_launch container row

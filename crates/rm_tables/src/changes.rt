@@ -1,10 +1,11 @@
 ghost use Rattle.std.specs.Prelude.{◌≡◌};
-ghost use Rattle.rm_app.specs.Table.{state_of};
-ghost use Rattle.rm_tables.specs.Changes.{after_failure, state_with, state_after, scheduled, granted, attempt_after, dropped_state, killed_state, current_with, current_after, changed};
+ghost use Rattle.rm_app.specs.Table.{next_state, state_of};
+ghost use Rattle.rm_attempt.specs.Table.{next_state as next_attempt_state};
+ghost use Rattle.rm_tables.specs.Changes.{state_with, state_after, scheduled, granted, attempt_after, current_with, current_after, changed};
 
 use crate::rows::{AppRow, Current};
-use rm_app::AppState;
-use rm_attempt::AttemptState;
+use rm_app::{AppEvent, AppState};
+use rm_attempt::{AttemptEvent, AttemptState};
 use rm_types::{ContainerId, How};
 
 /// What happens to an application.
@@ -62,12 +63,23 @@ pub fn state_of(how: How) -> AppState
     }
 }
 
-fn after_failure(how: How, state: AppState) -> AppState
-    ensures { result ≡ after_failure how state }
+/// The state of an application after an event: where the row of the two leads, and the same where there is none.
+fn next_state(state: AppState, event: AppEvent) -> AppState
+    ensures { result ≡ next_state state event }
 {
-    match (how, state) {
-        (How::Failed, AppState::Running) => AppState::Accepted,
-        (_, state) => state,
+    match rm_app::step(state, event) {
+        Some((next, _action)) => next,
+        None => state,
+    }
+}
+
+/// The state of an attempt after an event, in the same way.
+fn next_attempt_state(state: AttemptState, event: AttemptEvent) -> AttemptState
+    ensures { result ≡ next_attempt_state state event }
+{
+    match rm_attempt::step(state, event) {
+        Some((next, _action)) => next,
+        None => state,
     }
 }
 
@@ -75,7 +87,7 @@ fn state_with(change: AttemptChange, state: AppState) -> AppState
     ensures { result ≡ state_with change state }
 {
     match change {
-        AttemptChange::KeepEnd { how } => after_failure(how, state),
+        AttemptChange::KeepEnd { how: How::Failed } => next_state(state, AppEvent::Failed),
         _ => state,
     }
 }
@@ -84,14 +96,14 @@ fn state_after(change: RowChange, state: AppState) -> AppState
     ensures { result ≡ state_after change state }
 {
     match change {
-        RowChange::Issue => AppState::NewSaving,
-        RowChange::Keep => AppState::Submitted,
+        RowChange::Issue => next_state(state, AppEvent::Start),
+        RowChange::Keep => next_state(state, AppEvent::Kept),
         RowChange::Wish => state,
-        RowChange::Kill => AppState::Killing,
-        RowChange::Schedule { .. } => AppState::Accepted,
-        RowChange::Register => AppState::Running,
-        RowChange::End => AppState::FinalSaving,
-        RowChange::KeepEnd { how } => state_of(how),
+        RowChange::Kill => next_state(state, AppEvent::Kill),
+        RowChange::Schedule { .. } => next_state(state, AppEvent::Accept),
+        RowChange::Register => next_state(state, AppEvent::Register),
+        RowChange::End => next_state(state, AppEvent::End),
+        RowChange::KeepEnd { how } => next_state(state, AppEvent::EndKept(how)),
         RowChange::OfAttempt { change } => state_with(change, state),
     }
 }
@@ -116,7 +128,7 @@ fn granted(container: ContainerId, current: Current) -> Current
 {
     match current.state {
         AttemptState::Scheduled => Current {
-            state: AttemptState::Granted,
+            state: next_attempt_state(AttemptState::Scheduled, AttemptEvent::Grant),
             master: Some(container),
             lost: false,
             granted: container.seq,
@@ -135,11 +147,12 @@ fn attempt_after(change: AttemptChange, current: Current) -> Current
     match change {
         AttemptChange::Grant { container } => granted(container, current),
         AttemptChange::Requeue => Current {
+            state: next_attempt_state(current.state, AttemptEvent::Requeue),
             granted: current.granted,
             ..scheduled(current.number)
         },
         AttemptChange::Issue => Current {
-            state: AttemptState::Saving,
+            state: next_attempt_state(current.state, AttemptEvent::Issue),
             lost: false,
             ..current
         },
@@ -147,40 +160,24 @@ fn attempt_after(change: AttemptChange, current: Current) -> Current
             lost: true,
             ..current
         },
-        AttemptChange::Keep => in_state(AttemptState::Live, current),
-        AttemptChange::Finish => in_state(AttemptState::Finishing, current),
+        AttemptChange::Keep => with_event(AttemptEvent::Kept, current),
+        AttemptChange::Finish => with_event(AttemptEvent::Finish, current),
         AttemptChange::End { how } => Current {
-            state: AttemptState::Ending,
+            state: next_attempt_state(current.state, AttemptEvent::End),
             finished: how == How::Finished,
             ..current
         },
-        AttemptChange::KeepEnd { .. } => in_state(AttemptState::Ended, current),
+        AttemptChange::KeepEnd { .. } => with_event(AttemptEvent::EndKept, current),
     }
 }
 
-fn in_state(state: AttemptState, current: Current) -> Current
-    ensures { result ≡ record current { state = state } }
+/// An attempt after an event that changes its state alone.
+fn with_event(event: AttemptEvent, current: Current) -> Current
+    ensures { result ≡ record current { state = next_attempt_state current.state event } }
 {
-    Current { state, ..current }
-}
-
-fn dropped_state(state: AttemptState) -> AttemptState
-    ensures { result ≡ dropped_state state }
-{
-    match state {
-        AttemptState::Scheduled | AttemptState::Granted => AttemptState::Dropped,
-        other => other,
-    }
-}
-
-fn killed_state(state: AttemptState) -> AttemptState
-    ensures { result ≡ killed_state state }
-{
-    match state {
-        AttemptState::Live | AttemptState::Registered | AttemptState::Finishing => {
-            AttemptState::Ending
-        }
-        other => other,
+    Current {
+        state: next_attempt_state(current.state, event),
+        ..current
     }
 }
 
@@ -189,12 +186,12 @@ fn current_with(change: RowChange, current: Current) -> Current
 {
     match change {
         RowChange::Register => Current {
-            state: AttemptState::Registered,
+            state: next_attempt_state(current.state, AttemptEvent::Register),
             registered: true,
             ..current
         },
-        RowChange::Kill => in_state(killed_state(current.state), current),
-        RowChange::End => in_state(dropped_state(current.state), current),
+        RowChange::Kill => with_event(AttemptEvent::End, current),
+        RowChange::End => with_event(AttemptEvent::Drop, current),
         RowChange::OfAttempt { change } => attempt_after(change, current),
         _ => current,
     }

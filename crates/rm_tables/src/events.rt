@@ -1,7 +1,9 @@
-ghost use Rattle.std.specs.Prelude.{◌≡◌, IfOk};
+ghost use Rattle.std.specs.Prelude.{◌≡◌};
+ghost use Rattle.std.proofs.Common.{rules};
 ghost use Rattle.rm_tables.specs.declared.events.Refused.TheVariants.{Memory};
 
 use rm_types::{AppId, AttemptId, ContainerId, Duplicate, Items, NoMemory, Text};
+use thiserror::Error;
 
 /// What the main queue holds. The queue is first in, first out, as that of YARN's dispatcher.
 #[derive(Clone, Copy, Debug, PartialEq, Eq)]
@@ -33,7 +35,7 @@ pub enum MainEvent {
 }
 
 /// What the scheduler's queue holds. The queue is first in, first out.
-#[derive(Debug, Drop)]
+#[derive(Clone, Debug, Drop)]
 pub enum SchedEvent {
     /// An application was saved.
     AppAdded(AppId),
@@ -65,37 +67,17 @@ pub enum SchedEvent {
 }
 
 impl Duplicate for SchedEvent {
-    fn copy(&self) -> Result<SchedEvent, NoMemory> {
-        match self {
-            SchedEvent::AppAdded(id) => Ok(SchedEvent::AppAdded(*id)),
-            SchedEvent::AttemptRecovered(id) => Ok(SchedEvent::AttemptRecovered(*id)),
-            SchedEvent::AttemptAdded(id) => Ok(SchedEvent::AttemptAdded(*id)),
-            SchedEvent::AttemptRemoved(id) => Ok(SchedEvent::AttemptRemoved(*id)),
-            SchedEvent::Release { attempt, list } => Ok(SchedEvent::Release {
-                attempt: *attempt,
-                list: list.copy()?,
-            }),
-            SchedEvent::NodeAdded { node, turn } => Ok(SchedEvent::NodeAdded {
-                node: node.copy()?,
-                turn: *turn,
-            }),
-            SchedEvent::NodeDone { node, list } => {
-                let node = node.copy()?;
-                let list = list.copy()?;
-                Ok(SchedEvent::NodeDone { node, list })
-            }
-            SchedEvent::NodeUpdate(node) => Ok(SchedEvent::NodeUpdate(node.copy()?)),
-            SchedEvent::NodeLost(node) => Ok(SchedEvent::NodeLost(node.copy()?)),
-        }
-    }
+    ghost same = { Prim.search (rules) };
 }
 
 /// Why a move was not made. Nothing has changed then.
-#[derive(Clone, Copy, Debug, PartialEq, Eq)]
+#[derive(Clone, Copy, Debug, PartialEq, Eq, Error)]
 pub enum Refused {
     /// The move's lane has nothing to do.
+    #[error("the lane has nothing to do")]
     NotReady,
     /// No memory was found.
+    #[error("out of memory")]
     Memory,
 }
 

@@ -1,87 +1,126 @@
-ghost use Rattle.std.specs.Prelude.{◌≡◌, ℕ, List, ◌∷◌, [], true, IfOk, OnOk, OnErr, IsErrOf, IfSome, IfNone, Err};
+ghost use Rattle.std.specs.Prelude.{◌≡◌, ◌≢◌, ◌++◌, ℕ, List, ◌∷◌, [], true, IfOk, OnOk, OnErr, IsErrOf, IfSome, IfNone, Err};
 ghost use Rattle.rm_tables.specs.Rows.{row_of};
 ghost use Rattle.rm_types.specs.declared.ids.AttemptId.{AttemptId};
 ghost use Rattle.rm_types.specs.declared.ids.ContainerId.{ContainerId};
 ghost use Rattle.rm_types.specs.declared.operations.Op.{Op};
 ghost use Rattle.rm_types.specs.declared.operations.Submission.{Submission};
-ghost use Rattle.rm_types.specs.Records.{fits_records};
-ghost use Rattle.rm_tables.specs.KeptOps.{app_end_posted, attempt_end_posted, dropped_by, taken_up, kept};
-ghost use Rattle.rm_tables.specs.declared.tables.Tables.{Tables};
+ghost use Rattle.rm_types.specs.Records.{fits_records, recorded};
+ghost use Rattle.rm_tables.specs.declared.events.MainEvent.{MainEvent as Told};
+ghost use Rattle.rm_tables.specs.declared.events.SchedEvent.{SchedEvent as Removal};
+ghost use Rattle.rm_tables.specs.KeptOps.{app_end_posted, dropped_by, taken_up, kept};
 
 use crate::changes::{AttemptChange, RowChange};
 use crate::events::{MainEvent, Refused, SchedEvent};
 use crate::opening::{opening_main, opening_sched};
 use crate::tables::Tables;
 use rm_attempt::AttemptState;
-use rm_types::{AppId, AttemptId, Boxed, Entry, How, NoMemory, Op};
+use rm_tree::{Tree, TreeError};
+use rm_types::{AppId, AttemptId, Boxed, Duplicate, Entry, How, NoMemory, Op, Queue};
+use std::mem;
 
-/// The first awaiting operation, of which this much is known, is recorded and handed on as it is.
-fn take_up(t: &mut Tables) -> Result<Op, NoMemory>
-    requires fits { (op : Op) (rest : List Op) → t.old.awaiting ≡ op ∷ rest → fits_records t.old.tree op ≡ true }
-    ensures ok { (op : Op) (rest : List Op) → t.old.awaiting ≡ op ∷ rest → IfOk result (λ taken. (taken ≡ op) × (t.new ≡ taken_up op t.old)) }
-    ensures err { OnErr result (t.new ≡ t.old) }
+/// The entry of the first awaiting operation, once it is kept.
+fn kept_entry(t: &Tables) -> Result<Entry, NoMemory>
+    requires awaits { t.now.awaiting ≢ [] }
+    ensures { (op : Op) (rest : List Op) → t.now.awaiting ≡ op ∷ rest → IfOk result (λ e. e ≡ Entry.Kept op) }
 {
     let Some(op) = t.awaiting.first() else {
-        return Err(NoMemory);
+        unreachable!()
     };
-    if t.tree.apply(op).is_err() {
-        return Err(NoMemory);
-    }
-    match t.awaiting.take_first() {
-        Some(op) => {
-            t.handed = false;
-            Ok(op)
-        }
-        None => Err(NoMemory),
+    let op = Boxed::new(t.alloc, op.copy()?)?;
+    Ok(Entry::Kept { op })
+}
+
+/// An operation is recorded where it fits what is recorded; a stray one changes nothing.
+fn record(tree: &mut Tree, op: &Op) -> Result<(), NoMemory>
+    ensures ok { fits_records tree.old op.now ≡ true → OnOk result (tree.new ≡ recorded tree.old op.now) }
+    ensures err { OnErr result (tree.new ≡ tree.old) }
+{
+    match tree.apply(op) {
+        Ok(()) => Ok(()),
+        Err(TreeError::Stray) => Ok(()),
+        Err(TreeError::Memory) => Err(NoMemory),
     }
 }
 
-/// Room for the entry of an operation that is about to be taken up.
-fn entry_room(t: &Tables) -> Result<Boxed<Op>, NoMemory> {
-    Boxed::new(t.alloc, Op::Epoch { next: 0, stamp: 0 })
-}
-
-/// An operation is taken up into the room that was made for its entry.
-fn take_into(t: &mut Tables, mut room: Boxed<Op>) -> Result<Entry, NoMemory>
-    requires fits { (op : Op) (rest : List Op) → t.old.awaiting ≡ op ∷ rest → fits_records t.old.tree op ≡ true }
-    ensures ok { (op : Op) (rest : List Op) → t.old.awaiting ≡ op ∷ rest → IfOk result (λ e. (e ≡ Entry.Kept op) × (t.new ≡ taken_up op t.old)) }
+/// The first awaiting operation is taken up, where one awaits.
+fn take_up(t: &mut Tables) -> Result<(), NoMemory>
+    ensures ok { (op : Op) (rest : List Op) → t.old.awaiting ≡ op ∷ rest → fits_records t.old.tree op ≡ true → OnOk result (t.new ≡ taken_up op t.old) }
     ensures err { OnErr result (t.new ≡ t.old) }
 {
-    let op = take_up(t)?;
-    room.set(op);
-    Ok(Entry::Kept { op: room })
+    if let Some(op) = t.awaiting.first() {
+        record(&mut t.tree, op)?;
+        let _ = t.awaiting.take_first();
+        t.handed = false;
+    }
+    Ok(())
+}
+
+/// It is taken up, and an event of the main queue is posted.
+fn take_up_with(t: &mut Tables, event: MainEvent) -> Result<(), NoMemory>
+    ensures ok { (op : Op) (rest : List Op) → t.old.awaiting ≡ op ∷ rest → fits_records t.old.tree op ≡ true → OnOk result (t.new ≡ taken_up op (record t.old { main = t.old.main ++ event ∷ [] })) }
+    ensures err { OnErr result (t.new ≡ t.old) }
+{
+    let mut main = mem::replace(&mut t.main, Queue::new(t.alloc));
+    let taken = main.push_made(
+        t,
+        |t: &mut Tables| -> Result<MainEvent, NoMemory>
+            ensures event { IfOk result (λ made. made ≡ event) }
+            ensures ok { (op : Op) (rest : List Op) → t.old.awaiting ≡ op ∷ rest → fits_records t.old.tree op ≡ true → OnOk result (t.new ≡ taken_up op t.old) }
+            ensures err { OnErr result (t.new ≡ t.old) }
+        {
+            take_up(t)?;
+            Ok(event)
+        },
+    );
+    t.main = main;
+    taken
+}
+
+/// It is taken up, an event of the main queue is posted, and an attempt is to be removed.
+fn take_up_removing(t: &mut Tables, event: MainEvent, id: AttemptId) -> Result<(), NoMemory>
+    ensures ok { (op : Op) (rest : List Op) → t.old.awaiting ≡ op ∷ rest → fits_records t.old.tree op ≡ true → OnOk result (t.new ≡ taken_up op (record t.old { main = t.old.main ++ event ∷ []; sched = t.old.sched ++ Removal.AttemptRemoved id ∷ [] })) }
+    ensures err { OnErr result (t.new ≡ t.old) }
+{
+    let mut sched = mem::replace(&mut t.sched, Queue::new(t.alloc));
+    let taken = sched.push_made(
+        t,
+        |t: &mut Tables| -> Result<SchedEvent, NoMemory>
+            ensures event { IfOk result (λ made. made ≡ Removal.AttemptRemoved id) }
+            ensures ok { (op : Op) (rest : List Op) → t.old.awaiting ≡ op ∷ rest → fits_records t.old.tree op ≡ true → OnOk result (t.new ≡ taken_up op (record t.old { main = t.old.main ++ event ∷ [] })) }
+            ensures err { OnErr result (t.new ≡ t.old) }
+        {
+            take_up_with(t, event)?;
+            Ok(SchedEvent::AttemptRemoved(id))
+        },
+    );
+    t.sched = sched;
+    taken
 }
 
 /// An App is kept: the application is saved.
 fn keep_app(t: &mut Tables, id: AppId) -> Result<Entry, NoMemory>
+    requires awaits { t.old.awaiting ≢ [] }
     requires fits { (op : Op) (rest : List Op) → t.old.awaiting ≡ op ∷ rest → fits_records t.old.tree op ≡ true }
     ensures ok { (s : Submission) (rest : List Op) → t.old.awaiting ≡ Op.App id s ∷ rest → IfOk result (λ e. (e ≡ Entry.Kept (Op.App id s)) × (t.new ≡ kept (Op.App id s) t.old)) }
     ensures err { OnErr result (t.new ≡ t.old) }
 {
-    let room = entry_room(t)?;
-    t.main.push(MainEvent::AppSaved(id))?;
-    match take_into(t, room) {
-        Ok(entry) => {
-            t.rows.change(id, RowChange::Keep);
-            Ok(entry)
-        }
-        Err(refused) => {
-            t.main.drop_last();
-            Err(refused)
-        }
-    }
+    let entry = kept_entry(t)?;
+    take_up_with(t, MainEvent::AppSaved(id))?;
+    t.rows.change(id, RowChange::Keep);
+    Ok(entry)
 }
 
 /// The life's Epoch is kept: it opens.
 fn keep_epoch(t: &mut Tables, next: u32, stamp: u64) -> Result<Entry, NoMemory>
+    requires awaits { t.old.awaiting ≢ [] }
     requires fits { (op : Op) (rest : List Op) → t.old.awaiting ≡ op ∷ rest → fits_records t.old.tree op ≡ true }
     ensures ok { (rest : List Op) → t.old.awaiting ≡ Op.Epoch next stamp ∷ rest → IfOk result (λ e. (e ≡ Entry.Kept (Op.Epoch next stamp)) × (t.new ≡ kept (Op.Epoch next stamp) t.old)) }
     ensures err { OnErr result (t.new ≡ t.old) }
 {
-    let room = entry_room(t)?;
+    let entry = kept_entry(t)?;
     let main = opening_main(t.alloc, &t.tree)?;
     let sched = opening_sched(t.alloc, &t.tree)?;
-    let entry = take_into(t, room)?;
+    take_up(t)?;
     t.is_open = true;
     t.clock = 0;
     t.main = main;
@@ -91,85 +130,49 @@ fn keep_epoch(t: &mut Tables, next: u32, stamp: u64) -> Result<Entry, NoMemory>
 
 /// An Attempt is kept: its master is to be launched.
 fn keep_attempt(t: &mut Tables, id: AttemptId) -> Result<Entry, NoMemory>
+    requires awaits { t.old.awaiting ≢ [] }
     requires fits { (op : Op) (rest : List Op) → t.old.awaiting ≡ op ∷ rest → fits_records t.old.tree op ≡ true }
     ensures ok { (c : ContainerId) (n : List ℕ) (rest : List Op) → t.old.awaiting ≡ Op.Attempt id c n ∷ rest → IfOk result (λ e. (e ≡ Entry.Kept (Op.Attempt id c n)) × (t.new ≡ kept (Op.Attempt id c n) t.old)) }
     ensures err { OnErr result (t.new ≡ t.old) }
 {
-    let room = entry_room(t)?;
-    t.main.push(MainEvent::AttemptSaved(id))?;
-    match take_into(t, room) {
-        Ok(entry) => {
-            let change = AttemptChange::Keep;
-            t.rows.change(id.app, RowChange::OfAttempt { change });
-            Ok(entry)
-        }
-        Err(refused) => {
-            t.main.drop_last();
-            Err(refused)
-        }
-    }
-}
-
-/// What follows the end of an attempt is posted.
-fn post_attempt_end(t: &mut Tables, id: AttemptId) -> Result<(), NoMemory>
-    ensures ok { OnOk result (t.new ≡ attempt_end_posted id t.old) }
-    ensures err { OnErr result (t.new ≡ t.old) }
-{
-    t.sched.push(SchedEvent::AttemptRemoved(id))?;
-    match t.main.push(MainEvent::AttemptDone(id)) {
-        Ok(()) => Ok(()),
-        Err(refused) => {
-            t.sched.drop_last();
-            Err(refused)
-        }
-    }
-}
-
-/// The posts of an attempt's end are taken back.
-fn unpost_attempt_end(t: &mut Tables)
-    ensures { (before : Tables) (id : AttemptId) → t.old ≡ attempt_end_posted id before → t.new ≡ before }
-{
-    t.sched.drop_last();
-    t.main.drop_last();
+    let entry = kept_entry(t)?;
+    take_up_with(t, MainEvent::AttemptSaved(id))?;
+    let change = AttemptChange::Keep;
+    t.rows.change(id.app, RowChange::OfAttempt { change });
+    Ok(entry)
 }
 
 /// An AttemptEnd is kept: its asks go, and its application is to be decided.
 fn keep_attempt_end(t: &mut Tables, id: AttemptId, how: How) -> Result<Entry, NoMemory>
+    requires awaits { t.old.awaiting ≢ [] }
     requires fits { (op : Op) (rest : List Op) → t.old.awaiting ≡ op ∷ rest → fits_records t.old.tree op ≡ true }
     ensures ok { (x : List ℕ) (rest : List Op) → t.old.awaiting ≡ Op.AttemptEnd id how x ∷ rest → IfOk result (λ e. (e ≡ Entry.Kept (Op.AttemptEnd id how x)) × (t.new ≡ kept (Op.AttemptEnd id how x) t.old)) }
     ensures err { OnErr result (t.new ≡ t.old) }
 {
-    let room = entry_room(t)?;
-    post_attempt_end(t, id)?;
-    match take_into(t, room) {
-        Ok(entry) => {
-            let change = AttemptChange::KeepEnd { how };
-            t.rows.change(id.app, RowChange::OfAttempt { change });
-            t.asks.clear(id);
-            Ok(entry)
-        }
-        Err(refused) => {
-            unpost_attempt_end(t);
-            Err(refused)
-        }
-    }
+    let entry = kept_entry(t)?;
+    take_up_removing(t, MainEvent::AttemptDone(id), id)?;
+    let change = AttemptChange::KeepEnd { how };
+    t.rows.change(id.app, RowChange::OfAttempt { change });
+    t.asks.clear(id);
+    Ok(entry)
 }
 
 /// A Remove is kept: the id is retired.
 fn keep_remove(t: &mut Tables, id: AppId) -> Result<Entry, NoMemory>
+    requires awaits { t.old.awaiting ≢ [] }
     requires fits { (op : Op) (rest : List Op) → t.old.awaiting ≡ op ∷ rest → fits_records t.old.tree op ≡ true }
     ensures ok { (rest : List Op) → t.old.awaiting ≡ Op.Remove id ∷ rest → IfOk result (λ e. (e ≡ Entry.Kept (Op.Remove id)) × (t.new ≡ kept (Op.Remove id) t.old)) }
     ensures err { OnErr result (t.new ≡ t.old) }
 {
-    let room = entry_room(t)?;
-    let entry = take_into(t, room)?;
+    let entry = kept_entry(t)?;
+    take_up(t)?;
     t.rows.remove(id);
     Ok(entry)
 }
 
 /// The attempt of an application that ends, where it was dropped.
 fn dropped_attempt(t: &Tables, id: AppId) -> Option<AttemptId>
-    ensures some { IfSome result (λ attempt. dropped_by (row_of t.now.rows id) id ≡ SchedEvent.AttemptRemoved attempt ∷ []) }
+    ensures some { IfSome result (λ attempt. dropped_by (row_of t.now.rows id) id ≡ Removal.AttemptRemoved attempt ∷ []) }
     ensures none { IfNone result (dropped_by (row_of t.now.rows id) id ≡ []) }
 {
     let current = t.rows.find(id)?.current?;
@@ -183,59 +186,50 @@ fn dropped_attempt(t: &Tables, id: AppId) -> Option<AttemptId>
     }
 }
 
-/// What follows the end of an application is posted.
-fn post_app_end(t: &mut Tables, id: AppId) -> Result<(), NoMemory>
-    ensures ok { OnOk result (t.new ≡ app_end_posted id t.old) }
+/// It is taken up as the end of an application, which is to be retired, and whose attempt is to be removed where it was dropped.
+fn take_up_retiring(t: &mut Tables, id: AppId) -> Result<(), NoMemory>
+    ensures ok { (op : Op) (rest : List Op) → t.old.awaiting ≡ op ∷ rest → fits_records t.old.tree op ≡ true → OnOk result (t.new ≡ taken_up op (record t.old { main = t.old.main ++ Told.Retire ∷ []; sched = t.old.sched ++ dropped_by (row_of t.old.rows id) id })) }
     ensures err { OnErr result (t.new ≡ t.old) }
 {
-    t.ended.push(id)?;
-    if t.main.push(MainEvent::Retire).is_err() {
-        t.ended.drop_last();
-        return Err(NoMemory);
-    }
     match dropped_attempt(t, id) {
-        None => Ok(()),
-        Some(attempt) => match t.sched.push(SchedEvent::AttemptRemoved(attempt)) {
-            Ok(()) => Ok(()),
-            Err(refused) => {
-                t.main.drop_last();
-                t.ended.drop_last();
-                Err(refused)
-            }
-        },
+        Some(attempt) => take_up_removing(t, MainEvent::Retire, attempt),
+        None => take_up_with(t, MainEvent::Retire),
     }
 }
 
-/// The posts of an application's end are taken back.
-fn unpost_app_end(t: &mut Tables, id: AppId)
-    ensures { (before : Tables) → t.old ≡ app_end_posted id before → t.new ≡ before }
+/// It is taken up as the end of an application, which joins those that have ended.
+fn take_up_app_end(t: &mut Tables, id: AppId) -> Result<(), NoMemory>
+    ensures ok { (op : Op) (rest : List Op) → t.old.awaiting ≡ op ∷ rest → fits_records t.old.tree op ≡ true → OnOk result (t.new ≡ taken_up op (app_end_posted id t.old)) }
+    ensures err { OnErr result (t.new ≡ t.old) }
 {
-    if dropped_attempt(t, id).is_some() {
-        t.sched.drop_last();
-    }
-    t.main.drop_last();
-    t.ended.drop_last();
+    let mut ended = mem::replace(&mut t.ended, Queue::new(t.alloc));
+    let taken = ended.push_made(
+        t,
+        |t: &mut Tables| -> Result<AppId, NoMemory>
+            ensures id { IfOk result (λ made. made ≡ id) }
+            ensures ok { (op : Op) (rest : List Op) → t.old.awaiting ≡ op ∷ rest → fits_records t.old.tree op ≡ true → OnOk result (t.new ≡ taken_up op (record t.old { main = t.old.main ++ Told.Retire ∷ []; sched = t.old.sched ++ dropped_by (row_of t.old.rows id) id })) }
+            ensures err { OnErr result (t.new ≡ t.old) }
+        {
+            take_up_retiring(t, id)?;
+            Ok(id)
+        },
+    );
+    t.ended = ended;
+    taken
 }
 
 /// An AppEnd is kept: the application is completed.
 fn keep_app_end(t: &mut Tables, id: AppId, how: How) -> Result<Entry, NoMemory>
+    requires awaits { t.old.awaiting ≢ [] }
     requires fits { (op : Op) (rest : List Op) → t.old.awaiting ≡ op ∷ rest → fits_records t.old.tree op ≡ true }
     ensures ok { (x : List ℕ) (rest : List Op) → t.old.awaiting ≡ Op.AppEnd id how x ∷ rest → IfOk result (λ e. (e ≡ Entry.Kept (Op.AppEnd id how x)) × (t.new ≡ kept (Op.AppEnd id how x) t.old)) }
     ensures err { OnErr result (t.new ≡ t.old) }
 {
-    let room = entry_room(t)?;
-    post_app_end(t, id)?;
-    match take_into(t, room) {
-        Ok(entry) => {
-            t.rows.change(id, RowChange::KeepEnd { how });
-            t.going = t.going.saturating_sub(1);
-            Ok(entry)
-        }
-        Err(refused) => {
-            unpost_app_end(t, id);
-            Err(refused)
-        }
-    }
+    let entry = kept_entry(t)?;
+    take_up_app_end(t, id)?;
+    t.rows.change(id, RowChange::KeepEnd { how });
+    t.going = t.going.saturating_sub(1);
+    Ok(entry)
 }
 
 impl Tables {

@@ -1,10 +1,11 @@
 ghost use Rattle.std.specs.Prelude.{◌≡◌, [], ◌∷◌, ◌++◌, None, not, IfOk, OnOk, OnErr};
 ghost use Rattle.std.specs.Option.{option_copied};
 ghost use Rattle.rm_types.specs.Ids.{is_container};
+ghost use Rattle.rm_node.specs.Table.{next_state};
 ghost use Rattle.rm_tables.specs.Nodes.{beaten_row, changed_row, new_row, node_of, ordered_row, registered_row, with_node};
 
 use indexmap::IndexMap;
-use rm_node::NodeState;
+use rm_node::{NodeEvent, NodeState};
 use rm_types::{Boxed, ContainerId, Duplicate, Held, Items, NoMemory, Reply, Resource, Text};
 use std::alloc::Global;
 use std::marker::Model;
@@ -132,6 +133,16 @@ impl Nodes {
     }
 }
 
+/// The state of a node after an event: where the row of the two leads, and the same where there is none.
+fn next_state(state: NodeState, event: NodeEvent) -> NodeState
+    ensures { result ≡ next_state state event }
+{
+    match rm_node::step(state, event) {
+        Some((next, _action)) => next,
+        None => state,
+    }
+}
+
 impl NodeRow {
     /// The row of a node that registers for the first time in a life.
     pub fn new(registration: Registration, reply: Boxed<Reply>, none: Items<ContainerId>) -> NodeRow
@@ -142,7 +153,7 @@ impl NodeRow {
             turn: registration.turn,
             capability: registration.capability,
             running: registration.running,
-            state: NodeState::Waiting,
+            state: next_state(NodeState::Absent, NodeEvent::Register),
             last_id: 0,
             last_reply: reply,
             launches: none,
@@ -155,7 +166,7 @@ impl NodeRow {
         self.turn = registration.turn;
         self.capability = registration.capability;
         self.running = registration.running;
-        self.state = NodeState::Waiting;
+        self.state = next_state(self.state, NodeEvent::Register);
         self.last_id = 0;
         self.last_reply = reply;
     }
@@ -184,8 +195,8 @@ impl NodeRow {
         ensures { self.new ≡ changed_row change self.old }
     {
         match change {
-            NodeChange::Absorb => self.state = NodeState::Ready,
-            NodeChange::Lose => self.state = NodeState::Lost,
+            NodeChange::Absorb => self.state = next_state(self.state, NodeEvent::Absorb),
+            NodeChange::Lose => self.state = next_state(self.state, NodeEvent::Expire),
             NodeChange::Unlaunch(container) => self.unlaunch(container),
         }
     }

@@ -2,7 +2,7 @@ ghost use Rattle.std.specs.Prelude.{◌≡◌, ◌∷◌, [], ◌++◌, Some, No
 ghost use Rattle.std.specs.Option.{option_copied};
 ghost use Rattle.rm_tables.specs.Rows.{slot_of, row_of, is_retired, with_row, without_row};
 ghost use Rattle.rm_tables.specs.Changes.{changed};
-ghost use Rattle.rm_tables.specs.Leaving.{closed_one, telling};
+ghost use Rattle.rm_tables.specs.Leaving.{telling};
 ghost use Rattle.rm_tables.specs.Talks.{talked};
 
 use crate::changes::RowChange;
@@ -62,7 +62,7 @@ pub struct AppRow {
 
 impl AppRow {
     /// What its masters are to be told, and one more ending.
-    fn with_closing(&self, closing: Closing) -> Result<Items<Closing>, NoMemory>
+    pub fn with_closing(&self, closing: Closing) -> Result<Items<Closing>, NoMemory>
         ensures { IfOk result (λ closings. closings ≡ self.now.closings ++ closing ∷ []) }
     {
         let mut closings = self.closings.copy()?;
@@ -118,11 +118,10 @@ impl Rows {
         }
     }
 
-    /// Adds the row of an application that has no slot. `NoMemory` leaves the rows as they were; the row is then
-    /// dropped.
+    /// Adds the row of an application that has no slot; into the slot of one that has, the row is put. `NoMemory` leaves the rows
+    /// as they were; the row is then dropped.
     pub fn add(&mut self, id: AppId, row: AppRow) -> Result<(), NoMemory>
-        requires { slot_of self.old id ≡ None }
-        ensures ok { OnOk result (self.new ≡ self.old ++ (id, Some row) ∷ []) }
+        ensures ok { slot_of self.old id ≡ None → OnOk result (self.new ≡ self.old ++ (id, Some row) ∷ []) }
         ensures err { OnErr result (self.new ≡ self.old) }
     {
         self.map.insert(id, Some(row))?;
@@ -136,21 +135,6 @@ impl Rows {
         if let Some(slot) = self.map.get_mut(&id) {
             change_slot(slot, change);
         }
-    }
-
-    /// The master of a container's attempt is to be told of its end, where the life knows the application. `NoMemory`
-    /// changes nothing.
-    pub fn close(&mut self, closing: Closing) -> Result<(), NoMemory>
-        ensures ok { OnOk result (self.new ≡ closed_one self.old closing) }
-        ensures err { OnErr result (self.new ≡ self.old) }
-    {
-        let id = closing.id.attempt.app;
-        let Some(row) = self.find(id) else {
-            return Ok(());
-        };
-        let closings = row.with_closing(closing)?;
-        self.set_closings(id, closings);
-        Ok(())
     }
 
     /// What masters of an application's attempts are to be told is this, where the life knows the application. It takes no memory.

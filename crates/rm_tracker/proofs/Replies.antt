@@ -16,6 +16,7 @@ use Rattle.rm_model.specs.NodeReplies.{beat_reply, may_expire, node_register_rep
 use Rattle.rm_model.specs.Nodes.{is_ready as is_ready_told, is_waiting, node_of as node_told}
 use Rattle.rm_node.specs.declared.states.NodeState.{NodeState as NodePhase}
 use Rattle.rm_node.specs.declared.states.NodeState.TheVariants as states
+use Rattle.rm_node.specs.Table.{is_registered}
 use Rattle.rm_tables.specs.declared.nodes.NodeRow.{NodeRow}
 use Rattle.rm_tables.specs.declared.tables.Tables.{Tables}
 use Rattle.rm_tables.specs.Nodes.{is_ready, node_of as node_in}
@@ -47,16 +48,20 @@ named_so (one ∷ nodes) name node found = by (bytes_eq one.name name) refl (nam
     by false e rest = rest (rw e at found)
 
 -- how a node stands, by its row and by the judge
-pub phases : (state : NodePhase) → (is_lost state ≡ not (is_waiting (phase_of state) || is_ready_told (phase_of state))) × (is_ready state ≡ is_ready_told (phase_of state))
+pub phases : (state : NodePhase) → (is_registered state ≡ (is_waiting (phase_of state) || is_ready_told (phase_of state))) × (is_ready state ≡ is_ready_told (phase_of state))
 phases states.Absent = (refl, refl)
 phases states.Waiting = (refl, refl)
 phases states.Ready = (refl, refl)
 phases states.Lost = (refl, refl)
 
+registered_alike : (book : BookOf) (name : List ℕ) (row : NodeRow) (node : NodeState) → bare_node book name row ≡ plain_node node
+    → is_registered row.state ≡ (is_waiting node.phase || is_ready_told node.phase)
+registered_alike book name row node same =
+    (phases row.state).0 ∙ ap (λ (p : PlainNode). is_waiting p.phase || is_ready_told p.phase) same
+
 pub lost_alike : (book : BookOf) (name : List ℕ) (row : NodeRow) (node : NodeState) → bare_node book name row ≡ plain_node node
     → is_lost row.state ≡ not (is_waiting node.phase || is_ready_told node.phase)
-lost_alike book name row node same =
-    (phases row.state).0 ∙ ap (λ (p : PlainNode). not (is_waiting p.phase || is_ready_told p.phase)) same
+lost_alike book name row node same = ap not (registered_alike book name row node same)
 
 pub ready_alike : (book : BookOf) (name : List ℕ) (row : NodeRow) (node : NodeState) → bare_node book name row ≡ plain_node node → is_ready row.state ≡ is_ready_told node.phase
 ready_alike book name row node same = (phases row.state).1 ∙ ap (λ (p : PlainNode). is_ready_told p.phase) same
@@ -134,11 +139,7 @@ expire_by book name None (Some node) e = cc
 expire_by book name (Some row) None e = cc
 expire_by book name (Some row) (Some node) e =
     let same : bare_node book name row ≡ plain_node node = cc in
-    ap not (lost_alike book name row node same) ∙ twice (is_waiting node.phase || is_ready_told node.phase)
-  where
-    twice : (b : Bool) → not (not b) ≡ b
-    twice true = refl
-    twice false = refl
+    registered_alike book name row node same
 
 -- a node may expire where the judge says so
 pub expire_answer : (m : Scene) (t : Tables) (name : List ℕ) → RefinesLife m t → may_expire_in (node_in t.nodes name) ≡ may_expire m name

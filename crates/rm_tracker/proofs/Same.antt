@@ -20,6 +20,11 @@ use Rattle.rm_model.specs.Attempts.{is_live}
 use Rattle.rm_model.specs.Facts.{has_container}
 use Rattle.rm_model.specs.NodeReplies.{beat_reply, beaten, beaten_reply, beats, clock_reply, expired, is_new_to_node, life_after_clock, life_after_node, may_expire, new_node, node_register_reply, node_reply, registered, reported, strangers}
 use Rattle.rm_model.specs.Nodes.{is_ready as is_ready_told, is_waiting, node_of as node_told}
+use Rattle.rm_node.specs.declared.states.NodeState.{NodeState as NodePhase}
+use Rattle.rm_node.specs.declared.states.NodeState.TheVariants as states
+use Rattle.rm_node.specs.declared.states.NodeEvent.TheVariants as node_events
+use Rattle.rm_node.specs.Table.{next_state as next_node_state}
+use Rattle.rm_refinement.specs.Agreement.{phase_of}
 use Rattle.rm_tables.specs.declared.events.SchedEvent.{SchedEvent}
 use Rattle.rm_tables.specs.declared.nodes.NodeChange.TheVariants as of_node
 use Rattle.rm_tables.specs.declared.nodes.NodeRow.{NodeRow}
@@ -241,6 +246,13 @@ tick_same m t time reply shows is =
       finishes = shows.finishes;
     })
 
+-- a node's silence leaves it lost, however it stood
+expires : (s : NodePhase) → phase_of (next_node_state s node_events.Expire) ≡ Lost
+expires states.Absent = refl
+expires states.Waiting = refl
+expires states.Ready = refl
+expires states.Lost = refl
+
 -- a node's lease ran out
 pub expired_same : (m : Scene) (t : Tables) (name : List ℕ) (reply : Reply) → RefinesLife m t → reply ≡ clock_reply m (ExpireNode name)
     → RefinesLife (living m (life_after_clock m (ExpireNode name) reply)) (after_clock (ExpireNode name) reply t)
@@ -252,7 +264,7 @@ expired_same m t name reply shows is = by (may_expire m name) refl is
         subst (λ (one : Reply). RefinesLife (living m (life_after_clock m (ExpireNode name) one)) (after_clock (ExpireNode name) one t)) (sym answer)
         (again m t t.book (with_node (changed_row of_node.Lose) name t.nodes) _ m.life.book _ shows shows.rows
         (tidied_same t.book _ m.life.book _
-        (with_same t.book name (changed_row of_node.Lose) expired t.nodes m.life.nodes (λ one. refl) shows.nodes (λ r o a b alike. ap (λ (x : PlainNode). record x { phase = Lost }) alike))))
+        (with_same t.book name (changed_row of_node.Lose) expired t.nodes m.life.nodes (λ one. refl) shows.nodes (λ r o a b alike. let lost = expires r.state in rw lost (ap (λ (x : PlainNode). record x { phase = Lost }) alike)))))
     by false may is =
         let answer : reply ≡ Unknown = rw may at is in
         subst (λ (one : Reply). RefinesLife (living m (life_after_clock m (ExpireNode name) one)) (after_clock (ExpireNode name) one t)) (sym answer) shows

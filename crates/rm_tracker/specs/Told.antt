@@ -16,7 +16,7 @@ use Rattle.rm_book.specs.Books.{BookOf}
 use Rattle.rm_model.specs.Containers.{once}
 use Rattle.rm_model.specs.NodeReplies.{reported}
 use Rattle.rm_node.specs.declared.states.NodeState.{NodeState}
-use Rattle.rm_node.specs.declared.states.NodeState.TheVariants as states
+use Rattle.rm_node.specs.Table.{is_registered}
 use Rattle.rm_tables.specs.declared.nodes.NodeRow.{NodeRow}
 use Rattle.rm_tables.specs.Nodes.{is_ready}
 
@@ -31,12 +31,9 @@ elapsed (Tick time) = time
 elapsed (ExpireNode name) = 0
 elapsed (ExpireMaster attempt) = 0
 
--- a node's lease ran out
+-- a node isn't registered: it never was, or its lease ran out
 abbrev pub is_lost : NodeState → Bool
-is_lost states.Absent = false
-is_lost states.Waiting = false
-is_lost states.Ready = false
-is_lost states.Lost = true
+is_lost state = not (is_registered state)
 
 -- what a registration is answered, of a node that has no row, and of one that has
 abbrev pub register_told : ℕ → ℕ → Option NodeRow → Reply
@@ -78,4 +75,4 @@ beat_told book name id running (Some row) =
 -- a node may expire that has a row and isn't lost
 abbrev pub may_expire_in : Option NodeRow → Bool
 may_expire_in None = false
-may_expire_in (Some row) = not (is_lost row.state)
+may_expire_in (Some row) = is_registered row.state

@@ -12,7 +12,7 @@ ghost use Rattle.rm_tracker.specs.Answers.{after_node, beat_events, beaten_with,
 ghost use Rattle.rm_tracker.specs.Told.{beat_told, lives_at, new_beat_told, strangers_in};
 
 use rm_book::Book;
-use rm_node::NodeState;
+use rm_node::{NodeState, is_registered};
 use rm_tables::{NodeRow, SchedEvent, Tables};
 use rm_types::{
     Boxed, ContainerId, ContainerState, Duplicate, Held, Items, NoMemory, Queue, Reply, Text,
@@ -206,7 +206,7 @@ pub fn beat(
     let Some(row) = t.nodes.find(name) else {
         return Ok(Reply::Resync);
     };
-    if row.state == NodeState::Lost {
+    if !is_registered(row.state) {
         return Ok(Reply::Resync);
     }
     if id + 1 == row.last_id {

@@ -3,14 +3,12 @@ ghost use Rattle.std.specs.Prelude.{◌≡◌, IfOk, OnErr, if◌then◌else◌}
 ghost use Rattle.rm_types.specs.declared.messages.ClockAsk.{ClockAsk as Ask};
 ghost use Rattle.rm_types.specs.declared.replies.Reply.{Reply as Told};
 ghost use Rattle.rm_refinement.specs.Services.{lives_by};
-ghost use Rattle.rm_tables.specs.MainEvents.{is_alive};
 ghost use Rattle.rm_tables.specs.Nodes.{node_of};
 ghost use Rattle.rm_tables.specs.Rows.{row_of};
 ghost use Rattle.rm_tracker.specs.Answers.{after_clock};
 ghost use Rattle.rm_tracker.specs.Told.{may_expire_in};
 
-use rm_attempt::AttemptState;
-use rm_node::NodeState;
+use rm_node::is_registered;
 use rm_tables::{MainEvent, NodeChange, Nodes, Rows, SchedEvent, Tables};
 use rm_types::{AttemptId, Duplicate, NoMemory, Reply, Text};
 
@@ -19,7 +17,7 @@ fn may_expire(nodes: &Nodes, name: &Text) -> bool
     ensures { result ≡ may_expire_in (node_of nodes.now name.now) }
 {
     match nodes.find(name) {
-        Some(row) => row.state != NodeState::Lost,
+        Some(row) => is_registered(row.state),
         None => false,
     }
 }
@@ -39,15 +37,6 @@ pub fn expire_node(t: &mut Tables, name: &Text) -> Result<Reply, NoMemory>
     Ok(Reply::Ok)
 }
 
-fn is_alive(state: AttemptState) -> bool
-    ensures { result ≡ is_alive state }
-{
-    match state {
-        AttemptState::Live | AttemptState::Registered | AttemptState::Finishing => true,
-        _ => false,
-    }
-}
-
 /// Whether an attempt is the current one of its application, and lives.
 fn lives(rows: &Rows, attempt: AttemptId) -> bool
     ensures { result ≡ lives_by attempt (row_of rows.now attempt.app) }
@@ -58,7 +47,7 @@ fn lives(rows: &Rows, attempt: AttemptId) -> bool
     let Some(current) = row.current else {
         return false;
     };
-    current.number == attempt.number && is_alive(current.state)
+    current.number == attempt.number && current.state.is_alive()
 }
 
 /// A master's lease ran out; where its attempt lives, that is to be worked off.

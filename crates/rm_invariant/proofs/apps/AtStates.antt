@@ -102,7 +102,14 @@ module _ (settings : Settings) (q : AttemptId) (row : AppRow) (current : Current
       let known = good.0 in
       let active = active_row settings q row (record v { count = record v.count { dones = suc v.count.dones } }) a good in
       let says : ActiveInvariant settings q (Some current) row.wish (record v { count = record v.count { dones = suc v.count.dones } }) = rw is at active.current in
-      rw k (grind (arith, nat_tests))
+      by row.state refl a
+    where
+      by : (state : AppState) → row.state ≡ state → is_active state ≡ true
+          → RowInvariant settings q (Some (changed (of_app.Schedule (length (attempts_in v.found) + 1)) row)) (record v { count = record v.count { queueings = one_if b v.count.queueings } })
+      by apps.Accepted e active = rw (e, k) (grind (arith, nat_tests))
+      by apps.Running e active = rw (e, k) (grind (arith, nat_tests))
+      by apps.Killing e active = let killed : StateInvariant settings q apps.Killing row (record v { count = record v.count { dones = suc v.count.dones } }) = rw e at good.1 in let wished = killed.3 in cc
+      by _ e active = cc
 
   -- the end of the current attempt is kept
   pub attempt_ended : (how : How) (found : Option AppRecord) → current.state ≡ attempts.Ending → AllHaveEnded found → length (attempts_in found) ≡ length (attempts_in v.found) → 1 ≤ current.number

@@ -42,18 +42,18 @@ module _ (settings : Settings) (q : AttemptId) (row : AppRow) (v : View) where
   accept_submitted is true e good =
       let known = good.0 in
       let says : StateInvariant settings q apps.Submitted row (accept_more v) = rw is at good.1 in
-      rw e (grind arith)
+      rw (is, e) (grind arith)
   accept_submitted is false e good =
       let known = good.0 in
       let says : StateInvariant settings q apps.Submitted row (accept_more v) = rw is at good.1 in
-      rw e (grind arith)
+      rw (is, e) (grind arith)
 
   -- AppStart: its App is issued
   pub start_new : row.state ≡ apps.New → RowInvariant settings q (Some row) (start_more v) → RowInvariant settings q (Some (changed of_app.Issue row)) (app_more v)
   start_new is good =
       let known = good.0 in
       let says = subst (λ (s : AppState). StateInvariant settings q s row (start_more v)) is good.1 in
-      let new = says.0 in (
+      let new = says.0 in rw is (
         record { wish = known.wish; pending = known.pending; stays = known.stays; one_kill = known.one_kill; killed = known.killed },
         (
           record { no_record = new.no_record; some_waits = new.some_waits; none_on_its_way = new.none_on_its_way; not_accepted = new.not_accepted; no_attempt = rw new.no_attempt refl; none_queued = new.none_queued; not_completed = new.not_completed; not_held = new.not_held },
@@ -71,7 +71,7 @@ module _ (settings : Settings) (q : AttemptId) (row : AppRow) (v : View) where
       let says = subst (λ (state : AppState). StateInvariant settings q state row (app_more v)) is good.1 in
       let none : v.found ≡ None = says.0.no_record in
       let alone : row.current ≡ None = says.0.no_attempt in
-      rw (none, alone) (grind arith)
+      rw (is, none, alone) (grind arith)
 
   -- an event that has nothing to do may go
   by_state : (state : AppState) → row.state ≡ state → IsKnown row v → StateInvariant settings q state row v → RowInvariant settings q (Some row) v

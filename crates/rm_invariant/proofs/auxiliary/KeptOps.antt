@@ -28,6 +28,8 @@ use Rattle.rm_app.specs.declared.states.AppState.{AppState}
 use Rattle.rm_app.specs.declared.states.AppState.TheVariants as apps
 use Rattle.rm_attempt.specs.declared.states.AttemptState.{AttemptState}
 use Rattle.rm_attempt.specs.declared.states.AttemptState.TheVariants as attempts
+use Rattle.rm_attempt.specs.declared.states.AttemptEvent.TheVariants as attempt_events
+use Rattle.rm_attempt.specs.Table.{next_state as next_attempt_state}
 use Rattle.rm_tables.specs.declared.changes.AttemptChange.TheVariants as of_attempt
 use Rattle.rm_tables.specs.declared.changes.RowChange.{RowChange}
 use Rattle.rm_tables.specs.declared.changes.RowChange.TheVariants as of_app
@@ -70,7 +72,7 @@ use Rattle.rm_invariant.specs.auxiliary.Parts.{FixedParts, fixed_parts}
 use Rattle.rm_invariant.specs.auxiliary.Invariant.{IsUnfinished, NoneFirst, AuxInvariant, goes_by, goes_numbered}
 use Rattle.rm_invariant.proofs.auxiliary.MainEvents.{finishes_none, firsts_same, less_others, less_single}
 use Rattle.rm_invariant.proofs.auxiliary.Parts.{parts_after}
-use Rattle.rm_invariant.proofs.auxiliary.Rows.{goes_every, both, each_with, every_with, finishes_with_row, goes_on, none_first_with, retired_with, same_with, served_append}
+use Rattle.rm_invariant.proofs.auxiliary.Rows.{kept_goes, over_before, goes_every, both, each_with, every_with, finishes_with_row, goes_on, none_first_with, retired_with, same_with, served_append}
 use Rattle.rm_invariant.proofs.opening.Starting.{saving_number, starting_number}
 
 -- WHAT STAYS OF A ROW
@@ -266,14 +268,14 @@ module _ (h : History) (t : Tables) (w : CoreInvariant t.settings h t) (sides : 
         let st = saves.state in
         front_finishes q (ops.Attempt id master node) rest t.awaiting front refl ∙ sides.finishes q
         ∙ sym (finishes_with_row (changed lives) id.app t.rows saves.one saves.is q
-        (λ e. finishes_none t q (changed lives saves.one) (record saves.current { state = attempts.Live }) (rw c refl) refl ∙ sym (finishes_none t q saves.one saves.current c (rw st refl))))
+        (λ e. finishes_none t q (changed lives saves.one) (record saves.current { state = attempts.Live }) (rw (c, st) refl) refl ∙ sym (finishes_none t q saves.one saves.current c (rw st refl))))
 
     attempt_goes : (n : ℕ) (row : AppRow) → goes_by n (Some row) ≡ true → goes_by n (Some (changed lives row)) ≡ true
     attempt_goes n row goes = by row.current goes
       where
         by : (o : Option Current) → goes_numbered n o ≡ true → goes_numbered n (current_after lives o) ≡ true
         by None e = e
-        by (Some c) e = goes_on n c (record c { state = attempts.Live }) refl (λ x. refl) e
+        by (Some c) e = goes_on n c (record c { state = next_attempt_state c.state attempt_events.Kept }) refl (kept_goes c.state) e
 
     pub attempt_sides : master.attempt ≡ id → (s : PreservesCore t.settings h t (KeptEntry (ops.Attempt id master node), attempt_next)) → AuxInvariant s.next attempt_next
     attempt_sides apt s =
@@ -371,7 +373,7 @@ module _ (h : History) (t : Tables) (w : CoreInvariant t.settings h t) (sides : 
 
     -- the row says no more that its end awaits
     row_over : (q : AttemptId) → finishes_by q (Some (changed over ends.one)) ≡ false
-    row_over q = let c = ends.current_is in finishes_none t q (changed over ends.one) (record ends.current { state = attempts.Ended }) (rw c refl) refl
+    row_over q = let c = ends.current_is in let st = ends.state in finishes_none t q (changed over ends.one) (record ends.current { state = attempts.Ended }) (rw (c, st) refl) refl
 
     own_finished : (q : AttemptId) → is_attempt id q ≡ true → list_any (is_finished_op q) rest ≡ false
     own_finished q same = let own : id ≡ q = same_attempt id q same in none_under (is_own_op q) (is_finished_op q) (λ op. own_op op) rest (subst (λ (a : AttemptId). count_by (is_own_op a) rest ≡ 0) own none_left)
@@ -461,7 +463,7 @@ module _ (h : History) (t : Tables) (w : CoreInvariant t.settings h t) (sides : 
             going = rw submitted (sides.lists.going ∙ ap (λ n. length h.apps.submitted + n) (sym (going_same (λ app. record app { attempts = map (with_end id how text) app.attempts }) (λ app. refl) id.app t.tree.apps)));
           };
           finishes = end_finishes;
-          unfinished = every_with (λ (r : AppRow). IsUnfinished r.current) (changed over) id.app t.rows (λ row u. ended_row row.current) sides.unfinished;
+          unfinished = every_with (λ (r : AppRow). IsUnfinished r.current) (changed over) id.app t.rows (λ row u. ended_row row.current u) sides.unfinished;
           retired = rw retired (retired_with h.apps.retired (changed over) id.app t.rows sides.retired);
         }
       where
@@ -469,9 +471,9 @@ module _ (h : History) (t : Tables) (w : CoreInvariant t.settings h t) (sides : 
         silent_end None = tt
         silent_end (Some c) = tt
 
-        ended_row : (o : Option Current) → IsUnfinished (current_after over o)
-        ended_row None = tt
-        ended_row (Some c) = λ o. cc
+        ended_row : (o : Option Current) → IsUnfinished o → IsUnfinished (current_after over o)
+        ended_row None u = tt
+        ended_row (Some c) u = λ o. u (over_before c.state o)
 
 -- what an AppEnd that awaits says: the application is recorded and goes on, and isn't among the completed
 record EndWaits (v : View) : Type 0 where

@@ -22,6 +22,7 @@ use Rattle.rm_model.specs.MasterReplies.{is_finished_op}
 use Rattle.rm_model.specs.State.{Release}
 use Rattle.rm_attempt.specs.declared.states.AttemptState.{AttemptState}
 use Rattle.rm_attempt.specs.declared.states.AttemptState.TheVariants as attempts
+use Rattle.rm_attempt.specs.Table.{is_alive}
 use Rattle.rm_app.specs.declared.states.AppState.TheVariants as apps
 use Rattle.rm_tables.specs.declared.changes.AttemptChange.TheVariants as of_attempt
 use Rattle.rm_tables.specs.declared.changes.RowChange.{RowChange}
@@ -34,7 +35,7 @@ use Rattle.rm_tables.specs.declared.rows.Current.{Current}
 use Rattle.rm_tables.specs.declared.tables.Tables.{Tables}
 use Rattle.rm_tables.specs.Actions.{main_worked}
 use Rattle.rm_tables.specs.Changes.{changed, current_after, dropped_state, killed_state, scheduled}
-use Rattle.rm_tables.specs.MainEvents.{is_alive, main_step}
+use Rattle.rm_tables.specs.MainEvents.{main_step}
 use Rattle.rm_tables.specs.Nodes.{node_of, ordered_row}
 use Rattle.rm_tables.specs.Rows.{row_of, with_row}
 use Rattle.rm_model.specs.Issuing.{killed_text}
@@ -311,7 +312,7 @@ module _ (t : Tables) where
     main_others before done (orders id container node row current is number alive master on) = before
     main_others before done (ends_one id row current how text is number alive said) = λ q some.
         goes_with_row (changed (of_app.OfAttempt (of_attempt.End how))) id.app t.rows row is.found q.number q.app
-        (state_goes (of_app.OfAttempt (of_attempt.End how)) q.number row current (record current { state = attempts.Ending; finished = is_finished how }) is.is refl refl (λ e. refl)) (before q some)
+        (state_goes (of_app.OfAttempt (of_attempt.End how)) q.number row current (record current { state = killed_state current.state; finished = is_finished how }) is.is refl refl (killed_goes current.state)) (before q some)
     main_others before done (loses container row current is state number mine) = λ q some.
         goes_with_row (changed (of_app.OfAttempt of_attempt.Lose)) container.attempt.app t.rows row is.found q.number q.app (λ goes. absurd (not_going q.number row current is.is (rw state refl) goes)) (before q some)
     main_others before done (follows id row current is goes state none) = λ q some.
@@ -353,7 +354,7 @@ module _ (t : Tables) where
         each_with (changed (of_app.OfAttempt of_attempt.Requeue)) container.attempt.app t.rows row is.found (λ (r : AppRow). IsUnfinished r.current) (λ e. let c = is.is in rw c (λ o. refl)) before
     main_unfinished before done (orders id container node row current is number alive master on) = before
     main_unfinished before done (ends_one id row current how text is number alive said) =
-        each_with (changed (of_app.OfAttempt (of_attempt.End how))) id.app t.rows row is.found (λ (r : AppRow). IsUnfinished r.current) (λ e. let c = is.is in rw c (λ o. cc)) before
+        each_with (changed (of_app.OfAttempt (of_attempt.End how))) id.app t.rows row is.found (λ (r : AppRow). IsUnfinished r.current) (λ e. let c = is.is in let now = alive_killed current.state alive in rw (c, now) (λ o. cc)) before
     main_unfinished before done (loses container row current is state number mine) =
         each_with (changed (of_app.OfAttempt of_attempt.Lose)) container.attempt.app t.rows row is.found (λ (r : AppRow). IsUnfinished r.current) (λ e. let c = is.is in let f = rw c at e in rw c f) before
     main_unfinished before done (follows id row current is goes state none) =
@@ -482,13 +483,13 @@ module _ (t : Tables) where
     main_finishes before done (issues container node row current is state number mine on) = λ q.
         none_finished q (ops.Attempt container.attempt container node) t.awaiting refl ∙ before q
         ∙ sym (finishes_with_row (changed (of_app.OfAttempt of_attempt.Issue)) container.attempt.app t.rows row is.found q
-        (λ e. let c = is.is in both_none _ _ (finishes_none q (changed (of_app.OfAttempt of_attempt.Issue) row) (record current { state = attempts.Saving; lost = false }) (rw c refl) refl) (finishes_none q row current is.is (rw state refl))))
+        (λ e. let c = is.is in both_none _ _ (finishes_none q (changed (of_app.OfAttempt of_attempt.Issue) row) (record current { state = attempts.Saving; lost = false }) (rw (c, state) refl) refl) (finishes_none q row current is.is (rw state refl))))
     main_finishes before done (requeues container row current behind is state number mine on at_front) = λ q.
         before q ∙ sym (finishes_with_row (changed (of_app.OfAttempt of_attempt.Requeue)) container.attempt.app t.rows row is.found q
-        (λ e. let c = is.is in both_none _ _ (finishes_none q (changed (of_app.OfAttempt of_attempt.Requeue) row) (record (scheduled current.number) { granted = current.granted }) (rw c refl) refl) (finishes_none q row current is.is (rw state refl))))
+        (λ e. let c = is.is in both_none _ _ (finishes_none q (changed (of_app.OfAttempt of_attempt.Requeue) row) (record (scheduled current.number) { granted = current.granted }) (rw (c, state) refl) refl) (finishes_none q row current is.is (rw state refl))))
     main_finishes before done (orders id container node row current is number alive master on) = before
     main_finishes before done (ends_one id row current how text is number alive said) = λ q.
-        ends_finish id row current is number alive how text (of_app.OfAttempt (of_attempt.End how)) refl before q
+        ends_finish id row current is number alive how text (of_app.OfAttempt (of_attempt.End how)) (let ending = alive_killed current.state alive in rw ending refl) before q
     main_finishes before done (loses container row current is state number mine) = λ q.
         before q ∙ sym (finishes_with_row (changed (of_app.OfAttempt of_attempt.Lose)) container.attempt.app t.rows row is.found q (λ e. let c = is.is in rw c refl))
     main_finishes before done (follows id row current is goes state none) = λ q.

@@ -35,6 +35,8 @@ use Rattle.rm_model.specs.Changes.{after}
 use Rattle.rm_model.specs.Facts.{has_app, is_known}
 use Rattle.rm_model.specs.State.{Release, Scene}
 use Rattle.rm_attempt.specs.declared.states.AttemptState.TheVariants as attempts
+use Rattle.rm_attempt.specs.declared.states.AttemptEvent.TheVariants as attempt_events
+use Rattle.rm_attempt.specs.Table.{next_state as next_attempt_state, is_alive}
 use Rattle.rm_tables.specs.declared.changes.RowChange.TheVariants as of_app
 use Rattle.rm_tables.specs.declared.events.MainEvent.{MainEvent}
 use Rattle.rm_tables.specs.declared.events.MainEvent.TheVariants as mains
@@ -46,7 +48,6 @@ use Rattle.rm_tables.specs.declared.rows.Current.{Current}
 use Rattle.rm_tables.specs.declared.rows.Dialogue.{Dialogue}
 use Rattle.rm_tables.specs.declared.tables.Tables.{Tables}
 use Rattle.rm_tables.specs.Changes.{changed, current_after}
-use Rattle.rm_tables.specs.MainEvents.{is_alive}
 use Rattle.rm_tables.specs.Nodes.{node_of}
 use Rattle.rm_tables.specs.Opening.{going_in}
 use Rattle.rm_tables.specs.Rows.{is_retired, row_of, with_row}
@@ -94,7 +95,7 @@ use Rattle.rm_invariant.specs.auxiliary.Invariant.{FinishesKnown, IsUnfinished, 
 use Rattle.rm_invariant.proofs.auxiliary.KeptOps.{finishes_stays, goes_stays, unfinished_stays}
 use Rattle.rm_invariant.proofs.auxiliary.MainEvents.{alive_not, alive_over, finishes_none, firsts_same}
 use Rattle.rm_invariant.proofs.auxiliary.Parts.{parts_after}
-use Rattle.rm_invariant.proofs.auxiliary.Rows.{both, each_with, every_with, finishes_with_row, goes_on, goes_with_row, none_first_with, retired_with, same_with, served_append}
+use Rattle.rm_invariant.proofs.auxiliary.Rows.{register_lives, finish_lives, alive_issued, both, each_with, every_with, finishes_with_row, goes_on, goes_with_row, none_first_with, retired_with, same_with, served_append}
 
 -- WHERE THE ROWS AND WHAT IS ASKED FOR STAY
 
@@ -704,8 +705,10 @@ module _ (h : History) (t : Tables) (sides : AuxInvariant h t) (n : ℕ) where
         let alive : is_live (abstract_scene h t) attempt ≡ true = if_live (is_live (abstract_scene h t) attempt) (has_registered (abstract_scene h t) attempt) is in
         let lives = lives_found attempt (row_of t.rows attempt.app) refl (sym (live attempt) ∙ alive) in
         let c = lives.is in
-        let d : Current = record lives.current { state = attempts.Registered; registered = true } in
-        talked_sides attempt lives (registered_row (begun replies.MasterRegistered)) (λ r. refl) d (rw c refl) refl refl refl (rw c (λ e. cc)) s.next
+        let alive_now = register_lives lives.current.state lives.alive in
+        let issued = alive_issued (next_attempt_state lives.current.state attempt_events.Register) alive_now in
+        let d : Current = record lives.current { state = next_attempt_state lives.current.state attempt_events.Register; registered = true } in
+        talked_sides attempt lives (registered_row (begun replies.MasterRegistered)) (λ r. refl) d (rw c refl) refl alive_now refl (rw c (λ e. absurd (let x = rw issued at e in cc))) s.next
         (record (registered attempt replies.MasterRegistered t) { served = n }) refl (parts_of Register replies.MasterRegistered (fixed_parts h) refl s) refl refl refl refl refl refl refl [] (sym (append-nil t.main)) refl refl refl refl
     register_master reply is s = quiet_master Register reply refl refl s
 
@@ -724,9 +727,11 @@ module _ (h : History) (t : Tables) (sides : AuxInvariant h t) (n : ℕ) where
         by true e = λ s.
             let lives = spoken_lives attempt talks_on refl e in
             let c = lives.is in
-            let d : Current = record lives.current { state = attempts.Finishing } in
+            let alive_now = finish_lives lives.current.state lives.alive in
+            let issued = alive_issued (next_attempt_state lives.current.state attempt_events.Finish) alive_now in
+            let d : Current = record lives.current { state = next_attempt_state lives.current.state attempt_events.Finish } in
             let done : AuxInvariant s.next (record (said attempt text t) { served = n }) =
-            talked_sides attempt lives (said_row (with_text text)) (λ r. refl) d (rw c refl) refl refl refl (rw c (λ u. cc)) s.next
+            talked_sides attempt lives (said_row (with_text text)) (λ r. refl) d (rw c refl) refl alive_now refl (rw c (λ u. absurd (let x = rw issued at u in cc))) s.next
             (record (said attempt text t) { served = n }) refl (parts_of (Finish text) replies.Finishing (fixed_parts h) (finish_parts text) s) refl refl refl refl refl refl refl (mains.AttemptFinish attempt ∷ []) refl refl refl refl refl in
             rw e done
     finish_master text reply = quiet_master (Finish text) reply refl refl

@@ -1,5 +1,5 @@
 -- What holds of each row holds after one changes: whether it is there, whether its attempt goes on, and what it says of the end that awaits.
-use Rattle.std.proofs.Common.{◌≡◌, ℕ, List, ◌∷◌, [], ◌++◌, Bool, true, false, ◌&&◌, ◌||◌, ◌==◌, Option, None, Some, fold, option_map, refl, sym, ◌∙◌, ap, subst}
+use Rattle.std.proofs.Common.{◌≡◌, ℕ, List, ◌∷◌, [], ◌++◌, Bool, true, false, ◌&&◌, ◌||◌, ◌==◌, Option, None, Some, fold, option_map, refl, sym, ◌∙◌, ap, subst, arith}
 use Rattle.std.specs.List.{list_any}
 use Rattle.std.proofs.lemmas.List.Folds.{list_any-append}
 use Rattle.rm_types.specs.declared.ids.AppId.{AppId}
@@ -10,10 +10,12 @@ use Rattle.rm_types.specs.Records.{Records}
 use Rattle.rm_model.specs.MasterReplies.{is_finished_op}
 use Rattle.rm_attempt.specs.declared.states.AttemptState.{AttemptState}
 use Rattle.rm_attempt.specs.declared.states.AttemptState.TheVariants as attempts
+use Rattle.rm_attempt.specs.declared.states.AttemptEvent.TheVariants as attempt_events
+use Rattle.rm_attempt.specs.Table.{next_state as next_attempt_state, is_alive}
+use Rattle.rm_invariant.specs.events.MainFacts.{is_unissued}
 use Rattle.rm_tables.specs.declared.rows.AppRow.{AppRow}
 use Rattle.rm_tables.specs.declared.rows.Current.{Current}
 use Rattle.rm_tables.specs.Changes.{changed, killed_state}
-use Rattle.rm_tables.specs.MainEvents.{is_alive}
 use Rattle.rm_tables.specs.Rows.{row_of, with_row}
 use Rattle.rm_refinement.specs.Services.{finishes_by, is_ending}
 use Rattle.rm_invariant.specs.apps.View.{changed_if}
@@ -33,7 +35,7 @@ use Rattle.rm_tables.specs.Leaving.{closed, closed_in, closed_one}
 use Rattle.rm_tables.specs.Nodes.{node_of, with_node}
 use Rattle.rm_tables.specs.Passing.{row_granted}
 use Rattle.rm_refinement.proofs.Found.{other_row, own_row, same_name}
-use Rattle.rm_invariant.specs.auxiliary.Invariant.{NoneFirst, RetiredKnown, goes_by, goes_numbered}
+use Rattle.rm_invariant.specs.auxiliary.Invariant.{NoneFirst, RetiredKnown, goes_by, goes_numbered, is_over}
 
 pub both : (a b : Bool) → (a && b) ≡ true → (a ≡ true) × (b ≡ true)
 both true true e = (refl, refl)
@@ -114,6 +116,22 @@ killed_goes attempts.Finishing e = refl
 killed_goes attempts.Ending e = e
 killed_goes attempts.Ended e = e
 killed_goes attempts.Dropped e = e
+
+-- what events do to an attempt that lives, goes on or isn't over
+pub register_lives : (s : AttemptState) → is_alive s ≡ true → is_alive (next_attempt_state s attempt_events.Register) ≡ true
+register_lives s e = grind arith
+
+pub finish_lives : (s : AttemptState) → is_alive s ≡ true → is_alive (next_attempt_state s attempt_events.Finish) ≡ true
+finish_lives s e = grind arith
+
+pub alive_issued : (s : AttemptState) → is_alive s ≡ true → is_unissued s ≡ false
+alive_issued s e = grind arith
+
+pub kept_goes : (s : AttemptState) → (is_alive s || is_ending s) ≡ true → (is_alive (next_attempt_state s attempt_events.Kept) || is_ending (next_attempt_state s attempt_events.Kept)) ≡ true
+kept_goes s e = grind arith
+
+pub over_before : (s : AttemptState) → is_over (next_attempt_state s attempt_events.EndKept) ≡ false → is_over s ≡ false
+over_before s e = grind arith
 
 -- no end that awaits is FINISHED of one more operation than before, where that isn't such an end
 pub none_finished : (q : AttemptId) (op : Op) (awaiting : List Op) → is_finished_op q op ≡ false → list_any (is_finished_op q) (awaiting ++ op ∷ []) ≡ list_any (is_finished_op q) awaiting

@@ -19,6 +19,9 @@ use Rattle.rm_model.specs.Containers.{is_living, leave, without_launches}
 use Rattle.rm_model.specs.Facts.{has_app, has_container}
 use Rattle.rm_model.specs.Nodes.{node_of as node_told, with_node as with_told}
 use Rattle.rm_model.specs.State.{NodeState, Ready, Row, Scene}
+use Rattle.rm_node.specs.declared.states.NodeState.{NodeState as NodePhase}
+use Rattle.rm_node.specs.declared.states.NodeState.TheVariants as states
+use Rattle.rm_tables.specs.Nodes.{is_waiting}
 use Rattle.rm_tables.specs.declared.nodes.NodeChange.TheVariants.{Absorb}
 use Rattle.rm_tables.specs.declared.nodes.NodeRow.{NodeRow}
 use Rattle.rm_tables.specs.declared.tables.Tables.{Tables}
@@ -109,6 +112,13 @@ rows_absorbed book told name capability taken ended same none =
 
 -- NODES
 
+-- a node that waits
+waiting_is : (s : NodePhase) → is_waiting s ≡ true → s ≡ states.Waiting
+waiting_is states.Absent e = cc
+waiting_is states.Waiting e = refl
+waiting_is states.Ready e = cc
+waiting_is states.Lost e = cc
+
 module _ (book : BookOf) (name : List ℕ) (row : NodeRow) (taken : List Held) (ended : List ContainerId) where
   abbrev now : BookOf
   now = with_taken book name row.capability taken ended
@@ -120,9 +130,9 @@ module _ (book : BookOf) (name : List ℕ) (row : NodeRow) (taken : List Held) (
   offers = let own = own_name name in capability_in-with_capability name name row.capability book.nodes ∙ rw own refl
 
   -- the same nodes are there again
-  pub nodes_absorbed : (nodes : List (List ℕ × NodeRow)) (told : List NodeState) → SameNodes book nodes told → LaunchesHere book nodes → node_of nodes name ≡ Some row → are_on book name ended ≡ true
+  pub nodes_absorbed : is_waiting row.state ≡ true → (nodes : List (List ℕ × NodeRow)) (told : List NodeState) → SameNodes book nodes told → LaunchesHere book nodes → node_of nodes name ≡ Some row → are_on book name ended ≡ true
       → SameNodes now (with_node (changed_row Absorb) name (unlaunched_on name nodes ended)) (with_told absorbed name (map (without_launches ended) told))
-  nodes_absorbed nodes told same here found on =
+  nodes_absorbed waits nodes told same here found on =
       subst (λ (left : List (List ℕ × NodeRow)). SameNodes now (with_node (changed_row Absorb) name left) (with_told absorbed name (map (without_launches ended) told))) (sym (all_here book name ended nodes on))
       (changed_same (without_rows book ended) now name (changed_row Absorb) absorbed (unlaunched book nodes ended) (map (without_launches ended) told) (λ one. refl) others_offer
       (launches_same book nodes told ended same here) change)
@@ -133,22 +143,23 @@ module _ (book : BookOf) (name : List ℕ) (row : NodeRow) (taken : List Held) (
           let left : node_of (unlaunched book nodes ended) name ≡ Some (row_without ended row) = these_left book name ended nodes (here name) ∙ ap (option_map (row_without ended)) found in
           let own : row_without ended row ≡ r = let x = sym left ∙ a in cc in
           let offered : capability_of now name ≡ Some r.capability = offers ∙ ap (λ (one : NodeRow). Some one.capability) own in
+          let waiting : r.state ≡ states.Waiting = ap (λ (one : NodeRow). one.state) (sym own) ∙ waiting_is row.state waits in
           ap (λ (c : Option Resource). record (bare_node now name (changed_row Absorb r)) { capability = c }) offered
-          ∙ ap (λ (x : PlainNode). record x { phase = Ready; capability = Some x.last.capability }) alike
+          ∙ rw waiting (ap (λ (x : PlainNode). record x { phase = Ready; capability = Some x.last.capability }) alike)
 
 -- ALL OF IT
 
 module _ (m : Scene) (t : Tables) (recorded : m.records ≡ t.tree) (same : Refines m.life t) (know : RowsKnow t) (here : LaunchesHere t.book t.nodes) (name : List ℕ) (row : NodeRow)
     (found : node_of t.nodes name ≡ Some row) (taken : List Held) (ended : List ContainerId) where
   -- the tables agree with the life after an absorption
-  pub absorbed_agrees : are_on t.book name ended ≡ true → none_taken ended taken ≡ true → Refines (absorbs m name taken ended) (absorbed_with name row.capability taken ended t)
-  absorbed_agrees on none =
+  pub absorbed_agrees : is_waiting row.state ≡ true → are_on t.book name ended ≡ true → none_taken ended taken ≡ true → Refines (absorbs m name taken ended) (absorbed_with name row.capability taken ended t)
+  absorbed_agrees waits on none =
       record {
         rows = rows_absorbed t.book m.life.book name row.capability taken ended same.rows none;
         nodes =
             tidied_same (with_taken t.book name row.capability taken ended) (with_node (changed_row Absorb) name (unlaunched_on name t.nodes ended))
             (book_taken name taken (leave m Gone ended).book) (with_told absorbed name (leave m Gone ended).nodes)
-            (nodes_absorbed t.book name row taken ended t.nodes m.life.nodes same.nodes here found on);
+            (nodes_absorbed t.book name row taken ended waits t.nodes m.life.nodes same.nodes here found on);
         asks = same.asks;
         closings = closings_left m t recorded same know Gone ended;
         masters = λ attempt. masters_agree m.life.masters.registered m.life.granted (has_app m.life.apps.retired attempt.app) attempt (closings_of t.tree.apps Gone ended) t.rows (same.masters attempt);

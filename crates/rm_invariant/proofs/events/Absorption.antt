@@ -181,10 +181,17 @@ module _ (settings : Settings) (h : History) (t : Tables) (w : CoreInvariant set
           tidied_holds (with_taken name taken (leave (at_event settings h t w (scheds.NodeAdded name turn) rest front) Gone list)) Nothing
           (taken_holds (at_event settings h t w (scheds.NodeAdded name turn) rest front) Nothing name node there taken list takes_standing living stay (all_held Nothing taken (λ id held. tt)) w.book)
 
+      both_first : (is_waiting row.state && (row.turn == turn)) ≡ true → is_waiting row.state ≡ true
+      both_first e = by (is_waiting row.state) e
+        where
+          by : (b : Bool) → (b && (row.turn == turn)) ≡ true → b ≡ true
+          by true e = refl
+          by false e = e
+
       agrees : Refines life (absorbed_with name row.capability taken list t)
       agrees =
           absorbed_agrees (at_event settings h t w (scheds.NodeAdded name turn) rest front) t w.keeps.recorded w.agrees (rows_know settings h t w.keeps)
-          (launches_here t.book h.book t.nodes h.nodes w.agrees.rows w.book.apart w.agrees.nodes w.book.launches) name row found taken list on (held_pass list taken stay)
+          (launches_here t.book h.book t.nodes h.nodes w.agrees.rows w.book.apart w.agrees.nodes w.book.launches) name row found taken list (both_first some) on (held_pass list taken stay)
 
       some_whole : PreservesCore settings h t (Absorbed name taken list, sched_popped (absorbed_with name row.capability taken list t))
       some_whole =

@@ -14,13 +14,13 @@ use Rattle.rm_book.specs.AskTables.{AsksOf, asks_granted, asks_of, granted_in, i
 use Rattle.rm_book.proofs.Ids.{same_attempt}
 use Rattle.rm_attempt.specs.declared.states.AttemptState.{AttemptState}
 use Rattle.rm_attempt.specs.declared.states.AttemptState.TheVariants as attempts
+use Rattle.rm_attempt.specs.Table.{is_alive}
 use Rattle.rm_model.specs.Containers.{is_size}
 use Rattle.rm_tables.specs.declared.rows.AppRow.{AppRow}
 use Rattle.rm_tables.specs.declared.rows.Current.{Current}
 use Rattle.rm_tables.specs.declared.tables.Tables.{Tables}
 use Rattle.rm_tables.specs.Actions.{sched_popped}
 use Rattle.rm_tables.specs.Changes.{granted_at}
-use Rattle.rm_tables.specs.MainEvents.{is_alive}
 use Rattle.rm_tables.specs.Passing.{answered, passed_with, row_granted, without_granted}
 use Rattle.rm_tables.specs.Rows.{row_of}
 use Rattle.rm_refinement.specs.Services.{is_ending}

@@ -13,13 +13,14 @@ use Rattle.rm_app.specs.declared.states.AppState.{AppState}
 use Rattle.rm_app.specs.declared.states.AppState.TheVariants as apps
 use Rattle.rm_attempt.specs.declared.states.AttemptState.{AttemptState}
 use Rattle.rm_attempt.specs.declared.states.AttemptState.TheVariants as attempts
+use Rattle.rm_attempt.specs.Table.{is_alive}
 use Rattle.rm_tables.specs.declared.events.MainEvent.{MainEvent}
 use Rattle.rm_tables.specs.declared.events.MainEvent.TheVariants as mains
 use Rattle.rm_tables.specs.declared.rows.AppRow.{AppRow}
 use Rattle.rm_tables.specs.declared.rows.Current.{Current}
 use Rattle.rm_tables.specs.declared.tables.Tables.{Tables}
 use Rattle.rm_tables.specs.Actions.{found_in}
-use Rattle.rm_tables.specs.MainEvents.{accept_of_row, accept_of_state, decision_of_end, decision_of_attempt_state, decision_of_row, decision_of_current, end_with, expiry_of_row, expiry_of_living, expiry_of_current, finish_of_row, finish_of_living, finish_of_current, finishing_in, grant_of_state, grant_of_row, grant_of_place, grant_of_current, is_alive, is_master_of, kill_of_attempt_state, kill_of_row, kill_of_state, last_end_in, launch_of_master, launch_of_row, launch_of_tests, launch_of_place, launch_of_living, launch_of_current, is_living_one, loss_of_state, loss_of_row, loss_of_current, main_step, node_at, removal_of_first, save_of_row, save_of_state, start_of_submission, start_of_row}
+use Rattle.rm_tables.specs.MainEvents.{accept_of_row, accept_of_state, decision_of_end, decision_of_attempt_state, decision_of_row, decision_of_current, end_with, expiry_of_row, expiry_of_living, expiry_of_current, finish_of_row, finish_of_living, finish_of_current, finishing_in, grant_of_state, grant_of_row, grant_of_place, grant_of_current, is_master_of, kill_of_attempt_state, kill_of_row, kill_of_state, last_end_in, launch_of_master, launch_of_row, launch_of_tests, launch_of_place, launch_of_living, launch_of_current, is_living_one, loss_of_state, loss_of_row, loss_of_current, main_step, node_at, removal_of_first, save_of_row, save_of_state, start_of_submission, start_of_row}
 use Rattle.rm_tables.specs.Rows.{row_of}
 use Rattle.rm_invariant.specs.events.Outcomes.{IsEndOfApp, Outcome, accepts, adds, delays, ends, ends_one, follows, idles, issues, kills, loses, orders, removes, requeues, saves}
 use Rattle.rm_invariant.specs.apps.Invariant.{is_active}

@@ -1,5 +1,5 @@
 -- No node that registered is absent: whatever changes the table of nodes keeps it, and so does each event of the scheduler.
-use Rattle.std.proofs.Common.{◌≡◌, ◌≢◌, ℕ, List, [], ◌∷◌, ◌++◌, Bool, true, false, ◌&&◌, ◌==◌, Option, None, Some, filter, refl, sym, ◌∙◌, subst}
+use Rattle.std.proofs.Common.{◌≡◌, ◌≢◌, ℕ, List, [], ◌∷◌, ◌++◌, Bool, true, false, ◌&&◌, ◌==◌, Option, None, Some, filter, refl, sym, ◌∙◌, subst, arith}
 use Rattle.std.specs.Prelude.{option_map}
 use Rattle.std.specs.Str.{bytes_eq}
 use Rattle.rm_types.specs.declared.containers.BookRow.{BookRow}
@@ -11,6 +11,10 @@ use Rattle.rm_attempt.specs.declared.states.AttemptState.TheVariants as attempts
 use Rattle.rm_book.specs.Books.{BookOf, row_of as book_row_of}
 use Rattle.rm_model.specs.Containers.{once}
 use Rattle.rm_node.specs.declared.states.NodeState.TheVariants as states
+use Rattle.rm_node.specs.declared.states.NodeState.{NodeState}
+use Rattle.rm_node.specs.declared.states.NodeEvent.{NodeEvent}
+use Rattle.rm_node.specs.declared.states.NodeEvent.TheVariants as events
+use Rattle.rm_node.specs.Table.{next_state}
 use Rattle.rm_tables.specs.declared.events.SchedEvent.{SchedEvent}
 use Rattle.rm_tables.specs.declared.events.SchedEvent.TheVariants as scheds
 use Rattle.rm_tables.specs.declared.nodes.NodeChange.{NodeChange}
@@ -58,10 +62,14 @@ registered_more name row nodes none some before q one found = by (bytes_eq name 
         let same : row ≡ one = cc in subst (λ (x : NodeRow). x.state ≢ states.Absent) same some
     by false e = before q one (sym (other_added name q row nodes e) ∙ found)
 
+-- no event makes a node absent
+pub still_registered : (event : NodeEvent) (s : NodeState) → s ≢ states.Absent → next_state s event ≢ states.Absent
+still_registered event s some = grind arith
+
 -- a change that the manager does leaves none absent
 pub changes_registered : (change : NodeChange) → LeavesNoneAbsent (changed_row change)
-changes_registered Absorb row some = λ e. cc
-changes_registered Lose row some = λ e. cc
+changes_registered Absorb row some = still_registered events.Absorb row.state some
+changes_registered Lose row some = still_registered events.Expire row.state some
 changes_registered (Unlaunch id) row some = some
 
 -- launches go

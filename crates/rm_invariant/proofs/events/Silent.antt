@@ -1,6 +1,6 @@
 -- An attempt that isn't issued has no dialogue with a master: whatever happens to an application keeps it, and so does each event of the main
 -- queue.
-use Rattle.std.proofs.Common.{◌≡◌, List, Bool, true, false, Option, None, Some, refl, sym, ◌∙◌, ap, subst}
+use Rattle.std.proofs.Common.{◌≡◌, List, Bool, true, false, Option, None, Some, refl, sym, ◌∙◌, ap, subst, arith}
 use Rattle.rm_types.specs.declared.entries.Entry.{Entry}
 use Rattle.rm_types.specs.declared.ids.AppId.{AppId}
 use Rattle.rm_types.specs.declared.ids.ContainerId.{ContainerId}
@@ -8,6 +8,9 @@ use Rattle.rm_types.specs.declared.operations.How.{How}
 use Rattle.rm_types.specs.Ids.{is_app}
 use Rattle.rm_attempt.specs.declared.states.AttemptState.{AttemptState}
 use Rattle.rm_attempt.specs.declared.states.AttemptState.TheVariants as attempts
+use Rattle.rm_attempt.specs.declared.states.AttemptEvent.{AttemptEvent}
+use Rattle.rm_attempt.specs.declared.states.AttemptEvent.TheVariants as attempt_events
+use Rattle.rm_attempt.specs.Table.{next_state as next_attempt_state}
 use Rattle.rm_tables.specs.declared.changes.AttemptChange.{AttemptChange}
 use Rattle.rm_tables.specs.declared.changes.AttemptChange.TheVariants as of_attempt
 use Rattle.rm_tables.specs.declared.changes.RowChange.{RowChange}
@@ -17,35 +20,16 @@ use Rattle.rm_tables.specs.declared.rows.Current.{Current}
 use Rattle.rm_tables.specs.declared.rows.Dialogue.{Dialogue}
 use Rattle.rm_tables.specs.declared.tables.Tables.{Tables}
 use Rattle.rm_tables.specs.Actions.{main_worked, next_in}
-use Rattle.rm_tables.specs.Changes.{attempt_after, changed, current_after, dialogue_after, dropped_state, granted_at, killed_state}
+use Rattle.rm_tables.specs.Changes.{attempt_after, changed, current_after, dialogue_after, granted_at}
 use Rattle.rm_tables.specs.Rows.{row_of, with_row}
 use Rattle.rm_invariant.specs.apps.View.{changed_if}
 use Rattle.rm_invariant.proofs.apps.Found.{is_app_same, row_changed}
 use Rattle.rm_invariant.specs.events.Outcomes.{IsCurrentOf, Outcome, accepts, adds, delays, ends, ends_one, follows, idles, issues, kills, loses, orders, removes, requeues, saves}
 use Rattle.rm_invariant.specs.events.MainFacts.{AreSilent, IsSilent, UnissuedSilent, is_unissued}
 
--- an attempt that isn't issued once its application is killed or ends, or a container is granted to it, was not issued before
-killed_unissued : (s : AttemptState) → is_unissued (killed_state s) ≡ true → is_unissued s ≡ true
-killed_unissued attempts.Scheduled e = refl
-killed_unissued attempts.Granted e = refl
-killed_unissued attempts.Saving e = e
-killed_unissued attempts.Live e = e
-killed_unissued attempts.Registered e = e
-killed_unissued attempts.Finishing e = e
-killed_unissued attempts.Ending e = e
-killed_unissued attempts.Ended e = e
-killed_unissued attempts.Dropped e = e
-
-dropped_unissued : (s : AttemptState) → is_unissued (dropped_state s) ≡ true → is_unissued s ≡ true
-dropped_unissued attempts.Scheduled e = refl
-dropped_unissued attempts.Granted e = refl
-dropped_unissued attempts.Saving e = e
-dropped_unissued attempts.Live e = e
-dropped_unissued attempts.Registered e = e
-dropped_unissued attempts.Finishing e = e
-dropped_unissued attempts.Ending e = e
-dropped_unissued attempts.Ended e = e
-dropped_unissued attempts.Dropped e = e
+-- an attempt that isn't issued after an event, or once a container is granted to it, was not issued before
+was_unissued : (event : AttemptEvent) (s : AttemptState) → is_unissued (next_attempt_state s event) ≡ true → is_unissued s ≡ true
+was_unissued event s e = grind arith
 
 granted_unissued : (s : AttemptState) (container : ContainerId) (was : Current) → was.state ≡ s → is_unissued (granted_at s container was).state ≡ true → is_unissued s ≡ true
 granted_unissued attempts.Scheduled container was st e = refl
@@ -69,13 +53,13 @@ MayChange _ _ = Unit {0}
 
 attempt_silent : (change : AttemptChange) (was : Current) (d : Option Dialogue) → MayGoBack change was → IsSilent (Some was) d → IsSilent (Some (attempt_after change was)) d
 attempt_silent (of_attempt.Grant container) was d may silent = λ e. silent (granted_unissued was.state container was refl e)
-attempt_silent of_attempt.Requeue was d may silent = λ e. silent (rw may refl)
-attempt_silent of_attempt.Issue was d may silent = λ e. cc
+attempt_silent of_attempt.Requeue was d may silent = λ e. silent (was_unissued attempt_events.Requeue was.state e)
+attempt_silent of_attempt.Issue was d may silent = λ e. silent (was_unissued attempt_events.Issue was.state e)
 attempt_silent of_attempt.Lose was d may silent = silent
-attempt_silent of_attempt.Keep was d may silent = λ e. cc
-attempt_silent of_attempt.Finish was d may silent = λ e. cc
-attempt_silent (of_attempt.End how) was d may silent = λ e. cc
-attempt_silent (of_attempt.KeepEnd how) was d may silent = λ e. cc
+attempt_silent of_attempt.Keep was d may silent = λ e. silent (was_unissued attempt_events.Kept was.state e)
+attempt_silent of_attempt.Finish was d may silent = λ e. silent (was_unissued attempt_events.Finish was.state e)
+attempt_silent (of_attempt.End how) was d may silent = λ e. silent (was_unissued attempt_events.End was.state e)
+attempt_silent (of_attempt.KeepEnd how) was d may silent = λ e. silent (was_unissued attempt_events.EndKept was.state e)
 
 -- whatever happens to an application
 pub change_silent : (change : RowChange) (o : Option Current) (d : Option Dialogue) → MayChange change o → IsSilent o d → IsSilent (current_after change o) (dialogue_after change d)
@@ -91,9 +75,9 @@ change_silent (of_app.Schedule number) None d may silent = λ e. refl
 change_silent of_app.Issue (Some was) d may silent = silent
 change_silent of_app.Keep (Some was) d may silent = silent
 change_silent of_app.Wish (Some was) d may silent = silent
-change_silent of_app.Kill (Some was) d may silent = λ e. silent (killed_unissued was.state e)
-change_silent of_app.Register (Some was) d may silent = λ e. cc
-change_silent of_app.End (Some was) d may silent = λ e. silent (dropped_unissued was.state e)
+change_silent of_app.Kill (Some was) d may silent = λ e. silent (was_unissued attempt_events.End was.state e)
+change_silent of_app.Register (Some was) d may silent = λ e. silent (was_unissued attempt_events.Register was.state e)
+change_silent of_app.End (Some was) d may silent = λ e. silent (was_unissued attempt_events.Drop was.state e)
 change_silent (of_app.KeepEnd how) (Some was) d may silent = silent
 change_silent (of_app.OfAttempt change) (Some was) d may silent = attempt_silent change was d may silent
 change_silent (of_app.Schedule number) (Some was) d may silent = λ e. refl

@@ -15,11 +15,11 @@ use Rattle.rm_app.specs.declared.states.AppState.{AppState}
 use Rattle.rm_app.specs.declared.states.AppState.TheVariants as apps
 use Rattle.rm_attempt.specs.declared.states.AttemptState.{AttemptState}
 use Rattle.rm_attempt.specs.declared.states.AttemptState.TheVariants as attempts
+use Rattle.rm_attempt.specs.Table.{is_alive}
 use Rattle.rm_model.specs.Passing.{asks_of as asks_told}
 use Rattle.rm_tables.specs.declared.rows.AppRow.{AppRow}
 use Rattle.rm_tables.specs.declared.rows.Current.{Current}
 use Rattle.rm_tables.specs.declared.tables.Tables.{Tables}
-use Rattle.rm_tables.specs.MainEvents.{is_alive}
 use Rattle.rm_tables.specs.Passing.{asks_some, waits_for_master}
 use Rattle.rm_tables.specs.Rows.{row_of}
 use Rattle.rm_refinement.specs.Agreement.{SameAsks}

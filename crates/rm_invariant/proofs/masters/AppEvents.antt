@@ -22,6 +22,7 @@ use Rattle.rm_app.specs.declared.states.AppState.{AppState}
 use Rattle.rm_app.specs.declared.states.AppState.TheVariants as apps
 use Rattle.rm_attempt.specs.declared.states.AttemptState.{AttemptState}
 use Rattle.rm_attempt.specs.declared.states.AttemptState.TheVariants as attempts
+use Rattle.rm_app.specs.declared.states.AppEvent.TheVariants as app_events
 use Rattle.rm_tables.specs.declared.changes.RowChange.{RowChange}
 use Rattle.rm_tables.specs.declared.events.MainEvent.{MainEvent}
 use Rattle.rm_tables.specs.declared.events.SchedEvent.{SchedEvent}
@@ -55,6 +56,7 @@ use Rattle.rm_invariant.proofs.masters.Others.{accepted_marks, over_marks, over_
 use Rattle.rm_invariant.proofs.masters.Stepping.{joins_with, marks_stay, marks_still}
 use Rattle.rm_invariant.proofs.masters.Effects.{main_taken, op_issued, sched_posted, main_posted, sched_taken}
 use Rattle.rm_invariant.proofs.masters.Removed.{none_joins}
+use Rattle.rm_invariant.proofs.masters.Saying.{was_final}
 
 -- an application that was saved has no attempt
 alone_by : (settings : Settings) (q : AttemptId) (row : AppRow) (v : View) → row.state ≡ apps.Submitted → RowInvariant settings q (Some row) v → row.current ≡ None
@@ -77,7 +79,7 @@ last_by settings q row current v is a e good =
 kill_marks : (c : ContainerId) (row : AppRow) (v : ContainerView) (current : Current) → row.current ≡ Some current → Alive current.state → ContainerInvariant c (Some row) v → ContainerInvariant c (Some (changed of_app.Kill row)) v
 kill_marks c row v current is st good =
     let says : ContainerByNumber c (current.number == c.attempt.number) current v = rw is at good.1.0 in
-    (good.0, (rw is (by current.state refl st (current.number == c.attempt.number) says), λ f. cc))
+    (good.0, (rw is (by current.state refl st (current.number == c.attempt.number) says), λ f. good.1.1 (was_final app_events.Kill refl row.state f)))
   where
     by : (s : AttemptState) → current.state ≡ s → Alive s → (b : Bool) → ContainerByNumber c b current v → ContainerByNumber c b (record current { state = killed_state current.state }) v
     by s e st false says = says
@@ -96,7 +98,7 @@ later_marks : (c : ContainerId) (row : AppRow) (v : ContainerView) (current : Cu
 later_marks c row v current is which good =
     let same = later_state current.state which in
     let says : ContainerByCurrent c (Some current) v = rw is at good.1.0 in
-    (good.0, (rw (is, same) says, λ f. cc))
+    (good.0, (rw (is, same) says, λ f. good.1.1 (was_final app_events.Kill refl row.state f)))
 
 module _ (settings : Settings) (h : History) (t : Tables) (k : AppsInvariant settings h t) (all : ContainersInvariant h t) where
   -- an event of the main queue that no container counts is taken
@@ -374,7 +376,7 @@ module _ (settings : Settings) (h : History) (t : Tables) (k : AppsInvariant set
         (started settings h t k id rest front row found st s may) h refl
         (marks_still h h t (record t { main = drop 1 t.main; rows = with_row (changed of_app.Issue) id t.rows; awaiting = t.awaiting ++ ops.App id s ∷ [] }) id (changed of_app.Issue) row (λ q. row_changed (changed of_app.Issue) id q t.rows) found
         (λ c. op_issued h (record (main_popped t) { rows = with_row (changed of_app.Issue) id t.rows }) c (ops.App id s) ∙ was (mains.AppStart id) rest front (λ c v. refl) c)
-        (λ c same says. same_marks c row (container_view h t c) (changed of_app.Issue row) (rw alone refl) refl says) all)
+        (λ c same says. same_marks c row (container_view h t c) (changed of_app.Issue row) (rw alone refl) (rw st refl) says) all)
 
   -- Retire, where nothing is to be removed, and where the application that completed first is
   module _ (rest : List MainEvent) (front : t.main ≡ mains.Retire ∷ rest) where

@@ -8,10 +8,11 @@ use Rattle.rm_types.specs.Ids.{is_container}
 use Rattle.rm_app.specs.declared.states.AppState.{AppState}
 use Rattle.rm_attempt.specs.declared.states.AttemptState.{AttemptState}
 use Rattle.rm_attempt.specs.declared.states.AttemptState.TheVariants as attempts
+use Rattle.rm_attempt.specs.Table.{is_alive}
 use Rattle.rm_tables.specs.declared.rows.AppRow.{AppRow}
 use Rattle.rm_tables.specs.declared.rows.Current.{Current}
 use Rattle.rm_tables.specs.Changes.{changed, granted}
-use Rattle.rm_tables.specs.MainEvents.{is_alive, is_master_of}
+use Rattle.rm_tables.specs.MainEvents.{is_master_of}
 use Rattle.rm_tables.specs.declared.changes.RowChange.TheVariants as of_app
 use Rattle.rm_tables.specs.declared.changes.AttemptChange.TheVariants as of_attempt
 use Rattle.rm_refinement.specs.Services.{is_ending}

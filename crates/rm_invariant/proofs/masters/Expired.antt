@@ -13,12 +13,13 @@ use Rattle.rm_model.specs.Attempts.{finishing_text, has_expired}
 use Rattle.rm_model.specs.Issuing.{EndsFor, expired_text}
 use Rattle.rm_attempt.specs.declared.states.AttemptState.{AttemptState}
 use Rattle.rm_attempt.specs.declared.states.AttemptState.TheVariants as attempts
+use Rattle.rm_attempt.specs.Table.{is_alive}
 use Rattle.rm_tables.specs.declared.events.MainEvent.{MainEvent}
 use Rattle.rm_tables.specs.declared.rows.AppRow.{AppRow}
 use Rattle.rm_tables.specs.declared.rows.Current.{Current}
 use Rattle.rm_tables.specs.declared.tables.Tables.{Tables}
 use Rattle.rm_tables.specs.Actions.{attempt_ends, main_popped, main_quiet, main_worked}
-use Rattle.rm_tables.specs.MainEvents.{expiry_of_row, expiry_of_living, expiry_of_current, finish_of_row, finish_of_living, finish_of_current, finishing_in, is_alive, is_master_of, main_step}
+use Rattle.rm_tables.specs.MainEvents.{expiry_of_row, expiry_of_living, expiry_of_current, finish_of_row, finish_of_living, finish_of_current, finishing_in, is_master_of, main_step}
 use Rattle.rm_tables.specs.Rows.{row_of}
 use Rattle.rm_tables.specs.declared.events.MainEvent.TheVariants as mains
 use Rattle.rm_refinement.specs.History.{History, abstract_scene}

@@ -15,11 +15,11 @@ use Rattle.rm_model.specs.State.{Row}
 use Rattle.rm_app.specs.declared.states.AppState.{AppState}
 use Rattle.rm_attempt.specs.declared.states.AttemptState.{AttemptState}
 use Rattle.rm_attempt.specs.declared.states.AttemptState.TheVariants as attempts
+use Rattle.rm_attempt.specs.Table.{is_alive}
 use Rattle.rm_tables.specs.declared.rows.AppRow.{AppRow}
 use Rattle.rm_tables.specs.declared.rows.Current.{Current}
 use Rattle.rm_tables.specs.declared.tables.Tables.{Tables}
 use Rattle.rm_tables.specs.Changes.{changed}
-use Rattle.rm_tables.specs.MainEvents.{is_alive}
 use Rattle.rm_tables.specs.Rows.{row_of, with_row}
 use Rattle.rm_tables.specs.declared.changes.RowChange.TheVariants as of_app
 use Rattle.rm_tables.specs.declared.changes.AttemptChange.TheVariants as of_attempt

@@ -21,6 +21,7 @@ use Rattle.rm_app.specs.declared.states.AppState.{AppState}
 use Rattle.rm_app.specs.declared.states.AppState.TheVariants as apps
 use Rattle.rm_attempt.specs.declared.states.AttemptState.{AttemptState}
 use Rattle.rm_attempt.specs.declared.states.AttemptState.TheVariants as attempts
+use Rattle.rm_app.specs.declared.states.AppEvent.TheVariants as app_events
 use Rattle.rm_tables.specs.declared.events.SchedEvent.{SchedEvent}
 use Rattle.rm_tables.specs.declared.rows.AppRow.{AppRow}
 use Rattle.rm_tables.specs.declared.rows.Current.{Current}
@@ -46,7 +47,7 @@ use Rattle.rm_invariant.proofs.apps.Recorded.{record_changed}
 use Rattle.rm_invariant.specs.masters.Invariant.{ContainersInvariant, ContainerByCurrent, ContainerInvariant, is_final, RemovalInvariant, has_end_in}
 use Rattle.rm_invariant.specs.masters.Preserves.{PreservesContainers}
 use Rattle.rm_invariant.specs.masters.View.{ContainerView, container_view, is_removal}
-use Rattle.rm_invariant.proofs.masters.Saying.{active_unended}
+use Rattle.rm_invariant.proofs.masters.Saying.{was_final, active_unended}
 use Rattle.rm_invariant.proofs.masters.Others.{ended_marks, final_marks, gone_marks, new_marks}
 use Rattle.rm_invariant.proofs.masters.Effects.{main_posted, op_taken, sched_posted}
 use Rattle.rm_invariant.proofs.masters.Stepping.{marks_changed, marks_still}
@@ -59,7 +60,7 @@ saving_alone settings q row v is good = let says = subst (λ (s : AppState). Sta
 
 -- it is kept: nothing is said of its record
 kept_marks : (c : ContainerId) (row : AppRow) (v : ContainerView) (new : Option AppRecord) → row.current ≡ None → ContainerInvariant c (Some row) v → ContainerInvariant c (Some (changed of_app.Keep row)) (record v { found = new })
-kept_marks c row v new is good = let says : ContainerByCurrent c None v = rw is at good.1.0 in (good.0, (rw is says, λ f. cc))
+kept_marks c row v new is good = let says : ContainerByCurrent c None v = rw is at good.1.0 in (good.0, (rw is says, λ f. good.1.1 (was_final app_events.Kept refl row.state f)))
 
 -- what was over is so with one more record
 put_over : (c : ContainerId) (new : AppRecord) (retired : Bool) (found : Option AppRecord) (b : Bool) → (retired ≡ true) ⊎ (has_end_in c.attempt found ≡ true) → (retired ≡ true) ⊎ (has_end_in c.attempt (put_if b new found) ≡ true)
@@ -167,6 +168,7 @@ module _ (settings : Settings) (h : History) (t : Tables) (k : AppsInvariant set
       let awaits = end_waits in
       let ended = ended_record id how text (record_of t.tree.apps id.app) awaits.goes in
       let at_current = awaits.current_is in
+      let at_state = awaits.state in
       let number = awaits.number in
       record {
         step = attempt_end_kept_steps settings h t k id how text rest front handed;
@@ -178,7 +180,7 @@ module _ (settings : Settings) (h : History) (t : Tables) (k : AppsInvariant set
             let lengths : length (attempts_in (option_map (with_ended id how text) (record_of t.tree.apps c.attempt.app))) ≡ length (attempts_in (record_of t.tree.apps c.attempt.app)) = rw (← here) ended.same in
             let now : container_view after_end (kept (ops.AttemptEnd id how text) t) c ≡ record (container_view h t c) { found = option_map (with_ended id how text) (container_view h t c).found; removals = one_if (awaits.current.number == c.attempt.number) (container_view h t c).removals } = end_now c ∙ rw (same, number) refl in
             subst (λ (v : ContainerView). ContainerInvariant c (Some (changed (of_app.OfAttempt (of_attempt.KeepEnd how)) awaits.one)) v) (sym now)
-            (ended_marks c awaits.one (container_view h t c) awaits.current awaits.current_is (changed (of_app.OfAttempt (of_attempt.KeepEnd how)) awaits.one) (rw at_current refl) (ended_open how awaits.one.state awaits.active) awaits.state
+            (ended_marks c awaits.one (container_view h t c) awaits.current awaits.current_is (changed (of_app.OfAttempt (of_attempt.KeepEnd how)) awaits.one) (rw (at_current, at_state) refl) (ended_open how awaits.one.state awaits.active) awaits.state
             (option_map (with_ended id how text) (record_of t.tree.apps c.attempt.app)) lengths (awaits.current.number == c.attempt.number) refl says))
             (λ c same says.
             let now : container_view after_end (kept (ops.AttemptEnd id how text) t) c ≡ record (container_view h t c) { found = option_map (with_ended id how text) (container_view h t c).found; removals = one_if (is_attempt id c.attempt) (container_view h t c).removals } = end_now c ∙ rw same refl in

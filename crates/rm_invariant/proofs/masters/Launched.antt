@@ -25,8 +25,9 @@ use Rattle.rm_model.specs.Nodes.{with_node}
 use Rattle.rm_model.specs.Rules.{MayOrder}
 use Rattle.rm_attempt.specs.declared.states.AttemptState.{AttemptState}
 use Rattle.rm_attempt.specs.declared.states.AttemptState.TheVariants as attempts
+use Rattle.rm_attempt.specs.Table.{is_alive}
 use Rattle.rm_tables.specs.declared.events.MainEvent.{MainEvent}
-use Rattle.rm_tables.specs.MainEvents.{with_order, is_alive, is_master_of, launch_of_master, launch_of_row, launch_of_tests, launch_of_place, launch_of_living, launch_of_current, main_step, node_at}
+use Rattle.rm_tables.specs.MainEvents.{with_order, is_master_of, launch_of_master, launch_of_row, launch_of_tests, launch_of_place, launch_of_living, launch_of_current, main_step, node_at}
 use Rattle.rm_tables.specs.declared.rows.AppRow.{AppRow}
 use Rattle.rm_tables.specs.declared.rows.Current.{Current}
 use Rattle.rm_tables.specs.declared.tables.Tables.{Tables}

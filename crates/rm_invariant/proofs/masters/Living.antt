@@ -17,10 +17,10 @@ use Rattle.rm_app.specs.declared.states.AppState.{AppState}
 use Rattle.rm_app.specs.declared.states.AppState.TheVariants as apps
 use Rattle.rm_attempt.specs.declared.states.AttemptState.{AttemptState}
 use Rattle.rm_attempt.specs.declared.states.AttemptState.TheVariants as attempts
+use Rattle.rm_attempt.specs.Table.{is_alive}
 use Rattle.rm_tables.specs.declared.rows.AppRow.{AppRow}
 use Rattle.rm_tables.specs.declared.rows.Current.{Current}
 use Rattle.rm_tables.specs.declared.tables.Tables.{Tables}
-use Rattle.rm_tables.specs.MainEvents.{is_alive}
 use Rattle.rm_tables.specs.Rows.{row_of}
 use Rattle.rm_refinement.specs.Services.{lives_by, lives_with}
 use Rattle.rm_invariant.specs.apps.Invariant.{EndIssuedInvariant, ActiveInvariant, AttemptCounts, CurrentInvariant, LastIsOpen, AllHaveEnded, RowInvariant, StateInvariant, has_ended_or_is, ops_of}

@@ -1,5 +1,5 @@
 -- What the events of applications do to what holds of a container: how each change of a row keeps it.
-use Rattle.std.proofs.Common.{◌≡◌, ◌⊎◌, inl, inr, ◌+◌, ◌==◌, Bool, true, false, Option, None, Some, length, arith}
+use Rattle.std.proofs.Common.{◌≡◌, ◌⊎◌, inl, inr, ◌+◌, ◌==◌, Bool, true, false, Option, None, Some, length, refl, arith}
 use Rattle.std.proofs.lemmas.Bool.Decides.{nat_tests}
 use Rattle.rm_types.specs.declared.ids.ContainerId.{ContainerId}
 use Rattle.rm_types.specs.declared.operations.How.{How}
@@ -7,6 +7,7 @@ use Rattle.rm_types.specs.declared.records.AppRecord.{AppRecord}
 use Rattle.rm_model.specs.Facts.{attempts_in}
 use Rattle.rm_attempt.specs.declared.states.AttemptState.{AttemptState}
 use Rattle.rm_attempt.specs.declared.states.AttemptState.TheVariants as attempts
+use Rattle.rm_app.specs.declared.states.AppEvent.TheVariants as app_events
 use Rattle.rm_tables.specs.declared.rows.AppRow.{AppRow}
 use Rattle.rm_tables.specs.declared.rows.Current.{Current}
 use Rattle.rm_tables.specs.Changes.{changed, scheduled}
@@ -14,6 +15,7 @@ use Rattle.rm_tables.specs.declared.changes.RowChange.TheVariants as of_app
 use Rattle.rm_invariant.specs.apps.View.{one_if}
 use Rattle.rm_invariant.specs.masters.Invariant.{ContainerByNumber, ContainerByCurrent, ContainerInvariant, Untouched, is_final}
 use Rattle.rm_invariant.specs.masters.View.{ContainerView}
+use Rattle.rm_invariant.proofs.masters.Saying.{was_final}
 
 module _ (c : ContainerId) (row : AppRow) (v : ContainerView) where
   -- where the attempt stays as it is, and no end is kept: a wish, a kept App, a kill that waits
@@ -22,11 +24,11 @@ module _ (c : ContainerId) (row : AppRow) (v : ContainerView) where
 
   -- an AppEnd is issued before there is an attempt
   pub over_none : row.current ≡ None → ContainerInvariant c (Some row) v → ContainerInvariant c (Some (changed of_app.End row)) v
-  over_none is good = let says : ContainerByCurrent c None v = rw is at good.1.0 in (good.0, (rw is says, λ f. cc))
+  over_none is good = let says : ContainerByCurrent c None v = rw is at good.1.0 in (good.0, (rw is says, λ f. good.1.1 (was_final app_events.End refl row.state f)))
 
   -- it is accepted
   pub accepted_marks : row.current ≡ None → ContainerInvariant c (Some row) v → ContainerInvariant c (Some (changed (of_app.Schedule 1) row)) v
-  accepted_marks is good = let says : ContainerByCurrent c None v = rw is at good.1.0 in (good.0, (by (1 == c.attempt.number) says, λ f. cc))
+  accepted_marks is good = let says : ContainerByCurrent c None v = rw is at good.1.0 in (good.0, (by (1 == c.attempt.number) says, λ f. good.1.1 (was_final app_events.Accept refl row.state f)))
     where
       by : (b : Bool) → Untouched v → ContainerByNumber c b (scheduled 1) v
       by true u = u

@@ -9,11 +9,11 @@ use Rattle.rm_types.specs.declared.settings.Settings.{Settings}
 use Rattle.rm_types.specs.Ids.{is_app}
 use Rattle.rm_app.specs.declared.states.AppState.{AppState}
 use Rattle.rm_attempt.specs.declared.states.AttemptState.TheVariants as attempts
+use Rattle.rm_attempt.specs.Table.{is_alive}
 use Rattle.rm_tables.specs.declared.events.MainEvent.{MainEvent}
 use Rattle.rm_tables.specs.declared.rows.AppRow.{AppRow}
 use Rattle.rm_tables.specs.declared.rows.Current.{Current}
 use Rattle.rm_tables.specs.declared.tables.Tables.{Tables}
-use Rattle.rm_tables.specs.MainEvents.{is_alive}
 use Rattle.rm_tables.specs.Actions.{main_popped}
 use Rattle.rm_tables.specs.Rows.{row_of}
 use Rattle.rm_refinement.specs.History.{History}

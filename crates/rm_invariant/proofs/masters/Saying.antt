@@ -6,6 +6,9 @@ use Rattle.rm_types.specs.declared.operations.How.{How}
 use Rattle.rm_types.specs.declared.settings.Settings.{Settings}
 use Rattle.rm_app.specs.declared.states.AppState.{AppState}
 use Rattle.rm_app.specs.declared.states.AppState.TheVariants as apps
+use Rattle.rm_app.specs.declared.states.AppEvent.{AppEvent}
+use Rattle.rm_app.specs.declared.states.AppEvent.TheVariants as app_events
+use Rattle.rm_app.specs.Table.{next_state}
 use Rattle.rm_attempt.specs.declared.states.AttemptState.{AttemptState}
 use Rattle.rm_attempt.specs.declared.states.AttemptState.TheVariants as attempts
 use Rattle.rm_tables.specs.declared.rows.AppRow.{AppRow}
@@ -17,6 +20,15 @@ use Rattle.rm_invariant.specs.apps.Invariant.{ActiveInvariant, RowInvariant, Sta
 use Rattle.rm_invariant.specs.apps.View.{View, one_if}
 use Rattle.rm_invariant.proofs.apps.Own.{active_row}
 use Rattle.rm_invariant.specs.masters.Invariant.{is_final}
+
+-- the word that an end is kept
+abbrev pub is_end_kept : AppEvent → Bool
+is_end_kept (app_events.EndKept how) = true
+is_end_kept _ = false
+
+-- no other event leads to where an end is kept
+pub was_final : (event : AppEvent) → is_end_kept event ≡ false → (s : AppState) → is_final (next_state s event) ≡ true → is_final s ≡ true
+was_final event other s f = grind arith
 
 -- an attempt that is on its way or lives is of an active application
 abbrev pub goes_on : AttemptState → Bool

@@ -21,6 +21,9 @@ use Rattle.rm_model.specs.Replies.{reply_to}
 use Rattle.rm_model.specs.Rules.{AllowedIn}
 use Rattle.rm_attempt.specs.declared.states.AttemptState.{AttemptState}
 use Rattle.rm_attempt.specs.declared.states.AttemptState.TheVariants as attempts
+use Rattle.rm_app.specs.declared.states.AppEvent.TheVariants as app_events
+use Rattle.rm_attempt.specs.declared.states.AttemptEvent.TheVariants as attempt_events
+use Rattle.rm_attempt.specs.Table.{next_state as next_attempt_state}
 use Rattle.rm_tables.specs.declared.rows.AppRow.{AppRow}
 use Rattle.rm_tables.specs.declared.rows.Current.{Current}
 use Rattle.rm_tables.specs.declared.rows.Dialogue.{Dialogue}
@@ -43,7 +46,7 @@ use Rattle.rm_invariant.specs.masters.Invariant.{ContainersInvariant, ContainerB
 use Rattle.rm_invariant.specs.masters.Preserves.{PreservesContainers}
 use Rattle.rm_invariant.specs.masters.View.{ContainerView, is_expiry, is_finish, is_granting, is_losing, container_view}
 use Rattle.rm_invariant.proofs.masters.Ends.{Alive}
-use Rattle.rm_invariant.proofs.masters.Saying.{alive_finishes, active_unended, alive_registers}
+use Rattle.rm_invariant.proofs.masters.Saying.{was_final, alive_finishes, active_unended, alive_registers}
 use Rattle.rm_invariant.proofs.masters.Finishing.{finishing_after, says_so, finishing_with_new, new_master}
 use Rattle.rm_invariant.proofs.masters.Stepping.{joins_between}
 use Rattle.rm_invariant.proofs.masters.Talking.{says_talking}
@@ -96,42 +99,42 @@ module _ (settings : Settings) (h : History) (t : Tables) (k : AppsInvariant set
       (λ c v other. rw other refl)
       (λ c same says. expiring_marks c row current (container_view h t c) is st (is_attempt id c.attempt) (same_number c) says) (λ c v says. says)
 
-own_finishes : (c : ContainerId) (v : ContainerView) (s : AttemptState) (lost m : Bool) → Alive s → ContainerByState c s lost m v → ContainerByState c attempts.Finishing lost m (record v { finishing = true; finishes = suc v.finishes })
-own_finishes c v s lost m (inl e) says = let x = rw e at says in (x.0, x.1, x.2, x.3, x.4, x.5, (λ a. omega arith), x.7)
-own_finishes c v s lost m (inr (inl e)) says = let x = rw e at says in (x.0, x.1, x.2, x.3, x.4, x.5, (λ a. omega arith), x.7)
-own_finishes c v s lost m (inr (inr e)) says = let x = rw e at says in (x.0, x.1, x.2, x.3, x.4, x.5, (λ a. omega arith), x.7)
+own_finishes : (c : ContainerId) (v : ContainerView) (s : AttemptState) (lost m : Bool) → Alive s → ContainerByState c s lost m v → ContainerByState c (next_attempt_state s attempt_events.Finish) lost m (record v { finishing = true; finishes = suc v.finishes })
+own_finishes c v s lost m (inl e) says = let x = rw e at says in rw e (x.0, x.1, x.2, x.3, x.4, x.5, (λ a. omega arith), x.7)
+own_finishes c v s lost m (inr (inl e)) says = let x = rw e at says in rw e (x.0, x.1, x.2, x.3, x.4, x.5, (λ a. omega arith), x.7)
+own_finishes c v s lost m (inr (inr e)) says = let x = rw e at says in rw e (x.0, x.1, x.2, x.3, x.4, x.5, (λ a. omega arith), x.7)
 
 finishing_marks : (c : ContainerId) (row : AppRow) (current : Current) (v : ContainerView) → row.current ≡ Some current → Alive current.state → (b : Bool) → (current.number == c.attempt.number) ≡ b
     → ContainerInvariant c (Some row) v → ContainerInvariant c (Some (changed (of_app.OfAttempt of_attempt.Finish) row)) (record v { finishing = set_if b v.finishing; finishes = one_if b v.finishes })
 finishing_marks c row current v is st false n good =
     let says : ContainerByNumber c (current.number == c.attempt.number) current v = rw is at good.1.0 in
     let at_ : ContainerByNumber c false current v = rw n at says in
-    let new : ContainerByNumber c false (record current { state = attempts.Finishing }) v = at_ in
+    let new : ContainerByNumber c false (record current { state = next_attempt_state current.state attempt_events.Finish }) v = at_ in
     (good.0, (rw (is, n) new, good.1.1))
 finishing_marks c row current v is st true n good =
     let says : ContainerByNumber c (current.number == c.attempt.number) current v = rw is at good.1.0 in
     let at_ : ContainerByState c current.state current.lost (is_master_of c current.master) v = rw n at says in
-    let new : ContainerByNumber c true (record current { state = attempts.Finishing }) (record v { finishing = true; finishes = suc v.finishes }) = own_finishes c v current.state current.lost (is_master_of c current.master) st at_ in
+    let new : ContainerByNumber c true (record current { state = next_attempt_state current.state attempt_events.Finish }) (record v { finishing = true; finishes = suc v.finishes }) = own_finishes c v current.state current.lost (is_master_of c current.master) st at_ in
     (good.0, (rw (is, n) new, good.1.1))
 
 -- a master registers: its attempt is Registered
-own_registers : (c : ContainerId) (v : ContainerView) (s : AttemptState) (lost m : Bool) → Alive s → ContainerByState c s lost m v → ContainerByState c attempts.Registered lost m v
-own_registers c v s lost m (inl e) says = let x = rw e at says in x
-own_registers c v s lost m (inr (inl e)) says = let x = rw e at says in x
-own_registers c v s lost m (inr (inr e)) says = let x = rw e at says in x
+own_registers : (c : ContainerId) (v : ContainerView) (s : AttemptState) (lost m : Bool) → Alive s → ContainerByState c s lost m v → ContainerByState c (next_attempt_state s attempt_events.Register) lost m v
+own_registers c v s lost m (inl e) says = let x = rw e at says in rw e x
+own_registers c v s lost m (inr (inl e)) says = let x = rw e at says in rw e x
+own_registers c v s lost m (inr (inr e)) says = let x = rw e at says in rw e x
 
 registering_marks : (c : ContainerId) (row : AppRow) (current : Current) (v : ContainerView) → row.current ≡ Some current → Alive current.state → is_final row.state ≡ false → (b : Bool) → (current.number == c.attempt.number) ≡ b
     → ContainerInvariant c (Some row) v → ContainerInvariant c (Some (changed of_app.Register row)) v
 registering_marks c row current v is st open_ false n good =
     let says : ContainerByNumber c (current.number == c.attempt.number) current v = rw is at good.1.0 in
     let at_ : ContainerByNumber c false current v = rw n at says in
-    let new : ContainerByNumber c false (record current { state = attempts.Registered; registered = true }) v = at_ in
-    (good.0, (rw (is, n) new, λ f. cc))
+    let new : ContainerByNumber c false (record current { state = next_attempt_state current.state attempt_events.Register; registered = true }) v = at_ in
+    (good.0, (rw (is, n) new, λ f. good.1.1 (was_final app_events.Register refl row.state f)))
 registering_marks c row current v is st open_ true n good =
     let says : ContainerByNumber c (current.number == c.attempt.number) current v = rw is at good.1.0 in
     let at_ : ContainerByState c current.state current.lost (is_master_of c current.master) v = rw n at says in
-    let new : ContainerByNumber c true (record current { state = attempts.Registered; registered = true }) v = own_registers c v current.state current.lost (is_master_of c current.master) st at_ in
-    (good.0, (rw (is, n) new, λ f. cc))
+    let new : ContainerByNumber c true (record current { state = next_attempt_state current.state attempt_events.Register; registered = true }) v = own_registers c v current.state current.lost (is_master_of c current.master) st at_ in
+    (good.0, (rw (is, n) new, λ f. good.1.1 (was_final app_events.Register refl row.state f)))
 
 -- what a service does to the row of a master's application, which keeps the dialogue with it
 abbrev pub said_row : (Option Dialogue → Option Dialogue) → AppRow → AppRow

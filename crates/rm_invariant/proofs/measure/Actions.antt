@@ -1,5 +1,5 @@
 -- Each thing that an event of the main queue may come to makes less of what is left to do.
-use Rattle.std.proofs.Common.{◌≡◌, ◌<◌, ◌≤◌, ℕ, ◌+◌, ◌*◌, ◌-◌, List, [], ◌∷◌, ◌++◌, true, drop, Option, Some, length, refl, arith}
+use Rattle.std.proofs.Common.{inl, inr, ◌≡◌, ◌<◌, ◌≤◌, ℕ, ◌+◌, ◌*◌, ◌-◌, List, [], ◌∷◌, ◌++◌, true, drop, Option, Some, length, refl, arith}
 use Rattle.std.specs.List.{sum_by}
 use Rattle.std.proofs.lemmas.List.Sums.{sum_by-cons}
 use Rattle.rm_types.specs.declared.entries.Entry.{Entry}
@@ -13,6 +13,7 @@ use Rattle.rm_types.specs.declared.operations.Op.TheVariants as ops
 use Rattle.rm_types.specs.declared.operations.Submission.{Submission}
 use Rattle.rm_app.specs.declared.states.AppState.TheVariants as apps
 use Rattle.rm_attempt.specs.declared.states.AttemptState.TheVariants as attempts
+use Rattle.rm_attempt.specs.Table.{is_alive}
 use Rattle.rm_book.specs.AskTables.{AsksOf, without_asks_of}
 use Rattle.rm_tables.specs.declared.changes.AttemptChange.TheVariants as of_attempt
 use Rattle.rm_tables.specs.declared.changes.RowChange.TheVariants as of_app
@@ -25,13 +26,13 @@ use Rattle.rm_tables.specs.declared.rows.Current.{Current}
 use Rattle.rm_tables.specs.declared.tables.Tables.{Tables}
 use Rattle.rm_tables.specs.Actions.{app_changed, ends_app, ends_attempt, main_quiet, main_worked, next_in, schedules}
 use Rattle.rm_tables.specs.Changes.{changed}
-use Rattle.rm_tables.specs.MainEvents.{with_attempt_issued, is_alive, attempt_kill, with_order, with_attempt_requeued, start_of_submission}
+use Rattle.rm_tables.specs.MainEvents.{with_attempt_issued, attempt_kill, with_order, with_attempt_requeued, start_of_submission}
 use Rattle.rm_tables.specs.Rows.{row_of, with_row}
 use Rattle.rm_invariant.specs.events.Outcomes.{waits_at}
 use Rattle.rm_invariant.specs.apps.Invariant.{is_active}
 use Rattle.rm_invariant.specs.measure.Measure.{app_end_measure, app_op_measure, app_measure, attempt_op_measure, attempt_measure, main_measure, next_measure, number_in, op_measure, row_measure, rows_measure, sched_measure, untried_measure, measure}
 use Rattle.rm_invariant.proofs.measure.Following.{IsFollowed}
-use Rattle.rm_invariant.proofs.measure.Rows.{alive_weighs, end_falls, going_weighs, issued_falls, killed_weighs, scheduled_weighs, waiting_weighs}
+use Rattle.rm_invariant.proofs.measure.Rows.{kill_weighs, alive_weighs, end_falls, going_weighs, issued_falls, killed_weighs, scheduled_weighs, waiting_weighs}
 use Rattle.rm_invariant.proofs.measure.Sums.{main_front, main_push, op_push, row_changes, row_rises, sched_push}
 
 module _ (t : Tables) (e : MainEvent) (rest : List MainEvent) (front : t.main ≡ e ∷ rest) where
@@ -79,7 +80,7 @@ module _ (t : Tables) (e : MainEvent) (rest : List MainEvent) (front : t.main �
     accept_lighter st some =
         posts (with_row (changed (of_app.Schedule 1)) id t.rows) (scheds.AttemptAdded (record { app = id; number = 1 }))
         (let rows = row_changes most (changed (of_app.Schedule 1)) id t.rows row found in
-        let now = scheduled_weighs most row 1 in
+        let now = scheduled_weighs most row (inl st) 1 in
         let before : app_measure most row.state (number_in row.current) ≡ untried_measure most = rw st refl in
         omega (arith, one, some, rows, now, before))
 
@@ -88,7 +89,7 @@ module _ (t : Tables) (e : MainEvent) (rest : List MainEvent) (front : t.main �
     end_lighter some how text =
         issues_op (with_row (changed of_app.End) id t.rows) (without_asks_of (next_in t id) t.asks) (ops.AppEnd id how text)
         (let rows = row_changes most (changed of_app.End) id t.rows row found in
-        let now = end_falls most row in
+        let now = end_falls most row some in
         omega (arith, one, some, rows, now))
 
     module _ (current : Current) (is : row.current ≡ Some current) where
@@ -100,7 +101,7 @@ module _ (t : Tables) (e : MainEvent) (rest : List MainEvent) (front : t.main �
       kill_lighter number alive going =
           issues_op (with_row (changed of_app.Kill) id t.rows) t.asks (ops.AttemptEnd (record { app = id; number = number }) _ _)
           (let rows = row_changes most (changed of_app.Kill) id t.rows row found in
-          let now : row_measure most (changed of_app.Kill row) ≡ (app_end_measure + next_measure * (most - current.number)) + 0 = rw (is, killed_weighs current.state alive) refl in
+          let now : row_measure most (changed of_app.Kill row) ≡ (app_end_measure + next_measure * (most - current.number)) + 0 = rw (is, killed_weighs current.state alive, kill_weighs most current.number row.state going) refl in
           omega (arith, one, rows, now, before, going_weighs most row.state current.number going, alive_weighs current.state alive))
 
       -- an application is to be killed once its attempt is saved or has ended
@@ -108,7 +109,7 @@ module _ (t : Tables) (e : MainEvent) (rest : List MainEvent) (front : t.main �
       delay_lighter waits going =
           changes (with_row (changed of_app.Kill) id t.rows)
           (let rows = row_changes most (changed of_app.Kill) id t.rows row found in
-          let now : row_measure most (changed of_app.Kill row) ≡ (app_end_measure + next_measure * (most - current.number)) + attempt_measure current.state = rw (is, waiting_weighs current.state waits) refl in
+          let now : row_measure most (changed of_app.Kill row) ≡ (app_end_measure + next_measure * (most - current.number)) + attempt_measure current.state = rw (is, waiting_weighs current.state waits, kill_weighs most current.number row.state going) refl in
           omega (arith, one, rows, now, before, going_weighs most row.state current.number going))
 
       -- the next attempt is scheduled
@@ -116,7 +117,7 @@ module _ (t : Tables) (e : MainEvent) (rest : List MainEvent) (front : t.main �
       follow_lighter going st follows =
           posts (with_row (changed (of_app.Schedule (next_in t id).number)) id t.rows) (scheds.AttemptAdded (next_in t id))
           (let rows = row_changes most (changed (of_app.Schedule (next_in t id).number)) id t.rows row found in
-          let now = scheduled_weighs most row (next_in t id).number in
+          let now = scheduled_weighs most row (inr going) (next_in t id).number in
           let ended : attempt_measure current.state ≡ 0 = rw st refl in
           omega (arith, one, rows, now, before, going_weighs most row.state current.number going, ended, follows.next, follows.below))
 
@@ -125,7 +126,7 @@ module _ (t : Tables) (e : MainEvent) (rest : List MainEvent) (front : t.main �
       end_one_lighter number alive how text =
           issues_op (with_row (changed (of_app.OfAttempt (of_attempt.End how))) id t.rows) t.asks (ops.AttemptEnd (record { app = id; number = number }) how text)
           (let rows = row_changes most (changed (of_app.OfAttempt (of_attempt.End how))) id t.rows row found in
-          let now : row_measure most (changed (of_app.OfAttempt (of_attempt.End how)) row) ≡ app_measure most row.state current.number + 0 = rw is refl in
+          let now : row_measure most (changed (of_app.OfAttempt (of_attempt.End how)) row) ≡ app_measure most row.state current.number + 0 = rw (is, killed_weighs current.state alive) refl in
           omega (arith, one, rows, now, before, alive_weighs current.state alive))
 
       -- the master of an attempt that is being saved is lost
@@ -145,14 +146,14 @@ module _ (t : Tables) (e : MainEvent) (rest : List MainEvent) (front : t.main �
     issue_lighter one node =
         issues_op (with_row (changed (of_app.OfAttempt of_attempt.Issue)) container.attempt.app t.rows) t.asks (ops.Attempt container.attempt container node)
         (let rows = row_changes most (changed (of_app.OfAttempt of_attempt.Issue)) container.attempt.app t.rows row found in
-        let now : row_measure most (changed (of_app.OfAttempt of_attempt.Issue) row) ≡ app_measure most row.state current.number + 0 = rw is refl in
+        let now : row_measure most (changed (of_app.OfAttempt of_attempt.Issue) row) ≡ app_measure most row.state current.number + 0 = rw (is, st) refl in
         omega (arith, one, rows, now, granted_before))
 
     pub requeue_lighter : 2 ≤ main_measure most e → Decreases (Quiet lanes.Main, with_attempt_requeued container.attempt t)
     requeue_lighter two =
         posts (with_row (changed (of_app.OfAttempt of_attempt.Requeue)) container.attempt.app t.rows) (scheds.AttemptAdded container.attempt)
         (let rows = row_changes most (changed (of_app.OfAttempt of_attempt.Requeue)) container.attempt.app t.rows row found in
-        let now : row_measure most (changed (of_app.OfAttempt of_attempt.Requeue) row) ≡ app_measure most row.state current.number + attempt_op_measure = rw is refl in
+        let now : row_measure most (changed (of_app.OfAttempt of_attempt.Requeue) row) ≡ app_measure most row.state current.number + attempt_op_measure = rw (is, st) refl in
         omega (arith, two, rows, now, granted_before))
 
 -- a Remove is issued, and the next one is looked for

@@ -45,7 +45,7 @@ use Rattle.rm_master.specs.Told.{goes_on, spoken_by}
 use Rattle.rm_tracker.specs.Answers.{after_clock, after_node, beat_events, beaten_book, beaten_with, brought_all, brought_one, is_new_beat, is_on, is_untold, launched_by, registered_by}
 use Rattle.rm_invariant.specs.messages.Ranges.{KeepsLimits}
 use Rattle.rm_invariant.specs.measure.Measure.{app_measure, current_measure, message_measure, number_in, row_measure, sched_measure, measure}
-use Rattle.rm_invariant.proofs.measure.Rows.{row_most, wished_same}
+use Rattle.rm_invariant.proofs.measure.Rows.{finish_weighs, row_most, wished_same}
 use Rattle.rm_invariant.proofs.measure.Sums.{main_push, row_joins, row_rises, sched_push}
 
 -- what the row of an application weighs after its master finished, and after its master was told something
@@ -55,7 +55,7 @@ said_rises most talk row = by row.current
     by : (c : Option Current) → app_measure most row.state (number_in (current_after (of_app.OfAttempt of_attempt.Finish) c)) + current_measure (current_after (of_app.OfAttempt of_attempt.Finish) c)
         ≤ app_measure most row.state (number_in c) + current_measure c + 4
     by None = omega arith
-    by (Some current) = omega arith
+    by (Some current) = omega (arith, finish_weighs current.state)
 
 told_rises : (most : ℕ) (talk : Option Dialogue → Option Dialogue) (tell : List Closing → List Closing) (row : AppRow) → row_measure most (told_row talk tell row) ≤ row_measure most row + 0
 told_rises most talk tell row = omega arith

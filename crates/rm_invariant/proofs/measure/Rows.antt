@@ -1,11 +1,15 @@
 -- What a row of an application weighs at most, and how that changes with what happens to it.
-use Rattle.std.proofs.Common.{◌≡◌, ◌≤◌, ℕ, ◌+◌, ◌*◌, ◌-◌, true, Option, None, Some, refl, arith}
+use Rattle.std.proofs.Common.{◌⊎◌, inl, inr, ◌≡◌, ◌≤◌, ℕ, ◌+◌, ◌*◌, ◌-◌, true, Option, None, Some, refl, arith}
 use Rattle.rm_types.specs.declared.ids.ContainerId.{ContainerId}
 use Rattle.rm_types.specs.declared.operations.How.{How}
 use Rattle.rm_types.specs.declared.operations.How.TheVariants as ways
 use Rattle.rm_app.specs.declared.states.AppState.{AppState}
 use Rattle.rm_app.specs.declared.states.AppState.TheVariants as apps
 use Rattle.rm_app.specs.Table.{state_of}
+use Rattle.rm_app.specs.declared.states.AppEvent.TheVariants as app_events
+use Rattle.rm_app.specs.Table.{next_state}
+use Rattle.rm_attempt.specs.declared.states.AttemptEvent.TheVariants as attempt_events
+use Rattle.rm_attempt.specs.Table.{next_state as next_attempt_state, is_alive}
 use Rattle.rm_attempt.specs.declared.states.AttemptState.{AttemptState}
 use Rattle.rm_attempt.specs.declared.states.AttemptState.TheVariants as attempts
 use Rattle.rm_tables.specs.declared.changes.AttemptChange.TheVariants as of_attempt
@@ -13,7 +17,6 @@ use Rattle.rm_tables.specs.declared.changes.RowChange.TheVariants as of_app
 use Rattle.rm_tables.specs.declared.rows.AppRow.{AppRow}
 use Rattle.rm_tables.specs.declared.rows.Current.{Current}
 use Rattle.rm_tables.specs.Changes.{after_failure, changed, current_after, dropped_state, granted, granted_at, killed_state}
-use Rattle.rm_tables.specs.MainEvents.{is_alive}
 use Rattle.rm_invariant.specs.events.Outcomes.{waits_at}
 use Rattle.rm_invariant.specs.apps.Invariant.{is_active}
 use Rattle.rm_invariant.specs.measure.Measure.{app_end_measure, app_measure, attempt_end_measure, attempt_op_measure, attempt_measure, current_measure, next_measure, number_in, row_measure, untried_measure}
@@ -137,22 +140,55 @@ grant_numbers container current = by current.state
     by attempts.Ended = refl
     by attempts.Dropped = refl
 
+-- what an event does to what an application weighs
+module _ (most number : ℕ) (s : AppState) where
+  kept_weighs : app_measure most (next_state s app_events.Kept) number ≤ app_measure most s number + untried_measure most
+  kept_weighs = grind arith
+
+  started_weighs : app_measure most (next_state s app_events.Start) number ≤ app_measure most s number
+  started_weighs = grind arith
+
+  ended_weighs : app_end_measure ≤ app_measure most s number → app_measure most (next_state s app_events.End) number ≡ 0
+  ended_weighs some = grind arith
+
+  end_kept_weighs : (how : How) → app_measure most (next_state s (app_events.EndKept how)) number ≤ app_measure most s number
+  end_kept_weighs how = grind arith
+
+  accepted_weighs : (s ≡ apps.Submitted) ⊎ (is_active s ≡ true) → (next : ℕ) → app_measure most (next_state s app_events.Accept) next ≡ app_end_measure + next_measure * (most - next)
+  accepted_weighs (inl e) next = rw e refl
+  accepted_weighs (inr g) next = grind arith
+
+  pub kill_weighs : is_active s ≡ true → app_measure most (next_state s app_events.Kill) number ≡ app_end_measure + next_measure * (most - number)
+  kill_weighs g = grind arith
+
+-- and to what an attempt weighs
+pub finish_weighs : (s : AttemptState) → attempt_measure (next_attempt_state s attempt_events.Finish) ≡ attempt_measure s
+finish_weighs s = grind arith
+
+live_weighs : (s : AttemptState) → attempt_measure (next_attempt_state s attempt_events.Kept) ≤ attempt_measure s + attempt_end_measure
+live_weighs s = grind arith
+
+over_weighs : (s : AttemptState) → attempt_measure (next_attempt_state s attempt_events.EndKept) ≤ attempt_measure s
+over_weighs s = grind arith
+
 module _ (most : ℕ) (row : AppRow) where
   -- an application is saved
   pub saved_rises : row_measure most (changed of_app.Keep row) ≤ row_measure most row + untried_measure most
-  saved_rises = omega (arith, by row.current)
+  saved_rises = by row.current
     where
-      by : (c : Option Current) → current_measure (current_after of_app.Keep c) ≤ current_measure c
-      by None = omega arith
-      by (Some current) = omega arith
+      by : (c : Option Current) → app_measure most (next_state row.state app_events.Kept) (number_in (current_after of_app.Keep c)) + current_measure (current_after of_app.Keep c)
+          ≤ app_measure most row.state (number_in c) + current_measure c + untried_measure most
+      by None = omega (arith, kept_weighs most 0 row.state)
+      by (Some current) = omega (arith, kept_weighs most current.number row.state)
 
   -- its App is issued
   pub issued_falls : row_measure most (changed of_app.Issue row) ≤ row_measure most row
-  issued_falls = omega (arith, by row.current)
+  issued_falls = by row.current
     where
-      by : (c : Option Current) → current_measure (current_after of_app.Issue c) ≤ current_measure c
-      by None = omega arith
-      by (Some current) = omega arith
+      by : (c : Option Current) → app_measure most (next_state row.state app_events.Start) (number_in (current_after of_app.Issue c)) + current_measure (current_after of_app.Issue c)
+          ≤ app_measure most row.state (number_in c) + current_measure c
+      by None = omega (arith, started_weighs most 0 row.state)
+      by (Some current) = omega (arith, started_weighs most current.number row.state)
 
   -- a client wishes to kill it
   pub wished_same : row_measure most (changed of_app.Wish row) ≡ row_measure most row
@@ -163,33 +199,32 @@ module _ (most : ℕ) (row : AppRow) where
       by (Some current) = refl
 
   -- its end is issued
-  pub end_falls : row_measure most (changed of_app.End row) ≤ current_measure row.current
-  end_falls = by row.current
+  pub end_falls : app_end_measure ≤ app_measure most row.state (number_in row.current) → row_measure most (changed of_app.End row) ≤ current_measure row.current
+  end_falls some = by row.current some
     where
-      by : (c : Option Current) → 0 + current_measure (current_after of_app.End c) ≤ current_measure c
-      by None = omega arith
-      by (Some current) = omega (arith, dropped_weighs current.state)
+      by : (c : Option Current) → app_end_measure ≤ app_measure most row.state (number_in c)
+          → app_measure most (next_state row.state app_events.End) (number_in (current_after of_app.End c)) + current_measure (current_after of_app.End c) ≤ current_measure c
+      by None some = omega (arith, ended_weighs most 0 row.state some)
+      by (Some current) some = omega (arith, ended_weighs most current.number row.state some, dropped_weighs current.state)
 
   -- its end is kept
   pub end_kept_falls : (how : How) → row_measure most (changed (of_app.KeepEnd how) row) ≤ row_measure most row
-  end_kept_falls how = omega (arith, ended how, by row.current)
+  end_kept_falls how = by row.current
     where
-      ended : (how : How) → app_measure most (state_of how) (number_in (current_after (of_app.KeepEnd how) row.current)) ≡ 0
-      ended ways.Finished = refl
-      ended ways.Failed = refl
-      ended ways.Killed = refl
-
-      by : (c : Option Current) → current_measure (current_after (of_app.KeepEnd how) c) ≤ current_measure c
-      by None = omega arith
-      by (Some current) = omega arith
+      by : (c : Option Current) → app_measure most (next_state row.state (app_events.EndKept how)) (number_in (current_after (of_app.KeepEnd how) c)) + current_measure (current_after (of_app.KeepEnd how) c)
+          ≤ app_measure most row.state (number_in c) + current_measure c
+      by None = omega (arith, end_kept_weighs most 0 row.state how)
+      by (Some current) = omega (arith, end_kept_weighs most current.number row.state how)
 
   -- an attempt is scheduled
-  pub scheduled_weighs : (number : ℕ) → row_measure most (changed (of_app.Schedule number) row) ≡ (app_end_measure + next_measure * (most - number)) + attempt_op_measure
-  scheduled_weighs number = by row.current
+  pub scheduled_weighs : (row.state ≡ apps.Submitted) ⊎ (is_active row.state ≡ true) → (number : ℕ)
+      → row_measure most (changed (of_app.Schedule number) row) ≡ (app_end_measure + next_measure * (most - number)) + attempt_op_measure
+  scheduled_weighs starts number = by row.current
     where
-      by : (c : Option Current) → (app_end_measure + next_measure * (most - number_in (current_after (of_app.Schedule number) c))) + current_measure (current_after (of_app.Schedule number) c) ≡ (app_end_measure + next_measure * (most - number)) + attempt_op_measure
-      by None = refl
-      by (Some current) = refl
+      by : (c : Option Current) → app_measure most (next_state row.state app_events.Accept) (number_in (current_after (of_app.Schedule number) c)) + current_measure (current_after (of_app.Schedule number) c)
+          ≡ (app_end_measure + next_measure * (most - number)) + attempt_op_measure
+      by None = rw (accepted_weighs most 0 row.state starts number) refl
+      by (Some current) = rw (accepted_weighs most 0 row.state starts number) refl
 
   -- its attempt is kept, which lives
   pub attempt_rises : row_measure most (changed (of_app.OfAttempt of_attempt.Keep) row) ≤ row_measure most row + attempt_end_measure
@@ -198,7 +233,7 @@ module _ (most : ℕ) (row : AppRow) where
       by : (c : Option Current) → app_measure most row.state (number_in (current_after (of_app.OfAttempt of_attempt.Keep) c)) + current_measure (current_after (of_app.OfAttempt of_attempt.Keep) c)
           ≤ app_measure most row.state (number_in c) + current_measure c + attempt_end_measure
       by None = omega arith
-      by (Some current) = omega arith
+      by (Some current) = omega (arith, live_weighs current.state)
 
   -- the end of its attempt is kept
   pub attempt_end_falls : (how : How) → row_measure most (changed (of_app.OfAttempt (of_attempt.KeepEnd how)) row) ≤ row_measure most row
@@ -221,7 +256,7 @@ module _ (most : ℕ) (row : AppRow) where
       by : (c : Option Current) → app_measure most (after_failure how row.state) (number_in (current_after (of_app.OfAttempt (of_attempt.KeepEnd how)) c)) + current_measure (current_after (of_app.OfAttempt (of_attempt.KeepEnd how)) c)
           ≤ app_measure most row.state (number_in c) + current_measure c
       by None = omega (arith, state how row.state 0)
-      by (Some current) = omega (arith, state how row.state current.number)
+      by (Some current) = omega (arith, state how row.state current.number, over_weighs current.state)
 
   -- a container is granted to its attempt
   pub granted_same : (container : ContainerId) → row_measure most (changed (of_app.OfAttempt (of_attempt.Grant container)) row) ≡ row_measure most row

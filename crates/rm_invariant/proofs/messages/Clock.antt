@@ -14,6 +14,11 @@ use Rattle.rm_model.specs.Attempts.{is_live}
 use Rattle.rm_model.specs.NodeReplies.{clock_reply, expired, may_expire}
 use Rattle.rm_model.specs.Nodes.{is_ready, is_waiting, node_of, tidied, with_node as with_told}
 use Rattle.rm_model.specs.State.{LifeState, Lost, NodeState}
+use Rattle.rm_node.specs.declared.states.NodeState.{NodeState as NodePhase}
+use Rattle.rm_node.specs.declared.states.NodeState.TheVariants as states
+use Rattle.rm_node.specs.declared.states.NodeEvent.TheVariants as node_events
+use Rattle.rm_node.specs.Table.{next_state as next_node_state}
+use Rattle.rm_refinement.specs.Agreement.{phase_of}
 use Rattle.rm_tables.specs.declared.events.MainEvent.TheVariants as mains
 use Rattle.rm_tables.specs.declared.events.SchedEvent.TheVariants as scheds
 use Rattle.rm_tables.specs.declared.nodes.NodeChange.TheVariants as of_node
@@ -35,6 +40,13 @@ found_node : (p : NodeState → Bool) (o : Option NodeState) → is_some_and p o
 found_node p None some = absurd (let x : false ≡ true = some in cc)
 found_node p (Some node) some = (node, refl)
 
+-- a node's silence leaves it lost, however it stood
+expires : (s : NodePhase) → phase_of (next_node_state s node_events.Expire) ≡ Lost
+expires states.Absent = refl
+expires states.Waiting = refl
+expires states.Ready = refl
+expires states.Lost = refl
+
 module _ (settings : Settings) (h : History) (t : Tables) (w : CoreInvariant settings h t) where
   -- the time goes on
   pub tick_whole : (time : ℕ) (reply : Reply) → reply ≡ clock_reply (abstract_scene h t) (Tick time) → PreservesCore settings h t (Served senders.Clock (messages.Clock (Tick time)) reply, after_clock (Tick time) reply t)
@@ -50,7 +62,7 @@ module _ (settings : Settings) (h : History) (t : Tables) (w : CoreInvariant set
       changed_whole settings h t w (messages.Clock (ExpireNode name)) Ok (rw may refl) h.book (tidied changed).nodes t.book (with_node (changed_row of_node.Lose) name t.nodes) (scheds.NodeLost name ∷ []) refl
       (record { adds = λ q. refl; queueings = λ q. refl; removals = λ c. refl }) (same_held h.book) w.agrees.rows
       (tidied_same t.book (with_node (changed_row of_node.Lose) name t.nodes) h.book (with_told expired name h.nodes)
-      (with_same t.book name (changed_row of_node.Lose) expired t.nodes h.nodes (λ one. refl) w.agrees.nodes (λ r o a b alike. ap (λ (x : PlainNode). record x { phase = Lost }) alike)))
+      (with_same t.book name (changed_row of_node.Lose) expired t.nodes h.nodes (λ one. refl) w.agrees.nodes (λ r o a b alike. let lost = expires r.state in rw lost (ap (λ (x : PlainNode). record x { phase = Lost }) alike))))
       (expire_good (abstract_scene h t) t.sched name k.0 k.1 w.nodes)
       (let holds = tidied_holds changed Nothing (changed_holds (abstract_life h t) expired name Nothing (λ one. refl) (λ one. refl) (λ one l. l) w.book) in
       record { apart = holds.apart; rows = holds.rows; left = holds.left; launches = holds.launches })

@@ -41,6 +41,7 @@ use Rattle.rm_invariant.specs.apps.View.{View, changed_if, view}
 use Rattle.rm_invariant.proofs.apps.Events.{at}
 use Rattle.rm_invariant.proofs.apps.Found.{is_app_same, row_changed}
 use Rattle.rm_invariant.proofs.apps.Own.{active_row}
+use Rattle.rm_invariant.proofs.masters.Saying.{active_of, goes_on as attempt_goes_on}
 use Rattle.rm_invariant.specs.Core.{PreservesCore}
 use Rattle.rm_invariant.proofs.events.Told.{rows_told, telling_more}
 use Rattle.rm_invariant.specs.messages.Fits.{FitsCurrent, RowsFit}
@@ -76,10 +77,14 @@ same_current row = record { number = refl; silent = λ e. e }
 
 -- a row after a step: it has no attempt; its application is active, and its attempt is recorded or nobody spoke with its master; or it has the
 -- attempt of the row before the step, and as many are recorded as then
+abbrev pub goes_on_in : Option Current → Bool
+goes_on_in None = false
+goes_on_in (Some current) = attempt_goes_on current.state
+
 abbrev pub RowGoes : Tables → Tables → AppId → AppRow → Type 0
 RowGoes t next id now =
     (now.current ≡ None)
-    ⊎ (((is_active now.state ≡ true) × ((now.dialogue ≡ None) ⊎ (is_recorded_in now.current ≡ true)))
+    ⊎ ((((is_active now.state ≡ true) ⊎ (goes_on_in now.current ≡ true)) × ((now.dialogue ≡ None) ⊎ (is_recorded_in now.current ≡ true)))
     ⊎ ((was : AppRow) × (row_of t.rows id ≡ Some was) × SameCurrent was now × (attempts_in (record_of next.tree.apps id) ≡ attempts_in (record_of t.tree.apps id))))
 
 -- A ROW THAT IS ACTIVE FITS
@@ -146,11 +151,16 @@ same_fits found next was now attempts (Some c) (Some d) number silent fits = by 
 pub rows_fit : (settings : Settings) (g : History) (t next : Tables) → AppsInvariant settings g next → RowsFit t → ((id : AppId) (now : AppRow) → row_of next.rows id ≡ Some now → RowGoes t next id now) → RowsFit next
 rows_fit settings g t next k fit goes id now found = by (goes id now found)
   where
+    row_active : RowInvariant settings (at id) (Some now) (view g next (at id)) → (is_active now.state ≡ true) ⊎ (goes_on_in now.current ≡ true) → (c : Option Current) → now.current ≡ c → is_active now.state ≡ true
+    row_active says (inl active) c is = active
+    row_active says (inr goes) None is = let x = rw is at goes in cc
+    row_active says (inr goes) (Some current) is = active_of settings (at id) now (view g next (at id)) current is (rw is at goes) says
+
     by : RowGoes t next id now → FitsCurrent (record_of next.tree.apps id) now.dialogue now.current
     by (inl none) = rw none tt
     by (inr (inl active)) =
         let says : RowInvariant settings (at id) (Some now) (view g next (at id)) = rw found at (k.all (at id)) in
-        active_fits settings (at id) now (view g next (at id)) says active.0 now.current refl active.1
+        active_fits settings (at id) now (view g next (at id)) says (row_active says active.0 now.current refl) now.current refl active.1
     by (inr (inr same)) =
         same_fits (record_of t.tree.apps id) (record_of next.tree.apps id) same.0 now same.3 same.0.current now.current same.2.number same.2.silent (fit id same.0 same.1)
 
@@ -283,7 +293,7 @@ change_goes : (t next : Tables) (id : AppId) (change : RowChange) → next.tree 
 change_goes t next id change tree row found = by (schedules_none change) refl
   where
     scheduled : (change : RowChange) → schedules_none change ≡ false → RowGoes t next id (changed change row)
-    scheduled (of_app.Schedule number) e = inr (inl (refl, inl refl))
+    scheduled (of_app.Schedule number) e = inr (inl (inr refl, inl refl))
     scheduled of_app.Issue e = cc
     scheduled of_app.Keep e = cc
     scheduled of_app.Wish e = cc

@@ -1,6 +1,6 @@
 -- The current attempt of an application is the last recorded one, or the next one, with whose master nobody spoke: each message and each kept
 -- operation keeps it, and a life opens so.
-use Rattle.std.proofs.Common.{◌≡◌, ℕ, ◌+◌, ◌≤◌, ◌⊎◌, drop, inl, inr, List, [], ◌∷◌, ◌++◌, Bool, true, false, ◌==◌, Option, None, Some, map, option_map, length, refl, sym, ◌∙◌, ap, subst, arith}
+use Rattle.std.proofs.Common.{◌&&◌, ◌≡◌, ℕ, ◌+◌, ◌≤◌, ◌⊎◌, drop, inl, inr, List, [], ◌∷◌, ◌++◌, Bool, true, false, ◌==◌, Option, None, Some, map, option_map, length, refl, sym, ◌∙◌, ap, subst, arith}
 use Rattle.std.proofs.lemmas.Bool.{false≢true}
 use Rattle.std.proofs.lemmas.Bool.Decides.{nat_tests}
 use Rattle.rm_types.specs.declared.entries.Entry.TheVariants.{Kept, Served}
@@ -30,6 +30,14 @@ use Rattle.rm_types.specs.Records.{last_attempt, new_record, record_of, with_end
 use Rattle.rm_model.specs.Facts.{attempts_in, is_epoch_op}
 use Rattle.rm_app.specs.declared.states.AppState.{AppState}
 use Rattle.rm_app.specs.declared.states.AppState.TheVariants as apps
+use Rattle.rm_attempt.specs.declared.states.AttemptState.{AttemptState}
+use Rattle.rm_attempt.specs.declared.states.AttemptEvent.TheVariants as attempt_events
+use Rattle.rm_attempt.specs.Table.{next_state as next_attempt_state, is_alive}
+use Rattle.rm_refinement.specs.Services.{lives_by}
+use Rattle.rm_model.specs.Attempts.{is_live}
+use Rattle.rm_model.specs.MasterReplies.{master_reply, register_reply}
+use Rattle.rm_model.specs.State.{Scene}
+use Rattle.rm_invariant.proofs.masters.Saying.{goes_on as attempt_goes_on}
 use Rattle.rm_tables.specs.declared.changes.AttemptChange.TheVariants as of_attempt
 use Rattle.rm_tables.specs.declared.changes.RowChange.TheVariants as of_app
 use Rattle.rm_tables.specs.declared.events.MainEvent.TheVariants as mains
@@ -48,7 +56,7 @@ use Rattle.rm_master.specs.Told.{goes_on, spoken_by}
 use Rattle.rm_tracker.specs.Answers.{after_clock, after_node}
 use Rattle.rm_invariant.specs.apps.Invariant.{RowInvariant, is_active}
 use Rattle.rm_invariant.specs.Step.{AppsInvariant}
-use Rattle.rm_refinement.specs.History.{History}
+use Rattle.rm_refinement.specs.History.{History, abstract_scene}
 use Rattle.rm_invariant.specs.apps.View.{View, changed_if, gone_if, op_view, put_if, view}
 use Rattle.rm_invariant.proofs.apps.Effects.{op_taken}
 use Rattle.rm_invariant.proofs.apps.Found.{found_gone, is_app-refl, record_put}
@@ -63,7 +71,7 @@ use Rattle.rm_invariant.specs.Core.{PreservesCore}
 use Rattle.rm_invariant.specs.messages.Fits.{FitsCurrent, RowsFit}
 use Rattle.rm_invariant.proofs.messages.Rows.{clock_rows, node_rows}
 use Rattle.rm_invariant.proofs.messages.MarkedMessages.{clock_posts, node_posts}
-use Rattle.rm_invariant.proofs.messages.Fitting.{RowGoes, SameCurrent, change_same, goes_with, rows_fit, same_current}
+use Rattle.rm_invariant.proofs.messages.Fitting.{is_recorded, RowGoes, SameCurrent, change_same, goes_with, rows_fit, same_current}
 
 -- MESSAGES
 
@@ -79,6 +87,17 @@ put_found id row (one ∷ rows) q now found = by (is_app q one.0) refl (put_foun
     by : (b : Bool) → is_app q one.0 ≡ b → (row_of (rows ++ (id, Some row) ∷ []) q ≡ Some now → (row_of rows q ≡ Some now) ⊎ (row ≡ now)) → (row_of (one ∷ rows) q ≡ Some now) ⊎ (row ≡ now)
     by true e rest = inl (rw e (rw e at found))
     by false e rest = rw e (rest (rw e at found))
+
+-- of an attempt that lives, and whose master registers
+alive_with : (s : AttemptState) (b : Bool) → (b && is_alive s) ≡ true → is_alive s ≡ true
+alive_with s true e = e
+alive_with s false e = cc
+
+alive_goes : (s : AttemptState) → is_alive s ≡ true → attempt_goes_on (next_attempt_state s attempt_events.Register) ≡ true
+alive_goes s e = grind arith
+
+alive_recorded : (s : AttemptState) → is_alive s ≡ true → is_recorded (next_attempt_state s attempt_events.Register) ≡ true
+alive_recorded s e = grind arith
 
 module _ (settings : Settings) (h : History) (t : Tables) (fit : RowsFit t) where
   -- a step that goes to these tables, whose rows go so
@@ -134,12 +153,21 @@ module _ (settings : Settings) (h : History) (t : Tables) (fit : RowsFit t) wher
   none_spoken f None e = refl
   none_spoken f (Some one) e = cc
 
-  registered_goes : (attempt : AttemptId) (reply : Reply) (row : AppRow) → RowGoes t (registered attempt reply t) attempt.app (registered_row (begun reply) row)
-  registered_goes attempt reply row = by row.current refl
+  registered_goes : (attempt : AttemptId) (reply : Reply) (row : AppRow) → lives_by attempt (Some row) ≡ true → RowGoes t (registered attempt reply t) attempt.app (registered_row (begun reply) row)
+  registered_goes attempt reply row lives = by row.current refl
     where
       by : (c : Option Current) → row.current ≡ c → RowGoes t (registered attempt reply t) attempt.app (registered_row (begun reply) row)
       by None is = inl (rw is refl)
-      by (Some current) is = inr (inl (refl, inr (rw is refl)))
+      by (Some current) is =
+          let alive : is_alive current.state ≡ true = alive_with current.state (current.number == attempt.number) (rw is at lives) in
+          inr (inl (inr (rw is (alive_goes current.state alive)), inr (rw is (alive_recorded current.state alive))))
+
+  registers_live : (m : Scene) (attempt : AttemptId) → replies.MasterRegistered ≡ register_reply m attempt → is_live m attempt ≡ true
+  registers_live m attempt is = by (is_live m attempt) refl
+    where
+      by : (b : Bool) → is_live m attempt ≡ b → is_live m attempt ≡ true
+      by true e = e
+      by false e = let x : replies.MasterRegistered ≡ replies.Gone = rw e at is in cc
 
   said_same : (text : List ℕ) (row : AppRow) → SameCurrent row (said_row (with_text text) row)
   said_same text row = record { number = (change_same (of_app.OfAttempt of_attempt.Finish) row refl).number; silent = none_spoken (λ one. record one { finishing = Some text }) row.dialogue }
@@ -147,17 +175,17 @@ module _ (settings : Settings) (h : History) (t : Tables) (fit : RowsFit t) wher
   told_same : (attempt : AttemptId) (id : ℕ) (reply : Reply) (row : AppRow) → SameCurrent row (told_row (with_answer id reply) (without_closings attempt) row)
   told_same attempt id reply row = record { number = refl; silent = none_spoken (λ one. record one { last_id = id; last_reply = reply }) row.dialogue }
 
-  master_goes : (attempt : AttemptId) (ask : MasterAsk) (reply : Reply) → RowMoves (after_master attempt ask reply t)
-  master_goes attempt masters.Register replies.MasterRegistered =
-      goes_with t (registered attempt replies.MasterRegistered t) attempt.app (registered_row (begun replies.MasterRegistered)) refl (λ q apart. refl) (λ row there. registered_goes attempt replies.MasterRegistered row)
-  master_goes attempt masters.Register _ = still t refl refl
-  master_goes attempt (masters.Finish text) replies.Finishing = by (goes_on (spoken_by attempt (row_of t.rows attempt.app))) refl
+  master_goes : ((attempt : AttemptId) → is_live (abstract_scene h t) attempt ≡ lives_by attempt (row_of t.rows attempt.app)) → (attempt : AttemptId) (ask : MasterAsk) (reply : Reply) → reply ≡ master_reply settings (abstract_scene h t) attempt ask → RowMoves (after_master attempt ask reply t)
+  master_goes live attempt masters.Register replies.MasterRegistered is =
+      goes_with t (registered attempt replies.MasterRegistered t) attempt.app (registered_row (begun replies.MasterRegistered)) refl (λ q apart. refl) (λ row there. registered_goes attempt replies.MasterRegistered row (ap (lives_by attempt) (sym there) ∙ sym (live attempt) ∙ registers_live (abstract_scene h t) attempt is))
+  master_goes live attempt masters.Register _ is = still t refl refl
+  master_goes live attempt (masters.Finish text) replies.Finishing is = by (goes_on (spoken_by attempt (row_of t.rows attempt.app))) refl
     where
       by : (b : Bool) → goes_on (spoken_by attempt (row_of t.rows attempt.app)) ≡ b → RowMoves (after_master attempt (masters.Finish text) replies.Finishing t)
       by true e = rw e (goes_with t (said attempt text t) attempt.app (said_row (with_text text)) refl (λ q apart. refl) (λ row there. inr (inr (row, there, said_same text row, refl))))
       by false e = rw e (still t refl refl)
-  master_goes attempt (masters.Finish text) _ = still t refl refl
-  master_goes attempt (masters.Allocate id asks release) (replies.Allocated next grants ended) = by (is_new_to id (spoken_by attempt (row_of t.rows attempt.app))) refl
+  master_goes live attempt (masters.Finish text) _ is = still t refl refl
+  master_goes live attempt (masters.Allocate id asks release) (replies.Allocated next grants ended) is = by (is_new_to id (spoken_by attempt (row_of t.rows attempt.app))) refl
     where
       by : (b : Bool) → is_new_to id (spoken_by attempt (row_of t.rows attempt.app)) ≡ b → RowMoves (after_master attempt (masters.Allocate id asks release) (replies.Allocated next grants ended) t)
       by true e =
@@ -165,10 +193,10 @@ module _ (settings : Settings) (h : History) (t : Tables) (fit : RowsFit t) wher
           (goes_with t (allocated_with attempt id asks release (replies.Allocated next grants ended) t) attempt.app (told_row (with_answer (id + 1) (replies.Allocated next grants ended)) (without_closings attempt)) refl (λ q apart. refl)
           (λ row there. inr (inr (row, there, told_same attempt (id + 1) (replies.Allocated next grants ended) row, refl))))
       by false e = rw e (still t refl refl)
-  master_goes attempt (masters.Allocate id asks release) _ = still t refl refl
+  master_goes live attempt (masters.Allocate id asks release) _ is = still t refl refl
 
-  pub master_fits : (attempt : AttemptId) (ask : MasterAsk) (reply : Reply) (s : PreservesCore settings h t (Served senders.Master (messages.Master attempt ask) reply, after_master attempt ask reply t)) → RowsFit (after_master attempt ask reply t)
-  master_fits attempt ask reply s = rows_fit settings s.next t (after_master attempt ask reply t) s.whole.keeps fit (master_goes attempt ask reply)
+  pub master_fits : ((attempt : AttemptId) → is_live (abstract_scene h t) attempt ≡ lives_by attempt (row_of t.rows attempt.app)) → (attempt : AttemptId) (ask : MasterAsk) (reply : Reply) → reply ≡ master_reply settings (abstract_scene h t) attempt ask → (s : PreservesCore settings h t (Served senders.Master (messages.Master attempt ask) reply, after_master attempt ask reply t)) → RowsFit (after_master attempt ask reply t)
+  master_fits live attempt ask reply is s = rows_fit settings s.next t (after_master attempt ask reply t) s.whole.keeps fit (master_goes live attempt ask reply is)
 
 -- KEPT OPERATIONS
 
@@ -245,7 +273,7 @@ module _ (settings : Settings) (h : History) (t : Tables) (k : AppsInvariant set
           let same : awaits.one ≡ row = let x : Some awaits.one ≡ Some row = sym awaits.is ∙ there in cc in
           let active : is_active row.state ≡ true = ap (λ (one : AppRow). is_active one.state) (sym same) ∙ awaits.active in
           let is : row.current ≡ Some awaits.current = ap (λ (one : AppRow). one.current) (sym same) ∙ awaits.current_is in
-          inr (inl (active, inr (rw is refl)))
+          inr (inl (inl active, inr (let saving = awaits.state in rw (is, saving) refl)))
 
   -- the end of an attempt
   end_goes : (id : AttemptId) (how : How) (text : List ℕ) (rest : List Op) → t.awaiting ≡ ops.AttemptEnd id how text ∷ rest → Going (kept (ops.AttemptEnd id how text) t)
@@ -273,7 +301,7 @@ module _ (settings : Settings) (h : History) (t : Tables) (k : AppsInvariant set
           let same : awaits.one ≡ row = let x : Some awaits.one ≡ Some row = sym awaits.is ∙ there in cc in
           let active : is_active row.state ≡ true = ap (λ (one : AppRow). is_active one.state) (sym same) ∙ awaits.active in
           let is : row.current ≡ Some awaits.current = ap (λ (one : AppRow). one.current) (sym same) ∙ awaits.current_is in
-          inr (inl (active_still how row.state active, inr (rw is refl)))
+          inr (inl (inl (active_still how row.state active), inr (let ending = awaits.state in rw (is, ending) refl)))
 
   -- the end of an application
   over_goes : (id : AppId) (how : How) (text : List ℕ) → Going (kept (ops.AppEnd id how text) t)

@@ -10,6 +10,7 @@ use Rattle.rm_types.specs.declared.records.AppRecord.{AppRecord}
 use Rattle.rm_types.specs.declared.records.AttemptRecord.{AttemptRecord}
 use Rattle.rm_book.specs.declared.plain.NodeCapability.{NodeCapability}
 use Rattle.rm_types.specs.declared.texts.TextKind.TheVariants.{Node, Note}
+use Rattle.rm_types.specs.declared.limits.TheConstants.{EPOCHS, NUMBERS}
 use Rattle.rm_types.specs.Ranges.{IsAppId, IsAttemptId, IsContainerId, IsMasterOf, IsOperation, IsSubmission, IsText, IsWithin}
 use Rattle.rm_types.specs.Limits.{most_served}
 use Rattle.rm_book.specs.AskTables.{AsksOf, asks_of}
@@ -59,7 +60,7 @@ AreRecords apps = All IsAppRecord apps
 
 -- the current attempt of an application: its number and the id of its master's container
 pub record IsCurrent (current : Current) : Type 0 where
-  pub number : IsWithin 1 (2 ^ 31 - 1) current.number
+  pub number : IsWithin 1 (NUMBERS - 1) current.number
   pub master : IfThere IsContainerId current.master
 
 -- the row of an application: what was submitted for it, its current attempt, and what the master of that one said as it finished
@@ -117,7 +118,7 @@ pub record AreNodes (nodes : List (List ℕ × NodeRow)) : Type 0 where
 
 -- the numbers of a life that rise by its messages, of which there are at most a hundred thousand
 pub record AreCounts (t : Tables) : Type 0 where
-  pub epoch : t.epoch < 2 ^ 24
+  pub epoch : t.epoch < EPOCHS
   pub served : t.served ≤ most_served
   pub given : t.given ≤ t.served
   pub clock : t.clock ≤ 1000000000 * t.served

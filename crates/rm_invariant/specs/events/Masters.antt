@@ -6,10 +6,10 @@ use Rattle.rm_types.specs.declared.ids.AppId.{AppId}
 use Rattle.rm_types.specs.declared.ids.AttemptId.{AttemptId}
 use Rattle.rm_types.specs.Ids.{is_app}
 use Rattle.rm_book.specs.AskTables.{asks_of}
+use Rattle.rm_attempt.specs.Table.{is_alive}
 use Rattle.rm_tables.specs.declared.rows.AppRow.{AppRow}
 use Rattle.rm_tables.specs.declared.rows.Current.{Current}
 use Rattle.rm_tables.specs.declared.tables.Tables.{Tables}
-use Rattle.rm_tables.specs.MainEvents.{is_alive}
 use Rattle.rm_tables.specs.Rows.{row_of}
 use Rattle.rm_refinement.specs.Services.{is_ending}
 use Rattle.rm_invariant.specs.events.Asking.{asks_others}

@@ -15,6 +15,7 @@ use Rattle.rm_model.specs.Issuing.{expired_text, killed_text, lost_text}
 use Rattle.rm_app.specs.declared.states.AppState.TheVariants as apps
 use Rattle.rm_attempt.specs.declared.states.AttemptState.{AttemptState}
 use Rattle.rm_attempt.specs.declared.states.AttemptState.TheVariants as attempts
+use Rattle.rm_attempt.specs.Table.{is_alive}
 use Rattle.rm_tables.specs.declared.changes.AttemptChange.TheVariants as of_attempt
 use Rattle.rm_tables.specs.declared.changes.RowChange.TheVariants as of_app
 use Rattle.rm_tables.specs.declared.events.MainEvent.{MainEvent}
@@ -24,7 +25,7 @@ use Rattle.rm_tables.specs.declared.rows.AppRow.{AppRow}
 use Rattle.rm_tables.specs.declared.rows.Current.{Current}
 use Rattle.rm_tables.specs.declared.tables.Tables.{Tables}
 use Rattle.rm_tables.specs.Actions.{app_changed, ends_app, ends_attempt, found_in, main_quiet, next_in, schedules}
-use Rattle.rm_tables.specs.MainEvents.{with_attempt_issued, end_with, finishing_in, is_alive, is_master_of, attempt_kill, last_end_in, node_at, with_order, with_attempt_requeued, start_of_submission}
+use Rattle.rm_tables.specs.MainEvents.{with_attempt_issued, end_with, finishing_in, is_master_of, attempt_kill, last_end_in, node_at, with_order, with_attempt_requeued, start_of_submission}
 use Rattle.rm_tables.specs.Rows.{row_of}
 use Rattle.rm_invariant.specs.apps.Invariant.{is_active}
 

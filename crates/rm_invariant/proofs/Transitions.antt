@@ -1,0 +1,466 @@
+-- Each move brings the state of an application, and that of its current attempt, along a row of its table, or leaves it.
+use Rattle.std.proofs.Common.{◌≡◌, ◌⊎◌, inl, inr, ℕ, ◌+◌, length, arith, List, [], ◌∷◌, ◌++◌, Bool, true, false, nat_lt, Option, None, Some, fold, drop, option_map, refl, sym, ◌∙◌, ap, subst}
+use Rattle.rm_types.specs.declared.containers.Closing.{Closing}
+use Rattle.rm_types.specs.declared.containers.Grant.{Grant}
+use Rattle.rm_types.specs.declared.entries.Entry.{Entry}
+use Rattle.rm_types.specs.declared.ids.AppId.{AppId}
+use Rattle.rm_types.specs.declared.ids.AttemptId.{AttemptId}
+use Rattle.rm_types.specs.declared.ids.ContainerId.{ContainerId}
+use Rattle.rm_types.specs.declared.operations.How.{How}
+use Rattle.rm_types.specs.declared.operations.How.TheVariants as ways
+use Rattle.rm_types.specs.declared.operations.Op.{Op}
+use Rattle.rm_types.specs.declared.operations.Op.TheVariants as ops
+use Rattle.rm_types.specs.Ids.{is_app}
+use Rattle.rm_types.specs.declared.messages.ClientAsk.{ClientAsk}
+use Rattle.rm_types.specs.declared.messages.ClientAsk.TheVariants as clients
+use Rattle.rm_types.specs.declared.messages.ClockAsk.{ClockAsk}
+use Rattle.rm_types.specs.declared.messages.MasterAsk.{MasterAsk}
+use Rattle.rm_types.specs.declared.messages.MasterAsk.TheVariants as masters
+use Rattle.rm_types.specs.declared.messages.NodeAsk.{NodeAsk}
+use Rattle.rm_types.specs.declared.operations.Submission.{Submission}
+use Rattle.rm_types.specs.declared.replies.Reply.{Reply}
+use Rattle.rm_types.specs.declared.replies.Reply.TheVariants as replies
+use Rattle.rm_tables.specs.Talks.{begun, registered_row, said_row, told_row, with_answer, with_text, without_closings}
+use Rattle.rm_client.specs.Answers.{after_client, new_row, taken_by, wished_by}
+use Rattle.rm_master.specs.Answers.{after_master, is_new_to}
+use Rattle.rm_master.specs.Told.{goes_on, spoken_by}
+use Rattle.rm_tracker.specs.Answers.{after_clock, after_node}
+use Rattle.rm_invariant.proofs.messages.Rows.{clock_rows, node_rows}
+use Rattle.rm_types.specs.declared.settings.Settings.{Settings}
+use Rattle.rm_model.specs.Facts.{attempts_in}
+use Rattle.rm_app.specs.declared.states.AppState.TheVariants as apps
+use Rattle.rm_tables.specs.declared.events.MainEvent.TheVariants as mains
+use Rattle.rm_tables.specs.Actions.{found_in, next_in}
+use Rattle.rm_invariant.specs.events.Outcomes.{Outcome, accepts, adds, delays, ends, ends_one, follows, idles, issues, kills, loses, orders, removes, requeues, saves}
+use Rattle.rm_invariant.proofs.events.Outcomes.{main_outcome}
+use Rattle.rm_invariant.specs.apps.Invariant.{ActiveInvariant, CurrentInvariant, RowInvariant, StateInvariant, is_active}
+use Rattle.rm_invariant.specs.Step.{AppsInvariant}
+use Rattle.rm_invariant.specs.apps.View.{view}
+use Rattle.rm_invariant.proofs.apps.Events.{at}
+use Rattle.rm_invariant.proofs.apps.Own.{active_row}
+use Rattle.rm_invariant.specs.Phases.{Phase, none, running, saving, shut, starting}
+use Rattle.rm_app.specs.declared.states.AppState.{AppState}
+use Rattle.rm_app.specs.declared.states.AppEvent.{AppEvent}
+use Rattle.rm_app.specs.declared.states.AppEvent.TheVariants as app_events
+use Rattle.rm_app.specs.Table.{next_state}
+use Rattle.rm_app.proofs.Rows.{stays_or_row as app_stays_or_row}
+use Rattle.rm_attempt.specs.declared.states.AttemptState.{AttemptState}
+use Rattle.rm_attempt.specs.declared.states.AttemptState.TheVariants as attempts
+use Rattle.rm_attempt.specs.declared.states.AttemptEvent.{AttemptEvent}
+use Rattle.rm_attempt.specs.declared.states.AttemptEvent.TheVariants as attempt_events
+use Rattle.rm_attempt.specs.Table.{next_state as next_attempt_state}
+use Rattle.rm_attempt.proofs.Rows.{stays_or_row as attempt_stays_or_row}
+use Rattle.rm_tables.specs.declared.changes.AttemptChange.{AttemptChange}
+use Rattle.rm_tables.specs.declared.changes.AttemptChange.TheVariants as of_attempt
+use Rattle.rm_tables.specs.declared.changes.RowChange.{RowChange}
+use Rattle.rm_tables.specs.declared.changes.RowChange.TheVariants as of_app
+use Rattle.rm_tables.specs.declared.events.MainEvent.{MainEvent}
+use Rattle.rm_tables.specs.declared.events.SchedEvent.{SchedEvent}
+use Rattle.rm_tables.specs.declared.rows.AppRow.{AppRow}
+use Rattle.rm_tables.specs.declared.rows.Current.{Current}
+use Rattle.rm_tables.specs.declared.tables.Tables.{Tables}
+use Rattle.rm_tables.specs.Actions.{main_worked, sched_worked}
+use Rattle.rm_tables.specs.Changes.{after_failure, attempt_after, changed, current_after, granted, granted_at, state_after}
+use Rattle.rm_tables.specs.KeptOps.{kept}
+use Rattle.rm_tables.specs.Leaving.{closed_in}
+use Rattle.rm_tables.specs.MainEvents.{main_step}
+use Rattle.rm_tables.specs.Passing.{row_granted}
+use Rattle.rm_tables.specs.Rows.{is_retired, row_of, with_row}
+use Rattle.rm_tables.specs.SchedEvents.{sched_step}
+use Rattle.rm_refinement.specs.Agreement.{closings_for}
+use Rattle.rm_refinement.specs.History.{History}
+use Rattle.rm_invariant.specs.apps.View.{changed_if, gone_if, put_if}
+use Rattle.rm_invariant.proofs.apps.Found.{is_app_same, row_changed, row_put}
+use Rattle.rm_invariant.proofs.apps.Removing.{row_gone}
+use Rattle.rm_invariant.proofs.events.Told.{rows_told, telling_more}
+use Rattle.rm_invariant.proofs.messages.Shapes.{RowsAfter, RowsBy, SchedShape, Shape, main_shape, sched_shape}
+use Rattle.rm_invariant.specs.Transitions.{AppFollowsTable, AttemptFollowsTable, CurrentFollowsTable, RowFollowsTables, RowsFollowTables}
+
+-- ONE ROW
+
+-- a state stays, whatever its row is otherwise
+current_stays : (o : Option Current) → CurrentFollowsTable o o
+current_stays None = refl
+current_stays (Some current) = inl (refl, inl refl)
+
+pub row_stays : (row : AppRow) → RowFollowsTables row row
+row_stays row = record { state = inl refl; current = current_stays row.current }
+
+app_moves : (event : AppEvent) (s : AppState) → AppFollowsTable s (next_state s event)
+app_moves event s = app_stays_or_row s event
+
+attempt_moves : (event : AttemptEvent) (s : AttemptState) → AttemptFollowsTable s (next_attempt_state s event)
+attempt_moves event s = attempt_stays_or_row s event
+
+failure_goes : (how : How) (s : AppState) → AppFollowsTable s (after_failure how s)
+failure_goes ways.Failed s = app_moves app_events.Failed s
+failure_goes ways.Finished s = inl refl
+failure_goes ways.Killed s = inl refl
+
+-- the state of an application after a change
+state_goes : (change : RowChange) (s : AppState) → AppFollowsTable s (state_after change s)
+state_goes of_app.Issue s = app_moves app_events.Start s
+state_goes of_app.Keep s = app_moves app_events.Kept s
+state_goes of_app.Wish s = inl refl
+state_goes of_app.Kill s = app_moves app_events.Kill s
+state_goes (of_app.Schedule number) s = app_moves app_events.Accept s
+state_goes of_app.Register s = app_moves app_events.Register s
+state_goes of_app.End s = app_moves app_events.End s
+state_goes (of_app.KeepEnd how) s = app_moves (app_events.EndKept how) s
+state_goes (of_app.OfAttempt (of_attempt.KeepEnd how)) s = failure_goes how s
+state_goes (of_app.OfAttempt (of_attempt.Grant container)) s = inl refl
+state_goes (of_app.OfAttempt of_attempt.Requeue) s = inl refl
+state_goes (of_app.OfAttempt of_attempt.Issue) s = inl refl
+state_goes (of_app.OfAttempt of_attempt.Lose) s = inl refl
+state_goes (of_app.OfAttempt of_attempt.Keep) s = inl refl
+state_goes (of_app.OfAttempt of_attempt.Finish) s = inl refl
+state_goes (of_app.OfAttempt (of_attempt.End how)) s = inl refl
+
+-- what a grant makes of an attempt
+pub record Granting (before now : Current) : Type 0 where
+  pub number : now.number ≡ before.number
+  pub state : (now.state ≡ before.state) ⊎ ((before.state ≡ attempts.Scheduled) × (now.state ≡ attempts.Granted))
+
+granting : (container : ContainerId) (current : Current) → Granting current (granted container current)
+granting container current = by current.state refl
+  where
+    by : (s : AttemptState) → current.state ≡ s → Granting current (granted_at s container current)
+    by attempts.Scheduled is = record { number = refl; state = inr (is, refl) }
+    by attempts.Granted is = record { number = refl; state = inl refl }
+    by attempts.Saving is = record { number = refl; state = inl refl }
+    by attempts.Live is = record { number = refl; state = inl refl }
+    by attempts.Registered is = record { number = refl; state = inl refl }
+    by attempts.Finishing is = record { number = refl; state = inl refl }
+    by attempts.Ending is = record { number = refl; state = inl refl }
+    by attempts.Ended is = record { number = refl; state = inl refl }
+    by attempts.Dropped is = record { number = refl; state = inl refl }
+
+granting_goes : (before now : Current) → Granting before now → CurrentFollowsTable (Some before) (Some now)
+granting_goes before now g = inl (g.number, by g.state)
+  where
+    by : (now.state ≡ before.state) ⊎ ((before.state ≡ attempts.Scheduled) × (now.state ≡ attempts.Granted)) → AttemptFollowsTable before.state now.state
+    by (inl same) = inl same
+    by (inr goes) = let a = goes.0 in let b = goes.1 in rw (a, b) (attempt_moves attempt_events.Grant attempts.Scheduled)
+
+attempt_goes : (change : AttemptChange) (current : Current) → CurrentFollowsTable (Some current) (Some (attempt_after change current))
+attempt_goes (of_attempt.Grant container) current = granting_goes current (granted container current) (granting container current)
+attempt_goes of_attempt.Requeue current = inl (refl, attempt_moves attempt_events.Requeue current.state)
+attempt_goes of_attempt.Issue current = inl (refl, attempt_moves attempt_events.Issue current.state)
+attempt_goes of_attempt.Lose current = inl (refl, inl refl)
+attempt_goes of_attempt.Keep current = inl (refl, attempt_moves attempt_events.Kept current.state)
+attempt_goes of_attempt.Finish current = inl (refl, attempt_moves attempt_events.Finish current.state)
+attempt_goes (of_attempt.End how) current = inl (refl, attempt_moves attempt_events.End current.state)
+attempt_goes (of_attempt.KeepEnd how) current = inl (refl, attempt_moves attempt_events.EndKept current.state)
+
+-- the change schedules no attempt
+abbrev schedules_none : RowChange → Bool
+schedules_none (of_app.Schedule number) = false
+schedules_none _ = true
+
+current_goes : (change : RowChange) → schedules_none change ≡ true → (o : Option Current) → CurrentFollowsTable o (current_after change o)
+current_goes (of_app.Schedule number) e o = cc
+current_goes of_app.Issue e None = refl
+current_goes of_app.Keep e None = refl
+current_goes of_app.Wish e None = refl
+current_goes of_app.Kill e None = refl
+current_goes of_app.Register e None = refl
+current_goes of_app.End e None = refl
+current_goes (of_app.KeepEnd how) e None = refl
+current_goes (of_app.OfAttempt change) e None = refl
+current_goes of_app.Issue e (Some current) = inl (refl, inl refl)
+current_goes of_app.Keep e (Some current) = inl (refl, inl refl)
+current_goes of_app.Wish e (Some current) = inl (refl, inl refl)
+current_goes of_app.Kill e (Some current) = inl (refl, attempt_moves attempt_events.End current.state)
+current_goes of_app.Register e (Some current) = inl (refl, attempt_moves attempt_events.Register current.state)
+current_goes of_app.End e (Some current) = inl (refl, attempt_moves attempt_events.Drop current.state)
+current_goes (of_app.KeepEnd how) e (Some current) = inl (refl, inl refl)
+current_goes (of_app.OfAttempt change) e (Some current) = attempt_goes change current
+
+-- whatever happens to an application but that an attempt is scheduled
+pub changed_goes : (change : RowChange) → schedules_none change ≡ true → (row : AppRow) → RowFollowsTables row (changed change row)
+changed_goes change e row = record { state = state_goes change row.state; current = current_goes change e row.current }
+
+-- an attempt is scheduled where there is none, or the last one has ended
+abbrev MaySchedule : ℕ → Option Current → Type 0
+MaySchedule number None = Unit {0}
+MaySchedule number (Some current) = (current.state ≡ attempts.Ended) × (number ≡ current.number + 1)
+
+scheduled_goes : (number : ℕ) (row : AppRow) (o : Option Current) → row.current ≡ o → MaySchedule number o → RowFollowsTables row (changed (of_app.Schedule number) row)
+scheduled_goes number row o is may = record { state = state_goes (of_app.Schedule number) row.state; current = rw is (by o may) }
+  where
+    by : (o : Option Current) → MaySchedule number o → CurrentFollowsTable o (current_after (of_app.Schedule number) o)
+    by None may = refl
+    by (Some current) may = inr (may.0, may.1, refl)
+
+-- ALL ROWS
+
+pub rows_stay : (rows : List (AppId × Option AppRow)) → RowsFollowTables rows rows
+rows_stay rows id before now there then = let same : before ≡ now = (let x = sym there ∙ then in cc) in subst (RowFollowsTables before) same (row_stays before)
+
+-- the row of one application changes
+pub one_goes : (f : AppRow → AppRow) (id : AppId) (rows : List (AppId × Option AppRow)) → ((row : AppRow) → RowFollowsTables row (f row)) → RowsFollowTables rows (with_row f id rows)
+one_goes f id rows goes q before now there then = by (is_app id q) (sym (ap (changed_if (is_app id q) f) there) ∙ sym (row_changed f id q rows) ∙ then)
+  where
+    by : (b : Bool) → changed_if b f (Some before) ≡ Some now → RowFollowsTables before now
+    by true e = let same : f before ≡ now = cc in subst (RowFollowsTables before) same (goes before)
+    by false e = let same : before ≡ now = cc in subst (RowFollowsTables before) same (row_stays before)
+
+-- endings are to be told
+told_goes : (closings : List Closing) (rows : List (AppId × Option AppRow)) → RowsFollowTables rows (closed_in rows closings)
+told_goes closings rows q before now there then = by (sym (ap (option_map (telling_more (closings_for closings q))) there) ∙ sym (rows_told closings rows q) ∙ then)
+  where
+    by : Some (telling_more (closings_for closings q) before) ≡ Some now → RowFollowsTables before now
+    by e = let same : telling_more (closings_for closings q) before ≡ now = cc in subst (RowFollowsTables before) same (record { state = inl refl; current = current_stays before.current })
+
+-- containers are granted
+abbrev CurrentGranting : Option Current → Option Current → Type 0
+CurrentGranting None now = now ≡ None
+CurrentGranting (Some before) None = ⊥
+CurrentGranting (Some before) (Some now) = Granting before now
+
+record RowGranting (before now : AppRow) : Type 0 where
+  state : now.state ≡ before.state
+  current : CurrentGranting before.current now.current
+
+granting_stays : (row : AppRow) → RowGranting row row
+granting_stays row = record { state = refl; current = by row.current }
+  where
+    by : (o : Option Current) → CurrentGranting o o
+    by None = refl
+    by (Some current) = record { number = refl; state = inl refl }
+
+granting_one : (container : ContainerId) (row : AppRow) → RowGranting row (changed (of_app.OfAttempt (of_attempt.Grant container)) row)
+granting_one container row = record { state = refl; current = by row.current }
+  where
+    by : (o : Option Current) → CurrentGranting o (current_after (of_app.OfAttempt (of_attempt.Grant container)) o)
+    by None = refl
+    by (Some current) = granting container current
+
+granting_then : (a b c : AppRow) → RowGranting a b → RowGranting b c → RowGranting a c
+granting_then a b c one two = record { state = two.state ∙ one.state; current = by a.current b.current c.current one.current two.current }
+  where
+    state : (a b c : Current) → Granting a b → Granting b c → (c.state ≡ a.state) ⊎ ((a.state ≡ attempts.Scheduled) × (c.state ≡ attempts.Granted))
+    state a b c one two = with_both one.state two.state
+      where
+        with_both : (b.state ≡ a.state) ⊎ ((a.state ≡ attempts.Scheduled) × (b.state ≡ attempts.Granted)) → (c.state ≡ b.state) ⊎ ((b.state ≡ attempts.Scheduled) × (c.state ≡ attempts.Granted)) → (c.state ≡ a.state) ⊎ ((a.state ≡ attempts.Scheduled) × (c.state ≡ attempts.Granted))
+        with_both (inl x) (inl y) = inl (y ∙ x)
+        with_both (inl x) (inr y) = inr (sym x ∙ y.0, y.1)
+        with_both (inr x) (inl y) = inr (x.0, y ∙ x.1)
+        with_both (inr x) (inr y) = inr (x.0, y.1)
+
+    by : (a b c : Option Current) → CurrentGranting a b → CurrentGranting b c → CurrentGranting a c
+    by None None c x y = y
+    by None (Some b) c x y = cc
+    by (Some a) None c x y = absurd x
+    by (Some a) (Some b) None x y = absurd y
+    by (Some a) (Some b) (Some c) x y = record { number = y.number ∙ x.number; state = state a b c x y }
+
+-- each row is one that was there, with what was granted
+abbrev RowsGranting : List (AppId × Option AppRow) → List (AppId × Option AppRow) → Type 0
+RowsGranting rows next = (q : AppId) (now : AppRow) → row_of next q ≡ Some now → (was : AppRow) × (row_of rows q ≡ Some was) × RowGranting was now
+
+one_granting : (container : ContainerId) (id : AppId) (rows : List (AppId × Option AppRow)) → RowsGranting rows (with_row (changed (of_app.OfAttempt (of_attempt.Grant container))) id rows)
+one_granting container id rows q now found = by (is_app id q) (row_of rows q) refl (sym (row_changed (changed (of_app.OfAttempt (of_attempt.Grant container))) id q rows) ∙ found)
+  where
+    by : (b : Bool) (o : Option AppRow) → row_of rows q ≡ o → changed_if b (changed (of_app.OfAttempt (of_attempt.Grant container))) o ≡ Some now → (was : AppRow) × (row_of rows q ≡ Some was) × RowGranting was now
+    by true None there e = cc
+    by true (Some was) there e = let after : changed (of_app.OfAttempt (of_attempt.Grant container)) was ≡ now = cc in (was, there, subst (RowGranting was) after (granting_one container was))
+    by false o there e = (now, there ∙ e, granting_stays now)
+
+all_granting : (grants : List Grant) (rows : List (AppId × Option AppRow)) → RowsGranting rows (fold row_granted rows grants)
+all_granting [] rows q now found = (now, found, granting_stays now)
+all_granting (grant ∷ grants) rows q now found =
+    let b = all_granting grants (row_granted rows grant) q now found in
+    let a = one_granting grant.id grant.id.attempt.app rows q b.0 b.1 in
+    (a.0, a.1, granting_then a.0 b.0 now a.2 b.2)
+
+granted_goes : (grants : List Grant) (rows : List (AppId × Option AppRow)) → RowsFollowTables rows (fold row_granted rows grants)
+granted_goes grants rows q before now there then =
+    let g = all_granting grants rows q now then in
+    let same : g.0 ≡ before = (let x = sym g.1 ∙ there in cc) in
+    by (subst (λ (was : AppRow). RowGranting was now) same g.2)
+  where
+    current : (a b : Option Current) → CurrentGranting a b → CurrentFollowsTable a b
+    current None None x = refl
+    current None (Some b) x = cc
+    current (Some a) None x = absurd x
+    current (Some a) (Some b) x = granting_goes a b x
+
+    by : RowGranting before now → RowFollowsTables before now
+    by g = record { state = inl g.state; current = current before.current now.current g.current }
+
+-- EACH MOVE
+
+-- one row that is found changes
+at_goes : (f : AppRow → AppRow) (id : AppId) (rows : List (AppId × Option AppRow)) (row : AppRow) → row_of rows id ≡ Some row → RowFollowsTables row (f row) → RowsFollowTables rows (with_row f id rows)
+at_goes f id rows row found goes q before now there then = by (is_app id q) refl (sym (ap (changed_if (is_app id q) f) there) ∙ sym (row_changed f id q rows) ∙ then)
+  where
+    by : (b : Bool) → is_app id q ≡ b → changed_if b f (Some before) ≡ Some now → RowFollowsTables before now
+    by true e x =
+        let own : row_of rows id ≡ Some before = ap (row_of rows) (is_app_same id q e) ∙ there in
+        let same : row ≡ before = (let y = sym found ∙ own in cc) in
+        let next : f before ≡ now = cc in
+        subst (RowFollowsTables before) next (subst (λ (one : AppRow). RowFollowsTables one (f one)) same goes)
+    by false e x = let same : before ≡ now = cc in subst (RowFollowsTables before) same (row_stays before)
+
+going_active : (s : AppState) → is_active s ≡ true → is_active s ≡ true
+going_active s e = grind arith
+
+-- the first event of the main queue of an open life
+module _ (settings : Settings) (h : History) (t : Tables) (k : AppsInvariant settings h t) where
+  abbrev GoesOn : Entry × Tables → Type 0
+  GoesOn done = RowsFollowTables t.rows (main_worked done).1.rows
+
+  any_goes : (change : RowChange) → schedules_none change ≡ true → (id : AppId) → RowsFollowTables t.rows (with_row (changed change) id t.rows)
+  any_goes change e id = one_goes (changed change) id t.rows (changed_goes change e)
+
+  -- an application that is submitted has no attempt; the last one of an active application, where it has ended, has the number of the kept ones
+  none_submitted : (id : AppId) (row : AppRow) → row_of t.rows id ≡ Some row → row.state ≡ apps.Submitted → row.current ≡ None
+  none_submitted id row found st =
+      let good : RowInvariant settings (at id) (Some row) (view h t (at id)) = rw found at (k.all (at id)) in
+      let says = subst (λ (s : AppState). StateInvariant settings (at id) s row (view h t (at id))) st good.1 in
+      says.3
+
+  last_ended : (id : AppId) (row : AppRow) (current : Current) → row_of t.rows id ≡ Some row → row.current ≡ Some current → is_active row.state ≡ true → current.state ≡ attempts.Ended → current.number ≡ length (attempts_in (found_in t id))
+  last_ended id row current found is going st =
+      let good : RowInvariant settings (at id) (Some row) (view h t (at id)) = rw found at (k.all (at id)) in
+      let active = active_row settings (at id) row (view h t (at id)) (going_active row.state going) good in
+      let says : ActiveInvariant settings (at id) (Some current) row.wish (view h t (at id)) = rw is at active.current in
+      let own : CurrentInvariant settings attempts.Ended (record { app = id; number = current.number }) row.wish (view h t (at id)) = rw st at says.0 in
+      own.1
+
+  outcome_goes : (done : Entry × Tables) → Outcome t done → GoesOn done
+  outcome_goes done idles = rows_stay t.rows
+  outcome_goes done (saves id row submission rest found waits front) = any_goes of_app.Issue refl id
+  outcome_goes done (adds id row behind found st at_front) = rows_stay t.rows
+  outcome_goes done (accepts id row found st) =
+      let alone = none_submitted id row found st in
+      at_goes (changed (of_app.Schedule 1)) id t.rows row found (scheduled_goes 1 row None alone tt)
+  outcome_goes done (ends id row how text found stopped is) = any_goes of_app.End refl id
+  outcome_goes done (kills id row current at_ number alive going) = any_goes of_app.Kill refl id.app
+  outcome_goes done (delays id row current at_ waits going) = any_goes of_app.Kill refl id
+  outcome_goes done (issues container node row current at_ st number mine place) = any_goes (of_app.OfAttempt of_attempt.Issue) refl container.attempt.app
+  outcome_goes done (requeues container row current behind at_ st number mine place at_front) = any_goes (of_app.OfAttempt of_attempt.Requeue) refl container.attempt.app
+  outcome_goes done (orders id container node row current at_ number alive master place) = rows_stay t.rows
+  outcome_goes done (ends_one id row current how text at_ number alive is) = any_goes (of_app.OfAttempt (of_attempt.End how)) refl id.app
+  outcome_goes done (loses container row current at_ st number mine) = any_goes (of_app.OfAttempt of_attempt.Lose) refl container.attempt.app
+  outcome_goes done (follows id row current at_ going st decided) =
+      at_goes (changed (of_app.Schedule (next_in t id).number)) id t.rows row at_.found
+      (scheduled_goes (next_in t id).number row (Some current) at_.is (st, ap (λ (n : ℕ). n + 1) (sym (last_ended id row current at_.found at_.is going st))))
+  outcome_goes done (removes id more first many) = rows_stay t.rows
+
+-- the first event of the main queue, in whichever phase
+pub main_goes : (h : History) (t : Tables) (e : MainEvent) (rest : List MainEvent) → Phase h t → t.main ≡ e ∷ rest → RowsFollowTables t.rows (main_worked (main_step e t)).1.rows
+main_goes h t e rest (none n) front = absurd (let x = sym n.main ∙ front in cc)
+main_goes h t e rest (starting s) front =
+    let same : mains.EpochStart ≡ e = (let x = sym s.main ∙ front in cc) in
+    subst (λ (e : MainEvent). RowsFollowTables t.rows (main_worked (main_step e t)).1.rows) same (rows_stay t.rows)
+main_goes h t e rest (saving s) front = absurd (let x = sym s.main ∙ front in cc)
+main_goes h t e rest (shut s) front = absurd (let x = sym s.main ∙ front in cc)
+main_goes h t e rest (running r) front = by e front
+  where
+    by : (e : MainEvent) → t.main ≡ e ∷ rest → RowsFollowTables t.rows (main_worked (main_step e t)).1.rows
+    by mains.EpochStart front = rows_stay t.rows
+    by mains.Retire front = outcome_goes t.settings h t r.whole.keeps (main_step mains.Retire t) (main_outcome t mains.Retire rest front (λ x. cc))
+    by (mains.AppStart id) front = outcome_goes t.settings h t r.whole.keeps (main_step (mains.AppStart id) t) (main_outcome t (mains.AppStart id) rest front (λ x. cc))
+    by (mains.AppSaved id) front = outcome_goes t.settings h t r.whole.keeps (main_step (mains.AppSaved id) t) (main_outcome t (mains.AppSaved id) rest front (λ x. cc))
+    by (mains.AppAccepted id) front = outcome_goes t.settings h t r.whole.keeps (main_step (mains.AppAccepted id) t) (main_outcome t (mains.AppAccepted id) rest front (λ x. cc))
+    by (mains.AppKill id) front = outcome_goes t.settings h t r.whole.keeps (main_step (mains.AppKill id) t) (main_outcome t (mains.AppKill id) rest front (λ x. cc))
+    by (mains.MasterGranted container) front = outcome_goes t.settings h t r.whole.keeps (main_step (mains.MasterGranted container) t) (main_outcome t (mains.MasterGranted container) rest front (λ x. cc))
+    by (mains.AttemptSaved id) front = outcome_goes t.settings h t r.whole.keeps (main_step (mains.AttemptSaved id) t) (main_outcome t (mains.AttemptSaved id) rest front (λ x. cc))
+    by (mains.MasterLost container) front = outcome_goes t.settings h t r.whole.keeps (main_step (mains.MasterLost container) t) (main_outcome t (mains.MasterLost container) rest front (λ x. cc))
+    by (mains.AttemptExpired id) front = outcome_goes t.settings h t r.whole.keeps (main_step (mains.AttemptExpired id) t) (main_outcome t (mains.AttemptExpired id) rest front (λ x. cc))
+    by (mains.AttemptFinish id) front = outcome_goes t.settings h t r.whole.keeps (main_step (mains.AttemptFinish id) t) (main_outcome t (mains.AttemptFinish id) rest front (λ x. cc))
+    by (mains.AttemptDone id) front = outcome_goes t.settings h t r.whole.keeps (main_step (mains.AttemptDone id) t) (main_outcome t (mains.AttemptDone id) rest front (λ x. cc))
+
+-- of the scheduler's
+pub sched_goes : (t : Tables) (e : SchedEvent) (list : List ContainerId) → RowsFollowTables t.rows (sched_worked (sched_step e list t)).1.rows
+sched_goes t e list = by shape.rows
+  where
+    shape : SchedShape t (sched_step e list t)
+    shape = sched_shape t e list
+
+    by : RowsAfter t.rows (sched_step e list t).1.rows → RowsFollowTables t.rows (sched_step e list t).1.rows
+    by (inl same) = subst (RowsFollowTables t.rows) (sym same) (rows_stay t.rows)
+    by (inr (inl closed)) = subst (RowsFollowTables t.rows) (sym closed.1) (told_goes closed.0 t.rows)
+    by (inr (inr granted)) = subst (RowsFollowTables t.rows) (sym granted.1) (granted_goes granted.0 t.rows)
+
+-- an operation is kept
+pub kept_goes : (op : Op) (t : Tables) → RowsFollowTables t.rows (kept op t).rows
+kept_goes (ops.Epoch next stamp) t = rows_stay t.rows
+kept_goes (ops.App id s) t = one_goes (changed of_app.Keep) id t.rows (changed_goes of_app.Keep refl)
+kept_goes (ops.Attempt id master node) t = one_goes (changed (of_app.OfAttempt of_attempt.Keep)) id.app t.rows (changed_goes (of_app.OfAttempt of_attempt.Keep) refl)
+kept_goes (ops.AttemptEnd id how text) t = one_goes (changed (of_app.OfAttempt (of_attempt.KeepEnd how))) id.app t.rows (changed_goes (of_app.OfAttempt (of_attempt.KeepEnd how)) refl)
+kept_goes (ops.AppEnd id how text) t = one_goes (changed (of_app.KeepEnd how)) id t.rows (changed_goes (of_app.KeepEnd how) refl)
+kept_goes (ops.Remove id) t = λ q before now there then. by q before now (is_app id q) (sym (ap (gone_if (is_app id q)) there) ∙ sym (row_gone id q t.rows) ∙ then)
+  where
+    by : (q : AppId) (before now : AppRow) (b : Bool) → gone_if b (Some before) ≡ Some now → RowFollowsTables before now
+    by q before now true e = cc
+    by q before now false e = let same : before ≡ now = cc in subst (RowFollowsTables before) same (row_stays before)
+
+-- MESSAGES
+
+-- what a service does to a row goes as the change that it makes, and only the dialogue and the endings to tell differ
+talked_goes : (row now other : AppRow) → RowFollowsTables row now → other.state ≡ now.state → other.current ≡ now.current → RowFollowsTables row other
+talked_goes row now other goes state current = record { state = subst (AppFollowsTable row.state) (sym state) goes.state; current = subst (CurrentFollowsTable row.current) (sym current) goes.current }
+
+-- a row is put behind the others
+there_still : (id : AppId) (row : AppRow) (rows : List (AppId × Option AppRow)) (q : AppId) (before : AppRow) → row_of rows q ≡ Some before → row_of (rows ++ (id, Some row) ∷ []) q ≡ Some before
+there_still id row [] q before there = cc
+there_still id row (one ∷ rows) q before there = by (is_app q one.0) refl (there_still id row rows q before)
+  where
+    by : (b : Bool) → is_app q one.0 ≡ b → (row_of rows q ≡ Some before → row_of (rows ++ (id, Some row) ∷ []) q ≡ Some before) → row_of ((one ∷ rows) ++ (id, Some row) ∷ []) q ≡ Some before
+    by true e rest = rw e (rw e at there)
+    by false e rest = rw e (rest (rw e at there))
+
+more_goes : (id : AppId) (row : AppRow) (rows : List (AppId × Option AppRow)) → RowsFollowTables rows (rows ++ (id, Some row) ∷ [])
+more_goes id row rows q before now there then = let same : before ≡ now = (let x = sym (there_still id row rows q before there) ∙ then in cc) in subst (RowFollowsTables before) same (row_stays before)
+
+module _ (t : Tables) where
+  still : RowsFollowTables t.rows t.rows
+  still = rows_stay t.rows
+
+  pub master_goes : (attempt : AttemptId) (ask : MasterAsk) (reply : Reply) → RowsFollowTables t.rows (after_master attempt ask reply t).rows
+  master_goes attempt masters.Register replies.MasterRegistered =
+      one_goes (registered_row (begun replies.MasterRegistered)) attempt.app t.rows (λ row. talked_goes row (changed of_app.Register row) (registered_row (begun replies.MasterRegistered) row) (changed_goes of_app.Register refl row) refl refl)
+  master_goes attempt (masters.Finish text) replies.Finishing = by (goes_on (spoken_by attempt (row_of t.rows attempt.app))) refl
+    where
+      by : (b : Bool) → goes_on (spoken_by attempt (row_of t.rows attempt.app)) ≡ b → RowsFollowTables t.rows (after_master attempt (masters.Finish text) replies.Finishing t).rows
+      by true e =
+          rw e
+          (one_goes (said_row (with_text text)) attempt.app t.rows
+          (λ row. talked_goes row (changed (of_app.OfAttempt of_attempt.Finish) row) (said_row (with_text text) row) (changed_goes (of_app.OfAttempt of_attempt.Finish) refl row) refl refl))
+      by false e = rw e still
+  master_goes attempt (masters.Allocate id asks release) (replies.Allocated next grants ended) = by (is_new_to id (spoken_by attempt (row_of t.rows attempt.app))) refl
+    where
+      by : (b : Bool) → is_new_to id (spoken_by attempt (row_of t.rows attempt.app)) ≡ b → RowsFollowTables t.rows (after_master attempt (masters.Allocate id asks release) (replies.Allocated next grants ended) t).rows
+      by true e =
+          rw e
+          (one_goes (told_row (with_answer (id + 1) (replies.Allocated next grants ended)) (without_closings attempt)) attempt.app t.rows
+          (λ row. talked_goes row row (told_row (with_answer (id + 1) (replies.Allocated next grants ended)) (without_closings attempt) row) (row_stays row) refl refl))
+      by false e = rw e still
+  master_goes attempt _ _ = still
+
+  pub client_goes : (ask : ClientAsk) (reply : Reply) → RowsFollowTables t.rows (after_client ask reply t).rows
+  client_goes (clients.Submit id s) replies.Submitted = by (row_of t.rows id) refl
+    where
+      by : (o : Option AppRow) → row_of t.rows id ≡ o → RowsFollowTables t.rows (taken_by o id s t).rows
+      by None e = more_goes id (new_row s) t.rows
+      by (Some row) e = still
+  client_goes (clients.Kill id) replies.Killing = by (row_of t.rows id)
+    where
+      wishes : (row : AppRow) (b : Bool) → row.wish ≡ b → RowsFollowTables t.rows (wished_by (Some row) id t).rows
+      wishes row true e = rw e still
+      wishes row false e = rw e (one_goes (changed of_app.Wish) id t.rows (changed_goes of_app.Wish refl))
+
+      by : (o : Option AppRow) → RowsFollowTables t.rows (wished_by o id t).rows
+      by None = still
+      by (Some row) = wishes row row.wish refl
+  client_goes clients.New (replies.New id) = still
+  client_goes _ _ = still
+
+  pub node_goes : (name : List ℕ) (ask : NodeAsk) (reply : Reply) → RowsFollowTables t.rows (after_node name ask reply t).rows
+  node_goes name ask reply = subst (RowsFollowTables t.rows) (sym (node_rows name ask reply t)) still
+
+  pub clock_goes : (ask : ClockAsk) (reply : Reply) → RowsFollowTables t.rows (after_clock ask reply t).rows
+  clock_goes ask reply = subst (RowsFollowTables t.rows) (sym (clock_rows ask reply t)) still

@@ -1,0 +1,51 @@
+-- How the states of applications and attempts go by a move: along a row of their tables, or not at all. This project's own.
+use Rattle.std.specs.Prelude.{◌≡◌, ◌⊎◌, ℕ, ◌+◌, List, Option, None, Some}
+use Rattle.rm_types.specs.declared.ids.AppId.{AppId}
+use Rattle.rm_app.specs.declared.states.AppState.{AppState}
+use Rattle.rm_app.specs.declared.states.AppEvent.{AppEvent}
+use Rattle.rm_app.specs.declared.states.AppAction.{AppAction}
+use Rattle.rm_app.specs.Table.{Row as AppTableRow}
+use Rattle.rm_attempt.specs.declared.states.AttemptState.{AttemptState}
+use Rattle.rm_attempt.specs.declared.states.AttemptState.TheVariants.{Ended, Scheduled}
+use Rattle.rm_attempt.specs.declared.states.AttemptEvent.{AttemptEvent}
+use Rattle.rm_attempt.specs.declared.states.AttemptAction.{AttemptAction}
+use Rattle.rm_attempt.specs.Table.{Row as AttemptTableRow}
+use Rattle.rm_node.specs.declared.states.NodeState.{NodeState}
+use Rattle.rm_node.specs.declared.states.NodeEvent.{NodeEvent}
+use Rattle.rm_node.specs.declared.states.NodeAction.{NodeAction}
+use Rattle.rm_node.specs.Table.{Row as NodeTableRow}
+use Rattle.rm_tables.specs.declared.nodes.NodeRow.{NodeRow}
+use Rattle.rm_tables.specs.Nodes.{node_of}
+use Rattle.rm_tables.specs.declared.rows.AppRow.{AppRow}
+use Rattle.rm_tables.specs.declared.rows.Current.{Current}
+use Rattle.rm_tables.specs.Rows.{row_of}
+
+-- a state stays, or a row of the table leads from it to the next one
+abbrev pub AppFollowsTable : AppState → AppState → Type 0
+AppFollowsTable before now = (now ≡ before) ⊎ ((event : AppEvent) × (action : AppAction) × AppTableRow before event now action)
+
+abbrev pub AttemptFollowsTable : AttemptState → AttemptState → Type 0
+AttemptFollowsTable before now = (now ≡ before) ⊎ ((event : AttemptEvent) × (action : AttemptAction) × AttemptTableRow before event now action)
+
+-- the current attempt stays the same one, whose state goes so, or it has ended and the next one is scheduled; none is forgotten
+abbrev pub CurrentFollowsTable : Option Current → Option Current → Type 0
+CurrentFollowsTable before None = before ≡ None
+CurrentFollowsTable None (Some now) = now.state ≡ Scheduled
+CurrentFollowsTable (Some before) (Some now) = ((now.number ≡ before.number) × AttemptFollowsTable before.state now.state) ⊎ ((before.state ≡ Ended) × (now.number ≡ before.number + 1) × (now.state ≡ Scheduled))
+
+-- a row of an application after a move
+pub record RowFollowsTables (before now : AppRow) : Type 0 where
+  pub state : AppFollowsTable before.state now.state
+  pub current : CurrentFollowsTable before.current now.current
+
+-- each application that is known before and after a move goes so
+abbrev pub RowsFollowTables : List (AppId × Option AppRow) → List (AppId × Option AppRow) → Type 0
+RowsFollowTables rows next = (id : AppId) (before now : AppRow) → row_of rows id ≡ Some before → row_of next id ≡ Some now → RowFollowsTables before now
+
+-- so does a node's
+abbrev pub NodeFollowsTable : NodeState → NodeState → Type 0
+NodeFollowsTable before now = (now ≡ before) ⊎ ((event : NodeEvent) × (action : NodeAction) × NodeTableRow before event now action)
+
+-- and each node's that is known before and after a move
+abbrev pub NodesFollowTable : List (List ℕ × NodeRow) → List (List ℕ × NodeRow) → Type 0
+NodesFollowTable nodes next = (name : List ℕ) (before now : NodeRow) → node_of nodes name ≡ Some before → node_of next name ≡ Some now → NodeFollowsTable before.state now.state
