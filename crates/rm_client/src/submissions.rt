@@ -1,15 +1,16 @@
-ghost use Rattle.std.specs.Prelude.{◌≡◌, ◌+◌, ◌<◌, ◌^◌, nat_le, IfOk, OnOk, OnErr, None, true, false};
+ghost use Rattle.std.specs.Prelude.{◌≡◌, ◌+◌, ◌<◌, ◌^◌, [], ◌∷◌, ◌++◌, nat_le, IfOk, OnOk, OnErr, None, Some, true, false};
 ghost use Rattle.rm_types.specs.declared.messages.ClientAsk.{ClientAsk};
 ghost use Rattle.rm_model.specs.State.{Scene};
 ghost use Rattle.rm_model.specs.Facts.{has_app, is_known};
 ghost use Rattle.rm_model.specs.ClientReplies.{going, is_given, submit_reply};
+ghost use Rattle.rm_tables.specs.declared.events.MainEvent.{MainEvent as Event};
 ghost use Rattle.rm_tables.specs.Rows.{slot_of};
 ghost use Rattle.rm_client.specs.Answers.{after_client, joined};
 ghost use Rattle.rm_refinement.specs.Clients.{RefinesForClients};
 
 use rm_app::AppState;
 use rm_queues::QueueTree;
-use rm_tables::{AppRow, MainEvent, Tables};
+use rm_tables::{AppRow, MainEvent, Rows, Tables};
 use rm_types::{AclOp, AppId, Duplicate, Items, NoMemory, Reply, Submission};
 
 /// Whether this life or one before it may have given an id.
@@ -62,17 +63,19 @@ fn join(t: &mut Tables, id: AppId, submission: &Submission) -> Result<(), NoMemo
         dialogue: None,
         closings: Items::new(t.alloc),
     };
-    t.main.push(MainEvent::AppStart(id))?;
-    match t.rows.add(id, row) {
-        Ok(()) => {
-            t.going += 1;
-            Ok(())
-        }
-        Err(refused) => {
-            t.main.drop_last();
-            Err(refused)
-        }
-    }
+    t.main.push_made(
+        &mut t.rows,
+        |rows: &mut Rows| -> Result<MainEvent, NoMemory>
+            ensures event { IfOk result (λ made. made ≡ Event.AppStart id) }
+            ensures ok { slot_of rows.old id ≡ None → OnOk result (rows.new ≡ rows.old ++ (id, Some row) ∷ []) }
+            ensures err { OnErr result (rows.new ≡ rows.old) }
+        {
+            rows.add(id, row)?;
+            Ok(MainEvent::AppStart(id))
+        },
+    )?;
+    t.going += 1;
+    Ok(())
 }
 
 /// A submission is answered; where it is taken and its application isn't known, it joins.

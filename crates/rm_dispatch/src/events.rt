@@ -1,6 +1,8 @@
-ghost use Rattle.std.specs.Prelude.{◌≡◌, ◌+◌, ◌<◌, ◌^◌, length, None, IfOk, OnErr};
+ghost use Rattle.std.specs.Prelude.{◌≡◌, ◌+◌, ◌<◌, ◌^◌, [], ◌∷◌, ◌++◌, length, None, IfOk, OnOk, OnErr};
+ghost use Rattle.rm_types.specs.declared.operations.Op.{Op as Issued};
 ghost use Rattle.rm_model.specs.Facts.{attempts_in};
 ghost use Rattle.rm_model.specs.Issuing.{killed_text as text_of_kill};
+ghost use Rattle.rm_tables.specs.declared.events.MainEvent.{MainEvent as Event};
 ghost use Rattle.rm_tables.specs.Actions.{ends_app, found_in};
 ghost use Rattle.rm_tables.specs.MainEvents.{epoch_start, start_of_row, save_of_row, accept_of_row, kill_of_attempt_state, kill_of_state, kill_of_row, removal_of_first};
 ghost use Rattle.rm_tables.specs.Rows.{row_of};
@@ -9,7 +11,7 @@ use crate::ends::{end_app, kill_attempt, killed_text, schedule};
 use rm_app::AppState;
 use rm_attempt::AttemptState;
 use rm_tables::{MainEvent, RowChange, SchedEvent, Tables};
-use rm_types::{AppId, AttemptId, Boxed, Duplicate, Entry, How, Lane, NoMemory, Op};
+use rm_types::{AppId, AttemptId, Boxed, Duplicate, Entry, How, Lane, NoMemory, Op, Queue};
 
 /// An event had nothing to do.
 pub fn quiet() -> Entry
@@ -170,11 +172,17 @@ pub fn retire(t: &mut Tables) -> Result<Entry, NoMemory>
         return Ok(quiet());
     }
     let op = Boxed::new(t.alloc, Op::Remove { id })?;
-    t.awaiting.push(Op::Remove { id })?;
-    if t.main.push(MainEvent::Retire).is_err() {
-        t.awaiting.drop_last();
-        return Err(NoMemory);
-    }
+    t.awaiting.push_made(
+        &mut t.main,
+        |main: &mut Queue<MainEvent>| -> Result<Op, NoMemory>
+            ensures op { IfOk result (λ made. made ≡ Issued.Remove id) }
+            ensures ok { OnOk result (main.new ≡ main.old ++ Event.Retire ∷ []) }
+            ensures err { OnErr result (main.new ≡ main.old) }
+        {
+            main.push(MainEvent::Retire)?;
+            Ok(Op::Remove { id })
+        },
+    )?;
     let _ = t.ended.take_first();
     Ok(Entry::Issued { op })
 }

@@ -2,7 +2,7 @@ ghost use Rattle.std.specs.Prelude.{◌≡◌, ◌&&◌, ◌==◌, option_map, t
 ghost use Rattle.std.specs.Option.{option_copied};
 ghost use Rattle.rm_model.specs.Issuing.{expired_text as text_of_expiry, lost_text as text_of_loss};
 ghost use Rattle.rm_tables.specs.Actions.{ends_attempt};
-ghost use Rattle.rm_tables.specs.MainEvents.{expiry_of_row, finish_of_row, finishing_in, grant_of_row, grant_of_place, is_alive, is_master_of, launch_of_master, launch_of_row, launch_of_tests, is_living_one, loss_of_state, loss_of_row, node_at};
+ghost use Rattle.rm_tables.specs.MainEvents.{expiry_of_row, finish_of_row, finishing_in, grant_of_row, grant_of_place, is_master_of, launch_of_master, launch_of_row, launch_of_tests, is_living_one, loss_of_state, loss_of_row, node_at};
 ghost use Rattle.rm_tables.specs.Rows.{row_of};
 
 use crate::ends::{end_attempt, killed_text, requeue};
@@ -11,21 +11,11 @@ use rm_attempt::AttemptState;
 use rm_tables::{AppRow, AttemptChange, Current, RowChange, Tables};
 use rm_types::{AttemptId, Boxed, ContainerId, Duplicate, Entry, How, NoMemory, Op, Text};
 
-/// Whether an attempt lives.
-fn is_alive(state: AttemptState) -> bool
-    ensures { result ≡ is_alive state }
-{
-    match state {
-        AttemptState::Live | AttemptState::Registered | AttemptState::Finishing => true,
-        _ => false,
-    }
-}
-
 /// Whether the current attempt is this one and lives.
 fn lives_as(id: AttemptId, current: Current) -> bool
     ensures { result ≡ is_living_one id current }
 {
-    current.number == id.number && is_alive(current.state)
+    current.number == id.number && current.state.is_alive()
 }
 
 /// Whether the container is the master's that the current attempt has.

@@ -1,5 +1,5 @@
 -- The first event of a queue.
-use Rattle.std.proofs.Common.{◌≡◌, List, [], ◌∷◌, Option, Some, drop, slice_get, refl, sym, ◌∙◌}
+use Rattle.std.proofs.Common.{◌≡◌, List, [], ◌∷◌, Some, drop, slice_get, refl, sym, ◌∙◌}
 use Rattle.rm_tables.specs.declared.events.SchedEvent.{SchedEvent}
 
 -- a queue whose first event, once copied, is this one

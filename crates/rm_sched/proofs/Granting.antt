@@ -1,7 +1,6 @@
 -- Lists that a pass goes over, and what it grants.
-use Rattle.std.proofs.Common.{◌≡◌, ◌≢◌, ◌≤◌, ◌<◌, ℕ, ◌+◌, ◌-◌, ◌^◌, nat_le, nat_lt, List, [], ◌∷◌, ◌++◌, Bool, true, false, not, Option, None, Some, is_some, is_none, map, filter, option_map, take, slice_get, refl, sym, ◌∙◌, ap, subst, arith, append-nil, Bor}
-use Rattle.std.specs.Prelude.{find, if◌then◌else◌, IsSomeAnd, IfOk}
-use Rattle.std.specs.List.{list_all}
+use Rattle.std.proofs.Common.{◌≡◌, ◌≤◌, ℕ, ◌+◌, ◌^◌, nat_le, nat_lt, List, [], ◌∷◌, ◌++◌, Bool, true, false, not, Option, None, Some, is_some, is_none, map, filter, option_map, take, slice_get, refl, sym, ◌∙◌, ap, arith, Bor}
+use Rattle.std.specs.Prelude.{find, if◌then◌else◌, IsSomeAnd}
 use Rattle.std.specs.Option.{option_copied}
 use Rattle.std.proofs.lemmas.Bool.{false≢true}
 use Rattle.std.proofs.lemmas.Bool.Decides.{nat_tests}

@@ -1,3 +1,3 @@
-pub mod Reopened
+pub mod Listed
 pub mod Granting
 pub mod Fronted

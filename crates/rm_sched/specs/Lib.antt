@@ -1,1 +1,2 @@
 pub mod CanWork
+pub mod ClosingLists

@@ -11,7 +11,8 @@ ghost use Rattle.rm_tables.specs.SchedEvents.{EndsAbsorbed};
 ghost use Rattle.rm_sched.specs.CanWork.{CanAbsorb};
 
 use crate::asking::quiet;
-use crate::leaving::{Report, close_and_absorb, closings_of, drop_many, losts_of, post_all};
+use crate::closing_lists::{closing_lists, set_lists};
+use crate::leaving::{closings_of, losts_of};
 use crate::records::is_current;
 use rm_book::Book;
 use rm_node::NodeState;
@@ -175,17 +176,11 @@ fn take_in(
 {
     let losts = losts_of(t.alloc, &t.tree, ended)?;
     let closings = closings_of(t.alloc, &t.tree, Cause::Gone, ended)?;
-    post_all(&mut t.main, losts.as_slice())?;
-    let report = Report {
-        name,
-        capability,
-        taken,
-        ended,
-    };
-    if close_and_absorb(&mut t.rows, &mut t.book, closings.as_slice(), &report).is_err() {
-        drop_many(&mut t.main, losts.as_slice());
-        return Err(NoMemory);
-    }
+    let lists = closing_lists(t.alloc, &t.rows, closings.as_slice())?;
+    let posts = losts.as_slice();
+    t.book
+        .absorb(name, capability, taken, ended, &mut t.main, posts)?;
+    set_lists(&mut t.rows, lists);
     unlaunch_on(&mut t.nodes, name, ended);
     t.nodes.change(name, NodeChange::Absorb);
     Ok(())

@@ -9,6 +9,7 @@
 
 mod absorbing;
 mod asking;
+mod closing_lists;
 mod ending;
 mod fronts;
 mod leaving;

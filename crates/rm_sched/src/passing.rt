@@ -12,7 +12,6 @@ ghost use Rattle.rm_tables.specs.Rows.{row_of};
 ghost use Rattle.rm_sched.specs.CanWork.{AreFew, CanPass, GrantsFit};
 
 use crate::asking::quiet;
-use crate::leaving::{drop_many, post_all};
 use rm_attempt::AttemptState;
 use rm_book::Asks;
 use rm_fit::first_fit;
@@ -206,11 +205,8 @@ fn grant_all(t: &mut Tables, name: &Text, grants: &Items<Grant>) -> Result<(), N
         return Ok(());
     }
     let events = masters_granted(t.alloc, &t.rows, grants.as_slice())?;
-    post_all(&mut t.main, events.as_slice())?;
-    if t.book.add_grants(name, grants).is_err() {
-        drop_many(&mut t.main, events.as_slice());
-        return Err(NoMemory);
-    }
+    t.book
+        .add_grants(name, grants, &mut t.main, events.as_slice())?;
     take_grants(&mut t.asks, &mut t.rows, grants.as_slice());
     Ok(())
 }

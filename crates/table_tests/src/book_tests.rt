@@ -5,7 +5,7 @@ ghost use Rattle.rm_book.specs.Books.{empty_book, set_node_in};
 use crate::helpers::{FIRST, SECOND, ask, size, text, wants, wants_words};
 use rm_book::{Asks, Book, BookError};
 use rm_types::{
-    Ask, AttemptId, ContainerId, ContainerState, Duplicate, Grant, Items, Resource, Text,
+    Ask, AttemptId, ContainerId, ContainerState, Duplicate, Grant, Items, Queue, Resource, Text,
 };
 use std::alloc::Global;
 use std::process::Abort;
@@ -235,7 +235,10 @@ fn entered<R: Abort>(rt: &R, alloc: Global) -> Book {
     let mut grants = Items::new(alloc);
     push(rt, &mut grants, container(FIRST, 1), &node, size(1024, 1));
     push(rt, &mut grants, container(SECOND, 1), &node, size(2048, 2));
-    book.add_grants(&node, &grants).expect(rt, "memory");
+    let mut posts: Queue<u32> = Queue::new(alloc);
+    book.add_grants(&node, &grants, &mut posts, &[1, 2])
+        .expect(rt, "memory");
+    wants(rt, posts.len() == 2);
     book
 }
 

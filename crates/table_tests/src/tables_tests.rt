@@ -72,6 +72,10 @@ fn a_row_is_found_until_it_is_retired(rt: HostRuntime) {
     };
     rows.add(id, new_row(alloc)).expect(&rt, "memory");
     rows.change(id, RowChange::Schedule { number: 1 });
+    wants(&rt, is_in_state(&rows, id, AppState::New));
+    rows.change(id, RowChange::Issue);
+    rows.change(id, RowChange::Keep);
+    rows.change(id, RowChange::Schedule { number: 1 });
     wants(&rt, is_in_state(&rows, id, AppState::Accepted));
     rows.remove(id);
     wants(&rt, rows.find(id).is_none());

@@ -1,4 +1,4 @@
-use Rattle.std.proofs.Common.{◌≡◌, refl}
+use Rattle.std.proofs.Common.{refl}
 use Rattle.rm_sched.proofs.absorbing.absorb.Goals as goal
 
 pub take_in-requires-clause-fit : goal.take_in-requires-clause-fit

@@ -1,4 +1,4 @@
-use Rattle.std.proofs.Common.{◌≡◌, ◌∙◌, sym}
+use Rattle.std.proofs.Common.{◌∙◌, sym}
 use Rattle.std.proofs.lemmas.List.Sums.{fold_more}
 use Rattle.rm_tables.specs.Absorbing.{unlaunched_here}
 use Rattle.rm_sched.proofs.absorbing.unlaunch_on.Goals as goal

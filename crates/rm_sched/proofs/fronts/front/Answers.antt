@@ -1,5 +1,4 @@
-use Rattle.std.proofs.Common.{◌≡◌, ◌∙◌, ap, Some, drop}
-use Rattle.rm_tables.specs.declared.events.SchedEvent.{SchedEvent}
+use Rattle.std.proofs.Common.{◌≡◌, ◌∙◌, ap, drop}
 use Rattle.rm_tables.specs.declared.events.SchedEvent.TheVariants.{NodeAdded, NodeUpdate}
 use Rattle.rm_tables.specs.Actions.{sched_worked}
 use Rattle.rm_sched.proofs.Fronted.{front_is}

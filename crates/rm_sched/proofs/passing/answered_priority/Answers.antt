@@ -1,8 +1,7 @@
-use Rattle.std.proofs.Common.{◌≡◌, ◌∙◌, Option, None, Some, List, [], ◌∷◌, map, option_map, refl, ap}
+use Rattle.std.proofs.Common.{◌∙◌, List, option_map, ap}
 use Rattle.std.specs.Prelude.{find}
 use Rattle.rm_types.specs.declared.containers.Ask.{Ask}
-use Rattle.rm_types.specs.Passes.{by_priority}
-use Rattle.rm_book.specs.AskTables.{asks_of, some_asks}
+use Rattle.rm_book.specs.AskTables.{asks_of}
 use Rattle.rm_model.specs.Containers.{is_size}
 use Rattle.rm_sched.proofs.Granting.{found_line, lines_are}
 use Rattle.rm_sched.proofs.passing.answered_priority.Goals as goal

@@ -1,5 +1,3 @@
-use Rattle.std.proofs.Common.{◌≡◌, true, sym, ◌∙◌}
-use Rattle.rm_fit.specs.Conditions.{are_early}
 use Rattle.rm_sched.proofs.Granting.{early_is}
 use Rattle.rm_sched.proofs.passing.fitted.Goals as goal
 

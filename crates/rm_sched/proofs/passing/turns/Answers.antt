@@ -1,4 +1,4 @@
-use Rattle.std.proofs.Common.{◌≡◌, ◌∙◌, sym}
+use Rattle.std.proofs.Common.{◌∙◌, sym}
 use Rattle.rm_sched.proofs.Granting.{turns_more}
 use Rattle.rm_sched.proofs.passing.turns.Goals as goal
 

@@ -7,7 +7,7 @@ use Rattle.rm_book.proofs.Taken.{absorbed_rows, taken_lawful}
 use Rattle.rm_book.proofs.book.Book.absorb.Goals as goal
 
 pub returns-clause-ok : goal.returns-clause-ok
-returns-clause-ok c =
+returns-clause-ok g c =
     let book : BookOf = record { rows = c.self.inside.rows.items; nodes = c.self.inside.nodes.items; added = c.self.inside.added } in
     let ok : is_ok c.append.result ≡ true = search rules in
     let left = filter_same _ (λ row. not (list_any (λ id. is_container id row.id) c.args.ended.now)) _ (λ x b q t. search rules) _ _ c.retain.ensures.filtered in
@@ -17,14 +17,14 @@ returns-clause-ok c =
     let joined = rw ok at c.append.ensures.items in
     let ran = rw c.as_mut_slice.ensures.value at c.run_taken.ensures in
     let rows = absorbed_rows book c.args.node.now c.args.capability c.args.taken.now c.args.ended.now _ _ _ _ c.append.new.self.len stayed made joined ran (omega (arith, c.append.new.self.ok.0)) in
-    let nodes = c.in_ok-put_capability.ensures.ok in
+    let nodes = rw (c.in_ok-name.ensures.name, c.node_room.ensures.same) at c.put_capability.ensures in
     let before = rw c.len.ensures at c.in-Some.ensures.1 in
     let many = ap length entered in
     let counted : c.in-Some.added ≡ book.added + length (entering book c.args.taken.now) = omega (arith, before, many, c.in_ok-entering.entering.ok.0) in
     rw (← c.self.view_is) (rw (rows, nodes, counted) refl)
 
 pub invariant_of-self-2 : goal.invariant_of-self-2
-invariant_of-self-2 c =
+invariant_of-self-2 g c =
     let book : BookOf = record { rows = c.self.inside.rows.items; nodes = c.self.inside.nodes.items; added = c.self.inside.added } in
     let ok : is_ok c.append.result ≡ true = search rules in
     let left = filter_same _ (λ row. not (list_any (λ id. is_container id row.id) c.args.ended.now)) _ (λ x b q t. search rules) _ _ c.retain.ensures.filtered in
@@ -34,7 +34,7 @@ invariant_of-self-2 c =
     let joined = rw ok at c.append.ensures.items in
     let ran = rw c.as_mut_slice.ensures.value at c.run_taken.ensures in
     let rows = absorbed_rows book c.args.node.now c.args.capability c.args.taken.now c.args.ended.now _ _ _ _ c.append.new.self.len stayed made joined ran (omega (arith, c.append.new.self.ok.0)) in
-    let nodes = c.in_ok-put_capability.ensures.ok in
+    let nodes = rw (c.in_ok-name.ensures.name, c.node_room.ensures.same) at c.put_capability.ensures in
     let before = rw c.len.ensures at c.in-Some.ensures.1 in
     let many = ap length entered in
     let counted : c.in-Some.added ≡ book.added + length (entering book c.args.taken.now) = omega (arith, before, many, c.in_ok-entering.entering.ok.0) in
