@@ -1,11 +1,9 @@
 use rm_cluster::ClusterFault;
+use rm_plain::{Letter, MOST_SCHEDULED, letter_of};
 use rm_script::ScriptFault;
 use rm_types::Lane;
 use std::alloc::Global;
-use std::fmt;
-
-/// How many bytes of a schedule may have letters.
-const MOST_SCHEDULED: u64 = 16_777_216;
+use thiserror::Error;
 
 /// Why the bytes of a cluster file are refused at a place, as what should stand there. Of no bytes it is the place's rule.
 pub fn cluster_hint(alloc: Global, bytes: &[u8], place: u32) -> ClusterFault {
@@ -22,35 +20,23 @@ pub fn script_hint(alloc: Global, bytes: &[u8], line: u32) -> ScriptFault {
 }
 
 /// Why a run can't follow a schedule at a letter.
-#[derive(Clone, Copy, Debug, PartialEq, Eq)]
+#[derive(Clone, Copy, Debug, PartialEq, Eq, Error)]
 pub enum ScheduleFault {
     /// The byte is no letter.
+    #[error("expected one of the letters c m n k d s h w e o p, found `{}`", .byte.escape_ascii())]
     Unknown { byte: u8 },
     /// It stands past the bytes that may have letters.
+    #[error("expected at most {MOST_SCHEDULED} bytes, and the run is not at its end behind them")]
     TooLong,
     /// The letter's lane isn't ready.
+    #[error("the lane isn't ready: it is {}", lane_text(*.lane))]
     NotReady { lane: Lane },
     /// No life stands that has a segment left, for the plain policy to move it.
+    #[error("the plain policy isn't ready: it is `p`, where a life stands and has a segment left")]
     NoSegment,
     /// The bytes don't tell it.
+    #[error("expected the letter of a lane that is ready")]
     Untold,
-}
-
-/// The lane of a letter.
-fn lane_of(letter: u8) -> Option<Lane> {
-    match letter {
-        b'c' => Some(Lane::Client),
-        b'm' => Some(Lane::Master),
-        b'n' => Some(Lane::Node),
-        b'k' => Some(Lane::Clock),
-        b'd' => Some(Lane::Main),
-        b's' => Some(Lane::Sched),
-        b'h' => Some(Lane::Hand),
-        b'w' => Some(Lane::Write),
-        b'e' => Some(Lane::End),
-        b'o' => Some(Lane::Begin),
-        _ => None,
-    }
 }
 
 /// What a lane is, by its letter, and when it is ready.
@@ -73,30 +59,6 @@ fn lane_text(lane: Lane) -> &'static str {
     }
 }
 
-impl fmt::Display for ScheduleFault {
-    fn fmt<W: fmt::Write>(&self, f: &mut fmt::Formatter<W>) -> fmt::Result {
-        match self {
-            ScheduleFault::Unknown { byte } => write!(
-                f,
-                "expected one of the letters c m n k d s h w e o p, found `{}`",
-                (*byte).escape_ascii()
-            ),
-            ScheduleFault::TooLong => write!(
-                f,
-                "expected at most {MOST_SCHEDULED} bytes, and the run is not at its end behind them"
-            ),
-            ScheduleFault::NotReady { lane } => {
-                write!(f, "the lane isn't ready: it is {}", lane_text(*lane))
-            }
-            ScheduleFault::NoSegment => write!(
-                f,
-                "the plain policy isn't ready: it is `p`, where a life stands and has a segment left"
-            ),
-            ScheduleFault::Untold => write!(f, "expected the letter of a lane that is ready"),
-        }
-    }
-}
-
 /// Why a run was stopped at this byte of a schedule, counted from 0.
 pub fn schedule_hint(bytes: &[u8], place: u64) -> ScheduleFault {
     let letter = match usize::try_from(place) {
@@ -106,10 +68,10 @@ pub fn schedule_hint(bytes: &[u8], place: u64) -> ScheduleFault {
     match letter {
         None => ScheduleFault::Untold,
         Some(_) if place >= MOST_SCHEDULED => ScheduleFault::TooLong,
-        Some(b'p') => ScheduleFault::NoSegment,
-        Some(byte) => match lane_of(*byte) {
-            Some(lane) => ScheduleFault::NotReady { lane },
-            None => ScheduleFault::Unknown { byte: *byte },
+        Some(byte) => match letter_of(*byte) {
+            Letter::Plain => ScheduleFault::NoSegment,
+            Letter::Moves(lane) => ScheduleFault::NotReady { lane },
+            Letter::Unknown => ScheduleFault::Unknown { byte: *byte },
         },
     }
 }

@@ -1,5 +1,6 @@
 //! What is told on standard error of a call that wasn't Done.
 use rm_disk::FileCause;
+use rm_plain::Stop;
 use rm_types::Outcome;
 use std::fmt::{Display, Formatter};
 use std::{fmt, io};
@@ -102,33 +103,37 @@ impl<H: Display> Display for Message<'_, H> {
     }
 }
 
-/// The same where the output, the device, its store or memory stopped the call.
+/// Why the run of a call stopped, where the store's device, the store or memory stopped it.
+fn stop_of(outcome: Outcome) -> Option<Stop> {
+    match outcome {
+        Outcome::DiskFault => Some(Stop::DiskFault),
+        Outcome::StoreDamaged { offset } => Some(Stop::Damaged { offset }),
+        Outcome::StoreFull { needed, room } => Some(Stop::Full { needed, room }),
+        Outcome::EpochsSpent => Some(Stop::EpochsSpent),
+        Outcome::Memory => Some(Stop::Memory),
+        _ => None,
+    }
+}
+
+/// The same where the output or the run stopped the call. A fault of the device or the store names the device.
 fn write_stop<W: fmt::Write>(
     f: &mut Formatter<W>,
     outcome: Outcome,
     device: &str,
     cause: Cause<'_>,
 ) -> fmt::Result {
-    match outcome {
-        Outcome::WriteFault {
-            took_nothing: false,
-        } => write!(f, "the page could not be written{cause}"),
-        Outcome::WriteFault { took_nothing: true } => {
+    if let Outcome::WriteFault { took_nothing } = outcome {
+        return if took_nothing {
             f.write_str("the output takes nothing of the page")
-        }
-        Outcome::DiskFault => write!(f, "the store's device, {device}, failed{cause}"),
-        Outcome::StoreDamaged { offset } => {
-            write!(
-                f,
-                "{device} holds no store: it is damaged at offset {offset}"
-            )
-        }
-        Outcome::StoreFull { needed, room } => write!(
-            f,
-            "the store in {device} is full: {needed} bytes are needed, {room} are left"
-        ),
-        Outcome::EpochsSpent => f.write_str("no epoch, or no stamp, is left for one more life"),
-        _ => f.write_str("out of memory"),
+        } else {
+            write!(f, "the page could not be written{cause}")
+        };
+    }
+    match stop_of(outcome) {
+        Some(stop @ Stop::DiskFault) => write!(f, "{device}: {stop}{cause}"),
+        Some(stop @ (Stop::Damaged { .. } | Stop::Full { .. })) => write!(f, "{device}: {stop}"),
+        Some(stop) => write!(f, "{stop}"),
+        None => Ok(()),
     }
 }
 

@@ -84,6 +84,8 @@ impl<D: Disk, R: Eprint> Disk for Watched<'_, D, R> {
 
     ghost keeps_on = { λ one two x y z xy yz. D.keeps_on one two x y z xy yz };
 
+    ghost counted = { λ w. D.counted w };
+
     ghost faulted = { λ w v. D.faulted w v };
 
     ghost falls_to = { λ image w v. D.falls_to image w v };

@@ -200,6 +200,7 @@ module _ {D : Type 0} (view : D → DiskView) where
           time = λ opening k has.
               leaves_of (seen view disk) (seen view store.disk) (seen view disk).images (HoldsWithin opening core.log)
               (λ image is. after_within opening core.log image (holds_kept (state_after opening core.log) image (has.images image is))) o.quiet.time;
+          quiet = o.quiet;
         }
 
   -- what was done before a part of a run, in which the store wrote nothing

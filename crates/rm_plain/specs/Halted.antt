@@ -13,7 +13,7 @@ stop_of (halts.Full needed room) = Full needed room
 stop_of (halts.Schedule place) = Schedule place
 stop_of halts.Memory = Memory
 
--- what halts a life where an append is refused by a store that isn't broken
+-- what halts a life where an append is refused by a store that isn't broken: its device failed or is full, or memory ran out
 abbrev pub halt_of : StoreError → Halt
 halt_of store.DiskFault = halts.DiskFault
 halt_of (store.Full needed room) = halts.Full needed room

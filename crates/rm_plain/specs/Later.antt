@@ -41,12 +41,13 @@ pub record IsFirst {D : Type 0} (view : D → DiskView) (disk : Fused D) (store 
   pub kept : (bytes : List ℕ) → (seen view disk).told ≡ Some bytes → DeviceHolds bytes opening × EachImage (seen view store.disk) (λ image. DeviceHolds image opening)
   pub quiet : IsQuiet (seen view disk) (seen view store.disk)
 
--- the store of a later life, over what the last one left
+-- the store of a later life, over what the last one left: its disk shows what it showed, so that nothing is taken off it between two lives
 pub record IsAgain {D : Type 0} (view : D → DiskView) (core : Seen) (disk : Fused D) (store : StoreState D) (tree : Records) : Type 0 where
   pub ready : IsReady view disk store tree
   pub left : (opening : List Op) → StandsFor opening core → IsLeft tree (state_after opening core.log)
   pub found : (opening : List Op) → StandsFor opening core → IsKeptOn opening core.log (seen view disk) → IsFoundOn opening core tree (seen view store.disk)
   pub time : (opening : List Op) → StandsFor opening core → IsKeptOn opening core.log (seen view disk) → Leaves (seen view disk) (seen view store.disk) (HoldsWithin opening core.log)
+  pub quiet : IsQuiet (seen view disk) (seen view store.disk)
 
 -- no life stands, and one is left in the script
 pub record IsDueAt (d : DeskView) : Type 0 where

@@ -15,6 +15,7 @@ use Rattle.rm_desk.specs.Lanes.{is_ready_at}
 use Rattle.rm_desk.specs.View.{DeskView}
 use Rattle.rm_plain.specs.declared.halts.Halt.{Halt}
 use Rattle.rm_plain.specs.declared.halts.Halt.TheVariants as halts
+use Rattle.rm_plain.specs.declared.schedule.TheConstants.{MOST_SCHEDULED}
 use Rattle.rm_plain.specs.declared.schedule.Letter.{Letter}
 use Rattle.rm_plain.specs.declared.schedule.Letter.TheVariants.{Moves, Plain, Unknown}
 use Rattle.rm_plain.specs.declared.schedule.Step.{Step}
@@ -23,7 +24,7 @@ use Rattle.rm_plain.specs.Policy.{first_ready, policy, run_after}
 
 -- how many bytes of a schedule may have letters
 abbrev pub most_scheduled : ℕ
-most_scheduled = 16777216
+most_scheduled = MOST_SCHEDULED
 
 -- a letter for a lane, if there is one
 abbrev pub of_lane : Option Lane → Letter

@@ -21,7 +21,7 @@ use Rattle.rm_plain.specs.Halted.{stop_of}
 use Rattle.rm_plain.specs.Keeping.{HaltsOver, KeepsOn, Serves}
 use Rattle.rm_plain.specs.declared.lives.LifeEnd.{LifeEnd}
 use Rattle.rm_plain.specs.declared.lives.LifeEnd.TheVariants.{Rest, Down}
-use Rattle.rm_plain.specs.Stops.{IsNoStore}
+use Rattle.rm_plain.specs.Stops.{IsNoStore, HasNoneLeft}
 
 -- the fuse fell only while it was armed, and its disk has its size and no fewer faults
 pub record DiskStays {D : Type 0} (view : D → DiskView) (old new : Fused D) : Type 0 where
@@ -61,9 +61,9 @@ pub record IsGivenBack {D : Type 0} (view : D → DiskView) (old new : Fused D) 
   pub falls : new.falls ≡ old.falls
   pub at_ease : IsAtEase new
 
--- why no life can begin over a tree: no epoch or no stamp is left
+-- why no life can begin over a tree
 abbrev pub IsRefusedBy : Records → Stop → Type 0
-IsRefusedBy tree EpochsSpent = (2 ^ 24 ≤ tree.next_epoch) ⊎ (2 ^ 63 - 1 ≤ tree.stamp)
+IsRefusedBy tree EpochsSpent = HasNoneLeft tree
 IsRefusedBy tree _ = ⊥
 
 -- where lives began over this, and this was found on their disk before, what is kept after them is there

@@ -1,7 +1,8 @@
 -- Why a run stopped before its script's end.
-use Rattle.std.specs.Prelude.{◌≡◌, ◌≢◌, ◌⊎◌, ◌-◌, ◌^◌, ◌≤◌, ℕ, List, [], None, Some}
+use Rattle.std.specs.Prelude.{◌≡◌, ◌≢◌, ◌⊎◌, ◌-◌, ◌≤◌, ℕ, List, [], None, Some}
 use Rattle.rm_types.specs.declared.entries.Entry.{Entry}
 use Rattle.rm_types.specs.declared.operations.Op.{Op}
+use Rattle.rm_types.specs.declared.limits.TheConstants.{EPOCHS, STAMPS}
 use Rattle.rm_types.specs.Counts.{Rose}
 use Rattle.rm_types.specs.Records.{Records}
 use Rattle.rm_types.specs.declared.scripts.Script.{Script}
@@ -26,9 +27,13 @@ IsNoStore offset bytes = IsWhy bytes (store.Damaged offset) ⊎ ((number : ℕ) 
 abbrev pub IsDamaged : DiskView → List Op → List Entry → ℕ → Type 0
 IsDamaged disk opening log offset = IfTold disk (λ bytes. (log ≡ []) × (opening ≡ []) × IsNoStore offset bytes)
 
+-- no epoch or no stamp is left for one more life over a tree
+abbrev pub HasNoneLeft : Records → Type 0
+HasNoneLeft tree = (EPOCHS ≤ tree.next_epoch) ⊎ (STAMPS - 1 ≤ tree.stamp)
+
 -- no epoch or no stamp is left for one more life over what the last one left
 abbrev pub NoneLeft : List Op → List Entry → Type 0
-NoneLeft opening log = (tree : Records) × IsLeft tree (state_after opening log) × ((2 ^ 24 ≤ tree.next_epoch) ⊎ (2 ^ 63 - 1 ≤ tree.stamp))
+NoneLeft opening log = (tree : Records) × IsLeft tree (state_after opening log) × HasNoneLeft tree
 
 -- the disk held the opening list, and no epoch or no stamp is left for one more life
 abbrev pub IsSpent : DiskView → List Op → List Entry → Type 0

@@ -28,7 +28,8 @@ pub use laws::law_opens_again;
 pub use lives::{LifeEnd, run_life};
 pub use order::Ordered;
 pub use runs::{Run, run_script};
-pub use schedule::{Letter, Schedule, Step};
+pub use schedule::{Letter, MOST_SCHEDULED, Schedule, Step, letter_of};
 pub use starts::{
     Lived, Unfounded, Unopened, begin_life, leave, open_again, open_first, stop_at_open,
 };
+pub use storing::halt_of;

@@ -5,11 +5,12 @@ ghost use Rattle.rm_plain.specs.Schedule.{Stops, chosen, left_of, letter_at, let
 use crate::halts::Halt;
 use crate::policy::first_ready;
 use rm_desk::Desk;
+use rm_formats::MOST_FILE_BYTES;
 use rm_types::Lane;
 use std::marker::Model;
 
 /// How many bytes of a schedule may have letters. This project's own.
-const MOST_SCHEDULED: u64 = 16_777_216;
+pub const MOST_SCHEDULED: u64 = MOST_FILE_BYTES as u64;
 
 /// What a letter of a schedule asks for.
 #[derive(Clone, Copy, Debug, PartialEq, Eq)]
@@ -51,9 +52,9 @@ impl<'a> Model for Schedule<'a> {
     ghost invariant = { λ s. s.place + length s.rest.now ≤ 2 ^ 63 };
 }
 
-/// The letter that a byte is.
+/// The letter that a byte is, where it doesn't stand past the most that may have one.
 #[tactic(auto, unfolding(crate::specs::Schedule::letter_of))]
-fn letter_of(byte: u8) -> Letter
+pub fn letter_of(byte: u8) -> Letter
     ensures { result ≡ letter_of byte }
 {
     match byte {

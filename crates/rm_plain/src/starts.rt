@@ -32,7 +32,7 @@ use rm_desk::Desk;
 use rm_disk::{Disk, Fuse};
 use rm_store::{OpenFail, Store, StoreError};
 use rm_tree::Tree;
-use rm_types::{Items, Lane, NoMemory, Op};
+use rm_types::{EPOCHS, Items, Lane, NoMemory, Op, STAMPS};
 use std::alloc::Global;
 
 /// Why no store was opened, and its disk.
@@ -87,11 +87,11 @@ pub(crate) fn open<D: Disk>(
 
 /// Whether a life can begin over a tree: an epoch and a stamp must be left.
 pub(crate) fn can_begin(tree: &Tree) -> Result<(), Stop>
-    ensures epoch { OnOk result (tree.now.next_epoch < 2 ^ 24) }
-    ensures stamp { OnOk result (tree.now.stamp < 2 ^ 63 - 1) }
+    ensures epoch { OnOk result (tree.now.next_epoch < EPOCHS) }
+    ensures stamp { OnOk result (tree.now.stamp < STAMPS - 1) }
     ensures refused { IfErr result (IsRefusedBy tree.now) }
 {
-    if tree.next_epoch() >= 1 << 24 || tree.stamp() >= (1 << 63) - 1 {
+    if tree.next_epoch() >= EPOCHS || tree.stamp() >= STAMPS - 1 {
         return Err(Stop::EpochsSpent);
     }
     Ok(())

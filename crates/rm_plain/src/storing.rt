@@ -1,6 +1,7 @@
 ghost use Rattle.std.specs.Prelude.{◌≡◌, ◌<◌, List, [], OnOk, OnErr, IfErr, None, Some, true, false};
 ghost use Rattle.rm_types.specs.declared.messages.Lane.{Lane};
 ghost use Rattle.rm_types.specs.declared.operations.Op.{Op as AnyOp};
+ghost use Rattle.rm_store.specs.Errors.{IsWriteError};
 ghost use Rattle.rm_store.specs.Store.{StoreInvariant as IsStoreSound, seen};
 ghost use Rattle.rm_core.specs.Words.{is_blown, stands};
 ghost use Rattle.rm_desk.specs.Lanes.{is_ready_at};
@@ -20,14 +21,18 @@ use rm_disk::Disk;
 use rm_store::{Store, StoreError};
 use rm_types::Close;
 
-/// The halt that an append makes which a whole store refused.
-fn halt_of(error: StoreError) -> Halt
+/// What halts a life where a store that isn't broken refused an append. Such an append finds no damage.
+pub fn halt_of(error: StoreError) -> Halt
+    requires { IsWriteError error }
     ensures { result ≡ halt_of error }
 {
     match error {
         StoreError::DiskFault => Halt::DiskFault,
         StoreError::Full { needed, room } => Halt::Full { needed, room },
-        _ => Halt::Memory,
+        StoreError::Memory => Halt::Memory,
+        StoreError::Damaged { .. } | StoreError::Stray { .. } | StoreError::NeedsReopen => {
+            unreachable!()
+        }
     }
 }
 

@@ -4,7 +4,6 @@ ghost use Rattle.rm_types.specs.declared.entries.Entry.{Entry as AnyEntry};
 ghost use Rattle.rm_types.specs.Ranges.{IsOperation};
 ghost use Rattle.rm_model.specs.Place.{close_left};
 ghost use Rattle.rm_store.specs.Store.{StoreInvariant};
-ghost use Rattle.rm_plain.specs.Halted.{halt_of};
 ghost use Rattle.rm_plain.specs.Keeping.{armed_by};
 ghost use Rattle.rm_workers.specs.Turns.{WrittenFact};
 ghost use Rattle.rm_workers.specs.Work.{Owing};
@@ -13,8 +12,8 @@ use crate::since::Since;
 use crate::turns::Written;
 use rm_desk::Desk;
 use rm_disk::Disk;
-use rm_plain::Halt;
-use rm_store::{Store, StoreError};
+use rm_plain::halt_of;
+use rm_store::Store;
 use rm_types::{Close, NoMemory, Op};
 
 /// Whether the store's fuse refused a call since it was armed.
@@ -54,22 +53,12 @@ pub(crate) fn arm<D: Disk>(d: &Desk, store: &mut Store<D>) -> Result<(), NoMemor
     Ok(())
 }
 
-// The halt that an append makes which a whole store refused.
-fn halt_of(error: StoreError) -> Halt
-    ensures { result ≡ halt_of error }
-{
-    match error {
-        StoreError::DiskFault => Halt::DiskFault,
-        StoreError::Full { needed, room } => Halt::Full { needed, room },
-        _ => Halt::Memory,
-    }
-}
-
 /// Writes the operation that is with the store. Where the append fails, the fuse tells whether it refused it.
 ///
 /// What the store's worker knows then holds after every log after which the operation was with the store.
 pub(crate) fn write<S: Since, D: Disk>(store: &mut Store<D>, op: &Op) -> Written
     requires sound { StoreInvariant D.view store.old }
+    requires unbroken { store.old.is_broken ≡ false }
     requires op { IsOperation op.now }
     ensures written { (log : List AnyEntry) → Owing D.view S.began store.old op.now log → WrittenFact D.view S.began store.new op.now result log }
 {
