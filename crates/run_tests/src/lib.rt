@@ -13,6 +13,8 @@ mod crash_tests;
 #[cfg(test)]
 mod device_tests;
 #[cfg(test)]
+mod example_tests;
+#[cfg(test)]
 mod hint_tests;
 #[cfg(test)]
 mod job_tests;

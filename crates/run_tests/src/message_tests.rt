@@ -54,12 +54,12 @@ const LINES: &[(Outcome, &str, &str)] = &[
     (
         Outcome::DiskFault,
         "",
-        "yewendro: the store's device, rm.store, failed",
+        "yewendro: rm.store: the store's device failed",
     ),
     (
         Outcome::StoreDamaged { offset: 19 },
         "",
-        "yewendro: rm.store holds no store: it is damaged at offset 19",
+        "yewendro: rm.store: the store is damaged at offset 19",
     ),
     (
         Outcome::StoreFull {
@@ -67,7 +67,7 @@ const LINES: &[(Outcome, &str, &str)] = &[
             room: 4,
         },
         "",
-        "yewendro: the store in rm.store is full: 59 bytes are needed, 4 are left",
+        "yewendro: rm.store: the store is full: 59 bytes are needed, 4 are left",
     ),
     (
         Outcome::EpochsSpent,

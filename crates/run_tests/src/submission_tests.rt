@@ -48,6 +48,30 @@ fn a_submission_is_saved_accepted_and_queued(rt: HostRuntime) {
     writes(&rt, &plain(&[ONE_SUBMITTED]), &[GIVEN, ONE_SUBMITTED_PAGE]);
 }
 
+/// One more submission, by another user.
+const ONE_MORE: &str = "\
+client bob new
+client bob submit application_5_0002 queue=root.default name=second memory=1024 vcores=1 attempts=0
+settle
+";
+
+/// Its answer where one application may go on.
+const ONE_MORE_PAGE: &str = "\
+served client bob new -> new application_5_0002
+served client bob submit application_5_0002 queue=root.default name=second memory=1024 vcores=1 attempts=0 -> FULL
+settled
+";
+
+#[test]
+fn a_submission_beyond_the_bound_is_refused(rt: HostRuntime) {
+    let parts = [ONE_SUBMITTED, ONE_MORE];
+    let case = Case {
+        cluster: "{\"max_apps\":1}",
+        ..plain(&parts)
+    };
+    writes(&rt, &case, &[GIVEN, ONE_SUBMITTED_PAGE, ONE_MORE_PAGE]);
+}
+
 /// Two submissions in one segment, and a restart over them.
 const TWO_SUBMITTED: &str = "\
 start 5
