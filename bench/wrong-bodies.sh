@@ -5,10 +5,10 @@
 #
 # A wrong body is a file in the form of the gate's must-fail edits. The crates are proved and built first, where no
 # earlier check built them in this checkout as they are committed. Then the wrong bodies of so many crates are tried
-# side by side as JOBS in the environment says, or as there are processors, each by a check of its whole crate: all of
-# them take several hours of one processor. It works in a clone of what is committed, in a new folder that it removes,
+# side by side as JOBS in the environment says, or as there are processors, those of different functions together
+# (bench/wrong_bodies.py says how). It works in a clone of what is committed, in a new folder that it removes,
 # so this checkout stays as it is. The last line is `N refused, M proved`, where what could not be tried counts as
-# proved and is told above, and the status is 0 where M is 0. It needs `rt` on the path.
+# proved and is told above, and the status is 0 where M is 0. It needs `rt` and `python3` on the path.
 set -euo pipefail
 
 here=$(cd "$(dirname "$0")/.." && pwd)
@@ -33,29 +33,35 @@ if [ ${#crates[@]} -eq 0 ]; then
   exit 1
 fi
 
-for built in "$here"/crates/*/out/rlib; do
+for built in "$here"/crates/*/out/rlib "$here"/crates/*/out/incremental; do
   [ -d "$built" ] || continue
   out=crates/$(basename "$(dirname "$(dirname "$built")")")/out
   mkdir -p "$out"
-  cp -a "$built" "$out/rlib"
+  cp -a "$built" "$out/"
 done
 for crate in "${crates[@]}"; do
   (cd "crates/$crate" && rt lib > built.txt 2>&1) || { cat "crates/$crate/built.txt" >&2; exit 1; }
 done
 
-# A crate's lines are told once all of its wrong bodies were tried, whatever came of them: they are counted below.
+# Each crate has a checkout of its own, for its sources change meanwhile; what is built below it is shared by links. Its lines
+# are told once all of its wrong bodies were tried.
 try() {
-  rt must-fail "$1" > "$1.txt" 2>&1 || true
-  cat "$1.txt"
+  cp -al "$folder/clone" "$folder/$1"
+  rm -rf "$folder/$1/crates/$1/out"
+  cp -a "$folder/clone/crates/$1/out" "$folder/$1/crates/$1/"
+  (cd "$folder/$1" && python3 bench/wrong_bodies.py "$1") > "$folder/clone/$1.txt" 2>&1 || true
+  rm -rf "${folder:?}/$1"
+  cat "$folder/clone/$1.txt"
 }
 export -f try
+export folder
 printf '%s\n' "${crates[@]}" | xargs -P "$jobs" -I{} bash -c 'try {}'
 
 refused=0
 all=0
 for crate in "${crates[@]}"; do
   all=$((all + $(find "crates/$crate/must-fail" -name '*.edit' | wc -l)))
-  refused=$((refused + $(grep -c "must-fail $crate/.*: refused, as it must be" "$crate.txt" || true)))
+  refused=$((refused + $(sed -n 's/^\([0-9]*\) refused, .*/\1/p' "$crate.txt" | tail -1)))
 done
 echo "$refused refused, $((all - refused)) proved"
 [ "$refused" -eq "$all" ]
