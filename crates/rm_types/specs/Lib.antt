@@ -1,5 +1,7 @@
 pub mod AclTexts
+pub mod Alike
 pub mod Counts
+pub mod Folded
 pub mod Ids
 pub mod Lanes
 pub mod Limits

@@ -1,0 +1,4 @@
+pub mod Filters
+pub mod Folded
+pub mod Ordering
+pub mod Walked
