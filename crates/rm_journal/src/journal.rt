@@ -1,5 +1,5 @@
-ghost use Rattle.std.specs.Prelude.{◌≡◌, ◌+◌, ◌-◌, ◌<◌, ◌≤◌, ◌⊎◌, ◌↔◌, ℕ, List, [], ◌∷◌, ◌++◌, Bool, true, false, None, length, take, drop, vec_len, vec_capacity, is_ok, OnOk, OnErr, IfOk, IfErr, IfSome, IsErrOf, Err};
-ghost use Rattle.rm_disk.specs.Disk.{IfTold, MayWrite, IsQuiet};
+ghost use Rattle.std.specs.Prelude.{◌≡◌, ◌+◌, ◌-◌, ◌<◌, ◌≤◌, ◌⊎◌, ◌↔◌, ◌^◌, ℕ, List, [], ◌∷◌, ◌++◌, Bool, true, false, None, length, take, drop, vec_len, vec_capacity, is_ok, OnOk, OnErr, IfOk, IfErr, IfSome, IsErrOf, Err};
+ghost use Rattle.rm_disk.specs.Disk.{IfTold, MayWrite, IsQuiet, IsDurable};
 ghost use Rattle.rm_formats.specs.Device.{sized, HasPayloads, IsDamagedAt};
 ghost use Rattle.rm_journal.specs.declared.journal.TheConstants.{BODY_ROOM};
 ghost use Rattle.rm_journal.specs.Fault.{IsReadError, IsAppendError, IsRefusal};
@@ -15,8 +15,8 @@ use std::marker::Model;
 /// How many writes and syncs of its disk an append makes at most: those of the record, and those of its gate.
 pub const CALLS_OF_APPEND: u64 = 4;
 
-// The room for what an append writes behind a gate: a length, a payload, and the next gate.
-const BODY_ROOM: usize = MOST_PAYLOAD + RECORD_HEAD as usize;
+/// The room for what an append writes behind a gate: a length, a payload, and the next gate.
+pub const BODY_ROOM: usize = MOST_PAYLOAD + RECORD_HEAD as usize;
 
 /// A log of payloads in a region of a disk that may fail and fall at any moment.
 ///
@@ -56,8 +56,13 @@ fn fill(buffer: &mut Vec<u8>, payload: &[u8])
     buffer.push(0).unwrap();
 }
 
-// Reads so many bytes into a buffer that has room for them.
-fn fetch<D: Disk>(disk: &mut D, at: u64, many: usize, buffer: &mut Vec<u8>) -> Result<(), DiskError>
+/// Reads so many bytes into a buffer that has room for them.
+pub fn fetch<D: Disk>(
+    disk: &mut D,
+    at: u64,
+    many: usize,
+    buffer: &mut Vec<u8>,
+) -> Result<(), DiskError>
     requires inside { at + many ≤ (D.view disk.old).size }
     requires room { many ≤ vec_capacity buffer.old }
     ensures bytes { OnOk result (IfTold (D.view disk.old) (λ bytes. buffer.new.items ≡ take many (drop at bytes))) }
@@ -87,6 +92,7 @@ impl Journal {
     ) -> Result<Journal, JournalError>
         requires { region.from + region.size ≤ (D.view disk.old).size }
         ensures ok { IfOk result (IsOpened (D.view disk.new) region.from region.size) }
+        ensures durable { OnOk result (IsDurable (D.view disk.new)) }
         ensures holds { OnOk result (IfTold (D.view disk.new) (λ bytes. (all : List (List ℕ)) × HasPayloads (region_of region.from (region.from + region.size) bytes) all)) }
         ensures damaged { (offset : ℕ) → result ≡ Err (JournalError.Damaged offset) → (region.from ≤ offset) × IfTold (D.view disk.old) (λ bytes. IsDamagedAt (region_of region.from (region.from + region.size) bytes) (offset - region.from)) }
         ensures undamaged { OnOk result (IfTold (D.view disk.old) (λ bytes. (offset : ℕ) → IsDamagedAt (region_of region.from (region.from + region.size) bytes) offset → ⊥)) }
@@ -216,5 +222,55 @@ impl Journal {
         self.gate += needed - 1;
         self.is_broken = false;
         Ok(())
+    }
+
+    /// A journal whose records were walked over, up to its closed gate, with the walk's buffer.
+    pub fn standing(from: u64, end: u64, gate: u64, buffer: Vec<u8>) -> Journal
+        requires low { from ≤ gate }
+        requires high { gate ≤ end }
+        requires room { BODY_ROOM ≤ vec_capacity buffer }
+        ensures { result ≡ record { from = from; end = end; gate = gate; cursor = from; is_broken = false } }
+    {
+        Journal {
+            from,
+            end,
+            gate,
+            cursor: from,
+            is_broken: false,
+            buffer,
+        }
+    }
+
+    /// How many bytes there are from the closed gate to the region's end.
+    pub fn room(&self) -> u64
+        ensures { result ≡ self.now.end - self.now.gate }
+    {
+        self.end - self.gate
+    }
+
+    /// Stands in another region from now on, with its closed gate and the gate of the payload that comes next. It takes
+    /// no memory, and no call of a disk.
+    pub fn move_to(&mut self, region: Region, gate: u64, cursor: u64)
+        requires end { region.from + region.size < 2 ^ 64 }
+        requires gate_low { region.from ≤ gate }
+        requires gate_high { gate ≤ region.from + region.size }
+        requires cursor_low { region.from ≤ cursor }
+        requires cursor_high { cursor ≤ region.from + region.size }
+        ensures { self.new ≡ record { from = region.from; end = region.from + region.size; gate = gate; cursor = cursor; is_broken = false } }
+    {
+        self.from = region.from;
+        self.end = region.from + region.size;
+        self.gate = gate;
+        self.cursor = cursor;
+        self.is_broken = false;
+    }
+
+    /// Goes on with the payload whose gate stands at this place, from now on.
+    pub fn pass(&mut self, cursor: u64)
+        requires low { self.old.from ≤ cursor }
+        requires high { cursor ≤ self.old.end }
+        ensures { self.new ≡ record self.old { cursor = cursor } }
+    {
+        self.cursor = cursor;
     }
 }

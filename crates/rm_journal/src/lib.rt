@@ -11,7 +11,9 @@
 mod fault;
 mod journal;
 mod region;
+mod walk;
 
 pub use fault::JournalError;
 pub use journal::{CALLS_OF_APPEND, Journal};
-pub use region::Region;
+pub use region::{Region, record_at, write_through};
+pub use walk::Walk;
