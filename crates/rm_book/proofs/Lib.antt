@@ -1,7 +1,6 @@
 pub mod Asked
 pub mod Changes
 pub mod Entries
-pub mod Ids
 pub mod Lists
 pub mod ManyAsks
 pub mod Nodes
@@ -10,5 +9,6 @@ pub mod Rows
 pub mod Slots
 pub mod Sorted
 pub mod Splits
+pub mod Untold
 pub mod Viewed
 pub mod Taken

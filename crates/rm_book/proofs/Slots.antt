@@ -3,7 +3,7 @@ use Rattle.std.proofs.Common.{◌≡◌, ℕ, ◌+◌, ◌-◌, ◌<◌, ◌==�
 use Rattle.std.specs.List.{list_any, list_all, position_or_len, swap_remove}
 use Rattle.std.specs.Map.{keys_of, lookup, set_value}
 use Rattle.std.specs.Option.{option_map_or}
-use Rattle.std.proofs.lemmas.Bool.{and_from, or_parts, lt-ltb, ltb-true}
+use Rattle.std.proofs.lemmas.Bool.{and_from, or_parts, lt-ltb, ltb-true, and_parts}
 use Rattle.std.proofs.lemmas.Bool.Decides.{nat_tests}
 use Rattle.std.proofs.lemmas.List.{get_or_at, set_at, map-append, length-map, length-append}
 use Rattle.std.proofs.Math.Seq.{take-append_seam}
@@ -11,12 +11,12 @@ use Rattle.indexmap.specs.IndexMap.{swap_remove_entry}
 use Rattle.rm_types.specs.declared.containers.AskLine.{AskLine}
 use Rattle.rm_types.specs.declared.ids.AttemptId.{AttemptId}
 use Rattle.rm_types.specs.Ids.{is_attempt}
+use Rattle.rm_types.proofs.IdLemmas.{attempt_back}
 use Rattle.rm_book.specs.declared.attempts.AttemptLines.{AttemptLines}
 use Rattle.rm_book.specs.AskLines.{AttemptAsks, lines_in, with_lines, put_by, sorted_by}
 use Rattle.rm_book.specs.AskEntries.{AreApart, AreSlots, Slot, are_apart, entries_in, entry_of, number_of}
 use Rattle.rm_book.proofs.Entries.{is_its, push_lines}
-use Rattle.rm_book.proofs.Ids.{attempt_back}
-use Rattle.rm_book.proofs.Lists.{all_more, and_parts, any_view}
+use Rattle.rm_book.proofs.Lists.{all_more, any_view}
 use Rattle.rm_book.proofs.Sorted.{all_sorted, any_sorted, put_behind, sorted_around}
 use Rattle.rm_book.proofs.Splits.{any_split, filter_none}
 

@@ -1,10 +1,9 @@
 -- Lists that are kept by numbers.
 use Rattle.std.proofs.Common.{◌≡◌, ℕ, List, [], ◌∷◌, ◌++◌, Bool, true, false, not, ◌==◌, ◌||◌, nat_lt, refl, ◌∙◌, ap, arith}
 use Rattle.std.specs.List.{list_any, list_all}
-use Rattle.std.proofs.lemmas.Bool.{and_from}
+use Rattle.std.proofs.lemmas.Bool.{and_from, and_parts}
 use Rattle.std.proofs.lemmas.Bool.Decides.{nat_tests}
 use Rattle.rm_book.specs.AskLines.{put_by, sorted_by}
-use Rattle.rm_book.proofs.Lists.{and_parts}
 
 any_swap : (a b c : Bool) → (b || (a || c)) ≡ (a || (b || c))
 any_swap true true c = refl

@@ -1,5 +1,5 @@
 -- The book after an absorption is a book.
-use Rattle.std.proofs.Common.{◌≡◌, ℕ, ◌+◌, ◌<◌, Bool, true, false, not, cond, List, [], ◌∷◌, ◌++◌, length, map, filter, take, drop, get_or, set, refl, sym, ◌∙◌, ap, subst, append_assoc, append-nil, arith}
+use Rattle.std.proofs.Common.{zero, suc, ◌≡◌, ℕ, ◌+◌, ◌<◌, Bool, true, false, not, cond, List, [], ◌∷◌, ◌++◌, length, map, filter, take, drop, get_or, set, refl, sym, ◌∙◌, ap, subst, append_assoc, append-nil, arith}
 use Rattle.std.specs.List.{list_any, sum_by}
 use Rattle.std.specs.Str.{bytes_eq}
 use Rattle.std.proofs.lemmas.Bool.{or_parts, or_from}
@@ -13,13 +13,14 @@ use Rattle.rm_types.specs.declared.ids.ContainerId.{ContainerId}
 use Rattle.rm_types.specs.declared.resources.Resource.{Resource}
 use Rattle.rm_types.specs.Ids.{is_container}
 use Rattle.rm_types.specs.Resources.{Fits}
-use Rattle.rm_book.specs.Books.{AreApart, AreOnce, BookOf, IsBook, TellUpTo, capability_or_none, entering, is_held, is_of, row_taken, sizes_on, taken_rows, total_on, with_capability, with_taken}
+use Rattle.rm_types.proofs.IdLemmas.{container_back}
+use Rattle.rm_types.proofs.TestLemmas.{same_text}
+use Rattle.rm_book.specs.Books.{AreApart, AreLiving, AreOnce, is_living, BookOf, IsBook, TellUpTo, capability_or_none, entering, is_held, is_of, row_taken, sizes_on, taken_rows, total_on, with_capability, with_taken}
 use Rattle.rm_book.proofs.Asked.{whole}
 use Rattle.rm_book.proofs.Changes.{book_left}
-use Rattle.rm_book.proofs.Ids.{container_back}
 use Rattle.rm_book.proofs.Lists.{any_filter}
-use Rattle.rm_book.proofs.Nodes.{AllFit, capability_in-with_capability, same_text}
-use Rattle.rm_book.proofs.Rows.{apart_push, sum_joined, told_push}
+use Rattle.rm_book.proofs.Nodes.{AllFit, capability_in-with_capability}
+use Rattle.rm_book.proofs.Rows.{apart_push, living_joined, sum_joined, told_push}
 
 -- the row of a container that was taken
 abbrev row_of_held : ℕ → List ℕ → Held → BookRow
@@ -97,7 +98,7 @@ abbrev AreFresh : List BookRow → List Held → Type 0
 AreFresh rows [] = Unit {0}
 AreFresh rows (held ∷ list) = (list_any (is_of held.id) rows ≡ false) × (is_held list held.id ≡ false) × AreFresh rows list
 
-held_filter : (test : Held → Bool) (list : List Held) (id : ContainerId) → is_held list id ≡ false → is_held (filter test list) id ≡ false
+pub held_filter : (test : Held → Bool) (list : List Held) (id : ContainerId) → is_held list id ≡ false → is_held (filter test list) id ≡ false
 held_filter test [] id h = refl
 held_filter test (held ∷ list) id h =
     let parts = or_parts (is_container held.id id) (is_held list id) h in
@@ -148,6 +149,19 @@ none_elsewhere : (other node : List ℕ) (added : ℕ) (list : List Held) → by
 none_elsewhere other node added [] apart = refl
 none_elsewhere other node added (held ∷ list) apart = rw apart (none_elsewhere other node (added + 1) list apart)
 
+-- what runs lives, and so does what enters
+pub living_run : (taken : List Held) (rows : List BookRow) → AreLiving rows → AreLiving (map (row_taken taken) rows)
+living_run taken [] h = tt
+living_run taken (row ∷ rows) h = (by (is_held taken row.id), living_run taken rows h.1)
+  where
+    by : (b : Bool) → is_living (cond b (record row { state = Running }) row).state ≡ true
+    by true = refl
+    by false = h.0
+
+pub living_taken : (added : ℕ) (node : List ℕ) (list : List Held) → AreLiving (taken_rows added node list)
+living_taken added node [] = tt
+living_taken added node (held ∷ list) = (refl, living_taken (added + 1) node list)
+
 -- what stands on another node is no more than before
 module _ (book : BookOf) (node : List ℕ) (capability : Resource) (taken : List Held) (ended : List ContainerId) (lawful : IsBook book) (once : AreOnce taken) where
   abbrev after : BookOf
@@ -182,6 +196,7 @@ module _ (book : BookOf) (node : List ℕ) (capability : Resource) (taken : List
   pub taken_lawful : Fits (total_on node after.rows) capability → IsBook after
   taken_lawful fits = record {
     apart = apart_joined (map (row_taken taken) left) book.added node (entering book taken) (apart_stays taken left left_lawful.apart) (fresh_of book.rows (map (row_taken taken) left) taken fewer once);
+    living = living_joined (map (row_taken taken) left) (taken_rows book.added node (entering book taken)) (living_run taken left left_lawful.living) (living_taken book.added node (entering book taken));
     told = told_joined (map (row_taken taken) left) book.added node (entering book taken) (told_order taken 0 book.added left left_lawful.told);
     fit = fit_elsewhere fits;
   }
@@ -194,3 +209,20 @@ absorbed_rows book node capability taken ended left entered joined run n is_left
     whole n run joined long (ap length is_run ∙ length-map joined (row_taken taken) ∙ long)
     ∙ is_run ∙ ap (map (row_taken taken)) is_joined ∙ map-append (row_taken taken) left entered
     ∙ rw (is_left, is_entered, running_stay taken book.added node (entering book taken)) refl
+
+-- a row at a place lives
+living_place : (rows : List BookRow) (i : ℕ) (d : BookRow) → AreLiving rows → i < length rows → is_living (get_or rows i d).state ≡ true
+living_place [] i d h less = absurd (omega (arith, less))
+living_place (row ∷ rows) zero d h less = h.0
+living_place (row ∷ rows) (suc i) d h less = living_place rows i d h.1 (omega (arith, less))
+
+-- the row at a place that no step has changed yet lives
+pub living_now : (f : BookRow → BookRow) (xs ys : List BookRow) (i : ℕ) (d : BookRow) → AreLiving xs → i < length xs → ys ≡ map f (take i xs) ++ drop i xs → is_living (get_or ys i d).state ≡ true
+living_now f xs ys i d h less so_far =
+    let now : get_or ys i d ≡ get_or xs i d = ap (λ (l : List BookRow). get_or l i d) so_far ∙ at_drop f xs i d less in
+    rw now (living_place xs i d h less)
+  where
+    at_drop : (f : BookRow → BookRow) (xs : List BookRow) (i : ℕ) (d : BookRow) → i < length xs → get_or (map f (take i xs) ++ drop i xs) i d ≡ get_or xs i d
+    at_drop f [] i d less = absurd (omega (arith, less))
+    at_drop f (x ∷ xs) zero d less = refl
+    at_drop f (x ∷ xs) (suc i) d less = at_drop f xs i d (omega (arith, less))

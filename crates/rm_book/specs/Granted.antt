@@ -1,11 +1,12 @@
 -- What attempts were granted and nobody was told of yet. This project's own.
-use Rattle.std.specs.Prelude.{List, Bool, true, false, ◌&&◌, filter, map}
+use Rattle.std.specs.Prelude.{◌≡◌, List, [], ◌∷◌, Bool, true, false, ◌&&◌, IfSome, filter, find, map}
 use Rattle.rm_types.specs.declared.containers.BookRow.{BookRow}
 use Rattle.rm_types.specs.declared.containers.ContainerState.{ContainerState}
 use Rattle.rm_types.specs.declared.containers.ContainerState.TheVariants.{Granted, Acquired, Running, Completed}
 use Rattle.rm_types.specs.declared.containers.Grant.{Grant}
 use Rattle.rm_types.specs.declared.ids.AttemptId.{AttemptId}
 use Rattle.rm_types.specs.Ids.{is_attempt}
+use Rattle.rm_book.specs.Books.{is_of}
 
 -- a container was granted, and nobody was told of it yet
 abbrev pub is_granted : ContainerState → Bool
@@ -25,3 +26,15 @@ grant_of row = record { id = row.id; node = row.node; size = row.size }
 -- what an attempt was granted and nobody was told of yet, in the order of entering
 abbrev pub grants_to : List BookRow → AttemptId → List Grant
 grants_to rows attempt = map grant_of (filter (is_granted_to attempt) rows)
+
+-- somebody may be told of a container in this state: it was granted, or they were told of it already
+abbrev pub may_be_told : ContainerState → Bool
+may_be_told Granted = true
+may_be_told Acquired = true
+may_be_told Running = false
+may_be_told Completed = false
+
+-- these are grants of containers of which somebody may be told, as far as they have rows
+abbrev pub AllMayBeTold : List BookRow → List Grant → Type 0
+AllMayBeTold rows [] = Unit {0}
+AllMayBeTold rows (grant ∷ grants) = IfSome (find (is_of grant.id) rows) (λ row. may_be_told row.state ≡ true) × AllMayBeTold rows grants

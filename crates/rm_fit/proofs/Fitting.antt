@@ -2,7 +2,7 @@
 use Rattle.std.proofs.Common.{◌≡◌, ℕ, zero, suc, ◌+◌, ◌-◌, ◌*◌, ◌<◌, ◌≤◌, nat_lt, Bool, true, false, not, List, [], ◌∷◌, ◌++◌, Option, None, Some, refl, ap, ◌∙◌, subst, arith}
 use Rattle.std.specs.List.{list_all, list_any, sum_by}
 use Rattle.std.specs.Str.{bytes_eq}
-use Rattle.std.proofs.lemmas.Bool.{and_from, lt-ltb, or_from, or_parts}
+use Rattle.std.proofs.lemmas.Bool.{and_from, lt-ltb, or_from, or_parts, and_parts}
 use Rattle.std.proofs.lemmas.Bool.Decides.{nat_tests}
 use Rattle.std.proofs.lemmas.List.{map-append}
 use Rattle.std.proofs.lemmas.List.Folds.{list_all-append, list_any-append}
@@ -19,10 +19,10 @@ use Rattle.rm_types.specs.declared.resources.Resource.{Resource}
 use Rattle.rm_types.specs.Ids.{is_attempt, is_container}
 use Rattle.rm_types.specs.Passes.{by_priority, fitting, total_of}
 use Rattle.rm_types.specs.Resources.{Fits}
+use Rattle.rm_types.proofs.IdLemmas.{attempt_back, same_container, attempt_itself}
 use Rattle.rm_book.specs.AskTables.{some_asks}
 use Rattle.rm_book.specs.Books.{AreNew, are_on, is_of, sizes_of}
-use Rattle.rm_book.proofs.Ids.{attempt_back, attempt_itself, same_container}
-use Rattle.rm_book.proofs.Lists.{all_more, and_parts}
+use Rattle.rm_book.proofs.Lists.{all_more}
 use Rattle.rm_book.proofs.Numbered.{all_by_priority}
 use Rattle.rm_fit.specs.Conditions.{AreApart, has_turn, is_past, are_past, is_some_size, are_some_sizes}
 use Rattle.rm_fit.specs.Turns.{Spot, granted, granted_from, left_after, turn_left, turn_grants}

@@ -1,5 +1,5 @@
 -- Containers become Acquired one by one, as all at once.
-use Rattle.std.proofs.Common.{◌≡◌, ℕ, ◌+◌, ◌<◌, List, [], ◌∷◌, ◌++◌, Bool, true, false, ◌||◌, map, length, get_or, take, refl, sym, ◌∙◌, ap}
+use Rattle.std.proofs.Common.{◌≡◌, ℕ, zero, suc, ◌+◌, ◌<◌, List, [], ◌∷◌, ◌++◌, Bool, true, false, ◌||◌, IfSome, find, map, length, get_or, take, refl, sym, ◌∙◌, ap, subst, arith}
 use Rattle.std.specs.Prelude.{if◌then◌else◌}
 use Rattle.std.specs.List.{list_any}
 use Rattle.std.proofs.lemmas.List.{map-append, take_more}
@@ -13,8 +13,9 @@ use Rattle.rm_types.specs.declared.ids.ContainerId.{ContainerId}
 use Rattle.rm_types.specs.declared.replies.Reply.{Reply}
 use Rattle.rm_types.specs.declared.replies.Reply.TheVariants.{Allocated}
 use Rattle.rm_types.specs.Ids.{is_container}
+use Rattle.rm_types.proofs.IdLemmas.{container_back}
 use Rattle.rm_book.specs.Books.{BookOf, is_of, with_state}
-use Rattle.rm_book.proofs.Ids.{container_back}
+use Rattle.rm_book.specs.Granted.{AllMayBeTold, may_be_told}
 use Rattle.rm_model.specs.Facts.{has_container}
 use Rattle.rm_master.specs.Answers.{acquired, acquired_row, ids_granted, told_by}
 
@@ -62,3 +63,26 @@ pub more_granted : (grants : List Grant) (place : ℕ) (grant : Grant) → place
     → ids_granted (take place grants) ++ grant.id ∷ [] ≡ ids_granted (take (place + 1) grants)
 more_granted grants place grant within is =
     sym (ap ids_granted (take_more grants place grant within ∙ ap (λ (one : Grant). take place grants ++ one ∷ []) (sym is)) ∙ map-append (λ (one : Grant). one.id) (take place grants) (grant ∷ []))
+
+-- somebody may be told of a container still, once they were told of others
+acquired_told : (told : List ContainerId) (id : ContainerId) (rows : List BookRow) → IfSome (find (is_of id) rows) (λ row. may_be_told row.state ≡ true)
+    → IfSome (find (is_of id) (map (acquired_row told) rows)) (λ row. may_be_told row.state ≡ true)
+acquired_told told id [] may = tt
+acquired_told told id (row ∷ rows) may = by (is_of id row) refl (acquired_told told id rows)
+  where
+    here : (b : Bool) (s : ContainerState) → may_be_told s ≡ true → may_be_told (if b then Acquired else s) ≡ true
+    here true s e = refl
+    here false s e = e
+
+    by : (b : Bool) → is_of id row ≡ b → (IfSome (find (is_of id) rows) (λ one. may_be_told one.state ≡ true) → IfSome (find (is_of id) (map (acquired_row told) rows)) (λ one. may_be_told one.state ≡ true))
+        → IfSome (find (is_of id) (map (acquired_row told) (row ∷ rows))) (λ one. may_be_told one.state ≡ true)
+    by true e rest = rw e (here (has_container told row.id) row.state (rw e at may))
+    by false e rest = rw e (rest (rw e at may))
+
+-- and so of the container of the grant at a place
+pub told_at : (told : List ContainerId) (rows : List BookRow) (grants : List Grant) (place : ℕ) (grant : Grant) → AllMayBeTold rows grants → place < length grants → grant ≡ get_or grants place grant
+    → IfSome (find (is_of grant.id) (map (acquired_row told) rows)) (λ row. may_be_told row.state ≡ true)
+told_at told rows [] place grant are within is = absurd (omega (arith, within))
+told_at told rows (one ∷ grants) zero grant are within is =
+    acquired_told told grant.id rows (subst (λ (g : Grant). IfSome (find (is_of g.id) rows) (λ row. may_be_told row.state ≡ true)) (sym is) are.0)
+told_at told rows (one ∷ grants) (suc place) grant are within is = told_at told rows grants place grant are.1 (omega (arith, within)) is

@@ -9,9 +9,9 @@ use Rattle.rm_types.specs.declared.ids.AppId.{AppId}
 use Rattle.rm_types.specs.declared.ids.AttemptId.{AttemptId}
 use Rattle.rm_types.specs.declared.ids.ContainerId.{ContainerId}
 use Rattle.rm_types.specs.Ids.{is_app, is_attempt}
+use Rattle.rm_types.proofs.IdLemmas.{same_attempt, same_app}
 use Rattle.rm_book.specs.AskTables.{AsksOf}
 use Rattle.rm_book.specs.Books.{BookOf}
-use Rattle.rm_book.proofs.Ids.{same_attempt}
 use Rattle.rm_attempt.specs.declared.states.AttemptState.{AttemptState}
 use Rattle.rm_attempt.specs.declared.states.AttemptState.TheVariants as attempts
 use Rattle.rm_attempt.specs.Table.{is_alive}
@@ -25,7 +25,7 @@ use Rattle.rm_tables.specs.declared.tables.Tables.{Tables}
 use Rattle.rm_tables.specs.Rows.{row_of, with_row}
 use Rattle.rm_refinement.specs.Agreement.{AttemptAgrees, ClosingsAgree, HasNoSession, NumberAgrees, RowAgrees, SameAsks, SameNodes, SameRows, bare_dialogue, closings_for, session_of, plain_dialogue}
 use Rattle.rm_refinement.specs.Services.{RefinesLife, finishes_by, is_ending, lives_by}
-use Rattle.rm_master.proofs.Found.{other_row, own_row, same_app}
+use Rattle.rm_refinement.proofs.AppRows.{other_row, own_row}
 use Rattle.rm_master.proofs.Replies.{Lives}
 
 -- what lives doesn't end

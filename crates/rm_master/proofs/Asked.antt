@@ -11,9 +11,9 @@ use Rattle.rm_types.specs.declared.containers.Ask.{Ask}
 use Rattle.rm_types.specs.declared.containers.AskOf.{AskOf}
 use Rattle.rm_types.specs.declared.ids.AttemptId.{AttemptId}
 use Rattle.rm_types.specs.Ids.{is_attempt}
+use Rattle.rm_types.proofs.IdLemmas.{attempt_back, same_attempt, attempt_itself}
 use Rattle.rm_book.specs.AskTables.{AsksOf, asks_of as asks_in, asks_set, is_for, renewed, with_asks_of}
 use Rattle.rm_book.specs.ManyAsks.{all_asked, asks_after, one_asked}
-use Rattle.rm_book.proofs.Ids.{attempt_back, attempt_itself, same_attempt}
 use Rattle.rm_model.specs.MasterReplies.{is_line_of, with_ask, with_asks}
 use Rattle.rm_model.specs.Passing.{asks_of as asks_told}
 use Rattle.rm_refinement.specs.Agreement.{SameAsks}

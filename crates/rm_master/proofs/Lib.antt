@@ -1,5 +1,4 @@
 pub mod Acquired
-pub mod Found
 pub mod Replies
 pub mod Asked
 pub mod Granted

@@ -5,7 +5,7 @@ use Rattle.std.proofs.lemmas.Bool.{false≢true}
 use Rattle.std.proofs.lemmas.Bool.Decides.{nat_tests}
 use Rattle.rm_types.specs.declared.ids.AttemptId.{AttemptId}
 use Rattle.rm_types.specs.Ids.{is_attempt}
-use Rattle.rm_book.proofs.Ids.{attempt_itself}
+use Rattle.rm_types.proofs.IdLemmas.{attempt_itself}
 use Rattle.rm_model.specs.State.{MasterState}
 use Rattle.rm_refinement.specs.Agreement.{session_of}
 use Rattle.rm_master.proofs.Asked.{not_both}

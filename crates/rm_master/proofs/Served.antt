@@ -17,7 +17,7 @@ use Rattle.rm_master.proofs.Replies.{finish_answer, register_answer}
 use Rattle.rm_master.proofs.Same.{master_same}
 
 -- a master is answered as the judge does
-master_answer : (m : Scene) (t : Tables) (attempt : AttemptId) (ask : MasterAsk) → RefinesLife m t → master_told t attempt ask ≡ master_reply t.settings m attempt ask
+pub master_answer : (m : Scene) (t : Tables) (attempt : AttemptId) (ask : MasterAsk) → RefinesLife m t → master_told t attempt ask ≡ master_reply t.settings m attempt ask
 master_answer m t attempt Register shows = register_answer m t attempt shows
 master_answer m t attempt (Finish text) shows = finish_answer m t attempt shows
 master_answer m t attempt (Allocate id asks release) shows = allocate_answer m t attempt id asks shows

@@ -40,6 +40,11 @@ release_events attempt (id ∷ ids) = scheds.Release attempt (id ∷ ids) ∷ []
 abbrev pub ids_granted : List Grant → List ContainerId
 ids_granted grants = map (λ grant. grant.id) grants
 
+-- the grants of which a reply tells the master
+abbrev pub grants_in : Reply → List Grant
+grants_in (Allocated id grants ended) = grants
+grants_in _ = []
+
 -- the containers of which a reply tells the master
 abbrev pub told_by : Reply → List ContainerId
 told_by (Allocated id grants ended) = ids_granted grants

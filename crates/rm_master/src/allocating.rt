@@ -3,7 +3,8 @@ ghost use Rattle.std.specs.Prelude.{◌≡◌, ◌+◌, ◌<◌, ◌^◌, List, 
 ghost use Rattle.rm_types.specs.declared.messages.MasterAsk.{MasterAsk as Asked};
 ghost use Rattle.rm_types.specs.declared.replies.Reply.{Reply as Told};
 ghost use Rattle.rm_types.specs.Ids.{is_attempt};
-ghost use Rattle.rm_master.specs.Answers.{acquired, after_master, allocated_with, ids_granted, release_events, told_by, told_in};
+ghost use Rattle.rm_book.specs.Granted.{AllMayBeTold};
+ghost use Rattle.rm_master.specs.Answers.{acquired, after_master, allocated_with, grants_in, ids_granted, release_events, told_by, told_in};
 ghost use Rattle.rm_master.specs.Told.{allocate_told, allocated_told, asks_too_much, closings_told, grants_told, has_too_many, living_row};
 ghost use Rattle.rm_tables.specs.declared.events.SchedEvent.{SchedEvent as Event};
 ghost use Rattle.rm_tables.specs.Leaving.{is_masters_in};
@@ -13,8 +14,8 @@ use crate::living::living;
 use rm_book::Book;
 use rm_tables::{AppRow, SchedEvent, Tables, Talk, is_masters};
 use rm_types::{
-    Ask, AttemptId, Boxed, Closing, ContainerId, ContainerState, Duplicate, Grant, Items, NoMemory,
-    Queue, Reply, Resource,
+    Ask, AttemptId, Boxed, Closing, ContainerId, Duplicate, Grant, Items, NoMemory, Queue, Reply,
+    Resource,
 };
 
 /// How many different asks an attempt may have.
@@ -29,7 +30,8 @@ fn asks_too_much(greatest: Resource, asks: &[Ask]) -> bool
 
 /// The grants that a master is told of.
 fn grants(t: &Tables, attempt: AttemptId) -> Result<Items<Grant>, NoMemory>
-    ensures { IfOk result (λ grants. grants ≡ grants_told t.now attempt) }
+    ensures grants { IfOk result (λ grants. grants ≡ grants_told t.now attempt) }
+    ensures told { IfOk result (λ grants. AllMayBeTold t.now.book.rows grants) }
 {
     let mut grants = t.book.granted_to(attempt)?;
     grants.retain(
@@ -56,7 +58,8 @@ fn closings(row: &AppRow, attempt: AttemptId) -> Result<Items<Closing>, NoMemory
 /// What an allocation is answered that isn't refused.
 fn answer(t: &Tables, attempt: AttemptId, id: u32, row: &AppRow) -> Result<Reply, NoMemory>
     requires { id + 1 < 2 ^ 32 }
-    ensures { IfOk result (λ reply. reply ≡ allocated_told t.now attempt id row.now) }
+    ensures reply { IfOk result (λ reply. reply ≡ allocated_told t.now attempt id row.now) }
+    ensures told { IfOk result (λ reply. AllMayBeTold t.now.book.rows (grants_in reply)) }
 {
     let grants = grants(t, attempt)?;
     let ended = closings(row, attempt)?;
@@ -94,15 +97,17 @@ fn take_back(sched: &mut Queue<SchedEvent>, attempt: AttemptId, release: &Items<
 
 /// What a master was told of is acquired.
 fn acquire_all(book: &mut Book, grants: &[Grant])
+    requires { AllMayBeTold book.old.rows grants.now }
     ensures { book.new ≡ acquired (ids_granted grants.now) book.old }
 {
     'grants: for grant in grants {
-        book.set_state(grant.id, ContainerState::Acquired);
+        book.tell(grant.id);
     }
 }
 
 /// What a reply tells a master of is acquired.
 fn acquire_told(book: &mut Book, reply: &Reply)
+    requires { AllMayBeTold book.old.rows (grants_in reply.now) }
     ensures { book.new ≡ acquired (told_by reply.now) book.old }
 {
     if let Reply::Allocated { grants, .. } = reply {
@@ -114,6 +119,7 @@ fn acquire_told(book: &mut Book, reply: &Reply)
 fn tell(t: &mut Tables, attempt: AttemptId, id: u32, reply: &Reply, kept: Boxed<Reply>)
     requires id { id + 1 < 2 ^ 32 }
     requires kept { kept ≡ reply.now }
+    requires told { AllMayBeTold t.old.book.rows (grants_in reply.now) }
     ensures { t.new ≡ told_in attempt id reply.now t.old }
 {
     acquire_told(&mut t.book, reply);
@@ -135,7 +141,8 @@ fn take(
     release: &Items<ContainerId>,
     reply: Reply,
 ) -> Result<Reply, NoMemory>
-    requires { id + 1 < 2 ^ 32 }
+    requires id { id + 1 < 2 ^ 32 }
+    requires told { AllMayBeTold t.old.book.rows (grants_in reply) }
     ensures reply { IfOk result (λ told. told ≡ (if has_too_many t.old.asks attempt asks.now then Told.Full else reply)) }
     ensures changed { IfOk result (λ told. t.new ≡ (if has_too_many t.old.asks attempt asks.now then t.old else allocated_with attempt id asks.now release.now reply t.old)) }
     ensures err { OnErr result (t.new ≡ t.old) }

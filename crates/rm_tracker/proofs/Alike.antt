@@ -17,7 +17,7 @@ use Rattle.rm_tracker.proofs.Rows.{all_at_once, apart_brought, brought_row}
 use Rattle.rm_book.proofs.Lists.{map_view}
 
 -- a row of the tables after a beat of its node
-abbrev beaten_at_once : List ℕ → List ContainerId → List ContainerId → BookRow → BookRow
+abbrev pub beaten_at_once : List ℕ → List ContainerId → List ContainerId → BookRow → BookRow
 beaten_at_once name running launched row = brought_row (is_on name) Running running (brought_row (is_untold name) Acquired launched row)
 
 pub book_at_once : (name : List ℕ) (running launched : List ContainerId) (book : BookOf) → AreApart book.rows

@@ -15,6 +15,7 @@ use Rattle.rm_types.specs.declared.replies.Reply.{Reply}
 use Rattle.rm_types.specs.declared.replies.Reply.TheVariants.{Beat as TellBeat, Ok}
 use Rattle.rm_types.specs.declared.resources.Resource.{Resource}
 use Rattle.rm_types.specs.Records.{is_some_and}
+use Rattle.rm_types.proofs.TestLemmas.{same_text}
 use Rattle.rm_book.specs.Books.{BookOf, capability_in, row_of, with_state}
 use Rattle.rm_book.specs.declared.plain.NodeCapability.{NodeCapability}
 use Rattle.rm_model.specs.NodeReplies.{reported}
@@ -24,7 +25,7 @@ use Rattle.rm_tables.specs.declared.tables.Tables.{Tables}
 use Rattle.rm_tables.specs.Nodes.{beaten_row, changed_row, new_row, node_of as node_in, registered_row, with_node}
 use Rattle.rm_tracker.specs.Answers.{after_clock, after_node, beaten_book, beaten_with, brought_all, brought_one, is_new_beat, is_on, is_untold, launched_by, registered_by, registered_later}
 use Rattle.rm_tracker.specs.Offers.{OnlyNodesOffer}
-use Rattle.rm_refinement.proofs.Found.{other_row, own_row, same_name}
+use Rattle.rm_refinement.proofs.Found.{other_row, own_row}
 
 -- a node without a row had none before a row was added, or changed
 none_added : (one : List ℕ × NodeRow) (rows : List (List ℕ × NodeRow)) (q : List ℕ) → node_in (rows ++ one ∷ []) q ≡ None → node_in rows q ≡ None
@@ -44,8 +45,8 @@ none_changed f n rows q none = by (bytes_eq n q) refl
 
     by : (b : Bool) → bytes_eq n q ≡ b → node_in rows q ≡ None
     by true e =
-        let own : node_in (with_node f n rows) n ≡ None = subst (λ (z : List ℕ). node_in (with_node f n rows) z ≡ None) (sym (same_name n q e)) none in
-        subst (λ (z : List ℕ). node_in rows z ≡ None) (same_name n q e) (unmapped (node_in rows n) (sym (own_row f n rows) ∙ own))
+        let own : node_in (with_node f n rows) n ≡ None = subst (λ (z : List ℕ). node_in (with_node f n rows) z ≡ None) (sym (same_text n q e)) none in
+        subst (λ (z : List ℕ). node_in rows z ≡ None) (same_text n q e) (unmapped (node_in rows n) (sym (own_row f n rows) ∙ own))
     by false e = sym (other_row f n q rows e) ∙ none
 
 -- what nodes offer stays where containers change their states

@@ -1,15 +1,19 @@
 -- Many changes of the states of containers, one by one, are all at once.
-use Rattle.rm_book.proofs.Ids.{container_back, same_container}
-use Rattle.std.proofs.Common.{◌≡◌, List, [], ◌∷◌, Bool, true, false, ◌&&◌, ◌||◌, map, refl, ◌∙◌, ap, subst}
+use Rattle.std.proofs.Common.{◌≡◌, ℕ, List, [], ◌∷◌, Bool, true, false, ◌&&◌, ◌||◌, Option, None, Some, IfSome, map, refl, ◌∙◌, ap, subst}
 use Rattle.std.specs.Prelude.{find, if◌then◌else◌}
 use Rattle.std.specs.List.{list_any}
+use Rattle.std.specs.Str.{bytes_eq}
 use Rattle.rm_types.specs.declared.containers.BookRow.{BookRow}
 use Rattle.rm_types.specs.declared.containers.ContainerState.{ContainerState}
+use Rattle.rm_types.specs.declared.containers.ContainerState.TheVariants.{Granted, Acquired, Running, Completed}
 use Rattle.rm_types.specs.declared.ids.ContainerId.{ContainerId}
 use Rattle.rm_types.specs.Records.{is_some_and}
+use Rattle.rm_types.proofs.IdLemmas.{container_back, same_container}
 use Rattle.rm_book.specs.Books.{AreApart, BookOf, is_of, row_of, with_state}
+use Rattle.rm_book.specs.Granted.{may_be_told}
+use Rattle.rm_model.specs.Containers.{is_granted}
 use Rattle.rm_model.specs.Facts.{has_container}
-use Rattle.rm_tracker.specs.Answers.{brought_all, brought_one}
+use Rattle.rm_tracker.specs.Answers.{brought_all, brought_one, is_untold}
 
 -- the row of a container in another state, where it is one of these and passes
 abbrev pub brought_row : (BookRow → Bool) → ContainerState → List ContainerId → BookRow → BookRow
@@ -121,3 +125,15 @@ apart_brought passes state ids (row ∷ rows) apart = (same_ids rows ∙ apart.0
     same_ids : (xs : List BookRow) → list_any (is_of row.id) (map (brought_row passes state ids) xs) ≡ list_any (is_of row.id) xs
     same_ids [] = refl
     same_ids (x ∷ xs) = ap (λ b. is_of row.id x || b) (same_ids xs)
+
+-- somebody may be told of a container that nobody was told of yet
+pub untold_may : (name : List ℕ) (o : Option BookRow) → is_some_and (is_untold name) o ≡ true → IfSome o (λ row. may_be_told row.state ≡ true)
+untold_may name None e = tt
+untold_may name (Some row) e = by (bytes_eq row.node name) row.state e
+  where
+    by : (b : Bool) (s : ContainerState) → (b && is_granted s) ≡ true → may_be_told s ≡ true
+    by true Granted e = refl
+    by true Acquired e = cc
+    by true Running e = cc
+    by true Completed e = cc
+    by false s e = cc

@@ -14,6 +14,7 @@ use Rattle.rm_types.specs.declared.replies.Reply.{Reply}
 use Rattle.rm_types.specs.declared.replies.Reply.TheVariants.{NodeRegistered, Resync, Beat as TellBeat, Unknown, Ok}
 use Rattle.rm_types.specs.declared.resources.Resource.{Resource}
 use Rattle.rm_types.specs.Ids.{is_container}
+use Rattle.rm_types.proofs.IdLemmas.{container_itself}
 use Rattle.rm_book.specs.Books.{BookOf, AreApart, IsBook}
 use Rattle.rm_model.specs.State.{LifeState, NodeState, Row, Scene, Lost, Waiting}
 use Rattle.rm_model.specs.Attempts.{is_live}
@@ -112,11 +113,8 @@ old_beat : (m : Scene) (t : Tables) (name : List ℕ) (id : ℕ) (running : List
 old_beat m t name id running done (TellBeat next launched clean) shows new told = rw (new, told) shows
 old_beat m t name id running done _ shows new told = shows
 
-own_container : (a : ContainerId) → is_container a a ≡ true
-own_container a = grind (arith, nat_tests)
-
 is_there : (front : List ContainerId) (id : ContainerId) (ids : List ContainerId) → has_container (front ++ id ∷ ids) id ≡ true
-is_there [] id ids = rw (own_container id) refl
+is_there [] id ids = rw (container_itself id) refl
 is_there (one ∷ front) id ids = rw (is_there front id ids) (or_true (is_container one id))
   where
     or_true : (b : Bool) → (b || true) ≡ true
@@ -247,7 +245,7 @@ tick_same m t time reply shows is =
     })
 
 -- a node's silence leaves it lost, however it stood
-expires : (s : NodePhase) → phase_of (next_node_state s node_events.Expire) ≡ Lost
+pub expires : (s : NodePhase) → phase_of (next_node_state s node_events.Expire) ≡ Lost
 expires states.Absent = refl
 expires states.Waiting = refl
 expires states.Ready = refl

@@ -103,7 +103,7 @@ fn run_one(book: &mut Book, name: &Text, id: ContainerId)
     ensures { book.new ≡ brought_one (is_on name.now) Stage.Running book.old id }
 {
     if is_on(book, name, id) {
-        book.set_state(id, ContainerState::Running);
+        book.run(id);
     }
 }
 
@@ -120,7 +120,7 @@ fn acquire_one(book: &mut Book, name: &Text, id: ContainerId)
     ensures { book.new ≡ brought_one (is_untold name.now) Stage.Acquired book.old id }
 {
     if is_untold(book, name, id) {
-        book.set_state(id, ContainerState::Acquired);
+        book.tell(id);
     }
 }
 

@@ -1,9 +1,9 @@
-use Rattle.std.proofs.Common.{ap, ◌∙◌, List}
+use Rattle.std.proofs.Common.{ap, ◌∙◌, List, take}
 use Rattle.rm_types.specs.declared.ids.ContainerId.{ContainerId}
 use Rattle.rm_types.specs.declared.containers.ContainerState.TheVariants.{Acquired}
 use Rattle.rm_book.specs.Books.{BookOf, with_state}
 use Rattle.rm_master.specs.Answers.{acquired, ids_granted}
-use Rattle.rm_master.proofs.Acquired.{more_granted, none_acquired, one_acquired}
+use Rattle.rm_master.proofs.Acquired.{more_granted, none_acquired, one_acquired, told_at}
 use Rattle.rm_master.proofs.allocating.acquire_all.Goals as goal
 
 pub grants-init : goal.grants-init
@@ -11,7 +11,12 @@ grants-init c = none_acquired c.args.book.now
 
 pub grants-preserved : goal.grants-preserved
 grants-preserved c =
-    c.set_state.ensures.state
+    c.tell.ensures.state
     ∙ ap (λ (book : BookOf). with_state book c.grant-item.result.id Acquired) c.grants.invariant
     ∙ one_acquired _ c.grant-item.result.id c.args.book.now
     ∙ ap (λ (told : List ContainerId). acquired told c.args.book.now) (more_granted c.args.grants.now c.grants.grant-index c.grant-item.result c.grants-test.true c.grant-item.is)
+
+pub tell-requires : goal.tell-requires
+tell-requires c =
+    rw c.grants.invariant
+    (told_at (ids_granted (take c.grants.grant-index c.args.grants.now)) c.args.book.now.rows c.args.grants.now c.grants.grant-index c.grant-item.result c.requires c.grants-test.true c.grant-item.is)

@@ -1,0 +1,18 @@
+use Rattle.std.proofs.Common.{◌≡◌, ◌↔◌, Bool, true, false, not, IsTrue, refl}
+use Rattle.rm_types.specs.declared.containers.ContainerState.{ContainerState}
+use Rattle.rm_types.specs.declared.containers.ContainerState.TheVariants.{Granted, Acquired, Running, Completed}
+use Rattle.rm_book.specs.Books.{is_living}
+use Rattle.rm_book.proofs.plain.is_living.Goals as goal
+
+living_unless : (s : ContainerState) (b : Bool) → (IsTrue b ↔ (s ≡ Completed)) → not b ≡ is_living s
+living_unless Granted true which = let e : Granted ≡ Completed = which.0 refl in cc
+living_unless Granted false which = refl
+living_unless Acquired true which = let e : Acquired ≡ Completed = which.0 refl in cc
+living_unless Acquired false which = refl
+living_unless Running true which = let e : Running ≡ Completed = which.0 refl in cc
+living_unless Running false which = refl
+living_unless Completed true which = refl
+living_unless Completed false which = let e : false ≡ true = which.1 refl in cc
+
+pub returns : goal.returns
+returns c = living_unless c.args.state c.is_final.result c.is_final.ensures.which
