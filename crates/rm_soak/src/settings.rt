@@ -5,11 +5,15 @@ ghost use Rattle.rm_queues.specs.Rules.{KeepsRules};
 ghost use Rattle.rm_cluster.specs.Rules.{bare_queue};
 ghost use Rattle.rm_soak.specs.Settings.{AreDefault, soak_settings};
 
+use crate::limits::SOAK_COMPLETED;
+use rm_cluster::{
+    DEFAULT_APPS, DEFAULT_ATTEMPTS, DEFAULT_MEMORY_MB, DEFAULT_VCORES, DEFAULT_WAIT_MS,
+};
 use rm_types::{Items, NoMemory, QueueSpec, Resource, Settings, Text};
 use std::alloc::Global;
 
-/// The settings of a soak: those of a cluster file without keys, but that 40 completed applications are
-/// remembered.
+/// The settings of a soak: those of a cluster file without keys, but that fewer completed applications are
+/// remembered: `SOAK_COMPLETED`.
 ///
 /// `NoMemory` comes where no memory was found for them.
 #[tactic(auto, using(crate::proofs::Default::soak_default))]
@@ -26,15 +30,15 @@ pub fn soak_settings(alloc: Global) -> Result<Settings, NoMemory>
     queues.push(bare_queue(alloc, b"root")?)?;
     queues.push(bare_queue(alloc, b"root.default")?)?;
     Ok(Settings {
-        max_attempts: 2,
-        max_completed: 40,
-        max_apps: 10_000,
-        wait_ms: 10_000,
+        max_attempts: DEFAULT_ATTEMPTS,
+        max_completed: SOAK_COMPLETED,
+        max_apps: DEFAULT_APPS,
+        wait_ms: u64::from(DEFAULT_WAIT_MS),
         acl_enable: false,
         admin_acl,
         greatest: Resource {
-            memory_mb: 8192,
-            vcores: 8,
+            memory_mb: DEFAULT_MEMORY_MB,
+            vcores: DEFAULT_VCORES,
         },
         groups: Items::new(alloc),
         queues,
