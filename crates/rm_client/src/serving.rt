@@ -2,10 +2,11 @@ ghost use Rattle.std.specs.Prelude.{◌≡◌, ◌+◌, ◌<◌, ◌^◌, length
 ghost use Rattle.rm_types.specs.declared.ids.AppId.{AppId as App};
 ghost use Rattle.rm_model.specs.State.{Scene};
 ghost use Rattle.rm_model.specs.Facts.{attempts_in};
-ghost use Rattle.rm_model.specs.ClientReplies.{client_reply, next_app};
+ghost use Rattle.rm_model.specs.ClientReplies.{client_reply, life_after_client, next_app};
 ghost use Rattle.rm_tables.specs.Actions.{found_in};
 ghost use Rattle.rm_client.specs.Answers.{after_client};
 ghost use Rattle.rm_refinement.specs.Clients.{RefinesForClients};
+ghost use Rattle.rm_refinement.specs.Services.{RefinesLife};
 
 use crate::kills::kill;
 use crate::reports::report;
@@ -28,6 +29,8 @@ pub fn serve(
     requires attempts { (id : App) → length (attempts_in (found_in t.old id)) < 2 ^ 32 }
     ensures reply { (m : Scene) → RefinesForClients m t.old → IfOk result (λ reply. reply ≡ client_reply t.old.settings m user.now ask.now) }
     ensures changed { IfOk result (λ reply. t.new ≡ after_client ask.now reply t.old) }
+    ensures shows { (m : Scene) → RefinesForClients m t.old → IfOk result (λ reply. RefinesForClients (record m { life = life_after_client m ask.now reply }) t.new) }
+    ensures shows_life { (m : Scene) → RefinesForClients m t.old → RefinesLife m t.old → IfOk result (λ reply. RefinesLife (record m { life = life_after_client m ask.now reply }) t.new) }
     ensures err { OnErr result (t.new ≡ t.old) }
 {
     match ask {

@@ -4,17 +4,11 @@ use Rattle.std.specs.Prelude.{option_map}
 use Rattle.std.specs.Map.{lookup, set_value}
 use Rattle.std.specs.Str.{bytes_eq}
 use Rattle.std.proofs.lemmas.Bool.{false≢true}
-use Rattle.std.proofs.lemmas.Slice.Eq.{bytes_eq-Decides}
+use Rattle.rm_types.proofs.TestLemmas.{text_itself, same_text}
 use Rattle.rm_model.specs.State.{NodeState}
 use Rattle.rm_model.specs.Nodes.{node_of as node_told, with_node as with_told}
 use Rattle.rm_tables.specs.declared.nodes.NodeRow.{NodeRow}
 use Rattle.rm_tables.specs.Nodes.{node_of as node_in, with_found, with_node}
-
-pub same_name : (n q : List ℕ) → bytes_eq n q ≡ true → n ≡ q
-same_name n q e = (bytes_eq-Decides n q).0 e
-
-pub own_name : (n : List ℕ) → bytes_eq n n ≡ true
-own_name n = (bytes_eq-Decides n n).1 refl
 
 -- names that differ, differ both ways
 pub apart_names : (n q : List ℕ) → bytes_eq n q ≡ false → bytes_eq q n ≡ false
@@ -22,7 +16,7 @@ apart_names n q e = by (bytes_eq q n) refl
   where
     by : (b : Bool) → bytes_eq q n ≡ b → bytes_eq q n ≡ false
     by false f = f
-    by true f = let g : bytes_eq n n ≡ false = subst (λ (z : List ℕ). bytes_eq n z ≡ false) (same_name q n f) e in absurd (false≢true (sym g ∙ own_name n))
+    by true f = let g : bytes_eq n n ≡ false = subst (λ (z : List ℕ). bytes_eq n z ≡ false) (same_text q n f) e in absurd (false≢true (sym g ∙ text_itself n))
 
 -- THE TABLES
 
@@ -42,9 +36,9 @@ other_set n q (one ∷ rows) w apart = by (bytes_eq n one.0) (bytes_eq q one.0) 
     by : (b c : Bool) → bytes_eq n one.0 ≡ b → bytes_eq q one.0 ≡ c → lookup (bytes_eq q) (set_value (bytes_eq n) rows w) ≡ lookup (bytes_eq q) rows
         → lookup (bytes_eq q) (set_value (bytes_eq n) (one ∷ rows) w) ≡ lookup (bytes_eq q) (one ∷ rows)
     by true true e f rest =
-        let g : n ≡ q = same_name n one.0 e ∙ sym (same_name q one.0 f) in
+        let g : n ≡ q = same_text n one.0 e ∙ sym (same_text q one.0 f) in
         let h : bytes_eq n n ≡ false = subst (λ (z : List ℕ). bytes_eq n z ≡ false) (sym g) apart in
-        absurd (false≢true (sym h ∙ own_name n))
+        absurd (false≢true (sym h ∙ text_itself n))
     by true false e f rest = rw (e, f) refl
     by false true e f rest = rw (e, f) refl
     by false false e f rest = rw (e, f) rest
@@ -65,7 +59,7 @@ other_row f n q rows apart = by (node_in rows n)
 
 -- a row that is added is found where there was none, and no other
 pub own_added : (n : List ℕ) (row : NodeRow) (rows : List (List ℕ × NodeRow)) → node_in rows n ≡ None → node_in (rows ++ (n, row) ∷ []) n ≡ Some row
-own_added n row [] none = rw (own_name n) refl
+own_added n row [] none = rw (text_itself n) refl
 own_added n row (one ∷ rows) none = by (bytes_eq n one.0) refl (own_added n row rows)
   where
     by : (b : Bool) → bytes_eq n one.0 ≡ b → (node_in rows n ≡ None → node_in (rows ++ (n, row) ∷ []) n ≡ Some row) → node_in (one ∷ (rows ++ (n, row) ∷ [])) n ≡ Some row
@@ -100,14 +94,14 @@ other_told g n q (node ∷ nodes) keeps apart = by (bytes_eq node.name n) (bytes
     by : (b c : Bool) → bytes_eq node.name n ≡ b → bytes_eq node.name q ≡ c → node_told (with_told g n nodes) q ≡ node_told nodes q
         → node_told (with_told g n (node ∷ nodes)) q ≡ node_told (node ∷ nodes) q
     by true true e f rest =
-        let h : bytes_eq node.name q ≡ false = rw (same_name node.name n e) apart in
+        let h : bytes_eq node.name q ≡ false = rw (same_text node.name n e) apart in
         absurd (false≢true (sym h ∙ f))
     by true false e f rest = rw (e, keeps node, f) rest
     by false true e f rest = rw (e, f) refl
     by false false e f rest = rw (e, f) rest
 
 pub own_told_added : (n : List ℕ) (node : NodeState) (nodes : List NodeState) → node.name ≡ n → node_told nodes n ≡ None → node_told (nodes ++ node ∷ []) n ≡ Some node
-own_told_added n node [] named none = rw (named, own_name n) refl
+own_told_added n node [] named none = rw (named, text_itself n) refl
 own_told_added n node (one ∷ nodes) named none = by (bytes_eq one.name n) refl (own_told_added n node nodes named)
   where
     by : (b : Bool) → bytes_eq one.name n ≡ b → (node_told nodes n ≡ None → node_told (nodes ++ node ∷ []) n ≡ Some node) → node_told (one ∷ (nodes ++ node ∷ [])) n ≡ Some node

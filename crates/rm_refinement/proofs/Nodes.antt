@@ -3,13 +3,14 @@ use Rattle.std.proofs.Common.{◌≡◌, ℕ, List, [], ◌∷◌, ◌++◌, Boo
 use Rattle.std.specs.Prelude.{option_map}
 use Rattle.std.specs.Str.{bytes_eq}
 use Rattle.rm_types.specs.declared.resources.Resource.{Resource}
+use Rattle.rm_types.proofs.TestLemmas.{same_text}
 use Rattle.rm_book.specs.Books.{BookOf, capability_of}
 use Rattle.rm_model.specs.State.{NodeState, Row}
 use Rattle.rm_model.specs.Nodes.{node_of as node_told, tidied_node, with_node as with_told}
 use Rattle.rm_tables.specs.declared.nodes.NodeRow.{NodeRow}
 use Rattle.rm_tables.specs.Nodes.{node_of as node_in, with_node}
 use Rattle.rm_refinement.specs.Agreement.{SameNodes, bare_node, plain_node}
-use Rattle.rm_refinement.proofs.Found.{KeepsName, found_each, other_added, other_row, other_told, other_told_added, own_added, own_row, own_told, own_told_added, same_name}
+use Rattle.rm_refinement.proofs.Found.{KeepsName, found_each, other_added, other_row, other_told, other_told_added, own_added, own_row, own_told, own_told_added}
 
 -- one node changes, and with it what the book has it offer
 pub changed_same : (book now : BookOf) (n : List ℕ) (f : NodeRow → NodeRow) (g : NodeState → NodeState) (rows : List (List ℕ × NodeRow)) (nodes : List NodeState) → KeepsName g
@@ -33,7 +34,7 @@ changed_same book now n f g rows nodes keeps others same change = λ q. by q (by
 
     by : (q : List ℕ) (b : Bool) → bytes_eq n q ≡ b → option_map (bare_node now q) (node_in (with_node f n rows) q) ≡ option_map plain_node (node_told (with_told g n nodes) q)
     by q true e =
-        subst (λ (z : List ℕ). option_map (bare_node now z) (node_in (with_node f n rows) z) ≡ option_map plain_node (node_told (with_told g n nodes) z)) (same_name n q e)
+        subst (λ (z : List ℕ). option_map (bare_node now z) (node_in (with_node f n rows) z) ≡ option_map plain_node (node_told (with_told g n nodes) z)) (same_text n q e)
         (ap (option_map (bare_node now n)) (own_row f n rows) ∙ own (node_in rows n) (node_told nodes n) refl refl (same n) ∙ sym (ap (option_map plain_node) (own_told g n nodes keeps)))
     by q false e =
         ap (option_map (bare_node now q)) (other_row f n q rows e) ∙ offers q (others q e) (node_in rows q) ∙ same q ∙ sym (ap (option_map plain_node) (other_told g n q nodes keeps e))
@@ -51,7 +52,7 @@ added_same book n row node rows nodes named same no_row no_node alike = λ q. by
   where
     by : (q : List ℕ) (b : Bool) → bytes_eq n q ≡ b → option_map (bare_node book q) (node_in (rows ++ (n, row) ∷ []) q) ≡ option_map plain_node (node_told (nodes ++ node ∷ []) q)
     by q true e =
-        subst (λ (z : List ℕ). option_map (bare_node book z) (node_in (rows ++ (n, row) ∷ []) z) ≡ option_map plain_node (node_told (nodes ++ node ∷ []) z)) (same_name n q e)
+        subst (λ (z : List ℕ). option_map (bare_node book z) (node_in (rows ++ (n, row) ∷ []) z) ≡ option_map plain_node (node_told (nodes ++ node ∷ []) z)) (same_text n q e)
         (ap (option_map (bare_node book n)) (own_added n row rows no_row) ∙ ap Some alike ∙ sym (ap (option_map plain_node) (own_told_added n node nodes named no_node)))
     by q false e = ap (option_map (bare_node book q)) (other_added n q row rows e) ∙ same q ∙ sym (ap (option_map plain_node) (other_told_added n q node nodes named e))
 

@@ -6,8 +6,8 @@ use Rattle.rm_types.specs.declared.containers.BookRow.{BookRow}
 use Rattle.rm_types.specs.declared.ids.ContainerId.{ContainerId}
 use Rattle.rm_types.specs.Ids.{is_container}
 use Rattle.rm_types.specs.Records.{is_some_and}
+use Rattle.rm_types.proofs.IdLemmas.{same_container}
 use Rattle.rm_book.specs.Books.{AreApart, is_of}
-use Rattle.rm_book.proofs.Ids.{same_container}
 use Rattle.rm_book.proofs.Lists.{any_view}
 use Rattle.rm_model.specs.Containers.{row_of as row_told}
 use Rattle.rm_model.specs.State.{Row}

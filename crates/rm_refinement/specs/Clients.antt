@@ -43,11 +43,13 @@ pub record RowRefines (m : Scene) (id : AppId) (row : AppRow) : Type 0 where
   pub accepted : (is_accepted m id || not (is_nil (kept_attempts m id))) ≡ is_some row.current
   pub saving : awaits m (is_app_op id) ≡ is_saving row.state
 
--- an application without a row isn't known
+-- an application without a row isn't known: nothing of it was issued, and it was not accepted unless it was removed since
 pub record NoRowRefines (m : Scene) (id : AppId) : Type 0 where
   pub unknown : is_known m id ≡ false
   pub unkept : kept_record m id ≡ None
   pub waits : waiting_submission m.life.apps.submitted id ≡ None
+  pub unissued : awaits m (is_app_op id) ≡ false
+  pub unaccepted : has_app m.life.apps.retired id ≡ false → is_accepted m id ≡ false
 
 -- what is shown of an application, by its row
 abbrev pub RefinesAt : Scene → AppId → Option AppRow → Type 0

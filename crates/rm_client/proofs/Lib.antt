@@ -1,0 +1,4 @@
+pub mod Submitted
+pub mod Same
+pub mod SameLife
+pub mod Served
