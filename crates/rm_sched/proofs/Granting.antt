@@ -75,15 +75,6 @@ turns_more rows asks apps place app e =
     by false f = rw f refl
 
 -- what a grant answers
-pub answered_some : (asks : List AsksOf) (grant : Grant) (found : Option Ask) (priority : ℕ) → option_map (λ ask. ask.priority) found ≡ Some priority
-    → answered asks grant found ≡ granted_in grant.id.attempt priority grant.size asks
-answered_some asks grant None priority e = cc
-answered_some asks grant (Some ask) priority e = let same : ask.priority ≡ priority = cc in rw same refl
-
-pub answered_none : (asks : List AsksOf) (grant : Grant) (found : Option Ask) → option_map (λ ask. ask.priority) found ≡ None → answered asks grant found ≡ asks
-answered_none asks grant None e = refl
-answered_none asks grant (Some ask) e = cc
-
 pub found_line : (lines : List AskLine) (size : Resource)
     → option_map (λ line. line.ask.priority) (find (λ line. is_size line.ask.size size) lines) ≡ option_map (λ ask. ask.priority) (find (λ one. is_size one.size size) (map (λ line. line.ask) lines))
 found_line [] size = refl

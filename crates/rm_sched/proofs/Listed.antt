@@ -1,10 +1,11 @@
 -- Lists of endings that are made and then set leave the rows as if each ending had been told to its row at once.
-use Rattle.std.proofs.Common.{◌≡◌, Bool, true, false, List, [], ◌∷◌, ◌++◌, Option, None, Some, Result, Ok, Err, OnOk, is_some, option_map, refl, sym, ap, ◌∙◌, arith}
+use Rattle.std.proofs.Common.{◌≡◌, Bool, true, false, List, [], ◌∷◌, ◌++◌, Option, None, Some, option_map, refl, sym, ap, ◌∙◌, arith}
 use Rattle.std.proofs.lemmas.Bool.Decides.{nat_tests}
 use Rattle.std.specs.Map.{lookup, set_value}
 use Rattle.rm_types.specs.declared.containers.Closing.{Closing}
 use Rattle.rm_types.specs.declared.ids.AppId.{AppId}
 use Rattle.rm_types.specs.Ids.{is_app}
+use Rattle.rm_types.proofs.IdLemmas.{same_app}
 use Rattle.rm_tables.specs.declared.rows.AppRow.{AppRow}
 use Rattle.rm_tables.specs.Leaving.{closed, closed_one, telling}
 use Rattle.rm_tables.specs.Rows.{row_in, row_of, slot_of, with_row, with_slot}
@@ -16,9 +17,6 @@ Slots = List (AppId × Option AppRow)
 
 abbrev Lists : Type 0
 Lists = List (AppId × List Closing)
-
-app_is : (a b : AppId) → is_app a b ≡ true → a ≡ b
-app_is a b h = grind (arith, nat_tests)
 
 not_both : (a b x : AppId) → is_app a b ≡ false → is_app a x ≡ true → is_app b x ≡ false
 not_both a b x e f = grind (arith, nat_tests)
@@ -90,7 +88,7 @@ ending_here c (x ∷ lists) rows v l = by (is_app c.id.attempt.app x.0) refl (en
     by : (b : Bool) → is_app c.id.attempt.app x.0 ≡ b → (lookup (is_app c.id.attempt.app) lists ≡ Some v → with_lists (with_ending lists c) rows ≡ closed_one (with_lists lists rows) c)
         → with_lists (with_ending (x ∷ lists) c) rows ≡ closed_one (with_lists (x ∷ lists) rows) c
     by true e rest =
-        let own = app_is c.id.attempt.app x.0 e in
+        let own = same_app c.id.attempt.app x.0 e in
         let join = changes_join (telling x.1) (closed c) x.0 (with_lists lists rows) in
         rw e (sym (ap (λ id. with_row (closed c) id (with_row (telling x.1) x.0 (with_lists lists rows))) own ∙ join))
     by false e rest =
@@ -133,10 +131,6 @@ pub lists_end : (lists : Lists) (rows : Slots) (id : AppId) (v : List Closing) �
 lists_end [] rows id v = refl
 lists_end (x ∷ lists) rows id v = ap (with_row (telling x.1) x.0) (lists_end lists rows id v)
 
-pub none_from : {X : Type 0} (o : Option X) → is_some o ≡ false → o ≡ None
-none_from None e = refl
-none_from (Some v) e = cc
-
 pub ending_there : (c : Closing) (lists : Lists) (rows : Slots) → has_list c.id.attempt.app lists ≡ true → with_lists (with_ending lists c) rows ≡ closed_one (with_lists lists rows) c
 ending_there c lists rows t = by (lookup (is_app c.id.attempt.app) lists) refl
   where
@@ -154,7 +148,3 @@ pub ending_first : (c : Closing) (lists new : Lists) (rows : Slots) (row : AppRo
 ending_first c lists new rows row none found e =
     let alike = changes_alike (telling (row.closings ++ c ∷ [])) (closed c) c.id.attempt.app rows row found refl in
     ap (λ (l : Lists). with_lists l rows) e ∙ lists_end lists rows c.id.attempt.app (row.closings ++ c ∷ []) ∙ ap (with_lists lists) alike ∙ ending_past c lists rows none
-
-pub on_ok_map : {X E P Q : Type 0} (r : Result X E) → (P → Q) → OnOk r P → OnOk r Q
-on_ok_map (Ok x) f p = f p
-on_ok_map (Err e) f p = tt

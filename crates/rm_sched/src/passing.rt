@@ -225,6 +225,13 @@ fn grants_on(t: &Tables, name: &Text, ready: bool) -> Result<Items<Grant>, NoMem
     }
 }
 
+/// The gaps that removed applications left among the records are closed, over which a pass would walk anew at each record.
+fn close_gaps(t: &mut Tables)
+    ensures { t.new ≡ t.old }
+{
+    t.tree.close_gaps();
+}
+
 /// NodeUpdate: a pass answers a beat.
 pub fn updated(t: &mut Tables, name: &Text) -> Result<Entry, NoMemory>
     requires few { AreFew t.old }
@@ -239,6 +246,7 @@ pub fn updated(t: &mut Tables, name: &Text) -> Result<Entry, NoMemory>
     let logged = name.copy()?;
     let node = Boxed::new(t.alloc, logged)?;
     let mut room = Boxed::new(t.alloc, Items::new(t.alloc))?;
+    close_gaps(t);
     let grants = grants_on(t, name, ready)?;
     grant_all(t, name, &grants)?;
     room.set(grants);

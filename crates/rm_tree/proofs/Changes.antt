@@ -1,5 +1,5 @@
 -- What operations on attempts leave of their numbers, and what the end of the last one changes.
-use Rattle.std.proofs.Common.{◌≡◌, ℕ, suc, ◌+◌, ◌-◌, ◌<◌, Bool, true, false, ◌&&◌, List, [], ◌∷◌, ◌++◌, length, map, slice_get, Option, None, Some, is_none, refl, sym, ap, ◌∙◌, arith}
+use Rattle.std.proofs.Common.{◌≡◌, ℕ, suc, ◌+◌, ◌-◌, ◌<◌, Bool, true, false, ◌&&◌, List, [], ◌∷◌, ◌++◌, length, map, Option, None, Some, is_none, refl, sym, ap, ◌∙◌, arith}
 use Rattle.std.specs.Option.{option_map}
 use Rattle.std.proofs.lemmas.Bool.Decides.{nat_tests}
 use Rattle.std.proofs.lemmas.List.{map-append}
@@ -13,14 +13,6 @@ use Rattle.rm_types.specs.Records.{with_end, last_attempt, is_some_and}
 use Rattle.rm_tree.specs.Changes.{with_attempt, with_ended, with_ending, is_next, is_unended_last}
 use Rattle.rm_tree.specs.Numbers.{AreAttemptsFrom}
 use Rattle.rm_tree.specs.Slots.{IsOwn}
-
--- the last attempt is the one at the last place
-pub last_is : (attempts : List AttemptRecord) → last_attempt attempts ≡ slice_get attempts (length attempts - 1)
-last_is [] = refl
-last_is (x ∷ []) = refl
-last_is (x ∷ next ∷ more) =
-    let e : length (x ∷ next ∷ more) - 1 ≡ suc (length (next ∷ more) - 1) = omega arith in
-    rw e (last_is (next ∷ more))
 
 -- one more attempt has the next number
 numbers_end : (id : AppId) (before : ℕ) (attempts : List AttemptRecord) (attempt : AttemptRecord) → AreAttemptsFrom id before attempts

@@ -6,8 +6,8 @@ use Rattle.std.proofs.lemmas.Map.Keys.{IsDistinct-head, IsDistinct-tail}
 use Rattle.indexmap.specs.IndexMap.{insert_entry}
 use Rattle.rm_types.specs.declared.ids.AppId.{AppId}
 use Rattle.rm_types.specs.Ids.{is_app}
+use Rattle.rm_types.proofs.IdLemmas.{app_back}
 use Rattle.rm_tree.specs.Slots.{Slot}
-use Rattle.rm_tree.proofs.Slots.{flips}
 
 -- a slot's id is apart from each that comes later
 apart_later : (id : AppId) (before after : List Slot) (slot : Slot) → AllByRecursion (λ y. is_app id y ≡ false) (keys_of (before ++ slot ∷ after)) → is_app id slot.0 ≡ false
@@ -19,5 +19,5 @@ pub goes_last : (before after : List Slot) (slot : Slot) → IsDistinct is_app (
     → insert_entry is_app before slot.0 slot.1 ++ after ≡ before ++ slot ∷ after
 goes_last [] after slot d = refl
 goes_last (one ∷ before) after slot d =
-    let other : is_app slot.0 one.0 ≡ false = flips slot.0 one.0 ∙ apart_later one.0 before after slot (IsDistinct-head is_app one.0 (keys_of (before ++ slot ∷ after)) d) in
+    let other : is_app slot.0 one.0 ≡ false = app_back slot.0 one.0 ∙ apart_later one.0 before after slot (IsDistinct-head is_app one.0 (keys_of (before ++ slot ∷ after)) d) in
     rw other (ap (λ more. one ∷ more) (goes_last before after slot (IsDistinct-tail is_app one.0 (keys_of (before ++ slot ∷ after)) d)))

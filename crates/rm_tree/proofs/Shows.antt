@@ -2,6 +2,7 @@
 use Rattle.std.proofs.Common.{◌≡◌, ℕ, ◌+◌, ◌==◌, Bool, true, false, not, ◌&&◌, nat_lt, List, [], ◌∷◌, ◌++◌, length, map, filter, Option, None, Some, is_none, is_some, refl, arith}
 use Rattle.std.specs.Option.{option_map}
 use Rattle.std.proofs.lemmas.Bool.Decides.{nat_tests}
+use Rattle.std.proofs.lemmas.Bool.{and_parts}
 use Rattle.rm_types.specs.declared.ids.AppId.{AppId}
 use Rattle.rm_types.specs.declared.ids.AttemptId.{AttemptId}
 use Rattle.rm_types.specs.declared.operations.How.{How}
@@ -13,16 +14,9 @@ use Rattle.rm_types.specs.declared.records.AttemptRecord.{AttemptRecord}
 use Rattle.rm_types.specs.Ids.{is_app, is_attempt}
 use Rattle.rm_types.specs.Lists.{is_nil}
 use Rattle.rm_types.specs.Records.{Records, all_ended, fits_records, is_some_and, last_attempt, new_record, record_of, recorded, with_end, with_record}
+use Rattle.rm_types.proofs.IdLemmas.{app_itself}
 use Rattle.rm_tree.specs.Changes.{is_unended_last, with_attempt, with_ended, with_ending}
 use Rattle.rm_tree.specs.Shows.{shows}
-
--- both tests pass where their conjunction does
-both : (a b : Bool) → (a && b) ≡ true → (a ≡ true) × (b ≡ true)
-both true b e = (refl, e)
-both false b e = cc
-
-is_app-refl : (id : AppId) → is_app id id ≡ true
-is_app-refl id = grind (arith, nat_tests)
 
 -- the record of an application that was changed, where its id stays
 found_changed : (change : AppRecord → AppRecord) → ((app : AppRecord) → (change app).id ≡ app.id) → (id : AppId) (apps : List AppRecord)
@@ -37,7 +31,7 @@ found_changed change keeps id (app ∷ apps) = by (is_app app.id id) refl (found
 
 -- the record of an application that was added
 found_added : (id : AppId) (submission : Submission) (apps : List AppRecord) → is_some (record_of (apps ++ new_record id submission ∷ []) id) ≡ true
-found_added id submission [] = rw (is_app-refl id) refl
+found_added id submission [] = rw (app_itself id) refl
 found_added id submission (app ∷ apps) = by (is_app app.id id) refl (found_added id submission apps)
   where
     by : (b : Bool) → is_app app.id id ≡ b → is_some (record_of (apps ++ new_record id submission ∷ []) id) ≡ true → is_some (record_of ((app ∷ apps) ++ new_record id submission ∷ []) id) ≡ true
@@ -81,14 +75,14 @@ module _ (r : Records) where
       → is_some_and (λ app. not (nat_lt (length app.attempts) id.number)) found ≡ false
   attempt_before id None e = refl
   attempt_before id (Some app) e =
-      let number = (both (all_ended app.attempts) (id.number == length app.attempts + 1) (both (is_none app.ending) _ e).1).1 in
+      let number = (and_parts (all_ended app.attempts) (id.number == length app.attempts + 1) (and_parts (is_none app.ending) _ e).1).1 in
       grind (arith, nat_tests)
 
   attempt_after : (id : AttemptId) (one : AttemptRecord) (found : Option AppRecord) → is_some_and (λ app. is_none app.ending && (all_ended app.attempts && (id.number == length app.attempts + 1))) found ≡ true
       → is_some_and (λ app. not (nat_lt (length app.attempts) id.number)) (option_map (with_attempt one) found) ≡ true
   attempt_after id one None e = cc
   attempt_after id one (Some app) e =
-      let number = (both (all_ended app.attempts) (id.number == length app.attempts + 1) (both (is_none app.ending) _ e).1).1 in
+      let number = (and_parts (all_ended app.attempts) (id.number == length app.attempts + 1) (and_parts (is_none app.ending) _ e).1).1 in
       let more = length_more app.attempts one in
       grind (arith, nat_tests)
 
@@ -104,7 +98,7 @@ module _ (r : Records) where
 
   ending_before : (found : Option AppRecord) → is_some_and (λ app. is_none app.ending && all_ended app.attempts) found ≡ true → is_some_and (λ app. is_some app.ending) found ≡ false
   ending_before None e = refl
-  ending_before (Some app) e = by app.ending (both (is_none app.ending) (all_ended app.attempts) e).0
+  ending_before (Some app) e = by app.ending (and_parts (is_none app.ending) (all_ended app.attempts) e).0
     where
       by : {X : Type 0} (ending : Option X) → is_none ending ≡ true → is_some ending ≡ false
       by None n = refl
@@ -125,7 +119,7 @@ module _ (r : Records) where
 
   -- an operation that fits doesn't show before it
   pub shows_not : (op : Op) → fits_records r op ≡ true → shows r op ≡ false
-  shows_not (Epoch next stamp) e = rw (both (nat_lt r.next_epoch next) (nat_lt r.stamp stamp) e).0 refl
+  shows_not (Epoch next stamp) e = rw (and_parts (nat_lt r.next_epoch next) (nat_lt r.stamp stamp) e).0 refl
   shows_not (App id submission) e = added_before (record_of r.apps id) e
   shows_not (Attempt id master node) e = attempt_before id (record_of r.apps id.app) e
   shows_not (AttemptEnd id how text) e = end_before id (record_of r.apps id.app) e

@@ -14,11 +14,9 @@ use Rattle.rm_types.specs.declared.records.AppRecord.{AppRecord}
 use Rattle.rm_types.specs.declared.duplicate.NoMemory.{NoMemory}
 use Rattle.rm_types.specs.Ids.{is_app}
 use Rattle.rm_types.specs.Records.{record_of, with_record, is_some_and}
+use Rattle.rm_types.proofs.IdLemmas.{app_itself, app_back}
 use Rattle.rm_tree.specs.Numbers.{AreAttemptsFrom, AreApart, AreNumbered}
 use Rattle.rm_tree.specs.Slots.{Slot, present, IsOwn, AreOwn, AreSlots, joined}
-
-pub flips : (a b : AppId) → is_app a b ≡ is_app b a
-flips a b = grind (arith, nat_tests)
 
 different : (y key id : AppId) → is_app key id ≡ true → is_app y key ≡ false → is_app y id ≡ false
 different y key id e f = grind (arith, nat_tests)
@@ -29,9 +27,6 @@ same_id a b e = grind (arith, nat_tests)
 -- the records without an application's
 abbrev pub without : AppId → List AppRecord → List AppRecord
 without id apps = filter (λ app. not (is_app app.id id)) apps
-
-itself : (a : AppId) → is_app a a ≡ true
-itself a = grind (arith, nat_tests)
 
 -- a slot of another application changes nothing
 other_found : (key id : AppId) (v : Option AppRecord) (apps : List AppRecord) → is_app key id ≡ false → IsOwn key v
@@ -86,8 +81,8 @@ module _ (id : AppId) where
     where
       alike : (y key : AppId) → is_app id key ≡ true → is_app key y ≡ false → is_app y id ≡ false
       alike y key e f =
-          let e' : is_app key id ≡ true = sym (flips id key) ∙ e in
-          let f' : is_app y key ≡ false = sym (flips key y) ∙ f in
+          let e' : is_app key id ≡ true = sym (app_back id key) ∙ e in
+          let f' : is_app y key ≡ false = sym (app_back key y) ∙ f in
           different y key id e' f'
 
   -- no record of an application where no slot has its id
@@ -106,9 +101,9 @@ module _ (id : AppId) where
     where
       by : (b : Bool) → is_app id slot.0 ≡ b → record_of (present slots) id ≡ joined (lookup (is_app id) slots) → record_of (present (slot ∷ slots)) id ≡ joined (lookup (is_app id) (slot ∷ slots))
       by true e rest =
-          rw e (here_found slot.0 id slot.1 (present slots) (sym (flips id slot.0) ∙ e) o.0 (later_absent slot slots d o.1 e))
+          rw e (here_found slot.0 id slot.1 (present slots) (sym (app_back id slot.0) ∙ e) o.0 (later_absent slot slots d o.1 e))
       by false e rest =
-          rw e (other_found slot.0 id slot.1 (present slots) (sym (flips id slot.0) ∙ e) o.0 ∙ rest)
+          rw e (other_found slot.0 id slot.1 (present slots) (sym (app_back id slot.0) ∙ e) o.0 ∙ rest)
 
   -- a change under an id is one of the application's record
   pub changed : (change : AppRecord → AppRecord) (slots : List Slot) (v : Option AppRecord) → IsDistinct is_app (keys_of slots) → AreOwn slots
@@ -122,11 +117,11 @@ module _ (id : AppId) where
           let is : slot.1 ≡ v = let l' = rw e at l in cc in
           let rest = (none_there change (present slots) id (later_absent slot slots d o.1 e)).0 in
           rw e (ap (λ w. cons_option (option_map change w) (present slots)) (sym is)
-          ∙ sym (here_changed change slot.0 id slot.1 (present slots) (sym (flips id slot.0) ∙ e) o.0 ∙ ap (cons_option (option_map change slot.1)) rest))
+          ∙ sym (here_changed change slot.0 id slot.1 (present slots) (sym (app_back id slot.0) ∙ e) o.0 ∙ ap (cons_option (option_map change slot.1)) rest))
       by false e more =
           let l' = rw e at l in
           rw e (ap (cons_option slot.1) (more l')
-          ∙ sym (other_changed change slot.0 id slot.1 (present slots) (sym (flips id slot.0) ∙ e) o.0))
+          ∙ sym (other_changed change slot.0 id slot.1 (present slots) (sym (app_back id slot.0) ∙ e) o.0))
 
   -- and a gap is its removal
   pub removed : (slots : List Slot) → IsDistinct is_app (keys_of slots) → AreOwn slots → present (set_value (is_app id) slots None) ≡ without id (present slots)
@@ -137,10 +132,10 @@ module _ (id : AppId) where
           → present (set_value (is_app id) (slot ∷ slots) None) ≡ without id (present (slot ∷ slots))
       by true e more =
           let rest = (none_there (λ app. app) (present slots) id (later_absent slot slots d o.1 e)).1 in
-          rw e (sym (here_removed slot.0 id slot.1 (present slots) (sym (flips id slot.0) ∙ e) o.0 ∙ rest))
+          rw e (sym (here_removed slot.0 id slot.1 (present slots) (sym (app_back id slot.0) ∙ e) o.0 ∙ rest))
       by false e more =
           rw e (ap (cons_option slot.1) more
-          ∙ sym (other_removed slot.0 id slot.1 (present slots) (sym (flips id slot.0) ∙ e) o.0))
+          ∙ sym (other_removed slot.0 id slot.1 (present slots) (sym (app_back id slot.0) ∙ e) o.0))
 
   -- a value that is of its slot's id leaves each slot its own
   pub own_set : (slots : List Slot) (v w : Option AppRecord) → lookup (is_app id) slots ≡ Some v → AreOwn slots → ((key : AppId) → key ≡ id → IsOwn key v → IsOwn key w)
@@ -208,7 +203,7 @@ pub apart : (slots : List Slot) → IsDistinct is_app (keys_of slots) → AreOwn
 apart [] d o = tt
 apart ((key, None) ∷ slots) d o = apart slots (IsDistinct-tail is_app key (keys_of slots) d) o.1
 apart ((key, Some app) ∷ slots) d o = (
-  rw o.0.same (later_absent key (key, Some app) slots d o.1 (itself key)),
+  rw o.0.same (later_absent key (key, Some app) slots d o.1 (app_itself key)),
   apart slots (IsDistinct-tail is_app key (keys_of slots) d) o.1,
 )
 
@@ -398,14 +393,6 @@ slot_tried change id old new count v w (Ok done) keeps a l ok err e =
 slot_tried change id old new count v w (Err error) keeps a l ok err e =
     let h = slot_changed (λ app. app) id old new count v w (λ key k o. subst (IsOwn key) (same_again v) o) a l (err ∙ same_again v) e in
     record { slots = h.slots; ok = tt; err = h.view ∙ same_list id (present old) }
-
-pub on_err : {X E : Type 0} {P : Type 0} (r : Result X E) → P → OnErr r P
-on_err (Ok x) p = tt
-on_err (Err error) p = p
-
-pub on_ok : {X E : Type 0} {P : Type 0} (r : Result X E) → P → OnOk r P
-on_ok (Ok x) p = p
-on_ok (Err error) p = tt
 
 -- no more records than slots
 fewer : (slots : List Slot) → length (present slots) ≤ length slots

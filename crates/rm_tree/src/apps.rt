@@ -145,7 +145,7 @@ impl Apps {
     {
         self.leave_gap(id);
         if self.count < self.slots.len() / 2 {
-            self.close_gaps();
+            self.drop_gaps();
         }
     }
 
@@ -157,8 +157,17 @@ impl Apps {
         self.count -= usize::from(was_there);
     }
 
-    /// Closes the gaps, so that the record at a place is found without a walk.
+    /// Closes the gaps, so that the record at a place is found without a walk. It does nothing where there is none.
     pub fn close_gaps(&mut self)
+        ensures { self.new ≡ self.old }
+    {
+        if self.count < self.slots.len() {
+            self.drop_gaps();
+        }
+    }
+
+    /// Moves the records together.
+    fn drop_gaps(&mut self)
         ensures { self.new ≡ self.old }
     {
         self.slots.retain(

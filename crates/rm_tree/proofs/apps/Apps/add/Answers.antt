@@ -1,8 +1,9 @@
 use Rattle.std.proofs.Common.{◌≡◌, ◌+◌, [], ◌∷◌, ◌++◌, Some, ◌∙◌}
 use Rattle.indexmap.proofs.CallerLemmas.{insert_entry-new}
 use Rattle.rm_types.specs.Ids.{is_app}
+use Rattle.rm_types.proofs.TestLemmas.{on_err}
 use Rattle.rm_tree.specs.Slots.{AreSlots, present}
-use Rattle.rm_tree.proofs.Slots.{slot_added, slot_not_added, on_err}
+use Rattle.rm_tree.proofs.Slots.{slot_added, slot_not_added}
 use Rattle.rm_tree.proofs.apps.Apps.add.Goals as goal
 
 pub invariant_of-self : goal.invariant_of-self

@@ -1,7 +1,7 @@
 use Rattle.std.proofs.Common.{rules, ◌≡◌}
 use Rattle.indexmap.proofs.CallerLemmas.{filter-RetainsPairs}
 use Rattle.rm_tree.proofs.Slots.{closed, slots_closed}
-use Rattle.rm_tree.proofs.apps.Apps.close_gaps.Goals as goal
+use Rattle.rm_tree.proofs.apps.Apps.drop_gaps.Goals as goal
 
 kept : (c : goal.After-retain) → c.retain.new.self.entries ≡ closed c.self.inside.slots.entries
 kept c = filter-RetainsPairs _ _ _ (λ k v b w g call. search rules) _ _ c.retain.ensures.filtered
