@@ -16,3 +16,4 @@ pub mod Phases
 pub mod Settling
 pub mod Transitions
 pub mod NodeTransitions
+pub mod ContainerTransitions

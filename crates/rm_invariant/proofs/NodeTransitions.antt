@@ -22,6 +22,7 @@ use Rattle.rm_types.specs.declared.operations.Op.TheVariants as ops
 use Rattle.rm_types.specs.declared.replies.Reply.{Reply}
 use Rattle.rm_types.specs.declared.replies.Reply.TheVariants as replies
 use Rattle.rm_types.specs.declared.resources.Resource.{Resource}
+use Rattle.rm_types.proofs.TestLemmas.{same_text}
 use Rattle.rm_attempt.specs.declared.states.AttemptState.{AttemptState}
 use Rattle.rm_attempt.specs.declared.states.AttemptState.TheVariants as attempts
 use Rattle.rm_book.specs.Books.{BookOf, row_of as book_row_of}
@@ -52,7 +53,7 @@ use Rattle.rm_tables.specs.Rows.{row_of}
 use Rattle.rm_tables.specs.SchedEvents.{is_on, is_released, queued_at, queued_by, queued_with, sched_step}
 use Rattle.rm_invariant.specs.events.Outcomes.{Outcome, accepts, adds, delays, ends, ends_one, follows, idles, issues, kills, loses, orders, removes, requeues, saves}
 use Rattle.rm_invariant.proofs.events.Outcomes.{main_outcome}
-use Rattle.rm_refinement.proofs.Found.{other_added, other_row, own_row, same_name}
+use Rattle.rm_refinement.proofs.Found.{other_added, other_row, own_row}
 use Rattle.rm_client.specs.Answers.{after_client, taken_by, wished_by}
 use Rattle.rm_master.specs.Answers.{after_master, is_new_to}
 use Rattle.rm_master.specs.Told.{goes_on, spoken_by}
@@ -75,9 +76,9 @@ back_with R f n nodes own stays name now found = by (bytes_eq n name) refl
 
     by : (b : Bool) → bytes_eq n name ≡ b → (was : NodeRow) × (node_of nodes name ≡ Some was) × R was.state now.state
     by true e =
-        let here : node_of (with_node f n nodes) n ≡ Some now = subst (λ (m : List ℕ). node_of (with_node f n nodes) m ≡ Some now) (sym (same_name n name e)) found in
+        let here : node_of (with_node f n nodes) n ≡ Some now = subst (λ (m : List ℕ). node_of (with_node f n nodes) m ≡ Some now) (sym (same_text n name e)) found in
         let x = changed (node_of nodes n) refl (sym (own_row f n nodes) ∙ here) in
-        (x.0, subst (λ (m : List ℕ). node_of nodes m ≡ Some x.0) (same_name n name e) x.1, x.2)
+        (x.0, subst (λ (m : List ℕ). node_of nodes m ≡ Some x.0) (same_text n name e) x.1, x.2)
     by false e = (now, sym (other_row f n name nodes e) ∙ found, stays now.state)
 
 back_same : (nodes : List (List ℕ × NodeRow)) → Back Same nodes nodes
@@ -221,7 +222,7 @@ module _ (t : Tables) where
       more none q before now there then = at_name (bytes_eq name q) refl
         where
           at_name : (b : Bool) → bytes_eq name q ≡ b → NodeFollowsTable before.state now.state
-          at_name true e = let x = subst (λ (m : List ℕ). node_of t.nodes m ≡ None) (same_name name q e) none in let y = sym x ∙ there in cc
+          at_name true e = let x = subst (λ (m : List ℕ). node_of t.nodes m ≡ None) (same_text name q e) none in let y = sym x ∙ there in cc
           at_name false e = still q before now there (sym (other_added name q (new_row turn capability running reply) t.nodes e) ∙ then)
 
       later : (row : NodeRow) (b : Bool) → nat_lt row.turn turn ≡ b → NodesFollowTable t.nodes (registered_by (Some row) name turn capability running reply t).nodes

@@ -19,6 +19,7 @@ use Rattle.rm_types.specs.declared.operations.Op.{Op}
 use Rattle.rm_types.specs.declared.operations.Op.TheVariants as ops
 use Rattle.rm_types.specs.declared.replies.Reply.{Reply}
 use Rattle.rm_types.specs.declared.replies.Reply.TheVariants as replies
+use Rattle.rm_types.proofs.TestLemmas.{never_nil}
 use Rattle.rm_attempt.specs.declared.states.AttemptState.{AttemptState}
 use Rattle.rm_attempt.specs.declared.states.AttemptState.TheVariants as attempts
 use Rattle.rm_book.specs.Books.{row_of as book_row_of}
@@ -64,10 +65,6 @@ none_made : {X Y : Type 0} (p : Y → Bool) (make : X → Y) → ((x : X) → p 
 none_made p make none [] = refl
 none_made p make none (x ∷ xs) = let here = none x in rw here (none_made p make none xs)
 
-some_more : {X : Type 0} (xs : List X) (x : X) → xs ++ x ∷ [] ≢ []
-some_more [] x = λ e. cc
-some_more (y ∷ ys) x = λ e. cc
-
 -- without the first event of a queue
 main_popped_stays : (t next : Tables) → KeepsFixed t next → KeepsFixed t (main_popped next)
 main_popped_stays t next s =
@@ -103,21 +100,21 @@ module _ (t : Tables) where
   outcome_stays : (done : Entry × Tables) → Outcome t done → KeepsFixed t done.1
   outcome_stays done idles = record { settings = refl; alloc = refl; alive = refl; epoch = refl; blown = refl; calm = λ c. c; handed = λ before. before; begun = nothing_begins }
   outcome_stays done (saves id row submission rest found waits front) =
-      record { settings = refl; alloc = refl; alive = refl; epoch = refl; blown = refl; calm = λ c. c; handed = λ before is. some_more t.awaiting (ops.App id submission); begun = λ b. record { main = b.main; awaiting = op_begins (ops.App id submission) refl b } }
+      record { settings = refl; alloc = refl; alive = refl; epoch = refl; blown = refl; calm = λ c. c; handed = λ before is. never_nil t.awaiting (ops.App id submission); begun = λ b. record { main = b.main; awaiting = op_begins (ops.App id submission) refl b } }
   outcome_stays done (adds id row behind found st at_front) = record { settings = refl; alloc = refl; alive = refl; epoch = refl; blown = refl; calm = λ c. c; handed = λ before. before; begun = λ b. record { main = b.main; awaiting = b.awaiting } }
   outcome_stays done (accepts id row found st) = record { settings = refl; alloc = refl; alive = refl; epoch = refl; blown = refl; calm = λ c. c; handed = λ before. before; begun = λ b. record { main = b.main; awaiting = b.awaiting } }
   outcome_stays done (ends id row how text found stopped is) =
-      record { settings = refl; alloc = refl; alive = refl; epoch = refl; blown = refl; calm = λ c. c; handed = λ before is. some_more t.awaiting (ops.AppEnd id how text); begun = λ b. record { main = b.main; awaiting = op_begins (ops.AppEnd id how text) refl b } }
+      record { settings = refl; alloc = refl; alive = refl; epoch = refl; blown = refl; calm = λ c. c; handed = λ before is. never_nil t.awaiting (ops.AppEnd id how text); begun = λ b. record { main = b.main; awaiting = op_begins (ops.AppEnd id how text) refl b } }
   outcome_stays done (kills id row current at_ number alive going) =
-      record { settings = refl; alloc = refl; alive = refl; epoch = refl; blown = refl; calm = λ c. c; handed = λ before is. some_more t.awaiting _; begun = λ b. record { main = b.main; awaiting = op_begins _ refl b } }
+      record { settings = refl; alloc = refl; alive = refl; epoch = refl; blown = refl; calm = λ c. c; handed = λ before is. never_nil t.awaiting _; begun = λ b. record { main = b.main; awaiting = op_begins _ refl b } }
   outcome_stays done (delays id row current at_ waits going) = record { settings = refl; alloc = refl; alive = refl; epoch = refl; blown = refl; calm = λ c. c; handed = λ before. before; begun = λ b. record { main = b.main; awaiting = b.awaiting } }
   outcome_stays done (issues container node row current at_ st number mine place) =
-      record { settings = refl; alloc = refl; alive = refl; epoch = refl; blown = refl; calm = λ c. c; handed = λ before is. some_more t.awaiting _; begun = λ b. record { main = b.main; awaiting = op_begins _ refl b } }
+      record { settings = refl; alloc = refl; alive = refl; epoch = refl; blown = refl; calm = λ c. c; handed = λ before is. never_nil t.awaiting _; begun = λ b. record { main = b.main; awaiting = op_begins _ refl b } }
   outcome_stays done (requeues container row current behind at_ st number mine place at_front) = record { settings = refl; alloc = refl; alive = refl; epoch = refl; blown = refl; calm = λ c. c; handed = λ before. before; begun = λ b. record { main = b.main; awaiting = b.awaiting } }
   outcome_stays done (orders id container node row current at_ number alive master place) =
       record { settings = refl; alloc = refl; alive = refl; epoch = refl; blown = refl; calm = λ c. c; handed = λ before. before; begun = λ b. record { main = b.main; awaiting = b.awaiting } }
   outcome_stays done (ends_one id row current how text at_ number alive is) =
-      record { settings = refl; alloc = refl; alive = refl; epoch = refl; blown = refl; calm = λ c. c; handed = λ before is. some_more t.awaiting (ops.AttemptEnd id how text); begun = λ b. record { main = b.main; awaiting = op_begins (ops.AttemptEnd id how text) refl b } }
+      record { settings = refl; alloc = refl; alive = refl; epoch = refl; blown = refl; calm = λ c. c; handed = λ before is. never_nil t.awaiting (ops.AttemptEnd id how text); begun = λ b. record { main = b.main; awaiting = op_begins (ops.AttemptEnd id how text) refl b } }
   outcome_stays done (loses container row current at_ st number mine) = record { settings = refl; alloc = refl; alive = refl; epoch = refl; blown = refl; calm = λ c. c; handed = λ before. before; begun = λ b. record { main = b.main; awaiting = b.awaiting } }
   outcome_stays done (follows id row current at_ going st none) = record { settings = refl; alloc = refl; alive = refl; epoch = refl; blown = refl; calm = λ c. c; handed = λ before. before; begun = λ b. record { main = b.main; awaiting = b.awaiting } }
   outcome_stays done (removes id more first many) =
@@ -128,7 +125,7 @@ module _ (t : Tables) where
         epoch = refl;
         blown = refl;
         calm = λ c. c;
-        handed = λ before is. some_more t.awaiting (ops.Remove id);
+        handed = λ before is. never_nil t.awaiting (ops.Remove id);
         begun = λ b. record { main = events_begin (mains.Retire ∷ []) refl b; awaiting = op_begins (ops.Remove id) refl b };
       }
 

@@ -27,6 +27,7 @@ use Rattle.rm_master.specs.Told.{goes_on, spoken_by}
 use Rattle.rm_tracker.specs.Answers.{after_clock, after_node}
 use Rattle.rm_invariant.proofs.messages.Rows.{clock_rows, node_rows}
 use Rattle.rm_types.specs.declared.settings.Settings.{Settings}
+use Rattle.rm_types.proofs.IdLemmas.{same_app}
 use Rattle.rm_model.specs.Facts.{attempts_in}
 use Rattle.rm_app.specs.declared.states.AppState.TheVariants as apps
 use Rattle.rm_tables.specs.declared.events.MainEvent.TheVariants as mains
@@ -70,7 +71,7 @@ use Rattle.rm_tables.specs.SchedEvents.{sched_step}
 use Rattle.rm_refinement.specs.Agreement.{closings_for}
 use Rattle.rm_refinement.specs.History.{History}
 use Rattle.rm_invariant.specs.apps.View.{changed_if, gone_if, put_if}
-use Rattle.rm_invariant.proofs.apps.Found.{is_app_same, row_changed, row_put}
+use Rattle.rm_invariant.proofs.apps.Found.{row_changed, row_put}
 use Rattle.rm_invariant.proofs.apps.Removing.{row_gone}
 use Rattle.rm_invariant.proofs.events.Told.{rows_told, telling_more}
 use Rattle.rm_invariant.proofs.messages.Shapes.{RowsAfter, RowsBy, SchedShape, Shape, main_shape, sched_shape}
@@ -297,7 +298,7 @@ at_goes f id rows row found goes q before now there then = by (is_app id q) refl
   where
     by : (b : Bool) → is_app id q ≡ b → changed_if b f (Some before) ≡ Some now → RowFollowsTables before now
     by true e x =
-        let own : row_of rows id ≡ Some before = ap (row_of rows) (is_app_same id q e) ∙ there in
+        let own : row_of rows id ≡ Some before = ap (row_of rows) (same_app id q e) ∙ there in
         let same : row ≡ before = (let y = sym found ∙ own in cc) in
         let next : f before ≡ now = cc in
         subst (RowFollowsTables before) next (subst (λ (one : AppRow). RowFollowsTables one (f one)) same goes)

@@ -1,6 +1,5 @@
 -- Each event of both queues, and each operation once it is kept, keeps all of it.
 pub mod Outcomes
-pub mod Lists
 pub mod Launches
 pub mod Told
 pub mod Ended

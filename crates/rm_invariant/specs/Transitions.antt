@@ -1,4 +1,4 @@
--- How the states of applications and attempts go by a move: along a row of their tables, or not at all. This project's own.
+-- How the states of applications, attempts, nodes and containers go by a move: along a row of their tables, or not at all. This project's own.
 use Rattle.std.specs.Prelude.{◌≡◌, ◌⊎◌, ℕ, ◌+◌, List, Option, None, Some}
 use Rattle.rm_types.specs.declared.ids.AppId.{AppId}
 use Rattle.rm_app.specs.declared.states.AppState.{AppState}
@@ -14,16 +14,26 @@ use Rattle.rm_node.specs.declared.states.NodeState.{NodeState}
 use Rattle.rm_node.specs.declared.states.NodeEvent.{NodeEvent}
 use Rattle.rm_node.specs.declared.states.NodeAction.{NodeAction}
 use Rattle.rm_node.specs.Table.{Row as NodeTableRow}
+use Rattle.rm_types.specs.declared.containers.BookRow.{BookRow}
+use Rattle.rm_types.specs.declared.containers.ContainerState.{ContainerState}
+use Rattle.rm_types.specs.declared.containers.ContainerState.TheVariants.{Granted, Running, Completed}
+use Rattle.rm_types.specs.declared.ids.ContainerId.{ContainerId}
+use Rattle.rm_container.specs.declared.states.ContainerEvent.{ContainerEvent}
+use Rattle.rm_container.specs.declared.states.ContainerEvent.TheVariants.{End}
+use Rattle.rm_container.specs.declared.states.ContainerAction.{ContainerAction}
+use Rattle.rm_container.specs.Table.{Row as ContainerTableRow}
+use Rattle.rm_book.specs.Books.{BookOf, row_of as book_row_of}
 use Rattle.rm_tables.specs.declared.nodes.NodeRow.{NodeRow}
 use Rattle.rm_tables.specs.Nodes.{node_of}
 use Rattle.rm_tables.specs.declared.rows.AppRow.{AppRow}
 use Rattle.rm_tables.specs.declared.rows.Current.{Current}
 use Rattle.rm_tables.specs.Rows.{row_of}
 
--- a state stays, or a row of the table leads from it to the next one
+-- an application's state stays, or a row of the applications' table leads from it to the next one
 abbrev pub AppFollowsTable : AppState → AppState → Type 0
 AppFollowsTable before now = (now ≡ before) ⊎ ((event : AppEvent) × (action : AppAction) × AppTableRow before event now action)
 
+-- an attempt's state stays, or a row of the attempts' table leads from it to the next one
 abbrev pub AttemptFollowsTable : AttemptState → AttemptState → Type 0
 AttemptFollowsTable before now = (now ≡ before) ⊎ ((event : AttemptEvent) × (action : AttemptAction) × AttemptTableRow before event now action)
 
@@ -42,10 +52,26 @@ pub record RowFollowsTables (before now : AppRow) : Type 0 where
 abbrev pub RowsFollowTables : List (AppId × Option AppRow) → List (AppId × Option AppRow) → Type 0
 RowsFollowTables rows next = (id : AppId) (before now : AppRow) → row_of rows id ≡ Some before → row_of next id ≡ Some now → RowFollowsTables before now
 
--- so does a node's
+-- a node's state stays, or a row of the nodes' table leads from it to the next one
 abbrev pub NodeFollowsTable : NodeState → NodeState → Type 0
 NodeFollowsTable before now = (now ≡ before) ⊎ ((event : NodeEvent) × (action : NodeAction) × NodeTableRow before event now action)
 
--- and each node's that is known before and after a move
+-- each node that is known before and after a move goes so
 abbrev pub NodesFollowTable : List (List ℕ × NodeRow) → List (List ℕ × NodeRow) → Type 0
 NodesFollowTable nodes next = (name : List ℕ) (before now : NodeRow) → node_of nodes name ≡ Some before → node_of next name ≡ Some now → NodeFollowsTable before.state now.state
+
+-- a container's state stays, or a row of the containers' table leads from it to the next one
+abbrev pub ContainerFollowsTable : ContainerState → ContainerState → Type 0
+ContainerFollowsTable before now = (now ≡ before) ⊎ ((event : ContainerEvent) × (action : ContainerAction) × ContainerTableRow before event now action)
+
+-- a container, by its rows in the book before and after a move: one that stays goes so; one that leaves goes to its last state, by its
+-- end; and one that comes was granted by a pass, or runs, as its node reported it
+abbrev pub BookRowFollowsTable : Option BookRow → Option BookRow → Type 0
+BookRowFollowsTable None None = Unit {0}
+BookRowFollowsTable None (Some now) = (now.state ≡ Granted) ⊎ (now.state ≡ Running)
+BookRowFollowsTable (Some before) None = (action : ContainerAction) × ContainerTableRow before.state End Completed action
+BookRowFollowsTable (Some before) (Some now) = ContainerFollowsTable before.state now.state
+
+-- each container that is in the book before a move or after it goes so
+abbrev pub BookFollowsTable : BookOf → BookOf → Type 0
+BookFollowsTable book next = (id : ContainerId) → BookRowFollowsTable (book_row_of book id) (book_row_of next id)

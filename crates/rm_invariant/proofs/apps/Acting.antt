@@ -8,6 +8,7 @@ use Rattle.rm_types.specs.declared.operations.Op.TheVariants as ops
 use Rattle.rm_types.specs.declared.settings.Settings.{Settings}
 use Rattle.rm_types.specs.Ids.{is_app, is_attempt}
 use Rattle.rm_types.specs.Records.{record_of}
+use Rattle.rm_types.proofs.IdLemmas.{same_app}
 use Rattle.rm_model.specs.Changes.{asks_without}
 use Rattle.rm_model.specs.Facts.{attempts_in, last_end}
 use Rattle.rm_model.specs.Issuing.{end_by}
@@ -23,7 +24,7 @@ use Rattle.rm_invariant.specs.apps.View.{View, view, main_view, op_view}
 use Rattle.rm_invariant.specs.apps.Invariant.{RowInvariant}
 use Rattle.rm_invariant.specs.Step.{AppsInvariant, Step}
 use Rattle.rm_invariant.proofs.apps.Effects.{main_taken, op_end}
-use Rattle.rm_invariant.proofs.apps.Found.{is_app_same, row_changed}
+use Rattle.rm_invariant.proofs.apps.Found.{row_changed}
 use Rattle.rm_invariant.proofs.apps.Keeping.{step_own}
 use Rattle.rm_invariant.specs.apps.Ends.{none_if}
 use Rattle.rm_invariant.proofs.apps.Asked.{asks_gone}
@@ -59,4 +60,4 @@ module _ (settings : Settings) (h : History) (t : Tables) (k : AppsInvariant set
       seen q = rw (op_end (ending h t id) (record (main_popped t) { rows = (app_ends id how text t).rows; asks = (app_ends id how text t).asks }) q (ops.AppEnd id how text), asks_gone (next_in t id) q h.asks) refl
 
       yours : (q : AttemptId) (v : View) → is_app id q.app ≡ true → ended_view t id how text q v ≡ over_view q v
-      yours q v same = let is : id ≡ q.app = is_app_same id q.app same in rw (same, is) refl
+      yours q v same = let is : id ≡ q.app = same_app id q.app same in rw (same, is) refl

@@ -7,13 +7,14 @@ use Rattle.rm_types.specs.declared.operations.Submission.{Submission}
 use Rattle.rm_types.specs.declared.records.AppRecord.{AppRecord}
 use Rattle.rm_types.specs.Ids.{is_app}
 use Rattle.rm_types.specs.Records.{new_record, record_of, with_record}
+use Rattle.rm_types.proofs.IdLemmas.{same_app, app_itself}
 use Rattle.rm_tables.specs.declared.events.MainEvent.{MainEvent}
 use Rattle.rm_tables.specs.declared.tables.Tables.{Tables}
 use Rattle.rm_tables.specs.Opening.{going_in}
 use Rattle.rm_invariant.specs.apps.Completed.{AllLater, Completes, InOrder, is_retire, order_in, order_of}
 use Rattle.rm_invariant.specs.apps.View.{changed_if, gone_if, one_if, put_if}
 use Rattle.rm_invariant.proofs.apps.Counts.{at_end, at_front}
-use Rattle.rm_invariant.proofs.apps.Found.{found_gone, is_app-refl, is_app_same, record_put}
+use Rattle.rm_invariant.proofs.apps.Found.{found_gone, record_put}
 
 -- an event that looks for one to remove is left where another one goes, and where one more is posted
 pub retire_left : (main : List MainEvent) (e : MainEvent) (rest : List MainEvent) → main ≡ e ∷ rest → is_retire e ≡ false → 1 ≤ count_by is_retire main → 1 ≤ count_by is_retire (drop 1 main)
@@ -46,13 +47,13 @@ completes_still t next c tree ended settings more =
 later_same : (apps others : List AppRecord) → (n : ℕ) (ids : List AppId) → ((q : AppId) → 1 ≤ count_by (λ id. is_app id q) ids → order_of others q ≡ order_of apps q) → AllLater apps n ids → AllLater others n ids
 later_same apps others n [] same l = tt
 later_same apps others n (id ∷ ids) same l =
-    let here : order_of others id ≡ order_of apps id = same id (let g : count_by (λ (x : AppId). is_app x id) (id ∷ ids) ≡ suc (count_by (λ (x : AppId). is_app x id) ids) = at_front (λ (x : AppId). is_app x id) id ids ∙ rw (is_app-refl id) refl in omega (arith, g)) in
+    let here : order_of others id ≡ order_of apps id = same id (let g : count_by (λ (x : AppId). is_app x id) (id ∷ ids) ≡ suc (count_by (λ (x : AppId). is_app x id) ids) = at_front (λ (x : AppId). is_app x id) id ids ∙ rw (app_itself id) refl in omega (arith, g)) in
     (rw here l.0, later_same apps others n ids (λ q some. same q (let g = at_front (λ (x : AppId). is_app x q) id ids in let m = one_at_least (is_app id q) (count_by (λ (x : AppId). is_app x q) ids) in omega (arith, some, g, m))) l.1)
 
 pub order_same : (apps others : List AppRecord) (ids : List AppId) → ((q : AppId) → 1 ≤ count_by (λ id. is_app id q) ids → order_of others q ≡ order_of apps q) → InOrder apps ids → InOrder others ids
 order_same apps others [] same o = tt
 order_same apps others (id ∷ ids) same o =
-    let here : order_of others id ≡ order_of apps id = same id (let g : count_by (λ (x : AppId). is_app x id) (id ∷ ids) ≡ suc (count_by (λ (x : AppId). is_app x id) ids) = at_front (λ (x : AppId). is_app x id) id ids ∙ rw (is_app-refl id) refl in omega (arith, g)) in
+    let here : order_of others id ≡ order_of apps id = same id (let g : count_by (λ (x : AppId). is_app x id) (id ∷ ids) ≡ suc (count_by (λ (x : AppId). is_app x id) ids) = at_front (λ (x : AppId). is_app x id) id ids ∙ rw (app_itself id) refl in omega (arith, g)) in
     let under : (q : AppId) → 1 ≤ count_by (λ (x : AppId). is_app x q) ids → order_of others q ≡ order_of apps q = λ q some. same q (let g = at_front (λ (x : AppId). is_app x q) id ids in let m = one_at_least (is_app id q) (count_by (λ (x : AppId). is_app x q) ids) in omega (arith, some, g, m)) in
     (rw here (later_same apps others (order_of apps id) ids under o.0), order_same apps others ids under o.1)
 
@@ -90,7 +91,7 @@ once_new apps id s q none once = by (is_app id q) refl
   where
     by : (b : Bool) → is_app id q ≡ b → kept_at q (apps ++ new_record id s ∷ []) ≤ 1
     by true e =
-        let zero_ : kept_at q apps ≡ 0 = subst (λ (x : AppId). kept_at x apps ≡ 0) (is_app_same id q e) (found_none apps id none) in
+        let zero_ : kept_at q apps ≡ 0 = subst (λ (x : AppId). kept_at x apps ≡ 0) (same_app id q e) (found_none apps id none) in
         let g : kept_at q (apps ++ new_record id s ∷ []) ≡ suc (kept_at q apps) = at_end (λ (one : AppRecord). is_app one.id q) apps (new_record id s) ∙ rw e refl in
         omega (arith, g, zero_)
     by false e =
@@ -201,13 +202,13 @@ completes_ended t next id how text c there none found once applied ended retires
     ended_at (Some one) e = refl
 
     last : order_of next.tree.apps id ≡ t.tree.applied
-    last = ap order_in (found id) ∙ rw (is_app-refl id) (ended_at (record_of t.tree.apps id) there)
+    last = ap order_in (found id) ∙ rw (app_itself id) (ended_at (record_of t.tree.apps id) there)
 
     same : (q : AppId) → 1 ≤ count_by (λ one. is_app one q) t.ended → order_of next.tree.apps q ≡ order_of t.tree.apps q
     same q some = ap order_in (found q) ∙ by (is_app id q) refl
       where
         by : (b : Bool) → is_app id q ≡ b → order_in (changed_if b (with_end_at how text t.tree.applied) (record_of t.tree.apps q)) ≡ order_of t.tree.apps q
-        by true e = absurd (let n : count_by (λ (one : AppId). is_app one q) t.ended ≡ 0 = subst (λ (x : AppId). count_by (λ (one : AppId). is_app one x) t.ended ≡ 0) (is_app_same id q e) none in omega (arith, n, some))
+        by true e = absurd (let n : count_by (λ (one : AppId). is_app one q) t.ended ≡ 0 = subst (λ (x : AppId). count_by (λ (one : AppId). is_app one x) t.ended ≡ 0) (same_app id q e) none in omega (arith, n, some))
         by false e = refl
 
     low : (q : AppId) → order_of next.tree.apps q ≤ t.tree.applied
@@ -215,7 +216,7 @@ completes_ended t next id how text c there none found once applied ended retires
       where
         by : (b : Bool) → is_app id q ≡ b → order_of next.tree.apps q ≤ t.tree.applied
         by true e =
-            let here : order_of next.tree.apps q ≡ t.tree.applied = subst (λ (x : AppId). order_of next.tree.apps x ≡ t.tree.applied) (is_app_same id q e) last in
+            let here : order_of next.tree.apps q ≡ t.tree.applied = subst (λ (x : AppId). order_of next.tree.apps x ≡ t.tree.applied) (same_app id q e) last in
             omega (arith, here)
         by false e =
             let here : order_of next.tree.apps q ≡ order_of t.tree.apps q = ap order_in (found q) ∙ rw e refl in
@@ -259,7 +260,7 @@ completes_removed t next id c none apps applied ended settings more =
     same q some = ap order_in (found q) ∙ by (is_app id q) refl
       where
         by : (b : Bool) → is_app id q ≡ b → order_in (gone_if b (record_of t.tree.apps q)) ≡ order_of t.tree.apps q
-        by true e = absurd (let n : count_by (λ (one : AppId). is_app one q) t.ended ≡ 0 = subst (λ (x : AppId). count_by (λ (one : AppId). is_app one x) t.ended ≡ 0) (is_app_same id q e) none in omega (arith, n, some))
+        by true e = absurd (let n : count_by (λ (one : AppId). is_app one q) t.ended ≡ 0 = subst (λ (x : AppId). count_by (λ (one : AppId). is_app one x) t.ended ≡ 0) (same_app id q e) none in omega (arith, n, some))
         by false e = refl
 
     low : (q : AppId) → order_of (filter (λ app. not (is_app app.id id)) t.tree.apps) q ≤ next.tree.applied

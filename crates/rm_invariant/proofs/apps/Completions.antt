@@ -6,6 +6,7 @@ use Rattle.rm_types.specs.declared.ids.AppId.{AppId}
 use Rattle.rm_types.specs.declared.records.AppRecord.{AppRecord}
 use Rattle.rm_types.specs.Ids.{is_app}
 use Rattle.rm_types.specs.Records.{is_some_and, record_of}
+use Rattle.rm_types.proofs.IdLemmas.{app_itself}
 use Rattle.rm_tables.specs.declared.completed.Completion.{Completion}
 use Rattle.rm_tables.specs.Completed.{completion_of, completions_in, ended_in, put_completion, with_completed}
 use Rattle.rm_invariant.specs.apps.Completed.{AllLater, InOrder, order_of}
@@ -13,13 +14,12 @@ use Rattle.rm_invariant.specs.apps.Recovered.{has_ended}
 use Rattle.rm_invariant.specs.apps.View.{one_if}
 use Rattle.rm_invariant.proofs.apps.Completing.{kept_at}
 use Rattle.rm_invariant.proofs.apps.Counts.{at_front}
-use Rattle.rm_invariant.proofs.apps.Found.{is_app-refl}
 
 -- how often an application is among completions
 abbrev among : AppId → List Completion → ℕ
 among q xs = count_by (λ id. is_app id q) (map (λ (one : Completion). one.id) xs)
 
-swap : (a b : Bool) (n : ℕ) → one_if a (one_if b n) ≡ one_if b (one_if a n)
+pub swap : (a b : Bool) (n : ℕ) → one_if a (one_if b n) ≡ one_if b (one_if a n)
 swap true true n = refl
 swap true false n = refl
 swap false b n = refl
@@ -202,7 +202,7 @@ found_under app apps (one ∷ more) n k = (by (is_app app.id one.id) refl, found
 all_found : (apps : List AppRecord) → ((q : AppId) → kept_at q apps ≤ 1) → AllFound apps apps
 all_found [] once = tt
 all_found (app ∷ apps) once =
-    let own : is_app app.id app.id ≡ true = is_app-refl app.id in
+    let own : is_app app.id app.id ≡ true = app_itself app.id in
     let g : kept_at app.id (app ∷ apps) ≡ suc (kept_at app.id apps) = at_front (λ (x : AppRecord). is_app x.id app.id) app apps ∙ rw own refl in
     let n : kept_at app.id apps ≡ 0 = let o = once app.id in omega (arith, g, o) in
     (rw own refl, found_under app apps apps n (all_found apps (λ q. fewer q (is_app app.id q) refl (once q))))

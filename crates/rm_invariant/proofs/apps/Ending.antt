@@ -10,6 +10,7 @@ use Rattle.rm_types.specs.declared.operations.How.TheVariants as ways
 use Rattle.rm_types.specs.declared.operations.Op.TheVariants as ops
 use Rattle.rm_types.specs.declared.settings.Settings.{Settings}
 use Rattle.rm_types.specs.Records.{record_of}
+use Rattle.rm_types.proofs.IdLemmas.{same_app, app_itself}
 use Rattle.rm_model.specs.Facts.{attempts_in, last_end}
 use Rattle.rm_model.specs.Issuing.{EndsFor, killed_text}
 use Rattle.rm_app.specs.declared.states.AppState.{AppState}
@@ -33,7 +34,7 @@ use Rattle.rm_invariant.specs.apps.Invariant.{RowInvariant, ActiveInvariant, is_
 use Rattle.rm_invariant.specs.Step.{AppsInvariant, Step}
 use Rattle.rm_invariant.proofs.apps.Effects.{main_taken, op_issued, sched_posted}
 use Rattle.rm_invariant.proofs.apps.Events.{quiet}
-use Rattle.rm_invariant.proofs.apps.Found.{is_app-refl, is_app_same, row_changed}
+use Rattle.rm_invariant.proofs.apps.Found.{row_changed}
 use Rattle.rm_invariant.proofs.apps.Keeping.{step_own}
 use Rattle.rm_invariant.proofs.apps.Own.{active_row}
 use Rattle.rm_invariant.proofs.apps.Acting.{app_end_own, ending}
@@ -84,7 +85,7 @@ module _ (settings : Settings) (h : History) (t : Tables) (k : AppsInvariant set
   kill_is_wished : (row : AppRow) → row_of t.rows id ≡ Some row → row.wish ≡ true
   kill_is_wished row found =
       let good : RowInvariant settings at_zero (Some row) (view h t at_zero) = rw found at (k.all at_zero) in
-      let own : main_view at_zero (mains.AppKill id) (view h (main_popped t) at_zero) ≡ kill_more (view h (main_popped t) at_zero) = rw (is_app-refl id) refl in
+      let own : main_view at_zero (mains.AppKill id) (view h (main_popped t) at_zero) ≡ kill_more (view h (main_popped t) at_zero) = rw (app_itself id) refl in
       let says = subst (λ (v : View). RowInvariant settings at_zero (Some row) v) (main_taken h t at_zero (mains.AppKill id) rest front ∙ own) good in
       says.0.killed (omega arith)
 
@@ -243,7 +244,7 @@ module _ (settings : Settings) (h : History) (t : Tables) (k : AppsInvariant set
                 (λ q. sched_posted h (record (main_popped t) { rows = with_row (changed (of_app.Schedule following.number)) a.app t.rows }) q (scheds.AttemptAdded following))
                 (λ q v o. rw o refl) (λ q v o. rw o refl) (λ q v same. rw same refl) (λ q v same. rw same refl)
                 (λ q same says.
-                let here : a.app ≡ q.app = is_app_same a.app q.app same in
+                let here : a.app ≡ q.app = same_app a.app q.app same in
                 let failed = may.failed in
                 let below = may.below in
                 rw here (done_retries settings q row current (view h (main_popped t) q) is active e may.no_wish (rw here at failed) (rw here at below) ((length (attempts_in (record_of t.tree.apps q.app)) + 1) == q.number) (current.number == q.number) refl refl says));

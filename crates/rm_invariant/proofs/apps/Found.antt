@@ -10,22 +10,17 @@ use Rattle.rm_types.specs.declared.operations.Submitted.{Submitted}
 use Rattle.rm_types.specs.declared.records.AppRecord.{AppRecord}
 use Rattle.rm_types.specs.Ids.{is_app}
 use Rattle.rm_types.specs.Records.{record_of}
+use Rattle.rm_types.proofs.IdLemmas.{same_app, app_itself}
 use Rattle.rm_model.specs.Facts.{has_app, waiting_submission}
 use Rattle.rm_tables.specs.declared.rows.AppRow.{AppRow}
 use Rattle.rm_tables.specs.Rows.{slot_of, row_in, row_of, is_empty_slot, is_retired, with_slot, with_row}
 use Rattle.rm_invariant.specs.apps.View.{changed_if, put_if, gone_if, set_if}
 
-pub is_app-refl : (a : AppId) → is_app a a ≡ true
-is_app-refl a = grind (arith, nat_tests)
-
-pub is_app_same : (a b : AppId) → is_app a b ≡ true → a ≡ b
-is_app_same a b h = grind (arith, nat_tests)
-
 pub same_test : (a b q : AppId) → is_app a b ≡ true → is_app a q ≡ is_app b q
 same_test a b q h = grind (arith, nat_tests)
 
 pub ids_alike : IsEquivalence is_app
-ids_alike = record { refl = is_app-refl; symm = λ x y. grind (arith, nat_tests); congr = same_test }
+ids_alike = record { refl = app_itself; symm = λ x y. grind (arith, nat_tests); congr = same_test }
 
 -- a row
 pub some_is : {X : Type 0} (o : Option X) (x : X) → o ≡ Some x → IsSome o
@@ -34,7 +29,7 @@ some_is o x e = rw e refl
 slot_more : (change : AppRow → AppRow) (id q : AppId) (rows : List (AppId × Option AppRow)) (slot : Option AppRow) → slot_of rows id ≡ Some slot → (b : Bool) → is_app id q ≡ b
     → row_in (cond b (Some (option_map change slot)) (slot_of rows q)) ≡ changed_if b change (row_of rows q)
 slot_more change id q rows slot f true e =
-    let same : id ≡ q = is_app_same id q e in
+    let same : id ≡ q = same_app id q e in
     let g : slot_of rows q ≡ Some slot = rw (← same) f in
     rw g refl
 slot_more change id q rows slot f false e = refl
@@ -45,7 +40,7 @@ row_changed change id q rows = by (slot_of rows id) refl
   where
     none : (b : Bool) → is_app id q ≡ b → slot_of rows id ≡ None → row_of rows q ≡ changed_if b change (row_of rows q)
     none true e f =
-        let same : id ≡ q = is_app_same id q e in
+        let same : id ≡ q = same_app id q e in
         let g : slot_of rows q ≡ None = rw (← same) f in
         rw g refl
     none false e f = refl
@@ -59,7 +54,7 @@ row_changed change id q rows = by (slot_of rows id) refl
 empty_more : (change : AppRow → AppRow) (id q : AppId) (rows : List (AppId × Option AppRow)) (slot : Option AppRow) → slot_of rows id ≡ Some slot → (b : Bool) → is_app id q ≡ b
     → is_empty_slot (cond b (Some (option_map change slot)) (slot_of rows q)) ≡ is_retired rows q
 empty_more change id q rows slot f true e =
-    let same : id ≡ q = is_app_same id q e in
+    let same : id ≡ q = same_app id q e in
     let g : slot_of rows q ≡ Some slot = rw (← same) f in
     rw g (by slot)
   where
@@ -173,7 +168,7 @@ row_put id q row rows fresh = ap row_in (slot_put id q (Some row) rows) ∙ by (
     by true e None f = refl
     by true e (Some (Some one)) f = refl
     by true e (Some None) f =
-        let same : id ≡ q = is_app_same id q e in
+        let same : id ≡ q = same_app id q e in
         let g : slot_of rows id ≡ Some None = rw same f in
         absurd (let x = rw g at fresh in cc)
 

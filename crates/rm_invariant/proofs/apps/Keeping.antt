@@ -6,6 +6,7 @@ use Rattle.rm_types.specs.declared.ids.AttemptId.{AttemptId}
 use Rattle.rm_types.specs.declared.settings.Settings.{Settings}
 use Rattle.rm_types.specs.Ids.{is_app}
 use Rattle.rm_types.specs.Records.{Records, records}
+use Rattle.rm_types.proofs.IdLemmas.{same_app}
 use Rattle.rm_model.specs.Changes.{after}
 use Rattle.rm_model.specs.Rules.{Allowed, AllowedIn}
 use Rattle.rm_tables.specs.declared.rows.AppRow.{AppRow}
@@ -15,7 +16,6 @@ use Rattle.rm_refinement.specs.History.{History, abstract_life, abstract_scene, 
 use Rattle.rm_invariant.specs.apps.View.{View, view, changed_if}
 use Rattle.rm_invariant.specs.apps.Invariant.{RowInvariant}
 use Rattle.rm_invariant.specs.Step.{AppsInvariant, Step}
-use Rattle.rm_invariant.proofs.apps.Found.{is_app_same}
 
 -- rows that stay
 pub unchanged : (rows : List (AppId × Option AppRow)) (id q : AppId) → row_of rows q ≡ changed_if (is_app id q) (λ row. row) (row_of rows q)
@@ -46,7 +46,7 @@ module _ (settings : Settings) (h g : History) (t next : Tables) (k : AppsInvari
     where
       by : (q : AttemptId) (b : Bool) → is_app id q.app ≡ b → RowInvariant settings q (changed_if b change (row_of t.rows q.app)) (view g next q)
       by q true e =
-          let here : row_of t.rows q.app ≡ row = rw (← is_app_same id q.app e) found in
+          let here : row_of t.rows q.app ≡ row = rw (← same_app id q.app e) found in
           let says : RowInvariant settings q row (view h t q) = rw here at (k.all q) in
           let old : RowInvariant settings q row (before q (middle q)) = subst (λ (v : View). RowInvariant settings q row v) (was q ∙ mine q (middle q) e) says in
           rw here (subst (λ (v : View). RowInvariant settings q (option_map change row) v) (sym (now q ∙ yours q (middle q) e)) (own q e old))

@@ -14,6 +14,8 @@ use Rattle.rm_types.specs.declared.records.AttemptRecord.{AttemptRecord}
 use Rattle.rm_types.specs.declared.settings.Settings.{Settings}
 use Rattle.rm_types.specs.Ids.{is_app, is_attempt}
 use Rattle.rm_types.specs.Records.{all_ended, is_some_and, last_attempt, record_of, with_end}
+use Rattle.rm_types.proofs.IdLemmas.{same_app, app_itself}
+use Rattle.rm_types.proofs.EndLemmas.{length-ended}
 use Rattle.rm_model.specs.Changes.{asks_without}
 use Rattle.rm_model.specs.Facts.{attempts_in, end_in}
 use Rattle.rm_app.specs.declared.states.AppState.{AppState}
@@ -38,7 +40,7 @@ use Rattle.rm_invariant.specs.Step.{AppsInvariant, Step}
 use Rattle.rm_invariant.proofs.apps.Completing.{with_end_at}
 use Rattle.rm_invariant.proofs.apps.Counts.{at_end}
 use Rattle.rm_invariant.proofs.apps.Effects.{main_end, op_taken, sched_end}
-use Rattle.rm_invariant.proofs.apps.Found.{is_app-refl, is_app_same, row_changed}
+use Rattle.rm_invariant.proofs.apps.Found.{row_changed}
 use Rattle.rm_invariant.proofs.apps.Keeping.{step_own}
 use Rattle.rm_invariant.proofs.apps.Own.{active_row}
 use Rattle.rm_invariant.proofs.apps.Saving.{recorded_more}
@@ -119,10 +121,6 @@ all_end id how text (one ∷ more) e = by (is_some one.ending) (is_attempt one.i
     by true false f g rest = rw (g, f) (rest (let x = rw f at e in x))
     by false false f g rest = absurd (let x = rw (f, g) at e in cc)
 
-map_length : (id : AttemptId) (how : How) (text : List ℕ) (attempts : List AttemptRecord) → length (map (with_end id how text) attempts) ≡ length attempts
-map_length id how text [] = refl
-map_length id how text (one ∷ more) = ap suc (map_length id how text more)
-
 -- what is found after it
 pub record WithEnd (id : AttemptId) (how : How) (text : List ℕ) (found : Option AppRecord) : Type 0 where
   pub stopped : AllHaveEnded (option_map (with_ended id how text) found)
@@ -136,7 +134,7 @@ some_last id (one ∷ more) e = omega arith
 pub ended_record : (id : AttemptId) (how : How) (text : List ℕ) (found : Option AppRecord) → LastIsOpen found id → WithEnd id how text found
 ended_record id how text None goes = cc
 ended_record id how text (Some one) goes =
-    record { stopped = (refl, goes.1, all_end id how text one.attempts goes.4); same = map_length id how text one.attempts; some = some_last id one.attempts goes.2 }
+    record { stopped = (refl, goes.1, all_end id how text one.attempts goes.4); same = length-ended id how text one.attempts; some = some_last id one.attempts goes.2 }
 
 -- Kept AttemptEnd
 module _ (settings : Settings) (h : History) (t : Tables) (k : AppsInvariant settings h t) (id : AttemptId) (how : How) (text : List ℕ) (rest : List Op) (front : t.awaiting ≡ ops.AttemptEnd id how text ∷ rest) where
@@ -151,7 +149,7 @@ module _ (settings : Settings) (h : History) (t : Tables) (k : AppsInvariant set
   same_number n = grind (arith, nat_tests)
 
   with_end_self : op_view id (ops.AttemptEnd id how text) (view h left id) ≡ with_end_op id (view h left id)
-  with_end_self = rw (is_app-refl id.app, same_number id.number) refl
+  with_end_self = rw (app_itself id.app, same_number id.number) refl
 
   pub attempt_end_kept_steps : t.handed ≡ true → Step settings h t (KeptEntry (ops.AttemptEnd id how text)) attempt_over (kept (ops.AttemptEnd id how text) t)
   attempt_end_kept_steps handed =
@@ -178,7 +176,7 @@ module _ (settings : Settings) (h : History) (t : Tables) (k : AppsInvariant set
       rw (all, found) refl)
       (λ q v other. rw other refl) (λ q v other. rw other refl) (λ q v same. rw same refl) (λ q v same. rw same refl)
       (λ q same says.
-      let here : id.app ≡ q.app = is_app_same id.app q.app same in
+      let here : id.app ≡ q.app = same_app id.app q.app same in
       let stopped : AllHaveEnded (option_map (with_ended id how text) (record_of t.tree.apps q.app)) = rw (← here) ended.stopped in
       let lengths : length (attempts_in (option_map (with_ended id how text) (record_of t.tree.apps q.app))) ≡ length (attempts_in (record_of t.tree.apps q.app)) = rw (← here) ended.same in
       attempt_ended settings q awaits.one awaits.current (view h left q) awaits.current_is awaits.active how (option_map (with_ended id how text) (record_of t.tree.apps q.app)) awaits.state stopped lengths one
@@ -245,7 +243,7 @@ module _ (settings : Settings) (h : History) (t : Tables) (k : AppsInvariant set
   pub app_end_kept_steps : t.handed ≡ true → Step settings h t (KeptEntry (ops.AppEnd id how text)) app_over (kept (ops.AppEnd id how text) t)
   app_end_kept_steps handed =
       let good = subst (λ (v : View). RowInvariant settings nth (row_of t.rows id) v) (op_taken h t nth (ops.AppEnd id how text) rest front) (k.all nth) in
-      let awaits = over_awaits settings nth (row_of t.rows id) (view h past nth) (let g = rw (is_app-refl id) at good in g) in
+      let awaits = over_awaits settings nth (row_of t.rows id) (view h past nth) (let g = rw (app_itself id) at good in g) in
       let ended = ended_so how text t.tree.applied (record_of t.tree.apps id) awaits.kept in
       step_own settings h app_over t (kept (ops.AppEnd id how text) t) k (KeptEntry (ops.AppEnd id how text)) id (Some awaits.one) (changed (of_app.KeepEnd how)) (view h past)
       (λ q v. op_view q (ops.AppEnd id how text) v)
@@ -261,7 +259,7 @@ module _ (settings : Settings) (h : History) (t : Tables) (k : AppsInvariant set
       rw (dropped ∙ posted, at_end (λ one. is_app one q.app) t.ended id, found) refl)
       (λ q v other. rw other refl) (λ q v other. rw other refl) (λ q v same. rw same refl) (λ q v same. rw same refl)
       (λ q same says.
-      let here : id ≡ q.app = is_app_same id q.app same in
+      let here : id ≡ q.app = same_app id q.app same in
       end_saved settings q awaits.one (view h past q) how (option_map (with_end_at how text t.tree.applied) (record_of t.tree.apps q.app)) (rw (← here) ended) (unchanged_attempts (record_of t.tree.apps q.app)) awaits.state says)
     where
       unchanged_attempts : (found : Option AppRecord) → attempts_in (option_map (with_end_at how text t.tree.applied) found) ≡ attempts_in found

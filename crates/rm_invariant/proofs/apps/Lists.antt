@@ -7,6 +7,8 @@ use Rattle.rm_types.specs.declared.operations.Submitted.{Submitted}
 use Rattle.rm_types.specs.declared.records.AppRecord.{AppRecord}
 use Rattle.rm_types.specs.Ids.{is_app}
 use Rattle.rm_types.specs.Records.{new_record}
+use Rattle.rm_types.proofs.IdLemmas.{app_itself}
+use Rattle.rm_types.proofs.TestLemmas.{or_true}
 use Rattle.rm_model.specs.Facts.{app_issued, has_app, waiting_submission}
 use Rattle.rm_model.specs.Issuing.{first_unissued}
 use Rattle.rm_model.specs.State.{Scene}
@@ -14,7 +16,6 @@ use Rattle.rm_tables.specs.Opening.{going_in}
 use Rattle.rm_invariant.specs.apps.Submissions.{submitted_ids}
 use Rattle.rm_invariant.specs.apps.View.{one_if}
 use Rattle.rm_invariant.proofs.apps.Counts.{at_end, at_front}
-use Rattle.rm_invariant.proofs.apps.Found.{is_app-refl}
 
 -- a submission of another application
 abbrev pub is_other : AppId → Submitted → Bool
@@ -50,7 +51,7 @@ forgets_first [] id rest e h = cc
 forgets_first (one ∷ more) id rest e h =
     let same : one.id ≡ id = cc in
     let left : submitted_ids more ≡ rest = cc in
-    let here : is_app one.id id ≡ true = rw same (is_app-refl id) in
+    let here : is_app one.id id ≡ true = rw same (app_itself id) in
     let f : count_by (λ (x : Submitted). is_app x.id id) (one ∷ more) ≡ suc (count_by (λ (x : Submitted). is_app x.id id) more) = at_front (λ (x : Submitted). is_app x.id id) one more ∙ rw here refl in
     let none : count_by (λ (x : Submitted). is_app x.id id) more ≡ 0 = omega (arith, h, f) in
     rw (here, filter_none more id none) left
@@ -69,10 +70,6 @@ pub record IsFirst (m : Scene) (submitted : List Submitted) (id : AppId) : Type 
   pub first : first_unissued m submitted ≡ Some (record { id = id; submission = submission })
   pub waits : waiting_submission submitted id ≡ Some submission
 
-or_true : (b : Bool) → (b || true) ≡ true
-or_true true = refl
-or_true false = refl
-
 -- it is the one after those that await, in the order of submission
 pub first_found : (m : Scene) (submitted : List Submitted) (before : List AppId) (id : AppId) (rest : List AppId)
     → submitted_ids submitted ≡ before ++ id ∷ rest → ((x : AppId) → has_app before x ≡ true → app_issued m x ≡ true)
@@ -81,11 +78,11 @@ first_found m [] [] id rest e issued apart new = cc
 first_found m [] (x ∷ before) id rest e issued apart new = cc
 first_found m (one ∷ more) [] id rest e issued apart new =
     let same : one.id ≡ id = cc in
-    record { submission = one.submission; first = rw (same, new) refl; waits = rw (same, is_app-refl id) refl }
+    record { submission = one.submission; first = rw (same, new) refl; waits = rw (same, app_itself id) refl }
 first_found m (one ∷ more) (x ∷ before) id rest e issued apart new =
     let same : one.id ≡ x = cc in
     let others : submitted_ids more ≡ before ++ id ∷ rest = cc in
     let f = first_found m more before id rest others (λ y among. issued y (rw among (or_true (is_app x y)))) (grind arith) new in
-    let there : app_issued m x ≡ true = issued x (rw (is_app-refl x) refl) in
+    let there : app_issued m x ≡ true = issued x (rw (app_itself x) refl) in
     let differs : is_app x id ≡ false = grind arith in
     record { submission = f.submission; first = rw (same, there) f.first; waits = rw (same, differs) f.waits }

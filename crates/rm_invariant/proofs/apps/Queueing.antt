@@ -2,18 +2,19 @@
 use Rattle.std.proofs.Common.{◌≡◌, ◌≢◌, ◌⊎◌, inl, inr, ℕ, ◌==◌, ◌&&◌, ◌||◌, suc, List, ◌∷◌, ◌++◌, Bool, true, false, not, Option, None, Some, is_some, option_map, refl, ◌∙◌, ap, subst, arith}
 use Rattle.std.specs.List.{list_any}
 use Rattle.std.proofs.lemmas.Bool.Decides.{nat_tests}
+use Rattle.std.proofs.lemmas.Bool.{or_right}
 use Rattle.rm_types.specs.declared.containers.AskOf.{AskOf}
 use Rattle.rm_types.specs.declared.entries.Entry.{Entry}
 use Rattle.rm_types.specs.declared.entries.Entry.TheVariants.{Queued, Quiet}
 use Rattle.rm_types.specs.declared.ids.AppId.{AppId}
 use Rattle.rm_types.specs.declared.ids.AttemptId.{AttemptId}
 use Rattle.rm_types.specs.declared.messages.Lane.TheVariants.{Sched as SchedLane}
-use Rattle.rm_types.specs.declared.operations.Op.{Op}
 use Rattle.rm_types.specs.declared.operations.Op.TheVariants as ops
 use Rattle.rm_types.specs.declared.records.AppRecord.{AppRecord}
 use Rattle.rm_types.specs.declared.settings.Settings.{Settings}
 use Rattle.rm_types.specs.Ids.{is_app, is_attempt}
 use Rattle.rm_types.specs.Records.{record_of}
+use Rattle.rm_types.proofs.IdLemmas.{app_itself}
 use Rattle.rm_book.specs.AskTables.{AsksOf}
 use Rattle.rm_model.specs.Changes.{master_ask}
 use Rattle.rm_model.specs.Facts.{is_app_end_op, is_attempt_op}
@@ -36,9 +37,9 @@ use Rattle.rm_invariant.specs.apps.Invariant.{RowInvariant, StateInvariant, Acti
 use Rattle.rm_invariant.specs.Step.{AppsInvariant, Step}
 use Rattle.rm_invariant.proofs.apps.Counts.{at_end, none_under}
 use Rattle.rm_invariant.proofs.apps.Effects.{sched_taken, main_posted}
-use Rattle.rm_invariant.proofs.apps.Found.{is_app-refl}
 use Rattle.rm_invariant.proofs.apps.Keeping.{step_own, unchanged}
 use Rattle.rm_invariant.proofs.apps.Own.{active_row, add_more, accept_more}
+use Rattle.rm_invariant.proofs.masters.Granted.{under_app}
 
 -- what they do to the facts of their own application
 module _ (settings : Settings) (q : AttemptId) (v : View) where
@@ -114,18 +115,6 @@ module _ (settings : Settings) (id : AttemptId) (v : View) (row : AppRow) (curre
       let same : current.number ≡ id.number = grind (arith, nat_tests) in
       (a, record { stopped = grind arith; follows = rw (← same) (grind arith); none_await = grind arith; none_ask = grind (arith, nat_tests); not_held = grind (arith, nat_tests) })
 
-under_app : (id : AttemptId) (op : Op) → is_attempt_op id op ≡ true → is_attempt_op_of id.app op ≡ true
-under_app id (ops.Epoch next stamp) e = cc
-under_app id (ops.App one submission) e = cc
-under_app id (ops.Attempt one master node) e = grind (arith, nat_tests)
-under_app id (ops.AttemptEnd one how text) e = cc
-under_app id (ops.AppEnd one how text) e = cc
-under_app id (ops.Remove one) e = cc
-
-or_true : (a b : Bool) → b ≡ true → (a || b) ≡ true
-or_true true b e = refl
-or_true false b e = e
-
 pub queue_lawful : (settings : Settings) (h : History) (t : Tables) (id : AttemptId) → t.is_open ≡ true → MayQueueIt settings id (view h t id) → MayQueue settings (abstract_scene h t) id
 queue_lawful settings h t id open_ may =
     let none = may.none_await in
@@ -133,7 +122,7 @@ queue_lawful settings h t id open_ may =
     let ended : list_any (is_app_end_op id.app) t.awaiting ≡ false = none_under (is_app_end_op id.app) (is_app_end_op id.app) (λ op e. e) t.awaiting (omega (arith, none)) in
     record {
       opened = open_;
-      known = or_true _ (is_some (record_of t.tree.apps id.app)) stopped.0;
+      known = or_right _ (is_some (record_of t.tree.apps id.app)) stopped.0;
       next = let n = may.follows.0 in rw (← n) refl;
       no_end = rw (ended, stopped.1) refl;
       ended = stopped.2;
@@ -147,7 +136,7 @@ and_true : (b : Bool) → (b && true) ≡ b
 and_true true = refl
 and_true false = refl
 
-found_some : (found : Option AppRecord) → is_some found ≡ true → (one : AppRecord) × (found ≡ Some one)
+pub found_some : (found : Option AppRecord) → is_some found ≡ true → (one : AppRecord) × (found ≡ Some one)
 found_some None e = cc
 found_some (Some one) e = (one, refl)
 
@@ -201,7 +190,7 @@ module _ (settings : Settings) (h : History) (t : Tables) (k : AppsInvariant set
       → QueuedStep (Queued id, record t { asks = master_asked id (found_in t id.app) t.asks })
   queued_now row found current is s n =
       let here : RowInvariant settings id (Some row) (view h t id) = rw found at (k.all id) in
-      let self : sched_view id (scheds.AttemptAdded id) (view h gone id) ≡ record (view h gone id) { count = record (counts h gone id) { queueings = suc (counts h gone id).queueings } } = rw (is_app-refl id.app, same_number id.number) refl in
+      let self : sched_view id (scheds.AttemptAdded id) (view h gone id) ≡ record (view h gone id) { count = record (counts h gone id) { queueings = suc (counts h gone id).queueings } } = rw (app_itself id.app, same_number id.number) refl in
       let good = subst (λ (v : View). RowInvariant settings id (Some row) v) (sched_taken h t id (scheds.AttemptAdded id) rest front ∙ self) here in
       let facts = queued_facts settings id (view h gone id) row current is s n good in
       let some = found_some (record_of t.tree.apps id.app) facts.1.stopped.0 in

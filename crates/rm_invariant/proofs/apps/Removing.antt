@@ -10,6 +10,7 @@ use Rattle.rm_types.specs.declared.operations.Op.TheVariants as ops
 use Rattle.rm_types.specs.declared.records.AppRecord.{AppRecord}
 use Rattle.rm_types.specs.declared.settings.Settings.{Settings}
 use Rattle.rm_types.specs.Ids.{is_app}
+use Rattle.rm_types.proofs.IdLemmas.{same_app}
 use Rattle.rm_tables.specs.declared.rows.AppRow.{AppRow}
 use Rattle.rm_tables.specs.declared.tables.Tables.{Tables}
 use Rattle.rm_tables.specs.KeptOps.{kept}
@@ -19,7 +20,7 @@ use Rattle.rm_invariant.specs.apps.View.{View, view, counts, gone_if, op_view, s
 use Rattle.rm_invariant.specs.apps.Invariant.{RowInvariant}
 use Rattle.rm_invariant.specs.Step.{AppsInvariant, Step}
 use Rattle.rm_invariant.proofs.apps.Effects.{op_taken}
-use Rattle.rm_invariant.proofs.apps.Found.{found_gone, has_end, ids_alike, is_app_same, same_test, some_is}
+use Rattle.rm_invariant.proofs.apps.Found.{found_gone, has_end, ids_alike, same_test, some_is}
 use Rattle.rm_invariant.proofs.apps.Keeping.{in_scene}
 use Rattle.rm_invariant.proofs.apps.Saving.{recorded_more}
 use Rattle.rm_invariant.proofs.apps.AtStates.{remove_saved}
@@ -34,7 +35,7 @@ row_gone id q rows = by (slot_of rows id) refl
   where
     none : (b : Bool) → is_app id q ≡ b → slot_of rows id ≡ None → row_of rows q ≡ gone_if b (row_of rows q)
     none true e f =
-        let same : id ≡ q = is_app_same id q e in
+        let same : id ≡ q = same_app id q e in
         let g : slot_of rows q ≡ None = rw (← same) f in
         rw g refl
     none false e f = refl

@@ -12,6 +12,7 @@ use Rattle.rm_types.specs.declared.records.AppRecord.{AppRecord}
 use Rattle.rm_types.specs.declared.settings.Settings.{Settings}
 use Rattle.rm_types.specs.Ids.{is_app}
 use Rattle.rm_types.specs.Records.{is_some_and, record_of}
+use Rattle.rm_types.proofs.IdLemmas.{same_app, app_itself}
 use Rattle.rm_model.specs.Facts.{completed, end_in, is_completed, is_remove_op}
 use Rattle.rm_model.specs.Issuing.{MayIssueRemove, is_before}
 use Rattle.rm_app.specs.declared.states.AppState.{AppState}
@@ -26,11 +27,12 @@ use Rattle.rm_invariant.specs.apps.Invariant.{RowInvariant, StateInvariant}
 use Rattle.rm_invariant.specs.Step.{AppsInvariant, Step}
 use Rattle.rm_invariant.proofs.apps.Counts.{at_front, fails_never, passes_once}
 use Rattle.rm_invariant.proofs.apps.Effects.{main_end, main_taken, op_end}
-use Rattle.rm_invariant.proofs.apps.Found.{is_app-refl, is_app_same, same_test}
+use Rattle.rm_invariant.proofs.apps.Found.{same_test}
 use Rattle.rm_invariant.proofs.apps.Keeping.{in_scene}
-use Rattle.rm_invariant.proofs.opening.Apps.{posted}
+use Rattle.rm_invariant.proofs.opening.Apps.{if_true, posted}
 use Rattle.rm_invariant.specs.apps.Completed.{AllLater, Completes, order_of}
 use Rattle.rm_invariant.proofs.apps.AtStates.{remove_issued}
+use Rattle.rm_invariant.proofs.apps.Completions.{swap}
 
 -- lists of ids with the same count of each have the same length
 abbrev count_of : AppId → List AppId → ℕ
@@ -39,11 +41,6 @@ count_of q ids = count_by (λ id. is_app id q) ids
 abbrev without_one : AppId → List AppId → List AppId
 without_one x [] = []
 without_one x (y ∷ ys) = cond (is_app y x) ys (y ∷ without_one x ys)
-
-swap : (a b : Bool) (n : ℕ) → one_if a (one_if b n) ≡ one_if b (one_if a n)
-swap true true n = refl
-swap true false n = refl
-swap false b n = refl
 
 one_less : (x q : AppId) (ys : List AppId) → 1 ≤ count_of x ys → (count_of q ys ≡ one_if (is_app x q) (count_of q (without_one x ys))) × (length ys ≡ suc (length (without_one x ys)))
 one_less x q [] n = absurd (omega (arith, n))
@@ -69,10 +66,10 @@ less_if false m n e = e
 pub same_length : (xs ys : List AppId) → ((q : AppId) → count_of q xs ≡ count_of q ys) → length xs ≡ length ys
 same_length [] [] same = refl
 same_length [] (y ∷ ys) same =
-    let here : count_of y (y ∷ ys) ≡ suc (count_of y ys) = at_front (λ (id : AppId). is_app id y) y ys ∙ rw (is_app-refl y) refl in
+    let here : count_of y (y ∷ ys) ≡ suc (count_of y ys) = at_front (λ (id : AppId). is_app id y) y ys ∙ rw (app_itself y) refl in
     absurd (let s = same y in omega (arith, s, here))
 same_length (x ∷ xs) ys same =
-    let here : count_of x (x ∷ xs) ≡ suc (count_of x xs) = at_front (λ (id : AppId). is_app id x) x xs ∙ rw (is_app-refl x) refl in
+    let here : count_of x (x ∷ xs) ≡ suc (count_of x xs) = at_front (λ (id : AppId). is_app id x) x xs ∙ rw (app_itself x) refl in
     let some : 1 ≤ count_of x ys = let s = same x in omega (arith, s, here) in
     let shorter = (one_less x x ys some).1 in
     let rest = same_length xs (without_one x ys) (λ q. less_if (is_app x q) (count_of q xs) (count_of q (without_one x ys)) (sym (at_front (λ (id : AppId). is_app id q) x xs) ∙ same q ∙ (one_less x q ys some).0)) in
@@ -86,10 +83,6 @@ module _ (settings : Settings) (q : AttemptId) (v : View) where
   pub completed_is : (row : Option AppRow) → RowInvariant settings q row v → v.count.completed ≡ one_if (is_some (end_in v.found) && (v.count.removes == 0)) 0
   completed_is None good = grind (arith, nat_tests)
   completed_is (Some row) good = state_completed row.state row good.1
-
-and_true : (b : Bool) → one_if b 0 ≡ one_if (b && true) 0
-and_true true = refl
-and_true false = refl
 
 -- the records that pass a test, by their ids
 module _ (test : AppRecord → Bool) where
@@ -108,7 +101,7 @@ module _ (test : AppRecord → Bool) where
   chosen_each q one = by (test one) refl (is_app one.id q) refl
     where
       by : (b : Bool) → test one ≡ b → (c : Bool) → is_app one.id q ≡ c → count_of q (chosen one) ≡ one_if (is_app one.id q && test one) 0
-      by true e c f = rw e (at_front (λ (id : AppId). is_app id q) one.id [] ∙ and_true (is_app one.id q))
+      by true e c f = rw e (at_front (λ (id : AppId). is_app id q) one.id [] ∙ if_true (is_app one.id q))
       by false e true f = rw (e, f) refl
       by false e false f = rw (e, f) refl
 
@@ -122,7 +115,7 @@ found_id (app ∷ apps) q one e = by (is_app app.id q) refl (found_id apps q one
     by : (b : Bool) → is_app app.id q ≡ b → (record_of apps q ≡ Some one → one.id ≡ q) → one.id ≡ q
     by true f more =
         let same : app ≡ one = let x = rw f at e in cc in
-        let here : app.id ≡ q = is_app_same app.id q f in
+        let here : app.id ≡ q = same_app app.id q f in
         subst (λ (a : AppRecord). a.id ≡ q) same here
     by false f more = more (rw f at e)
 
@@ -183,7 +176,7 @@ known_under app apps (one ∷ more) n k =
 known_all : (apps : List AppRecord) → ((q : AppId) → count_by (λ one. is_app one.id q) apps ≤ 1) → AllKnown apps apps
 known_all [] once = tt
 known_all (app ∷ apps) once =
-    let own : is_app app.id app.id ≡ true = is_app-refl app.id in
+    let own : is_app app.id app.id ≡ true = app_itself app.id in
     let g : count_by (λ (x : AppRecord). is_app x.id app.id) (app ∷ apps) ≡ suc (count_by (λ (x : AppRecord). is_app x.id app.id) apps) = at_front (λ (x : AppRecord). is_app x.id app.id) app apps ∙ rw own refl in
     let n : count_by (λ (x : AppRecord). is_app x.id app.id) apps ≡ 0 = let o = once app.id in omega (arith, g, o) in
     (rw own refl, known_under app apps apps n (known_all apps (λ q. fewer app apps q (is_app app.id q) refl (once q))))
@@ -201,7 +194,7 @@ later_than apps n [] q l c = absurd (omega (arith, c))
 later_than apps n (id ∷ ids) q l c = by (is_app id q) refl (later_than apps n ids q l.1)
   where
     by : (b : Bool) → is_app id q ≡ b → (1 ≤ count_of q ids → n ≤ order_of apps q) → n ≤ order_of apps q
-    by true e rest = let same : id ≡ q = is_app_same id q e in rw (← same) l.0
+    by true e rest = let same : id ≡ q = same_app id q e in rw (← same) l.0
     by false e rest =
         let g : count_of q (id ∷ ids) ≡ count_of q ids = at_front (λ (x : AppId). is_app x q) id ids ∙ rw e refl in
         rest (omega (arith, g, c))
@@ -221,7 +214,7 @@ module _ (settings : Settings) (h : History) (t : Tables) (k : AppsInvariant set
       order_is = rw f refl
 
       by : (b : Bool) → is_app id one.id ≡ b → count_of one.id t.ended ≡ one_if b (count_of one.id more) → count_of one.id t.ended ≡ 1 → order_of t.tree.apps id ≤ one.end_order
-      by true e g n = let here : id ≡ one.id = is_app_same id one.id e in let o = order_is in rw here (omega (arith, o))
+      by true e g n = let here : id ≡ one.id = same_app id one.id e in let o = order_is in rw here (omega (arith, o))
       by false e g n = let o = order_is in let l = later_than t.tree.apps (order_of t.tree.apps id) more one.id ordered_front (omega (arith, g, n)) in omega (arith, o, l)
 
   -- each of some records that are found by their ids is one that the application is before
@@ -244,7 +237,7 @@ module _ (settings : Settings) (h : History) (t : Tables) (k : AppsInvariant set
       here : 1 ≤ one_if (is_some_and (is_completed (abstract_scene h t)) (record_of t.tree.apps id)) 0
       here =
           let same = ended_is settings h t k c id in
-          let split : count_of id t.ended ≡ suc (count_of id more) = rw front (at_front (λ (x : AppId). is_app x id) id more ∙ rw (is_app-refl id) refl) in
+          let split : count_of id t.ended ≡ suc (count_of id more) = rw front (at_front (λ (x : AppId). is_app x id) id more ∙ rw (app_itself id) refl) in
           omega (arith, same, split)
 
       by : (found : Option AppRecord) → record_of t.tree.apps id ≡ found → is_some_and (λ app. is_completed (abstract_scene h t) app && list_all (is_before (abstract_scene h t) app) t.tree.apps) (record_of t.tree.apps id) ≡ true

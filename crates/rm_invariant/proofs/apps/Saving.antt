@@ -10,6 +10,7 @@ use Rattle.rm_types.specs.declared.operations.Submission.{Submission}
 use Rattle.rm_types.specs.declared.settings.Settings.{Settings}
 use Rattle.rm_types.specs.Ids.{is_app}
 use Rattle.rm_types.specs.Records.{Records, recorded, records, no_records, new_record, record_of}
+use Rattle.rm_types.proofs.IdLemmas.{same_app, app_itself}
 use Rattle.rm_model.specs.Facts.{waiting_submission}
 use Rattle.rm_app.specs.declared.states.AppState.{AppState}
 use Rattle.rm_app.specs.declared.states.AppState.TheVariants as apps
@@ -25,7 +26,7 @@ use Rattle.rm_invariant.specs.apps.View.{View, view, counts, main_view, op_view,
 use Rattle.rm_invariant.specs.apps.Invariant.{AttemptsInvariant, RowInvariant, StateInvariant}
 use Rattle.rm_invariant.specs.Step.{AppsInvariant, Step}
 use Rattle.rm_invariant.proofs.apps.Effects.{main_end, op_taken}
-use Rattle.rm_invariant.proofs.apps.Found.{is_app-refl, is_app_same, record_put, row_changed, row_put, waiting_gone, waiting_put}
+use Rattle.rm_invariant.proofs.apps.Found.{record_put, row_changed, row_put, waiting_gone, waiting_put}
 use Rattle.rm_invariant.proofs.apps.Keeping.{step_own}
 use Rattle.rm_invariant.proofs.apps.Own.{app_more, app_saved, submitted_new}
 
@@ -59,7 +60,7 @@ module _ (settings : Settings) (h : History) (t : Tables) (k : AppsInvariant set
   app_waits =
       let at : AttemptId = record { app = id; number = 0 } in
       let good = subst (λ (v : View). RowInvariant settings at (row_of t.rows id) v) (op_taken h t at (ops.App id s) rest front) (k.all at) in
-      app_awaits settings at (row_of t.rows id) (view h taken at) (let g = rw (is_app-refl id) at good in g)
+      app_awaits settings at (row_of t.rows id) (view h taken at) (let g = rw (app_itself id) at good in g)
 
   -- and no record
   pub app_unkept : record_of t.tree.apps id ≡ None
@@ -102,7 +103,7 @@ module _ (settings : Settings) (h : History) (t : Tables) (all : AttemptsInvaria
     where
       by : (q : AttemptId) (b : Bool) → is_app id q.app ≡ b → RowInvariant settings q (put_if b (row_new s) (row_of t.rows q.app)) (view submitting joining q)
       by q true e =
-          let same : id ≡ q.app = is_app_same id q.app e in
+          let same : id ≡ q.app = same_app id q.app e in
           let none : row_of t.rows q.app ≡ None = rw (← same) found in
           let old : RowInvariant settings q None (view h t q) = rw none at (all q) in
           let waits : waiting_submission h.apps.submitted q.app ≡ None = old.none_waits in

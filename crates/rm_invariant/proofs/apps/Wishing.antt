@@ -4,6 +4,7 @@ use Rattle.rm_types.specs.declared.ids.AppId.{AppId}
 use Rattle.rm_types.specs.declared.ids.AttemptId.{AttemptId}
 use Rattle.rm_types.specs.declared.settings.Settings.{Settings}
 use Rattle.rm_types.specs.Ids.{is_app}
+use Rattle.rm_types.proofs.IdLemmas.{same_app}
 use Rattle.rm_tables.specs.declared.changes.RowChange.TheVariants as of_app
 use Rattle.rm_tables.specs.declared.events.MainEvent.TheVariants as mains
 use Rattle.rm_tables.specs.declared.rows.AppRow.{AppRow}
@@ -14,7 +15,7 @@ use Rattle.rm_invariant.specs.apps.Invariant.{AttemptsInvariant, RowInvariant}
 use Rattle.rm_refinement.specs.History.{History}
 use Rattle.rm_invariant.specs.apps.View.{View, changed_if, counts, main_view, set_if, view}
 use Rattle.rm_invariant.proofs.apps.Effects.{main_end}
-use Rattle.rm_invariant.proofs.apps.Found.{has_end, is_app_same, row_changed}
+use Rattle.rm_invariant.proofs.apps.Found.{has_end, row_changed}
 use Rattle.rm_invariant.proofs.apps.AtStates.{kill_again, kill_wished}
 
 module _ (settings : Settings) (h : History) (t : Tables) (all : AttemptsInvariant settings h t) (id : AppId) (row : AppRow) (found : row_of t.rows id ≡ Some row) where
@@ -27,7 +28,7 @@ module _ (settings : Settings) (h : History) (t : Tables) (all : AttemptsInvaria
   wished = record t { rows = with_row (changed of_app.Wish) id t.rows; main = t.main ++ mains.AppKill id ∷ [] }
 
   here : (q : AttemptId) → is_app id q.app ≡ true → row_of t.rows q.app ≡ Some row
-  here q e = let same : id ≡ q.app = is_app_same id q.app e in rw (← same) found
+  here q e = let same : id ≡ q.app = same_app id q.app e in rw (← same) found
 
   seen : (q : AttemptId) → view wishing wished q ≡ record (main_view q (mains.AppKill id) (view h t q)) { wished = set_if (is_app id q.app) (view h t q).wished }
   seen q = rw (main_end h t q (mains.AppKill id), has_end h.apps.wishes id q.app) refl

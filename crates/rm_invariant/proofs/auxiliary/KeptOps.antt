@@ -1,7 +1,7 @@
 -- Each operation but an Epoch, once it is kept in an open life, keeps what else holds of it.
 use Rattle.std.proofs.Common.{◌≡◌, ◌≤◌, inl, inr, ℕ, ◌+◌, ◌-◌, suc, cond, List, [], ◌∷◌, ◌++◌, Bool, true, false, not, ◌&&◌, ◌||◌, ◌==◌, Option, None, Some, count_by, drop, filter, length, map, is_none, is_some, option_map, refl, sym, ◌∙◌, ap, subst, arith}
 use Rattle.std.specs.List.{flat_map, list_any}
-use Rattle.std.proofs.lemmas.Bool.{false≢true}
+use Rattle.std.proofs.lemmas.Bool.{false≢true, and_parts}
 use Rattle.std.proofs.lemmas.Bool.Decides.{nat_tests}
 use Rattle.std.proofs.lemmas.List.{append-nil}
 use Rattle.std.proofs.lemmas.Grind.{flat_map-append}
@@ -18,6 +18,7 @@ use Rattle.rm_types.specs.declared.records.AppRecord.{AppRecord}
 use Rattle.rm_types.specs.declared.settings.Settings.{Settings}
 use Rattle.rm_types.specs.Ids.{is_app, is_attempt}
 use Rattle.rm_types.specs.Records.{new_record, record_of, with_end, with_record}
+use Rattle.rm_types.proofs.IdLemmas.{same_attempt, same_app, app_itself}
 use Rattle.rm_book.specs.AskTables.{asks_of, without_asks_of}
 use Rattle.rm_model.specs.Attempts.{is_finished}
 use Rattle.rm_model.specs.Changes.{after}
@@ -53,13 +54,12 @@ use Rattle.rm_invariant.proofs.apps.Completing.{completes_ended, completes_new, 
 use Rattle.rm_invariant.proofs.apps.Counts.{at_front, count_append, none_under}
 use Rattle.rm_invariant.proofs.apps.Effects.{op_taken}
 use Rattle.rm_invariant.proofs.apps.Events.{at}
-use Rattle.rm_invariant.proofs.apps.Found.{has_end, ids_alike, is_app-refl, is_app_same, row_changed, same_test, some_is}
+use Rattle.rm_invariant.proofs.apps.Found.{has_end, ids_alike, row_changed, same_test, some_is}
 use Rattle.rm_invariant.proofs.apps.Lists.{forgets_first, going_more, id_count, is_other, submitted_count, submitted_length}
 use Rattle.rm_invariant.proofs.apps.Saving.{app_unkept, app_waits}
 use Rattle.rm_invariant.proofs.apps.KeptEnds.{EndAwaits, end_awaits, with_end_op}
 use Rattle.rm_invariant.proofs.apps.Recorded.{record_changed}
 use Rattle.rm_invariant.proofs.apps.Removing.{row_gone}
-use Rattle.rm_book.proofs.Ids.{same_attempt}
 use Rattle.rm_invariant.proofs.masters.Apt.{apt_step}
 use Rattle.rm_invariant.proofs.masters.AwaitingAttempts.{AttemptAwaits, attempt_awaits, with_attempt_op}
 use Rattle.rm_invariant.specs.events.Asking.{asks_others}
@@ -72,7 +72,7 @@ use Rattle.rm_invariant.specs.auxiliary.Parts.{FixedParts, fixed_parts}
 use Rattle.rm_invariant.specs.auxiliary.Invariant.{IsUnfinished, NoneFirst, AuxInvariant, goes_by, goes_numbered}
 use Rattle.rm_invariant.proofs.auxiliary.MainEvents.{finishes_none, firsts_same, less_others, less_single}
 use Rattle.rm_invariant.proofs.auxiliary.Parts.{parts_after}
-use Rattle.rm_invariant.proofs.auxiliary.Rows.{kept_goes, over_before, goes_every, both, each_with, every_with, finishes_with_row, goes_on, none_first_with, retired_with, same_with, served_append}
+use Rattle.rm_invariant.proofs.auxiliary.Rows.{kept_goes, over_before, goes_every, each_with, every_with, finishes_with_row, goes_on, none_first_with, retired_with, same_with, served_append}
 use Rattle.rm_invariant.proofs.opening.Starting.{saving_number, starting_number}
 
 -- WHAT STAYS OF A ROW
@@ -256,7 +256,7 @@ module _ (h : History) (t : Tables) (w : CoreInvariant t.settings h t) (sides : 
     saves =
         let good = subst (λ (v : View). RowInvariant t.settings id (row_of t.rows id.app) v) (op_taken h t id (ops.Attempt id master node) rest front) (w.keeps.all id) in
         let own : op_view id (ops.Attempt id master node) (view h (record t { awaiting = drop 1 t.awaiting }) id) ≡ with_attempt_op id (view h (record t { awaiting = drop 1 t.awaiting }) id) =
-        rw (is_app-refl id.app, same_number id.number) refl in
+        rw (app_itself id.app, same_number id.number) refl in
         attempt_awaits t.settings id (view h (record t { awaiting = drop 1 t.awaiting }) id) (row_of t.rows id.app) (subst (λ (v : View). RowInvariant t.settings id (row_of t.rows id.app) v) own good)
 
     abbrev lives : RowChange
@@ -327,7 +327,7 @@ module _ (h : History) (t : Tables) (w : CoreInvariant t.settings h t) (sides : 
     own_good : RowInvariant t.settings id (row_of t.rows id.app) (with_end_op id (view h left_of id))
     own_good =
         let good = subst (λ (v : View). RowInvariant t.settings id (row_of t.rows id.app) v) (op_taken h t id (ops.AttemptEnd id how text) rest front) (w.keeps.all id) in
-        let own : op_view id (ops.AttemptEnd id how text) (view h left_of id) ≡ with_end_op id (view h left_of id) = rw (is_app-refl id.app, same_numbers id.number) refl in
+        let own : op_view id (ops.AttemptEnd id how text) (view h left_of id) ≡ with_end_op id (view h left_of id) = rw (app_itself id.app, same_numbers id.number) refl in
         subst (λ (v : View). RowInvariant t.settings id (row_of t.rows id.app) v) own good
 
     ends : EndAwaits t.settings id (row_of t.rows id.app) (view h left_of id)
@@ -383,7 +383,7 @@ module _ (h : History) (t : Tables) (w : CoreInvariant t.settings h t) (sides : 
         right_true false = refl
 
         own_op : (op : Op) → is_finished_op q op ≡ true → is_own_op q op ≡ true
-        own_op (ops.AttemptEnd one way word) e = let x = both (is_attempt one q) (is_finished way) e in let y = x.0 in rw y refl
+        own_op (ops.AttemptEnd one way word) e = let x = and_parts (is_attempt one q) (is_finished way) e in let y = x.0 in rw y refl
         own_op (ops.Epoch next stamp) e = cc
         own_op (ops.App one s) e = cc
         own_op (ops.Attempt one c n) e = cc
@@ -395,8 +395,8 @@ module _ (h : History) (t : Tables) (w : CoreInvariant t.settings h t) (sides : 
       where
         own_row : is_attempt id q ≡ true → finishes_by q (row_of (with_row (changed over) id.app t.rows) q.app) ≡ false
         own_row same =
-            let app : is_app id.app q.app ≡ true = (both (is_app id.app q.app) (id.number == q.number) same).0 in
-            let found : row_of t.rows q.app ≡ Some ends.one = subst (λ (a : AppId). row_of t.rows a ≡ Some ends.one) (is_app_same id.app q.app app) ends.is in
+            let app : is_app id.app q.app ≡ true = (and_parts (is_app id.app q.app) (id.number == q.number) same).0 in
+            let found : row_of t.rows q.app ≡ Some ends.one = subst (λ (a : AppId). row_of t.rows a ≡ Some ends.one) (same_app id.app q.app app) ends.is in
             let now : row_of (with_row (changed over) id.app t.rows) q.app ≡ Some (changed over ends.one) = row_changed (changed over) id.app q.app t.rows ∙ rw (app, found) refl in
             ap (finishes_by q) now ∙ row_over q
 
@@ -431,10 +431,10 @@ module _ (h : History) (t : Tables) (w : CoreInvariant t.settings h t) (sides : 
         by : (b : Bool) → is_app id.app q.app ≡ b → goes_by q.number (changed_if b (changed over) (row_of t.rows q.app)) ≡ true
         by false app = before
         by true app =
-            let found : row_of t.rows q.app ≡ Some ends.one = subst (λ (a : AppId). row_of t.rows a ≡ Some ends.one) (is_app_same id.app q.app app) ends.is in
+            let found : row_of t.rows q.app ≡ Some ends.one = subst (λ (a : AppId). row_of t.rows a ≡ Some ends.one) (same_app id.app q.app app) ends.is in
             let c = ends.current_is in
             let goes : goes_numbered q.number (Some ends.current) ≡ true = rw (found, c) at before in
-            let number = (both (ends.current.number == q.number) _ goes).0 in
+            let number = (and_parts (ends.current.number == q.number) _ goes).0 in
             let own = ends.number in
             let same : (id.number == q.number) ≡ true = rw own at number in
             absurd (not_own (rw (app, same) refl))
@@ -549,7 +549,7 @@ module _ (h : History) (t : Tables) (w : CoreInvariant t.settings h t) (sides : 
     waits : EndWaits (view h taken there)
     waits =
         let good = subst (λ (v : View). RowInvariant t.settings there (row_of t.rows id) v) (op_taken h t there (ops.AppEnd id how text) rest front) (w.keeps.all there) in
-        end_waits t.settings there (row_of t.rows id) (view h taken there) (let g = rw (is_app-refl id) at good in g)
+        end_waits t.settings there (row_of t.rows id) (view h taken there) (let g = rw (app_itself id) at good in g)
 
     going_after : (found : Option AppRecord) → record_of t.tree.apps id ≡ found → is_some found ≡ true → end_in found ≡ None → t.going - 1 ≡ length h.apps.submitted + going_in (with_record with_the_end id t.tree.apps)
     going_after None e some goes = cc
@@ -602,7 +602,7 @@ module _ (h : History) (t : Tables) (w : CoreInvariant t.settings h t) (sides : 
     leaves : RemoveWaits (row_of t.rows id) (view h taken there)
     leaves =
         let good = subst (λ (v : View). RowInvariant t.settings there (row_of t.rows id) v) (op_taken h t there (ops.Remove id) rest front) (w.keeps.all there) in
-        remove_waits t.settings there (row_of t.rows id) (view h taken there) (let g = rw (is_app-refl id) at good in g)
+        remove_waits t.settings there (row_of t.rows id) (view h taken there) (let g = rw (app_itself id) at good in g)
 
     going_left : (found : Option AppRecord) → record_of t.tree.apps id ≡ found → is_some (end_in found) ≡ true → t.going ≡ length h.apps.submitted + going_in (filter (λ app. not (is_app app.id id)) t.tree.apps)
     going_left None e ended = cc
@@ -655,7 +655,7 @@ module _ (h : History) (t : Tables) (w : CoreInvariant t.settings h t) (sides : 
         by : (b : Bool) → is_app id q.app ≡ b → goes_by q.number (gone_if b (row_of t.rows q.app)) ≡ true
         by false e = before
         by true e =
-            let none : goes_by q.number (row_of t.rows q.app) ≡ false = subst (λ (a : AppId). goes_by q.number (row_of t.rows a) ≡ false) (is_app_same id q.app e) (not_going q.number) in
+            let none : goes_by q.number (row_of t.rows q.app) ≡ false = subst (λ (a : AppId). goes_by q.number (row_of t.rows a) ≡ false) (same_app id q.app e) (not_going q.number) in
             absurd (false≢true (sym none ∙ before))
 
     removed_finishes : (q : AttemptId) → list_any (is_finished_op q) (drop 1 t.awaiting) ≡ finishes_by q (row_of (without_row id t.rows) q.app)
@@ -663,7 +663,7 @@ module _ (h : History) (t : Tables) (w : CoreInvariant t.settings h t) (sides : 
       where
         by : (b : Bool) → is_app id q.app ≡ b → finishes_by q (row_of t.rows q.app) ≡ finishes_by q (gone_if b (row_of t.rows q.app))
         by false e = refl
-        by true e = subst (λ (a : AppId). finishes_by q (row_of t.rows a) ≡ false) (is_app_same id q.app e) (not_finishing q)
+        by true e = subst (λ (a : AppId). finishes_by q (row_of t.rows a) ≡ false) (same_app id q.app e) (not_finishing q)
 
     pub removed_sides : (s : PreservesCore t.settings h t (KeptEntry (ops.Remove id), removed_next)) → AuxInvariant s.next removed_next
     removed_sides s =

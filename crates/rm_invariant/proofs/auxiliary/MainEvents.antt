@@ -2,7 +2,7 @@
 use Rattle.std.proofs.Common.{◌≡◌, ◌≢◌, inl, inr, ℕ, List, [], ◌∷◌, ◌++◌, Bool, true, false, ◌&&◌, ◌||◌, ◌==◌, Option, None, Some, drop, is_some, refl, sym, ◌∙◌, ap, subst, arith}
 use Rattle.std.specs.List.{flat_map, list_any}
 use Rattle.std.proofs.lemmas.Bool.Decides.{nat_tests}
-use Rattle.std.proofs.lemmas.Bool.{false≢true}
+use Rattle.std.proofs.lemmas.Bool.{false≢true, and_parts}
 use Rattle.std.proofs.lemmas.List.{append_assoc, append-nil}
 use Rattle.std.proofs.lemmas.Grind.{flat_map-append}
 use Rattle.std.proofs.lemmas.List.Folds.{list_any-append}
@@ -53,7 +53,6 @@ use Rattle.rm_invariant.specs.events.Here.{AreServed, FirstsKnown, NoneAbsent}
 use Rattle.rm_invariant.specs.events.Masters.{are_single}
 use Rattle.rm_invariant.proofs.events.Firsts.{firsts_with}
 use Rattle.rm_invariant.proofs.events.Moving.{other_gone, own_gone}
-use Rattle.rm_book.proofs.Ids.{same_attempt}
 use Rattle.rm_app.specs.declared.states.AppState.{AppState}
 use Rattle.rm_types.specs.declared.operations.Submission.{Submission}
 use Rattle.rm_types.specs.declared.settings.Settings.{Settings}
@@ -67,9 +66,10 @@ use Rattle.rm_invariant.specs.Core.{CoreInvariant, PreservesCore}
 use Rattle.rm_model.specs.State.{Scene}
 use Rattle.rm_invariant.specs.apps.Submissions.{Lists, saving, starting, submitted_ids}
 use Rattle.rm_types.specs.declared.operations.Op.{Op}
+use Rattle.rm_types.proofs.IdLemmas.{same_attempt}
 use Rattle.rm_tables.specs.MainEvents.{start_of_submission}
 use Rattle.rm_invariant.specs.auxiliary.Invariant.{AreUnfinished, FinishesKnown, IsUnfinished, MastersSingle, NoneFirst, OthersGo, RetiredKnown, AuxInvariant, goes_by, goes_numbered, is_over}
-use Rattle.rm_invariant.proofs.auxiliary.Rows.{both, each_with, finishes_with_row, goes_on, goes_with_row, killed_goes, none_finished, none_first_with, retired_with, served_append, still_node}
+use Rattle.rm_invariant.proofs.auxiliary.Rows.{each_with, finishes_with_row, goes_on, goes_with_row, killed_goes, none_finished, none_first_with, retired_with, served_append, still_node}
 
 -- what the life remembers stays
 pub main_parts : (h : History) (t : Tables) (done : Entry × Tables) → Outcome t done → parts_in (after (live_state h t) done.0) ≡ Some (fixed_parts h)
@@ -212,7 +212,7 @@ module _ (t : Tables) where
   -- a state that neither lives nor ends
   not_going : (n : ℕ) (row : AppRow) (current : Current) → row.current ≡ Some current → (is_alive current.state || is_ending current.state) ≡ false → goes_by n (Some row) ≡ true → ⊥
   not_going n row current is none goes =
-      let x = both (current.number == n) (is_alive current.state || is_ending current.state) (at_current n row (Some current) is goes) in
+      let x = and_parts (current.number == n) (is_alive current.state || is_ending current.state) (at_current n row (Some current) is goes) in
       false≢true (sym none ∙ x.1)
 
   none_going : (n : ℕ) (row : AppRow) → row.current ≡ None → goes_by n (Some row) ≡ true → ⊥
@@ -430,7 +430,7 @@ module _ (t : Tables) where
           let own : id ≡ q = same_attempt id q same in
           let one : (current.number == q.number) ≡ true = subst (λ (a : AttemptId). (current.number == a.number) ≡ true) own number in
           let found : row_of t.rows q.app ≡ Some row = subst (λ (a : AttemptId). row_of t.rows a.app ≡ Some row) own is.found in
-          let app : is_app id.app q.app ≡ true = (both (is_app id.app q.app) (id.number == q.number) same).0 in
+          let app : is_app id.app q.app ≡ true = (and_parts (is_app id.app q.app) (id.number == q.number) same).0 in
           let none : list_any (is_finished_op q) t.awaiting ≡ false = before q ∙ ap (finishes_by q) found ∙ finishes_none q row current is.is (alive_not current.state alive) in
           let row_now : row_of (with_row (changed change) id.app t.rows) q.app ≡ Some (changed change row) = row_changed (changed change) id.app q.app t.rows ∙ rw (app, found) refl in
           let after : finishes_by q (row_of (with_row (changed change) id.app t.rows) q.app) ≡ is_finished how = ap (finishes_by q) row_now ∙ own_row_is q ∙ rw one refl in

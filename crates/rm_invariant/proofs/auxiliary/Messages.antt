@@ -2,7 +2,7 @@
 use Rattle.std.proofs.Common.{◌≡◌, ◌≤◌, inl, inr, ℕ, ◌+◌, List, [], ◌∷◌, ◌++◌, Bool, true, false, not, ◌&&◌, ◌==◌, nat_le, nat_lt, Option, None, Some, count_by, filter, length, length-append, map, is_some, option_map, refl, sym, ◌∙◌, ap, subst, arith}
 use Rattle.std.specs.Prelude.{if◌then◌else◌}
 use Rattle.std.specs.List.{flat_map, list_any}
-use Rattle.std.proofs.lemmas.Bool.{false≢true}
+use Rattle.std.proofs.lemmas.Bool.{false≢true, and_parts}
 use Rattle.std.proofs.lemmas.Bool.Decides.{nat_tests}
 use Rattle.std.proofs.lemmas.List.{append_assoc, append-nil, map-append}
 use Rattle.std.proofs.lemmas.Grind.{flat_map-append}
@@ -30,7 +30,6 @@ use Rattle.rm_types.specs.Ids.{is_app, is_attempt}
 use Rattle.rm_types.specs.Records.{record_of}
 use Rattle.rm_book.specs.AskTables.{AsksOf, asks_of, asks_set, is_for, renewed}
 use Rattle.rm_book.specs.ManyAsks.{all_asked, asks_after, one_asked}
-use Rattle.rm_book.proofs.Ids.{same_attempt}
 use Rattle.rm_model.specs.Changes.{after}
 use Rattle.rm_model.specs.Facts.{has_app, is_known}
 use Rattle.rm_model.specs.State.{Release, Scene}
@@ -67,7 +66,7 @@ use Rattle.rm_refinement.specs.History.{History, abstract_life, abstract_scene, 
 use Rattle.rm_invariant.specs.apps.View.{put_if}
 use Rattle.rm_invariant.proofs.apps.Completing.{completes_still}
 use Rattle.rm_invariant.proofs.apps.Counts.{count_append}
-use Rattle.rm_invariant.proofs.apps.Found.{is_app_same, retired_put, row_put}
+use Rattle.rm_invariant.proofs.apps.Found.{retired_put, row_put}
 use Rattle.rm_invariant.proofs.masters.Allocating.{AllOrdinary}
 use Rattle.rm_invariant.specs.events.Asking.{asks_others}
 use Rattle.rm_invariant.specs.events.Here.{AreServed, FirstsKnown, IsServed, NoneAbsent}
@@ -84,6 +83,7 @@ use Rattle.std.specs.Prelude.{All}
 use Rattle.std.specs.List.{AllByRecursion}
 use Rattle.std.proofs.lemmas.List.Elements.{recursion_from_All}
 use Rattle.rm_types.specs.Records.{is_some_and}
+use Rattle.rm_types.proofs.IdLemmas.{same_attempt, same_app}
 use Rattle.rm_model.specs.Attempts.{has_registered, is_live, is_registered}
 use Rattle.rm_model.specs.ClientReplies.{client_reply, is_given}
 use Rattle.rm_model.specs.MasterReplies.{is_new_to_master, life_after_master, master_reply, register_reply}
@@ -95,7 +95,7 @@ use Rattle.rm_invariant.specs.auxiliary.Invariant.{FinishesKnown, IsUnfinished, 
 use Rattle.rm_invariant.proofs.auxiliary.KeptOps.{finishes_stays, goes_stays, unfinished_stays}
 use Rattle.rm_invariant.proofs.auxiliary.MainEvents.{alive_not, alive_over, finishes_none, firsts_same}
 use Rattle.rm_invariant.proofs.auxiliary.Parts.{parts_after}
-use Rattle.rm_invariant.proofs.auxiliary.Rows.{register_lives, finish_lives, alive_issued, both, each_with, every_with, finishes_with_row, goes_on, goes_with_row, none_first_with, retired_with, same_with, served_append}
+use Rattle.rm_invariant.proofs.auxiliary.Rows.{register_lives, finish_lives, alive_issued, each_with, every_with, finishes_with_row, goes_on, goes_with_row, none_first_with, retired_with, same_with, served_append}
 
 -- WHERE THE ROWS AND WHAT IS ASKED FOR STAY
 
@@ -256,7 +256,7 @@ module _ (h : History) (t : Tables) (sides : AuxInvariant h t) (n : ℕ) where
 
     -- where the application is this one, there was no row
     was_none : (q : AppId) → is_app id q ≡ true → row_of t.rows q ≡ None
-    was_none q e = subst (λ (a : AppId). row_of t.rows a ≡ None) (is_app_same id q e) found
+    was_none q e = subst (λ (a : AppId). row_of t.rows a ≡ None) (same_app id q e) found
 
     -- what holds of the new row holds of each
     each_put : (P : AppId → AppRow → Type 0) → ((q : AppId) → is_app id q ≡ true → P q (new_row submission)) → ((q : AppId) (row : AppRow) → row_of t.rows q ≡ Some row → P q row) → (q : AppId) (row : AppRow) → row_of rows_now q ≡ Some row → P q row
@@ -283,7 +283,7 @@ module _ (h : History) (t : Tables) (sides : AuxInvariant h t) (n : ℕ) where
         by : (b : Bool) → is_app id q.app ≡ b → (o : Option AppRow) → row_of t.rows q.app ≡ o → put_if b (new_row submission) o ≡ Some row → attempt_was_first (abstract_scene h t) q ≡ was_first q (Some row)
         by true e None is x =
             let same : new_row submission ≡ row = cc in
-            let out : has_app h.apps.retired q.app ≡ false = subst (λ (a : AppId). has_app h.apps.retired a ≡ false) (is_app_same id q.app e) unretired in
+            let out : has_app h.apps.retired q.app ≡ false = subst (λ (a : AppId). has_app h.apps.retired a ≡ false) (same_app id q.app e) unretired in
             let unrecorded = sides.none_first q.app (was_none q.app e) out in
             subst (λ (r : AppRow). attempt_was_first (abstract_scene h t) q ≡ was_first q (Some r)) same (rw unrecorded (sym (tests (nat_lt 0 q.number) refl)))
         by true e (Some one) is x = let y : None ≡ Some one = sym (was_none q.app e) ∙ is in cc
@@ -462,7 +462,7 @@ module _ (h : History) (t : Tables) (sides : AuxInvariant h t) (n : ℕ) where
     where
       by : (c : Option Current) → row.current ≡ c → lives_with attempt c ≡ true → Lives attempt
       by None is e = cc
-      by (Some current) is e = let x = both (current.number == attempt.number) (is_alive current.state) e in record { row = row; found = found; current = current; is = is; number = x.0; alive = x.1 }
+      by (Some current) is e = let x = and_parts (current.number == attempt.number) (is_alive current.state) e in record { row = row; found = found; current = current; is = is; number = x.0; alive = x.1 }
 
   -- one with whose master something was said lives
   spoken_lives : (attempt : AttemptId) (test : Option Dialogue → Bool) → test None ≡ false → test (spoken_by attempt (row_of t.rows attempt.app)) ≡ true → Lives attempt
@@ -531,7 +531,7 @@ module _ (h : History) (t : Tables) (sides : AuxInvariant h t) (n : ℕ) where
   -- an ask that isn't for a master leaves each of those for one
   filter_single : (p : Ask → Bool) (asks : List Ask) → are_single asks ≡ true → are_single (filter p asks) ≡ true
   filter_single p [] e = refl
-  filter_single p (one ∷ asks) e = by (p one) refl (both (is_single one) (are_single asks) e) (filter_single p asks)
+  filter_single p (one ∷ asks) e = by (p one) refl (and_parts (is_single one) (are_single asks) e) (filter_single p asks)
     where
       by : (b : Bool) → p one ≡ b → (is_single one ≡ true) × (are_single asks ≡ true) → (are_single asks ≡ true → are_single (filter p asks) ≡ true) → are_single (filter p (one ∷ asks)) ≡ true
       by true f x rest = let here = x.0 in rw f (rw here (rest x.1))
@@ -542,7 +542,7 @@ module _ (h : History) (t : Tables) (sides : AuxInvariant h t) (n : ℕ) where
 
   renewed_single : (ask : Ask) → (ask.priority == 0) ≡ false → (asks : List Ask) → are_single asks ≡ true → are_single (map (renewed ask) asks) ≡ true
   renewed_single ask o [] e = refl
-  renewed_single ask o (one ∷ asks) e = by (is_for ask.priority ask.size one) refl (both (is_single one) (are_single asks) e) (renewed_single ask o asks)
+  renewed_single ask o (one ∷ asks) e = by (is_for ask.priority ask.size one) refl (and_parts (is_single one) (are_single asks) e) (renewed_single ask o asks)
     where
       by : (b : Bool) → is_for ask.priority ask.size one ≡ b → (is_single one ≡ true) × (are_single asks ≡ true) → (are_single asks ≡ true → are_single (map (renewed ask) asks) ≡ true) → are_single (map (renewed ask) (one ∷ asks)) ≡ true
       by true f x rest = let own = ordinary_single ask o in rw (f, own) (rest x.1)
@@ -550,7 +550,7 @@ module _ (h : History) (t : Tables) (sides : AuxInvariant h t) (n : ℕ) where
 
   added_single : (ask : Ask) → (ask.priority == 0) ≡ false → (asks : List Ask) → are_single asks ≡ true → are_single (asks ++ ask ∷ []) ≡ true
   added_single ask o [] e = let own = ordinary_single ask o in rw own refl
-  added_single ask o (one ∷ asks) e = let x = both (is_single one) (are_single asks) e in let here = x.0 in rw here (added_single ask o asks x.1)
+  added_single ask o (one ∷ asks) e = let x = and_parts (is_single one) (are_single asks) e in let here = x.0 in rw here (added_single ask o asks x.1)
 
   set_single : (ask : Ask) → (ask.priority == 0) ≡ false → (asks : List Ask) → are_single asks ≡ true → are_single (asks_set ask asks) ≡ true
   set_single ask o asks e = by (ask.count == 0) (list_any (is_for ask.priority ask.size) asks)

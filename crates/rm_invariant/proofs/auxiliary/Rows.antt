@@ -19,28 +19,26 @@ use Rattle.rm_tables.specs.Changes.{changed, killed_state}
 use Rattle.rm_tables.specs.Rows.{row_of, with_row}
 use Rattle.rm_refinement.specs.Services.{finishes_by, is_ending}
 use Rattle.rm_invariant.specs.apps.View.{changed_if}
-use Rattle.rm_invariant.proofs.apps.Found.{is_app_same, retired_changed, row_changed}
+use Rattle.rm_invariant.proofs.apps.Found.{retired_changed, row_changed}
 use Rattle.rm_model.specs.State.{Release}
 use Rattle.rm_tables.specs.declared.events.SchedEvent.{SchedEvent}
 use Rattle.rm_tables.specs.declared.events.SchedEvent.TheVariants as scheds
 use Rattle.rm_invariant.specs.events.Here.{AreServed}
 use Rattle.std.specs.Str.{bytes_eq}
+use Rattle.std.proofs.lemmas.Bool.{and_parts}
 use Rattle.rm_types.specs.declared.containers.Closing.{Closing}
 use Rattle.rm_types.specs.declared.containers.Grant.{Grant}
 use Rattle.rm_types.specs.declared.ids.ContainerId.{ContainerId}
+use Rattle.rm_types.proofs.IdLemmas.{same_app}
+use Rattle.rm_types.proofs.TestLemmas.{same_text}
 use Rattle.rm_tables.specs.declared.changes.AttemptChange.TheVariants as of_attempt
 use Rattle.rm_tables.specs.declared.changes.RowChange.TheVariants as of_app
 use Rattle.rm_tables.specs.declared.nodes.NodeRow.{NodeRow}
 use Rattle.rm_tables.specs.Leaving.{closed, closed_in, closed_one}
 use Rattle.rm_tables.specs.Nodes.{node_of, with_node}
 use Rattle.rm_tables.specs.Passing.{row_granted}
-use Rattle.rm_refinement.proofs.Found.{other_row, own_row, same_name}
+use Rattle.rm_refinement.proofs.Found.{other_row, own_row}
 use Rattle.rm_invariant.specs.auxiliary.Invariant.{NoneFirst, RetiredKnown, goes_by, goes_numbered, is_over}
-
-pub both : (a b : Bool) → (a && b) ≡ true → (a ≡ true) × (b ≡ true)
-both true true e = (refl, refl)
-both true false e = cc
-both false b e = cc
 
 -- an application is without a row after a change only where it was before
 pub still_none : (f : AppRow → AppRow) (id q : AppId) (rows : List (AppId × Option AppRow)) → row_of (with_row f id rows) q ≡ None → row_of rows q ≡ None
@@ -60,7 +58,7 @@ retired_with retired f id rows before q = retired_changed f id q rows ∙ before
 module _ (f : AppRow → AppRow) (id : AppId) (rows : List (AppId × Option AppRow)) (row : AppRow) (found : row_of rows id ≡ Some row) where
   same_row : (q : AppId) (one : AppRow) → is_app id q ≡ true → row_of rows q ≡ Some one → row ≡ one
   same_row q one e there =
-      let also : row_of rows id ≡ Some one = ap (row_of rows) (is_app_same id q e) ∙ there in
+      let also : row_of rows id ≡ Some one = ap (row_of rows) (same_app id q e) ∙ there in
       let x : Some row ≡ Some one = sym found ∙ also in
       cc
 
@@ -101,7 +99,7 @@ module _ (f : AppRow → AppRow) (id : AppId) (rows : List (AppId × Option AppR
 -- an attempt goes on
 pub goes_on : (n : ℕ) (c d : Current) → d.number ≡ c.number → ((is_alive c.state || is_ending c.state) ≡ true → (is_alive d.state || is_ending d.state) ≡ true) → goes_numbered n (Some c) ≡ true → goes_numbered n (Some d) ≡ true
 goes_on n c d number state goes =
-    let x = both (c.number == n) (is_alive c.state || is_ending c.state) goes in
+    let x = and_parts (c.number == n) (is_alive c.state || is_ending c.state) goes in
     let a : (d.number == n) ≡ true = ap (λ (m : ℕ). m == n) number ∙ x.0 in
     let b = state x.1 in
     rw (a, b) refl
@@ -164,7 +162,7 @@ still_node f name q nodes e = by (bytes_eq name q) refl
 
     by : (b : Bool) → bytes_eq name q ≡ b → node_of nodes q ≡ None
     by true same =
-        let is : name ≡ q = same_name name q same in
+        let is : name ≡ q = same_text name q same in
         let here : node_of (with_node f name nodes) name ≡ None = subst (λ (n : List ℕ). node_of (with_node f name nodes) n ≡ None) (sym is) e in
         subst (λ (n : List ℕ). node_of nodes n ≡ None) is (mapped (node_of nodes name) (sym (own_row f name nodes) ∙ here))
     by false apart = sym (other_row f name q nodes apart) ∙ e

@@ -4,6 +4,7 @@ use Rattle.std.specs.List.{flat_map, list_any}
 use Rattle.std.specs.Str.{bytes_eq}
 use Rattle.std.proofs.lemmas.List.{append-nil}
 use Rattle.std.proofs.lemmas.Grind.{flat_map-append}
+use Rattle.std.proofs.lemmas.Bool.{and_parts}
 use Rattle.rm_types.specs.declared.containers.Cause.{Cause}
 use Rattle.rm_types.specs.declared.containers.Cause.TheVariants as causes
 use Rattle.rm_types.specs.declared.containers.Closing.{Closing}
@@ -12,6 +13,7 @@ use Rattle.rm_types.specs.declared.entries.Entry.{Entry}
 use Rattle.rm_types.specs.declared.ids.AppId.{AppId}
 use Rattle.rm_types.specs.declared.ids.AttemptId.{AttemptId}
 use Rattle.rm_types.specs.declared.ids.ContainerId.{ContainerId}
+use Rattle.rm_types.proofs.TestLemmas.{same_text}
 use Rattle.rm_book.specs.Books.{BookOf, capability_of, row_of as book_row_of}
 use Rattle.rm_book.proofs.Nodes.{capability_in-with_capability}
 use Rattle.rm_model.specs.Changes.{after}
@@ -39,7 +41,6 @@ use Rattle.rm_tables.specs.Passing.{grants_on, masters_granted, updated_by, wait
 use Rattle.rm_tables.specs.Rows.{row_of, with_row}
 use Rattle.rm_tables.specs.SchedEvents.{is_on, is_released, queued_at, queued_by, queued_with, sched_step}
 use Rattle.rm_refinement.specs.Services.{finishes_by, finishes_with}
-use Rattle.rm_refinement.proofs.Found.{same_name}
 use Rattle.rm_invariant.specs.apps.Completed.{is_retire}
 use Rattle.rm_invariant.specs.apps.Submissions.{starting}
 use Rattle.rm_refinement.specs.History.{History, live_state}
@@ -55,7 +56,7 @@ use Rattle.rm_invariant.proofs.events.SilentSched.{sched_silent}
 use Rattle.rm_invariant.specs.auxiliary.Parts.{FixedParts, fixed_parts, parts_in}
 use Rattle.rm_invariant.specs.auxiliary.Invariant.{AreUnfinished, IsUnfinished, MastersSingle, NoneFirst, OthersGo, RetiredKnown, AuxInvariant, goes_by, goes_numbered}
 use Rattle.rm_invariant.proofs.auxiliary.Parts.{parts_after}
-use Rattle.rm_invariant.proofs.auxiliary.Rows.{both, closed_keeps, every_with, granted_keeps, none_first_with, retired_with, same_with, still_node}
+use Rattle.rm_invariant.proofs.auxiliary.Rows.{closed_keeps, every_with, granted_keeps, none_first_with, retired_with, same_with, still_node}
 
 -- WHAT IS ASKED FOR, TOLD IN TWO WAYS
 
@@ -66,7 +67,7 @@ goes_split n (Some row) e = by row.current e
   where
     by : (c : Option Current) → goes_numbered n c ≡ true → (is_numbered_in n (Some (record row { current = c })) ≡ true) × (goes_in (Some (record row { current = c })) ≡ true)
     by None e = cc
-    by (Some current) e = both (current.number == n) _ e
+    by (Some current) e = and_parts (current.number == n) _ e
 
 pub goes_join : (n : ℕ) (o : Option AppRow) → is_numbered_in n o ≡ true → goes_in o ≡ true → goes_by n o ≡ true
 goes_join n None a b = cc
@@ -289,7 +290,7 @@ module _ (t : Tables) where
           where
             at_name : (q : List ℕ) (d : Bool) → bytes_eq name q ≡ d → node_of t.nodes q ≡ None → capability_of (absorbed_if true name row list t).1.book q ≡ None
             at_name q true same none =
-                let here : node_of t.nodes name ≡ None = subst (λ (n : List ℕ). node_of t.nodes n ≡ None) (sym (same_name name q same)) none in
+                let here : node_of t.nodes name ≡ None = subst (λ (n : List ℕ). node_of t.nodes n ≡ None) (sym (same_text name q same)) none in
                 let x : Some row ≡ None = sym found ∙ here in
                 cc
             at_name q false apart none = capability_in-with_capability name q row.capability t.book.nodes ∙ rw apart (offers q none)

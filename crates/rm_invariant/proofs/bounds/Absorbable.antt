@@ -3,7 +3,7 @@ use Rattle.std.proofs.Common.{◌≡◌, ◌≤◌, ℕ, ◌+◌, ◌-◌, List,
 use Rattle.std.specs.Prelude.{if◌then◌else◌, option_and_then}
 use Rattle.std.specs.List.{list_any, sum_by}
 use Rattle.std.specs.Str.{bytes_eq}
-use Rattle.std.proofs.lemmas.Bool.{false≢true, or_from, or_parts}
+use Rattle.std.proofs.lemmas.Bool.{false≢true, or_from, or_parts, and_parts}
 use Rattle.std.proofs.lemmas.Bool.Decides.{nat_tests}
 use Rattle.std.proofs.lemmas.List.{map-append}
 use Rattle.std.proofs.lemmas.List.Folds.{list_any-append}
@@ -18,9 +18,9 @@ use Rattle.rm_types.specs.Ids.{is_container}
 use Rattle.rm_types.specs.Order.{Ascend}
 use Rattle.rm_types.specs.Passes.{total_of}
 use Rattle.rm_types.specs.Resources.{Fits, fits}
+use Rattle.rm_types.proofs.IdLemmas.{container_back, same_container}
+use Rattle.rm_types.proofs.TestLemmas.{same_text}
 use Rattle.rm_book.specs.Books.{AreApart, AreOnce, capability_of, entering, is_held, is_of, row_taken, sizes_on, taken_rows, with_taken}
-use Rattle.rm_book.proofs.Ids.{container_back, same_container}
-use Rattle.rm_book.proofs.Lists.{and_parts}
 use Rattle.rm_model.specs.Facts.{has_container}
 use Rattle.rm_model.specs.Nodes.{node_of as node_told}
 use Rattle.rm_model.specs.State.{NodeState, Row}
@@ -30,7 +30,6 @@ use Rattle.rm_tables.specs.Absorbing.{booked_at, counted_in, is_current_in, is_e
 use Rattle.rm_tables.specs.Nodes.{node_of}
 use Rattle.rm_sched.specs.CanWork.{CanAbsorb}
 use Rattle.rm_refinement.specs.Agreement.{PlainNode, bare_node, plain_node}
-use Rattle.rm_refinement.proofs.Found.{same_name}
 use Rattle.rm_refinement.specs.History.{History, abstract_life}
 use Rattle.rm_invariant.specs.nodes.Book.{All, IsAbsorbed, BookRowInvariant as IsBookRow}
 use Rattle.rm_invariant.proofs.nodes.Ascending.{permuted_has}
@@ -53,7 +52,7 @@ found_one P p (y ∷ xs) x all e = by (p y) refl (found_one P p xs x all.1)
 -- WHAT IS TAKEN, ONE AFTER THE OTHER
 
 -- no two are of one container
-once_more : (taken : List Held) (held : Held) → AreOnce taken → is_held taken held.id ≡ false → AreOnce (taken ++ held ∷ [])
+pub once_more : (taken : List Held) (held : Held) → AreOnce taken → is_held taken held.id ≡ false → AreOnce (taken ++ held ∷ [])
 once_more [] held once new = (refl, tt)
 once_more (one ∷ taken) held once new =
     let parts = or_parts (is_container one.id held.id) (is_held taken held.id) new in
@@ -406,7 +405,7 @@ module _ (settings : Settings) (h : History) (t : Tables) (w : CoreInvariant set
           at : (b : Bool) → bytes_eq one.node name ≡ b → bytes_eq one.node name ≡ false
           at false e = e
           at true e =
-              let same : one.node ≡ name = same_name one.node name e in
+              let same : one.node ≡ name = same_text one.node name e in
               let is : is_some (option_and_then (λ (node : NodeState). node.capability) (node_told h.nodes name)) ≡ true = subst (IsAbsorbed h.nodes) same all.0 in
               absurd (false≢true (sym told ∙ is))
 

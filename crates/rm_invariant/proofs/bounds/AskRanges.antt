@@ -10,9 +10,9 @@ use Rattle.rm_types.specs.declared.records.AppRecord.{AppRecord}
 use Rattle.rm_types.specs.declared.resources.Resource.{Resource}
 use Rattle.rm_types.specs.Ids.{is_attempt}
 use Rattle.rm_types.specs.Passes.{by_priority, put_by_priority}
+use Rattle.rm_types.proofs.IdLemmas.{same_attempt}
 use Rattle.rm_book.specs.AskTables.{AsksOf, asks_granted, asks_of, asks_set, granted_in, is_for, one_less, renewed, with_asks_of, without_asks_of}
 use Rattle.rm_book.specs.ManyAsks.{all_asked, one_asked}
-use Rattle.rm_book.proofs.Ids.{same_attempt}
 use Rattle.rm_model.specs.Containers.{is_size}
 use Rattle.rm_tables.specs.Passing.{answered, without_granted}
 use Rattle.rm_tables.specs.SchedEvents.{master_asked}

@@ -1,6 +1,7 @@
 -- A pass grants at most 256 containers, as each takes a core at least of what a node offers.
 use Rattle.std.proofs.Common.{◌≡◌, ◌≤◌, ℕ, ◌+◌, List, [], ◌∷◌, Bool, true, false, not, ◌&&◌, Option, None, Some, Result, Ok, length, length-append, refl, sym, ◌∙◌, subst, arith}
 use Rattle.std.specs.Prelude.{if◌then◌else◌}
+use Rattle.std.proofs.lemmas.Bool.{and_parts}
 use Rattle.rm_types.specs.declared.containers.Ask.{Ask}
 use Rattle.rm_types.specs.declared.containers.Grant.{Grant}
 use Rattle.rm_types.specs.declared.containers.Turn.{Turn}
@@ -10,7 +11,6 @@ use Rattle.rm_types.specs.Passes.{PassNode, by_priority, pass_list, total_of}
 use Rattle.rm_types.specs.Resources.{difference_of}
 use Rattle.rm_book.specs.AskTables.{asks_of}
 use Rattle.rm_book.specs.Books.{capability_of, sizes_on}
-use Rattle.rm_book.proofs.Lists.{and_parts}
 use Rattle.rm_book.proofs.Numbered.{all_by_priority}
 use Rattle.rm_fit.specs.Conditions.{are_some_sizes, have_sizes, is_some_size}
 use Rattle.rm_fit.specs.Turns.{Spot, turn_grants, turn_left}

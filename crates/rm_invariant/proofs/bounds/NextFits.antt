@@ -1,7 +1,6 @@
 -- The operation that awaits first fits what is recorded.
 use Rattle.std.proofs.Common.{◌≡◌, ℕ, ◌+◌, ◌==◌, ◌&&◌, suc, List, ◌∷◌, true, false, Option, None, Some, drop, is_none, is_some, length, option_map, refl, subst, arith}
 use Rattle.std.proofs.lemmas.Bool.{and_from}
-use Rattle.std.proofs.lemmas.Bool.Decides.{nat_tests}
 use Rattle.rm_types.specs.declared.ids.AttemptId.{AttemptId}
 use Rattle.rm_types.specs.declared.operations.How.{How}
 use Rattle.rm_types.specs.declared.operations.Op.{Op}
@@ -10,6 +9,8 @@ use Rattle.rm_types.specs.declared.records.AppRecord.{AppRecord}
 use Rattle.rm_types.specs.declared.settings.Settings.{Settings}
 use Rattle.rm_types.specs.Ids.{is_attempt}
 use Rattle.rm_types.specs.Records.{all_ended, fits_records, is_some_and, last_attempt, record_of}
+use Rattle.rm_types.proofs.IdLemmas.{app_itself}
+use Rattle.rm_types.proofs.TestLemmas.{number_itself}
 use Rattle.rm_app.specs.declared.states.AppState.{AppState}
 use Rattle.rm_app.specs.declared.states.AppState.TheVariants as apps
 use Rattle.rm_model.specs.Facts.{attempts_in, end_in, is_epoch_op}
@@ -21,14 +22,10 @@ use Rattle.rm_invariant.specs.Step.{AppsInvariant}
 use Rattle.rm_refinement.specs.History.{History}
 use Rattle.rm_invariant.specs.apps.View.{View, op_view, view}
 use Rattle.rm_invariant.proofs.apps.Effects.{op_taken}
-use Rattle.rm_invariant.proofs.apps.Found.{is_app-refl}
 use Rattle.rm_invariant.proofs.apps.Saving.{app_unkept}
 use Rattle.rm_invariant.proofs.apps.KeptEnds.{end_awaits, over_awaits, with_end_op}
 use Rattle.rm_invariant.proofs.masters.AwaitingAttempts.{attempt_awaits, with_attempt_op}
 use Rattle.rm_invariant.specs.Core.{CoreInvariant}
-
-same_number : (n : ℕ) → (n == n) ≡ true
-same_number n = grind (arith, nat_tests)
 
 none_is : {X : Type 0} (o : Option X) → o ≡ None → is_none o ≡ true
 none_is o e = rw e refl
@@ -38,7 +35,7 @@ attempt_fits : (id : AttemptId) (found : Option AppRecord) → AllHaveEnded foun
     → is_some_and (λ app. is_none app.ending && (all_ended app.attempts && (id.number == length app.attempts + 1))) found ≡ true
 attempt_fits id None stopped next = let x = stopped.0 in cc
 attempt_fits id (Some app) stopped next =
-    let number : (id.number == length app.attempts + 1) ≡ true = rw next (same_number (length app.attempts + 1)) in
+    let number : (id.number == length app.attempts + 1) ≡ true = rw next (number_itself (length app.attempts + 1)) in
     and_from (is_none app.ending) _ (none_is app.ending stopped.1) (and_from (all_ended app.attempts) _ stopped.2 number)
 
 app_end_fits : (found : Option AppRecord) → AllHaveEnded found → is_some_and (λ app. is_none app.ending && all_ended app.attempts) found ≡ true
@@ -96,20 +93,20 @@ module _ (settings : Settings) (h : History) (t : Tables) (k : AppsInvariant set
   keeps_fits (ops.Epoch next stamp) rest front kind = cc
   keeps_fits (ops.App id submission) rest front kind = none_is (record_of t.tree.apps id) (app_unkept settings h t k id submission rest front)
   keeps_fits (ops.Attempt id master node) rest front kind =
-      let own : op_view id (ops.Attempt id master node) (view h left id) ≡ with_attempt_op id (view h left id) = rw (is_app-refl id.app, same_number id.number) refl in
+      let own : op_view id (ops.Attempt id master node) (view h left id) ≡ with_attempt_op id (view h left id) = rw (app_itself id.app, number_itself id.number) refl in
       let awaits = attempt_awaits settings id (view h left id) (row_of t.rows id.app) (subst (λ (v : View). RowInvariant settings id (row_of t.rows id.app) v) own (said id (ops.Attempt id master node) rest front)) in
       attempt_fits id (record_of t.tree.apps id.app) awaits.stopped awaits.next
   keeps_fits (ops.AttemptEnd id how text) rest front kind =
-      let own : op_view id (ops.AttemptEnd id how text) (view h left id) ≡ with_end_op id (view h left id) = rw (is_app-refl id.app, same_number id.number) refl in
+      let own : op_view id (ops.AttemptEnd id how text) (view h left id) ≡ with_end_op id (view h left id) = rw (app_itself id.app, number_itself id.number) refl in
       let awaits = end_awaits settings id (view h left id) (row_of t.rows id.app) (subst (λ (v : View). RowInvariant settings id (row_of t.rows id.app) v) own (said id (ops.AttemptEnd id how text) rest front)) in
       attempt_end_fits id (record_of t.tree.apps id.app) awaits.goes
   keeps_fits (ops.AppEnd id how text) rest front kind =
       let q : AttemptId = record { app = id; number = 0 } in
-      let own : op_view q (ops.AppEnd id how text) (view h left q) ≡ record (view h left q) { count = record (view h left q).count { app_ends = suc (view h left q).count.app_ends } } = rw (is_app-refl id) refl in
+      let own : op_view q (ops.AppEnd id how text) (view h left q) ≡ record (view h left q) { count = record (view h left q).count { app_ends = suc (view h left q).count.app_ends } } = rw (app_itself id) refl in
       app_end_fits (record_of t.tree.apps id) (over_stopped settings q (row_of t.rows id) (view h left q) (subst (λ (v : View). RowInvariant settings q (row_of t.rows id) v) own (said q (ops.AppEnd id how text) rest front)))
   keeps_fits (ops.Remove id) rest front kind =
       let q : AttemptId = record { app = id; number = 0 } in
-      let own : op_view q (ops.Remove id) (view h left q) ≡ record (view h left q) { count = record (view h left q).count { removes = suc (view h left q).count.removes } } = rw (is_app-refl id) refl in
+      let own : op_view q (ops.Remove id) (view h left q) ≡ record (view h left q) { count = record (view h left q).count { removes = suc (view h left q).count.removes } } = rw (app_itself id) refl in
       remove_fits settings q (row_of t.rows id) (view h left q) (subst (λ (v : View). RowInvariant settings q (row_of t.rows id) v) own (said q (ops.Remove id) rest front))
 
 -- the first awaiting operation of an open life fits what is recorded, unless it is an Epoch

@@ -6,6 +6,7 @@ use Rattle.rm_types.specs.declared.containers.Held.{Held}
 use Rattle.rm_types.specs.declared.ids.ContainerId.{ContainerId}
 use Rattle.rm_types.specs.declared.replies.Reply.{Reply}
 use Rattle.rm_types.specs.declared.resources.Resource.{Resource}
+use Rattle.rm_types.proofs.TestLemmas.{same_text}
 use Rattle.rm_book.specs.Books.{BookOf, row_of as book_row_of}
 use Rattle.rm_tables.specs.declared.nodes.NodeChange.{NodeChange}
 use Rattle.rm_tables.specs.declared.nodes.NodeChange.TheVariants.{Absorb, Lose, Unlaunch}
@@ -13,7 +14,7 @@ use Rattle.rm_tables.specs.declared.nodes.NodeRow.{NodeRow}
 use Rattle.rm_tables.specs.Absorbing.{unlaunched_here, unlaunched_on}
 use Rattle.rm_tables.specs.Leaving.{unlaunched, unlaunched_at, unlaunched_one}
 use Rattle.rm_tables.specs.Nodes.{beaten_row, changed_row, node_of, ordered_row, registered_row, with_node}
-use Rattle.rm_refinement.proofs.Found.{other_row, own_row, same_name}
+use Rattle.rm_refinement.proofs.Found.{other_row, own_row}
 use Rattle.rm_invariant.specs.messages.Ranges.{IsHeld, IsList, IsSize}
 use Rattle.rm_invariant.specs.bounds.InBounds.{AreNodes, IsNode}
 
@@ -27,7 +28,7 @@ nodes_with f name nodes keeps are = record { each = λ q row found. by q row (by
 
     by : (q : List ℕ) (row : NodeRow) (b : Bool) → bytes_eq name q ≡ b → node_of (with_node f name nodes) q ≡ Some row → IsNode q row
     by q row true e found =
-        let same : name ≡ q = same_name name q e in
+        let same : name ≡ q = same_text name q e in
         let here : node_of (with_node f name nodes) name ≡ Some row = ap (node_of (with_node f name nodes)) same ∙ found in
         subst (λ (n : List ℕ). IsNode n row) same (at (node_of nodes name) row refl (sym (own_row f name nodes) ∙ here))
     by q row false e found = are.each q row (sym (other_row f name q nodes e) ∙ found)
@@ -55,7 +56,7 @@ node_more : (name q : List ℕ) (new row : NodeRow) (nodes : List (List ℕ × N
 node_more name q new row [] e = by (bytes_eq q name) refl e
   where
     by : (b : Bool) → bytes_eq q name ≡ b → (if b then Some new else None) ≡ Some row → (node_of [] q ≡ Some row) ⊎ ((name ≡ q) × (new ≡ row))
-    by true f is = let same : new ≡ row = cc in inr (sym (same_name q name f), same)
+    by true f is = let same : new ≡ row = cc in inr (sym (same_text q name f), same)
     by false f is = cc
 node_more name q new row (one ∷ nodes) e = by (bytes_eq q one.0) refl (node_more name q new row nodes)
   where

@@ -17,9 +17,9 @@ use Rattle.rm_types.specs.declared.resources.Resource.{Resource}
 use Rattle.rm_types.specs.declared.settings.Settings.{Settings}
 use Rattle.rm_types.specs.Ids.{is_app, is_attempt}
 use Rattle.rm_types.specs.Records.{record_of}
+use Rattle.rm_types.proofs.IdLemmas.{same_attempt}
 use Rattle.rm_book.specs.AskTables.{asks_of}
 use Rattle.rm_book.specs.Books.{capability_in, is_node}
-use Rattle.rm_book.proofs.Ids.{same_attempt}
 use Rattle.rm_fit.specs.Conditions.{AreApart, are_past, are_some_sizes, has_turn, have_sizes, is_past, is_some_size}
 use Rattle.rm_model.specs.Attempts.{attempt_at}
 use Rattle.rm_model.specs.Facts.{attempts_in}

@@ -10,6 +10,7 @@ use Rattle.rm_types.specs.declared.replies.Reply.{Reply}
 use Rattle.rm_types.specs.declared.texts.TextKind.TheVariants.{Note}
 use Rattle.rm_types.specs.Ids.{is_app}
 use Rattle.rm_types.specs.Ranges.{IsContainerId, IsSubmission, IsText, IsWithin}
+use Rattle.rm_types.proofs.IdLemmas.{same_app}
 use Rattle.rm_attempt.specs.declared.states.AttemptState.{AttemptState}
 use Rattle.rm_attempt.specs.declared.states.AttemptState.TheVariants as attempts
 use Rattle.rm_tables.specs.declared.changes.AttemptChange.{AttemptChange}
@@ -27,7 +28,7 @@ use Rattle.rm_tables.specs.Passing.{granted_by, granted_to}
 use Rattle.rm_tables.specs.Rows.{row_in, row_of, with_row, without_row}
 use Rattle.rm_tables.specs.Talks.{begun, registered_row, said_row, told_row, with_answer, with_text, without_closings}
 use Rattle.rm_invariant.specs.apps.View.{changed_if, gone_if}
-use Rattle.rm_invariant.proofs.apps.Found.{is_app_same, row_changed}
+use Rattle.rm_invariant.proofs.apps.Found.{row_changed}
 use Rattle.rm_invariant.proofs.apps.Removing.{row_gone}
 use Rattle.rm_invariant.specs.bounds.InBounds.{AreGrants, AreRows, IfThere, IsCurrent, IsRow, is_update}
 
@@ -41,7 +42,7 @@ rows_with f id rows keeps are = record { each = λ q row found. by q row (is_app
     by q row true e None g is = cc
     by q row true e (Some one) g is =
         let same : f one ≡ row = cc in
-        let here : id ≡ q = is_app_same id q e in
+        let here : id ≡ q = same_app id q e in
         let found : row_of rows id ≡ Some one = ap (row_of rows) here ∙ g in
         subst (IsRow q) same (subst (λ (x : AppId). IsRow x (f one)) here (keeps one found (are.each id one found)))
     by q row false e o g is = are.each q row (g ∙ is)
@@ -297,7 +298,7 @@ row_more : (id q : AppId) (new row : AppRow) (rows : List (AppId × Option AppRo
 row_more id q new row [] e = by (is_app q id) refl e
   where
     by : (b : Bool) → is_app q id ≡ b → row_in (if b then Some (Some new) else None) ≡ Some row → (row_of [] q ≡ Some row) ⊎ ((id ≡ q) × (new ≡ row))
-    by true f is = let same : new ≡ row = cc in inr (sym (is_app_same q id f), same)
+    by true f is = let same : new ≡ row = cc in inr (sym (same_app q id f), same)
     by false f is = cc
 row_more id q new row (one ∷ rows) e = by (is_app q one.0) refl (row_more id q new row rows)
   where

@@ -4,6 +4,7 @@ use Rattle.std.specs.Prelude.{if◌then◌else◌, option_map}
 use Rattle.std.specs.List.{list_any, list_all}
 use Rattle.std.specs.Str.{bytes_eq}
 use Rattle.std.proofs.lemmas.List.{map-append}
+use Rattle.std.proofs.lemmas.Bool.{and_parts}
 use Rattle.rm_types.specs.declared.containers.BookRow.{BookRow}
 use Rattle.rm_types.specs.declared.containers.Cause.TheVariants.{Gone}
 use Rattle.rm_types.specs.declared.containers.ContainerState.TheVariants.{Running}
@@ -11,8 +12,9 @@ use Rattle.rm_types.specs.declared.containers.Held.{Held}
 use Rattle.rm_types.specs.declared.ids.ContainerId.{ContainerId}
 use Rattle.rm_types.specs.declared.resources.Resource.{Resource}
 use Rattle.rm_types.specs.Ids.{is_container}
+use Rattle.rm_types.proofs.TestLemmas.{text_itself}
 use Rattle.rm_book.specs.Books.{BookOf, capability_of, entering, has_row, is_held, row_taken, taken_rows, with_taken, without_rows}
-use Rattle.rm_book.proofs.Lists.{and_parts, any_view, map_view}
+use Rattle.rm_book.proofs.Lists.{any_view, map_view}
 use Rattle.rm_book.proofs.Nodes.{capability_in-with_capability}
 use Rattle.rm_model.specs.Absorbing.{absorbed, absorbs, book_taken, row_absorbed, row_taken as row_taken_told}
 use Rattle.rm_model.specs.Containers.{is_living, leave, without_launches}
@@ -29,7 +31,6 @@ use Rattle.rm_tables.specs.Absorbing.{absorbed_with, unlaunched_on}
 use Rattle.rm_tables.specs.Leaving.{closings_of, unlaunched}
 use Rattle.rm_tables.specs.Nodes.{changed_row, node_of, with_node}
 use Rattle.rm_refinement.specs.Agreement.{PlainNode, PlainRow, SameNodes, SameRows, bare_row, bare_node, plain_row, plain_node}
-use Rattle.rm_refinement.proofs.Found.{own_name}
 use Rattle.rm_refinement.proofs.Nodes.{changed_same, tidied_same}
 use Rattle.rm_invariant.proofs.masters.Leaving.{living_filter}
 use Rattle.rm_invariant.specs.events.Refines.{Refines}
@@ -127,7 +128,7 @@ module _ (book : BookOf) (name : List ℕ) (row : NodeRow) (taken : List Held) (
   others_offer q other = capability_in-with_capability name q row.capability book.nodes ∙ rw other refl
 
   offers : capability_of now name ≡ Some row.capability
-  offers = let own = own_name name in capability_in-with_capability name name row.capability book.nodes ∙ rw own refl
+  offers = let own = text_itself name in capability_in-with_capability name name row.capability book.nodes ∙ rw own refl
 
   -- the same nodes are there again
   pub nodes_absorbed : is_waiting row.state ≡ true → (nodes : List (List ℕ × NodeRow)) (told : List NodeState) → SameNodes book nodes told → LaunchesHere book nodes → node_of nodes name ≡ Some row → are_on book name ended ≡ true

@@ -2,7 +2,7 @@
 -- its last registration; else there is nothing to do.
 use Rattle.std.proofs.Common.{◌≡◌, ◌≢◌, ℕ, ◌==◌, List, [], ◌∷◌, Bool, true, false, not, ◌&&◌, ◌||◌, Option, None, Some, drop, filter, refl, sym, ◌∙◌, ap, subst, arith}
 use Rattle.std.specs.List.{list_all}
-use Rattle.std.proofs.lemmas.Bool.{and_from, false≢true}
+use Rattle.std.proofs.lemmas.Bool.{and_from, false≢true, not-true}
 use Rattle.std.proofs.lemmas.Bool.Decides.{nat_tests}
 use Rattle.std.proofs.lemmas.List.Sorted.{IsPermutation-sym}
 use Rattle.rm_types.specs.declared.containers.Cause.TheVariants.{Gone}
@@ -12,6 +12,8 @@ use Rattle.rm_types.specs.declared.ids.ContainerId.{ContainerId}
 use Rattle.rm_types.specs.declared.settings.Settings.{Settings}
 use Rattle.rm_types.specs.Ids.{is_container}
 use Rattle.rm_types.specs.Order.{Ascend}
+use Rattle.rm_types.proofs.IdLemmas.{container_itself}
+use Rattle.rm_types.proofs.TestLemmas.{text_itself, same_text}
 use Rattle.rm_book.specs.Books.{row_of as book_row_of}
 use Rattle.rm_model.specs.Absorbing.{absorbs, is_held, taken_of, with_taken}
 use Rattle.rm_model.specs.Containers.{ids_on, is_living, leave}
@@ -36,9 +38,8 @@ use Rattle.rm_invariant.specs.nodes.Book.{All, BookInvariant}
 use Rattle.rm_invariant.proofs.nodes.Absorbs.{taken_holds}
 use Rattle.rm_invariant.proofs.nodes.Ascending.{permuted_has}
 use Rattle.rm_invariant.proofs.nodes.Entries.{absorbed_good, absorbed_lawful, added_quiet_good, known_node}
-use Rattle.rm_invariant.proofs.nodes.Holds.{not_false}
-use Rattle.rm_invariant.proofs.nodes.Lists.{container-refl, lives_is}
-use Rattle.rm_invariant.proofs.nodes.Moved.{name_of, same_text, text-refl}
+use Rattle.rm_invariant.proofs.nodes.Lists.{lives_is}
+use Rattle.rm_invariant.proofs.nodes.Moved.{name_of}
 use Rattle.rm_invariant.specs.masters.Preserves.{PreservesContainers}
 use Rattle.rm_invariant.proofs.masters.Absorbed.{absorbed_joins, absorbing, unabsorbed_joins}
 use Rattle.rm_invariant.proofs.masters.LeavingEvents.{lives_there, of_passing, same_ids_on}
@@ -83,7 +84,7 @@ all_pass p ids each = by ids (all_of (λ id. p id ≡ true) ids each)
 -- what holds of each that is taken holds of all
 all_held : (P : ContainerId → Type 0) (list : List Held) → ((id : ContainerId) → is_held list id ≡ true → P id) → All (λ held. P held.id) list
 all_held P [] each = tt
-all_held P (held ∷ list) each = (each held.id (let own = container-refl held.id in rw own refl), all_held P list (λ id among. each id (or_true (is_container held.id id) (is_held list id) among)))
+all_held P (held ∷ list) each = (each held.id (let own = container_itself held.id in rw own refl), all_held P list (λ id among. each id (or_true (is_container held.id id) (is_held list id) among)))
   where
     or_true : (a b : Bool) → b ≡ true → (a || b) ≡ true
     or_true true b e = refl
@@ -96,7 +97,7 @@ held_pass ended (held ∷ list) all = let none = all.0 in and_from _ (none_taken
 module _ (settings : Settings) (h : History) (t : Tables) (w : CoreInvariant settings h t) (name : List ℕ) (turn : ℕ) (rest : List SchedEvent) (front : t.sched ≡ scheds.NodeAdded name turn ∷ rest)
     (registered : NoneAbsent t.nodes) (firsts : FirstsKnown (abstract_scene h t) t.rows) where
   stands : (node : NodeState) × (node_told h.nodes name ≡ Some node)
-  stands = known_node h.nodes h.book t.sched name (scheds.NodeAdded name turn) rest front (text-refl name) w.nodes
+  stands = known_node h.nodes h.book t.sched name (scheds.NodeAdded name turn) rest front (text_itself name) w.nodes
 
   module _ (row : NodeRow) (found : node_of t.nodes name ≡ Some row) (node : NodeState) (there : node_told h.nodes name ≡ Some node) where
     alike : bare_node t.book name row ≡ plain_node node
@@ -167,7 +168,7 @@ module _ (settings : Settings) (h : History) (t : Tables) (w : CoreInvariant set
       stay = all_held (λ id. has_container list id ≡ false) taken (λ id held. by id held (has_container list id) refl)
         where
           by : (id : ContainerId) → is_held taken id ≡ true → (b : Bool) → has_container list id ≡ b → has_container list id ≡ false
-          by id held true e = absurd (false≢true (sym (not_false (is_held taken id) (stood id e).1) ∙ held))
+          by id held true e = absurd (false≢true (sym (not-true (is_held taken id) (stood id e).1) ∙ held))
           by id held false e = e
 
       living : All (λ id. is_living h.book id ≡ true) list

@@ -11,13 +11,13 @@ use Rattle.rm_types.specs.declared.ids.AttemptId.{AttemptId}
 use Rattle.rm_types.specs.declared.resources.Resource.{Resource}
 use Rattle.rm_types.specs.Ids.{is_attempt}
 use Rattle.rm_types.specs.Passes.{by_priority}
+use Rattle.rm_types.proofs.IdLemmas.{same_attempt, attempt_itself}
+use Rattle.rm_types.proofs.TestLemmas.{found_passes}
 use Rattle.rm_book.specs.AskTables.{AsksOf, asks_granted, asks_of, granted_in, is_for, one_less, with_asks_of}
-use Rattle.rm_book.proofs.Ids.{attempt_itself, same_attempt}
 use Rattle.rm_model.specs.Containers.{is_same_ask, is_size}
 use Rattle.rm_model.specs.Passing.{ask_lessened, asks_lessened, asks_of as asks_told, without_granted as without_told}
 use Rattle.rm_tables.specs.Passing.{answered, without_granted}
 use Rattle.rm_refinement.specs.Agreement.{SameAsks}
-use Rattle.rm_invariant.proofs.events.Lists.{found_passes}
 
 -- THE TABLES
 

@@ -14,6 +14,7 @@ use Rattle.rm_types.specs.declared.operations.Op.TheVariants as ops
 use Rattle.rm_types.specs.declared.operations.Submission.{Submission}
 use Rattle.rm_types.specs.declared.settings.Settings.{Settings}
 use Rattle.rm_types.specs.Records.{record_of}
+use Rattle.rm_types.proofs.IdLemmas.{app_itself}
 use Rattle.rm_model.specs.Facts.{attempts_in}
 use Rattle.rm_model.specs.Issuing.{MayIssueApp, killed_text}
 use Rattle.rm_app.specs.declared.states.AppState.{AppState}
@@ -35,7 +36,6 @@ use Rattle.rm_invariant.specs.apps.Invariant.{ActiveInvariant, CurrentInvariant,
 use Rattle.rm_refinement.specs.History.{History, abstract_life, abstract_scene}
 use Rattle.rm_invariant.specs.apps.View.{View, view}
 use Rattle.rm_invariant.proofs.apps.Effects.{main_taken}
-use Rattle.rm_invariant.proofs.apps.Found.{is_app-refl}
 use Rattle.rm_invariant.proofs.apps.Own.{active_row, start_more}
 use Rattle.rm_invariant.proofs.apps.Retiring.{retire_steps}
 use Rattle.rm_invariant.specs.masters.Preserves.{PreservesContainersTo}
@@ -230,7 +230,7 @@ module _ (settings : Settings) (h : History) (t : Tables) (w : CoreInvariant set
     starts : IsStarting (row_of t.rows id)
     starts =
         let good = subst (λ (v : View). RowInvariant settings start_of (row_of t.rows id) v) (main_taken h t start_of (mains.AppStart id) rest front) (w.keeps.all start_of) in
-        starting settings start_of (row_of t.rows id) (view h (main_popped t) start_of) (let g = rw (is_app-refl id) at good in g)
+        starting settings start_of (row_of t.rows id) (view h (main_popped t) start_of) (let g = rw (app_itself id) at good in g)
 
     start_pending : (row : AppRow) → row_of t.rows id ≡ Some row → row.state ≡ apps.New → (o : Option Submission) → row.pending ≡ o → is_some o ≡ true → PreservesCore settings h t (main_worked (start_of_submission o id t))
     start_pending row found new None is some = cc

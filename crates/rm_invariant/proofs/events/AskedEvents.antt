@@ -15,8 +15,8 @@ use Rattle.rm_types.specs.declared.ids.ContainerId.{ContainerId}
 use Rattle.rm_types.specs.declared.records.AppRecord.{AppRecord}
 use Rattle.rm_types.specs.declared.resources.Resource.{Resource}
 use Rattle.rm_types.specs.Ids.{is_app, is_attempt}
+use Rattle.rm_types.proofs.IdLemmas.{same_attempt}
 use Rattle.rm_book.specs.AskTables.{AsksOf, asks_of, asks_set, is_for, renewed, with_asks_of}
-use Rattle.rm_book.proofs.Ids.{same_attempt}
 use Rattle.rm_attempt.specs.declared.states.AttemptState.{AttemptState}
 use Rattle.rm_attempt.specs.declared.states.AttemptState.TheVariants as attempts
 use Rattle.rm_tables.specs.declared.events.SchedEvent.{SchedEvent}

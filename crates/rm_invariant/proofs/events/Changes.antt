@@ -6,6 +6,7 @@ use Rattle.rm_types.specs.declared.ids.AppId.{AppId}
 use Rattle.rm_types.specs.declared.ids.AttemptId.{AttemptId}
 use Rattle.rm_types.specs.declared.ids.ContainerId.{ContainerId}
 use Rattle.rm_types.specs.Ids.{is_app}
+use Rattle.rm_types.proofs.IdLemmas.{same_app}
 use Rattle.rm_model.specs.Facts.{has_app}
 use Rattle.rm_model.specs.State.{LifeState, MasterState}
 use Rattle.rm_tables.specs.declared.changes.AttemptChange.{AttemptChange}
@@ -19,7 +20,6 @@ use Rattle.rm_tables.specs.Changes.{changed, current_after, scheduled}
 use Rattle.rm_tables.specs.Rows.{row_of}
 use Rattle.rm_refinement.specs.Agreement.{AttemptAgrees, ClosingsAgree, HasNoSession, NumberAgrees, RowAgrees, plain_dialogue}
 use Rattle.rm_invariant.specs.apps.View.{changed_if}
-use Rattle.rm_invariant.proofs.apps.Found.{is_app_same}
 use Rattle.rm_invariant.specs.events.Refines.{Refines}
 
 -- two attempts of one number, to which as many containers were granted and whose master registered or not alike
@@ -149,13 +149,13 @@ changed_agrees life t next id change same book nodes asks rows tells attempts =
     closing : (q : AppId) (b : Bool) → is_app id q ≡ b → (o : Option AppRow) → row_of t.rows q ≡ o → ClosingsAgree life.endings.outbox q (has_app life.apps.retired q) o
         → ClosingsAgree life.endings.outbox q (has_app life.apps.retired q) (changed_if b change o)
     closing q true e None found says = says
-    closing q true e (Some row) found says = tells row (ap (row_of t.rows) (is_app_same id q e) ∙ found) ∙ says
+    closing q true e (Some row) found says = tells row (ap (row_of t.rows) (same_app id q e) ∙ found) ∙ says
     closing q false e o found says = says
 
     master : (q : AttemptId) (b : Bool) → is_app id q.app ≡ b → (o : Option AppRow) → row_of t.rows q.app ≡ o → RowAgrees life.masters.registered life.granted (has_app life.apps.retired q.app) q o
         → RowAgrees life.masters.registered life.granted (has_app life.apps.retired q.app) q (changed_if b change o)
     master q true e None found says = says
-    master q true e (Some row) found says = attempts row q (ap (row_of t.rows) (is_app_same id q.app e) ∙ found) e says
+    master q true e (Some row) found says = attempts row q (ap (row_of t.rows) (same_app id q.app e) ∙ found) e says
     master q false e o found says = says
 
 -- something happens to an application that leaves its attempt alike

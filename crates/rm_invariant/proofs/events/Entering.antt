@@ -7,8 +7,8 @@ use Rattle.rm_types.specs.declared.containers.Grant.{Grant}
 use Rattle.rm_types.specs.declared.ids.AppId.{AppId}
 use Rattle.rm_types.specs.declared.ids.ContainerId.{ContainerId}
 use Rattle.rm_types.specs.declared.resources.Resource.{Resource}
-use Rattle.rm_book.proofs.Ids.{attempt_itself}
 use Rattle.rm_types.specs.Ids.{is_attempt, is_container}
+use Rattle.rm_types.proofs.IdLemmas.{attempt_itself, container_itself, same_container}
 use Rattle.rm_model.specs.Containers.{is_living, lives_on}
 use Rattle.rm_model.specs.Nodes.{node_of, with_node}
 use Rattle.rm_model.specs.Passing.{passed, passes, row_granted}
@@ -21,7 +21,6 @@ use Rattle.rm_invariant.proofs.apps.Counts.{at_end}
 use Rattle.rm_invariant.specs.nodes.Book.{All, AreApart, AreLaunches, BookInvariant, IsAbsorbed, IsGranted, BookRowInvariant}
 use Rattle.rm_invariant.proofs.nodes.Entries.{at_name}
 use Rattle.rm_invariant.proofs.nodes.Holds.{IsNew, all_append, all_map, not_left, not_living}
-use Rattle.rm_invariant.proofs.nodes.Lists.{container-refl, same_container}
 use Rattle.rm_invariant.proofs.masters.Tests.{any_end}
 use Rattle.rm_invariant.specs.events.Asking.{AreNext}
 use Rattle.rm_invariant.specs.Core.{Nothing}
@@ -42,7 +41,7 @@ apart_end row (one ∷ book) none apart = by (is_container one.id row.id) refl (
         back : (c : Bool) → is_container row.id one.id ≡ c → is_container row.id one.id ≡ false
         back true f =
             let same : row.id ≡ one.id = same_container row.id one.id f in
-            let own : is_container one.id row.id ≡ true = subst (λ (id : ContainerId). is_container one.id id ≡ true) (sym same) (container-refl one.id) in
+            let own : is_container one.id row.id ≡ true = subst (λ (id : ContainerId). is_container one.id id ≡ true) (sym same) (container_itself one.id) in
             absurd (false≢true (sym e ∙ own))
         back false f = f
 

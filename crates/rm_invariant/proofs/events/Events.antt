@@ -29,8 +29,7 @@ use Rattle.rm_invariant.proofs.apps.Keeping.{in_scene}
 use Rattle.rm_invariant.specs.nodes.Invariant.{NodesInvariant, RegisteredInvariant, NodeInvariant, NodeView, UpdatesFollow, are_turns, events_of, pending, view_of}
 use Rattle.rm_invariant.proofs.nodes.Ascending.{permuted_has}
 use Rattle.rm_invariant.proofs.nodes.Entries.{done_good, done_lawful, done_list, ended_good, known_node, lost_good, lost_lawful, lost_quiet_good, quiet_good}
-use Rattle.rm_invariant.proofs.nodes.Lists.{container-refl, lives_is}
-use Rattle.rm_invariant.proofs.nodes.Moved.{text-refl}
+use Rattle.rm_invariant.proofs.nodes.Lists.{lives_is}
 use Rattle.rm_invariant.proofs.masters.AppEvents.{recovered_joins}
 use Rattle.rm_invariant.proofs.masters.LeavingEvents.{lives_there, node_done_joins, node_lost_joins, of_once, of_passing, released_joins, same_ids_on, same_living}
 use Rattle.rm_invariant.proofs.masters.OverAttempts.{ids_live, removed_joins, same_ids}
@@ -39,6 +38,8 @@ use Rattle.rm_invariant.proofs.masters.Masters.{masters_same}
 use Rattle.rm_invariant.proofs.nodes.Moved.{Contains-first, Contains-more}
 use Rattle.std.specs.Prelude.{Contains}
 use Rattle.rm_types.specs.Ids.{is_attempt}
+use Rattle.rm_types.proofs.IdLemmas.{container_itself}
+use Rattle.rm_types.proofs.TestLemmas.{text_itself}
 use Rattle.rm_invariant.specs.events.Here.{AreServed, IsServed}
 use Rattle.rm_invariant.specs.Core.{CoreInvariant, PreservesCore}
 use Rattle.rm_invariant.proofs.events.Knowing.{on_node, rows_apart}
@@ -161,10 +162,10 @@ module _ (settings : Settings) (h : History) (t : Tables) (w : CoreInvariant set
 
     none_there : reported ≡ [] → NodesInvariant h.nodes h.book rest
     none_there none =
-        let k = known_node h.nodes h.book t.sched name (scheds.NodeDone name done) rest front (text-refl name) w.nodes in
+        let k = known_node h.nodes h.book t.sched name (scheds.NodeDone name done) rest front (text_itself name) w.nodes in
         let off : list_any (lives_on h.book name) done ≡ false = none_passes (lives_on h.book name) done (none_once _ (listed ∙ none)) in
         let gone : list_any (has_container (ids_on h.book name)) done ≡ false = subst (λ (b : Bool). b ≡ false) (any_agree (lives_on h.book name) (has_container (ids_on h.book name)) (lives_is h.book name) done) off in
-        quiet_good h.nodes h.book t.sched name (scheds.NodeDone name done) rest front (λ q apart. apart) (text-refl name) k.0 k.1
+        quiet_good h.nodes h.book t.sched name (scheds.NodeDone name done) rest front (λ q apart. apart) (text_itself name) k.0 k.1
         (done_quiet (view_of k.0 (scheds.NodeDone name done ∷ events_of name rest) (ids_on h.book name)) name done (events_of name rest) refl gone) w.nodes
 
     pub done_whole : (list : List ContainerId) → PreservesCore settings h t (sched_worked (sched_step (scheds.NodeDone name done) list t))
@@ -184,7 +185,7 @@ module _ (settings : Settings) (h : History) (t : Tables) (w : CoreInvariant set
     told = subst (λ (ids : List ContainerId). Ascend ids list) (same_ids_on name t.book.rows h.book w.agrees.rows) ends
 
     one_stands : (id : ContainerId) (ids : List ContainerId) → list ≡ id ∷ ids → is_nil (ids_on h.book name) ≡ false
-    one_stands id ids e = by (ids_on h.book name) (permuted_has list (ids_on h.book name) id (IsPermutation-sym (ids_on h.book name) list told.same) (let own = container-refl id in rw (e, own) refl))
+    one_stands id ids e = by (ids_on h.book name) (permuted_has list (ids_on h.book name) id (IsPermutation-sym (ids_on h.book name) list told.same) (let own = container_itself id in rw (e, own) refl))
       where
         by : (on : List ContainerId) → has_container on id ≡ true → is_nil on ≡ false
         by [] h = absurd (let x : false ≡ true = h in cc)
@@ -196,7 +197,7 @@ module _ (settings : Settings) (h : History) (t : Tables) (w : CoreInvariant set
         by : (on : List ContainerId) → ids_on h.book name ≡ on → is_nil on ≡ true
         by [] f = refl
         by (one ∷ more) f =
-            let among : has_container (ids_on h.book name) one ≡ true = let own = container-refl one in rw (f, own) refl in
+            let among : has_container (ids_on h.book name) one ≡ true = let own = container_itself one in rw (f, own) refl in
             let x : has_container list one ≡ true = permuted_has (ids_on h.book name) list one told.same among in
             absurd (let y = rw e at x in cc)
 
@@ -212,7 +213,7 @@ module _ (settings : Settings) (h : History) (t : Tables) (w : CoreInvariant set
         (node_lost_joins settings h t w.keeps w.marks w.sound w.agrees.rows name rest front list ends (lost_allowed list refl))
         (λ c among. lives_there h.book name c (lives_is h.book name c ∙ permuted_has list (ids_on h.book name) c (IsPermutation-sym (ids_on h.book name) list told.same) among))
         (λ none.
-        let k = known_node h.nodes h.book t.sched name (scheds.NodeLost name) rest front (text-refl name) w.nodes in
+        let k = known_node h.nodes h.book t.sched name (scheds.NodeLost name) rest front (text_itself name) w.nodes in
         lost_quiet_good h.nodes h.book t.sched name rest k.0 front k.1 (none_stands none) w.nodes)
         (λ some. good list refl some)
       where

@@ -11,8 +11,9 @@ use Rattle.rm_types.specs.declared.ids.AppId.{AppId}
 use Rattle.rm_types.specs.declared.ids.AttemptId.{AttemptId}
 use Rattle.rm_types.specs.declared.ids.ContainerId.{ContainerId}
 use Rattle.rm_types.specs.Ids.{is_app, is_attempt}
+use Rattle.rm_types.proofs.IdLemmas.{same_attempt, same_app}
+use Rattle.rm_types.proofs.TestLemmas.{same_text}
 use Rattle.rm_book.specs.Books.{BookOf, granted_rows, with_grants}
-use Rattle.rm_book.proofs.Ids.{same_attempt}
 use Rattle.rm_attempt.specs.declared.states.AttemptState.{AttemptState}
 use Rattle.rm_attempt.specs.declared.states.AttemptState.TheVariants as attempts
 use Rattle.rm_model.specs.Nodes.{node_of as node_told, with_node as with_told}
@@ -27,10 +28,10 @@ use Rattle.rm_tables.specs.Changes.{changed, current_after, granted, granted_at}
 use Rattle.rm_tables.specs.Passing.{row_granted}
 use Rattle.rm_tables.specs.Rows.{row_of}
 use Rattle.rm_refinement.specs.Agreement.{AttemptAgrees, ClosingsAgree, NumberAgrees, RowAgrees, SameNodes, SameRows, bare_row, grants_of, plain_row, plain_node}
-use Rattle.rm_refinement.proofs.Found.{other_told, own_told, same_name}
+use Rattle.rm_refinement.proofs.Found.{other_told, own_told}
 use Rattle.rm_invariant.specs.apps.View.{changed_if, one_if}
 use Rattle.rm_invariant.proofs.apps.Counts.{at_end}
-use Rattle.rm_invariant.proofs.apps.Found.{is_app_same, row_changed}
+use Rattle.rm_invariant.proofs.apps.Found.{row_changed}
 use Rattle.rm_invariant.specs.events.Asking.{AreNext, is_current, is_numbered, is_numbered_in}
 
 -- CONTAINERS
@@ -61,7 +62,7 @@ nodes_passed book nodes told name grants same = λ q. same q ∙ sym (by q (byte
 
     by : (q : List ℕ) (b : Bool) → bytes_eq name q ≡ b → option_map plain_node (node_told (with_told passed name told) q) ≡ option_map plain_node (node_told told q)
     by q true e =
-        subst (λ (z : List ℕ). option_map plain_node (node_told (with_told passed name told) z) ≡ option_map plain_node (node_told told z)) (same_name name q e)
+        subst (λ (z : List ℕ). option_map plain_node (node_told (with_told passed name told) z) ≡ option_map plain_node (node_told told z)) (same_text name q e)
         (ap (option_map plain_node) (own_told passed name told (λ one. refl)) ∙ still (node_told told name))
     by q false e = ap (option_map plain_node) (other_told passed name q told (λ one. refl) e)
 
@@ -185,7 +186,7 @@ module _ (registered : List MasterState) (retired : Bool) (attempt : AttemptId) 
         by : (b : Bool) → is_app grant.id.attempt.app attempt.app ≡ b → RowAgrees registered now retired attempt (changed_if b (counting grant) (row_of rows attempt.app))
         by true e =
             let at : is_numbered_in grant.id.attempt.number (row_of rows attempt.app) ≡ true =
-            subst (λ (id : AppId). is_numbered_in grant.id.attempt.number (row_of rows id) ≡ true) (is_app_same grant.id.attempt.app attempt.app e) current in
+            subst (λ (id : AppId). is_numbered_in grant.id.attempt.number (row_of rows id) ≡ true) (same_app grant.id.attempt.app attempt.app e) current in
             own e (row_of rows attempt.app) at same
         by false e =
             let other : is_attempt grant.id.attempt attempt ≡ false = rw e refl in

@@ -9,6 +9,7 @@ use Rattle.rm_types.specs.declared.ids.ContainerId.{ContainerId}
 use Rattle.rm_types.specs.declared.settings.Settings.{Settings}
 use Rattle.rm_types.specs.Ids.{is_container}
 use Rattle.rm_types.specs.Records.{is_some_and}
+use Rattle.rm_types.proofs.TestLemmas.{same_text}
 use Rattle.rm_book.specs.Books.{AreApart as ApartRows, BookOf, is_of}
 use Rattle.rm_model.specs.Containers.{lives_on}
 use Rattle.rm_model.specs.Nodes.{node_of as node_told}
@@ -17,7 +18,6 @@ use Rattle.rm_tables.specs.declared.nodes.NodeRow.{NodeRow}
 use Rattle.rm_tables.specs.declared.tables.Tables.{Tables}
 use Rattle.rm_tables.specs.SchedEvents.{is_on}
 use Rattle.rm_refinement.specs.Agreement.{PlainNode, PlainRow, SameNodes, SameRows, bare_row, bare_node, plain_row, plain_node}
-use Rattle.rm_refinement.proofs.Found.{same_name}
 use Rattle.rm_refinement.proofs.Rows.{any_alike, first_alone}
 use Rattle.rm_invariant.specs.Step.{AppsInvariant}
 use Rattle.rm_invariant.specs.apps.Invariant.{RowInvariant}
@@ -65,7 +65,7 @@ found_in P (one ∷ nodes) name node found all = by (bytes_eq one.name name) ref
     by : (b : Bool) → bytes_eq one.name name ≡ b → (node_told nodes name ≡ Some node → All P nodes → P node × (node.name ≡ name)) → P node × (node.name ≡ name)
     by true e rest =
         let own : one ≡ node = let x = rw e at found in cc in
-        (subst P own all.0, ap (λ (n : NodeState). n.name) (sym own) ∙ same_name one.name name e)
+        (subst P own all.0, ap (λ (n : NodeState). n.name) (sym own) ∙ same_text one.name name e)
     by false e rest = rest (rw e at found) all.1
 
 -- what is to be launched on a node stands there

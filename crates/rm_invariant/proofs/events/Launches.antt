@@ -3,13 +3,14 @@
 use Rattle.std.proofs.Common.{◌≡◌, ℕ, List, [], ◌∷◌, Bool, true, false, not, Option, None, Some, filter, map, refl, sym, ◌∙◌, ap, subst}
 use Rattle.std.specs.Prelude.{option_map, if◌then◌else◌}
 use Rattle.std.specs.Str.{bytes_eq}
-use Rattle.std.proofs.lemmas.Bool.{false≢true}
+use Rattle.std.proofs.lemmas.Bool.{false≢true, and_parts}
 use Rattle.rm_types.specs.declared.containers.BookRow.{BookRow}
 use Rattle.rm_types.specs.declared.ids.ContainerId.{ContainerId}
 use Rattle.rm_types.specs.Ids.{is_container}
+use Rattle.rm_types.proofs.IdLemmas.{container_back, same_container}
+use Rattle.rm_types.proofs.TestLemmas.{same_text}
 use Rattle.rm_book.specs.Books.{BookOf, row_of, without_rows}
-use Rattle.rm_book.proofs.Ids.{container_back, same_container}
-use Rattle.rm_book.proofs.Lists.{all_filter, and_parts}
+use Rattle.rm_book.proofs.Lists.{all_filter}
 use Rattle.rm_model.specs.Containers.{without_launches}
 use Rattle.rm_model.specs.Facts.{has_container}
 use Rattle.rm_model.specs.Nodes.{node_of as node_told}
@@ -21,7 +22,7 @@ use Rattle.rm_tables.specs.Leaving.{unlaunched, unlaunched_at, unlaunched_one}
 use Rattle.rm_tables.specs.Nodes.{changed_row, node_of, row_without_launch, with_node}
 use Rattle.rm_tables.specs.SchedEvents.{is_on}
 use Rattle.rm_refinement.specs.Agreement.{PlainNode, SameNodes, bare_node, plain_node}
-use Rattle.rm_refinement.proofs.Found.{found_each, other_row, own_row, same_name}
+use Rattle.rm_refinement.proofs.Found.{found_each, other_row, own_row}
 use Rattle.rm_invariant.specs.events.Here.{LaunchesHere, are_on}
 
 -- LISTS OF LAUNCHES
@@ -92,7 +93,7 @@ module _ (book : BookOf) (q : List ℕ) where
     where
       there : (row : BookRow) → row_of book id ≡ Some row → (b : Bool) → bytes_eq row.node q ≡ b → node_of (with_node (changed_row (Unlaunch id)) row.node nodes) q ≡ option_map (row_without_launch id) (node_of nodes q)
       there row e true f =
-          subst (λ (n : List ℕ). node_of (with_node (changed_row (Unlaunch id)) row.node nodes) n ≡ option_map (row_without_launch id) (node_of nodes n)) (same_name row.node q f)
+          subst (λ (n : List ℕ). node_of (with_node (changed_row (Unlaunch id)) row.node nodes) n ≡ option_map (row_without_launch id) (node_of nodes n)) (same_text row.node q f)
           (own_row (changed_row (Unlaunch id)) row.node nodes)
       there row e false f =
           let other : is_on q (row_of book id) ≡ false = rw e f in
@@ -132,7 +133,7 @@ module _ (book : BookOf) (name : List ℕ) where
     where
       by : (o : Option BookRow) → row_of book id ≡ o → unlaunched_at o id nodes ≡ unlaunched_here name nodes id
       by None e = absurd (let x : false ≡ true = rw e at on in false≢true x)
-      by (Some row) e = let at_ : bytes_eq row.node name ≡ true = rw e at on in ap (λ (n : List ℕ). with_node (changed_row (Unlaunch id)) n nodes) (same_name row.node name at_)
+      by (Some row) e = let at_ : bytes_eq row.node name ≡ true = rw e at on in ap (λ (n : List ℕ). with_node (changed_row (Unlaunch id)) n nodes) (same_text row.node name at_)
 
   pub all_here : (ids : List ContainerId) (nodes : List (List ℕ × NodeRow)) → are_on book name ids ≡ true → unlaunched_on name nodes ids ≡ unlaunched book nodes ids
   all_here [] nodes on = refl

@@ -8,6 +8,7 @@ use Rattle.rm_types.specs.declared.ids.ContainerId.{ContainerId}
 use Rattle.rm_types.specs.declared.messages.Lane.TheVariants as lanes
 use Rattle.rm_types.specs.declared.settings.Settings.{Settings}
 use Rattle.rm_types.specs.Ids.{is_container}
+use Rattle.rm_types.proofs.IdLemmas.{container_itself}
 use Rattle.rm_model.specs.Changes.{after}
 use Rattle.rm_model.specs.Containers.{is_living, leave}
 use Rattle.rm_model.specs.Facts.{has_container}
@@ -23,7 +24,6 @@ use Rattle.rm_refinement.specs.History.{History, abstract_life, live_state}
 use Rattle.rm_invariant.specs.nodes.Invariant.{NodesInvariant}
 use Rattle.rm_invariant.specs.nodes.Book.{All, AreLaunches, BookInvariant, BookRowInvariant}
 use Rattle.rm_invariant.proofs.nodes.Holds.{all_map, leave_holds}
-use Rattle.rm_invariant.proofs.nodes.Lists.{container-refl}
 use Rattle.rm_invariant.specs.masters.Preserves.{PreservesContainersTo}
 use Rattle.rm_invariant.specs.masters.Sound.{RecordsAreSound}
 use Rattle.rm_invariant.specs.events.Refines.{Refines}
@@ -34,7 +34,7 @@ use Rattle.rm_invariant.proofs.events.Knowing.{launches_here, rows_know}
 -- what holds of each of these holds of all
 pub all_of : (P : ContainerId → Type 0) (ids : List ContainerId) → ((id : ContainerId) → has_container ids id ≡ true → P id) → All P ids
 all_of P [] each = tt
-all_of P (id ∷ ids) each = (each id (let own = container-refl id in rw own refl), all_of P ids (λ one among. each one (let x = among in rw x (or_true (is_container id one)))))
+all_of P (id ∷ ids) each = (each id (let own = container_itself id in rw own refl), all_of P ids (λ one among. each one (let x = among in rw x (or_true (is_container id one)))))
   where
     or_true : (b : Bool) → (b || true) ≡ true
     or_true true = refl

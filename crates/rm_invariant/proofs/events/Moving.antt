@@ -15,8 +15,8 @@ use Rattle.rm_types.specs.declared.operations.Op.TheVariants as ops
 use Rattle.rm_types.specs.declared.settings.Settings.{Settings}
 use Rattle.rm_types.specs.Ids.{is_attempt}
 use Rattle.rm_types.specs.Records.{Records}
+use Rattle.rm_types.proofs.IdLemmas.{same_attempt}
 use Rattle.rm_book.specs.AskTables.{AsksOf, asks_of, without_asks_of}
-use Rattle.rm_book.proofs.Ids.{same_attempt}
 use Rattle.rm_model.specs.Changes.{after, asks_without, life_issues}
 use Rattle.rm_model.specs.Containers.{ids_on}
 use Rattle.rm_model.specs.Nodes.{node_of}

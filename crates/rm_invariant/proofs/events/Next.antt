@@ -12,9 +12,9 @@ use Rattle.rm_types.specs.declared.records.AppRecord.{AppRecord}
 use Rattle.rm_types.specs.declared.resources.Resource.{Resource}
 use Rattle.rm_types.specs.Ids.{is_attempt}
 use Rattle.rm_types.specs.Passes.{PassNode, by_priority, fitting, grant_of, left_of, seq_after, with_granted, with_turn}
+use Rattle.rm_types.proofs.IdLemmas.{attempt_itself}
 use Rattle.rm_book.specs.AskTables.{AsksOf, asks_of}
 use Rattle.rm_book.specs.Books.{capability_of, sizes_on}
-use Rattle.rm_book.proofs.Ids.{attempt_itself}
 use Rattle.rm_model.specs.Attempts.{attempt_at}
 use Rattle.rm_model.specs.State.{LifeState}
 use Rattle.rm_tables.specs.declared.nodes.NodeRow.{NodeRow}

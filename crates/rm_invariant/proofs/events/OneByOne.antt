@@ -8,6 +8,7 @@ use Rattle.rm_types.specs.declared.ids.AppId.{AppId}
 use Rattle.rm_types.specs.declared.ids.ContainerId.{ContainerId}
 use Rattle.rm_types.specs.declared.settings.Settings.{Settings}
 use Rattle.rm_types.specs.Ids.{is_app}
+use Rattle.rm_types.proofs.IdLemmas.{app_itself}
 use Rattle.rm_model.specs.Passing.{row_granted as row_told, without_granted as without_told}
 use Rattle.rm_model.specs.State.{Row}
 use Rattle.rm_tables.specs.declared.events.MainEvent.{MainEvent}
@@ -20,7 +21,6 @@ use Rattle.rm_invariant.specs.apps.Invariant.{AttemptsInvariant}
 use Rattle.rm_refinement.specs.History.{History, abstract_life}
 use Rattle.rm_invariant.specs.apps.View.{one_if}
 use Rattle.rm_invariant.proofs.apps.Counts.{at_front, none_under}
-use Rattle.rm_invariant.proofs.apps.Found.{is_app-refl}
 use Rattle.rm_invariant.specs.nodes.Book.{All, BookInvariant, IsAbsorbed}
 use Rattle.rm_invariant.specs.masters.Invariant.{ContainersInvariant}
 use Rattle.rm_invariant.specs.events.Asking.{AreNext}
@@ -47,7 +47,7 @@ module _ (rows : List (AppId × Option AppRow)) (grant : Grant) (grants : List G
   apart waits =
       let few = once grant.id.attempt.app waits in
       let first = at_front (λ (one : Grant). is_app grant.id.attempt.app one.id.attempt.app) grant grants
-      ∙ ap (λ (b : Bool). one_if b (count_by (λ (one : Grant). is_app grant.id.attempt.app one.id.attempt.app) grants)) (is_app-refl grant.id.attempt.app) in
+      ∙ ap (λ (b : Bool). one_if b (count_by (λ (one : Grant). is_app grant.id.attempt.app one.id.attempt.app) grants)) (app_itself grant.id.attempt.app) in
       each_fails (λ (one : Grant). is_app grant.id.attempt.app one.id.attempt.app) grants
       (none_under (λ (one : Grant). is_app grant.id.attempt.app one.id.attempt.app) (λ (one : Grant). is_app grant.id.attempt.app one.id.attempt.app) (λ one e. e) grants (omega (arith, few, first)))
 

@@ -15,7 +15,7 @@ use Rattle.rm_types.specs.declared.resources.Resource.{Resource}
 use Rattle.rm_types.specs.declared.settings.Settings.{Settings}
 use Rattle.rm_types.specs.Ids.{is_app, is_attempt}
 use Rattle.rm_types.specs.Passes.{by_priority}
-use Rattle.rm_book.proofs.Ids.{same_attempt}
+use Rattle.rm_types.proofs.IdLemmas.{same_attempt, same_app}
 use Rattle.rm_book.proofs.Lists.{any_filter}
 use Rattle.rm_attempt.specs.declared.states.AttemptState.{AttemptState}
 use Rattle.rm_attempt.specs.declared.states.AttemptState.TheVariants as attempts
@@ -34,7 +34,7 @@ use Rattle.rm_invariant.specs.apps.Invariant.{AttemptsInvariant, RowInvariant}
 use Rattle.rm_refinement.specs.History.{History, abstract_life}
 use Rattle.rm_invariant.specs.apps.View.{changed_if, is_ask, one_if, view}
 use Rattle.rm_invariant.proofs.apps.Counts.{fails_never, none_under}
-use Rattle.rm_invariant.proofs.apps.Found.{is_app_same, row_changed}
+use Rattle.rm_invariant.proofs.apps.Found.{row_changed}
 use Rattle.rm_invariant.specs.nodes.Book.{BookInvariant}
 use Rattle.rm_invariant.proofs.nodes.Holds.{IsNew, not_left, not_living}
 use Rattle.rm_invariant.specs.masters.Invariant.{ContainersInvariant}
@@ -196,7 +196,7 @@ still_ready rows asks grant next own r apart = by (is_app grant.id.attempt.app n
           waits = ap waits_for_master row;
         }
     by true e =
-        let here : Some own.row ≡ Some r.row = sym own.found ∙ ap (row_of rows) (is_app_same grant.id.attempt.app next.id.attempt.app e) ∙ r.found in
+        let here : Some own.row ≡ Some r.row = sym own.found ∙ ap (row_of rows) (same_app grant.id.attempt.app next.id.attempt.app e) ∙ r.found in
         let row : own.row ≡ r.row = cc in
         let one : Some own.current ≡ Some r.current = sym own.is ∙ ap (λ (x : AppRow). x.current) row ∙ r.is in
         let current : own.current ≡ r.current = cc in

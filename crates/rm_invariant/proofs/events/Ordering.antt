@@ -9,6 +9,7 @@ use Rattle.rm_types.specs.declared.ids.AttemptId.{AttemptId}
 use Rattle.rm_types.specs.declared.ids.ContainerId.{ContainerId}
 use Rattle.rm_types.specs.declared.operations.How.TheVariants as ways
 use Rattle.rm_types.specs.declared.settings.Settings.{Settings}
+use Rattle.rm_types.proofs.TestLemmas.{same_text}
 use Rattle.rm_model.specs.Changes.{orders}
 use Rattle.rm_model.specs.Containers.{ids_on, lives_on}
 use Rattle.rm_model.specs.Issuing.{killed_text, lost_text}
@@ -25,7 +26,7 @@ use Rattle.rm_tables.specs.MainEvents.{launch_of_master, launch_of_row, launch_o
 use Rattle.rm_tables.specs.Nodes.{ordered_row}
 use Rattle.rm_tables.specs.Rows.{row_of}
 use Rattle.rm_refinement.specs.Agreement.{PlainNode}
-use Rattle.rm_refinement.proofs.Found.{other_told, own_told, same_name}
+use Rattle.rm_refinement.proofs.Found.{other_told, own_told}
 use Rattle.rm_refinement.proofs.Nodes.{with_same}
 use Rattle.rm_refinement.specs.History.{History, abstract_life}
 use Rattle.rm_invariant.specs.nodes.Invariant.{NodesInvariant, NodeInvariant, events_of}
@@ -58,7 +59,7 @@ module _ (c : ContainerId) (name : List ℕ) where
       by q true e =
           let here : NodeInvariant (node_of (with_node launching name nodes) name) (events_of name sched) (ids_on book name) =
           subst (λ (o : Option NodeState). NodeInvariant o (events_of name sched) (ids_on book name)) (sym (own_told launching name nodes (λ one. refl))) (launching_good (node_of nodes name) (events_of name sched) (ids_on book name) (good name)) in
-          subst (λ (z : List ℕ). NodeInvariant (node_of (with_node launching name nodes) z) (events_of z sched) (ids_on book z)) (same_name name q e) here
+          subst (λ (z : List ℕ). NodeInvariant (node_of (with_node launching name nodes) z) (events_of z sched) (ids_on book z)) (same_text name q e) here
       by q false e = subst (λ (o : Option NodeState). NodeInvariant o (events_of q sched) (ids_on book q)) (sym (other_told launching name q nodes (λ one. refl) e)) (good q)
 
   -- what each node is to launch stands on it
@@ -67,7 +68,7 @@ module _ (c : ContainerId) (name : List ℕ) where
     where
       by : (node : NodeState) (b : Bool) → bytes_eq node.name name ≡ b → AreLaunches book node → AreLaunches book (if b then launching node else node)
       by node true e here =
-          let same : node.name ≡ name = same_name node.name name e in
+          let same : node.name ≡ name = same_text node.name name e in
           let there : lives_on book node.name c ≡ true = rw same on in
           all_append (λ id. lives_on book node.name id ≡ true) node.launches (c ∷ []) here (there, tt)
       by node false e here = here
@@ -82,7 +83,7 @@ module _ (c : ContainerId) (name : List ℕ) where
 
       by : (b : Bool) → bytes_eq name q ≡ b → option_and_then (λ (node : NodeState). node.capability) (node_of (with_node launching name nodes) q) ≡ option_and_then (λ (node : NodeState). node.capability) (node_of nodes q)
       by true e =
-          subst (λ (z : List ℕ). option_and_then (λ (node : NodeState). node.capability) (node_of (with_node launching name nodes) z) ≡ option_and_then (λ (node : NodeState). node.capability) (node_of nodes z)) (same_name name q e)
+          subst (λ (z : List ℕ). option_and_then (λ (node : NodeState). node.capability) (node_of (with_node launching name nodes) z) ≡ option_and_then (λ (node : NodeState). node.capability) (node_of nodes z)) (same_text name q e)
           (ap (λ (o : Option NodeState). option_and_then (λ (node : NodeState). node.capability) o) (own_told launching name nodes (λ one. refl)) ∙ of (node_of nodes name))
       by false e = ap (λ (o : Option NodeState). option_and_then (λ (node : NodeState). node.capability) o) (other_told launching name q nodes (λ one. refl) e)
 

@@ -1,6 +1,7 @@
 -- Each event of the main queue but EpochStart comes to one of the things that may happen.
 use Rattle.std.proofs.Common.{◌≡◌, ◌≢◌, ◌<◌, ◌==◌, ◌&&◌, ℕ, List, [], ◌∷◌, Bool, true, false, nat_lt, Option, None, Some, length, inl, inr, refl, sym, ◌∙◌, ap, arith}
 use Rattle.std.proofs.lemmas.Bool.Decides.{nat_tests}
+use Rattle.std.proofs.lemmas.Bool.{and_parts}
 use Rattle.rm_types.specs.declared.ids.AppId.{AppId}
 use Rattle.rm_types.specs.declared.ids.AttemptId.{AttemptId}
 use Rattle.rm_types.specs.declared.ids.ContainerId.{ContainerId}
@@ -24,12 +25,6 @@ use Rattle.rm_tables.specs.MainEvents.{accept_of_row, accept_of_state, decision_
 use Rattle.rm_tables.specs.Rows.{row_of}
 use Rattle.rm_invariant.specs.events.Outcomes.{IsEndOfApp, Outcome, accepts, adds, delays, ends, ends_one, follows, idles, issues, kills, loses, orders, removes, requeues, saves}
 use Rattle.rm_invariant.specs.apps.Invariant.{is_active}
-
--- a test that passes by both its parts
-both : (a b : Bool) → (a && b) ≡ true → (a ≡ true) × (b ≡ true)
-both true true e = (refl, refl)
-both true false e = cc
-both false b e = cc
 
 module _ (t : Tables) where
   -- AppStart
@@ -118,7 +113,7 @@ module _ (t : Tables) where
       place current c is n m None at_ = requeues container row current rest (record { found = e; is = c }) is n m at_ front
 
       by : (current : Current) (s : AttemptState) (b : Bool) → row.current ≡ Some current → current.state ≡ s → ((current.number == container.attempt.number) && is_master_of container current.master) ≡ b → Outcome t (grant_of_state s b container t)
-      by current attempts.Granted true c is own = let x = both (current.number == container.attempt.number) (is_master_of container current.master) own in place current c is x.0 x.1 (node_at t.book container) refl
+      by current attempts.Granted true c is own = let x = and_parts (current.number == container.attempt.number) (is_master_of container current.master) own in place current c is x.0 x.1 (node_at t.book container) refl
       by current attempts.Granted false c is own = idles
       by current attempts.Scheduled b c is own = idles
       by current attempts.Saving b c is own = idles
@@ -141,15 +136,15 @@ module _ (t : Tables) where
       place : (current : Current) (container : ContainerId) → row.current ≡ Some current → is_living_one id current ≡ true → current.master ≡ Some container → (node : Option (List ℕ)) → node_at t.book container ≡ node → Outcome t (launch_of_place node container t)
       place current container c live m None at_ = idles
       place current container c live m (Some node) at_ =
-          let x = both (current.number == id.number) (is_alive current.state) live in orders id container node row current (record { found = e; is = c }) x.0 x.1 m at_
+          let x = and_parts (current.number == id.number) (is_alive current.state) live in orders id container node row current (record { found = e; is = c }) x.0 x.1 m at_
 
       master : (current : Current) → row.current ≡ Some current → is_living_one id current ≡ true → (m : Option ContainerId) → current.master ≡ m → Outcome t (launch_of_master m t)
       master current c live None m = idles
       master current c live (Some container) m = place current container c live m (node_at t.book container) refl
 
       cause : (current : Current) → row.current ≡ Some current → is_living_one id current ≡ true → (wish lost : Bool) → Outcome t (launch_of_tests wish lost current.master id t)
-      cause current c live true lost = let x = both (current.number == id.number) (is_alive current.state) live in ends_one id row current ways.Killed killed_text (record { found = e; is = c }) x.0 x.1 (inl (refl, refl))
-      cause current c live false true = let x = both (current.number == id.number) (is_alive current.state) live in ends_one id row current ways.Failed lost_text (record { found = e; is = c }) x.0 x.1 (inr (inl (refl, inl refl)))
+      cause current c live true lost = let x = and_parts (current.number == id.number) (is_alive current.state) live in ends_one id row current ways.Killed killed_text (record { found = e; is = c }) x.0 x.1 (inl (refl, refl))
+      cause current c live false true = let x = and_parts (current.number == id.number) (is_alive current.state) live in ends_one id row current ways.Failed lost_text (record { found = e; is = c }) x.0 x.1 (inr (inl (refl, inl refl)))
       cause current c live false false = master current c live current.master refl
 
       lives : (current : Current) → row.current ≡ Some current → (b : Bool) → is_living_one id current ≡ b → Outcome t (launch_of_living b row.wish current id t)
@@ -169,10 +164,10 @@ module _ (t : Tables) where
       ended current c n a = ends_one container.attempt row current ways.Failed lost_text (record { found = e; is = c }) n a (inr (inl (refl, inl refl)))
 
       by : (current : Current) (s : AttemptState) (b : Bool) → row.current ≡ Some current → current.state ≡ s → ((current.number == container.attempt.number) && is_master_of container current.master) ≡ b → Outcome t (loss_of_state s b container t)
-      by current attempts.Saving true c is own = let x = both (current.number == container.attempt.number) (is_master_of container current.master) own in loses container row current (record { found = e; is = c }) is x.0 x.1
-      by current attempts.Live true c is own = let x = both (current.number == container.attempt.number) (is_master_of container current.master) own in ended current c x.0 (rw is refl)
-      by current attempts.Registered true c is own = let x = both (current.number == container.attempt.number) (is_master_of container current.master) own in ended current c x.0 (rw is refl)
-      by current attempts.Finishing true c is own = let x = both (current.number == container.attempt.number) (is_master_of container current.master) own in ended current c x.0 (rw is refl)
+      by current attempts.Saving true c is own = let x = and_parts (current.number == container.attempt.number) (is_master_of container current.master) own in loses container row current (record { found = e; is = c }) is x.0 x.1
+      by current attempts.Live true c is own = let x = and_parts (current.number == container.attempt.number) (is_master_of container current.master) own in ended current c x.0 (rw is refl)
+      by current attempts.Registered true c is own = let x = and_parts (current.number == container.attempt.number) (is_master_of container current.master) own in ended current c x.0 (rw is refl)
+      by current attempts.Finishing true c is own = let x = and_parts (current.number == container.attempt.number) (is_master_of container current.master) own in ended current c x.0 (rw is refl)
       by current attempts.Saving false c is own = idles
       by current attempts.Live false c is own = idles
       by current attempts.Registered false c is own = idles
@@ -193,7 +188,7 @@ module _ (t : Tables) where
   expired id (Some row) e = with_current row.current refl
     where
       lives : (current : Current) → row.current ≡ Some current → (b : Bool) → is_living_one id current ≡ b → Outcome t (expiry_of_living b id t)
-      lives current c true live = let x = both (current.number == id.number) (is_alive current.state) live in ends_one id row current ways.Failed expired_text (record { found = e; is = c }) x.0 x.1 (inr (inl (refl, inr refl)))
+      lives current c true live = let x = and_parts (current.number == id.number) (is_alive current.state) live in ends_one id row current ways.Failed expired_text (record { found = e; is = c }) x.0 x.1 (inr (inl (refl, inr refl)))
       lives current c false live = idles
 
       with_current : (c : Option Current) → row.current ≡ c → Outcome t (expiry_of_current c id t)
@@ -206,7 +201,7 @@ module _ (t : Tables) where
   finished id (Some row) e = with_current row.current refl
     where
       lives : (current : Current) → row.current ≡ Some current → (b : Bool) → is_living_one id current ≡ b → (text : Option (List ℕ)) → finishing_in row.dialogue ≡ text → Outcome t (finish_of_living b text id t)
-      lives current c true live (Some text) said = let x = both (current.number == id.number) (is_alive current.state) live in ends_one id row current ways.Finished text (record { found = e; is = c }) x.0 x.1 (inr (inr (refl, said)))
+      lives current c true live (Some text) said = let x = and_parts (current.number == id.number) (is_alive current.state) live in ends_one id row current ways.Finished text (record { found = e; is = c }) x.0 x.1 (inr (inr (refl, said)))
       lives current c true live None said = idles
       lives current c false live text said = idles
 

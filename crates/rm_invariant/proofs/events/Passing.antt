@@ -10,6 +10,7 @@ use Rattle.rm_types.specs.declared.ids.AttemptId.{AttemptId}
 use Rattle.rm_types.specs.declared.resources.Resource.{Resource}
 use Rattle.rm_types.specs.declared.settings.Settings.{Settings}
 use Rattle.rm_types.specs.Passes.{pass_list}
+use Rattle.rm_types.proofs.TestLemmas.{found_passes, same_text}
 use Rattle.rm_book.specs.AskTables.{asks_of}
 use Rattle.rm_book.specs.Books.{sizes_on}
 use Rattle.rm_book.proofs.Lists.{filter_view}
@@ -24,10 +25,8 @@ use Rattle.rm_tables.specs.declared.tables.Tables.{Tables}
 use Rattle.rm_tables.specs.Nodes.{is_ready, node_of}
 use Rattle.rm_tables.specs.Passing.{fitted_on, grants_on, still_waits}
 use Rattle.rm_refinement.specs.Agreement.{PlainNode, PlainRow, SameRows, bare_row, bare_node, phase_of, plain_row, plain_node}
-use Rattle.rm_refinement.proofs.Found.{same_name}
 use Rattle.rm_invariant.specs.events.Refines.{Refines}
 use Rattle.rm_invariant.specs.events.Asking.{AskersCurrent}
-use Rattle.rm_invariant.proofs.events.Lists.{found_passes}
 use Rattle.rm_invariant.proofs.events.Turns.{turns_same}
 
 -- the sizes of what stands on a node
@@ -45,7 +44,7 @@ sizes_same name rows book same =
 
 -- a node is found by its name
 pub found_name : (name : List ℕ) (nodes : List NodeState) (node : NodeState) → node_told nodes name ≡ Some node → node.name ≡ name
-found_name name nodes node found = same_name node.name name (found_passes (λ one. bytes_eq one.name name) nodes node found)
+found_name name nodes node found = same_text node.name name (found_passes (λ one. bytes_eq one.name name) nodes node found)
 
 -- it is ready on both sides, or on neither
 pub ready_same : (state : NodePhase) → is_ready state ≡ ready_told (phase_of state)

@@ -1,6 +1,6 @@
 -- AppAdded and AttemptAdded, each as a whole step that keeps all that holds of an open life: an application is to be accepted, and an attempt
 -- that is scheduled asks for its master's container.
-use Rattle.std.proofs.Common.{◌≡◌, is_some, List, [], ◌∷◌, ◌++◌, Bool, true, false, ◌==◌, Option, None, Some, count_by, drop, filter, map, refl, sym, ◌∙◌, ap, subst, suc, append-nil, arith}
+use Rattle.std.proofs.Common.{◌≡◌, List, [], ◌∷◌, ◌++◌, Bool, true, false, ◌==◌, Option, None, Some, count_by, drop, filter, map, refl, sym, ◌∙◌, ap, subst, suc, append-nil, arith}
 use Rattle.std.specs.List.{list_any}
 use Rattle.std.proofs.lemmas.Bool.Decides.{nat_tests}
 use Rattle.std.proofs.lemmas.List.{map-append}
@@ -16,8 +16,8 @@ use Rattle.rm_types.specs.declared.resources.Resource.{Resource}
 use Rattle.rm_types.specs.declared.settings.Settings.{Settings}
 use Rattle.rm_types.specs.Ids.{is_attempt}
 use Rattle.rm_types.specs.Records.{record_of}
+use Rattle.rm_types.proofs.IdLemmas.{same_attempt, app_itself}
 use Rattle.rm_book.specs.AskTables.{AsksOf, asks_of, asks_set, is_for}
-use Rattle.rm_book.proofs.Ids.{same_attempt}
 use Rattle.rm_model.specs.Changes.{master_ask}
 use Rattle.std.specs.Prelude.{if◌then◌else◌}
 use Rattle.rm_model.specs.Passing.{asks_of as asks_told}
@@ -39,8 +39,7 @@ use Rattle.rm_refinement.specs.History.{History, abstract_life}
 use Rattle.rm_invariant.specs.apps.View.{View, is_ask, one_if, sched_view, view}
 use Rattle.rm_invariant.proofs.apps.Counts.{at_front}
 use Rattle.rm_invariant.proofs.apps.Effects.{sched_taken}
-use Rattle.rm_invariant.proofs.apps.Found.{is_app-refl}
-use Rattle.rm_invariant.proofs.apps.Queueing.{queued_facts}
+use Rattle.rm_invariant.proofs.apps.Queueing.{queued_facts, found_some}
 use Rattle.rm_invariant.specs.nodes.Invariant.{NodesInvariant}
 use Rattle.rm_invariant.specs.masters.Preserves.{PreservesContainersTo}
 use Rattle.rm_invariant.proofs.masters.AppEvents.{added_joins, queued_joins}
@@ -91,11 +90,6 @@ asks_queued table asks id app same none = λ q. by q (is_attempt id q) refl
     by q false e =
         other_asks id q e (asks_set ask (asks_of table id)) table ∙ same q ∙ sym (append-nil (asks_told asks q)) ∙ sym (told_more asks (record { attempt = id; ask = ask }) q false e)
 
--- a record that is found
-some_record : (o : Option AppRecord) → is_some o ≡ true → (app : AppRecord) × (o ≡ Some app)
-some_record None some = cc
-some_record (Some app) some = (app, refl)
-
 module _ (settings : Settings) (h : History) (t : Tables) (w : CoreInvariant settings h t) where
   -- AppAdded
   pub app_added_whole : (id : AppId) (rest : List SchedEvent) → t.sched ≡ scheds.AppAdded id ∷ rest → (list : List ContainerId) → PreservesCore settings h t (sched_worked (sched_step (scheds.AppAdded id) list t))
@@ -114,10 +108,10 @@ module _ (settings : Settings) (h : History) (t : Tables) (w : CoreInvariant set
     facts row found current is s n =
         let gone : Tables = sched_popped t in
         let here : RowInvariant settings id (Some row) (view h t id) = rw found at (w.keeps.all id) in
-        let self : sched_view id (scheds.AttemptAdded id) (view h gone id) ≡ record (view h gone id) { count = record (view h gone id).count { queueings = suc (view h gone id).count.queueings } } = (let number : (id.number == id.number) ≡ true = grind (arith, nat_tests) in rw (is_app-refl id.app, number) refl) in
+        let self : sched_view id (scheds.AttemptAdded id) (view h gone id) ≡ record (view h gone id) { count = record (view h gone id).count { queueings = suc (view h gone id).count.queueings } } = (let number : (id.number == id.number) ≡ true = grind (arith, nat_tests) in rw (app_itself id.app, number) refl) in
         let says = subst (λ (v : View). RowInvariant settings id (Some row) v) (sched_taken h t id (scheds.AttemptAdded id) rest front ∙ self) here in
         let may = queued_facts settings id (view h gone id) row current is s n says in
-        let some = some_record (record_of t.tree.apps id.app) may.1.stopped.0 in
+        let some = found_some (record_of t.tree.apps id.app) may.1.stopped.0 in
         (some.0, some.1, may.1.none_ask)
 
     asked : (app : AppRecord) → record_of t.tree.apps id.app ≡ Some app → count_by (is_ask id) h.asks ≡ 0

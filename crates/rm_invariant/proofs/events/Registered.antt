@@ -6,6 +6,7 @@ use Rattle.rm_types.specs.declared.containers.BookRow.{BookRow}
 use Rattle.rm_types.specs.declared.containers.Cause.{Cause}
 use Rattle.rm_types.specs.declared.containers.Cause.TheVariants as causes
 use Rattle.rm_types.specs.declared.ids.ContainerId.{ContainerId}
+use Rattle.rm_types.proofs.TestLemmas.{same_text}
 use Rattle.rm_attempt.specs.declared.states.AttemptState.{AttemptState}
 use Rattle.rm_attempt.specs.declared.states.AttemptState.TheVariants as attempts
 use Rattle.rm_book.specs.Books.{BookOf, row_of as book_row_of}
@@ -30,7 +31,7 @@ use Rattle.rm_tables.specs.Nodes.{changed_row, is_waiting, node_of, with_node}
 use Rattle.rm_tables.specs.Passing.{updated_by}
 use Rattle.rm_tables.specs.Rows.{row_of}
 use Rattle.rm_tables.specs.SchedEvents.{is_on, is_released, queued_at, queued_by, queued_with, sched_step}
-use Rattle.rm_refinement.proofs.Found.{other_added, other_row, own_added, own_row, same_name}
+use Rattle.rm_refinement.proofs.Found.{other_added, other_row, own_added, own_row}
 use Rattle.rm_invariant.specs.events.Here.{NoneAbsent}
 
 -- a change of a row that leaves no node absent
@@ -47,7 +48,7 @@ registered_with f name nodes keeps before q row found = by (bytes_eq name q) ref
 
     by : (b : Bool) → bytes_eq name q ≡ b → row.state ≢ states.Absent
     by true e =
-        let here : node_of (with_node f name nodes) name ≡ Some row = subst (λ (n : List ℕ). node_of (with_node f name nodes) n ≡ Some row) (sym (same_name name q e)) found in
+        let here : node_of (with_node f name nodes) name ≡ Some row = subst (λ (n : List ℕ). node_of (with_node f name nodes) n ≡ Some row) (sym (same_text name q e)) found in
         changed (node_of nodes name) refl (sym (own_row f name nodes) ∙ here)
     by false e = before q row (sym (other_row f name q nodes e) ∙ found)
 
@@ -57,7 +58,7 @@ registered_more name row nodes none some before q one found = by (bytes_eq name 
   where
     by : (b : Bool) → bytes_eq name q ≡ b → one.state ≢ states.Absent
     by true e =
-        let here : node_of (nodes ++ (name, row) ∷ []) name ≡ Some one = subst (λ (n : List ℕ). node_of (nodes ++ (name, row) ∷ []) n ≡ Some one) (sym (same_name name q e)) found in
+        let here : node_of (nodes ++ (name, row) ∷ []) name ≡ Some one = subst (λ (n : List ℕ). node_of (nodes ++ (name, row) ∷ []) n ≡ Some one) (sym (same_text name q e)) found in
         let own : Some row ≡ Some one = sym (own_added name row nodes none) ∙ here in
         let same : row ≡ one = cc in subst (λ (x : NodeRow). x.state ≢ states.Absent) same some
     by false e = before q one (sym (other_added name q row nodes e) ∙ found)

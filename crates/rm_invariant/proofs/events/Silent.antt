@@ -6,6 +6,7 @@ use Rattle.rm_types.specs.declared.ids.AppId.{AppId}
 use Rattle.rm_types.specs.declared.ids.ContainerId.{ContainerId}
 use Rattle.rm_types.specs.declared.operations.How.{How}
 use Rattle.rm_types.specs.Ids.{is_app}
+use Rattle.rm_types.proofs.IdLemmas.{same_app}
 use Rattle.rm_attempt.specs.declared.states.AttemptState.{AttemptState}
 use Rattle.rm_attempt.specs.declared.states.AttemptState.TheVariants as attempts
 use Rattle.rm_attempt.specs.declared.states.AttemptEvent.{AttemptEvent}
@@ -23,7 +24,7 @@ use Rattle.rm_tables.specs.Actions.{main_worked, next_in}
 use Rattle.rm_tables.specs.Changes.{attempt_after, changed, current_after, dialogue_after, granted_at}
 use Rattle.rm_tables.specs.Rows.{row_of, with_row}
 use Rattle.rm_invariant.specs.apps.View.{changed_if}
-use Rattle.rm_invariant.proofs.apps.Found.{is_app_same, row_changed}
+use Rattle.rm_invariant.proofs.apps.Found.{row_changed}
 use Rattle.rm_invariant.specs.events.Outcomes.{IsCurrentOf, Outcome, accepts, adds, delays, ends, ends_one, follows, idles, issues, kills, loses, orders, removes, requeues, saves}
 use Rattle.rm_invariant.specs.events.MainFacts.{AreSilent, IsSilent, UnissuedSilent, is_unissued}
 
@@ -91,7 +92,7 @@ rows_silent rows id change may silent q row found = by (is_app id q) refl (row_o
     by true e None there is = cc
     by true e (Some was) there is =
         let same : changed change was ≡ row = cc in
-        subst (λ (r : AppRow). IsSilent r.current r.dialogue) same (change_silent change was.current was.dialogue (may was (ap (row_of rows) (is_app_same id q e) ∙ there)) (silent q was there))
+        subst (λ (r : AppRow). IsSilent r.current r.dialogue) same (change_silent change was.current was.dialogue (may was (ap (row_of rows) (same_app id q e) ∙ there)) (silent q was there))
     by false e o there is = silent q row (there ∙ is)
 
 -- THE MAIN QUEUE

@@ -12,6 +12,7 @@ use Rattle.rm_types.specs.declared.records.AppRecord.{AppRecord}
 use Rattle.rm_types.specs.declared.records.AttemptRecord.{AttemptRecord}
 use Rattle.rm_types.specs.Ids.{is_app}
 use Rattle.rm_types.specs.Records.{record_of}
+use Rattle.rm_types.proofs.IdLemmas.{same_app}
 use Rattle.rm_model.specs.Attempts.{is_over}
 use Rattle.rm_model.specs.Containers.{closings, is_told}
 use Rattle.rm_model.specs.State.{MasterState, Scene}
@@ -21,7 +22,7 @@ use Rattle.rm_tables.specs.Leaving.{attempt_in, closed, closed_in, closed_one, c
 use Rattle.rm_tables.specs.Rows.{row_of}
 use Rattle.rm_refinement.specs.Agreement.{AttemptAgrees, ClosingsAgree, NumberAgrees, RowAgrees, closings_for}
 use Rattle.rm_invariant.specs.apps.View.{changed_if}
-use Rattle.rm_invariant.proofs.apps.Found.{is_app_same, row_changed}
+use Rattle.rm_invariant.proofs.apps.Found.{row_changed}
 use Rattle.rm_invariant.proofs.masters.Masters.{masters_same}
 
 -- WHO IS TOLD
@@ -54,7 +55,7 @@ unknown_untold apps cause (one ∷ more) id none = by (is_told_in apps one) refl
     by false e c f rest = rw e rest
     by true e false f rest = rw (e, f) rest
     by true e true f rest =
-        let unknown : record_of apps one.attempt.app ≡ None = ap (record_of apps) (is_app_same one.attempt.app id f) ∙ none in
+        let unknown : record_of apps one.attempt.app ≡ None = ap (record_of apps) (same_app one.attempt.app id f) ∙ none in
         absurd (let x : false ≡ true = rw unknown at e in false≢true x)
 
 -- ROWS THAT TELL MORE

@@ -16,6 +16,7 @@ use Rattle.rm_types.specs.Ids.{is_app}
 use Rattle.rm_types.specs.Passes.{PassNode, by_priority, fitting, grant_of, left_of, seq_after, with_granted, with_turn}
 use Rattle.rm_types.specs.Resources.{fits}
 use Rattle.rm_types.specs.Passes.{times}
+use Rattle.rm_types.proofs.IdLemmas.{same_app}
 use Rattle.rm_book.specs.AskTables.{asks_of}
 use Rattle.rm_book.specs.Books.{capability_of}
 use Rattle.rm_model.specs.Attempts.{attempt_at}
@@ -29,7 +30,6 @@ use Rattle.rm_invariant.specs.apps.Invariant.{AttemptsInvariant}
 use Rattle.rm_refinement.specs.History.{History}
 use Rattle.rm_invariant.specs.apps.View.{one_if}
 use Rattle.rm_invariant.proofs.apps.Counts.{at_front, count_append}
-use Rattle.rm_invariant.proofs.apps.Found.{is_app_same}
 use Rattle.rm_invariant.specs.nodes.Book.{All}
 use Rattle.rm_invariant.specs.events.Asking.{AskersCurrent, is_current}
 use Rattle.rm_invariant.specs.events.Masters.{AppsOnce, MastersAskOnce}
@@ -173,7 +173,7 @@ module _ (settings : Settings) (h : History) (t : Tables) (says : AttemptsInvari
       alone : All (λ turn. is_app id turn.attempt.app ≡ true → (size : Resource) × (asks_of t.asks turn.attempt ≡ line_of size ∷ [])) (turns_in t)
       alone =
           all_weaker IsAsker (λ turn. is_app id turn.attempt.app ≡ true → (size : Resource) × (asks_of t.asks turn.attempt ≡ line_of size ∷ []))
-          (λ turn is e. is.alone (ap (λ (one : AppId). waits_for_master (row_of t.rows one)) (sym (is_app_same id turn.attempt.app e)) ∙ waits)) (turns_in t) (askers t.tree.apps current)
+          (λ turn is e. is.alone (ap (λ (one : AppId). waits_for_master (row_of t.rows one)) (sym (same_app id turn.attempt.app e)) ∙ waits)) (turns_in t) (askers t.tree.apps current)
 
       by : (b : Bool) (capability : Option Resource) → count_by (λ grant. is_app id grant.id.attempt.app) (if b then fitted_on name capability t else []) ≤ 1
       by true None = omega arith

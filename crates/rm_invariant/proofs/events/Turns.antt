@@ -10,6 +10,7 @@ use Rattle.rm_types.specs.declared.ids.ContainerId.{ContainerId}
 use Rattle.rm_types.specs.declared.records.AppRecord.{AppRecord}
 use Rattle.rm_types.specs.Lists.{is_nil}
 use Rattle.rm_types.specs.Passes.{PassNode, by_priority, pass_list, with_granted, with_turn}
+use Rattle.rm_types.proofs.TestLemmas.{nil_is}
 use Rattle.rm_book.specs.AskTables.{AsksOf, asks_of}
 use Rattle.rm_model.specs.Attempts.{attempt_at}
 use Rattle.rm_model.specs.Facts.{has_app}
@@ -23,7 +24,6 @@ use Rattle.rm_tables.specs.Rows.{row_of}
 use Rattle.rm_refinement.specs.Agreement.{AttemptAgrees, RowAgrees, grants_of}
 use Rattle.rm_invariant.specs.events.Refines.{Refines}
 use Rattle.rm_invariant.specs.events.Asking.{AskersCurrent, is_current, is_numbered, is_numbered_in}
-use Rattle.rm_invariant.proofs.events.Lists.{nil_is}
 
 -- the current attempt's row counts its grants
 counts_grants : (registered : List MasterState) (granted : List ContainerId) (retired : Bool) (attempt : AttemptId) (o : Option AppRow) → is_numbered_in attempt.number o ≡ true

@@ -6,6 +6,7 @@ use Rattle.rm_types.specs.declared.entries.Entry.TheVariants.{Pass}
 use Rattle.rm_types.specs.declared.ids.ContainerId.{ContainerId}
 use Rattle.rm_types.specs.declared.resources.Resource.{Resource}
 use Rattle.rm_types.specs.declared.settings.Settings.{Settings}
+use Rattle.rm_types.proofs.TestLemmas.{text_itself}
 use Rattle.rm_model.specs.Nodes.{is_ready as ready_told}
 use Rattle.rm_model.specs.Passing.{first_fit_on, pass_of, passes, waits_for_nodes}
 use Rattle.rm_model.specs.Rules.{Allowed, MayPass}
@@ -34,7 +35,6 @@ use Rattle.rm_invariant.proofs.apps.Keeping.{in_scene}
 use Rattle.rm_invariant.specs.nodes.Invariant.{NodesInvariant}
 use Rattle.rm_invariant.specs.nodes.Book.{All, BookInvariant, IsAbsorbed}
 use Rattle.rm_invariant.proofs.nodes.Entries.{AllOn, AtBeat, known_node, pass_good, pass_lawful}
-use Rattle.rm_invariant.proofs.nodes.Moved.{text-refl}
 use Rattle.rm_invariant.specs.masters.Preserves.{PreservesContainersTo}
 use Rattle.rm_invariant.specs.events.Asking.{AreNext, AskersCurrent, OthersCurrent}
 use Rattle.rm_invariant.specs.Core.{Nothing, CoreInvariant, PreservesCore}
@@ -57,7 +57,7 @@ module _ (settings : Settings) (h : History) (t : Tables) (w : CoreInvariant set
     where
       by : (o : Option NodeRow) → node_of t.nodes name ≡ o → (row : NodeRow) × (node_of t.nodes name ≡ Some row)
       by None e =
-          let k = known_node h.nodes h.book t.sched name (scheds.NodeUpdate name) rest front (text-refl name) w.nodes in
+          let k = known_node h.nodes h.book t.sched name (scheds.NodeUpdate name) rest front (text_itself name) w.nodes in
           let same = w.agrees.nodes name in
           let x : None ≡ Some (plain_node k.0) = sym (ap (option_map (bare_node t.book name)) e) ∙ same ∙ ap (option_map plain_node) k.1 in
           absurd (let y = x in cc)

@@ -5,6 +5,7 @@ use Rattle.std.specs.List.{list_any}
 use Rattle.std.proofs.lemmas.Bool.Decides.{nat_tests}
 use Rattle.std.proofs.lemmas.List.{append-nil}
 use Rattle.std.proofs.lemmas.List.Sorted.{IsPermutation-sym}
+use Rattle.std.proofs.lemmas.Bool.{not-true, or_right}
 use Rattle.rm_types.specs.declared.ids.AttemptId.{AttemptId}
 use Rattle.rm_types.specs.declared.ids.ContainerId.{ContainerId}
 use Rattle.rm_types.specs.declared.records.AppRecord.{AppRecord}
@@ -19,6 +20,8 @@ use Rattle.rm_types.specs.declared.messages.Lane.TheVariants.{Sched as SchedLane
 use Rattle.rm_types.specs.declared.resources.Resource.{Resource}
 use Rattle.rm_types.specs.declared.operations.How.TheVariants as ways
 use Rattle.rm_types.specs.declared.containers.Cause.TheVariants as causes
+use Rattle.rm_types.proofs.TestLemmas.{and_first}
+use Rattle.rm_types.proofs.IdLemmas.{container_itself, same_container}
 use Rattle.rm_model.specs.Absorbing.{absorbs, as_booked, as_counted, as_reported, is_held, may_take, not_taken, row_absorbed, row_taken, taken_of, with_counted}
 use Rattle.rm_model.specs.Attempts.{attempt_was_first, is_current}
 use Rattle.rm_model.specs.Containers.{ids_on, is_living, lives_on, row_of as book_row_of}
@@ -48,7 +51,7 @@ use Rattle.rm_invariant.specs.masters.Invariant.{ContainersInvariant, ContainerI
 use Rattle.rm_invariant.specs.masters.Preserves.{PreservesContainers}
 use Rattle.rm_invariant.specs.masters.View.{ContainerView, container_view, is_removal}
 use Rattle.rm_invariant.proofs.masters.Ends.{Alive}
-use Rattle.rm_invariant.proofs.masters.Tests.{and_left, and_right, or_right}
+use Rattle.rm_invariant.proofs.masters.Tests.{and_right}
 use Rattle.rm_invariant.proofs.masters.Living.{end_how, some_ending}
 use Rattle.rm_invariant.proofs.masters.Sounding.{ended_last}
 use Rattle.rm_invariant.proofs.masters.Removed.{leaving, left_all_marks, left_says, next, none_joins}
@@ -56,7 +59,7 @@ use Rattle.rm_invariant.proofs.masters.LeavingEvents.{lives_there, of_passing}
 use Rattle.rm_invariant.proofs.masters.Leaving.{living_filter}
 use Rattle.rm_invariant.proofs.masters.Granting.{taken_marks, taken_says}
 use Rattle.rm_invariant.proofs.nodes.Ascending.{permuted_has}
-use Rattle.rm_invariant.proofs.nodes.Lists.{lives_is, same_container, container-refl}
+use Rattle.rm_invariant.proofs.nodes.Lists.{lives_is}
 
 -- an attempt that goes on is the current one of its application, and lives or its end is issued
 pub record GoesHere (t : Tables) (q : AttemptId) : Type 0 where
@@ -83,7 +86,7 @@ module _ (settings : Settings) (h : History) (t : Tables) (says : AttemptsInvari
 
   last_of : (o : Option AttemptRecord) → last_attempt kept_ones ≡ o → is_some_and (λ last. is_attempt last.id q && is_none last.ending) o ≡ true → IsLast
   last_of None f e = cc
-  last_of (Some last) f e = record { last = last; is_last = f; own = and_left (is_attempt last.id q) (is_none last.ending) e; unended = none_some last.ending (and_right (is_attempt last.id q) (is_none last.ending) e) }
+  last_of (Some last) f e = record { last = last; is_last = f; own = and_first (is_attempt last.id q) (is_none last.ending) e; unended = none_some last.ending (and_right (is_attempt last.id q) (is_none last.ending) e) }
 
   the_last : IsLast
   the_last = last_of (last_attempt kept_ones) refl goes
@@ -99,7 +102,7 @@ module _ (settings : Settings) (h : History) (t : Tables) (says : AttemptsInvari
   of_going number g =
       let l = the_last.is_last in
       let going : is_open_one (record { app = q.app; number = number }) the_last.last ≡ true = rw l at g.2 in
-      let named = and_left (is_attempt the_last.last.id (record { app = q.app; number = number })) (is_none the_last.last.ending) going in
+      let named = and_first (is_attempt the_last.last.id (record { app = q.app; number = number })) (is_none the_last.last.ending) going in
       let own = the_last.own in
       grind (arith, nat_tests)
 
@@ -204,7 +207,7 @@ module _ (m : Scene) (node : NodeState) where
       by : (b : Bool) → may_take m node taken held ≡ b → AllTaken (with_counted m node taken (Some held))
       by false e = rw e all
       by true e =
-          let goes = and_left (is_current m held.id.attempt) _ (and_right (not (is_held taken held.id)) _ e) in
+          let goes = and_first (is_current m held.id.attempt) _ (and_right (not (is_held taken held.id)) _ e) in
           rw e (taken_end taken held all (goes, c))
 
   fold_taken : (running taken : List Held) → AllTaken taken → AllTaken (fold (λ taken held. with_counted m node taken (as_counted m node held)) taken running)
@@ -225,10 +228,6 @@ same_id taken row = by (is_held taken row.id) refl
 same_any : (test : ContainerId → Bool) (taken : List Held) (book : List Row) → list_any (λ row. test row.id) (map (row_taken taken) book) ≡ list_any (λ row. test row.id) book
 same_any test taken [] = refl
 same_any test taken (row ∷ book) = let id = same_id taken row in let more = same_any test taken book in rw (id, more) refl
-
-not_held : (b : Bool) → not b ≡ true → b ≡ false
-not_held true e = cc
-not_held false e = refl
 
 -- containers that are taken enter the book, one after the other
 module _ (settings : Settings) (g : History) (t : Tables) (name : List ℕ) where
@@ -299,13 +298,13 @@ module _ (settings : Settings) (h : History) (t : Tables) (k : AppsInvariant set
     enters (held ∷ more) ok among = by (is_living gone.book held.id) refl (enters more ok.1 (λ one e. among one (or_right (is_container held.id one.id) (is_held more one.id) e)))
       where
         in_taken : is_held taken held.id ≡ true
-        in_taken = let self = container-refl held.id in among held (rw self refl)
+        in_taken = let self = container_itself held.id in among held (rw self refl)
 
         stays : has_container ended held.id ≡ false
         stays = at_test (has_container ended held.id) refl
           where
             at_test : (b : Bool) → has_container ended held.id ≡ b → b ≡ false
-            at_test true e = absurd (let n = not_held (is_held taken held.id) (of_left held.id e).1 in let i = in_taken in cc)
+            at_test true e = absurd (let n = not-true (is_held taken held.id) (of_left held.id e).1 in let i = in_taken in cc)
             at_test false e = refl
 
         was_first : is_living gone.book held.id ≡ false → (lives_on h.book node.name held.id ≡ true) ⊎ (attempt_was_first (abstract_scene h t) held.id.attempt ≡ true) → attempt_was_first (abstract_scene h t) held.id.attempt ≡ true

@@ -19,6 +19,7 @@ use Rattle.rm_types.specs.declared.settings.Settings.{Settings}
 use Rattle.rm_types.specs.Ids.{is_app, is_attempt, is_container}
 use Rattle.rm_types.specs.declared.messages.Message.TheVariants as messages
 use Rattle.rm_types.specs.declared.messages.Sender.TheVariants as senders
+use Rattle.rm_types.proofs.TestLemmas.{and_false}
 use Rattle.rm_model.specs.Containers.{released_by}
 use Rattle.rm_model.specs.MasterReplies.{allocates, is_line_of, is_new_to_master, row_allocated, untold_rows, with_ask, with_asks}
 use Rattle.rm_model.specs.Replies.{reply_to}
@@ -40,7 +41,6 @@ use Rattle.rm_invariant.specs.masters.Invariant.{ContainersInvariant, ContainerI
 use Rattle.rm_invariant.specs.masters.Preserves.{PreservesContainers}
 use Rattle.rm_invariant.specs.masters.View.{ContainerView, is_removal, container_view}
 use Rattle.rm_invariant.proofs.masters.Talking.{IsTalking, marks_talking, same_talking, says_talking, talking}
-use Rattle.rm_invariant.proofs.masters.Tests.{and_false}
 use Rattle.rm_invariant.proofs.masters.Finishing.{text_in}
 
 -- none of these asks is for a master

@@ -15,6 +15,7 @@ use Rattle.rm_types.specs.Records.{record_of}
 use Rattle.rm_types.specs.declared.containers.Cause.TheVariants as causes
 use Rattle.rm_types.specs.declared.operations.How.TheVariants as ways
 use Rattle.rm_types.specs.declared.operations.Op.TheVariants as ops
+use Rattle.rm_types.proofs.IdLemmas.{same_app}
 use Rattle.rm_model.specs.Facts.{attempts_in}
 use Rattle.rm_model.specs.Issuing.{MayIssueApp, killed_text}
 use Rattle.rm_model.specs.Changes.{after}
@@ -44,7 +45,7 @@ use Rattle.rm_invariant.specs.apps.View.{View, view}
 use Rattle.rm_invariant.proofs.apps.Events.{accepted_idle, accepted_none, accepted_now, accepting, quiet, saved_in_state, saved_none, retire_idle, started}
 use Rattle.rm_invariant.proofs.apps.Queueing.{added_steps, queued_steps}
 use Rattle.rm_invariant.proofs.apps.Own.{saved_quiet, active_row}
-use Rattle.rm_invariant.proofs.apps.Found.{is_app_same, row_changed}
+use Rattle.rm_invariant.proofs.apps.Found.{row_changed}
 use Rattle.rm_invariant.proofs.apps.Acting.{ending}
 use Rattle.rm_invariant.proofs.apps.Ending.{SomeStep, done_steps, kill_steps, saved_wished_steps}
 use Rattle.rm_invariant.specs.masters.Invariant.{ContainersInvariant, ContainerByNumber, ContainerByCurrent, ContainerInvariant}
@@ -239,7 +240,7 @@ module _ (settings : Settings) (h : History) (t : Tables) (k : AppsInvariant set
           let last = last_by settings zero row current (view h t zero) is active e (rw found at (k.all zero)) in
           schedules_joins (mains.AttemptDone a) rest front (λ c v. refl) (next_in t a.app) (Quiet MainLane) h refl (λ c. refl) row found
           (λ c same says.
-          let here : a.app ≡ c.attempt.app = is_app_same a.app c.attempt.app same in
+          let here : a.app ≡ c.attempt.app = same_app a.app c.attempt.app same in
           let number : current.number ≡ length (attempts_in (record_of t.tree.apps c.attempt.app)) = rw (← here) last in
           let number_is : (length (attempts_in (record_of t.tree.apps a.app)) + 1) ≡ (length (attempts_in (record_of t.tree.apps c.attempt.app)) + 1) = rw here refl in
           rw number_is (retried_marks c row (container_view h t c) current is e number (current.number == c.attempt.number) ((length (attempts_in (record_of t.tree.apps c.attempt.app)) + 1) == c.attempt.number) refl refl says)) some

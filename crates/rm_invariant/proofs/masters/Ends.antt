@@ -10,6 +10,7 @@ use Rattle.rm_types.specs.declared.settings.Settings.{Settings}
 use Rattle.rm_types.specs.Ids.{is_app, is_attempt, is_container}
 use Rattle.rm_types.specs.Records.{record_of, last_attempt, is_some_and}
 use Rattle.rm_types.specs.declared.operations.Op.TheVariants as ops
+use Rattle.rm_types.proofs.IdLemmas.{container_itself}
 use Rattle.rm_model.specs.Attempts.{kept_attempt}
 use Rattle.rm_model.specs.Facts.{attempts_in}
 use Rattle.rm_model.specs.Issuing.{EndsFor, MayIssueAttemptEnd}
@@ -40,7 +41,6 @@ use Rattle.rm_invariant.proofs.masters.Stepping.{IsEventOf, IsMarkOf, joins_own}
 use Rattle.rm_invariant.proofs.masters.Saying.{active_of, alive_ends}
 use Rattle.rm_invariant.proofs.masters.Marking.{ending_marks}
 use Rattle.rm_invariant.proofs.masters.Effects.{op_issued}
-use Rattle.rm_invariant.proofs.nodes.Lists.{container-refl}
 
 -- an attempt lives
 abbrev pub Alive : AttemptState → Type 0
@@ -87,7 +87,7 @@ own_master h t id apt goes = by (kept_attempt (abstract_scene h t) id) refl (las
     by None e s = cc
     by (Some one) e s =
         let same : one.master.attempt ≡ id = apt id one e in
-        let self = container-refl one.master in
+        let self = container_itself one.master in
         let here : own_of one.master (record_of t.tree.apps id.app) ≡ true = subst (λ (a : AttemptId). is_some_and (λ x. is_container x.master one.master) (find (λ x. is_attempt x.id a) (attempts_in (record_of t.tree.apps id.app))) ≡ true) (sym same) (rw (e, self) refl) in
         record { one = one; kept = e; apt = same; own = subst (λ (a : AttemptId). own_of one.master (record_of t.tree.apps a.app) ≡ true) (sym same) here }
 

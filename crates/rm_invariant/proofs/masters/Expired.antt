@@ -9,6 +9,7 @@ use Rattle.rm_types.specs.declared.settings.Settings.{Settings}
 use Rattle.rm_types.specs.Ids.{is_attempt}
 use Rattle.rm_types.specs.declared.operations.How.TheVariants as ways
 use Rattle.rm_types.specs.declared.operations.Op.TheVariants as ops
+use Rattle.rm_types.proofs.TestLemmas.{and_first}
 use Rattle.rm_model.specs.Attempts.{finishing_text, has_expired}
 use Rattle.rm_model.specs.Issuing.{EndsFor, expired_text}
 use Rattle.rm_attempt.specs.declared.states.AttemptState.{AttemptState}
@@ -34,7 +35,7 @@ use Rattle.rm_invariant.proofs.masters.Stepping.{IsEventOf, IsMarkOf}
 use Rattle.rm_invariant.proofs.masters.Marking.{MayGo, event_goes}
 use Rattle.rm_invariant.proofs.masters.Quieting.{joins_quiet}
 use Rattle.rm_invariant.proofs.masters.Effects.{main_taken}
-use Rattle.rm_invariant.proofs.masters.Tests.{and_left, and_right, not_both}
+use Rattle.rm_invariant.proofs.masters.Tests.{and_right, not_both}
 
 none_of_it : (id : AttemptId) (c : ContainerId) → false ≡ true → is_attempt id c.attempt ≡ true
 none_of_it id c e = cc
@@ -117,7 +118,7 @@ module _ (settings : Settings) (h : History) (t : Tables) (k : AppsInvariant set
       at_state : (current : Current) → row.current ≡ Some current → (b : Bool) → ((current.number == id.number) && is_alive current.state) ≡ b → PreservesContainersTo settings h t (main_worked (expiry_of_living b id t))
       at_state current is true e =
           let st = alive_by current.state (and_right (current.number == id.number) (is_alive current.state) e) in
-          let n = and_left (current.number == id.number) (is_alive current.state) e in
+          let n = and_first (current.number == id.number) (is_alive current.state) e in
           let says = alive_says settings h t k all expiry rest front id row found current is st n some_of_it refl in
           let expired : has_expired (abstract_scene h t) id ≡ true = says.5 one_expiry in
           record { next = h; joins = end settings h t k all id expiry rest front expiry_of expiry_mark (λ c. is_attempt id c.attempt) (λ c. false) (λ q. refl) (λ c. refl) (λ c e. e) (none_of_it id) row found current is st n ways.Failed expired_text (EndsFor.expired expired refl refl) }
@@ -179,7 +180,7 @@ module _ (settings : Settings) (h : History) (t : Tables) (k : AppsInvariant set
 
       at_state : (current : Current) → row.current ≡ Some current → (b : Bool) → ((current.number == id.number) && is_alive current.state) ≡ b → PreservesContainersTo settings h t (main_worked (finish_of_living b (finishing_in row.dialogue) id t))
       at_state current is true e =
-          let n = and_left (current.number == id.number) (is_alive current.state) e in
+          let n = and_first (current.number == id.number) (is_alive current.state) e in
           let st = alive_by current.state (and_right (current.number == id.number) (is_alive current.state) e) in
           at_text current is st n (finishing_in row.dialogue) (sym (agree row current found is n))
       at_state current is false e = no_living (Some row) found (λ one other x y. let u : one ≡ row = cc in let w : Some other ≡ Some current = sym y ∙ ap (λ (r : AppRow). r.current) u ∙ is in let a : other ≡ current = cc in rw a e) (finishing_in row.dialogue)

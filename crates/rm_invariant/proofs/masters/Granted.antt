@@ -2,6 +2,7 @@
 use Rattle.std.proofs.Common.{◌≡◌, ◌≢◌, inl, inr, ℕ, ◌==◌, ◌&&◌, suc, List, ◌∷◌, Bool, true, false, Option, None, Some, is_some, refl, sym, ◌∙◌, ap, subst, arith}
 use Rattle.std.specs.List.{list_any}
 use Rattle.std.proofs.lemmas.Bool.Decides.{nat_tests}
+use Rattle.std.proofs.lemmas.Bool.{or_right}
 use Rattle.rm_types.specs.declared.entries.Entry.{Entry}
 use Rattle.rm_types.specs.declared.entries.Entry.TheVariants.{Issued, Quiet}
 use Rattle.rm_types.specs.declared.ids.AttemptId.{AttemptId}
@@ -12,6 +13,8 @@ use Rattle.rm_types.specs.declared.settings.Settings.{Settings}
 use Rattle.rm_types.specs.Ids.{is_app, is_attempt, is_container}
 use Rattle.rm_types.specs.Records.{record_of}
 use Rattle.rm_types.specs.declared.operations.Op.TheVariants as ops
+use Rattle.rm_types.proofs.TestLemmas.{and_first}
+use Rattle.rm_types.proofs.IdLemmas.{container_itself, same_container}
 use Rattle.rm_model.specs.Containers.{is_living}
 use Rattle.rm_model.specs.Facts.{is_app_end_op, is_attempt_op}
 use Rattle.rm_model.specs.Issuing.{MayIssueAttempt}
@@ -47,8 +50,7 @@ use Rattle.rm_invariant.proofs.masters.Held.{IsOnNode, absent, mine_same, node_t
 use Rattle.rm_invariant.proofs.masters.Saying.{active_of, granted_requeues, granted_saves}
 use Rattle.rm_invariant.proofs.masters.Quieting.{granted_goes, joins_quiet}
 use Rattle.rm_invariant.proofs.masters.Effects.{main_taken, op_issued, sched_posted}
-use Rattle.rm_invariant.proofs.masters.Tests.{and_left, and_right, not_both, or_false, or_right}
-use Rattle.rm_invariant.proofs.nodes.Lists.{container-refl, same_container}
+use Rattle.rm_invariant.proofs.masters.Tests.{and_right, not_both, or_false}
 
 pub under_app : (id : AttemptId) (op : Op) → is_attempt_op id op ≡ true → is_attempt_op_of id.app op ≡ true
 under_app id (ops.Epoch next stamp) e = cc
@@ -158,7 +160,7 @@ module _ (settings : Settings) (h : History) (t : Tables) (k : AppsInvariant set
         (λ d v. v) (λ d. sched_posted h (record (main_popped t) { rows = with_row (changed (of_app.OfAttempt of_attempt.Requeue)) c.attempt.app t.rows }) d (scheds.AttemptAdded c.attempt)) event_mark (λ d v other. refl)
         (λ d same says. requeued_marks d row current (container_view h (main_popped t) d) is st (is_container c d) (current.number == d.attempt.number) refl (is_master_of d current.master) refl
         (λ b o. rw (← mine_same c d current.master m o) (absent h.book c gone))
-        (λ b o. rw (← mine_same c d current.master m o) (container-refl c)) says) (λ d v says. says)
+        (λ b o. rw (← mine_same c d current.master m o) (container_itself c)) says) (λ d v says. says)
       where
         free : (q : AttemptId) → is_app c.attempt.app q.app ≡ true → (c.attempt.number == q.number) ≡ true → list_any (λ row. is_attempt row.id.attempt q) h.book ≡ false
         free q a b = none_held h.book q (λ d own. none_living gone d (let x : is_attempt d.attempt c.attempt ≡ true = grind (arith, nat_tests) in x))
@@ -188,7 +190,7 @@ module _ (settings : Settings) (h : History) (t : Tables) (k : AppsInvariant set
           let y : ContainerByState c current.state current.lost (is_master_of c current.master) (container_view_main c event (container_view h (main_popped t) c)) = rw same at x in
           let z : ContainerByState c attempts.Granted current.lost false (container_view_main c event (container_view h (main_popped t) c)) = rw (st, not_mine) at y in
           let none = z.3 in
-          let self = container-refl c in
+          let self = container_itself c in
           let w : suc (container_view h (main_popped t) c).grants ≡ 0 = rw self at none in
           absurd (omega (arith, w))
 
@@ -224,7 +226,7 @@ module _ (settings : Settings) (h : History) (t : Tables) (k : AppsInvariant set
       not_granted current is s st n = quiet_step (Some row) found (λ one other x y z. absurd (let u : one ≡ row = cc in let w : Some other ≡ Some current = sym y ∙ ap (λ (r : AppRow). r.current) u ∙ is in let a : other ≡ current = cc in n (sym st ∙ ap (λ (r : Current). r.state) (sym a) ∙ z)))
 
       at_state : (current : Current) → row.current ≡ Some current → (s : AttemptState) → current.state ≡ s → (b : Bool) → ((current.number == c.attempt.number) && is_master_of c current.master) ≡ b → GrantedSteps (grant_of_state s b c t)
-      at_state current is attempts.Granted st true e = granted_step row found current is st (and_left (current.number == c.attempt.number) (is_master_of c current.master) e) (and_right (current.number == c.attempt.number) (is_master_of c current.master) e) (node_at t.book c) refl
+      at_state current is attempts.Granted st true e = granted_step row found current is st (and_first (current.number == c.attempt.number) (is_master_of c current.master) e) (and_right (current.number == c.attempt.number) (is_master_of c current.master) e) (node_at t.book c) refl
       at_state current is attempts.Granted st false e = quiet_step (Some row) found (λ one other x y z. let u : one ≡ row = cc in let w : Some other ≡ Some current = sym y ∙ ap (λ (r : AppRow). r.current) u ∙ is in let a : other ≡ current = cc in rw a e)
       at_state current is attempts.Scheduled st b e = not_granted current is attempts.Scheduled st (λ u. cc)
       at_state current is attempts.Saving st b e = not_granted current is attempts.Saving st (λ u. cc)

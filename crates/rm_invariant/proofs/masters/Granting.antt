@@ -8,6 +8,7 @@ use Rattle.rm_types.specs.declared.ids.AttemptId.{AttemptId}
 use Rattle.rm_types.specs.declared.ids.ContainerId.{ContainerId}
 use Rattle.rm_types.specs.declared.settings.Settings.{Settings}
 use Rattle.rm_types.specs.Ids.{is_app, is_attempt, is_container}
+use Rattle.rm_types.proofs.IdLemmas.{same_app, same_container}
 use Rattle.rm_model.specs.Attempts.{attempt_was_first}
 use Rattle.rm_model.specs.Containers.{is_living}
 use Rattle.rm_model.specs.Facts.{has_container}
@@ -29,7 +30,7 @@ use Rattle.rm_invariant.specs.apps.View.{is_ask, View, set_if, changed_if, count
 use Rattle.rm_invariant.specs.apps.Invariant.{ActiveInvariant, RowInvariant, StateInvariant, is_active, AttemptsInvariant}
 use Rattle.rm_refinement.specs.History.{History, abstract_scene}
 use Rattle.rm_invariant.proofs.apps.Own.{active_row}
-use Rattle.rm_invariant.proofs.apps.Found.{is_app_same, row_changed}
+use Rattle.rm_invariant.proofs.apps.Found.{row_changed}
 use Rattle.rm_invariant.proofs.apps.Effects as views
 use Rattle.rm_invariant.specs.masters.Invariant.{ContainersInvariant, ContainerInvariant, RemovalInvariant}
 use Rattle.rm_invariant.specs.masters.View.{ContainerView, container_view}
@@ -39,7 +40,6 @@ use Rattle.rm_invariant.proofs.masters.Tests.{any_end}
 use Rattle.rm_invariant.proofs.masters.Crossing.{counted_marks, entering_marks, granting_marks, granting_says}
 use Rattle.rm_invariant.proofs.masters.Effects.{main_posted}
 use Rattle.rm_invariant.proofs.masters.Stepping.{marks_changed}
-use Rattle.rm_invariant.proofs.nodes.Lists.{same_container}
 
 -- an attempt that lives, or whose end is issued, may hold one more container
 holding_says : (settings : Settings) (q : AttemptId) (row : AppRow) (current : Current) (v : View) (is : row.current ≡ Some current) (a : is_active row.state ≡ true)
@@ -130,7 +130,7 @@ module _ (settings : Settings) (h : History) (t : Tables) (says : AttemptsInvari
       where
         by : (b : Bool) → is_app entry.id.attempt.app q.app ≡ b → RowInvariant settings q (changed_if b change (row_of t.rows q.app)) (view entered granted_master q)
         by true same =
-            let here : row_of t.rows q.app ≡ Some row = rw (← is_app_same entry.id.attempt.app q.app same) found in
+            let here : row_of t.rows q.app ≡ Some row = rw (← same_app entry.id.attempt.app q.app same) found in
             let old : RowInvariant settings q (Some row) (view h t q) = rw here at (says q) in
             let test : is_attempt entry.id.attempt q ≡ (current.number == q.number) = rw (same, ← number) refl in
             let before : RowInvariant settings q (Some row) (record (asking q) { count = record (asking q).count { asks = one_if (current.number == q.number) (asking q).count.asks } }) =
@@ -189,7 +189,7 @@ module _ (settings : Settings) (h : History) (t : Tables) (says : AttemptsInvari
       where
         by : (b : Bool) → is_app entry.id.attempt.app q.app ≡ b → RowInvariant settings q (row_of t.rows q.app) (view entered t q)
         by true same =
-            let here : row_of t.rows q.app ≡ Some row = rw (← is_app_same entry.id.attempt.app q.app same) found in
+            let here : row_of t.rows q.app ≡ Some row = rw (← same_app entry.id.attempt.app q.app same) found in
             let old : RowInvariant settings q (Some row) (view h t q) = rw here at (says q) in
             rw here (held_here q same old)
         by false other = subst (λ (v : View). RowInvariant settings q (row_of t.rows q.app) v) (sym (taken_view q ∙ rw other refl)) (says q)
@@ -199,7 +199,7 @@ module _ (settings : Settings) (h : History) (t : Tables) (says : AttemptsInvari
       where
         by : (b : Bool) → is_app entry.id.attempt.app c.attempt.app ≡ b → ContainerInvariant c (row_of t.rows c.attempt.app) (container_view entered t c)
         by true same =
-            let here : row_of t.rows c.attempt.app ≡ Some row = rw (← is_app_same entry.id.attempt.app c.attempt.app same) found in
+            let here : row_of t.rows c.attempt.app ≡ Some row = rw (← same_app entry.id.attempt.app c.attempt.app same) found in
             let old : ContainerInvariant c (Some row) (container_view h t c) = rw here at (all c).0 in
             rw here (living_here c same old)
         by false other = subst (λ (v : ContainerView). ContainerInvariant c (row_of t.rows c.attempt.app) v) (sym (taken_mark c ∙ rw (apart c other) refl)) (all c).0
@@ -216,7 +216,7 @@ module _ (settings : Settings) (h : History) (t : Tables) (says : AttemptsInvari
       where
         by : (b : Bool) → is_app entry.id.attempt.app q.app ≡ b → RowInvariant settings q (changed_if b counting (row_of t.rows q.app)) (view entered granted_more q)
         by true same =
-            let here : row_of t.rows q.app ≡ Some row = rw (← is_app_same entry.id.attempt.app q.app same) found in
+            let here : row_of t.rows q.app ≡ Some row = rw (← same_app entry.id.attempt.app q.app same) found in
             let old : RowInvariant settings q (Some row) (view h t q) = rw here at (says q) in
             rw here (counted_says settings q row current (view entered t q) is goes_too current.state refl st entry.id (held_here q same old))
         by false other = subst (λ (v : View). RowInvariant settings q (row_of t.rows q.app) v) (sym (taken_view q ∙ rw other refl)) (says q)

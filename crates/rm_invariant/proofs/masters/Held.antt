@@ -5,6 +5,8 @@ use Rattle.rm_types.specs.declared.ids.AttemptId.{AttemptId}
 use Rattle.rm_types.specs.declared.ids.ContainerId.{ContainerId}
 use Rattle.rm_types.specs.Ids.{is_attempt, is_container}
 use Rattle.rm_types.specs.declared.containers.BookRow.{BookRow}
+use Rattle.rm_types.proofs.IdLemmas.{container_itself, same_container}
+use Rattle.rm_types.proofs.TestLemmas.{text_itself}
 use Rattle.rm_model.specs.Containers.{is_living, lives_on, row_of as book_row_of}
 use Rattle.rm_model.specs.Facts.{has_container}
 use Rattle.rm_model.specs.State.{Row}
@@ -12,8 +14,6 @@ use Rattle.rm_book.specs.Books.{BookOf, is_of}
 use Rattle.rm_tables.specs.MainEvents.{is_master_of, node_at}
 use Rattle.rm_refinement.specs.Agreement.{PlainRow, SameRows, bare_row, plain_row}
 use Rattle.rm_invariant.specs.apps.View.{set_if}
-use Rattle.rm_invariant.proofs.nodes.Lists.{container-refl, same_container}
-use Rattle.rm_invariant.proofs.nodes.Moved.{text-refl}
 
 -- the row's master, twice
 pub mine_same : (a b : ContainerId) (master : Option ContainerId) → is_master_of a master ≡ true → is_master_of b master ≡ true → a ≡ b
@@ -58,7 +58,7 @@ stands_more : (row : Row) (rows : List Row) (c : ContainerId) (node : List ℕ) 
 stands_more row rows c node true e is rest =
     let here : Some row.node ≡ Some node = rw e at is in
     let same : row.node ≡ node = cc in
-    record { living = rw e refl; on = rw (e, same, text-refl node) refl }
+    record { living = rw e refl; on = rw (e, same, text_itself node) refl }
 stands_more row rows c node false e is rest =
     let r = rest (rw e at is) in
     record { living = rw e r.living; on = rw e r.on }
@@ -80,7 +80,7 @@ absent (row ∷ rows) c is = absent_more row rows c (is_container row.id c) refl
 -- an attempt no container of which lives has none
 held_more : (row : Row) (rows : List Row) (q : AttemptId) (b d : Bool) → is_attempt row.id.attempt q ≡ b → is_container row.id row.id ≡ d → ((c : ContainerId) → is_attempt c.attempt q ≡ true → is_living (row ∷ rows) c ≡ false)
     → (((c : ContainerId) → is_attempt c.attempt q ≡ true → is_living rows c ≡ false) → list_any (λ row. is_attempt row.id.attempt q) rows ≡ false) → list_any (λ row. is_attempt row.id.attempt q) (row ∷ rows) ≡ false
-held_more row rows q true d e f none rest = absurd (let x = none row.id e in let y = container-refl row.id in let z = rw y at x in cc)
+held_more row rows q true d e f none rest = absurd (let x = none row.id e in let y = container_itself row.id in let z = rw y at x in cc)
 held_more row rows q false d e f none rest = rw e (rest (λ c is. later (is_container row.id c) (none c is)))
   where
     later : (a : Bool) {b : Bool} → (a || b) ≡ false → b ≡ false

@@ -16,6 +16,7 @@ use Rattle.rm_types.specs.Ids.{is_app, is_attempt}
 use Rattle.rm_types.specs.Records.{new_record, record_of, recorded, with_end}
 use Rattle.rm_types.specs.declared.operations.How.TheVariants as ways
 use Rattle.rm_types.specs.declared.operations.Op.TheVariants as ops
+use Rattle.rm_types.proofs.IdLemmas.{same_app, app_itself}
 use Rattle.rm_model.specs.Facts.{attempts_in}
 use Rattle.rm_app.specs.declared.states.AppState.{AppState}
 use Rattle.rm_app.specs.declared.states.AppState.TheVariants as apps
@@ -37,7 +38,7 @@ use Rattle.rm_invariant.specs.apps.Invariant.{EndIssuedInvariant, RowInvariant, 
 use Rattle.rm_refinement.specs.History.{History}
 use Rattle.rm_invariant.specs.Step.{AppsInvariant}
 use Rattle.rm_invariant.specs.apps.View.{View, changed_if, one_if, op_view, put_if, view, counts, gone_if, set_if}
-use Rattle.rm_invariant.proofs.apps.Found.{has_end, row_put, is_app-refl, is_app_same, record_put, row_changed, found_gone}
+use Rattle.rm_invariant.proofs.apps.Found.{has_end, row_put, record_put, row_changed, found_gone}
 use Rattle.rm_invariant.proofs.apps.Saving.{app_kept, app_kept_steps, app_waits, joining, row_new, submitting}
 use Rattle.rm_invariant.proofs.apps.Counts.{at_end}
 use Rattle.rm_invariant.proofs.apps.Effects as views
@@ -147,7 +148,7 @@ module _ (settings : Settings) (h : History) (t : Tables) (k : AppsInvariant set
 
   end_waits : EndAwaits settings id (row_of t.rows id.app) (view h end_left id)
   end_waits =
-      let own : op_view id (ops.AttemptEnd id how text) (view h end_left id) ≡ with_end_op id (view h end_left id) = rw (is_app-refl id.app, same_number id.number) refl in
+      let own : op_view id (ops.AttemptEnd id how text) (view h end_left id) ≡ with_end_op id (view h end_left id) = rw (app_itself id.app, same_number id.number) refl in
       end_awaits settings id (view h end_left id) (row_of t.rows id.app) (subst (λ (v : View). RowInvariant settings id (row_of t.rows id.app) v) (views.op_taken h t id (ops.AttemptEnd id how text) rest front ∙ own) (k.all id))
 
   -- the attempt is over, and so is what was
@@ -176,7 +177,7 @@ module _ (settings : Settings) (h : History) (t : Tables) (k : AppsInvariant set
             marks_changed h after_end t (kept (ops.AttemptEnd id how text) t) id.app (changed (of_app.OfAttempt (of_attempt.KeepEnd how))) (Some awaits.one) (λ q. row_changed (changed (of_app.OfAttempt (of_attempt.KeepEnd how))) id.app q t.rows) awaits.is
             (λ c other. end_now c ∙ rw other refl)
             (λ c same says.
-            let here : id.app ≡ c.attempt.app = is_app_same id.app c.attempt.app same in
+            let here : id.app ≡ c.attempt.app = same_app id.app c.attempt.app same in
             let lengths : length (attempts_in (option_map (with_ended id how text) (record_of t.tree.apps c.attempt.app))) ≡ length (attempts_in (record_of t.tree.apps c.attempt.app)) = rw (← here) ended.same in
             let now : container_view after_end (kept (ops.AttemptEnd id how text) t) c ≡ record (container_view h t c) { found = option_map (with_ended id how text) (container_view h t c).found; removals = one_if (awaits.current.number == c.attempt.number) (container_view h t c).removals } = end_now c ∙ rw (same, number) refl in
             subst (λ (v : ContainerView). ContainerInvariant c (Some (changed (of_app.OfAttempt (of_attempt.KeepEnd how)) awaits.one)) v) (sym now)
@@ -256,7 +257,7 @@ module _ (settings : Settings) (h : History) (t : Tables) (k : AppsInvariant set
   over_waits : OverAwaits (row_of t.rows id) (view h over_left (record { app = id; number = 0 }))
   over_waits =
       let good = subst (λ (v : View). RowInvariant settings (record { app = id; number = 0 }) (row_of t.rows id) v) (views.op_taken h t (record { app = id; number = 0 }) (ops.AppEnd id how text) rest front) (k.all (record { app = id; number = 0 })) in
-      over_awaits settings (record { app = id; number = 0 }) (row_of t.rows id) (view h over_left (record { app = id; number = 0 })) (let g = rw (is_app-refl id) at good in g)
+      over_awaits settings (record { app = id; number = 0 }) (row_of t.rows id) (view h over_left (record { app = id; number = 0 })) (let g = rw (app_itself id) at good in g)
 
   over_now : (c : ContainerId) → container_view after_over (kept (ops.AppEnd id how text) t) c
       ≡ record (container_view h t c) { found = changed_if (is_app id c.attempt.app) (with_app_end how text t.tree.applied) (container_view h t c).found; removals = one_if (drops id c over_waits.one.current) (container_view h t c).removals }
@@ -296,7 +297,7 @@ module _ (settings : Settings) (h : History) (t : Tables) (k : AppsInvariant set
             let now : container_view after_over (kept (ops.AppEnd id how text) t) c ≡ record (container_view h t c) { found = option_map (with_app_end how text t.tree.applied) (container_view h t c).found; removals = one_if (drops id c over_waits.one.current) (container_view h t c).removals } = over_now c ∙ rw same refl in
             subst (λ (v : ContainerView). ContainerInvariant c (Some (changed (of_app.KeepEnd how) awaits.one)) v) (sym now) (own_final c same over_waits.one.current refl says.6 marks_say))
             (λ c same says n.
-            let here : id ≡ c.attempt.app = is_app_same id c.attempt.app same in
+            let here : id ≡ c.attempt.app = same_app id c.attempt.app same in
             let kept_ : is_some (record_of t.tree.apps c.attempt.app) ≡ true = rw (← here) awaits.kept in
             let now : has_end_in c.attempt (container_view after_over (kept (ops.AppEnd id how text) t) c).found ≡ true = ap (λ (v : ContainerView). has_end_in c.attempt v.found) (over_now c) ∙ rw same (app_over_ended c.attempt how text t.tree.applied (record_of t.tree.apps c.attempt.app) kept_) in
             inr now) all;
@@ -359,7 +360,7 @@ joined_marks settings h t says all id s found fresh stays = λ c. (rw (row_put i
   where
     by : (c : ContainerId) (b : Bool) → is_app id c.attempt.app ≡ b → ContainerInvariant c (put_if b (row_new s) (row_of t.rows c.attempt.app)) (container_view h t c)
     by c true e =
-        let same : id ≡ c.attempt.app = is_app_same id c.attempt.app e in
+        let same : id ≡ c.attempt.app = same_app id c.attempt.app e in
         let none : row_of t.rows c.attempt.app ≡ None = rw (← same) found in
         let old : ContainerInvariant c None (container_view h t c) = rw none at (all c).0 in
         rw none (new_marks c (row_new s) (container_view h t c) refl refl (stays c.attempt e) old)

@@ -11,6 +11,7 @@ use Rattle.rm_types.specs.declared.settings.Settings.{Settings}
 use Rattle.rm_types.specs.Ids.{is_app, is_attempt, is_container}
 use Rattle.rm_types.specs.Records.{record_of}
 use Rattle.rm_types.specs.declared.operations.Op.TheVariants as ops
+use Rattle.rm_types.proofs.IdLemmas.{same_app, app_itself, container_itself}
 use Rattle.rm_model.specs.Facts.{attempts_in}
 use Rattle.rm_attempt.specs.declared.states.AttemptState.TheVariants as attempts
 use Rattle.rm_tables.specs.declared.tables.Tables.{Tables}
@@ -26,7 +27,7 @@ use Rattle.rm_refinement.specs.History.{History}
 use Rattle.rm_invariant.specs.Step.{AppsInvariant}
 use Rattle.rm_invariant.specs.apps.View.{View, changed_if, counts, is_launch, main_view, one_if, op_view, view}
 use Rattle.rm_invariant.proofs.apps.Counts.{at_end}
-use Rattle.rm_invariant.proofs.apps.Found.{is_app-refl, is_app_same, row_changed}
+use Rattle.rm_invariant.proofs.apps.Found.{row_changed}
 use Rattle.rm_invariant.proofs.apps.Effects.{main_end}
 use Rattle.rm_invariant.proofs.apps.Saving.{recorded_more}
 use Rattle.rm_invariant.proofs.apps.Effects as views
@@ -43,7 +44,6 @@ use Rattle.rm_invariant.proofs.masters.Effects.{op_taken}
 use Rattle.rm_invariant.proofs.masters.Marking.{saved_marks}
 use Rattle.rm_invariant.proofs.masters.Tests.{or_false}
 use Rattle.rm_invariant.proofs.masters.Over.{over_with_new}
-use Rattle.rm_invariant.proofs.nodes.Lists.{container-refl}
 
 -- the new record names the container that the operation does
 new_master : (id : AppId) (one : AppRecord) (n : ℕ) (c : ContainerId) (node : List ℕ) → IsSoundRecord id (with_new (record { app = id; number = n }) c node one) → n ≡ length (one.attempts ++ new_attempt (record { app = id; number = n }) c node ∷ [])
@@ -70,7 +70,7 @@ module _ (settings : Settings) (h : History) (t : Tables) (k : AppsInvariant set
   same_number n = grind (arith, nat_tests)
 
   with_self : op_view id issued (view h left id) ≡ with_attempt_op id (view h left id)
-  with_self = rw (is_app-refl id.app, same_number id.number) refl
+  with_self = rw (app_itself id.app, same_number id.number) refl
 
   awaits : AttemptAwaits settings id (row_of t.rows id.app) (view h left id)
   awaits =
@@ -85,7 +85,7 @@ module _ (settings : Settings) (h : History) (t : Tables) (k : AppsInvariant set
   mine_by true o z = refl
   mine_by false o z =
       let none = z.1 in
-      let self = container-refl c in
+      let self = container_itself c in
       let w : suc (container_view h left c).savings ≡ 0 = rw self at none in
       absurd (omega (arith, w))
 
@@ -121,7 +121,7 @@ module _ (settings : Settings) (h : History) (t : Tables) (k : AppsInvariant set
   own_new d same n =
       let num = awaits.number in
       let e : d.attempt ≡ id = grind (arith, nat_tests) in
-      let a : id.app ≡ d.attempt.app = is_app_same id.app d.attempt.app same in
+      let a : id.app ≡ d.attempt.app = same_app id.app d.attempt.app same in
       subst (λ (x : AppId). own_of d (option_map (with_new id c node) (record_of t.tree.apps x)) ≡ is_master_of d awaits.current.master) a
       (new_found (record_of t.tree.apps id.app) refl d e ∙ sym (mine_is c d awaits.current.master its_mine))
 
@@ -142,7 +142,7 @@ module _ (settings : Settings) (h : History) (t : Tables) (k : AppsInvariant set
       (λ q. let found = record_changed (with_new id c node) (λ one. refl) id.app q.app t.tree.apps in rw (main_end h left q (mains.AttemptSaved id), found) refl)
       (λ q v other. rw other refl) (λ q v other. rw other refl)
       (λ q same says.
-      let here : id.app ≡ q.app = is_app_same id.app q.app same in
+      let here : id.app ≡ q.app = same_app id.app q.app same in
       let goes : LastIsOpen (option_map (with_new id c node) (record_of t.tree.apps q.app)) (record { app = q.app; number = awaits.current.number }) = rw (number, ← here) saved.goes in
       let longer : length (attempts_in (option_map (with_new id c node) (record_of t.tree.apps q.app))) ≡ length (attempts_in (record_of t.tree.apps q.app)) + 1 = rw (← here) saved.longer in
       let before : RowInvariant settings q (Some awaits.one) (record (view h left q) { count = record (counts h left q) { attempts = suc (counts h left q).attempts; own_ops = one_if ((id.number == q.number) || false) (counts h left q).own_ops } }) = rw same at says in
@@ -153,7 +153,7 @@ module _ (settings : Settings) (h : History) (t : Tables) (k : AppsInvariant set
       rw (at_end (is_granting d) t.main (mains.AttemptSaved id), at_end (is_losing d) t.main (mains.AttemptSaved id), at_end (is_launch d.attempt) t.main (mains.AttemptSaved id), at_end (is_expiry d) t.main (mains.AttemptSaved id), at_end (is_finish d) t.main (mains.AttemptSaved id), found) refl)
       (λ d v other. rw other refl) (λ d v other. rw other refl)
       (λ d same says.
-      let here : id.app ≡ d.attempt.app = is_app_same id.app d.attempt.app same in
+      let here : id.app ≡ d.attempt.app = same_app id.app d.attempt.app same in
       let longer : length (attempts_in (option_map (with_new id c node) (record_of t.tree.apps d.attempt.app))) ≡ length (attempts_in (record_of t.tree.apps d.attempt.app)) + 1 = rw (← here) saved.longer in
       rw same (subst (λ (b : Bool). ContainerInvariant d (Some (changed (of_app.OfAttempt of_attempt.Keep) awaits.one)) (record (container_view h left d) { found = option_map (with_new id c node) (record_of t.tree.apps d.attempt.app); launches = one_if b (container_view h left d).launches })) (ap (λ n. n == d.attempt.number) number)
       (saved_marks d awaits.one awaits.current (container_view h left d) awaits.current_is (option_map (with_new id c node) (record_of t.tree.apps d.attempt.app)) awaits.state (is_container c d) (awaits.current.number == d.attempt.number) refl (is_master_of d awaits.current.master) refl (own_new d same) longer says)))

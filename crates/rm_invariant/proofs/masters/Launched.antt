@@ -16,6 +16,8 @@ use Rattle.rm_types.specs.Records.{record_of, is_some_and}
 use Rattle.rm_types.specs.declared.entries.Entry.{Entry}
 use Rattle.rm_types.specs.declared.operations.How.TheVariants as ways
 use Rattle.rm_types.specs.declared.operations.Op.TheVariants as ops
+use Rattle.rm_types.proofs.IdLemmas.{app_itself, same_container}
+use Rattle.rm_types.proofs.TestLemmas.{and_first}
 use Rattle.rm_model.specs.Attempts.{attempt_was_first, has_lost_master, kept_attempt}
 use Rattle.rm_model.specs.Containers.{is_living}
 use Rattle.rm_model.specs.Facts.{is_attempt_end_op}
@@ -39,7 +41,6 @@ use Rattle.rm_invariant.specs.apps.Invariant.{LastIsOpen, RowInvariant}
 use Rattle.rm_refinement.specs.History.{History, abstract_scene}
 use Rattle.rm_invariant.specs.Step.{AppsInvariant}
 use Rattle.rm_invariant.specs.apps.View.{counts, is_attempt_end_op_of, main_view, one_if, set_if, view}
-use Rattle.rm_invariant.proofs.apps.Found.{is_app-refl}
 use Rattle.rm_invariant.proofs.apps.Counts.{none_under}
 use Rattle.rm_invariant.proofs.apps.Keeping.{unchanged}
 use Rattle.rm_invariant.proofs.apps.Deciding.{Living}
@@ -53,8 +54,7 @@ use Rattle.rm_invariant.proofs.masters.Held.{absent, has_end, mine_is, mine_of, 
 use Rattle.rm_invariant.proofs.masters.Saying.{alive_stays}
 use Rattle.rm_invariant.proofs.masters.Quieting.{joins_quiet, launch_goes}
 use Rattle.rm_invariant.proofs.masters.Effects.{main_taken}
-use Rattle.rm_invariant.proofs.masters.Tests.{and_left, and_right, not_both}
-use Rattle.rm_invariant.proofs.nodes.Lists.{same_container}
+use Rattle.rm_invariant.proofs.masters.Tests.{and_right, not_both}
 
 pub under_end : (id : AttemptId) (op : Op) → is_attempt_end_op id op ≡ true → is_attempt_end_op_of id.app op ≡ true
 under_end id (ops.Epoch next stamp) e = cc
@@ -173,7 +173,7 @@ module _ (settings : Settings) (h : History) (t : Tables) (k : AppsInvariant set
           apart d other = by (is_container c d) refl
             where
               by : (b : Bool) → is_container c d ≡ b → b ≡ false
-              by true e = absurd (let same = same_container c d e in let a = of_it in let x : is_app id.app d.attempt.app ≡ true = rw (← same, a) (is_app-refl id.app) in cc)
+              by true e = absurd (let same = same_container c d e in let a = of_it in let x : is_app id.app d.attempt.app ≡ true = rw (← same, a) (app_itself id.app) in cc)
               by false e = refl
 
           not_here : (d : ContainerId) → (current.number == d.attempt.number) ≡ false → is_master_of d current.master ≡ false
@@ -261,7 +261,7 @@ module _ (settings : Settings) (h : History) (t : Tables) (k : AppsInvariant set
     where
       at_state : (current : Current) → row.current ≡ Some current → (b : Bool) → ((current.number == id.number) && is_alive current.state) ≡ b → LaunchedSteps (launch_of_living b row.wish current id t)
       at_state current is true e =
-          alive_step row found current is (alive_by current.state (and_right (current.number == id.number) (is_alive current.state) e)) (and_left (current.number == id.number) (is_alive current.state) e) row.wish current.lost refl refl
+          alive_step row found current is (alive_by current.state (and_right (current.number == id.number) (is_alive current.state) e)) (and_first (current.number == id.number) (is_alive current.state) e) row.wish current.lost refl refl
       at_state current is false e = quiet_step (Some row) found (λ one other x y. let u : one ≡ row = cc in let w : Some other ≡ Some current = sym y ∙ ap (λ (r : AppRow). r.current) u ∙ is in let a : other ≡ current = cc in rw a e)
 
       with_current : (o : Option Current) → row.current ≡ o → LaunchedSteps (launch_of_current o row.wish id t)

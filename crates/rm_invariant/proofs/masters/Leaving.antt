@@ -3,6 +3,8 @@ use Rattle.std.proofs.Common.{◌≡◌, ◌≤◌, ◌&&◌, ◌||◌, not, suc
 use Rattle.std.specs.List.{list_any}
 use Rattle.rm_types.specs.declared.ids.ContainerId.{ContainerId}
 use Rattle.rm_types.specs.Ids.{is_container}
+use Rattle.rm_types.proofs.TestLemmas.{and_false}
+use Rattle.rm_types.proofs.IdLemmas.{same_container}
 use Rattle.rm_model.specs.Containers.{is_living}
 use Rattle.rm_model.specs.Facts.{has_container}
 use Rattle.rm_model.specs.State.{Row}
@@ -10,8 +12,6 @@ use Rattle.rm_tables.specs.declared.events.MainEvent.{MainEvent}
 use Rattle.rm_tables.specs.declared.events.MainEvent.TheVariants as mains
 use Rattle.rm_invariant.proofs.apps.Counts.{at_front, count_append}
 use Rattle.rm_invariant.specs.masters.View.{is_losing}
-use Rattle.rm_invariant.proofs.masters.Tests.{and_false}
-use Rattle.rm_invariant.proofs.nodes.Lists.{same_container}
 
 -- a container lives once some left where it did and isn't one of them
 living_more : (list : List ContainerId) (row : Row) (rows : List Row) (c : ContainerId) (a b : Bool) → has_container list row.id ≡ a → is_container row.id c ≡ b

@@ -10,6 +10,8 @@ use Rattle.rm_types.specs.declared.settings.Settings.{Settings}
 use Rattle.rm_types.specs.Ids.{is_attempt, is_container}
 use Rattle.rm_types.specs.Order.{Ascend}
 use Rattle.rm_types.specs.declared.containers.Cause.TheVariants as causes
+use Rattle.rm_types.proofs.TestLemmas.{and_first}
+use Rattle.rm_types.proofs.IdLemmas.{same_container}
 use Rattle.rm_model.specs.Containers.{ids_on, is_living, lives_on, once}
 use Rattle.rm_model.specs.Facts.{has_container}
 use Rattle.rm_model.specs.Rules.{Allowed}
@@ -27,10 +29,9 @@ use Rattle.rm_invariant.specs.Step.{AppsInvariant}
 use Rattle.rm_invariant.specs.masters.Invariant.{ContainersInvariant}
 use Rattle.rm_invariant.specs.masters.Sound.{RecordsAreSound}
 use Rattle.rm_invariant.specs.masters.Preserves.{PreservesContainersTo}
-use Rattle.rm_invariant.proofs.masters.Tests.{and_left}
 use Rattle.rm_invariant.proofs.masters.Removed.{leaving_joins}
 use Rattle.rm_invariant.proofs.nodes.Ascending.{permuted_has}
-use Rattle.rm_invariant.proofs.nodes.Lists.{lives_is, same_container}
+use Rattle.rm_invariant.proofs.nodes.Lists.{lives_is}
 
 -- of some ids that pass a test each is one of the ids, and passes
 pub of_passing : (p : ContainerId → Bool) (ids : List ContainerId) (c : ContainerId) → has_container (filter p ids) c ≡ true → (has_container ids c ≡ true) × (p c ≡ true)
@@ -116,7 +117,7 @@ module _ (settings : Settings) (h : History) (t : Tables) (k : AppsInvariant set
       leaving_joins settings h t k all each (scheds.Release attempt released) rest front (λ q v. refl) causes.Released (once (filter (is_released attempt t) released))
       (λ c e.
       let passes = (of_passing (is_released attempt t) released c (of_once (filter (is_released attempt t) released) c e)).1 in
-      sym (same_living c t.book.rows h.book agree) ∙ and_left (has_row t.book c) (is_attempt c.attempt attempt && not (is_masters_in t.tree.apps c)) passes)
+      sym (same_living c t.book.rows h.book agree) ∙ and_first (has_row t.book c) (is_attempt c.attempt attempt && not (is_masters_in t.tree.apps c)) passes)
       (λ c x l. cc) lawful
 
   -- NodeDone

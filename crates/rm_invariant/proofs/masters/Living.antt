@@ -11,6 +11,7 @@ use Rattle.rm_types.specs.declared.settings.Settings.{Settings}
 use Rattle.rm_types.specs.Ids.{is_attempt}
 use Rattle.rm_types.specs.Records.{all_ended, record_of}
 use Rattle.rm_types.specs.declared.operations.How.TheVariants as ways
+use Rattle.rm_types.proofs.TestLemmas.{and_false, and_first}
 use Rattle.rm_model.specs.Attempts.{is_live, kept_attempt}
 use Rattle.rm_model.specs.Facts.{attempts_in, end_in, is_attempt_end_op, is_attempt_op}
 use Rattle.rm_app.specs.declared.states.AppState.{AppState}
@@ -29,7 +30,7 @@ use Rattle.rm_invariant.specs.Step.{AppsInvariant}
 use Rattle.rm_invariant.specs.apps.View.{View, is_attempt_end_op_of, is_attempt_op_of, is_own_op, view}
 use Rattle.rm_invariant.proofs.apps.Counts.{none_under, some_passes}
 use Rattle.rm_invariant.specs.masters.Sound.{RecordsAreSound}
-use Rattle.rm_invariant.proofs.masters.Tests.{and_false, and_right, and_left}
+use Rattle.rm_invariant.proofs.masters.Tests.{and_right}
 use Rattle.rm_invariant.proofs.masters.Ends.{last_in, Alive, alive_by}
 use Rattle.rm_invariant.proofs.masters.Granted.{under_app}
 use Rattle.rm_invariant.proofs.masters.Launched.{under_end}
@@ -230,7 +231,7 @@ lives_found t q (Some row) f e = by row.current refl e
     by : (c : Option Current) → row.current ≡ c → lives_with q c ≡ true → LivesHere t q
     by None is e = cc
     by (Some current) is e =
-        record { row = row; found = f; current = current; is = is; number = and_left (current.number == q.number) (is_alive current.state) e; alive = alive_by current.state (and_right (current.number == q.number) (is_alive current.state) e) }
+        record { row = row; found = f; current = current; is = is; number = and_first (current.number == q.number) (is_alive current.state) e; alive = alive_by current.state (and_right (current.number == q.number) (is_alive current.state) e) }
 
 -- where an attempt is live, its application has a row, and it is the current one there
 pub live_here : (settings : Settings) (h : History) (t : Tables) (k : AppsInvariant settings h t) (each : RecordsAreSound t.tree.apps) (q : AttemptId) → is_live (abstract_scene h t) q ≡ true → LivesHere t q

@@ -10,6 +10,8 @@ use Rattle.rm_types.specs.Ids.{is_container}
 use Rattle.rm_types.specs.Records.{is_some_and}
 use Rattle.rm_types.specs.declared.operations.How.TheVariants as ways
 use Rattle.rm_types.specs.declared.operations.Op.TheVariants as ops
+use Rattle.rm_types.proofs.TestLemmas.{and_first}
+use Rattle.rm_types.proofs.IdLemmas.{container_itself, same_container}
 use Rattle.rm_model.specs.Attempts.{has_lost_master, kept_attempt}
 use Rattle.rm_model.specs.Facts.{has_container}
 use Rattle.rm_model.specs.Issuing.{EndsFor, lost_text}
@@ -41,8 +43,7 @@ use Rattle.rm_invariant.proofs.masters.Saying.{active_of, saving_loses}
 use Rattle.rm_invariant.proofs.masters.Held.{mine_same}
 use Rattle.rm_invariant.proofs.masters.Quieting.{joins_quiet}
 use Rattle.rm_invariant.proofs.masters.Effects.{main_taken}
-use Rattle.rm_invariant.proofs.masters.Tests.{and_left, and_right, not_both}
-use Rattle.rm_invariant.proofs.nodes.Lists.{container-refl, same_container}
+use Rattle.rm_invariant.proofs.masters.Tests.{and_right, not_both}
 
 module _ (settings : Settings) (h : History) (t : Tables) (k : AppsInvariant settings h t) (all : ContainersInvariant h t) (c : ContainerId) (rest : List MainEvent) (front : t.main ≡ mains.MasterLost c ∷ rest) where
   abbrev event : MainEvent
@@ -62,7 +63,7 @@ module _ (settings : Settings) (h : History) (t : Tables) (k : AppsInvariant set
   it_left : has_container h.endings.left c ≡ true
   it_left =
       let e = ap (λ (v : ContainerView). v.losses) (main_taken h t c event rest front) in
-      let self = container-refl c in
+      let self = container_itself c in
       let f : (container_view h t c).losses ≡ suc (container_view h (main_popped t) c).losses = e ∙ rw self refl in
       (all c).0.0 (omega (arith, f))
 
@@ -76,7 +77,7 @@ module _ (settings : Settings) (h : History) (t : Tables) (k : AppsInvariant set
         (λ q v. v) (λ q. refl) event_of (λ q v other. refl) (λ q same says. saving_loses settings q row current (view h (main_popped t) q) is goes st says)
         (λ d v. v) (λ d. refl) event_mark (λ d v other. refl)
         (λ d same says. losing_marks d row current (container_view h (main_popped t) d) is st (is_container c d) (current.number == d.attempt.number) refl (is_master_of d current.master) refl
-        (λ b o. rw (← mine_same c d current.master m o) (container-refl c)) says) (λ d v says. says)
+        (λ b o. rw (← mine_same c d current.master m o) (container_itself c)) says) (λ d v says. says)
 
     lost_by_own : (o : Option AttemptRecord) → kept_attempt (abstract_scene h t) c.attempt ≡ o → is_some_and (λ one. is_container one.master c) o ≡ true → has_lost_master (abstract_scene h t) c.attempt ≡ true
     lost_by_own None e own = cc
@@ -138,10 +139,10 @@ module _ (settings : Settings) (h : History) (t : Tables) (k : AppsInvariant set
       other current s st a b c d (inr (inr (inr x))) = d (sym st ∙ x)
 
       at_state : (current : Current) → row.current ≡ Some current → (s : AttemptState) → current.state ≡ s → (b : Bool) → ((current.number == c.attempt.number) && is_master_of c current.master) ≡ b → LostSteps (loss_of_state s b c t)
-      at_state current is attempts.Saving st true e = record { next = h; joins = saving_step row found current is (and_left (current.number == c.attempt.number) (is_master_of c current.master) e) (and_right (current.number == c.attempt.number) (is_master_of c current.master) e) st }
-      at_state current is attempts.Live st true e = record { next = h; joins = alive_step row found current is (and_left (current.number == c.attempt.number) (is_master_of c current.master) e) (and_right (current.number == c.attempt.number) (is_master_of c current.master) e) (inl st) }
-      at_state current is attempts.Registered st true e = record { next = h; joins = alive_step row found current is (and_left (current.number == c.attempt.number) (is_master_of c current.master) e) (and_right (current.number == c.attempt.number) (is_master_of c current.master) e) (inr (inl st)) }
-      at_state current is attempts.Finishing st true e = record { next = h; joins = alive_step row found current is (and_left (current.number == c.attempt.number) (is_master_of c current.master) e) (and_right (current.number == c.attempt.number) (is_master_of c current.master) e) (inr (inr st)) }
+      at_state current is attempts.Saving st true e = record { next = h; joins = saving_step row found current is (and_first (current.number == c.attempt.number) (is_master_of c current.master) e) (and_right (current.number == c.attempt.number) (is_master_of c current.master) e) st }
+      at_state current is attempts.Live st true e = record { next = h; joins = alive_step row found current is (and_first (current.number == c.attempt.number) (is_master_of c current.master) e) (and_right (current.number == c.attempt.number) (is_master_of c current.master) e) (inl st) }
+      at_state current is attempts.Registered st true e = record { next = h; joins = alive_step row found current is (and_first (current.number == c.attempt.number) (is_master_of c current.master) e) (and_right (current.number == c.attempt.number) (is_master_of c current.master) e) (inr (inl st)) }
+      at_state current is attempts.Finishing st true e = record { next = h; joins = alive_step row found current is (and_first (current.number == c.attempt.number) (is_master_of c current.master) e) (and_right (current.number == c.attempt.number) (is_master_of c current.master) e) (inr (inr st)) }
       at_state current is attempts.Saving st false e = not_it current is false e (inl refl)
       at_state current is attempts.Live st false e = not_it current is false e (inl refl)
       at_state current is attempts.Registered st false e = not_it current is false e (inl refl)

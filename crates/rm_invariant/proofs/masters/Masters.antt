@@ -2,6 +2,7 @@
 -- as the judge does.
 use Rattle.std.proofs.Common.{◌≡◌, ◌⊎◌, inl, inr, ◌+◌, ◌==◌, ◌||◌, not, true, Option, None, Some, is_some, find, length, refl, ◌∙◌, arith}
 use Rattle.std.proofs.lemmas.Bool.Decides.{nat_tests}
+use Rattle.std.proofs.lemmas.Bool.{or_right}
 use Rattle.rm_types.specs.declared.ids.ContainerId.{ContainerId}
 use Rattle.rm_types.specs.declared.records.AppRecord.{AppRecord}
 use Rattle.rm_types.specs.declared.settings.Settings.{Settings}
@@ -32,7 +33,6 @@ use Rattle.rm_invariant.proofs.masters.Crossing.{IsTold}
 use Rattle.rm_invariant.proofs.masters.Sounding.{above}
 use Rattle.rm_invariant.proofs.masters.Saying.{active_of, goes_on}
 use Rattle.rm_invariant.proofs.resting.Masters.{alive_at}
-use Rattle.rm_invariant.proofs.masters.Tests.{or_right}
 
 -- the tables and the judge have the same containers for masters'
 own_same : (id : ContainerId) (found : Option AttemptRecord) → is_own_or_unkept id found ≡ (not (is_some found) || is_some_and (λ one. is_container one.master id) found)

@@ -1,6 +1,7 @@
 -- An attempt that is over stays so, whatever is kept.
 use Rattle.std.proofs.Common.{◌≡◌, ℕ, ◌||◌, List, [], ◌∷◌, ◌++◌, Bool, true, false, Option, None, Some, find, is_some, map, option_map, refl, ◌∙◌, ap, arith}
 use Rattle.std.specs.Prelude.{option_and_then}
+use Rattle.std.proofs.lemmas.Bool.{or_right}
 use Rattle.rm_types.specs.declared.ids.AttemptId.{AttemptId}
 use Rattle.rm_types.specs.declared.ids.ContainerId.{ContainerId}
 use Rattle.rm_types.specs.declared.operations.How.{How}
@@ -8,13 +9,12 @@ use Rattle.rm_types.specs.declared.records.AppRecord.{AppRecord}
 use Rattle.rm_types.specs.declared.records.AttemptRecord.{AttemptRecord}
 use Rattle.rm_types.specs.Ids.{is_attempt}
 use Rattle.rm_types.specs.Records.{with_end}
+use Rattle.rm_types.proofs.EndLemmas.{end_stays, id_ended}
 use Rattle.rm_model.specs.Facts.{attempts_in}
 use Rattle.rm_invariant.specs.apps.View.{one_if}
 use Rattle.rm_invariant.specs.masters.Invariant.{RemovalInvariant, has_end_in}
 use Rattle.rm_invariant.specs.masters.View.{ContainerView}
-use Rattle.rm_invariant.proofs.masters.Sounding.{end_id, end_stays}
 use Rattle.rm_invariant.proofs.masters.AwaitingAttempts.{new_attempt, with_new}
-use Rattle.rm_invariant.proofs.masters.Tests.{or_right}
 
 -- one of these attempts is found with an end
 abbrev ended_in : AttemptId → List AttemptRecord → Bool
@@ -43,7 +43,7 @@ ended_end q id how text [] e = cc
 ended_end q id how text (one ∷ more) e = by (is_attempt one.id q) refl (ended_end q id how text more)
   where
     keeps : (with_end id how text one).id ≡ one.id
-    keeps = end_id id how text one
+    keeps = id_ended id how text one
 
     by : (b : Bool) → is_attempt one.id q ≡ b → (ended_in q more ≡ true → ended_in q (map (with_end id how text) more) ≡ true) → ended_in q (map (with_end id how text) (one ∷ more)) ≡ true
     by true f h =

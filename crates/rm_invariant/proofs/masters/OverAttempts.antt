@@ -11,6 +11,7 @@ use Rattle.rm_types.specs.Ids.{is_attempt, is_container}
 use Rattle.rm_types.specs.Order.{Ascend}
 use Rattle.rm_types.specs.Records.{record_of}
 use Rattle.rm_types.specs.declared.containers.Cause.TheVariants as causes
+use Rattle.rm_types.proofs.IdLemmas.{same_container}
 use Rattle.rm_model.specs.Attempts.{is_over}
 use Rattle.rm_model.specs.Containers.{ids_of, is_living}
 use Rattle.rm_model.specs.Facts.{has_app, has_container}
@@ -37,7 +38,6 @@ use Rattle.rm_invariant.specs.masters.View.{ContainerView, container_view}
 use Rattle.rm_invariant.proofs.masters.Removed.{leaving_joins}
 use Rattle.rm_invariant.proofs.masters.Effects.{sched_taken}
 use Rattle.rm_invariant.proofs.nodes.Ascending.{permuted_has}
-use Rattle.rm_invariant.proofs.nodes.Lists.{same_container}
 
 -- the tables and the judge have the same containers of an attempt, in the same order
 abbrev ids_in : List BookRow → AttemptId → List ContainerId

@@ -13,10 +13,12 @@ use Rattle.rm_types.specs.declared.records.AttemptRecord.{AttemptRecord}
 use Rattle.rm_types.specs.Ids.{is_app, is_attempt}
 use Rattle.rm_types.specs.Records.{Records, record_of, recorded, fits_records, with_record, with_end, new_record, all_ended, last_attempt, is_some_and}
 use Rattle.rm_types.specs.declared.operations.Op.TheVariants as ops
+use Rattle.rm_types.proofs.IdLemmas.{same_app}
+use Rattle.rm_types.proofs.EndLemmas.{all_ended-map, end_stays, id_ended}
 use Rattle.rm_invariant.specs.apps.Invariant.{LastIsOpen, has_ended_or_is, is_open_one}
 use Rattle.rm_invariant.specs.apps.Recovered.{Recoverable}
 use Rattle.rm_invariant.specs.apps.View.{changed_if, gone_if, put_if}
-use Rattle.rm_invariant.proofs.apps.Found.{found_gone, is_app_same, record_put}
+use Rattle.rm_invariant.proofs.apps.Found.{found_gone, record_put}
 use Rattle.rm_invariant.proofs.apps.Recorded.{record_changed}
 use Rattle.rm_invariant.specs.masters.Sound.{RecordsAreSound, FrontEnded, IsSoundRecord, Numbered}
 
@@ -132,7 +134,7 @@ changed_sound change keeps id apps each own = λ q one e. by q one (is_app id q)
     by q one true i None f e = absurd (let x = rw (i, f) at e in cc)
     by q one true i (Some old) f e =
         let same : change old ≡ one = let x = rw (i, f) at e in cc in
-        let here : id ≡ q = is_app_same id q i in
+        let here : id ≡ q = same_app id q i in
         let sound : IsSoundRecord q (change old) = subst (λ (x : AppId). IsSoundRecord x (change old)) here (own old (rw here f) (subst (λ (x : AppId). IsSoundRecord x old) (sym here) (each q old f))) in
         subst (λ (x : AppRecord). IsSoundRecord q x) same sound
     by q one false i found f e = each q one (let x = rw i at e in x)
@@ -154,36 +156,14 @@ front_more (one ∷ two ∷ more) next a = by (is_some one.ending) refl a (λ r.
     by true i h rest = (i, rest h)
     by false i h rest = cc
 
-pub end_id : (id : AttemptId) (how : How) (text : List ℕ) (one : AttemptRecord) → (with_end id how text one).id ≡ one.id
-end_id id how text one = by (is_attempt one.id id) refl
-  where
-    by : (b : Bool) → is_attempt one.id id ≡ b → (with_end id how text one).id ≡ one.id
-    by true e = rw e refl
-    by false e = rw e refl
-
-pub end_stays : (id : AttemptId) (how : How) (text : List ℕ) (one : AttemptRecord) → is_some one.ending ≡ true → is_some (with_end id how text one).ending ≡ true
-end_stays id how text one s = by (is_attempt one.id id) refl
-  where
-    by : (b : Bool) → is_attempt one.id id ≡ b → is_some (with_end id how text one).ending ≡ true
-    by true e = rw e refl
-    by false e = rw e s
-
 numbered_end : (id : AttemptId) (how : How) (text : List ℕ) (app : AppId) (n : ℕ) (attempts : List AttemptRecord) → Numbered app n attempts → Numbered app n (map (with_end id how text) attempts)
 numbered_end id how text app n [] k = tt
-numbered_end id how text app n (one ∷ more) k = (end_id id how text one ∙ k.0, numbered_end id how text app (n + 1) more k.1)
+numbered_end id how text app n (one ∷ more) k = (id_ended id how text one ∙ k.0, numbered_end id how text app (n + 1) more k.1)
 
 front_end : (id : AttemptId) (how : How) (text : List ℕ) (attempts : List AttemptRecord) → FrontEnded attempts → FrontEnded (map (with_end id how text) attempts)
 front_end id how text [] f = tt
 front_end id how text (one ∷ []) f = tt
 front_end id how text (one ∷ next ∷ more) f = (end_stays id how text one f.0, front_end id how text (next ∷ more) f.1)
-
-all_stays : (id : AttemptId) (how : How) (text : List ℕ) (attempts : List AttemptRecord) → all_ended attempts ≡ true → all_ended (map (with_end id how text) attempts) ≡ true
-all_stays id how text [] a = refl
-all_stays id how text (one ∷ more) a = by (is_some one.ending) refl a (all_stays id how text more)
-  where
-    by : (b : Bool) → is_some one.ending ≡ b → (b && all_ended more) ≡ true → (all_ended more ≡ true → all_ended (map (with_end id how text) more) ≡ true) → all_ended (map (with_end id how text) (one ∷ more)) ≡ true
-    by true i h rest = let s = end_stays id how text one i in rw s (rest h)
-    by false i h rest = cc
 
 -- what a fitting operation says of the record that it changes
 record NextFits (one : AppRecord) (number : ℕ) : Type 0 where
@@ -235,7 +215,7 @@ sound_step r (ops.Attempt id master node) each fits =
     record { numbered = numbered_more id.app 0 id.number one.attempts _ s.numbered refl (n.number_is ∙ omega arith); front = front_more one.attempts _ n.stopped; over = λ h. absurd (let x = rw open_ at h in cc) })
 sound_step r (ops.AttemptEnd id how text) each fits =
     changed_sound _ (λ app. refl) id.app r.apps each
-    (λ one f s. record { numbered = numbered_end id how text id.app 0 one.attempts s.numbered; front = front_end id how text one.attempts s.front; over = λ h. all_stays id how text one.attempts (s.over h) })
+    (λ one f s. record { numbered = numbered_end id how text id.app 0 one.attempts s.numbered; front = front_end id how text one.attempts s.front; over = λ h. all_ended-map id how text one.attempts (s.over h) })
 sound_step r (ops.AppEnd id how text) each fits =
     changed_sound _ (λ app. refl) id r.apps each (λ one f s. record { numbered = s.numbered; front = s.front; over = λ h. ends_fit one (rw f at fits) })
 sound_step r (ops.Remove id) each fits = λ q one e. by q one (is_app id q) (sym (found_gone (λ (app : AppRecord). app.id) id q r.apps) ∙ e)

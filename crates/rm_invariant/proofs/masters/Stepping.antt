@@ -8,6 +8,7 @@ use Rattle.rm_types.specs.declared.ids.ContainerId.{ContainerId}
 use Rattle.rm_types.specs.declared.settings.Settings.{Settings}
 use Rattle.rm_types.specs.Ids.{is_app}
 use Rattle.rm_types.specs.Records.{record_of, records}
+use Rattle.rm_types.proofs.IdLemmas.{same_app}
 use Rattle.rm_model.specs.Changes.{after}
 use Rattle.rm_model.specs.Rules.{AllowedIn}
 use Rattle.rm_model.specs.State.{LifeState, Manager}
@@ -23,7 +24,6 @@ use Rattle.rm_refinement.specs.History.{History, abstract_scene, live_state, abs
 use Rattle.rm_invariant.specs.Step.{AppsInvariant, Step}
 use Rattle.rm_invariant.specs.apps.Invariant.{RowInvariant}
 use Rattle.rm_invariant.specs.apps.View.{View, changed_if, main_view, view, is_launch}
-use Rattle.rm_invariant.proofs.apps.Found.{is_app_same}
 use Rattle.rm_invariant.proofs.apps.Keeping.{step_own}
 use Rattle.rm_invariant.proofs.apps.Effects as views
 use Rattle.rm_invariant.specs.masters.Invariant.{ContainersInvariant, ContainerInvariant, RemovalInvariant}
@@ -52,7 +52,7 @@ marks_changed h g t next id change row rows found stay own over all = λ c. (rw 
 
     by : (c : ContainerId) (b : Bool) → is_app id c.attempt.app ≡ b → ContainerInvariant c (changed_if b change (row_of t.rows c.attempt.app)) (container_view g next c)
     by c true e =
-        let here : row_of t.rows c.attempt.app ≡ row = rw (← is_app_same id c.attempt.app e) found in
+        let here : row_of t.rows c.attempt.app ≡ row = rw (← same_app id c.attempt.app e) found in
         let says : ContainerInvariant c row (container_view h t c) = rw here at (all c).0 in
         rw here (own c e says)
     by c false e = subst (λ (v : ContainerView). ContainerInvariant c (row_of t.rows c.attempt.app) v) (sym (stay c e)) (all c).0

@@ -3,10 +3,6 @@ use Rattle.std.proofs.Common.{◌≡◌, ◌&&◌, ◌||◌, List, [], ◌∷◌
 use Rattle.std.specs.List.{list_any}
 use Rattle.rm_invariant.specs.apps.View.{set_if}
 
-pub and_left : (a b : Bool) → (a && b) ≡ true → a ≡ true
-and_left true b e = refl
-and_left false b e = e
-
 pub and_right : (a b : Bool) → (a && b) ≡ true → b ≡ true
 and_right true b e = e
 and_right false b e = cc
@@ -15,14 +11,6 @@ and_right false b e = cc
 pub not_both : (a b : Bool) → (a && b) ≡ false → a ≡ true → b ≡ false
 not_both true b e n = e
 not_both false b e n = cc
-
-pub and_false : (b : Bool) → (b && false) ≡ false
-and_false true = refl
-and_false false = refl
-
-pub or_right : (a b : Bool) → b ≡ true → (a || b) ≡ true
-or_right true b e = refl
-or_right false b e = e
 
 pub or_false : (b : Bool) → (b || false) ≡ b
 or_false true = refl

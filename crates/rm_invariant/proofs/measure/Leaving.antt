@@ -12,11 +12,11 @@ use Rattle.rm_types.specs.declared.ids.AppId.{AppId}
 use Rattle.rm_types.specs.declared.ids.ContainerId.{ContainerId}
 use Rattle.rm_types.specs.declared.records.AppRecord.{AppRecord}
 use Rattle.rm_types.specs.Ids.{is_container}
+use Rattle.rm_types.proofs.IdLemmas.{container_itself, same_container}
 use Rattle.rm_book.specs.Books.{is_of}
 use Rattle.rm_model.specs.Containers.{once}
 use Rattle.rm_model.specs.Facts.{has_container}
 use Rattle.rm_invariant.proofs.nodes.Ascending.{permuted_has}
-use Rattle.rm_invariant.proofs.nodes.Lists.{container-refl, same_container}
 use Rattle.rm_tables.specs.declared.events.MainEvent.TheVariants as mains
 use Rattle.rm_tables.specs.declared.rows.AppRow.{AppRow}
 use Rattle.rm_tables.specs.Leaving.{closed, closed_in, closed_one, is_masters_in, losts_of}
@@ -62,7 +62,7 @@ kind_leaves p list (row ∷ rows) each = by (p row) refl (kind_leaves p list row
         → (((id : ContainerId) → has_container (map (λ row. row.id) (filter p rows)) id ≡ true → has_container list id ≡ true) → length (left_of list rows) + length (filter p rows) ≤ length rows)
         → length (left_of list (row ∷ rows)) + length (filter p (row ∷ rows)) ≤ length (row ∷ rows)
     by true e rest =
-        let own : has_container list row.id ≡ true = each row.id (rw e (let x = container-refl row.id in rw x refl)) in
+        let own : has_container list row.id ≡ true = each row.id (rw e (let x = container_itself row.id in rw x refl)) in
         let more = rest (λ id h. each id (rw e (or_true (is_container row.id id) h))) in
         rw (own, e) (omega (arith, more))
     by false e rest =
@@ -106,7 +106,7 @@ one_less id ids (row ∷ rows) apart there = by (is_container row.id id) refl (o
     by : (b : Bool) → is_container row.id id ≡ b → (list_any (is_of id) rows ≡ true → length (left_of (id ∷ ids) rows) + 1 ≤ length (left_of ids rows)) → length (left_of (id ∷ ids) (row ∷ rows)) + 1 ≤ length (left_of ids (row ∷ rows))
     by true e rest =
         let same : row.id ≡ id = same_container row.id id e in
-        let here : is_container id row.id ≡ true = rw same (container-refl id) in
+        let here : is_container id row.id ≡ true = rw same (container_itself id) in
         let not_more : has_container ids row.id ≡ false = rw same apart in
         rw (here, not_more) (omega (arith, fewer_left id ids rows))
     by false e rest = another (is_container id row.id) (has_container ids row.id) refl refl (rest (rw e at there))
@@ -114,7 +114,7 @@ one_less id ids (row ∷ rows) apart there = by (is_container row.id id) refl (o
         another : (a b : Bool) → is_container id row.id ≡ a → has_container ids row.id ≡ b → length (left_of (id ∷ ids) rows) + 1 ≤ length (left_of ids rows) → length (left_of (id ∷ ids) (row ∷ rows)) + 1 ≤ length (left_of ids (row ∷ rows))
         another true b f g less =
             let same : id ≡ row.id = same_container id row.id f in
-            let x : is_container row.id id ≡ true = rw same (container-refl row.id) in absurd (false≢true (sym e ∙ x))
+            let x : is_container row.id id ≡ true = rw same (container_itself row.id) in absurd (false≢true (sym e ∙ x))
         another false true f g less = rw (f, g) less
         another false false f g less = rw (f, g) (omega (arith, less))
 

@@ -22,6 +22,7 @@ use Rattle.rm_types.specs.declared.operations.Op.TheVariants as ops
 use Rattle.rm_types.specs.declared.replies.Reply.{Reply}
 use Rattle.rm_types.specs.declared.replies.Reply.TheVariants as replies
 use Rattle.rm_types.specs.declared.resources.Resource.{Resource}
+use Rattle.rm_types.proofs.TestLemmas.{same_text}
 use Rattle.rm_attempt.specs.declared.states.AttemptState.{AttemptState}
 use Rattle.rm_attempt.specs.declared.states.AttemptState.TheVariants as attempts
 use Rattle.rm_book.specs.Books.{BookOf, row_of as book_row_of}
@@ -45,7 +46,7 @@ use Rattle.rm_tables.specs.Nodes.{beaten_row, changed_row, is_waiting, new_row, 
 use Rattle.rm_tables.specs.Passing.{updated_by}
 use Rattle.rm_tables.specs.Rows.{row_of}
 use Rattle.rm_tables.specs.SchedEvents.{is_on, is_released, queued_at, queued_by, queued_with, sched_step}
-use Rattle.rm_refinement.proofs.Found.{other_added, other_row, own_added, own_row, same_name}
+use Rattle.rm_refinement.proofs.Found.{other_added, other_row, own_added, own_row}
 use Rattle.rm_client.specs.Answers.{after_client, taken_by, wished_by}
 use Rattle.rm_master.specs.Answers.{after_master, is_new_to}
 use Rattle.rm_master.specs.Told.{goes_on, spoken_by}
@@ -70,7 +71,7 @@ few_with f name nodes keeps before q row found = by (bytes_eq name q) refl
 
     by : (b : Bool) → bytes_eq name q ≡ b → length row.running ≤ most_reported
     by true e =
-        let here : node_of (with_node f name nodes) name ≡ Some row = subst (λ (n : List ℕ). node_of (with_node f name nodes) n ≡ Some row) (sym (same_name name q e)) found in
+        let here : node_of (with_node f name nodes) name ≡ Some row = subst (λ (n : List ℕ). node_of (with_node f name nodes) n ≡ Some row) (sym (same_text name q e)) found in
         changed (node_of nodes name) refl (sym (own_row f name nodes) ∙ here)
     by false e = before q row (sym (other_row f name q nodes e) ∙ found)
 
@@ -80,7 +81,7 @@ few_more name row nodes none some before q one found = by (bytes_eq name q) refl
   where
     by : (b : Bool) → bytes_eq name q ≡ b → length one.running ≤ most_reported
     by true e =
-        let here : node_of (nodes ++ (name, row) ∷ []) name ≡ Some one = subst (λ (n : List ℕ). node_of (nodes ++ (name, row) ∷ []) n ≡ Some one) (sym (same_name name q e)) found in
+        let here : node_of (nodes ++ (name, row) ∷ []) name ≡ Some one = subst (λ (n : List ℕ). node_of (nodes ++ (name, row) ∷ []) n ≡ Some one) (sym (same_text name q e)) found in
         let own : Some row ≡ Some one = sym (own_added name row nodes none) ∙ here in
         let same : row ≡ one = cc in subst (λ (x : NodeRow). length x.running ≤ most_reported) same some
     by false e = before q one (sym (other_added name q row nodes e) ∙ found)

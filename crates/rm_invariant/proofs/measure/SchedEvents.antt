@@ -17,6 +17,7 @@ use Rattle.rm_types.specs.declared.ids.AttemptId.{AttemptId}
 use Rattle.rm_types.specs.declared.ids.ContainerId.{ContainerId}
 use Rattle.rm_types.specs.declared.resources.Resource.{Resource}
 use Rattle.rm_types.specs.Ids.{is_attempt}
+use Rattle.rm_types.proofs.TestLemmas.{and_first}
 use Rattle.rm_attempt.specs.declared.states.AttemptState.{AttemptState}
 use Rattle.rm_attempt.specs.declared.states.AttemptState.TheVariants as attempts
 use Rattle.rm_book.specs.AskTables.{AsksOf}
@@ -116,10 +117,6 @@ on_has name id (row ∷ rows) h = by (is_of id row) refl (on_has name id rows)
     by true e rest = rw e refl
     by false e rest = rw e (rest (rw e at h))
 
-by_first : (a b : Bool) → (a && b) ≡ true → a ≡ true
-by_first true b e = refl
-by_first false b e = e
-
 module _ (t : Tables) (e : SchedEvent) (rest : List SchedEvent) (front : t.sched ≡ e ∷ rest) where
   abbrev Decreases : Entry × Tables → Type 0
   Decreases done = measure (sched_worked done).1 < measure t
@@ -217,7 +214,7 @@ sched_lighter t reported granted (scheds.AttemptRemoved id) rest front list ends
     ended t (scheds.AttemptRemoved id) rest front causes.Attempt list (omega arith) (all_leave (λ row. is_attempt row.id.attempt id) t.book.rows list ends.same)
 sched_lighter t reported granted (scheds.Release attempt released) rest front list ends =
     ended_once t (scheds.Release attempt released) rest front causes.Released (is_released attempt t) released (omega arith)
-    (λ id h. by_first (has_row t.book id) (is_attempt id.attempt attempt && not (is_masters_in t.tree.apps id)) h)
+    (λ id h. and_first (has_row t.book id) (is_attempt id.attempt attempt && not (is_masters_in t.tree.apps id)) h)
 sched_lighter t reported granted (scheds.NodeAdded node turn) rest front list ends =
     absorbs_by t (scheds.NodeAdded node turn) rest front node turn list refl reported (node_of t.nodes node) refl ends
 sched_lighter t reported granted (scheds.NodeDone node done) rest front list ends =

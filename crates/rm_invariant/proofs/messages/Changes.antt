@@ -17,11 +17,7 @@ use Rattle.rm_invariant.specs.nodes.Book.{All, AreApart, AreLaunches, BookInvari
 use Rattle.rm_invariant.proofs.nodes.Holds.{all_append, all_filter, all_map}
 use Rattle.rm_invariant.proofs.nodes.Moved.{node_of-map}
 use Rattle.rm_invariant.proofs.messages.Answered.{SameHeld}
-
--- what holds of each item holds of it in another way
-pub all_weaker : {X : Type 0} (P Q : X → Type 0) → ((x : X) → P x → Q x) → (xs : List X) → All P xs → All Q xs
-all_weaker P Q more [] h = tt
-all_weaker P Q more (x ∷ xs) h = (more x h.0, all_weaker P Q more xs h.1)
+use Rattle.rm_invariant.proofs.events.Entering.{all_weaker}
 
 -- the book stands as it does
 pub same_held : (rows : List Row) → SameHeld rows rows

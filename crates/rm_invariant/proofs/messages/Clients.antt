@@ -13,6 +13,7 @@ use Rattle.rm_types.specs.declared.replies.Reply.{Reply}
 use Rattle.rm_types.specs.declared.replies.Reply.TheVariants as replies
 use Rattle.rm_types.specs.declared.settings.Settings.{Settings}
 use Rattle.rm_types.specs.Ids.{is_app}
+use Rattle.rm_types.proofs.IdLemmas.{same_app}
 use Rattle.rm_model.specs.ClientReplies.{client_reply, is_given, kill_reply, next_app}
 use Rattle.rm_model.specs.Facts.{has_app, submission_of}
 use Rattle.rm_model.specs.Replies.{life_after}
@@ -27,7 +28,7 @@ use Rattle.rm_refinement.specs.Agreement.{ClosingsAgree, RowAgrees}
 use Rattle.rm_invariant.specs.Step.{AppsInvariant}
 use Rattle.rm_refinement.specs.History.{History, abstract_life, abstract_scene}
 use Rattle.rm_invariant.specs.apps.View.{put_if, view}
-use Rattle.rm_invariant.proofs.apps.Found.{is_app_same, row_changed, row_put}
+use Rattle.rm_invariant.proofs.apps.Found.{row_changed, row_put}
 use Rattle.rm_invariant.proofs.apps.Saving.{joined_says, row_new, submitting}
 use Rattle.rm_invariant.proofs.apps.Wishing.{again_says, wished_says, wishing}
 use Rattle.rm_invariant.proofs.masters.KeptApps.{joined_marks, wished_marks}
@@ -64,10 +65,10 @@ module _ (settings : Settings) (h : History) (t : Tables) (w : CoreInvariant set
     joined_now = joined id s t
 
     fresh : (q : AttemptId) → is_app id q.app ≡ true → (view h t q).retired ≡ false
-    fresh q same = let here : id ≡ q.app = is_app_same id q.app same in rw (← here) unretired
+    fresh q same = let here : id ≡ q.app = same_app id q.app same in rw (← here) unretired
 
     not_here : (q : AppId) → is_app id q ≡ true → (row_of t.rows q ≡ None) × (has_app h.apps.retired q ≡ false)
-    not_here q same = let here : id ≡ q = is_app_same id q same in (rw (← here) found, rw (← here) unretired)
+    not_here q same = let here : id ≡ q = same_app id q same in (rw (← here) found, rw (← here) unretired)
 
     rows_now : (q : AppId) → row_of joined_now.rows q ≡ put_if (is_app id q) (row_new s) (row_of t.rows q)
     rows_now q = row_put id q (row_new s) t.rows (retired id ∙ unretired)

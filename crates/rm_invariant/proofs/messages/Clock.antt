@@ -14,17 +14,15 @@ use Rattle.rm_model.specs.Attempts.{is_live}
 use Rattle.rm_model.specs.NodeReplies.{clock_reply, expired, may_expire}
 use Rattle.rm_model.specs.Nodes.{is_ready, is_waiting, node_of, tidied, with_node as with_told}
 use Rattle.rm_model.specs.State.{LifeState, Lost, NodeState}
-use Rattle.rm_node.specs.declared.states.NodeState.{NodeState as NodePhase}
 use Rattle.rm_node.specs.declared.states.NodeState.TheVariants as states
 use Rattle.rm_node.specs.declared.states.NodeEvent.TheVariants as node_events
-use Rattle.rm_node.specs.Table.{next_state as next_node_state}
-use Rattle.rm_refinement.specs.Agreement.{phase_of}
 use Rattle.rm_tables.specs.declared.events.MainEvent.TheVariants as mains
 use Rattle.rm_tables.specs.declared.events.SchedEvent.TheVariants as scheds
 use Rattle.rm_tables.specs.declared.nodes.NodeChange.TheVariants as of_node
 use Rattle.rm_tables.specs.declared.tables.Tables.{Tables}
 use Rattle.rm_tables.specs.Nodes.{changed_row, with_node}
 use Rattle.rm_tracker.specs.Answers.{after_clock}
+use Rattle.rm_tracker.proofs.Same.{expires}
 use Rattle.rm_refinement.specs.Agreement.{PlainNode}
 use Rattle.rm_refinement.proofs.Nodes.{tidied_same, with_same}
 use Rattle.rm_refinement.specs.History.{History, abstract_life, abstract_scene}
@@ -39,13 +37,6 @@ use Rattle.rm_invariant.proofs.messages.Changes.{changed_holds, same_held}
 found_node : (p : NodeState → Bool) (o : Option NodeState) → is_some_and p o ≡ true → (node : NodeState) × (o ≡ Some node)
 found_node p None some = absurd (let x : false ≡ true = some in cc)
 found_node p (Some node) some = (node, refl)
-
--- a node's silence leaves it lost, however it stood
-expires : (s : NodePhase) → phase_of (next_node_state s node_events.Expire) ≡ Lost
-expires states.Absent = refl
-expires states.Waiting = refl
-expires states.Ready = refl
-expires states.Lost = refl
 
 module _ (settings : Settings) (h : History) (t : Tables) (w : CoreInvariant settings h t) where
   -- the time goes on

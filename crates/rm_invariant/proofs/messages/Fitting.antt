@@ -1,7 +1,7 @@
 -- The current attempt of an application is the last recorded one, or the next one, with whose master nobody spoke: each event of both queues
 -- keeps it.
 use Rattle.std.proofs.Common.{◌≡◌, ℕ, ◌≤◌, ◌⊎◌, inl, inr, List, [], ◌∷◌, Bool, true, false, ◌||◌, Option, None, Some, option_map, length, fold, refl, sym, ◌∙◌, ap, subst, arith}
-use Rattle.std.proofs.lemmas.Bool.{false≢true}
+use Rattle.std.proofs.lemmas.Bool.{false≢true, or_right}
 use Rattle.rm_types.specs.declared.containers.Closing.{Closing}
 use Rattle.rm_types.specs.declared.containers.Grant.{Grant}
 use Rattle.rm_types.specs.declared.ids.AppId.{AppId}
@@ -13,6 +13,7 @@ use Rattle.rm_types.specs.declared.settings.Settings.{Settings}
 use Rattle.rm_types.specs.Ids.{is_app}
 use Rattle.rm_types.specs.Lists.{is_nil}
 use Rattle.rm_types.specs.Records.{is_some_and, last_attempt, record_of}
+use Rattle.rm_types.proofs.IdLemmas.{same_app}
 use Rattle.rm_model.specs.Attempts.{has_failed}
 use Rattle.rm_model.specs.Facts.{attempts_in}
 use Rattle.rm_attempt.specs.declared.states.AttemptState.{AttemptState}
@@ -39,7 +40,7 @@ use Rattle.rm_invariant.specs.Step.{AppsInvariant}
 use Rattle.rm_refinement.specs.History.{History}
 use Rattle.rm_invariant.specs.apps.View.{View, changed_if, view}
 use Rattle.rm_invariant.proofs.apps.Events.{at}
-use Rattle.rm_invariant.proofs.apps.Found.{is_app_same, row_changed}
+use Rattle.rm_invariant.proofs.apps.Found.{row_changed}
 use Rattle.rm_invariant.proofs.apps.Own.{active_row}
 use Rattle.rm_invariant.proofs.masters.Saying.{active_of, goes_on as attempt_goes_on}
 use Rattle.rm_invariant.specs.Core.{PreservesCore}
@@ -97,14 +98,10 @@ some_last : (p : AttemptRecord → Bool) (xs : List AttemptRecord) → is_some_a
 some_last p [] e = cc
 some_last p (x ∷ xs) e = omega arith
 
-or_last : (a b : Bool) → b ≡ true → (a || b) ≡ true
-or_last true b e = refl
-or_last false b e = e
-
 module _ (settings : Settings) (q : AttemptId) (row : AppRow) (v : View) where
   follows_fit : (current : Current) (number : ℕ) → current.number ≡ number → MayFollow settings number v → row.dialogue ≡ None → FitsCurrent v.found row.dialogue (Some current)
   follows_fit current number is (next, inl first) silent = inr (is ∙ next, (let none = empty (attempts_in v.found) (let n = first.0 in omega (arith, next, n)) in rw none refl), silent)
-  follows_fit current number is (next, inr failed) silent = inr (is ∙ next, or_last (is_nil (attempts_in v.found)) (is_some_and has_failed (last_attempt (attempts_in v.found))) failed.0, silent)
+  follows_fit current number is (next, inr failed) silent = inr (is ∙ next, or_right (is_nil (attempts_in v.found)) (is_some_and has_failed (last_attempt (attempts_in v.found))) failed.0, silent)
 
   goes_fit : (current : Current) → LastIsOpen v.found (record { app = q.app; number = current.number }) → FitsCurrent v.found row.dialogue (Some current)
   goes_fit current goes =
@@ -242,7 +239,7 @@ goes_with t next id f is others own q now found = by (is_app id q) refl (row_of 
     by : (b : Bool) → is_app id q ≡ b → (o : Option AppRow) → row_of t.rows q ≡ o → changed_if b f o ≡ Some now → RowGoes t next q now
     by true e None there same = cc
     by true e (Some was) there same =
-        let here : id ≡ q = is_app_same id q e in
+        let here : id ≡ q = same_app id q e in
         let after : f was ≡ now = cc in
         subst (λ (row : AppRow). RowGoes t next q row) after (subst (λ (one : AppId). RowGoes t next one (f was)) here (own was (ap (row_of t.rows) here ∙ there)))
     by false e o there same = inr (inr (now, there ∙ same, same_current now, others q e))

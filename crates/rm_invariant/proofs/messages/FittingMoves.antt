@@ -2,7 +2,6 @@
 -- operation keeps it, and a life opens so.
 use Rattle.std.proofs.Common.{◌&&◌, ◌≡◌, ℕ, ◌+◌, ◌≤◌, ◌⊎◌, drop, inl, inr, List, [], ◌∷◌, ◌++◌, Bool, true, false, ◌==◌, Option, None, Some, map, option_map, length, refl, sym, ◌∙◌, ap, subst, arith}
 use Rattle.std.proofs.lemmas.Bool.{false≢true}
-use Rattle.std.proofs.lemmas.Bool.Decides.{nat_tests}
 use Rattle.rm_types.specs.declared.entries.Entry.TheVariants.{Kept, Served}
 use Rattle.rm_types.specs.declared.ids.AppId.{AppId}
 use Rattle.rm_types.specs.declared.ids.AttemptId.{AttemptId}
@@ -27,6 +26,8 @@ use Rattle.rm_types.specs.declared.replies.Reply.TheVariants as replies
 use Rattle.rm_types.specs.declared.settings.Settings.{Settings}
 use Rattle.rm_types.specs.Ids.{is_app}
 use Rattle.rm_types.specs.Records.{last_attempt, new_record, record_of, with_end}
+use Rattle.rm_types.proofs.IdLemmas.{app_itself}
+use Rattle.rm_types.proofs.TestLemmas.{number_itself}
 use Rattle.rm_model.specs.Facts.{attempts_in, is_epoch_op}
 use Rattle.rm_app.specs.declared.states.AppState.{AppState}
 use Rattle.rm_app.specs.declared.states.AppState.TheVariants as apps
@@ -59,7 +60,7 @@ use Rattle.rm_invariant.specs.Step.{AppsInvariant}
 use Rattle.rm_refinement.specs.History.{History, abstract_scene}
 use Rattle.rm_invariant.specs.apps.View.{View, changed_if, gone_if, op_view, put_if, view}
 use Rattle.rm_invariant.proofs.apps.Effects.{op_taken}
-use Rattle.rm_invariant.proofs.apps.Found.{found_gone, is_app-refl, record_put}
+use Rattle.rm_invariant.proofs.apps.Found.{found_gone, record_put}
 use Rattle.rm_invariant.proofs.opening.Apps.{recovered_found}
 use Rattle.rm_invariant.proofs.apps.KeptEnds.{end_awaits, with_end_op}
 use Rattle.rm_invariant.proofs.apps.Recorded.{record_changed}
@@ -201,9 +202,6 @@ module _ (settings : Settings) (h : History) (t : Tables) (fit : RowsFit t) wher
 -- KEPT OPERATIONS
 
 -- what awaits is of the operation alone
-same_number : (n : ℕ) → (n == n) ≡ true
-same_number n = grind (arith, nat_tests)
-
 active_still : (how : How) (s : AppState) → is_active s ≡ true → is_active (after_failure how s) ≡ true
 active_still how apps.New e = cc
 active_still how apps.NewSaving e = cc
@@ -267,7 +265,7 @@ module _ (settings : Settings) (h : History) (t : Tables) (k : AppsInvariant set
 
       own : (row : AppRow) → row_of t.rows id.app ≡ Some row → RowGoes t next id.app (changed (of_app.OfAttempt of_attempt.Keep) row)
       own row there =
-          let with_self : op_view id op (view h left id) ≡ with_attempt_op id (view h left id) = rw (is_app-refl id.app, same_number id.number) refl in
+          let with_self : op_view id op (view h left id) ≡ with_attempt_op id (view h left id) = rw (app_itself id.app, number_itself id.number) refl in
           let awaits =
           attempt_awaits settings id (view h left id) (row_of t.rows id.app) (subst (λ (v : View). RowInvariant settings id (row_of t.rows id.app) v) (op_taken h t id op rest front ∙ with_self) (k.all id)) in
           let same : awaits.one ≡ row = let x : Some awaits.one ≡ Some row = sym awaits.is ∙ there in cc in
@@ -296,7 +294,7 @@ module _ (settings : Settings) (h : History) (t : Tables) (k : AppsInvariant set
 
       own : (row : AppRow) → row_of t.rows id.app ≡ Some row → RowGoes t next id.app (changed (of_app.OfAttempt (of_attempt.KeepEnd how)) row)
       own row there =
-          let with_self : op_view id op (view h left id) ≡ with_end_op id (view h left id) = rw (is_app-refl id.app, same_number id.number) refl in
+          let with_self : op_view id op (view h left id) ≡ with_end_op id (view h left id) = rw (app_itself id.app, number_itself id.number) refl in
           let awaits = end_awaits settings id (view h left id) (row_of t.rows id.app) (subst (λ (v : View). RowInvariant settings id (row_of t.rows id.app) v) (op_taken h t id op rest front ∙ with_self) (k.all id)) in
           let same : awaits.one ≡ row = let x : Some awaits.one ≡ Some row = sym awaits.is ∙ there in cc in
           let active : is_active row.state ≡ true = ap (λ (one : AppRow). is_active one.state) (sym same) ∙ awaits.active in

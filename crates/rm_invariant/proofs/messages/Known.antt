@@ -1,5 +1,6 @@
 -- What a client may be told of an application follows from what holds of its row: whether it is known, has tried, is being saved.
 use Rattle.std.proofs.Common.{◌≡◌, ℕ, ◌≤◌, ◌⊎◌, inl, inr, List, [], ◌∷◌, Bool, true, false, ◌||◌, not, Option, None, Some, is_some, option_map, length, refl, ◌∙◌, ap, arith}
+use Rattle.std.proofs.lemmas.Bool.{or_right}
 use Rattle.rm_types.specs.declared.ids.AppId.{AppId}
 use Rattle.rm_types.specs.declared.ids.AttemptId.{AttemptId}
 use Rattle.rm_types.specs.declared.operations.How.{How}
@@ -32,13 +33,9 @@ some_attempt : (p : AttemptRecord → Bool) (all : List AttemptRecord) → is_so
 some_attempt p [] e = cc
 some_attempt p (one ∷ more) e = refl
 
-pub or_true : (a b : Bool) → b ≡ true → (a || b) ≡ true
-or_true true b e = refl
-or_true false b e = e
-
 module _ (settings : Settings) (q : AttemptId) (v : View) where
   by_last : (p : AttemptRecord → Bool) → is_some_and p (last_attempt (attempts_in v.found)) ≡ true → has_tried v ≡ true
-  by_last p e = or_true v.accepted (not (is_nil (attempts_in v.found))) (some_attempt p (attempts_in v.found) e)
+  by_last p e = or_right v.accepted (not (is_nil (attempts_in v.found))) (some_attempt p (attempts_in v.found) e)
 
   by_follows : (number : ℕ) → MayFollow settings number v → has_tried v ≡ true
   by_follows number (n, inl first) = let e = first.1 in rw e refl
@@ -57,7 +54,7 @@ module _ (settings : Settings) (q : AttemptId) (v : View) where
   current_tried attempts.Registered id wish says = by_last _ says.0.2
   current_tried attempts.Finishing id wish says = by_last _ says.0.2
   current_tried attempts.Ending id wish says = by_last _ says.0.2
-  current_tried attempts.Ended id wish says = or_true v.accepted (not (is_nil (attempts_in v.found))) (by_length (attempts_in v.found) (let a = says.1 in let b = says.2 in omega (arith, a, b)))
+  current_tried attempts.Ended id wish says = or_right v.accepted (not (is_nil (attempts_in v.found))) (by_length (attempts_in v.found) (let a = says.1 in let b = says.2 in omega (arith, a, b)))
   current_tried attempts.Dropped id wish says = absurd says
 
   active_tried : (c : Option Current) (wish : Bool) → ActiveInvariant settings q c wish v → has_tried v ≡ is_some c
@@ -166,4 +163,4 @@ module _ (settings : Settings) (h : History) (t : Tables) (k : AppsInvariant set
     where
       known : (is_some row.pending ≡ true) ⊎ (is_some (record_of t.tree.apps id) ≡ true) → waiting_submission h.apps.submitted id ≡ row.pending → is_known (abstract_scene h t) id ≡ true
       known (inl waits) e = let s : is_submitted h.apps.submitted id ≡ true = submitted_is h.apps.submitted id ∙ ap is_some e ∙ waits in rw s refl
-      known (inr kept) e = or_true (is_submitted h.apps.submitted id) (is_some (record_of t.tree.apps id)) kept
+      known (inr kept) e = or_right (is_submitted h.apps.submitted id) (is_some (record_of t.tree.apps id)) kept

@@ -14,8 +14,8 @@ use Rattle.rm_refinement.specs.History.{History, live_state}
 use Rattle.rm_invariant.specs.nodes.Book.{All}
 use Rattle.rm_invariant.specs.Core.{PreservesCore}
 use Rattle.rm_invariant.specs.messages.Released.{IsOnWay, ReleasesOnWay, is_release_of}
-use Rattle.rm_invariant.proofs.messages.Changes.{all_weaker}
 use Rattle.rm_invariant.proofs.messages.Shapes.{book_of}
+use Rattle.rm_invariant.proofs.events.Entering.{all_weaker}
 
 -- a release is on its way still where more is behind it
 pub later_on_way : (apps : List AppRecord) (sched more : List SchedEvent) (row : Row) → IsOnWay apps sched row → IsOnWay apps (sched ++ more) row

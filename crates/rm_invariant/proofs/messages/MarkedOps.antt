@@ -18,6 +18,7 @@ use Rattle.rm_types.specs.declared.records.AttemptRecord.{AttemptRecord}
 use Rattle.rm_types.specs.declared.settings.Settings.{Settings}
 use Rattle.rm_types.specs.Ids.{is_app, is_attempt, is_container}
 use Rattle.rm_types.specs.Records.{apps_recorded, new_record, record_of, with_end}
+use Rattle.rm_types.proofs.IdLemmas.{attempt_itself, same_app}
 use Rattle.rm_model.specs.Facts.{is_epoch_op}
 use Rattle.rm_model.specs.State.{Row}
 use Rattle.rm_tables.specs.declared.events.SchedEvent.{SchedEvent}
@@ -31,18 +32,17 @@ use Rattle.rm_invariant.specs.apps.Invariant.{RowInvariant, StateInvariant}
 use Rattle.rm_invariant.specs.Step.{AppsInvariant}
 use Rattle.rm_refinement.specs.History.{History}
 use Rattle.rm_invariant.specs.apps.View.{changed_if, gone_if, put_if, view}
-use Rattle.rm_invariant.proofs.apps.Found.{found_gone, is_app_same, record_put}
+use Rattle.rm_invariant.proofs.apps.Found.{found_gone, record_put}
 use Rattle.rm_invariant.proofs.apps.Saving.{app_waits}
 use Rattle.rm_invariant.proofs.apps.Recorded.{record_changed}
-use Rattle.rm_book.proofs.Ids.{attempt_itself}
 use Rattle.rm_invariant.specs.nodes.Book.{All}
 use Rattle.rm_invariant.specs.Core.{PreservesCore}
 use Rattle.rm_invariant.specs.messages.Released.{IsOnWay, ReleasesOnWay}
-use Rattle.rm_invariant.proofs.messages.Changes.{all_weaker}
 use Rattle.rm_model.specs.Changes.{after}
 use Rattle.rm_refinement.specs.History.{live_state}
 use Rattle.rm_invariant.proofs.messages.Shapes.{book_of}
 use Rattle.rm_invariant.proofs.messages.Marked.{all_both, all_found, all_later, step_on_way}
+use Rattle.rm_invariant.proofs.events.Entering.{all_weaker}
 
 -- a recorded attempt is found where more follow, and where one ends
 found_before : (p : AttemptRecord → Bool) (attempts more : List AttemptRecord) (one : AttemptRecord) → find p attempts ≡ Some one → find p (attempts ++ more) ≡ Some one
@@ -139,7 +139,7 @@ module _ (settings : Settings) (h : History) (t : Tables) (k : AppsInvariant set
       by true e =
           let q : AttemptId = row.id.attempt in
           let waits = app_waits settings h t k id s rest (subst (λ (one : Op). t.awaiting ≡ one ∷ rest) is front) in
-          let found : row_of t.rows q.app ≡ Some waits.one = ap (row_of t.rows) (sym (is_app_same id q.app e)) ∙ waits.is in
+          let found : row_of t.rows q.app ≡ Some waits.one = ap (row_of t.rows) (sym (same_app id q.app e)) ∙ waits.is in
           let says : RowInvariant settings q (Some waits.one) (view h t q) = rw found at (k.all q) in
           let saving = subst (λ (s : AppState). StateInvariant settings q s waits.one (view h t q)) waits.state says.1 in
           absurd (let x : false ≡ true = sym saving.0.not_held ∙ held in false≢true x)

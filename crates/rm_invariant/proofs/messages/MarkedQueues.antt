@@ -15,6 +15,7 @@ use Rattle.rm_types.specs.declared.records.AppRecord.{AppRecord}
 use Rattle.rm_types.specs.declared.settings.Settings.{Settings}
 use Rattle.rm_types.specs.Ids.{is_attempt, is_container}
 use Rattle.rm_types.specs.Records.{Records}
+use Rattle.rm_types.proofs.IdLemmas.{container_itself, same_container}
 use Rattle.rm_attempt.specs.declared.states.AttemptState.{AttemptState}
 use Rattle.rm_attempt.specs.declared.states.AttemptState.TheVariants as attempts
 use Rattle.rm_book.specs.Books.{has_row, row_of as book_row_of}
@@ -42,14 +43,14 @@ use Rattle.rm_tables.specs.SchedEvents.{is_on, is_released, queued_at, queued_by
 use Rattle.rm_refinement.specs.History.{History, live_state}
 use Rattle.rm_invariant.specs.nodes.Book.{All}
 use Rattle.rm_invariant.proofs.nodes.Holds.{all_append, all_filter, all_map, all_passing}
-use Rattle.rm_invariant.proofs.nodes.Lists.{container-refl, same_container}
+use Rattle.rm_invariant.proofs.nodes.Lists.{once_has}
 use Rattle.rm_invariant.proofs.masters.LeavingEvents.{same_living}
 use Rattle.rm_invariant.specs.events.Outcomes.{Outcome}
 use Rattle.rm_invariant.specs.Core.{CoreInvariant, PreservesCore}
 use Rattle.rm_invariant.specs.messages.Released.{IsOnWay, ReleasesOnWay, is_release_of}
-use Rattle.rm_invariant.proofs.messages.Changes.{all_weaker}
 use Rattle.rm_invariant.proofs.messages.Marked.{all_both, all_found, all_later, step_on_way}
 use Rattle.rm_invariant.proofs.messages.Shapes.{QueueBy, book_of, main_shape}
+use Rattle.rm_invariant.proofs.events.Entering.{all_weaker}
 
 -- THE MAIN QUEUE
 
@@ -75,22 +76,6 @@ passes_among p (id ∷ ids) c among passes = by (p id) (is_container id c) refl 
     by true false f g rest = rw (f, g) (rest (rw g at among) passes)
     by false true f g rest = absurd (let x : false ≡ true = sym f ∙ ap p (same_container id c g) ∙ passes in false≢true x)
     by false false f g rest = rw f (rest (rw g at among) passes)
-
--- and one of those with each once
-once_among : (ids : List ContainerId) (c : ContainerId) → has_container ids c ≡ true → has_container (once ids) c ≡ true
-once_among [] c among = among
-once_among (id ∷ ids) c among = by (is_container id c) refl (once_among ids c)
-  where
-    by : (b : Bool) → is_container id c ≡ b → (has_container ids c ≡ true → has_container (once ids) c ≡ true) → has_container (once (id ∷ ids)) c ≡ true
-    by true f rest = rw f refl
-    by false f rest = rw f (passes_among (λ other. not (is_container other id)) (once ids) c (rest (rw f at among)) (apart f))
-      where
-        apart : is_container id c ≡ false → not (is_container c id) ≡ true
-        apart f = by_other (is_container c id) refl
-          where
-            by_other : (b : Bool) → is_container c id ≡ b → not (is_container c id) ≡ true
-            by_other false e = rw e refl
-            by_other true e = absurd (let x : false ≡ true = sym f ∙ ap (λ (one : ContainerId). is_container one c) (sym (same_container c id e)) ∙ container-refl c in false≢true x)
 
 -- what an event that is worked off leaves: the judge's book, each marked row of which has its release behind that event
 record LeavesOnWay (h : History) (t : Tables) (rest : List SchedEvent) (done : Entry × Tables) : Type 0 where
@@ -184,7 +169,7 @@ module _ (settings : Settings) (h : History) (t : Tables) (w : CoreInvariant set
         by : (a : Bool) → is_attempt row.id.attempt attempt ≡ a → (b : Bool) → has_container list row.id ≡ b → list_any (is_release_of row.id) (scheds.Release attempt list ∷ rest) ≡ true → list_any (is_release_of row.id) rest ≡ true
         by true e true f some =
             let released : is_released attempt t row.id ≡ true = rw (in_book, e, no_master) refl in
-            absurd (let x : false ≡ true = sym left ∙ once_among (filter (is_released attempt t) list) row.id (passes_among (is_released attempt t) list row.id f released) in false≢true x)
+            absurd (let x : false ≡ true = sym left ∙ once_has (filter (is_released attempt t) list) row.id (passes_among (is_released attempt t) list row.id f released) in false≢true x)
         by true e false f some = rw (e, f) at some
         by false e b f some = rw e at some
 
@@ -196,7 +181,7 @@ module _ (settings : Settings) (h : History) (t : Tables) (w : CoreInvariant set
           sched = refl;
           tree = refl;
           on = all_weaker (λ row. (is_living h.book row.id ≡ true) × IsOnWay t.tree.apps (scheds.Release attempt list ∷ rest) row) (IsOnWay t.tree.apps rest)
-              (λ row k. stays row k (ap (λ (ids : List ContainerId). has_container ids row.id) e)) h.book (all_both (λ row. is_living h.book row.id ≡ true) (IsOnWay t.tree.apps (scheds.Release attempt list ∷ rest)) h.book (all_found (λ one row. is_container one.id row.id) (λ row. container-refl row.id) h.book) on);
+              (λ row k. stays row k (ap (λ (ids : List ContainerId). has_container ids row.id) e)) h.book (all_both (λ row. is_living h.book row.id ≡ true) (IsOnWay t.tree.apps (scheds.Release attempt list ∷ rest)) h.book (all_found (λ one row. is_container one.id row.id) (λ row. container_itself row.id) h.book) on);
         }
     released_by_list (id ∷ ids) e =
         record {
@@ -207,7 +192,7 @@ module _ (settings : Settings) (h : History) (t : Tables) (w : CoreInvariant set
           on =
               all_passing (λ row. (is_living h.book row.id ≡ true) × IsOnWay t.tree.apps (scheds.Release attempt list ∷ rest) row) (IsOnWay t.tree.apps rest) (λ row. not (has_container (id ∷ ids) row.id))
               (λ row goes k. stays row k (ap (λ (some : List ContainerId). has_container some row.id) e ∙ not_true (has_container (id ∷ ids) row.id) goes)) h.book
-              (all_both (λ row. is_living h.book row.id ≡ true) (IsOnWay t.tree.apps (scheds.Release attempt list ∷ rest)) h.book (all_found (λ one row. is_container one.id row.id) (λ row. container-refl row.id) h.book) on);
+              (all_both (λ row. is_living h.book row.id ≡ true) (IsOnWay t.tree.apps (scheds.Release attempt list ∷ rest)) h.book (all_found (λ one row. is_container one.id row.id) (λ row. container_itself row.id) h.book) on);
         }
       where
         not_true : (b : Bool) → not b ≡ true → b ≡ false

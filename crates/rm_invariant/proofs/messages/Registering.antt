@@ -13,6 +13,7 @@ use Rattle.rm_types.specs.declared.replies.Reply.{Reply}
 use Rattle.rm_types.specs.declared.replies.Reply.TheVariants.{NodeRegistered}
 use Rattle.rm_types.specs.declared.resources.Resource.{Resource}
 use Rattle.rm_types.specs.declared.settings.Settings.{Settings}
+use Rattle.rm_types.proofs.TestLemmas.{text_itself}
 use Rattle.rm_model.specs.NodeReplies.{new_node, node_register_reply, node_reply, registered}
 use Rattle.rm_model.specs.Nodes.{node_of as node_told, tidied, with_node as with_told}
 use Rattle.rm_model.specs.State.{LifeState, NodeState, Registered, Registration, Scene, Waiting}
@@ -28,7 +29,6 @@ use Rattle.rm_refinement.proofs.Nodes.{added_same, tidied_same, with_same}
 use Rattle.rm_refinement.specs.History.{History, abstract_life, abstract_scene}
 use Rattle.rm_invariant.specs.nodes.Invariant.{NodesInvariant, RegisteredInvariant, is_idle_by, view_of}
 use Rattle.rm_invariant.proofs.nodes.Entries.{one_other, one_own, pushed, register_good, still_tidy}
-use Rattle.rm_invariant.proofs.nodes.Moved.{text-refl}
 use Rattle.rm_invariant.specs.Core.{Nothing, CoreInvariant, PreservesCore}
 use Rattle.rm_invariant.proofs.events.Leaving.{tidied_holds}
 use Rattle.rm_invariant.proofs.messages.Answered.{changed_whole, still_whole}
@@ -43,7 +43,7 @@ first_good m sched n last reply none good =
     record { half = []; paired = (refl, refl); gone = refl; turns = grind (arith, nat_tests); same = rw waits refl } in
     still_tidy (m.life.nodes ++ new_node n last reply ∷ []) m.life.book (sched ++ scheds.NodeAdded n last.turn ∷ [])
     (pushed m.life.nodes m.life.book sched (scheds.NodeAdded n last.turn ∷ []) n (new_node n last reply) refl none (λ q apart. one_other q (scheds.NodeAdded n last.turn) apart)
-    (one_own n (scheds.NodeAdded n last.turn) (text-refl n)) first good)
+    (one_own n (scheds.NodeAdded n last.turn) (text_itself n)) first good)
 
 module _ (settings : Settings) (h : History) (t : Tables) (w : CoreInvariant settings h t) (name : List ℕ) (turn : ℕ) (capability : Resource) (running : List Held) where
   abbrev registers : NodeAsk

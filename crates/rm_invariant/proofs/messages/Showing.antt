@@ -10,6 +10,7 @@ use Rattle.rm_types.specs.declared.settings.Settings.{Settings}
 use Rattle.rm_types.specs.Ids.{is_app}
 use Rattle.rm_types.specs.Lists.{is_nil}
 use Rattle.rm_types.specs.Records.{is_some_and, last_attempt, record_of}
+use Rattle.rm_types.proofs.TestLemmas.{and_false}
 use Rattle.rm_model.specs.Attempts.{has_failed, has_registered as has_spoken}
 use Rattle.rm_model.specs.ClientReplies.{is_running}
 use Rattle.rm_model.specs.Facts.{attempts_in, awaits, has_app, is_app_op}
@@ -20,7 +21,7 @@ use Rattle.rm_tables.specs.Rows.{row_of}
 use Rattle.rm_refinement.specs.Clients.{RowRefines, RefinesAt, is_saving, runs}
 use Rattle.rm_refinement.specs.Agreement.{AttemptAgrees, CurrentAgrees, PlainRow, bare_row, session_of, plain_row}
 use Rattle.rm_master.proofs.Replies.{same_some}
-use Rattle.rm_invariant.specs.apps.Invariant.{RowInvariant, has_tried}
+use Rattle.rm_invariant.specs.apps.Invariant.{NeverKnownInvariant, RowInvariant, has_tried}
 use Rattle.rm_invariant.specs.apps.Submissions.{Lists}
 use Rattle.rm_refinement.specs.History.{History, abstract_scene}
 use Rattle.rm_invariant.specs.apps.View.{one_if, view}
@@ -52,10 +53,6 @@ no_last (one ∷ next ∷ more) e = absurd (let x = no_last (next ∷ more) e in
 not_nil : (attempts : List AttemptRecord) (last : AttemptRecord) → last_attempt attempts ≡ Some last → is_nil attempts ≡ false
 not_nil [] last e = cc
 not_nil (one ∷ more) last e = refl
-
-none_goes : (b : Bool) → (b && false) ≡ false
-none_goes true = refl
-none_goes false = refl
 
 module _ (settings : Settings) (h : History) (t : Tables) (w : CoreInvariant settings h t) (fit : RowsFit t) (id : AppId) (row : AppRow) (found : row_of t.rows id ≡ Some row) where
   abbrev recorded : List AttemptRecord
@@ -93,7 +90,7 @@ module _ (settings : Settings) (h : History) (t : Tables) (w : CoreInvariant set
   waiting (Some last) next e =
       let some = not_nil recorded last e in
       let gone : has_failed last ≡ true = rw some at next in
-      rw gone (none_goes (has_spoken (abstract_scene h t) last.id))
+      rw gone (and_false (has_spoken (abstract_scene h t) last.id))
 
   running : (c : Option Current) → row.current ≡ c → is_running (abstract_scene h t) id ≡ runs row (record_of t.tree.apps id)
   running None is =
@@ -144,5 +141,15 @@ client_shows settings h t w retired lists fit =
     }
   where
     by : (id : AppId) (o : Option AppRow) → row_of t.rows id ≡ o → RefinesAt (abstract_scene h t) id o
-    by id None found = let new = is_new settings h t w.keeps id found in record { unknown = new.unknown; unkept = new.unkept; waits = new.waits }
+    by id None found =
+        let new = is_new settings h t w.keeps id found in
+        let says : RowInvariant settings (at id) None (view h t (at id)) = rw found at (w.keeps.all (at id)) in
+        let none : (view h t (at id)).count.apps ≡ 0 = (let ops = says.none_await in omega (arith, ops)) in
+        record {
+          unknown = new.unknown;
+          unkept = new.unkept;
+          waits = new.waits;
+          unissued = none_under (is_app_op id) (is_app_op id) (λ op e. e) t.awaiting none;
+          unaccepted = λ fresh. (let never = subst (λ (b : Bool). NeverKnownInvariant b (view h t (at id))) fresh says.never in never.4);
+        }
     by id (Some row) found = row_shows settings h t w fit id row found

@@ -2,14 +2,17 @@
 use Rattle.std.proofs.Common.{◌≡◌, ◌⊎◌, inl, inr, ℕ, ◌<◌, List, [], ◌∷◌, ◌++◌, Bool, true, false, not, ◌&&◌, ◌||◌, nat_lt, Option, None, Some, filter, fold, map, refl, sym, ◌∙◌, ap, subst, arith}
 use Rattle.std.specs.Prelude.{if◌then◌else◌, is_some, option_map, option_and_then}
 use Rattle.std.specs.Str.{bytes_eq}
-use Rattle.std.proofs.lemmas.Bool.{false≢true}
+use Rattle.std.proofs.lemmas.Bool.{false≢true, or_right, or_left, not-true}
 use Rattle.std.proofs.lemmas.Bool.Decides.{nat_tests}
 use Rattle.std.proofs.lemmas.List.Folds.{list_any-append}
 use Rattle.rm_types.specs.declared.containers.Cause.TheVariants.{Gone}
 use Rattle.rm_types.specs.declared.containers.Held.{Held}
 use Rattle.rm_types.specs.declared.ids.ContainerId.{ContainerId}
 use Rattle.rm_types.specs.Ids.{is_container}
+use Rattle.rm_types.proofs.TestLemmas.{and_first}
+use Rattle.rm_types.proofs.IdLemmas.{container_itself, same_container}
 use Rattle.rm_book.specs.Books.{AreOnce}
+use Rattle.rm_book.proofs.Taken.{held_filter}
 use Rattle.rm_model.specs.Absorbing.{absorbed, as_booked, as_counted, as_reported, is_held, may_take, row_absorbed, row_taken, taken_of, with_counted, with_taken}
 use Rattle.rm_model.specs.Attempts.{attempt_was_first}
 use Rattle.rm_model.specs.Containers.{is_living, leave, lives_on, row_of, without_launches}
@@ -18,43 +21,14 @@ use Rattle.rm_model.specs.Nodes.{node_of, with_node}
 use Rattle.rm_model.specs.State.{LifeState, NodeState, Row, Scene}
 use Rattle.rm_invariant.specs.nodes.Book.{All, AreApart, AreLaunches, BookInvariant, IsAbsorbed, BookRowInvariant}
 use Rattle.rm_invariant.proofs.nodes.Entries.{KeepsPlace, taken_place}
-use Rattle.rm_invariant.proofs.nodes.Holds.{all_append, all_map, leave_holds, lives_still, not_false}
-use Rattle.rm_invariant.proofs.nodes.Lists.{container-refl, same_container}
+use Rattle.rm_invariant.proofs.nodes.Holds.{all_append, all_map, leave_holds, lives_still}
 use Rattle.rm_invariant.proofs.nodes.Moved.{name_of, node_of-map}
+use Rattle.rm_invariant.proofs.masters.LeavingEvents.{lives_there}
+use Rattle.rm_invariant.proofs.bounds.Absorbable.{once_more}
 
 -- TESTS
 
-or_first : (a b : Bool) → a ≡ true → (a || b) ≡ true
-or_first a b e = rw e refl
-
-or_second : (a b : Bool) → b ≡ true → (a || b) ≡ true
-or_second true b e = refl
-or_second false b e = e
-
-and_first : (a b : Bool) → (a && b) ≡ true → a ≡ true
-and_first true b e = refl
-and_first false b e = e
-
 -- WHAT IS TAKEN OF A REPORT
-
--- one more at the end
-once_end : (list : List Held) (held : Held) → AreOnce list → is_held list held.id ≡ false → AreOnce (list ++ held ∷ [])
-once_end [] held once none = (refl, tt)
-once_end (one ∷ list) held once none = by (is_container one.id held.id) refl (once_end list held once.1)
-  where
-    by : (b : Bool) → is_container one.id held.id ≡ b → (is_held list held.id ≡ false → AreOnce (list ++ held ∷ [])) → AreOnce (one ∷ (list ++ held ∷ []))
-    by true e rest = absurd (false≢true (sym none ∙ rw e refl))
-    by false e rest =
-        let back : is_container held.id one.id ≡ false = other held.id one.id e in
-        let split : is_held (list ++ held ∷ []) one.id ≡ (is_held list one.id || is_held (held ∷ []) one.id) = list_any-append (λ (x : Held). is_container x.id one.id) list (held ∷ []) in
-        (split ∙ rw (once.0, back) refl, rest (rw e at none))
-      where
-        other : (a b : ContainerId) → is_container b a ≡ false → is_container a b ≡ false
-        other a b f = at_test (is_container a b) refl
-          where
-            at_test : (c : Bool) → is_container a b ≡ c → is_container a b ≡ false
-            at_test true g = absurd (let same : a ≡ b = same_container a b g in let own : is_container b a ≡ true = subst (λ (x : ContainerId). is_container b x ≡ true) (sym same) (container-refl b) in false≢true (sym f ∙ own))
-            at_test false g = g
 
 module _ (m : Scene) (node : NodeState) where
   -- it lives on the node, or an earlier life granted it
@@ -113,8 +87,8 @@ module _ (m : Scene) (node : NodeState) where
       by : (b : Bool) → may_take m node taken held ≡ b → WellTaken (with_counted m node taken (Some held))
       by false e = rw e well
       by true e =
-          let none : is_held taken held.id ≡ false = not_false (is_held taken held.id) (and_first (not (is_held taken held.id)) _ e) in
-          rw e (all_append IsOldHeld taken (held ∷ []) well.0 (c, tt), once_end taken held well.1 none)
+          let none : is_held taken held.id ≡ false = not-true (is_held taken held.id) (and_first (not (is_held taken held.id)) _ e) in
+          rw e (all_append IsOldHeld taken (held ∷ []) well.0 (c, tt), once_more taken held well.1 none)
 
   fold_taken : (running taken : List Held) → WellTaken taken → WellTaken (fold (λ taken held. with_counted m node taken (as_counted m node held)) taken running)
   fold_taken [] taken well = well
@@ -149,21 +123,12 @@ apart_entered name [] once = tt
 apart_entered name (held ∷ list) once = (living_entered name list held.id ∙ once.0, apart_entered name list once.1)
 
 -- fewer of them are no two of one container
-held_less : (p : Held → Bool) (list : List Held) (id : ContainerId) → is_held list id ≡ false → is_held (filter p list) id ≡ false
-held_less p [] id none = refl
-held_less p (held ∷ list) id none = by (p held) (is_container held.id id) refl refl (held_less p list id)
-  where
-    by : (b c : Bool) → p held ≡ b → is_container held.id id ≡ c → (is_held list id ≡ false → is_held (filter p list) id ≡ false) → is_held (filter p (held ∷ list)) id ≡ false
-    by b true e f rest = absurd (false≢true (sym none ∙ rw f refl))
-    by true false e f rest = rw (e, f) (rest (rw f at none))
-    by false false e f rest = rw e (rest (rw f at none))
-
 once_less : (p : Held → Bool) (list : List Held) → AreOnce list → AreOnce (filter p list)
 once_less p [] once = tt
 once_less p (held ∷ list) once = by (p held) refl (once_less p list once.1)
   where
     by : (b : Bool) → p held ≡ b → AreOnce (filter p list) → AreOnce (filter p (held ∷ list))
-    by true e rest = rw e (held_less p list held.id once.0, rest)
+    by true e rest = rw e (held_filter p list held.id once.0, rest)
     by false e rest = rw e rest
 
 -- what lives does not enter
@@ -181,21 +146,12 @@ apart_append : (rows more : List Row) → AreApart rows → AreApart more → ((
 apart_append [] more apart others none = others
 apart_append (row ∷ rows) more apart others none =
     let split : is_living (rows ++ more) row.id ≡ (is_living rows row.id || is_living more row.id) = list_any-append (λ (one : Row). is_container one.id row.id) rows more in
-    let own : is_living (row ∷ rows) row.id ≡ true = or_first (is_container row.id row.id) (is_living rows row.id) (container-refl row.id) in (
+    let own : is_living (row ∷ rows) row.id ≡ true = or_left (is_container row.id row.id) (is_living rows row.id) (container_itself row.id) in (
       split ∙ rw (apart.0, none row.id own) refl,
-      apart_append rows more apart.1 others (λ id lives. none id (or_second (is_container row.id id) (is_living rows id) lives)),
+      apart_append rows more apart.1 others (λ id lives. none id (or_right (is_container row.id id) (is_living rows id) lives)),
     )
 
 -- NODES
-
--- one that lives on a node lives
-living_there : (book : List Row) (name : List ℕ) (c : ContainerId) → lives_on book name c ≡ true → is_living book c ≡ true
-living_there [] name c e = e
-living_there (row ∷ rows) name c e = by (is_container row.id c) refl (living_there rows name c)
-  where
-    by : (b : Bool) → is_container row.id c ≡ b → (lives_on rows name c ≡ true → is_living rows c ≡ true) → is_living (row ∷ rows) c ≡ true
-    by true f h = rw f refl
-    by false f h = rw f (h (let x = rw f at e in x))
 
 -- a node as it is changed by an absorption on this name
 abbrev absorbed_at : List ℕ → NodeState → NodeState
@@ -257,7 +213,7 @@ module _ (m : Scene) (more : ContainerId → Type 0) (name : List ℕ) (node : N
 
   -- what enters is of an earlier life
   entered : (held : Held) → is_living left.book held.id ≡ false → has_container ended held.id ≡ false → IsOldHeld m node held → more held.id → BookRowInvariant now more (row_absorbed name held)
-  entered held out stays (inl lives) says = absurd (false≢true (sym out ∙ living_there left.book node.name held.id (lives_still ended m.life.book node.name held.id stays lives)))
+  entered held out stays (inl lives) says = absurd (false≢true (sym out ∙ lives_there left.book node.name held.id (lives_still ended m.life.book node.name held.id stays lives)))
   entered held out stays (inr old) says =
       let less : held.id.epoch < m.life.epoch = grind (arith, nat_tests) in (
         absorbed_now name left.nodes (without_launches ended node) (node_of-map (without_launches ended) (λ one. refl) m.life.nodes name ∙ rw there refl) own_name,
@@ -281,7 +237,7 @@ module _ (m : Scene) (more : ContainerId → Type 0) (name : List ℕ) (node : N
   lives_now q id lives =
       let split : lives_on now.book q id ≡ (lives_on (map (row_taken taken) left.book) q id || lives_on (map (row_absorbed name) entering) q id) =
       list_any-append (λ (row : Row). is_container row.id id && bytes_eq row.node q) (map (row_taken taken) left.book) (map (row_absorbed name) entering) in
-      split ∙ or_first _ (lives_on (map (row_absorbed name) entering) q id) (lives_change (row_taken taken) (taken_place taken) left.book q id ∙ lives)
+      split ∙ or_left _ (lives_on (map (row_absorbed name) entering) q id) (lives_change (row_taken taken) (taken_place taken) left.book q id ∙ lives)
 
   launched : (one : NodeState) → AreLaunches left.book one → AreLaunches now.book (absorbed_at name one)
   launched one k = by (bytes_eq one.name name) refl

@@ -5,8 +5,9 @@ use Rattle.std.proofs.lemmas.Bool.{false≢true}
 use Rattle.std.proofs.lemmas.List.Sorted.{Contains-permutation}
 use Rattle.rm_types.specs.declared.ids.ContainerId.{ContainerId}
 use Rattle.rm_types.specs.Ids.{is_container}
+use Rattle.rm_types.proofs.IdLemmas.{container_itself, same_container}
 use Rattle.rm_model.specs.Facts.{has_container}
-use Rattle.rm_invariant.proofs.nodes.Lists.{same_container, container-refl, all_go}
+use Rattle.rm_invariant.proofs.nodes.Lists.{all_go}
 use Rattle.rm_invariant.proofs.nodes.Moved.{Contains-first, Contains-more}
 
 has_contains : (xs : List ContainerId) (id : ContainerId) → has_container xs id ≡ true → Contains xs id
@@ -20,7 +21,7 @@ has_contains (x ∷ xs) id h = by_test (is_container x id) refl (has_contains xs
 contains_has : (xs : List ContainerId) (id : ContainerId) (k : ℕ) → k < length xs → get_or xs k id ≡ id → has_container xs id ≡ true
 contains_has [] id k lt is = absurd (omega (arith, lt))
 contains_has (x ∷ xs) id zero lt is =
-    let e : is_container x id ≡ true = rw is (container-refl id) in rw e refl
+    let e : is_container x id ≡ true = rw is (container_itself id) in rw e refl
 contains_has (x ∷ xs) id (suc k) lt is = or_true (is_container x id) (contains_has xs id k (omega (arith, lt)) is)
   where
     or_true : (b : Bool) → has_container xs id ≡ true → (b || has_container xs id) ≡ true

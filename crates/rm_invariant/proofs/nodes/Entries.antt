@@ -16,6 +16,7 @@ use Rattle.rm_types.specs.declared.ids.ContainerId.{ContainerId}
 use Rattle.rm_types.specs.declared.replies.Reply.{Reply}
 use Rattle.rm_types.specs.Lists.{is_nil}
 use Rattle.rm_types.specs.Order.{Ascend}
+use Rattle.rm_types.proofs.TestLemmas.{text_itself, same_text}
 use Rattle.rm_model.specs.State.{NodeState, Registration, Row, Scene, Waiting, Lost, Undone, Registered, Beat, Expired}
 use Rattle.rm_model.specs.Facts.{has_container}
 use Rattle.rm_model.specs.Containers.{ids_on, leave, lives_on, once, without_launches}
@@ -30,7 +31,8 @@ use Rattle.rm_invariant.specs.nodes.Invariant.{is_idle_by, is_of, pending, NodeV
 use Rattle.rm_invariant.proofs.nodes.Views.{added_quiet, added_front, added_keeps, done_front, done_keeps, update_front, update_keeps, lost_quiet, lost_front, lost_keeps, register_keeps, beat_events, beat_keeps, expire_keeps}
 use Rattle.rm_invariant.proofs.nodes.Ascending.{none_after_permuted}
 use Rattle.rm_invariant.proofs.nodes.Lists.{none_left, lives_is}
-use Rattle.rm_invariant.proofs.nodes.Moved.{same_text, text-refl, text_back, KeepsName, name_of, found_among, mapped_among, idle_is, tidy, moved, all_moved}
+use Rattle.rm_invariant.proofs.nodes.Moved.{KeepsName, name_of, found_among, mapped_among, idle_is, tidy, moved, all_moved}
+use Rattle.rm_refinement.proofs.Found.{apart_names}
 
 -- THE QUEUE
 
@@ -154,9 +156,9 @@ done_list m name done = once (filter (lives_on m.life.book name) done)
 pub done_lawful : (m : Scene) (sched : List SchedEvent) (n : List ℕ) (done : List ContainerId) (more : List SchedEvent) → sched ≡ NodeDone n done ∷ more → is_nil done ≡ false
     → done_list m n done ≢ [] → NodesInvariant m.life.nodes m.life.book sched → MayEnd m Done (done_list m n done)
 done_lawful m sched n done more e some left good =
-    let k = known_node m.life.nodes m.life.book sched n (NodeDone n done) more e (text-refl n) good in
+    let k = known_node m.life.nodes m.life.book sched n (NodeDone n done) more e (text_itself n) good in
     let is : k.0.name ≡ n = same_text k.0.name n (name_of m.life.nodes n k.0 k.1) in
-    let front = popped_own n (NodeDone n done) more sched e (text-refl n) in
+    let front = popped_own n (NodeDone n done) more sched e (text_itself n) in
     let f = done_front (view_of k.0 (events_of n sched) (ids_on m.life.book n)) n done (events_of n more) front some (at_node m.life.nodes m.life.book sched n k.0 good k.1) in
     let listed : done_on m k.0 ≡ done_list m n done = rw (beat_front k.0 done f.0 f.1, is) refl in
     let there : Contains (map (done_on m) m.life.nodes) (done_on m k.0) = mapped_among (done_on m) m.life.nodes n k.0 k.1 in
@@ -170,9 +172,9 @@ done_good m sched n done more e good =
     (moved m.life.nodes m.life.book sched n (λ node. tidied_node (without (done_list m n done) m.life.book) (without_launches (done_list m n done) node)) (without (done_list m n done) m.life.book) more
     (record {
       named = λ node. refl;
-      known = known_by m.life.nodes m.life.book sched n (NodeDone n done) more e (text-refl n) good;
+      known = known_by m.life.nodes m.life.book sched n (NodeDone n done) more e (text_itself n) good;
       own = λ node there is a.
-          let front = popped_own n (NodeDone n done) more sched e (text-refl n) in
+          let front = popped_own n (NodeDone n done) more sched e (text_itself n) in
           let left = ids_on-without n (done_list m n done) m.life.book in
           let listed : done_list m n done ≡ once (filter (has_container (ids_on m.life.book n)) done) = ap once (lives_filter m n done) in
           let none : list_any (has_container (filter (stays_without (done_list m n done)) (ids_on m.life.book n))) done ≡ false = rw listed (none_left (ids_on m.life.book n) done) in
@@ -189,9 +191,9 @@ expiry_front node rest e = rw e refl
 pub lost_lawful : (m : Scene) (sched : List SchedEvent) (n : List ℕ) (ids : List ContainerId) (more : List SchedEvent) → sched ≡ NodeLost n ∷ more → is_nil (ids_on m.life.book n) ≡ false
     → ids ≢ [] → Ascend (ids_on m.life.book n) ids → NodesInvariant m.life.nodes m.life.book sched → MayEnd m NodeGone ids
 lost_lawful m sched n ids more e some left a good =
-    let k = known_node m.life.nodes m.life.book sched n (NodeLost n) more e (text-refl n) good in
+    let k = known_node m.life.nodes m.life.book sched n (NodeLost n) more e (text_itself n) good in
     let is : k.0.name ≡ n = same_text k.0.name n (name_of m.life.nodes n k.0 k.1) in
-    let front = popped_own n (NodeLost n) more sched e (text-refl n) in
+    let front = popped_own n (NodeLost n) more sched e (text_itself n) in
     let f = lost_front (view_of k.0 (events_of n sched) (ids_on m.life.book n)) n (events_of n more) front some (at_node m.life.nodes m.life.book sched n k.0 good k.1) in
     let there = found_among m.life.nodes n k.0 k.1 in
     let all : Ascend (ids_on m.life.book k.0.name) ids = rw is a in
@@ -204,9 +206,9 @@ lost_good m sched n ids more e some all good =
     (moved m.life.nodes m.life.book sched n (λ node. tidied_node (without ids m.life.book) (without_launches ids node)) (without ids m.life.book) more
     (record {
       named = λ node. refl;
-      known = known_by m.life.nodes m.life.book sched n (NodeLost n) more e (text-refl n) good;
+      known = known_by m.life.nodes m.life.book sched n (NodeLost n) more e (text_itself n) good;
       own = λ node there is a.
-          let front = popped_own n (NodeLost n) more sched e (text-refl n) in
+          let front = popped_own n (NodeLost n) more sched e (text_itself n) in
           let none : ids_on (without ids m.life.book) n ≡ [] = ids_on-without n ids m.life.book ∙ none_after_permuted (ids_on m.life.book n) ids all.same in
           let nil : is_nil (ids_on (without ids m.life.book) n) ≡ true = rw none refl in
           rw (idle_is (without ids m.life.book) (without_launches ids node), is)
@@ -233,9 +235,9 @@ pub record AtBeat (m : Scene) (n : List ℕ) : Type 0 where
 
 pub pass_lawful : (m : Scene) (sched : List SchedEvent) (n : List ℕ) (more : List SchedEvent) → sched ≡ NodeUpdate n ∷ more → NodesInvariant m.life.nodes m.life.book sched → AtBeat m n
 pass_lawful m sched n more e good =
-    let k = known_node m.life.nodes m.life.book sched n (NodeUpdate n) more e (text-refl n) good in
+    let k = known_node m.life.nodes m.life.book sched n (NodeUpdate n) more e (text_itself n) good in
     let is : k.0.name ≡ n = same_text k.0.name n (name_of m.life.nodes n k.0 k.1) in
-    let front = popped_own n (NodeUpdate n) more sched e (text-refl n) in
+    let front = popped_own n (NodeUpdate n) more sched e (text_itself n) in
     let f = update_front (view_of k.0 (events_of n sched) (ids_on m.life.book n)) n (events_of n more) front (at_node m.life.nodes m.life.book sched n k.0 good k.1) in
     let beat = beat_front k.0 f.0 (pending (events_of n more) []) f.1 in
     record {
@@ -253,10 +255,10 @@ at_name n change k node = by_test (bytes_eq node.name n) refl
     by_test false e = rw e refl
 
 at_own : (n : List ℕ) (change : NodeState → NodeState) (node : NodeState) → node.name ≡ n → (if bytes_eq node.name n then change node else node) ≡ change node
-at_own n change node is = let e : bytes_eq node.name n ≡ true = rw is (text-refl n) in rw e refl
+at_own n change node is = let e : bytes_eq node.name n ≡ true = rw is (text_itself n) in rw e refl
 
 at_other : (n q : List ℕ) (change : NodeState → NodeState) (node : NodeState) → node.name ≡ q → bytes_eq n q ≡ false → (if bytes_eq node.name n then change node else node) ≡ node
-at_other n q change node is apart = let e : bytes_eq node.name n ≡ false = rw is (text_back n q apart) in rw e refl
+at_other n q change node is apart = let e : bytes_eq node.name n ≡ false = rw is (apart_names n q apart) in rw e refl
 
 -- all grants are on the node
 abbrev pub AllOn : List ℕ → List Grant → Type 0
@@ -278,9 +280,9 @@ pass_good m sched n grants more e on good =
     (moved m.life.nodes m.life.book sched n (λ node. tidied_node (m.life.book ++ map row_granted grants) (if bytes_eq node.name n then passed node else node)) (m.life.book ++ map row_granted grants) more
     (record {
       named = at_name n passed (λ node. refl);
-      known = known_by m.life.nodes m.life.book sched n (NodeUpdate n) more e (text-refl n) good;
+      known = known_by m.life.nodes m.life.book sched n (NodeUpdate n) more e (text_itself n) good;
       own = λ node there is a.
-          let front = popped_own n (NodeUpdate n) more sched e (text-refl n) in
+          let front = popped_own n (NodeUpdate n) more sched e (text_itself n) in
           rw (at_own n passed node is, idle_is (m.life.book ++ map row_granted grants) (passed node), is)
           (update_keeps (view_of node (events_of n sched) (ids_on m.life.book n)) n (events_of n more) (ids_on (m.life.book ++ map row_granted grants) n) front a);
       other = λ q node is apart a.
@@ -317,7 +319,7 @@ waits_by false b h = absurd (false≢true (sym h))
 pub absorbed_lawful : (m : Scene) (sched : List SchedEvent) (n : List ℕ) (turn : ℕ) (more : List SchedEvent) (node : NodeState) → sched ≡ NodeAdded n turn ∷ more → node_of m.life.nodes n ≡ Some node
     → (not (turn == node.last.turn) || not (is_waiting node.phase)) ≡ false → NodesInvariant m.life.nodes m.life.book sched → slice_get node.undone 0 ≡ Some (Registered node.last.turn)
 absorbed_lawful m sched n turn more node e there it good =
-    let front = popped_own n (NodeAdded n turn) more sched e (text-refl n) in
+    let front = popped_own n (NodeAdded n turn) more sched e (text_itself n) in
     let f = added_front (view_of node (events_of n sched) (ids_on m.life.book n)) n turn (events_of n more) front it (at_node m.life.nodes m.life.book sched n node good there) in
     let same : turn ≡ node.last.turn = let w = (waits_by (turn == node.last.turn) (is_waiting node.phase) it).0 in grind (arith, nat_tests) in
     rw (f, same) refl
@@ -331,11 +333,11 @@ absorbed_good m sched n turn more node taken ended e there it good =
     (moved m.life.nodes m.life.book sched n (λ one. tidied_node (book_absorbed m n taken ended) (if bytes_eq one.name n then absorbed (without_launches ended one) else without_launches ended one)) (book_absorbed m n taken ended) more
     (record {
       named = λ one. at_name n absorbed (λ other. refl) (without_launches ended one);
-      known = known_by m.life.nodes m.life.book sched n (NodeAdded n turn) more e (text-refl n) good;
+      known = known_by m.life.nodes m.life.book sched n (NodeAdded n turn) more e (text_itself n) good;
       own = λ one f is a.
           let same : one ≡ node = let g : Some one ≡ Some node = sym f ∙ there in cc in
           let waits : (not (turn == one.last.turn) || not (is_waiting one.phase)) ≡ false = rw same it in
-          let front = popped_own n (NodeAdded n turn) more sched e (text-refl n) in
+          let front = popped_own n (NodeAdded n turn) more sched e (text_itself n) in
           rw (at_own n absorbed (without_launches ended one) is, idle_is (book_absorbed m n taken ended) (absorbed (without_launches ended one)), is)
           (added_keeps (view_of one (events_of n sched) (ids_on m.life.book n)) n turn (events_of n more) (ids_on (book_absorbed m n taken ended) n) front waits a);
       other = λ q one is apart a.
@@ -363,13 +365,13 @@ quiet_good nodes book sched n event more e apart own node there quiet good = λ 
 pub added_quiet_good : (nodes : List NodeState) (book : List Row) (sched : List SchedEvent) (n : List ℕ) (turn : ℕ) (more : List SchedEvent) (node : NodeState) → sched ≡ NodeAdded n turn ∷ more → node_of nodes n ≡ Some node
     → (not (turn == node.last.turn) || not (is_waiting node.phase)) ≡ true → NodesInvariant nodes book sched → NodesInvariant nodes book more
 added_quiet_good nodes book sched n turn more node e there it good =
-    quiet_good nodes book sched n (NodeAdded n turn) more e (λ q apart. apart) (text-refl n) node there
+    quiet_good nodes book sched n (NodeAdded n turn) more e (λ q apart. apart) (text_itself n) node there
     (added_quiet (view_of node (NodeAdded n turn ∷ events_of n more) (ids_on book n)) n turn (events_of n more) refl it) good
 
 pub lost_quiet_good : (nodes : List NodeState) (book : List Row) (sched : List SchedEvent) (n : List ℕ) (more : List SchedEvent) (node : NodeState) → sched ≡ NodeLost n ∷ more → node_of nodes n ≡ Some node
     → is_nil (ids_on book n) ≡ true → NodesInvariant nodes book sched → NodesInvariant nodes book more
 lost_quiet_good nodes book sched n more node e there none good =
-    quiet_good nodes book sched n (NodeLost n) more e (λ q apart. apart) (text-refl n) node there
+    quiet_good nodes book sched n (NodeLost n) more e (λ q apart. apart) (text_itself n) node there
     (lost_quiet (view_of node (NodeLost n ∷ events_of n more) (ids_on book n)) n (events_of n more) refl none) good
 
 -- A MESSAGE: events are posted at the end, and its node changes
@@ -403,8 +405,8 @@ beat_other n q [] apart = rw apart refl
 beat_other n q (id ∷ done) apart = rw apart refl
 
 beat_own : (n : List ℕ) (done : List ContainerId) → events_of n (beat_events n done) ≡ beat_events n done
-beat_own n [] = let e = text-refl n in rw e refl
-beat_own n (id ∷ done) = let e = text-refl n in rw e refl
+beat_own n [] = let e = text_itself n in rw e refl
+beat_own n (id ∷ done) = let e = text_itself n in rw e refl
 
 beaten_place : (n : List ℕ) (running launched : List ContainerId) → KeepsPlace (row_beaten n running launched)
 beaten_place n running launched row = grind arith
@@ -445,7 +447,7 @@ pub expire_good : (m : Scene) (sched : List SchedEvent) (n : List ℕ) (node : N
     → NodesInvariant (tidied (record m.life { nodes = with_node expired n m.life.nodes })).nodes m.life.book (sched ++ NodeLost n ∷ [])
 expire_good m sched n node there good =
     let is : node.name ≡ n = same_text node.name n (name_of m.life.nodes n node there) in
-    posted_tidied m.life.nodes m.life.book sched n expired (NodeLost n ∷ []) (λ one. refl) (λ q apart. one_other q (NodeLost n) apart) (one_own n (NodeLost n) (text-refl n)) node there
+    posted_tidied m.life.nodes m.life.book sched n expired (NodeLost n ∷ []) (λ one. refl) (λ q apart. one_other q (NodeLost n) apart) (one_own n (NodeLost n) (text_itself n)) node there
     (λ a. rw (idle_is m.life.book (expired node), is) (expire_keeps (view_of node (events_of n sched) (ids_on m.life.book n)) n a)) good
 
 -- a later registration
@@ -455,7 +457,7 @@ again_good : (m : Scene) (sched : List SchedEvent) (n : List ℕ) (last : Regist
 again_good m sched n last reply node there lt good =
     let is : node.name ≡ n = same_text node.name n (name_of m.life.nodes n node there) in
     posted_tidied m.life.nodes m.life.book sched n (registered last reply) (NodeAdded n last.turn ∷ []) (λ one. refl) (λ q apart. one_other q (NodeAdded n last.turn) apart)
-    (one_own n (NodeAdded n last.turn) (text-refl n)) node there
+    (one_own n (NodeAdded n last.turn) (text_itself n)) node there
     (λ a. rw (idle_is m.life.book (registered last reply node), is) (register_keeps (view_of node (events_of n sched) (ids_on m.life.book n)) n last.turn lt a)) good
 
 -- a first one
@@ -521,7 +523,7 @@ new_good m sched n last reply none above good =
     let e : is_idle_by Waiting last.turn [] (Registered last.turn) ≡ false = grind (arith, nat_tests) in rw e refl in
     let first : RegisteredInvariant (view_of (new_node n last reply) (NodeAdded n last.turn ∷ []) []) = rw same at (register_keeps no_node n last.turn above none_yet) in
     still_tidy (m.life.nodes ++ new_node n last reply ∷ []) m.life.book (sched ++ NodeAdded n last.turn ∷ [])
-    (pushed m.life.nodes m.life.book sched (NodeAdded n last.turn ∷ []) n (new_node n last reply) refl none (λ q apart. one_other q (NodeAdded n last.turn) apart) (one_own n (NodeAdded n last.turn) (text-refl n)) first good)
+    (pushed m.life.nodes m.life.book sched (NodeAdded n last.turn ∷ []) n (new_node n last reply) refl none (λ q apart. one_other q (NodeAdded n last.turn) apart) (one_own n (NodeAdded n last.turn) (text_itself n)) first good)
 
 pub register_good : (m : Scene) (sched : List SchedEvent) (n : List ℕ) (last : Registration) (reply : Reply) (o : Option NodeState) → node_of m.life.nodes n ≡ o → 0 < last.turn
     → ((node : NodeState) → node_of m.life.nodes n ≡ Some node → node.last.turn < last.turn) → NodesInvariant m.life.nodes m.life.book sched

@@ -2,17 +2,17 @@
 use Rattle.std.proofs.Common.{◌≡◌, ℕ, ◌<◌, List, [], ◌∷◌, ◌++◌, Bool, true, false, not, ◌&&◌, Option, None, Some, filter, map, refl, sym, ◌∙◌, subst, arith}
 use Rattle.std.specs.Prelude.{is_some, option_map, option_and_then, count_by}
 use Rattle.std.specs.Str.{bytes_eq}
-use Rattle.std.proofs.lemmas.Bool.{false≢true}
+use Rattle.std.proofs.lemmas.Bool.{false≢true, not-true}
 use Rattle.std.proofs.lemmas.List.Folds.{list_any-append}
 use Rattle.rm_types.specs.declared.containers.Cause.{Cause}
 use Rattle.rm_types.specs.declared.ids.ContainerId.{ContainerId}
 use Rattle.rm_types.specs.Ids.{is_attempt, is_container}
+use Rattle.rm_types.proofs.IdLemmas.{same_container}
 use Rattle.rm_model.specs.State.{LifeState, NodeState, Row, Scene}
 use Rattle.rm_model.specs.Facts.{has_container}
 use Rattle.rm_model.specs.Containers.{is_living, leave, lives_on, without_launches}
 use Rattle.rm_model.specs.Nodes.{node_of}
 use Rattle.rm_invariant.specs.nodes.Book.{All, AreApart, IsGranted, IsAbsorbed, BookRowInvariant, AreLaunches, BookInvariant}
-use Rattle.rm_invariant.proofs.nodes.Lists.{same_container}
 use Rattle.rm_invariant.proofs.nodes.Moved.{node_of-map}
 
 -- GENERAL: facts at each item
@@ -102,14 +102,10 @@ absorbed_still list nodes name h = rw (node_of-map (without_launches list) (λ n
     by_node None h = h
     by_node (Some node) h = h
 
-pub not_false : (b : Bool) → not b ≡ true → b ≡ false
-not_false true e = absurd (false≢true e)
-not_false false e = refl
-
 launches_still : (list : List ContainerId) (book : List Row) (node : NodeState) → AreLaunches book node → AreLaunches (filter (stays_without list) book) (without_launches list node)
 launches_still list book node h =
     all_passing (λ id. lives_on book node.name id ≡ true) (λ id. lives_on (filter (stays_without list) book) node.name id ≡ true) (λ id. not (has_container list id))
-    (λ id n l. lives_still list book node.name id (not_false (has_container list id) n) l) node.launches h
+    (λ id n l. lives_still list book node.name id (not-true (has_container list id) n) l) node.launches h
 
 -- ALL FACTS OF THE BOOK, for whatever cause
 pub leave_holds : (m : Scene) (cause : Cause) (list : List ContainerId) (more : ContainerId → Type 0) → All (λ id. is_living m.life.book id ≡ true) list → BookInvariant m.life more
@@ -121,7 +117,7 @@ leave_holds m cause list more living h =
           all_passing (BookRowInvariant m.life more) (BookRowInvariant (leave m cause list) more) (stays_without list)
           (λ row n k.
           let e = list_any-append (λ one. is_container one row.id) m.life.endings.left list in
-          let f = not_false (has_container list row.id) n in
+          let f = not-true (has_container list row.id) n in
           (absorbed_still list m.life.nodes row.node k.0, k.1, λ epoch. e ∙ rw (k.2 epoch, f) refl, k.3)) m.life.book h.rows;
       left =
           all_append (IsGranted m.life) m.life.endings.left list h.left

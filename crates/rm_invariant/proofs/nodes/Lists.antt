@@ -1,21 +1,15 @@
 -- Lists of containers: each once, and what is left of a list without them.
-use Rattle.std.proofs.Common.{◌≡◌, ℕ, List, [], ◌∷◌, Bool, true, false, not, ◌||◌, filter, refl, sym, ◌∙◌, arith}
+use Rattle.std.proofs.Common.{◌≡◌, ℕ, List, [], ◌∷◌, Bool, true, false, not, ◌||◌, filter, refl, sym, ◌∙◌}
 use Rattle.std.specs.List.{list_any}
 use Rattle.std.specs.Str.{bytes_eq}
 use Rattle.std.proofs.lemmas.Bool.{false≢true}
-use Rattle.std.proofs.lemmas.Bool.Decides.{nat_tests}
 use Rattle.rm_types.specs.declared.ids.ContainerId.{ContainerId}
 use Rattle.rm_types.specs.Ids.{is_container}
+use Rattle.rm_types.proofs.IdLemmas.{container_itself, same_container}
 use Rattle.rm_model.specs.State.{Row}
 use Rattle.rm_model.specs.Facts.{has_container}
 use Rattle.rm_model.specs.Containers.{ids_on, lives_on, once}
 use Rattle.rm_invariant.proofs.nodes.Views.{fewer}
-
-pub same_container : (a b : ContainerId) → is_container a b ≡ true → a ≡ b
-same_container a b h = grind (arith, nat_tests)
-
-pub container-refl : (a : ContainerId) → is_container a a ≡ true
-container-refl a = grind (arith, nat_tests)
 
 -- what is among those that go does not stay
 out_more : (gone on : List ContainerId) (x id : ContainerId) (b c : Bool) → has_container gone x ≡ b → is_container x id ≡ c → has_container gone id ≡ true
@@ -56,7 +50,7 @@ pub all_go : (gone : List ContainerId) (on : List ContainerId) → ((id : Contai
     → filter (λ y. not (has_container gone y)) on ≡ []
 all_go gone [] all = refl
 all_go gone (x ∷ on) all =
-    let first : has_container gone x ≡ true = all x (let e = container-refl x in rw e refl) in
+    let first : has_container gone x ≡ true = all x (let e = container_itself x in rw e refl) in
     rw first (all_go gone on (λ id h. all id (more x on id (is_container x id) refl h)))
   where
     more : (x : ContainerId) (on : List ContainerId) (id : ContainerId) (b : Bool) → is_container x id ≡ b → has_container on id ≡ true → has_container (x ∷ on) id ≡ true
@@ -96,7 +90,7 @@ none_by : (on : List ContainerId) (gone : List ContainerId) (ids : List Containe
 none_by on gone [] all = refl
 none_by on gone (x ∷ ids) all =
     let here : has_container (filter (λ y. not (has_container gone y)) on) x ≡ false =
-    left_by on x gone (has_container on x) refl (λ t. all x (let e = container-refl x in rw t (rw e refl))) in
+    left_by on x gone (has_container on x) refl (λ t. all x (let e = container_itself x in rw t (rw e refl))) in
     rw here (none_by on gone ids (λ y h. all y (passes_more (has_container on) y x ids (has_container on x) refl h)))
 
 pub none_left : (on ids : List ContainerId) → list_any (has_container (filter (λ y. not (has_container (once (filter (has_container on) ids)) y)) on)) ids ≡ false

@@ -8,25 +8,13 @@ use Rattle.std.proofs.lemmas.List.Elements.{Contains-append_left, Contains-appen
 use Rattle.std.proofs.lemmas.Slice.Eq.{bytes_eq-Decides}
 use Rattle.rm_types.specs.declared.ids.ContainerId.{ContainerId}
 use Rattle.rm_types.specs.Lists.{is_nil}
+use Rattle.rm_types.proofs.TestLemmas.{same_text}
 use Rattle.rm_model.specs.State.{NodeState, Row, Undone, Registered, Beat, Expired}
 use Rattle.rm_model.specs.Containers.{ids_on}
 use Rattle.rm_model.specs.Nodes.{is_idle, node_of, tidied_node}
 use Rattle.rm_tables.specs.declared.events.SchedEvent.{SchedEvent}
 use Rattle.rm_invariant.specs.nodes.Invariant.{is_idle_by, RegisteredInvariant, events_of, view_of, NodeInvariant, NodesInvariant}
 use Rattle.rm_invariant.proofs.nodes.Views.{leaving_keeps}
-
-pub same_text : (a b : List ℕ) → bytes_eq a b ≡ true → a ≡ b
-same_text a b h = (bytes_eq-Decides a b).0 h
-
-pub text-refl : (a : List ℕ) → bytes_eq a a ≡ true
-text-refl a = (bytes_eq-Decides a a).1 refl
-
-text_by : (a b : List ℕ) (t : Bool) → bytes_eq b a ≡ t → bytes_eq a b ≡ false → bytes_eq b a ≡ false
-text_by a b true e h = absurd (false≢true (sym h ∙ (bytes_eq-Decides a b).1 (sym (same_text b a e))))
-text_by a b false e h = e
-
-pub text_back : (a b : List ℕ) → bytes_eq a b ≡ false → bytes_eq b a ≡ false
-text_back a b h = text_by a b (bytes_eq b a) refl h
 
 abbrev pub KeepsName : (NodeState → NodeState) → Type 0
 KeepsName change = (node : NodeState) → (change node).name ≡ node.name

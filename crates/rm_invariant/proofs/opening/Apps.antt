@@ -137,7 +137,7 @@ if_false : (b : Bool) → ◌≡◌ {A = ℕ} 0 (one_if (b && false) 0)
 if_false true = refl
 if_false false = refl
 
-if_true : (b : Bool) → one_if b 0 ≡ one_if (b && true) 0
+pub if_true : (b : Bool) → one_if b 0 ≡ one_if (b && true) 0
 if_true true = refl
 if_true false = refl
 

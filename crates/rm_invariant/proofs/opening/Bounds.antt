@@ -10,6 +10,7 @@ use Rattle.rm_types.specs.Ranges.{IsAppId, IsOperation}
 use Rattle.rm_types.specs.Records.{Records, last_attempt, record_of}
 use Rattle.rm_book.specs.declared.plain.NodeCapability.{NodeCapability}
 use Rattle.rm_types.specs.declared.containers.BookRow.{BookRow}
+use Rattle.rm_types.proofs.IdLemmas.{same_app}
 use Rattle.rm_tables.specs.declared.completed.Completion.{Completion}
 use Rattle.rm_tables.specs.declared.events.SchedEvent.{SchedEvent}
 use Rattle.rm_tables.specs.declared.rows.AppRow.{AppRow}
@@ -19,7 +20,6 @@ use Rattle.rm_tables.specs.Lives.{begun}
 use Rattle.rm_tables.specs.Opening.{recovered_attempt, recovered_row, recovered_rows}
 use Rattle.rm_tables.specs.Passing.{granted_by, granted_to}
 use Rattle.rm_tables.specs.Rows.{row_of}
-use Rattle.rm_invariant.proofs.apps.Found.{is_app_same}
 use Rattle.rm_invariant.proofs.opening.Apps.{recovered_found}
 use Rattle.rm_invariant.specs.nodes.Book.{All}
 use Rattle.rm_invariant.specs.bounds.InBounds.{AreAsked, AreCounts, AreGrants, AreNodes, AreRecords, AreRows, IfThere, IsAttemptRecord, IsBooked, IsCurrent, IsOffer, IsRow, InBounds}
@@ -37,7 +37,7 @@ record_named (one ∷ apps) id app e = by (is_app one.id id) refl (record_named 
     by true f rest =
         let is : Some one ≡ Some app = rw f at e in
         let same : one ≡ app = cc in
-        subst (λ (x : AppRecord). x.id ≡ id) same (is_app_same one.id id f)
+        subst (λ (x : AppRecord). x.id ≡ id) same (same_app one.id id f)
     by false f rest = rest (rw f at e)
 
 found_named : (apps : List AppRecord) (id : AppId) (app : AppRecord) → AreRecords apps → record_of apps id ≡ Some app → IsAppId id

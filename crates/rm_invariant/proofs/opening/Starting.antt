@@ -8,6 +8,7 @@ use Rattle.rm_types.specs.declared.operations.Submission.{Submission}
 use Rattle.rm_types.specs.declared.settings.Settings.{Settings}
 use Rattle.rm_types.specs.Ids.{is_app}
 use Rattle.rm_types.specs.Records.{record_of}
+use Rattle.rm_types.proofs.IdLemmas.{app_itself}
 use Rattle.rm_model.specs.Facts.{has_app, is_app_op}
 use Rattle.rm_app.specs.declared.states.AppState.{AppState}
 use Rattle.rm_app.specs.declared.states.AppState.TheVariants as apps
@@ -23,7 +24,6 @@ use Rattle.rm_refinement.specs.History.{History, abstract_scene}
 use Rattle.rm_invariant.specs.apps.View.{is_start, one_if, view}
 use Rattle.rm_invariant.proofs.apps.Counts.{at_front, none_under}
 use Rattle.rm_invariant.proofs.apps.Events.{at}
-use Rattle.rm_invariant.proofs.apps.Found.{is_app-refl}
 use Rattle.rm_invariant.proofs.apps.Lists.{IsFirst, first_found, id_count}
 use Rattle.rm_invariant.specs.events.MainFacts.{StartsLawful}
 
@@ -68,7 +68,7 @@ module _ (settings : Settings) (h : History) (t : Tables) (k : AppsInvariant set
   -- an AppStart waits of it
   some_start : 1 ≤ count_by (is_start id) t.main
   some_start =
-      let f : count_by (is_start id) (mains.AppStart id ∷ rest) ≡ suc (count_by (is_start id) rest) = at_front (is_start id) (mains.AppStart id) rest ∙ ap (λ b. one_if b (count_by (is_start id) rest)) (is_app-refl id) in
+      let f : count_by (is_start id) (mains.AppStart id ∷ rest) ≡ suc (count_by (is_start id) rest) = at_front (is_start id) (mains.AppStart id) rest ∙ ap (λ b. one_if b (count_by (is_start id) rest)) (app_itself id) in
       let e : count_by (is_start id) t.main ≡ count_by (is_start id) (mains.AppStart id ∷ rest) = ap (count_by (is_start id)) front in
       omega (arith, e, f)
 

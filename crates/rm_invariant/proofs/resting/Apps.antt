@@ -2,6 +2,7 @@
 -- known the facts then say how it rests, and none that rests so is owed anything.
 use Rattle.std.proofs.Common.{◌≡◌, ◌≢◌, ◌≤◌, inl, inr, ℕ, ◌==◌, ◌||◌, List, [], ◌∷◌, Bool, true, false, Option, None, Some, is_some, is_none, option_map, length, refl, ◌∙◌, subst, arith}
 use Rattle.std.proofs.lemmas.Bool.Decides.{nat_tests}
+use Rattle.std.proofs.lemmas.Bool.{false_from_ne_true}
 use Rattle.rm_types.specs.declared.ids.AppId.{AppId}
 use Rattle.rm_types.specs.declared.ids.AttemptId.{AttemptId}
 use Rattle.rm_types.specs.declared.operations.Submitted.{Submitted}
@@ -53,24 +54,20 @@ end_of_some : (found : Option AppRecord) → is_none (end_in found) ≡ false �
 end_of_some None e = cc
 end_of_some (Some one) e = refl
 
-not_wished : (b : Bool) → (b ≡ true → ⊥) → b ≡ false
-not_wished true n = absurd (n refl)
-not_wished false n = refl
-
 module _ (settings : Settings) (q : AttemptId) (v : View) (still : IsStill v.count) where
   current_rests : (wish : Bool) (s : AttemptState) → v.wished ≡ wish → CurrentInvariant settings s q wish v → AttemptCounts q.number true s wish v → Rests settings q v
   current_rests wish attempts.Scheduled w says own =
       let kills = still.kills in
-      let free = not_wished wish (λ is. let n = says.3 is in omega (arith, n, kills)) in
+      let free = false_from_ne_true wish (λ is. let n = says.3 is in omega (arith, n, kills)) in
       asks says.0 says.1 (w ∙ free) (let n = own.0 in let z = still.queueings in omega (arith, n, z))
   current_rests wish attempts.Granted w says own = absurd (let n = own.1 in let z = still.grants in omega (arith, n, z))
   current_rests wish attempts.Saving w says own = absurd (let n = says.3 in let z = still.none_await in omega (arith, n, z))
   current_rests wish attempts.Live w says own =
-      lives says.0 (w ∙ not_wished wish (λ is. let n = own.1 is in let a = still.kills in let b = still.launches in omega (arith, n, a, b)))
+      lives says.0 (w ∙ false_from_ne_true wish (λ is. let n = own.1 is in let a = still.kills in let b = still.launches in omega (arith, n, a, b)))
   current_rests wish attempts.Registered w says own =
-      lives says.0 (w ∙ not_wished wish (λ is. let n = own.1 is in let a = still.kills in let b = still.launches in omega (arith, n, a, b)))
+      lives says.0 (w ∙ false_from_ne_true wish (λ is. let n = own.1 is in let a = still.kills in let b = still.launches in omega (arith, n, a, b)))
   current_rests wish attempts.Finishing w says own =
-      lives says.0 (w ∙ not_wished wish (λ is. let n = own.1 is in let a = still.kills in let b = still.launches in omega (arith, n, a, b)))
+      lives says.0 (w ∙ false_from_ne_true wish (λ is. let n = own.1 is in let a = still.kills in let b = still.launches in omega (arith, n, a, b)))
   current_rests wish attempts.Ending w says own = absurd (let n = says.2 in let z = still.none_await in omega (arith, n, z))
   current_rests wish attempts.Ended w says own = absurd (let n = says.4 in let z = still.dones in omega (arith, n, z))
   current_rests wish attempts.Dropped w says own = absurd says

@@ -11,6 +11,7 @@ use Rattle.rm_types.specs.declared.records.AttemptRecord.{AttemptRecord}
 use Rattle.rm_types.specs.declared.settings.Settings.{Settings}
 use Rattle.rm_types.specs.Ids.{is_attempt, is_container}
 use Rattle.rm_types.specs.Records.{all_ended, record_of, is_some_and}
+use Rattle.rm_types.proofs.IdLemmas.{container_itself}
 use Rattle.rm_model.specs.Attempts.{attempt_is_kept, attempt_was_first, finishing_text, has_expired, is_over, kept_here}
 use Rattle.rm_model.specs.Containers.{is_living}
 use Rattle.rm_model.specs.Facts.{attempts_in, end_in, has_container}
@@ -32,7 +33,6 @@ use Rattle.rm_invariant.specs.masters.Invariant.{AliveInvariant, ContainersInvar
 use Rattle.rm_invariant.specs.masters.Sound.{RecordsAreSound, Numbered}
 use Rattle.rm_invariant.specs.masters.View.{container_view}
 use Rattle.rm_invariant.proofs.masters.Ends.{Alive, last_in}
-use Rattle.rm_invariant.proofs.nodes.Lists.{container-refl}
 
 all_contains : {X : Type 0} (p : X → Bool) (xs : List X) (x : X) (k : ℕ) → k < length xs → get_or xs k x ≡ x → list_all p xs ≡ true → p x ≡ true
 all_contains p [] x k lt is all = absurd (omega (arith, lt))
@@ -169,7 +169,7 @@ module _ (settings : Settings) (h : History) (t : Tables) (k : AppsInvariant set
     master_mine : is_master_of attempt.master rests.2.current.master ≡ true
     master_mine =
         let a : attempt.master.attempt ≡ attempt.id = apt attempt.id attempt found_here.found in
-        let self = container-refl attempt.master in
+        let self = container_itself attempt.master in
         let here : is_some_and (λ x. is_container x.master attempt.master) (find (λ x. is_attempt x.id attempt.id) (attempts_in (record_of t.tree.apps attempt.id.app))) ≡ true = let f = found_here.found in rw (f, self) refl in
         let own : own_of attempt.master (record_of t.tree.apps attempt.master.attempt.app) ≡ true = subst (λ (i : AttemptId). is_some_and (λ x. is_container x.master attempt.master) (find (λ x. is_attempt x.id i) (attempts_in (record_of t.tree.apps i.app))) ≡ true) (sym a) here in
         sym says.0 ∙ own

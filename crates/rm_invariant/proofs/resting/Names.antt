@@ -38,9 +38,10 @@ use Rattle.rm_model.specs.Passing.{passed}
 use Rattle.rm_model.specs.Replies.{life_after}
 use Rattle.rm_tables.specs.declared.tables.Tables.{Tables}
 use Rattle.rm_refinement.specs.History.{History, live_state}
+use Rattle.rm_refinement.proofs.Found.{apart_names}
 use Rattle.rm_invariant.specs.Step.{Step}
 use Rattle.rm_invariant.proofs.nodes.Entries.{at_name}
-use Rattle.rm_invariant.proofs.nodes.Moved.{KeepsName, text_back}
+use Rattle.rm_invariant.proofs.nodes.Moved.{KeepsName}
 use Rattle.rm_invariant.specs.nodes.Names.{NamesApart}
 use Rattle.rm_invariant.proofs.resting.Nodes.{apart_map}
 
@@ -72,7 +73,7 @@ apart_added (node ∷ nodes) new h none = by (bytes_eq node.name new.name) refl 
   where
     by : (b : Bool) → bytes_eq node.name new.name ≡ b → (node_of nodes new.name ≡ None → NamesApart (nodes ++ new ∷ [])) → NamesApart (node ∷ (nodes ++ new ∷ []))
     by true e rest = absurd (let some : Some node ≡ None = rw e at none in cc)
-    by false e rest = (none_added nodes new node.name h.0 (text_back node.name new.name e), rest (rw e at none))
+    by false e rest = (none_added nodes new node.name h.0 (apart_names node.name new.name e), rest (rw e at none))
 
 -- a registration
 apart_registered : (m : Scene) (name : List ℕ) (registration : Registration) (reply : Reply) (found : Option NodeState) → node_of m.life.nodes name ≡ found → NamesApart m.life.nodes

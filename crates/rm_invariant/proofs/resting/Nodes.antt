@@ -2,18 +2,19 @@
 use Rattle.std.proofs.Common.{◌≡◌, ℕ, zero, suc, ◌<◌, List, [], ◌∷◌, length, get_or, Bool, true, false, Option, None, Some, map, refl, ◌∙◌, ap, arith}
 use Rattle.std.specs.Prelude.{Contains}
 use Rattle.std.specs.Str.{bytes_eq}
+use Rattle.rm_types.proofs.TestLemmas.{text_itself, same_text}
 use Rattle.rm_model.specs.State.{NodeState, Row}
 use Rattle.rm_model.specs.Containers.{ids_on}
 use Rattle.rm_model.specs.Nodes.{node_of}
 use Rattle.rm_invariant.specs.nodes.Names.{NamesApart}
 use Rattle.rm_invariant.specs.nodes.Invariant.{RegisteredInvariant, view_of, NodesInvariant}
-use Rattle.rm_invariant.proofs.nodes.Moved.{KeepsName, node_of-map, text-refl, same_text}
+use Rattle.rm_invariant.proofs.nodes.Moved.{KeepsName, node_of-map}
 
 -- each node is found by its name
 found_at : (nodes : List NodeState) (node : NodeState) (k : ℕ) → k < length nodes → get_or nodes k node ≡ node → (o : Option NodeState) → node_of nodes node.name ≡ o → o ≡ None → ⊥
 found_at [] node k lt is o f n = absurd (omega (arith, lt))
 found_at (one ∷ nodes) node zero lt is o f n =
-    let own : bytes_eq one.name node.name ≡ true = rw is (text-refl node.name) in
+    let own : bytes_eq one.name node.name ≡ true = rw is (text_itself node.name) in
     let g : Some one ≡ None = rw own at (f ∙ n) in cc
 found_at (one ∷ nodes) node (suc k) lt is o f n = by_test (bytes_eq one.name node.name) refl (found_at nodes node k (omega (arith, lt)) is)
   where
@@ -24,7 +25,7 @@ found_at (one ∷ nodes) node (suc k) lt is o f n = by_test (bytes_eq one.name n
 found_by_name : (nodes : List NodeState) → NamesApart nodes → (node : NodeState) (k : ℕ) → k < length nodes → get_or nodes k node ≡ node → node_of nodes node.name ≡ Some node
 found_by_name [] h node k lt is = absurd (omega (arith, lt))
 found_by_name (one ∷ nodes) h node zero lt is =
-    let own : bytes_eq one.name node.name ≡ true = rw is (text-refl node.name) in rw own (ap (λ (x : NodeState). Some x) is)
+    let own : bytes_eq one.name node.name ≡ true = rw is (text_itself node.name) in rw own (ap (λ (x : NodeState). Some x) is)
 found_by_name (one ∷ nodes) h node (suc k) lt is = by_test (bytes_eq one.name node.name) refl (found_by_name nodes h.1 node k (omega (arith, lt)) is) (found_at nodes node k (omega (arith, lt)) is)
   where
     by_test : (b : Bool) → bytes_eq one.name node.name ≡ b → node_of nodes node.name ≡ Some node → ((o : Option NodeState) → node_of nodes node.name ≡ o → o ≡ None → ⊥) → node_of (one ∷ nodes) node.name ≡ Some node

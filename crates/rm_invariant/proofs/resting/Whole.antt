@@ -1,6 +1,7 @@
 -- The cover: why an open life with both queues and the awaiting list empty owes nothing. Each item of what is owed contradicts one of the facts.
 use Rattle.std.proofs.Common.{◌≡◌, ◌≤◌, ◌<◌, ℕ, zero, suc, List, [], ◌∷◌, Bool, true, false, ◌||◌, length, get_or, count_by, refl, subst, arith}
 use Rattle.rm_types.specs.Ids.{is_container}
+use Rattle.rm_types.proofs.IdLemmas.{container_itself}
 use Rattle.rm_model.specs.Containers.{is_living}
 use Rattle.rm_model.specs.Owed.{Owed, opening, keeping, killing, accepting, deciding, asking, finishing, expiring, losing, ordering, working, leaving, retiring}
 use Rattle.rm_model.specs.State.{Row}
@@ -8,7 +9,6 @@ use Rattle.rm_tables.specs.declared.tables.Tables.{Tables}
 use Rattle.rm_invariant.specs.apps.Completed.{is_retire}
 use Rattle.rm_refinement.specs.History.{History, abstract_scene}
 use Rattle.rm_invariant.specs.nodes.Book.{All}
-use Rattle.rm_invariant.proofs.nodes.Lists.{container-refl}
 use Rattle.rm_invariant.specs.nodes.Names.{NamesApart}
 use Rattle.rm_invariant.proofs.resting.Nodes.{nothing_undone}
 use Rattle.rm_invariant.proofs.resting.Apps.{rests_at, known_kept, no_wish, accepted_or_kept, asks_master, undecided}
@@ -26,7 +26,7 @@ all_at P (one ∷ rows) row (suc k) lt is h = all_at P rows row k (omega (arith,
 -- a row of the book is of a container that lives
 living_at : (rows : List Row) (row : Row) (k : ℕ) → k < length rows → get_or rows k row ≡ row → is_living rows row.id ≡ true
 living_at [] row k lt is = absurd (omega (arith, lt))
-living_at (one ∷ rows) row zero lt is = let own : is_container one.id row.id ≡ true = rw is (container-refl row.id) in rw own refl
+living_at (one ∷ rows) row zero lt is = let own : is_container one.id row.id ≡ true = rw is (container_itself row.id) in rw own refl
 living_at (one ∷ rows) row (suc k) lt is = or_last (is_container one.id row.id) (living_at rows row k (omega (arith, lt)) is)
   where
     or_last : (a : Bool) → is_living rows row.id ≡ true → (a || is_living rows row.id) ≡ true
