@@ -25,6 +25,14 @@ pub if_answered : {E : Type 0} {P Q : Type 0} (r : Result Bool E) → (P → Q) 
 if_answered (Ok b) to from h = (λ is. to (h.0 is), λ is. h.1 (from is))
 if_answered (Err e) to from h = tt
 
+-- before the first life nothing is recorded, and none blew
+pub record IsUnbegun (t : Tables) : Type 0 where
+  pub recorded : t.tree ≡ no_records
+  pub blown : t.blown ≡ false
+
+pub unbegun : (t : Tables) (log : List Entry) (opening : List Op) → LogInvariant opening log t → log ≡ [] → IsUnbegun t
+unbegun t log opening k none = record { recorded = ap (λ (x : Tables). x.tree) (k.fresh none); blown = ap (λ (x : Tables). x.blown) (k.fresh none) }
+
 module _ (t : Tables) (log : List Entry) (tree : Records) (opening : List Op) (k : LogInvariant opening log t) (some : log ≢ []) (dead : t.alive ≡ false) where
   told_as : state_after opening log ≡ record { kept = k.history.kept; awaiting = t.awaiting; blew = t.blown; life = None }
   told_as = k.same ∙ rw dead refl

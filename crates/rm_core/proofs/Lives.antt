@@ -8,6 +8,7 @@ use Rattle.rm_types.specs.declared.entries.Entry.TheVariants.{Opened}
 use Rattle.rm_types.specs.declared.operations.Op.{Op}
 use Rattle.rm_types.specs.declared.settings.Settings.{Settings}
 use Rattle.rm_types.specs.Records.{Records, no_records, recorded, records}
+use Rattle.rm_types.proofs.TestLemmas.{never_nil}
 use Rattle.rm_model.specs.State.{Manager, opening_state}
 use Rattle.rm_model.specs.Changes.{after}
 use Rattle.rm_model.specs.Rules.{Allowed, MayOpen}
@@ -24,7 +25,7 @@ use Rattle.rm_invariant.specs.Phases.{NoLife, Phase, none, running, saving, shut
 use Rattle.rm_invariant.proofs.opening.Whole.{begin_starts, stands}
 use Rattle.rm_core.specs.Invariant.{HasPhase, LogInvariant}
 use Rattle.rm_core.proofs.Recorded.{stored, stored_ranges}
-use Rattle.rm_core.proofs.Standing.{AllAllowed-push, not_empty}
+use Rattle.rm_core.proofs.Standing.{AllAllowed-push}
 
 -- before the first life
 pub new_sound : (alloc : Global) (settings : Settings) → HasPhase (no_life alloc settings)
@@ -171,6 +172,6 @@ module _ (t : Tables) (tree : Records) (stamp : ℕ) (limits : KeepsLimits t.set
           same = fold_push after (opening_state opening) log first_entry ∙ ap (λ (s : Manager). after s first_entry) at_begin;
           recorded = λ some. sym is;
           phase = begin_phase kept (sym is);
-          fresh = λ none. absurd (not_empty log first_entry none);
+          fresh = λ none. absurd (never_nil log first_entry none);
           told_by = λ some. begun_told log refl;
         }

@@ -1,6 +1,7 @@
 -- Each move, whether it was made or refused, keeps what holds, and does what it says.
 use Rattle.std.proofs.Common.{◌∙◌, ◌≡◌, ◌≢◌, ℕ, ◌+◌, ◌<◌, ◌≤◌, ◌^◌, max, List, [], ◌∷◌, ◌++◌, Bool, true, false, not, ◌&&◌, ◌||◌, Option, None, Some, Ok, Err, Result, length, refl, sym, ap, subst, arith}
 use Rattle.std.specs.Prelude.{OnOk, OnErr, slice_get}
+use Rattle.std.proofs.lemmas.Bool.{and_parts, not-true}
 use Rattle.rm_types.specs.declared.entries.Entry.{Entry}
 use Rattle.rm_types.specs.declared.entries.Entry.TheVariants.{Blown as BlownEntry, Down as DownEntry, Handed, Kept as KeptEntry, Opened, Served, Settled}
 use Rattle.rm_types.specs.declared.ids.AppId.{AppId}
@@ -17,6 +18,7 @@ use Rattle.rm_types.specs.Lists.{is_nil}
 use Rattle.rm_types.specs.Ranges.{IsOperation}
 use Rattle.rm_types.specs.Records.{Records, fits_records, records}
 use Rattle.rm_types.specs.Limits.{greatest_stamp, most_served}
+use Rattle.rm_types.proofs.TestLemmas.{not_nil, nil_is}
 use Rattle.rm_queues.specs.Rules.{KeepsRules}
 use Rattle.rm_model.specs.Facts.{attempts_in}
 use Rattle.rm_model.specs.State.{Manager}
@@ -35,13 +37,15 @@ use Rattle.rm_invariant.proofs.measure.Lives.{begin_weighs, blow_lighter, down_w
 use Rattle.rm_invariant.specs.Phases.{Simulates}
 use Rattle.rm_invariant.specs.Invariant.{LifeInvariant}
 use Rattle.rm_invariant.proofs.Phases.{blow_leads, down_leads, fits_in, framed_in, goes_leads, hand_leads, handed_awaits, keep_leads, main_called, main_leads, recorded_of, sched_leads, serving_open, serving_shut, shut_serves, unblown_of}
-use Rattle.rm_invariant.specs.Transitions.{NodesFollowTable, RowsFollowTables}
+use Rattle.rm_book.specs.Books.{IsBook}
+use Rattle.rm_invariant.specs.Transitions.{BookFollowsTable, NodesFollowTable, RowsFollowTables}
+use Rattle.rm_invariant.proofs.ContainerTransitions.{book_stays, client_containers, clock_containers, kept_containers, main_event_containers, node_containers, sched_containers, served_containers}
 use Rattle.rm_invariant.proofs.Transitions.{client_goes, clock_goes, kept_goes, main_goes, master_goes, node_goes, rows_stay, sched_goes}
 use Rattle.rm_invariant.proofs.NodeTransitions.{client_nodes, clock_nodes, kept_nodes, main_event_nodes, master_nodes, node_nodes, nodes_stay, sched_nodes}
 use Rattle.rm_invariant.proofs.Settling.{settle_leads}
 use Rattle.rm_core.specs.declared.manager.Move.{Move}
 use Rattle.rm_core.specs.declared.manager.Move.TheVariants.{Begin, Blown, Down, Hand, Kept, Main, Sched, Serve, Settle}
-use Rattle.rm_core.specs.Moves.{CanBeginOver, MoveEffect, LifeAround}
+use Rattle.rm_core.specs.Moves.{CanBeginOver, MoveEffect, LifeAround, StatesFollowTables}
 use Rattle.rm_core.specs.Invariant.{HasPhase, IsSoundCore, LogInvariant}
 use Rattle.rm_core.specs.Queues.{answered, answered_where, landed_in, served_moved}
 use Rattle.rm_core.specs.Seen.{IsToBeKept, Seen, handed_op}
@@ -79,22 +83,6 @@ begun_sound queues m t next log longer r rules limits are done = record { rules 
 refused : (m : Move) (t next : Tables) (log longer : List Entry) (e : Refused) → HasPhase t → next ≡ t → Done m t next log longer (Err e)
 refused m t next log longer e s same = record { sound = rw same s; settings = rw same refl; does = tt }
 
-is_not : (b : Bool) → not b ≡ true → b ≡ false
-is_not true h = cc
-is_not false h = refl
-
-both : (a b : Bool) → (a && b) ≡ true → (a ≡ true) × (b ≡ true)
-both true b h = (refl, h)
-both false b h = cc
-
-nil_is : {X : Type 0} (xs : List X) → is_nil xs ≡ true → xs ≡ []
-nil_is [] h = refl
-nil_is (x ∷ xs) h = cc
-
-not_nil : {X : Type 0} (xs : List X) → not (is_nil xs) ≡ true → xs ≢ []
-not_nil [] h = cc
-not_nil (x ∷ xs) h = λ e. cc
-
 module _ (t : Tables) (log : List Entry) (s : HasPhase t) where
   -- the first event of the main queue
   main_made : (event : MainEvent) (rest : List MainEvent) → t.main ≡ event ∷ rest → (x : Unit {0}) → Done Main t (main_worked (main_step event t)).1 log (log ++ (main_worked (main_step event t)).0 ∷ []) (Ok x)
@@ -114,7 +102,7 @@ module _ (t : Tables) (log : List Entry) (s : HasPhase t) where
           served = own.served;
           blown = own.blown;
           tables = tt;
-          states = (main_goes s.history t event rest s.phase front, main_event_nodes t event rest front);
+          states = (main_goes s.history t event rest s.phase front, main_event_nodes t event rest front, main_event_containers t event rest front);
           settings = own.leads.settings;
           began = began_on own.leads;
         };
@@ -139,8 +127,8 @@ module _ (t : Tables) (log : List Entry) (s : HasPhase t) where
       by (event ∷ rest) front = let is = ok event rest front in rw (is.0, is.1) (main_made event rest front x)
 
   -- the first event of the scheduler's queue
-  sched_made : (event : SchedEvent) (list : List ContainerId) (rest : List SchedEvent) → t.sched ≡ event ∷ rest → EndsBy event t list → (x : Unit {0}) → Done Sched t (sched_worked (sched_step event list t)).1 log (log ++ (sched_worked (sched_step event list t)).0 ∷ []) (Ok x)
-  sched_made event list rest front ends x =
+  sched_made : IsBook t.book → (event : SchedEvent) (list : List ContainerId) (rest : List SchedEvent) → t.sched ≡ event ∷ rest → EndsBy event t list → (x : Unit {0}) → Done Sched t (sched_worked (sched_step event list t)).1 log (log ++ (sched_worked (sched_step event list t)).0 ∷ []) (Ok x)
+  sched_made lawful event list rest front ends x =
       let own = sched_leads s.history t event list rest s.phase front ends in
       let told = sched_told t rest event front list in
       record {
@@ -156,32 +144,32 @@ module _ (t : Tables) (log : List Entry) (s : HasPhase t) where
           served = own.served;
           blown = own.blown;
           tables = tt;
-          states = (sched_goes t event list, sched_nodes t event list);
+          states = (sched_goes t event list, sched_nodes t event list, sched_containers t lawful event list);
           settings = own.leads.settings;
           began = began_on own.leads;
         };
       }
 
-  pub sched_done : (next : Tables) (longer : List Entry) (r : Result (Unit {0}) Refused)
+  pub sched_done : IsBook t.book → (next : Tables) (longer : List Entry) (r : Result (Unit {0}) Refused)
       → OnOk r ((event : SchedEvent) (rest : List SchedEvent) → t.sched ≡ event ∷ rest → (list : List ContainerId) × EndsBy event t list × (next ≡ (sched_worked (sched_step event list t)).1) × (longer ≡ log ++ (sched_worked (sched_step event list t)).0 ∷ []))
       → OnOk r (t.sched ≢ []) → OnErr r ((next ≡ t) × (longer ≡ log)) → Done Sched t next log longer r
-  sched_done next longer (Err e) ok some err = refused Sched t next log longer e s err.0
-  sched_done next longer (Ok x) ok some err = by t.sched refl
+  sched_done lawful next longer (Err e) ok some err = refused Sched t next log longer e s err.0
+  sched_done lawful next longer (Ok x) ok some err = by t.sched refl
     where
       by : (sched : List SchedEvent) → t.sched ≡ sched → Done Sched t next log longer (Ok x)
       by [] front = absurd (some front)
-      by (event ∷ rest) front = let is = ok event rest front in rw (is.2, is.3) (sched_made event is.0 rest front is.1 x)
+      by (event ∷ rest) front = let is = ok event rest front in rw (is.2, is.3) (sched_made lawful event is.0 rest front is.1 x)
 
   -- the first awaiting operation is handed
   pub hand_done : (next : Tables) (longer : List Entry) (r : Result (Unit {0}) Refused) → OnOk r ((next ≡ handed_out t) × (longer ≡ log ++ Handed ∷ [])) → OnOk r (is_ready t HandLane ≡ true)
       → OnErr r ((next ≡ t) × (longer ≡ log)) → Done Hand t next log longer r
   hand_done next longer (Err e) ok ready err = refused Hand t next log longer e s err.0
   hand_done next longer (Ok x) ok ready err =
-      let first = both t.alive (not (is_nil t.awaiting) && (not t.handed && not t.blown)) ready in
-      let second = both (not (is_nil t.awaiting)) (not t.handed && not t.blown) first.1 in
-      let free = is_not t.handed (both (not t.handed) (not t.blown) second.1).0 in
+      let first = and_parts t.alive (not (is_nil t.awaiting) && (not t.handed && not t.blown)) ready in
+      let second = and_parts (not (is_nil t.awaiting)) (not t.handed && not t.blown) first.1 in
+      let free = not-true t.handed (and_parts (not t.handed) (not t.blown) second.1).0 in
       let some = not_nil t.awaiting second.0 in
-      let unblown = is_not t.blown (both (not t.handed) (not t.blown) second.1).1 in
+      let unblown = not-true t.blown (and_parts (not t.handed) (not t.blown) second.1).1 in
       let own = hand_leads s.history t s.phase first.0 some free unblown in
       rw (ok.0, ok.1) (record {
         sound = sound_after s.history t Handed (handed_out t) own.leads;
@@ -195,7 +183,7 @@ module _ (t : Tables) (log : List Entry) (s : HasPhase t) where
           served = refl;
           blown = refl;
           tables = tt;
-          states = (rows_stay t.rows, nodes_stay t.nodes);
+          states = (rows_stay t.rows, nodes_stay t.nodes, book_stays t.book);
           settings = refl;
           began = refl;
         };
@@ -221,7 +209,7 @@ module _ (t : Tables) (log : List Entry) (s : HasPhase t) where
           served = own.served;
           blown = own.blown;
           tables = tt;
-          states = (kept_goes op t, kept_nodes t op);
+          states = (kept_goes op t, kept_nodes t op, kept_containers t op);
           settings = own.leads.settings;
           began = began_on own.leads;
         };
@@ -234,15 +222,15 @@ module _ (t : Tables) (log : List Entry) (s : HasPhase t) where
   keep_done next longer (Ok x) ok ready err = by t.awaiting refl
     where
       by : (awaiting : List Op) → t.awaiting ≡ awaiting → Done Kept t next log longer (Ok x)
-      by [] front = let lives = both t.alive t.handed ready in absurd (handed_awaits s.history t s.phase lives.0 lives.1 front)
-      by (op ∷ rest) front = let lives = both t.alive t.handed ready in let is = ok op rest front in rw (is.0, is.1) (keep_made op rest front lives.0 lives.1 x)
+      by [] front = let lives = and_parts t.alive t.handed ready in absurd (handed_awaits s.history t s.phase lives.0 lives.1 front)
+      by (op ∷ rest) front = let lives = and_parts t.alive t.handed ready in let is = ok op rest front in rw (is.0, is.1) (keep_made op rest front lives.0 lives.1 x)
 
   -- or refused
   pub blow_done : (passed : ℕ) (next : Tables) (longer : List Entry) (r : Result (Unit {0}) Refused) → OnOk r ((next ≡ refused_by t) × (longer ≡ log ++ BlownEntry passed ∷ [])) → OnOk r (is_ready t Write ≡ true)
       → OnErr r ((next ≡ t) × (longer ≡ log)) → Done (Blown passed) t next log longer r
   blow_done passed next longer (Err e) ok ready err = refused (Blown passed) t next log longer e s err.0
   blow_done passed next longer (Ok x) ok ready err =
-      let lives = both t.alive t.handed ready in
+      let lives = and_parts t.alive t.handed ready in
       let leads = blow_leads s.history t passed s.phase lives.0 lives.1 in
       rw (ok.0, ok.1) (record {
         sound = sound_after s.history t (BlownEntry passed) (refused_by t) leads;
@@ -256,7 +244,7 @@ module _ (t : Tables) (log : List Entry) (s : HasPhase t) where
           served = refl;
           blown = refl;
           tables = tt;
-          states = (rows_stay t.rows, nodes_stay t.nodes);
+          states = (rows_stay t.rows, nodes_stay t.nodes, book_stays t.book);
           settings = refl;
           began = refl;
         };
@@ -264,18 +252,18 @@ module _ (t : Tables) (log : List Entry) (s : HasPhase t) where
 
   -- what awaits while an operation is with the store, and that it fits
   pub write_awaits : is_ready t Write ≡ true → t.awaiting ≢ []
-  write_awaits ready = let lives = both t.alive t.handed ready in handed_awaits s.history t s.phase lives.0 lives.1
+  write_awaits ready = let lives = and_parts t.alive t.handed ready in handed_awaits s.history t s.phase lives.0 lives.1
 
   pub write_fits : is_ready t Write ≡ true → (op : Op) (rest : List Op) → t.awaiting ≡ op ∷ rest → fits_records t.tree op ≡ true
-  write_fits ready op rest front = let lives = both t.alive t.handed ready in fits_in s.history t op rest s.phase lives.0 lives.1 front
+  write_fits ready op rest front = let lives = and_parts t.alive t.handed ready in fits_in s.history t op rest s.phase lives.0 lives.1 front
 
   -- the segment settles
   pub settle_done : (longer : List Entry) (r : Result (Unit {0}) Refused) → OnOk r (longer ≡ log ++ Settled ∷ []) → OnOk r (is_ready t End ≡ true) → OnErr r (longer ≡ log) → Done Settle t t log longer r
   settle_done longer (Err e) ok ready err = refused Settle t t log longer e s refl
   settle_done longer (Ok x) ok ready err =
-      let first = both t.alive (is_nil t.main && (is_nil t.sched && is_nil t.awaiting)) ready in
-      let second = both (is_nil t.main) (is_nil t.sched && is_nil t.awaiting) first.1 in
-      let third = both (is_nil t.sched) (is_nil t.awaiting) second.1 in
+      let first = and_parts t.alive (is_nil t.main && (is_nil t.sched && is_nil t.awaiting)) ready in
+      let second = and_parts (is_nil t.main) (is_nil t.sched && is_nil t.awaiting) first.1 in
+      let third = and_parts (is_nil t.sched) (is_nil t.awaiting) second.1 in
       let m = nil_is t.main second.0 in
       let n = nil_is t.sched third.0 in
       let w = nil_is t.awaiting third.1 in
@@ -291,7 +279,7 @@ module _ (t : Tables) (log : List Entry) (s : HasPhase t) where
           served = refl;
           blown = refl;
           tables = refl;
-          states = (rows_stay t.rows, nodes_stay t.nodes);
+          states = (rows_stay t.rows, nodes_stay t.nodes, book_stays t.book);
           settings = refl;
           began = refl;
         };
@@ -302,8 +290,8 @@ module _ (t : Tables) (log : List Entry) (s : HasPhase t) where
       → OnErr r ((next ≡ t) × (longer ≡ log)) → Done Down t next log longer r
   down_done next longer (Err e) ok ready err = refused Down t next log longer e s err.0
   down_done next longer (Ok x) ok ready err =
-      let lives = both t.alive (not t.handed) ready in
-      let free = is_not t.handed lives.1 in
+      let lives = and_parts t.alive (not t.handed) ready in
+      let free = not-true t.handed lives.1 in
       let leads = down_leads s.history t s.phase lives.0 free in
       rw (ok.0, ok.1) (record {
         sound = sound_after s.history t DownEntry (gone_down t) leads;
@@ -359,23 +347,25 @@ module _ (t : Tables) (log : List Entry) (s : HasPhase t) where
 
   -- a life that is open
   pub serving_runs : is_ready t Client ≡ true → t.is_open ≡ true → LifeInvariant s.history t
-  serving_runs ready open_ = serving_open s.history t s.phase (both t.alive (t.is_open || t.blown) ready).0 open_
+  serving_runs ready open_ = serving_open s.history t s.phase (and_parts t.alive (t.is_open || t.blown) ready).0 open_
 
   -- what a message of an open life does to the rows
-  serve_rows : (message : Message) (reply : Reply) → t.is_open ≡ true → RowsFollowTables t.rows (served_moved message reply t).rows × NodesFollowTable t.nodes (served_moved message reply t).nodes
-  serve_rows message reply open_ = subst (λ (b : Bool). RowsFollowTables t.rows (answered_where b message reply t).rows × NodesFollowTable t.nodes (answered_where b message reply t).nodes) (sym open_) (by message)
+  serve_rows : IsBook t.book → LifeInvariant s.history t → (message : Message) (reply : Reply) → t.is_open ≡ true → IsReply t message reply → StatesFollowTables (Serve message) t (served_moved message reply t)
+  serve_rows lawful r message reply open_ answers =
+      subst (λ (b : Bool). RowsFollowTables t.rows (answered_where b message reply t).rows × NodesFollowTable t.nodes (answered_where b message reply t).nodes × BookFollowsTable t.book (answered_where b message reply t).book) (sym open_)
+      (by message (subst (λ (b : Bool). IsReplyWhere b t message reply) open_ answers))
     where
-      by : (message : Message) → RowsFollowTables t.rows (answered message reply t).rows × NodesFollowTable t.nodes (answered message reply t).nodes
-      by (messages.Client user ask) = (client_goes t ask reply, client_nodes t ask reply)
-      by (messages.Master attempt ask) = (master_goes t attempt ask reply, master_nodes t attempt ask reply)
-      by (messages.Node name ask) = (node_goes t name ask reply, node_nodes t name ask reply)
-      by (messages.Clock ask) = (clock_goes t ask reply, clock_nodes t ask reply)
+      by : (message : Message) → IsReplyWhere true t message reply → RowsFollowTables t.rows (answered message reply t).rows × NodesFollowTable t.nodes (answered message reply t).nodes × BookFollowsTable t.book (answered message reply t).book
+      by (messages.Client user ask) answers = (client_goes t ask reply, client_nodes t ask reply, client_containers t lawful ask reply)
+      by (messages.Master attempt ask) answers = (master_goes t attempt ask reply, master_nodes t attempt ask reply, served_containers s.history t r lawful attempt ask reply answers)
+      by (messages.Node name ask) answers = (node_goes t name ask reply, node_nodes t name ask reply, node_containers t lawful name ask reply)
+      by (messages.Clock ask) answers = (clock_goes t ask reply, clock_nodes t ask reply, clock_containers t lawful ask reply)
 
   -- a message of an open life is answered
-  open_made : (message : Message) → IsMessage message → t.served < most_served → is_ready t Client ≡ true → t.is_open ≡ true → (reply : Reply) → IsReply t message reply → (x : Unit {0})
+  open_made : IsBook t.book → (message : Message) → IsMessage message → t.served < most_served → is_ready t Client ≡ true → t.is_open ≡ true → (reply : Reply) → IsReply t message reply → (x : Unit {0})
       → Done (Serve message) t (served_moved message reply t) log (log ++ Served (sender_of message) message reply ∷ []) (Ok x)
-  open_made message in_range few ready open_ reply answers x =
-      let lives = both t.alive (t.is_open || t.blown) ready in
+  open_made lawful message in_range few ready open_ reply answers x =
+      let lives = and_parts t.alive (t.is_open || t.blown) ready in
       let r = serving_runs ready open_ in
       let goes = serve_goes s.history t r few message reply in_range answers in
       let leads = goes_leads s.history t (Served (sender_of message) message reply) (served_moved message reply t) lives.0 goes in
@@ -394,7 +384,7 @@ module _ (t : Tables) (log : List Entry) (s : HasPhase t) where
           served = refl;
           blown = goes.stays.blown;
           tables = tt;
-          states = serve_rows message reply open_;
+          states = serve_rows lawful r message reply open_ answers;
           settings = leads.settings;
           began = began_on leads;
         };
@@ -404,7 +394,7 @@ module _ (t : Tables) (log : List Entry) (s : HasPhase t) where
   shut_made : (message : Message) → is_ready t Client ≡ true → t.is_open ≡ false → (x : Unit {0})
       → Done (Serve message) t (record t { served = t.served + 1 }) log (log ++ Served (sender_of message) message NotOpen ∷ []) (Ok x)
   shut_made message ready closed x =
-      let lives = both t.alive (t.is_open || t.blown) ready in
+      let lives = and_parts t.alive (t.is_open || t.blown) ready in
       let blew : t.blown ≡ true = let b = lives.1 in rw closed at b in
       let leads = shut_serves s.history t message (serving_shut s.history t s.phase lives.0 closed blew) in
       record {
@@ -421,26 +411,26 @@ module _ (t : Tables) (log : List Entry) (s : HasPhase t) where
           served = refl;
           blown = refl;
           tables = tt;
-          states = (rows_stay t.rows, nodes_stay t.nodes);
+          states = (rows_stay t.rows, nodes_stay t.nodes, book_stays t.book);
           settings = refl;
           began = refl;
         };
       }
 
   -- a message is answered
-  serve_made : (message : Message) → IsMessage message → t.served < most_served → is_ready t Client ≡ true → (b : Bool) → t.is_open ≡ b → (reply : Reply) → IsReply t message reply → (x : Unit {0})
+  serve_made : IsBook t.book → (message : Message) → IsMessage message → t.served < most_served → is_ready t Client ≡ true → (b : Bool) → t.is_open ≡ b → (reply : Reply) → IsReply t message reply → (x : Unit {0})
       → Done (Serve message) t (served_moved message reply t) log (log ++ Served (sender_of message) message reply ∷ []) (Ok x)
-  serve_made message in_range few ready true open_ reply answers x = open_made message in_range few ready open_ reply answers x
-  serve_made message in_range few ready false closed reply answers x =
+  serve_made lawful message in_range few ready true open_ reply answers x = open_made lawful message in_range few ready open_ reply answers x
+  serve_made lawful message in_range few ready false closed reply answers x =
       let is : reply ≡ NotOpen = subst (λ (b : Bool). IsReplyWhere b t message reply) closed answers in
       let same : served_moved message reply t ≡ record t { served = t.served + 1 } = ap (λ (b : Bool). record (answered_where b message reply t) { served = t.served + 1 }) closed in
       subst (λ (next : Tables). Done (Serve message) t next log (log ++ Served (sender_of message) message reply ∷ []) (Ok x)) (sym same)
       (subst (λ (r : Reply). Done (Serve message) t (record t { served = t.served + 1 }) log (log ++ Served (sender_of message) message r ∷ []) (Ok x)) (sym is) (shut_made message ready closed x))
 
-  pub serve_done : (message : Message) → IsMessage message → t.served < most_served → (next : Tables) (longer : List Entry) (r : Result (Unit {0}) Refused)
+  pub serve_done : IsBook t.book → (message : Message) → IsMessage message → t.served < most_served → (next : Tables) (longer : List Entry) (r : Result (Unit {0}) Refused)
       → OnOk r (IsServed t next log longer message) → OnOk r (is_ready t Client ≡ true) → OnErr r ((next ≡ t) × (longer ≡ log)) → Done (Serve message) t next log longer r
-  serve_done message in_range few next longer (Err e) ok ready err = refused (Serve message) t next log longer e s err.0
-  serve_done message in_range few next longer (Ok x) ok ready err = rw (ok.2, ok.3) (serve_made message in_range few ready t.is_open refl ok.0 ok.1 x)
+  serve_done lawful message in_range few next longer (Err e) ok ready err = refused (Serve message) t next log longer e s err.0
+  serve_done lawful message in_range few next longer (Ok x) ok ready err = rw (ok.2, ok.3) (serve_made lawful message in_range few ready t.is_open refl ok.0 ok.1 x)
 
   -- a message is refused where its lane isn't ready
   pub serve_unready : (message : Message) → is_ready t Client ≡ false → is_ready t (feed_lane (sender_of message)) ≡ false

@@ -9,12 +9,14 @@ use Rattle.rm_types.specs.declared.operations.Submission.{Submission}
 use Rattle.rm_types.specs.declared.records.AppRecord.{AppRecord}
 use Rattle.rm_types.specs.Ids.{is_app}
 use Rattle.rm_types.specs.Records.{Records, records, recorded, no_records, new_record, record_of, fits_records, stray_from, with_record, with_end}
+use Rattle.rm_types.proofs.TestLemmas.{is_some-find}
+use Rattle.rm_types.proofs.IdLemmas.{same_app}
 use Rattle.rm_core.specs.Moves.{CanBeginOver}
 use Rattle.rm_invariant.proofs.apps.Counts.{fails_never}
 use Rattle.rm_invariant.specs.apps.Completed.{order_in, order_of}
 use Rattle.rm_invariant.specs.apps.View.{changed_if, gone_if}
 use Rattle.rm_invariant.proofs.apps.Completing.{order_new}
-use Rattle.rm_invariant.proofs.apps.Found.{found_gone, is_app_same}
+use Rattle.rm_invariant.proofs.apps.Found.{found_gone}
 use Rattle.rm_invariant.proofs.apps.Recorded.{record_changed}
 use Rattle.rm_invariant.specs.masters.Invariant.{MastersAreOwn}
 use Rattle.rm_invariant.specs.masters.Sound.{RecordsAreSound}
@@ -34,15 +36,6 @@ count_end p xs x =
     let e : count_by p (xs ++ x ∷ []) ≡ count_by p xs + count_by p (x ∷ []) = sum_by-append (λ y. cond (p y) 1 0) xs (x ∷ []) in
     let f = count_front p x [] in
     omega (arith, e, f)
-
-find_more : {X : Type 0} (p : X → Bool) (x : X) (xs : List X) (b : Bool) → p x ≡ b → is_some (find p xs) ≡ list_any p xs → is_some (find p (x ∷ xs)) ≡ list_any p (x ∷ xs)
-find_more p x xs true e h = rw e refl
-find_more p x xs false e h = rw e h
-
--- something is found exactly where one passes
-is_some-find : {X : Type 0} (p : X → Bool) (xs : List X) → is_some (find p xs) ≡ list_any p xs
-is_some-find p [] = refl
-is_some-find p (x ∷ xs) = find_more p x xs (p x) refl (is_some-find p xs)
 
 -- each application is there once at most
 abbrev pub EachOnce : List AppRecord → Type 0
@@ -91,7 +84,7 @@ none_there apps id (Some app) e h = cc
 added_at : (apps : List AppRecord) (id : AppId) (s : Submission) (q : AppId) (b : Bool) → is_app id q ≡ b → kept_at id apps ≡ 0 → EachOnce apps
     → kept_at q (apps ++ new_record id s ∷ []) ≤ 1
 added_at apps id s q true e none once =
-    let at : kept_at q apps ≡ 0 = rw (← is_app_same id q e) none in
+    let at : kept_at q apps ≡ 0 = rw (← same_app id q e) none in
     let c = count_end (λ (one : AppRecord). is_app one.id q) apps (new_record id s) in
     let z : ◌≡◌ {A = ℕ} (cond (is_app id q) 1 0) 1 = rw e refl in
     omega (arith, at, c, z)

@@ -5,6 +5,7 @@ use Rattle.std.specs.declared.alloc.Global.{Global}
 use Rattle.rm_types.specs.declared.entries.Entry.{Entry}
 use Rattle.rm_types.specs.declared.operations.Op.{Op}
 use Rattle.rm_types.specs.declared.settings.Settings.{Settings}
+use Rattle.rm_types.proofs.TestLemmas.{never_nil}
 use Rattle.rm_model.specs.State.{Manager, opening_state}
 use Rattle.rm_model.specs.Changes.{after, after_all}
 use Rattle.rm_model.specs.Rules.{Allowed}
@@ -25,11 +26,6 @@ AllAllowed-push settings s (x ∷ log) e h a = (h.0, AllAllowed-push settings (a
 pub record Moves (h : History) (t : Tables) (e : Entry) (next : Tables) : Type 0 where
   pub leads : Simulates h t e next
   pub own : next ≡ tables_moved t e
-
--- a log with an entry at its end
-pub not_empty : {X : Type 0} (xs : List X) (x : X) → xs ++ x ∷ [] ≢ []
-not_empty [] x = λ h. cc
-not_empty (y ∷ xs) x = λ h. cc
 
 -- the tables are told by one more entry, where a life began before
 told_more : (opening : List Op) (log : List Entry) (t next : Tables) (e : Entry) → t ≡ tables_after t.alloc t.settings opening log → next.settings ≡ t.settings → next.alloc ≡ t.alloc → next ≡ tables_moved t e
@@ -53,7 +49,7 @@ keeps_more opening log t next e k alive m =
       same = fold_push after (opening_state opening) log e ∙ ap (λ (s : Manager). after s e) k.same ∙ l.same;
       recorded = λ some. l.recorded;
       phase = l.phase;
-      fresh = λ none. absurd (not_empty log e none);
+      fresh = λ none. absurd (never_nil log e none);
       told_by = λ some. told_more opening log t next e (k.told_by (some_entry opening log t k alive)) l.settings l.alloc m.own;
     }
 

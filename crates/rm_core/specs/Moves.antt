@@ -21,7 +21,7 @@ use Rattle.rm_tables.specs.declared.tables.Tables.{Tables}
 use Rattle.rm_tables.specs.Lives.{is_ready, may_go_down}
 use Rattle.rm_invariant.specs.messages.Ranges.{IsMessage}
 use Rattle.rm_invariant.specs.measure.Measure.{begin_measure, message_measure, measure}
-use Rattle.rm_invariant.specs.Transitions.{NodesFollowTable, RowsFollowTables}
+use Rattle.rm_invariant.specs.Transitions.{BookFollowsTable, NodesFollowTable, RowsFollowTables}
 use Rattle.rm_core.specs.declared.manager.Move.{Move}
 use Rattle.rm_core.specs.declared.manager.Move.TheVariants.{Serve, Main, Sched, Hand, Kept, Blown, Settle, Down, Begin}
 
@@ -129,12 +129,12 @@ abbrev pub TablesStay : Move → Tables → Tables → Type 0
 TablesStay Settle old new = new ≡ old
 TablesStay _ old new = Unit {0}
 
--- by a move the state of each application, and that of its current attempt, and that of each node, goes along a row of its
--- table, or stays; of a life that begins or goes down this says nothing
+-- by a move the state of each application, that of its current attempt, and that of each node and container goes along a row of its
+-- table, or stays, and containers come into the book and leave it likewise; of a life that begins or goes down this says nothing
 abbrev pub StatesFollowTables : Move → Tables → Tables → Type 0
 StatesFollowTables (Begin tree handed) old new = Unit {0}
 StatesFollowTables Down old new = Unit {0}
-StatesFollowTables _ old new = RowsFollowTables old.rows new.rows × NodesFollowTable old.nodes new.nodes
+StatesFollowTables _ old new = RowsFollowTables old.rows new.rows × NodesFollowTable old.nodes new.nodes × BookFollowsTable old.book new.book
 
 -- what a move that is made does: it adds its entry; over each store for which the log was lawful, and over which a life that begins
 -- begins, it is lawful still; it was ready; less is left to do, as far as its kind says

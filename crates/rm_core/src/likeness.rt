@@ -89,7 +89,11 @@ pub fn is_after(before: &Tree, op: &Op, tree: &Tree) -> Result<bool, NoMemory>
 {
     let mut with_op = before.copy()?;
     match with_op.apply(op) {
-        Ok(()) => Ok(are_same(tree, &with_op)),
+        Ok(()) => {
+            // What a life removed left gaps, over which each look at a place would walk.
+            with_op.close_gaps();
+            Ok(are_same(tree, &with_op))
+        }
         Err(TreeError::Memory) => Err(NoMemory),
         Err(TreeError::Stray) => unreachable!(),
     }

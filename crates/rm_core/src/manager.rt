@@ -5,6 +5,7 @@ ghost use Rattle.rm_types.specs.declared.messages.Lane.{Lane};
 ghost use Rattle.rm_types.specs.declared.operations.Op.{Op as AnyOp};
 ghost use Rattle.rm_types.specs.Ranges.{IsOperation};
 ghost use Rattle.rm_types.specs.Limits.{greatest_stamp, most_served};
+ghost use Rattle.rm_types.specs.Records.{no_records};
 ghost use Rattle.rm_queues.specs.Rules.{KeepsRules};
 ghost use Rattle.rm_model.specs.State.{opening_state};
 ghost use Rattle.rm_model.specs.Lawful.{AllAllowed, state_after};
@@ -145,10 +146,11 @@ impl Core {
     }
 
     /// Whether a tree is what the last life can have left of the store: what the kept operations amount to or, where that life
-    /// blew, these and the first that awaits.
+    /// blew, these and the first that awaits. Before the first life, when nothing is known of a store, whether it records nothing.
     pub fn is_left(&self, tree: &Tree) -> Result<bool, NoMemory>
         requires { self.now.tables.alive ≡ false }
-        ensures { (opening : List AnyOp) → StandsFor opening self.now → (self.now.log ≡ [] → ⊥) → IfOk result (λ left. IsTrue left ↔ IsLeft tree.now (state_after opening self.now.log)) }
+        ensures left { (opening : List AnyOp) → StandsFor opening self.now → (self.now.log ≡ [] → ⊥) → IfOk result (λ left. IsTrue left ↔ IsLeft tree.now (state_after opening self.now.log)) }
+        ensures unbegun { (opening : List AnyOp) → StandsFor opening self.now → self.now.log ≡ [] → IfOk result (λ left. IsTrue left ↔ (tree.now ≡ no_records)) }
     {
         if are_same(&self.tables.tree, tree) {
             return Ok(true);
@@ -169,13 +171,13 @@ impl Core {
         let _ = &self.log;
     }
 
-    /// Makes one move: the log has one more entry, or the move is refused and nothing has changed. `NotReady` comes only where the
-    /// move's lane isn't ready, where `Memory` may come too. Where the log was lawful over a store that held an opening list, and a life begins over what is
-    /// kept by then, it is lawful after the move too.
+    /// Makes one move: the log has one more entry, or the move is refused and nothing has changed. `NotReady` comes exactly where the
+    /// move's lane isn't ready: a life begins where none stands, and one goes down where no operation is with the store. Where the log
+    /// was lawful over a store that held an opening list, and a life begins over what is kept by then, it is lawful after the move too.
     pub fn step(&mut self, next: Move) -> Result<(), Refused>
         requires { CanMake self.old.tables next }
         ensures does { OnOk result (MoveEffect next self.old self.new) }
-        ensures not_ready { IsErrOf result Refused.NotReady → may_make self.old.tables next ≡ false }
+        ensures not_ready { IsErrOf result Refused.NotReady ↔ (may_make self.old.tables next ≡ false) }
         ensures err { OnErr result (self.new ≡ self.old) }
     {
         match next {
@@ -196,7 +198,7 @@ impl Core {
         requires low { 1 ≤ handed }
         requires high { handed ≤ greatest_stamp }
         ensures does { OnOk result (MoveEffect (Move.Begin tree handed) self.old self.new) }
-        ensures not_ready { IsErrOf result Refused.NotReady → is_ready self.old.tables Lane.Begin ≡ false }
+        ensures not_ready { IsErrOf result Refused.NotReady ↔ (is_ready self.old.tables Lane.Begin ≡ false) }
         ensures err { OnErr result (self.new ≡ self.old) }
     {
         if self.tables.alive {
@@ -209,7 +211,7 @@ impl Core {
 
     fn main(&mut self) -> Result<(), Refused>
         ensures does { OnOk result (MoveEffect Move.Main self.old self.new) }
-        ensures not_ready { IsErrOf result Refused.NotReady → is_ready self.old.tables Lane.Main ≡ false }
+        ensures not_ready { IsErrOf result Refused.NotReady ↔ (is_ready self.old.tables Lane.Main ≡ false) }
         ensures err { OnErr result (self.new ≡ self.old) }
     {
         moves::main(&mut self.tables, &mut self.log)
@@ -217,15 +219,17 @@ impl Core {
 
     fn sched(&mut self) -> Result<(), Refused>
         ensures does { OnOk result (MoveEffect Move.Sched self.old self.new) }
-        ensures not_ready { IsErrOf result Refused.NotReady → is_ready self.old.tables Lane.Sched ≡ false }
+        ensures not_ready { IsErrOf result Refused.NotReady ↔ (is_ready self.old.tables Lane.Sched ≡ false) }
         ensures err { OnErr result (self.new ≡ self.old) }
     {
+        // With its length a book tells that its containers live, each in one row.
+        let _living = self.tables.book.len();
         moves::sched(&mut self.tables, &mut self.log)
     }
 
     fn hand(&mut self) -> Result<(), Refused>
         ensures does { OnOk result (MoveEffect Move.Hand self.old self.new) }
-        ensures not_ready { IsErrOf result Refused.NotReady → is_ready self.old.tables Lane.Hand ≡ false }
+        ensures not_ready { IsErrOf result Refused.NotReady ↔ (is_ready self.old.tables Lane.Hand ≡ false) }
         ensures err { OnErr result (self.new ≡ self.old) }
     {
         moves::hand(&mut self.tables, &mut self.log)
@@ -233,7 +237,7 @@ impl Core {
 
     fn keep(&mut self) -> Result<(), Refused>
         ensures does { OnOk result (MoveEffect Move.Kept self.old self.new) }
-        ensures not_ready { IsErrOf result Refused.NotReady → is_ready self.old.tables Lane.Write ≡ false }
+        ensures not_ready { IsErrOf result Refused.NotReady ↔ (is_ready self.old.tables Lane.Write ≡ false) }
         ensures err { OnErr result (self.new ≡ self.old) }
     {
         moves::keep(&mut self.tables, &mut self.log)
@@ -241,7 +245,7 @@ impl Core {
 
     fn blow(&mut self, passed: u32) -> Result<(), Refused>
         ensures does { OnOk result (MoveEffect (Move.Blown passed) self.old self.new) }
-        ensures not_ready { IsErrOf result Refused.NotReady → is_ready self.old.tables Lane.Write ≡ false }
+        ensures not_ready { IsErrOf result Refused.NotReady ↔ (is_ready self.old.tables Lane.Write ≡ false) }
         ensures err { OnErr result (self.new ≡ self.old) }
     {
         moves::blow(&mut self.tables, &mut self.log, passed)
@@ -251,18 +255,19 @@ impl Core {
         requires message { IsMessage message }
         requires few { self.old.tables.served < most_served }
         ensures does { OnOk result (MoveEffect (Move.Serve message) self.old self.new) }
-        ensures not_ready { IsErrOf result Refused.NotReady → may_make self.old.tables (Move.Serve message) ≡ false }
+        ensures not_ready { IsErrOf result Refused.NotReady ↔ (may_make self.old.tables (Move.Serve message) ≡ false) }
         ensures err { OnErr result (self.new ≡ self.old) }
     {
         let Some(queues) = &self.queues else {
             return Err(Refused::NotReady);
         };
+        let _living = self.tables.book.len();
         moves::answer_message(queues, &mut self.tables, &mut self.log, message)
     }
 
     fn settle(&mut self) -> Result<(), Refused>
         ensures does { OnOk result (MoveEffect Move.Settle self.old self.new) }
-        ensures not_ready { IsErrOf result Refused.NotReady → is_ready self.old.tables Lane.End ≡ false }
+        ensures not_ready { IsErrOf result Refused.NotReady ↔ (is_ready self.old.tables Lane.End ≡ false) }
         ensures err { OnErr result (self.new ≡ self.old) }
     {
         moves::settle(&self.tables, &mut self.log)
@@ -270,7 +275,7 @@ impl Core {
 
     fn go_down(&mut self) -> Result<(), Refused>
         ensures does { OnOk result (MoveEffect Move.Down self.old self.new) }
-        ensures not_ready { IsErrOf result Refused.NotReady → may_go_down self.old.tables ≡ false }
+        ensures not_ready { IsErrOf result Refused.NotReady ↔ (may_go_down self.old.tables ≡ false) }
         ensures err { OnErr result (self.new ≡ self.old) }
     {
         moves::go_down(&mut self.tables, &mut self.log)

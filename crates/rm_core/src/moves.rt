@@ -1,4 +1,4 @@
-ghost use Rattle.std.specs.Prelude.{◌≡◌, ℕ, ◌≢◌, ◌+◌, ◌<◌, ◌≤◌, ◌^◌, List, [], ◌∷◌, ◌++◌, length, IfOk, OnOk, OnErr, IsErrOf, Err, true, false};
+ghost use Rattle.std.specs.Prelude.{◌≡◌, ℕ, ◌≢◌, ◌↔◌, ◌+◌, ◌<◌, ◌≤◌, ◌^◌, List, [], ◌∷◌, ◌++◌, length, IfOk, OnOk, OnErr, IsErrOf, Err, true, false, vec_capacity, vec_len};
 ghost use Rattle.rm_types.specs.declared.entries.Entry.{Entry};
 ghost use Rattle.rm_types.specs.declared.ids.AppId.{AppId};
 ghost use Rattle.rm_types.specs.declared.ids.ContainerId.{ContainerId};
@@ -25,9 +25,40 @@ use rm_queues::QueueTree;
 use rm_tables::{Refused, Tables};
 use rm_tree::Tree;
 use rm_types::{Boxed, Duplicate, Entry, Items, Lane, Message, NoMemory, Reply, Sender};
+use std::alloc::Global;
+use std::mem;
 
-// Each move takes the room for its entry first, so that the tables and the log change together or not at all. The entry
-// that takes the room is replaced by the move's own.
+// Each move takes the room for its entry first, so that the tables and the log change together or not at all.
+
+/// The log's list with room for one more entry; the log itself is empty until `log_entry` or `put_back` gives it back. `NoMemory`
+/// leaves it as it was.
+fn list_with_room(alloc: Global, log: &mut Items<Entry>) -> Result<Vec<Entry>, NoMemory>
+    ensures ok { IfOk result (λ list. (list.items ≡ log.old) × (vec_len list < vec_capacity list)) }
+    ensures err { OnErr result (log.new ≡ log.old) }
+{
+    let mut list = mem::replace(log, Items::new(alloc)).into_vec();
+    if list.reserve(1).is_err() {
+        put_back(log, list);
+        return Err(NoMemory);
+    }
+    Ok(list)
+}
+
+/// The log is its list again.
+fn put_back(log: &mut Items<Entry>, list: Vec<Entry>)
+    ensures { log.new ≡ list.items }
+{
+    *log = Items::from_vec(list);
+}
+
+/// The log is its list again, with one more entry.
+fn log_entry(log: &mut Items<Entry>, mut list: Vec<Entry>, entry: Entry)
+    requires { vec_len list < vec_capacity list }
+    ensures { log.new ≡ list.items ++ entry ∷ [] }
+{
+    list.push_reserved(entry);
+    *log = Items::from_vec(list);
+}
 
 /// How many of the awaiting operations a tree shows after a life that blew: the first, or none.
 fn landed_in(t: &Tables, tree: &Tree) -> u32
@@ -50,15 +81,19 @@ pub fn begin(t: &mut Tables, log: &mut Items<Entry>, tree: Tree, stamp: u64) -> 
 {
     let landed = landed_in(t, &tree);
     let epoch = tree.next_epoch();
-    log.push(Entry::Opened {
-        landed,
-        epoch,
-        stamp,
-    })?;
+    let list = list_with_room(t.alloc, log)?;
     match t.begin(tree, stamp) {
-        Ok(()) => Ok(()),
+        Ok(()) => {
+            let entry = Entry::Opened {
+                landed,
+                epoch,
+                stamp,
+            };
+            log_entry(log, list, entry);
+            Ok(())
+        }
         Err(NoMemory) => {
-            log.drop_last();
+            put_back(log, list);
             Err(Refused::Memory)
         }
     }
@@ -70,20 +105,20 @@ pub fn main(t: &mut Tables, log: &mut Items<Entry>) -> Result<(), Refused>
     requires few { is_ready t.old Lane.Main ≡ true → (id : AppId) → length (attempts_in (found_in t.old id)) + 1 < 2 ^ 32 }
     ensures ok { OnOk result ((event : MainEvent) (rest : List MainEvent) → t.old.main ≡ event ∷ rest → (t.new ≡ (main_worked (main_step event t.old)).1) × (log.new ≡ log.old ++ (main_worked (main_step event t.old)).0 ∷ [])) }
     ensures some { OnOk result (t.old.main ≢ []) }
-    ensures not_ready { IsErrOf result Refused.NotReady → is_ready t.old Lane.Main ≡ false }
+    ensures not_ready { IsErrOf result Refused.NotReady ↔ (is_ready t.old Lane.Main ≡ false) }
     ensures err { OnErr result ((t.new ≡ t.old) × (log.new ≡ log.old)) }
 {
     if !t.is_ready(Lane::Main) {
         return Err(Refused::NotReady);
     }
-    log.push(Entry::Settled)?;
+    let list = list_with_room(t.alloc, log)?;
     match rm_dispatch::front(t) {
         Ok(entry) => {
-            log.set_last(entry);
+            log_entry(log, list, entry);
             Ok(())
         }
         Err(refused) => {
-            log.drop_last();
+            put_back(log, list);
             Err(refused)
         }
     }
@@ -95,17 +130,20 @@ pub fn sched(t: &mut Tables, log: &mut Items<Entry>) -> Result<(), Refused>
     requires absorb { (name : List ℕ) (turn : ℕ) (rest : List SchedEvent) → t.old.sched ≡ SchedEvent.NodeAdded name turn ∷ rest → CanAbsorb t.old }
     ensures ok { OnOk result ((event : SchedEvent) (rest : List SchedEvent) → t.old.sched ≡ event ∷ rest → (list : List ContainerId) × EndsBy event t.old list × (t.new ≡ (sched_worked (sched_step event list t.old)).1) × (log.new ≡ log.old ++ (sched_worked (sched_step event list t.old)).0 ∷ [])) }
     ensures some { OnOk result (t.old.sched ≢ []) }
-    ensures not_ready { IsErrOf result Refused.NotReady → is_ready t.old Lane.Sched ≡ false }
+    ensures not_ready { IsErrOf result Refused.NotReady ↔ (is_ready t.old Lane.Sched ≡ false) }
     ensures err { OnErr result ((t.new ≡ t.old) × (log.new ≡ log.old)) }
 {
-    log.push(Entry::Settled)?;
+    if !t.is_ready(Lane::Sched) {
+        return Err(Refused::NotReady);
+    }
+    let list = list_with_room(t.alloc, log)?;
     match rm_sched::front(t) {
         Ok(entry) => {
-            log.set_last(entry);
+            log_entry(log, list, entry);
             Ok(())
         }
         Err(refused) => {
-            log.drop_last();
+            put_back(log, list);
             Err(refused)
         }
     }
@@ -115,7 +153,7 @@ pub fn sched(t: &mut Tables, log: &mut Items<Entry>) -> Result<(), Refused>
 pub fn hand(t: &mut Tables, log: &mut Items<Entry>) -> Result<(), Refused>
     ensures ok { OnOk result ((t.new ≡ handed_out t.old) × (log.new ≡ log.old ++ Entry.Handed ∷ [])) }
     ensures ready { OnOk result (is_ready t.old Lane.Hand ≡ true) }
-    ensures not_ready { IsErrOf result Refused.NotReady → is_ready t.old Lane.Hand ≡ false }
+    ensures not_ready { IsErrOf result Refused.NotReady ↔ (is_ready t.old Lane.Hand ≡ false) }
     ensures err { OnErr result ((t.new ≡ t.old) × (log.new ≡ log.old)) }
 {
     if !t.is_ready(Lane::Hand) {
@@ -132,20 +170,20 @@ pub fn keep(t: &mut Tables, log: &mut Items<Entry>) -> Result<(), Refused>
     requires awaits { is_ready t.old Lane.Write ≡ true → t.old.awaiting ≢ [] }
     ensures ok { OnOk result ((op : Op) (rest : List Op) → t.old.awaiting ≡ op ∷ rest → (t.new ≡ kept op t.old) × (log.new ≡ log.old ++ Entry.Kept op ∷ [])) }
     ensures ready { OnOk result (is_ready t.old Lane.Write ≡ true) }
-    ensures not_ready { IsErrOf result Refused.NotReady → is_ready t.old Lane.Write ≡ false }
+    ensures not_ready { IsErrOf result Refused.NotReady ↔ (is_ready t.old Lane.Write ≡ false) }
     ensures err { OnErr result ((t.new ≡ t.old) × (log.new ≡ log.old)) }
 {
     if !t.is_ready(Lane::Write) {
         return Err(Refused::NotReady);
     }
-    log.push(Entry::Settled)?;
+    let list = list_with_room(t.alloc, log)?;
     match t.keep() {
         Ok(entry) => {
-            log.set_last(entry);
+            log_entry(log, list, entry);
             Ok(())
         }
         Err(refused) => {
-            log.drop_last();
+            put_back(log, list);
             Err(refused)
         }
     }
@@ -155,7 +193,7 @@ pub fn keep(t: &mut Tables, log: &mut Items<Entry>) -> Result<(), Refused>
 pub fn blow(t: &mut Tables, log: &mut Items<Entry>, passed: u32) -> Result<(), Refused>
     ensures ok { OnOk result ((t.new ≡ refused t.old) × (log.new ≡ log.old ++ Entry.Blown passed ∷ [])) }
     ensures ready { OnOk result (is_ready t.old Lane.Write ≡ true) }
-    ensures not_ready { IsErrOf result Refused.NotReady → is_ready t.old Lane.Write ≡ false }
+    ensures not_ready { IsErrOf result Refused.NotReady ↔ (is_ready t.old Lane.Write ≡ false) }
     ensures err { OnErr result ((t.new ≡ t.old) × (log.new ≡ log.old)) }
 {
     if !t.is_ready(Lane::Write) {
@@ -170,7 +208,7 @@ pub fn blow(t: &mut Tables, log: &mut Items<Entry>, passed: u32) -> Result<(), R
 pub fn settle(t: &Tables, log: &mut Items<Entry>) -> Result<(), Refused>
     ensures ok { OnOk result (log.new ≡ log.old ++ Entry.Settled ∷ []) }
     ensures ready { OnOk result (is_ready t.now Lane.End ≡ true) }
-    ensures not_ready { IsErrOf result Refused.NotReady → is_ready t.now Lane.End ≡ false }
+    ensures not_ready { IsErrOf result Refused.NotReady ↔ (is_ready t.now Lane.End ≡ false) }
     ensures err { OnErr result (log.new ≡ log.old) }
 {
     if !t.is_ready(Lane::End) {
@@ -184,7 +222,7 @@ pub fn settle(t: &Tables, log: &mut Items<Entry>) -> Result<(), Refused>
 pub fn go_down(t: &mut Tables, log: &mut Items<Entry>) -> Result<(), Refused>
     ensures ok { OnOk result ((t.new ≡ gone_down t.old) × (log.new ≡ log.old ++ Entry.Down ∷ [])) }
     ensures ready { OnOk result (may_go_down t.old ≡ true) }
-    ensures not_ready { IsErrOf result Refused.NotReady → may_go_down t.old ≡ false }
+    ensures not_ready { IsErrOf result Refused.NotReady ↔ (may_go_down t.old ≡ false) }
     ensures err { OnErr result ((t.new ≡ t.old) × (log.new ≡ log.old)) }
 {
     if !t.may_go_down() {
@@ -263,7 +301,7 @@ pub fn answer_message(
     requires attempts { is_ready t.old Lane.Client ≡ true → t.old.is_open ≡ true → (id : AppId) → length (attempts_in (found_in t.old id)) < 2 ^ 32 }
     ensures ok { OnOk result (IsServed t.old t.new log.old log.new message) }
     ensures ready { OnOk result (is_ready t.old Lane.Client ≡ true) }
-    ensures not_ready { IsErrOf result Refused.NotReady → is_ready t.old Lane.Client ≡ false }
+    ensures not_ready { IsErrOf result Refused.NotReady ↔ (is_ready t.old Lane.Client ≡ false) }
     ensures err { OnErr result ((t.new ≡ t.old) × (log.new ≡ log.old)) }
 {
     // The lanes of all senders are ready alike.
@@ -273,19 +311,20 @@ pub fn answer_message(
     let sender = sender_of(&message);
     let message = Boxed::new(t.alloc, message)?;
     let mut reply = Boxed::new(t.alloc, Reply::NotOpen)?;
-    log.push(Entry::Settled)?;
+    let list = list_with_room(t.alloc, log)?;
     match answer(queues, t, message.get()) {
         Ok(answer) => {
             reply.set(answer);
-            log.set_last(Entry::Served {
+            let entry = Entry::Served {
                 sender,
                 message,
                 reply,
-            });
+            };
+            log_entry(log, list, entry);
             Ok(())
         }
         Err(NoMemory) => {
-            log.drop_last();
+            put_back(log, list);
             Err(Refused::Memory)
         }
     }

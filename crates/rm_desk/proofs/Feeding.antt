@@ -15,31 +15,7 @@ use Rattle.rm_desk.specs.Effects.{Answers, IsEntryOf}
 use Rattle.rm_desk.specs.Lanes.{IsWork, stands_after}
 use Rattle.rm_desk.specs.Scripts.{AllServed}
 use Rattle.rm_desk.specs.View.{DeskView}
-
--- a message is its own sender's, and of no other's
-pub own_sender : (m : Message) → is_from (sender_of m) m ≡ true
-own_sender (messages.Client user ask) = refl
-own_sender (messages.Master attempt ask) = refl
-own_sender (messages.Node name ask) = refl
-own_sender (messages.Clock ask) = refl
-
-sender_is : (sender : Sender) (m : Message) → is_from sender m ≡ true → sender_of m ≡ sender
-sender_is senders.Client (messages.Client user ask) h = refl
-sender_is senders.Client (messages.Master attempt ask) h = cc
-sender_is senders.Client (messages.Node name ask) h = cc
-sender_is senders.Client (messages.Clock ask) h = cc
-sender_is senders.Master (messages.Client user ask) h = cc
-sender_is senders.Master (messages.Master attempt ask) h = refl
-sender_is senders.Master (messages.Node name ask) h = cc
-sender_is senders.Master (messages.Clock ask) h = cc
-sender_is senders.Node (messages.Client user ask) h = cc
-sender_is senders.Node (messages.Master attempt ask) h = cc
-sender_is senders.Node (messages.Node name ask) h = refl
-sender_is senders.Node (messages.Clock ask) h = cc
-sender_is senders.Clock (messages.Client user ask) h = cc
-sender_is senders.Clock (messages.Master attempt ask) h = cc
-sender_is senders.Clock (messages.Node name ask) h = cc
-sender_is senders.Clock (messages.Clock ask) h = refl
+use Rattle.rm_desk.proofs.Senders.{own_sender}
 
 module _ (sender : Sender) (m : Message) where
   -- the first message of a sender's feed is that sender's
@@ -52,7 +28,7 @@ module _ (sender : Sender) (m : Message) where
       by false h rest = rest (rw h at e)
 
   pub found_sender : (list : List Message) → first_from sender list ≡ Some m → sender_of m ≡ sender
-  found_sender list e = sender_is sender m (found_is list e)
+  found_sender list e = own_sender sender m (found_is list e)
 
   -- one less is left without it
   pub one_less : (list : List Message) → first_from sender list ≡ Some m → length (without_first sender list) + 1 ≡ length list

@@ -18,11 +18,6 @@ use Rattle.rm_desk.specs.View.{DeskView}
 use Rattle.rm_desk.specs.Runs.{GoesTo, IsScriptRun}
 use Rattle.std.specs.List.{fold}
 
--- a log with an entry at its end
-pub not_empty : {X : Type 0} (xs : List X) (x : X) → xs ++ x ∷ [] ≢ []
-not_empty [] x = λ h. cc
-not_empty (y ∷ xs) x = λ h. cc
-
 -- an entry that is next may be added
 Follows-push : (s : Manager) (p : Place) (log : List Entry) (e : Entry) → Follows s p log → IsNext (after_all s log) (fold moved p log) e → Follows s p (log ++ e ∷ [])
 Follows-push s p [] e h n = (n, tt)

@@ -1,8 +1,9 @@
 -- The moves of a desk, each a longer run, with less left.
 use Rattle.std.proofs.Common.{◌≡◌, ◌≢◌, ℕ, ◌+◌, ◌*◌, ◌<◌, ◌≤◌, List, [], ◌∷◌, ◌++◌, true, false, ◌&&◌, Some, None, Option, Ok, Err, Result, length, refl, sym, ◌∙◌, ap, subst, arith}
-use Rattle.std.specs.Prelude.{OnOk, slice_get}
+use Rattle.std.specs.Prelude.{OnOk}
 use Rattle.std.specs.List.{sum_by}
 use Rattle.std.proofs.lemmas.List.Sums.{sum_by-cons}
+use Rattle.std.proofs.lemmas.Bool.{and_parts}
 use Rattle.rm_types.specs.declared.entries.Entry.{Entry}
 use Rattle.rm_types.specs.declared.entries.Entry.TheVariants.{Blown, Handed, Kept, Served, Settled, Down}
 use Rattle.rm_types.specs.declared.messages.Lane.{Lane}
@@ -23,6 +24,7 @@ use Rattle.rm_tables.specs.declared.events.Refused.{Refused}
 use Rattle.rm_core.specs.declared.manager.Move.{Move}
 use Rattle.rm_core.specs.Seen.{Seen, StandsFor}
 use Rattle.rm_types.specs.Limits.{most_served}
+use Rattle.rm_types.proofs.TestLemmas.{nil_is}
 use Rattle.rm_core.specs.Words.{IsServable, as_new, can_go_down, handed_of, has_rest, is_blown, message_measure, ready_at, served_in, stands, measure_of}
 use Rattle.rm_desk.specs.declared.feeds.Feeds.{Feeds}
 use Rattle.rm_desk.specs.View.{DeskView}
@@ -33,7 +35,7 @@ use Rattle.rm_desk.specs.Runs.{IsLast, IsPlaceSound, segment_cost}
 use Rattle.rm_desk.specs.Effects.{LaneEffect, EffectBy, IsEntryOf}
 use Rattle.rm_desk.proofs.Feeding.{answers_entry, found_sender, no_work, not_end, one_less, served_found, served_without, stands_on}
 use Rattle.rm_desk.proofs.Longer.{IsOwn, IsQuietAt, IsSilent, kept_silent, one_more, own_silent, quiet_at}
-use Rattle.rm_desk.proofs.Words.{both, nil_is, rest_idle}
+use Rattle.rm_desk.proofs.Words.{rest_idle}
 
 -- the place where the current segment is left behind
 abbrev pub behind : Feeds → Place
@@ -102,11 +104,6 @@ pub blown_entry : (d : DeskView) (passed image : ℕ) → close_left d.place.seg
 blown_entry d passed image closes e is =
     let quiet : IsQuietAt d.place (Blown passed) = record { next = λ s. record { image = image; closes = closes }; stays = refl } in
     (subst (IsQuietAt d.place) (sym is) quiet, is, ap lane_of_entry is)
-
--- the first of a list
-pub first_of : {X : Type 0} (xs : List X) (x : X) → slice_get xs 0 ≡ Some x → (more : List X) × (xs ≡ x ∷ more)
-first_of [] x h = cc
-first_of (one ∷ more) x h = let same : one ≡ x = cc in (more, ap (λ y. y ∷ more) same)
 
 -- a segment is current where its feeds have a message
 pub fed_in : (f : Feeds) → IsEntered f → f.feed ≢ [] → (close : Option Close) → f.close ≡ close → (is : Close) × (f.close ≡ Some is)
@@ -245,7 +242,7 @@ module _ (old new : Seen) (f : Feeds) (h : IsPlaceSound (at old f)) (entered : I
   down_does g (Some Settle) c unsettled ready added weighs alive same p = absurd (unsettled refl)
   down_does g (Some (Crash calls image)) c unsettled ready added weighs alive same p =
       let open_is : (can_go_down old && is_nil f.feed) ≡ true = rw c at ready in
-      let none = nil_is f.feed (both (can_go_down old) (is_nil f.feed) open_is).1 in
+      let none = nil_is f.feed (and_parts (can_go_down old) (is_nil f.feed) open_is).1 in
       let d = at old f in
       let next = at new g in
       let before : d.place.segments ≡ record { messages = []; close = Crash calls image } ∷ f.segments = rw (c, none) refl in

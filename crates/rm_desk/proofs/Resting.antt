@@ -1,5 +1,6 @@
 -- Where nothing is left to do, a lane of the script is ready, or the run is done.
 use Rattle.std.proofs.Common.{◌≡◌, ◌⊎◌, inl, inr, ⊎_elim, List, [], ◌∷◌, Bool, true, false, None, is_some, refl, sym, ◌∙◌, ap, subst}
+use Rattle.std.proofs.lemmas.Bool.{and_parts}
 use Rattle.rm_types.specs.declared.messages.Lane.{Lane}
 use Rattle.rm_types.specs.declared.messages.Lane.TheVariants.{Client, Master, Node, Clock, Main, Sched, Hand, Write, End, Begin}
 use Rattle.rm_types.specs.declared.messages.Message.{Message}
@@ -21,7 +22,7 @@ use Rattle.rm_desk.specs.View.{DeskView}
 use Rattle.rm_desk.specs.Lanes.{HasNoWork, is_ready_at}
 use Rattle.rm_desk.specs.Runs.{IsLast, IsScriptOver, IsScriptRun, IsPlaceSound, DescribesState}
 use Rattle.rm_desk.specs.Scripts.{EndsInCrash, IsCrash}
-use Rattle.rm_desk.proofs.Words.{blown_down, blown_serves, both, dead_idle, idle_rests, life_blew, life_none, life_stands, rest_down, rest_ends, rest_open, rest_owes}
+use Rattle.rm_desk.proofs.Words.{blown_down, blown_serves, dead_idle, idle_rests, life_blew, life_none, life_stands, rest_down, rest_ends, rest_open, rest_owes}
 
 -- what a desk tells of the state after its log
 pub tells : (d : DeskView) → Rests d.core → (opening : List Op) → StandsFor opening d.core → DescribesState opening d
@@ -94,10 +95,10 @@ ready_unless d h rests unless = ⊎_elim (λ over. absurd (unless over)) (λ som
 
 -- where no life stands, no lane is ready but that in which a life begins
 pub dead_ready : (d : DeskView) → IsPlaceSound d → Rests d.core → stands d.core ≡ false → (lane : Lane) → is_ready_at d lane ≡ true → lane ≡ Begin
-dead_ready d h rests dead Client ready = dead_idle d.core dead rests Client (both (ready_at d.core Client) (is_some (first_from senders.Client (messages_left d.place.segments))) ready).0
-dead_ready d h rests dead Master ready = dead_idle d.core dead rests Master (both (ready_at d.core Master) (is_some (first_from senders.Master (messages_left d.place.segments))) ready).0
-dead_ready d h rests dead Node ready = dead_idle d.core dead rests Node (both (ready_at d.core Node) (is_some (first_from senders.Node (messages_left d.place.segments))) ready).0
-dead_ready d h rests dead Clock ready = dead_idle d.core dead rests Clock (both (ready_at d.core Clock) (is_some (first_from senders.Clock (messages_left d.place.segments))) ready).0
+dead_ready d h rests dead Client ready = dead_idle d.core dead rests Client (and_parts (ready_at d.core Client) (is_some (first_from senders.Client (messages_left d.place.segments))) ready).0
+dead_ready d h rests dead Master ready = dead_idle d.core dead rests Master (and_parts (ready_at d.core Master) (is_some (first_from senders.Master (messages_left d.place.segments))) ready).0
+dead_ready d h rests dead Node ready = dead_idle d.core dead rests Node (and_parts (ready_at d.core Node) (is_some (first_from senders.Node (messages_left d.place.segments))) ready).0
+dead_ready d h rests dead Clock ready = dead_idle d.core dead rests Clock (and_parts (ready_at d.core Clock) (is_some (first_from senders.Clock (messages_left d.place.segments))) ready).0
 dead_ready d h rests dead Main ready = dead_idle d.core dead rests Main ready
 dead_ready d h rests dead Sched ready = dead_idle d.core dead rests Sched ready
 dead_ready d h rests dead Hand ready = dead_idle d.core dead rests Hand ready

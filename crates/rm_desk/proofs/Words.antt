@@ -1,9 +1,11 @@
 -- What a desk uses of a manager beside the clauses of its calls, said in the words of the manager.
 use Rattle.std.proofs.Common.{◌≡◌, List, [], ◌∷◌, Bool, true, false, not, ◌&&◌, ◌||◌, None, Some, Option, if◌then◌else◌, refl, sym, ◌∙◌, subst}
+use Rattle.std.proofs.lemmas.Bool.{and_parts, not-true}
 use Rattle.rm_types.specs.declared.messages.Lane.{Lane}
 use Rattle.rm_types.specs.declared.messages.Lane.TheVariants.{Client, Master, Node, Clock, Main, Sched, Hand, Write, End, Begin}
 use Rattle.rm_types.specs.declared.operations.Op.{Op}
 use Rattle.rm_types.specs.Lists.{is_nil}
+use Rattle.rm_types.proofs.TestLemmas.{or_true, nil_is}
 use Rattle.rm_model.specs.Lawful.{IsAtRest, state_after}
 use Rattle.rm_core.specs.Seen.{Rests, Seen, StandsFor}
 use Rattle.rm_core.specs.Words.{can_go_down, handed_of, has_rest, is_blown, ready_at, stands}
@@ -12,29 +14,9 @@ use Rattle.rm_desk.specs.Effects.{HasHanded}
 use Rattle.rm_desk.specs.Lanes.{IsWork}
 use Rattle.rm_desk.specs.Runs.{HasBlown}
 
-pub is_not : (b : Bool) → not b ≡ true → b ≡ false
-is_not true h = cc
-is_not false h = refl
-
-pub if_not : (b : Bool) → not b ≡ false → b ≡ true
-if_not true h = refl
-if_not false h = cc
-
-pub both : (a b : Bool) → (a && b) ≡ true → (a ≡ true) × (b ≡ true)
-both true b h = (refl, h)
-both false b h = cc
-
-pub nil_is : {X : Type 0} (xs : List X) → is_nil xs ≡ true → xs ≡ []
-nil_is [] h = refl
-nil_is (x ∷ xs) h = cc
-
 nil_unless : {X : Type 0} (xs : List X) → not (is_nil xs) ≡ false → xs ≡ []
 nil_unless [] h = refl
 nil_unless (x ∷ xs) h = cc
-
-or_true : (b : Bool) → (b || true) ≡ true
-or_true true = refl
-or_true false = refl
 
 some_if : {X : Type 0} (b : Bool) (x : Option X) (y : X) → (if b then x else None) ≡ Some y → b ≡ true
 some_if true x y h = refl
@@ -43,10 +25,10 @@ some_if false x y h = cc
 module _ (s : Seen) where
   -- a life stands where a message may be served, and where an operation is with the store
   pub client_stands : ready_at s Client ≡ true → stands s ≡ true
-  client_stands h = (both s.tables.alive (s.tables.is_open || s.tables.blown) h).0
+  client_stands h = (and_parts s.tables.alive (s.tables.is_open || s.tables.blown) h).0
 
   pub write_stands : ready_at s Write ≡ true → stands s ≡ true
-  write_stands h = (both s.tables.alive s.tables.handed h).0
+  write_stands h = (and_parts s.tables.alive s.tables.handed h).0
 
   -- a life may begin where none stands
   pub begin_down : ready_at s Begin ≡ not (stands s)
@@ -73,22 +55,22 @@ module _ (s : Seen) where
   pub end_rests : ready_at s End ≡ true → Rests s → has_rest s
   end_rests ready rests =
       let t = s.tables in
-      let parts = both t.alive (is_nil t.main && (is_nil t.sched && is_nil t.awaiting)) ready in
-      let queues = both (is_nil t.main) (is_nil t.sched && is_nil t.awaiting) parts.1 in
-      let lists = both (is_nil t.sched) (is_nil t.awaiting) queues.1 in
+      let parts = and_parts t.alive (is_nil t.main && (is_nil t.sched && is_nil t.awaiting)) ready in
+      let queues = and_parts (is_nil t.main) (is_nil t.sched && is_nil t.awaiting) parts.1 in
+      let lists = and_parts (is_nil t.sched) (is_nil t.awaiting) queues.1 in
       let main = nil_is t.main queues.0 in
       let sched = nil_is t.sched lists.0 in
       let awaiting = nil_is t.awaiting lists.1 in
       (main, sched, awaiting, (rests.left main sched (λ a. awaiting)).none_handed parts.0)
 
-  -- where both may be, nothing is left to do in a life that stands
+  -- where and_parts may be, nothing is left to do in a life that stands
   pub both_rest : ready_at s End ≡ true → can_go_down s ≡ true → (stands s ≡ true) × has_rest s
   both_rest ready down =
       let t = s.tables in
-      let parts = both t.alive (is_nil t.main && (is_nil t.sched && is_nil t.awaiting)) ready in
-      let queues = both (is_nil t.main) (is_nil t.sched && is_nil t.awaiting) parts.1 in
-      let lists = both (is_nil t.sched) (is_nil t.awaiting) queues.1 in
-      (parts.0, (nil_is t.main queues.0, nil_is t.sched lists.0, nil_is t.awaiting lists.1, is_not t.handed (both t.alive (not t.handed) down).1))
+      let parts = and_parts t.alive (is_nil t.main && (is_nil t.sched && is_nil t.awaiting)) ready in
+      let queues = and_parts (is_nil t.main) (is_nil t.sched && is_nil t.awaiting) parts.1 in
+      let lists = and_parts (is_nil t.sched) (is_nil t.awaiting) queues.1 in
+      (parts.0, (nil_is t.main queues.0, nil_is t.sched lists.0, nil_is t.awaiting lists.1, not-true t.handed (and_parts t.alive (not t.handed) down).1))
 
   -- where nothing is left to do in a life that stands, it may settle or go down, and it is open
   pub rest_ends : stands s ≡ true → has_rest s → ready_at s End ≡ true
@@ -107,10 +89,10 @@ module _ (s : Seen) where
   rest_idle h Hand work ready =
       let t = s.tables in
       let none = h.2 in
-      let some = (both (not (is_nil t.awaiting)) (not t.handed && not t.blown) (both t.alive (not (is_nil t.awaiting) && (not t.handed && not t.blown)) ready).1).0 in
+      let some = (and_parts (not (is_nil t.awaiting)) (not t.handed && not t.blown) (and_parts t.alive (not (is_nil t.awaiting) && (not t.handed && not t.blown)) ready).1).0 in
       let x = rw none at some in
       cc
-  rest_idle h Write work ready = let handed = (both s.tables.alive s.tables.handed ready).1 in let none = h.3 in cc
+  rest_idle h Write work ready = let handed = (and_parts s.tables.alive s.tables.handed ready).1 in let none = h.3 in cc
   rest_idle h Client work ready = absurd work
   rest_idle h Master work ready = absurd work
   rest_idle h Node work ready = absurd work
@@ -152,7 +134,7 @@ module _ (s : Seen) where
     -- an operation that is with the store is so there
     pub life_handed : ready_at s Write ≡ true → HasHanded (state_after opening s.log).life
     life_handed ready =
-        let parts = both s.tables.alive s.tables.handed ready in
+        let parts = and_parts s.tables.alive s.tables.handed ready in
         let told = told_life s opening k parts.0 in
         subst HasHanded (sym told.is) (told.handed ∙ parts.1)
 

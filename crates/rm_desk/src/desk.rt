@@ -5,6 +5,7 @@ ghost use Rattle.rm_types.specs.declared.operations.Op.{Op as AnyOp};
 ghost use Rattle.rm_types.specs.declared.scripts.Close.{Close};
 ghost use Rattle.rm_types.specs.declared.scripts.Script.{Script as AnyScript};
 ghost use Rattle.rm_types.specs.Ranges.{IsOperation};
+ghost use Rattle.rm_types.specs.Records.{no_records};
 ghost use Rattle.rm_model.specs.Lawful.{IsDone, Lawful, state_after};
 ghost use Rattle.rm_model.specs.Place.{beginning, close_left};
 ghost use Rattle.rm_tables.specs.declared.events.Refused.{Refused};
@@ -185,10 +186,11 @@ impl Desk {
     }
 
     /// Whether a tree is what the last life can have left of the store: what the kept operations amount to or, where that life
-    /// blew, these and the first that awaits.
+    /// blew, these and the first that awaits. Before the first life, when nothing is known of a store, whether it records nothing.
     pub fn is_left(&self, tree: &Tree) -> Result<bool, NoMemory>
         requires { stands self.now.core ≡ false }
-        ensures { (opening : List AnyOp) → StandsFor opening self.now.core → (self.now.core.log ≡ [] → ⊥) → IfOk result (λ left. IsTrue left ↔ IsLeft tree.now (state_after opening self.now.core.log)) }
+        ensures left { (opening : List AnyOp) → StandsFor opening self.now.core → (self.now.core.log ≡ [] → ⊥) → IfOk result (λ left. IsTrue left ↔ IsLeft tree.now (state_after opening self.now.core.log)) }
+        ensures unbegun { (opening : List AnyOp) → StandsFor opening self.now.core → self.now.core.log ≡ [] → IfOk result (λ left. IsTrue left ↔ (tree.now ≡ no_records)) }
     {
         self.core.is_left(tree)
     }

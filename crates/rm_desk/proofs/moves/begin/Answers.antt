@@ -1,11 +1,11 @@
 use Rattle.std.proofs.Common.{◌∷◌, ◌++◌, [], ◌∙◌, ap, not, refl, sym}
+use Rattle.std.proofs.lemmas.Bool.{and_parts, not-true}
 use Rattle.rm_types.specs.declared.entries.Entry.{Entry}
 use Rattle.rm_types.specs.Lists.{is_nil}
+use Rattle.rm_types.proofs.TestLemmas.{first_of}
 use Rattle.rm_core.specs.Words.{stands}
 use Rattle.rm_desk.specs.Feeds.{at, place_of}
 use Rattle.rm_desk.proofs.Beginning.{begin_does, next_stamp}
-use Rattle.rm_desk.proofs.Moving.{first_of}
-use Rattle.rm_desk.proofs.Words.{both, is_not}
 use Rattle.rm_desk.proofs.moves.begin.Goals as goal
 
 pub step-requires : goal.step-requires
@@ -18,8 +18,8 @@ returns-clause-begins c =
     let core = c.args.core.now in
     let f = c.args.feeds.now in
     let step = c.in_ok-step.ensures.does in
-    let ready = both (not (stands core)) (not (is_nil f.lives)) c.requires.ready in
+    let ready = and_parts (not (stands core)) (not (is_nil f.lives)) c.requires.ready in
     let life = c.in-Some.life.now in
     let first = first_of f.lives life (sym c.in-Some.ensures.first) in
-    begin_does (at core f) c.step.new.self (place_of c.enter_life.new.self) c.requires.sound c.args.tree step.settings step.began step.lawful (is_not (stands core) ready.0) step.stands.1 step.served step.blown life
+    begin_does (at core f) c.step.new.self (place_of c.enter_life.new.self) c.requires.sound c.args.tree step.settings step.began step.lawful (not-true (stands core) ready.0) step.stands.1 step.served step.blown life
     (step.added.added ∙ ap (λ (e : Entry). core.log ++ e ∷ []) step.added.of_move) first.0 first.1 c.enter_life.ensures.place

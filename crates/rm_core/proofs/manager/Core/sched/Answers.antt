@@ -7,7 +7,7 @@ use Rattle.rm_invariant.proofs.Phases.{sched_open}
 use Rattle.rm_core.proofs.manager.Core.sched.Goals as goal
 
 done : (c : goal.After-sched) → Done Sched c.self.inside.tables c.sched.new.t c.self.inside.log c.sched.new.log c.sched.result
-done c = sched_done c.self.inside.tables c.self.inside.log c.self.invariant.sound c.sched.new.t c.sched.new.log c.sched.result c.sched.ensures.ok c.sched.ensures.some c.sched.ensures.err
+done c = sched_done c.self.inside.tables c.self.inside.log c.self.invariant.sound c.len-living.ensures.book c.sched.new.t c.sched.new.log c.sched.result c.sched.ensures.ok c.sched.ensures.some c.sched.ensures.err
 
 pub invariant_of-self : goal.invariant_of-self
 invariant_of-self c = core_sound c.self.inside.queues Sched c.self.inside.tables c.sched.new.t c.self.inside.log c.sched.new.log c.sched.result c.self.invariant c.sched.ensures.err (λ lives. lives.0) (done c)

@@ -16,7 +16,7 @@ answer_message-requires-clause-attempts c = λ ready open_.
     attempts_few t.settings c.self.invariant.sound.history t r.whole r.ranged
 
 done : (c : goal.After-answer_message) → Done (Serve c.args.message) c.self.inside.tables c.answer_message.new.t c.self.inside.log c.answer_message.new.log c.answer_message.result
-done c = serve_done c.self.inside.tables c.self.inside.log c.self.invariant.sound c.args.message c.requires.message (subst (λ (seen : Seen). seen.tables.served < most_served) (sym c.self.view_is) c.requires.few) c.answer_message.new.t c.answer_message.new.log c.answer_message.result c.answer_message.ensures.ok c.answer_message.ensures.ready c.answer_message.ensures.err
+done c = serve_done c.self.inside.tables c.self.inside.log c.self.invariant.sound c.len-living.ensures.book c.args.message c.requires.message (subst (λ (seen : Seen). seen.tables.served < most_served) (sym c.self.view_is) c.requires.few) c.answer_message.new.t c.answer_message.new.log c.answer_message.result c.answer_message.ensures.ok c.answer_message.ensures.ready c.answer_message.ensures.err
 
 pub invariant_of-self : goal.invariant_of-self
 invariant_of-self c = core_sound c.self.inside.queues (Serve c.args.message) c.self.inside.tables c.answer_message.new.t c.self.inside.log c.answer_message.new.log c.answer_message.result c.self.invariant c.answer_message.ensures.err (λ lives. lives.0) (done c)
