@@ -3,6 +3,7 @@ use Rattle.std.proofs.Common.{◌≡◌, ℕ, List, [], ◌∷◌, ◌++◌, Boo
 use Rattle.std.specs.Prelude.{OnErr, OnOk}
 use Rattle.std.specs.List.{fold}
 use Rattle.std.proofs.lemmas.List.Sums.{fold-append}
+use Rattle.std.proofs.lemmas.Option.{same_Some}
 use Rattle.rm_types.specs.declared.entries.Entry.{Entry}
 use Rattle.rm_types.specs.declared.entries.Entry.TheVariants.{Opened, Handed, Kept, Blown, Settled, Down}
 use Rattle.rm_types.specs.declared.messages.Lane.{Lane}
@@ -229,14 +230,11 @@ pub learned_went : (began d next : DeskView) (made : Result (Unit {0}) Refused) 
 learned_went began d next (Ok x) went does ready same = kept_went began d next went does ready
 learned_went began d next (Err x) went does ready same = stays_went began d next went same
 
-some_same : {X : Type 0} (x y : X) → Some x ≡ Some y → x ≡ y
-some_same x y h = cc
-
 -- the operation that was with the store is the one that is kept
 pub learned_says : (d next : DeskView) (op : Op) (made : Result (Unit {0}) Refused) → OnOk made (LaneEffect Write d next) → Some op ≡ handed_of d.core → ((opening : List Op) → StandsFor opening d.core → IsToBeKept opening d.core op)
     → OnOk made ((opening : List Op) → StandsFor opening d.core → (one : Op) × IsToBeKept opening d.core one × (next.core.log ≡ d.core.log ++ Kept one ∷ []))
 learned_says d next op (Ok x) does is to_keep = λ opening k.
-    let same : does.adds.of_kind.0 ≡ op = some_same does.adds.of_kind.0 op (sym does.adds.of_kind.1 ∙ sym is) in
+    let same : does.adds.of_kind.0 ≡ op = same_Some does.adds.of_kind.0 op (sym does.adds.of_kind.1 ∙ sym is) in
     (op, to_keep opening k, does.adds.added ∙ ap (λ (e : Entry). d.core.log ++ e ∷ []) (does.adds.of_kind.2 ∙ ap (λ (one : Op). Kept one) same))
 learned_says d next op (Err x) does is to_keep = tt
 

@@ -13,15 +13,6 @@ use Rattle.rm_workers.specs.Work.{IsHelper, Knows}
 abbrev View : Type 0
 View = Known (Unit {0})
 
--- a worker may put what it took with common entries added
-pub puts_common : (v w : View) (x y : HeldView) → w ≡ took log_of v x → Meets run_of log_of v x → AddsCommon (log_of x) (log_of y) → MayPut run_of log_of w y
-puts_common v w x y took' meets adds = subst (λ (k : View). MayPut run_of log_of k y) (sym took') (record {
-  has = refl;
-  of_run = meets.of_run;
-  longer = adds_begins (log_of x) (log_of y) adds;
-  common = λ _. adds;
-})
-
 -- the store's worker may put one that goes on from it
 pub puts_any : (Is : List Entry → Type 0) (v w : View) (x y : HeldView) → Knows Is v → w ≡ took log_of v x → Meets run_of log_of v x → IsPrefix (log_of x) (log_of y) → MayPut run_of log_of w y
 puts_any Is v w x y knows took' meets longer = subst (λ (k : View). MayPut run_of log_of k y) (sym took') (record {
@@ -35,18 +26,6 @@ puts_any Is v w x y knows took' meets longer = subst (λ (k : View). MayPut run_
 held_on : (Is : View → Type 0) (v w z : View) (x y : HeldView) → w ≡ took log_of v x → z ≡ gave log_of w y → Is (gave log_of (took log_of v x) y) → Is z
 held_on Is v w z x y took' gave' is = subst Is (sym (gave' ∙ ap (λ (k : View). gave log_of k y) took')) is
 
-pub helper_put : (v w z : View) (x y : HeldView) → IsHelper v → w ≡ took log_of v x → z ≡ gave log_of w y → IsHelper z
-helper_put v w z x y h took' gave' = held_on IsHelper v w z x y took' gave' (record { idle = (h.idle.0, refl); helps = h.helps })
-
-pub helper_same : (v w : View) → IsHelper v → w ≡ v → IsHelper w
-helper_same v w h same = subst IsHelper (sym same) h
-
-pub helper_joined : (v w u : View) → IsHelper v → IsHelper w → u ≡ joined v w → IsHelper u
-helper_joined v w u h k e = subst IsHelper (sym e) (record { idle = (h.idle.0, refl); helps = ap (λ (b : Bool). b || w.store) h.helps ∙ k.helps })
-
-pub helper_new : (Is : List Entry → Type 0) (v u : View) → Knows Is v → u ≡ helper v → IsHelper u
-helper_new Is v u knows e = subst IsHelper (sym e) (record { idle = (knows.idle.0, refl); helps = refl })
-
 -- what held of the store's pass still holds, through what others added
 pub still : (Is : List Entry → Type 0) → ((old new : List Entry) → AddsCommon old new → Is old → Is new) → (v : View) (x : HeldView) → Knows Is v → Meets run_of log_of v x → Is (log_of x)
 still Is lasts v x knows meets = lasts v.latest (log_of x) (meets.common knows.mark) knows.fact
@@ -54,22 +33,9 @@ still Is lasts v x knows meets = lasts v.latest (log_of x) (meets.common knows.m
 pub knows_put : (Is Then : List Entry → Type 0) (v w z : View) (x y : HeldView) → Knows Is v → w ≡ took log_of v x → z ≡ gave log_of w y → Then (log_of y) → Knows Then z
 knows_put Is Then v w z x y knows took' gave' fact = held_on (Knows Then) v w z x y took' gave' (record { idle = (knows.idle.0, refl); mark = knows.mark; fact = fact })
 
-pub knows_same : (Is : List Entry → Type 0) (v w : View) → Knows Is v → w ≡ v → Knows Is w
-knows_same Is v w knows same = subst (Knows Is) (sym same) knows
-
 -- what is known of a log says more of it
 pub knows_then : (Is Then : List Entry → Type 0) → ((log : List Entry) → Is log → Then log) → (v : View) → Knows Is v → Knows Then v
 knows_then Is Then says v knows = record { idle = knows.idle; mark = knows.mark; fact = says v.latest knows.fact }
-
-pub knows_half : (Is : List Entry → Type 0) (v u : View) → Knows Is v → u ≡ with_half v → Knows Is u
-knows_half Is v u knows e = subst (Knows Is) (sym e) (record { idle = knows.idle; mark = knows.mark; fact = knows.fact })
-
-pub knows_joined : (Is : List Entry → Type 0) (v w u : View) → Knows Is v → IsHelper w → u ≡ joined v w → Knows Is u
-knows_joined Is v w u knows h e = subst (Knows Is) (sym e) (record {
-  idle = (knows.idle.0, refl);
-  mark = ap (λ (b : Bool). b || w.store) knows.mark;
-  fact = subst Is (sym (ap (λ (b : Bool). if b then w.latest else v.latest) h.helps)) knows.fact;
-})
 
 pub knows_started : (Is : List Entry → Type 0) (x : HeldView) (u : View) → u ≡ started run_of log_of x → Is (log_of x) → Knows Is u
 knows_started Is x u e fact = subst (Knows Is) (sym e) (record { idle = (refl, refl); mark = refl; fact = fact })

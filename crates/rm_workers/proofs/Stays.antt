@@ -3,22 +3,18 @@ use Rattle.std.proofs.Common.{◌≡◌, List, [], ◌∷◌, ◌++◌, Bool, Op
 use Rattle.std.proofs.lemmas.List.Sums.{fold-append}
 use Rattle.rm_types.specs.declared.entries.Entry.{Entry}
 use Rattle.rm_types.specs.declared.entries.Entry.TheVariants.{Opened, Issued, Handed, Kept, Blown, Served, Settled, Down}
-use Rattle.rm_types.specs.declared.messages.Sender.{Sender}
 use Rattle.rm_types.specs.declared.operations.Op.{Op}
-use Rattle.rm_types.specs.declared.scripts.Segment.{Segment}
 use Rattle.rm_model.specs.Changes.{after, after_all, after_in, after_where}
 use Rattle.rm_model.specs.Lawful.{state_after}
-use Rattle.rm_model.specs.Place.{Place, close_left, moved, segments_without}
+use Rattle.rm_model.specs.Place.{Place, close_left, moved}
 use Rattle.rm_model.specs.State.{LifeState, Manager, opening_state, scene}
 use Rattle.rm_baton.specs.Entries.{AddsCommon, AllCommon, IsCommon}
 use Rattle.rm_workers.specs.Still.{SameLife, Still}
 use Rattle.rm_model.proofs.Served.{of_issued, of_served}
+use Rattle.rm_plain.proofs.Moving.{close_without}
+use Rattle.rm_plain.proofs.Longer.{first_more}
 
 -- THE STATE
-
-first_more : (ops : List Op) (more op : Op) → slice_get ops 0 ≡ Some op → slice_get (ops ++ more ∷ []) 0 ≡ Some op
-first_more [] more op h = cc
-first_more (one ∷ ops) more op h = h
 
 -- a life of which an operation is with the store, or was refused, where one of another is
 abbrev Same : LifeState → Bool → Bool → Type 0
@@ -115,10 +111,6 @@ state_still opening old new adds =
     (subst (λ (s : Manager). Still (state_after opening old) s) (sym (fold-append after (opening_state opening) old adds.added)) (still_all (state_after opening old) adds.added adds.common))
 
 -- THE SCRIPT
-
-close_without : (sender : Sender) (segments : List Segment) → close_left (segments_without sender segments) ≡ close_left segments
-close_without sender [] = refl
-close_without sender (segment ∷ more) = refl
 
 -- the current segment closes as it did
 pub close_still : (p : Place) (e : Entry) → IsCommon e → close_left (moved p e).segments ≡ close_left p.segments

@@ -1,5 +1,6 @@
 -- What the store's worker knows after each of its moves.
 use Rattle.std.proofs.Common.{◌≡◌, ◌⊎◌, ℕ, ◌<◌, ◌≤◌, List, [], ◌∷◌, ◌++◌, Bool, true, false, None, Some, Option, refl, sym, ◌∙◌, ap, subst, inl, inr, append-nil, arith}
+use Rattle.std.proofs.lemmas.Option.{same_Some}
 use Rattle.rm_types.specs.declared.entries.Entry.{Entry}
 use Rattle.rm_types.specs.declared.entries.Entry.TheVariants.{Kept}
 use Rattle.rm_types.specs.declared.messages.Lane.TheVariants.{Hand, Write, End}
@@ -8,7 +9,7 @@ use Rattle.rm_types.specs.declared.scripts.Close.{Close}
 use Rattle.rm_types.specs.declared.scripts.Close.TheVariants.{Settle, Crash}
 use Rattle.rm_types.specs.Records.{records, fits_records}
 use Rattle.rm_disk.specs.Disk.{DiskView, IsLaterView}
-use Rattle.rm_disk.specs.Fuse.{Fused, KeepsFuse}
+use Rattle.rm_disk.specs.Fuse.{KeepsFuse}
 use Rattle.rm_disk.proofs.Views.{leaves_of}
 use Rattle.rm_formats.specs.Device.{DeviceHolds}
 use Rattle.rm_model.specs.Lawful.{state_after}
@@ -30,7 +31,7 @@ use Rattle.rm_plain.specs.Keeping.{IsKeptOn, IsUnkept, KeepsOn, LeavesOn, Serves
 use Rattle.rm_plain.specs.Lives.{TakesStep as LifeGoesOn}
 use Rattle.rm_plain.specs.Order.{May}
 use Rattle.rm_plain.specs.Survives.{HoldsAfter, HoldsWithin}
-use Rattle.rm_plain.proofs.Ending.{settles_on, works_on}
+use Rattle.rm_plain.proofs.Ending.{settles_on, works_on, within_kept}
 use Rattle.rm_plain.proofs.Halting.{after_within, keeps_leaves, leaves_after}
 use Rattle.rm_plain.proofs.Moving.{TellsAll, down_unkept, settle_goes, settling_unblown, told_blown, works}
 use Rattle.rm_plain.proofs.Stored.{blown_stores, has_kept, keeps_trans, op_stores, unkept_stores}
@@ -39,9 +40,6 @@ use Rattle.rm_workers.specs.Began.{Began, seen_then}
 use Rattle.rm_workers.specs.Came.{Moves, Went, came}
 use Rattle.rm_workers.specs.Work.{Halting, IsWhy, IsWithStore, Owing, Refused, Serving, ContinuesLife, Stays, Sunk, Tried, Wrote}
 use Rattle.rm_workers.proofs.Coming.{down_falls, may_any, rest_idle}
-
-some_same : {X : Type 0} (x y : X) → Some x ≡ Some y → x ≡ y
-some_same x y h = cc
 
 -- a life of which an operation is with the store, and none was refused
 unblown_life : (s : Manager) → HasHanded s.life → has_blown s ≡ false → HasBlown false s.life
@@ -227,7 +225,7 @@ module _ {D : Type 0} (view : D → DiskView) (began : Began) where
           armed = serves.armed ∙ ap armed_by crash;
           blown = serves.blown;
           within = s.within calls (serves.armed ∙ ap armed_by crash);
-          spent = λ blew. some_same store.disk.passed calls (sym (s.spent (serves.blown ∙ blew)) ∙ serves.armed ∙ ap armed_by crash);
+          spent = λ blew. same_Some store.disk.passed calls (sym (s.spent (serves.blown ∙ blew)) ∙ serves.armed ∙ ap armed_by crash);
           falls = down_falls began.desk d next calls image went does crash;
           kept = λ opening k has.
               keeps_on opening d next (seen view store.disk) (seen view store.disk) (s.kept opening k has) (went.goes.lawful opening tt k)
@@ -257,7 +255,7 @@ module _ {D : Type 0} (view : D → DiskView) (began : Began) where
             let now = went.goes.lawful opening tt k in
             let next_op = o.next opening k in
             let got = learned opening now in
-            let same : got.0 ≡ op = some_same got.0 op (sym got.1.first ∙ next_op.first) in
+            let same : got.0 ≡ op = same_Some got.0 op (sym got.1.first ∙ next_op.first) in
             let first = o.serving.kept opening k has in
             keeps_trans opening began.desk.core.log d.core.log next.core.log (seen_then began) (seen view before.disk) (seen view store.disk) first
             (op_stores opening d.core next.core op (seen view before.disk) (seen view store.disk) (unblown_life (state_after opening d.core.log) next_op.handed next_op.unblown) (record { first = next_op.first; fits = next_op.fits })
@@ -318,11 +316,6 @@ module _ {D : Type 0} (view : D → DiskView) (began : Began) where
       }
 
 -- AN APPEND
-
--- a fuse lets no more pass than it is armed with, over any call of the disk
-within_kept : {D : Type 0} (view : D → DiskView) (keeps : D → D → Type 0) (succeeds : Bool) (old new : Fused D) → ((calls : ℕ) → old.armed ≡ Some calls → old.passed ≤ calls) → KeepsFuse view keeps succeeds old new
-    → (calls : ℕ) → new.armed ≡ Some calls → new.passed ≤ calls
-within_kept view keeps succeeds old new within kept calls armed = let was = sym kept.armed ∙ armed in kept.within calls was (within calls was)
 
 module _ {D : Type 0} (view : D → DiskView) (keeps : D → D → Type 0) (began : Began) (old new : StoreState D) (op : Op) (succeeds : Bool)
     (sound : StoreInvariant view new) (fuse : KeepsFuse view keeps succeeds old.disk new.disk) (goes_on : IsLaterView (seen view old.disk) (seen view new.disk))

@@ -1,5 +1,5 @@
 -- What the turns of the workers come to. This project's own.
-use Rattle.std.specs.Prelude.{◌≡◌, ◌⊎◌, true, false, List, Option, None, Some}
+use Rattle.std.specs.Prelude.{◌≡◌, ◌≢◌, ◌⊎◌, true, false, List, Option, None, Some}
 use Rattle.rm_types.specs.declared.entries.Entry.{Entry}
 use Rattle.rm_types.specs.declared.messages.Lane.{Lane}
 use Rattle.rm_types.specs.declared.messages.Lane.TheVariants.{Client, Master, Node, Clock, Main, Sched, Hand, End as EndLane}
@@ -8,7 +8,9 @@ use Rattle.rm_types.specs.Ranges.{IsOperation}
 use Rattle.rm_disk.specs.Disk.{DiskView}
 use Rattle.rm_store.specs.Store.{StoreState}
 use Rattle.rm_desk.specs.Effects.{LaneEffect}
+use Rattle.rm_core.specs.Words.{stands}
 use Rattle.rm_desk.specs.Lanes.{is_ready_at}
+use Rattle.rm_desk.specs.Runs.{IsScriptOver}
 use Rattle.rm_desk.specs.View.{DeskView}
 use Rattle.rm_plain.specs.declared.halts.Halt.{Halt}
 use Rattle.rm_workers.specs.declared.turns.End.{End}
@@ -23,6 +25,10 @@ use Rattle.rm_workers.specs.Began.{Began}
 use Rattle.rm_workers.specs.Carried.{HeldView}
 use Rattle.rm_workers.specs.Work.{Halting, Owing, Refused, Serving, Sunk, Wrote}
 
+-- no worker has anything left to do: a halt stands, or the life went down, or the run is at its end
+abbrev pub HasEnded : HeldView → Type 0
+HasEnded held = held.halt ≡ None → (stands held.desk.core ≡ false) ⊎ IsScriptOver held.desk
+
 -- THE HELPERS
 
 -- the lanes of the workers that don't touch the store
@@ -35,12 +41,12 @@ IsHelpers Main = Unit {0}
 IsHelpers Sched = Unit {0}
 IsHelpers _ = ⊥
 
--- what a helper's turn does: its lane was ready, and moved, while no halt stood; it wasn't ready, and nothing changed; or the life is over or
--- halted, and the desk is what it was
+-- what a helper's turn does: its lane was ready, and moved, while no halt stood; it wasn't ready, and nothing changed; or it is its last, since the life is
+-- over or halted, and the desk is what it was
 abbrev pub Helps : Lane → Helped → HeldView → HeldView → Type 0
 Helps lane Moved old new = (is_ready_at old.desk lane ≡ true) × LaneEffect lane old.desk new.desk × (old.halt ≡ None) × (new.halt ≡ None)
 Helps lane Still old new = (is_ready_at old.desk lane ≡ false) × (new ≡ old)
-Helps lane Over old new = new.desk ≡ old.desk
+Helps lane Over old new = (new.desk ≡ old.desk) × HasEnded new
 
 -- THE STORE'S WORKER
 
@@ -61,6 +67,17 @@ Makes turns.Wait old new = new ≡ old
 Makes (turns.Moved lane) old new = IsMove lane old new
 Makes (turns.Write op) old new = IsMove Hand old new
 Makes (turns.Ends end) old new = EndMakes end old new
+
+-- why a turn is the last of the store's worker: nothing is left to do for any, or the life went down, or was halted by it
+abbrev pub HasCause : End → HeldView → Type 0
+HasCause ends.Over held = HasEnded held
+HasCause (ends.Down image) held = stands held.desk.core ≡ false
+HasCause (ends.Halted halt) held = held.halt ≢ None
+
+-- after a turn it leaves only for such a cause
+abbrev pub EndsWithCause : Turn → HeldView → Type 0
+EndsWithCause (turns.Ends end) held = HasCause end held
+EndsWithCause _ held = Unit {0}
 
 -- what a turn comes to once an operation was handed
 abbrev pub IsHandedTurn : Turn → Type 0

@@ -9,7 +9,7 @@ ghost use Rattle.rm_baton.specs.Entries.{AddsCommon};
 ghost use Rattle.rm_workers.specs.declared.turns.End.{End};
 ghost use Rattle.rm_workers.specs.declared.turns.Helped.{Helped};
 ghost use Rattle.rm_workers.specs.declared.turns.Turn.{Turn};
-ghost use Rattle.rm_workers.specs.Turns.{Helps, IsHandedTurn, IsHelpers, LearnedFact, Makes, TurnFact, TurnOp};
+ghost use Rattle.rm_workers.specs.Turns.{Helps, IsHandedTurn, IsHelpers, LearnedFact, EndsWithCause, Makes, TurnFact, TurnOp};
 ghost use Rattle.rm_workers.specs.Work.{Halting, Refused as WasRefused, Serving, Wrote};
 
 use crate::held::Held;
@@ -22,7 +22,8 @@ use rm_plain::Halt;
 use rm_store::Store;
 use rm_types::{Close, Duplicate, Lane, NoMemory, Op};
 
-/// A helper's turn: its lane moves, where it is ready. Only common entries are added. Once a halt stands nothing is done.
+/// A helper's turn: its lane moves, where it is ready. Only common entries are added. Once a halt stands nothing is done. It is
+/// `Over` only where the life is over or a halt stands.
 pub(crate) fn help<S: Since>(held: &mut Held<S>, lane: Lane) -> Helped
     requires lane { IsHelpers lane }
     ensures helps { Helps lane result held.old held.new }
@@ -48,6 +49,7 @@ fn write_next<S: Since, D: Disk>(held: &mut Held<S>, store: &Store<D>) -> Turn
     ensures turn { TurnFact D.view S.began store.now result held.new.desk.core.log }
     ensures handed { IsHandedTurn result }
     ensures same { held.new.desk ≡ held.old.desk }
+    ensures cause { EndsWithCause result held.new }
     ensures op { TurnOp result }
 {
     let _ = store;
@@ -73,6 +75,7 @@ fn settle<S: Since, D: Disk>(held: &mut Held<S>, store: &mut Store<D>) -> Turn
     requires rests { is_blown held.old.desk.core ≡ false → has_rest held.old.desk.core }
     ensures turn { TurnFact D.view S.began store.new result held.new.desk.core.log }
     ensures makes { Makes result held.old.desk held.new.desk }
+    ensures cause { EndsWithCause result held.new }
     ensures op { TurnOp result }
 {
     match held.step(Lane::End) {
@@ -98,6 +101,7 @@ fn go_down<S: Since, D: Disk>(held: &mut Held<S>, store: &Store<D>, image: u32) 
     requires rests { is_blown held.old.desk.core ≡ false → has_rest held.old.desk.core }
     ensures turn { TurnFact D.view S.began store.now result held.new.desk.core.log }
     ensures makes { Makes result held.old.desk held.new.desk }
+    ensures cause { EndsWithCause result held.new }
     ensures op { TurnOp result }
 {
     let _ = store;
@@ -116,6 +120,7 @@ fn close<S: Since, D: Disk>(held: &mut Held<S>, store: &mut Store<D>) -> Turn
     requires serving { Serving D.view S.began store.old held.old.desk.core.log }
     ensures turn { TurnFact D.view S.began store.new result held.new.desk.core.log }
     ensures makes { Makes result held.old.desk held.new.desk }
+    ensures cause { EndsWithCause result held.new }
     ensures op { TurnOp result }
 {
     let may = is_blown(store) || held.desk().is_idle();
@@ -129,11 +134,13 @@ fn close<S: Since, D: Disk>(held: &mut Held<S>, store: &mut Store<D>) -> Turn
     }
 }
 
-/// A turn of the store's worker in its hold. Once a halt stands nothing is done.
+/// A turn of the store's worker in its hold. Once a halt stands nothing is done. It ends the turns only where the life is over or a
+/// halt stands.
 pub(crate) fn turn<S: Since, D: Disk>(held: &mut Held<S>, store: &mut Store<D>) -> Turn
     requires serving { Serving D.view S.began store.old held.old.desk.core.log }
     ensures turn { TurnFact D.view S.began store.new result held.new.desk.core.log }
     ensures makes { Makes result held.old.desk held.new.desk }
+    ensures cause { EndsWithCause result held.new }
     ensures op { TurnOp result }
     ensures halted { held.old.halt ≢ None → (held.new ≡ held.old) × (store.new ≡ store.old) }
 {
