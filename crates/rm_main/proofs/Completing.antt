@@ -22,6 +22,7 @@ use Rattle.rm_plain.specs.Keeping.{IsFull}
 use Rattle.rm_plain.specs.Policy.{run_after}
 use Rattle.rm_plain.specs.Schedule.{StopsAt, left_after, steps_from, steps_of}
 use Rattle.rm_plain.specs.Stops.{IsNoStore, IsTold}
+use Rattle.rm_plain.proofs.Choosing.{left_none}
 use Rattle.rm_main.specs.Complete.{AreAccepted, IsAccepted, IsFollowed, HasPlace, NoneRose}
 use Rattle.rm_main.specs.Made.{Made}
 use Rattle.rm_main.specs.Runs.{Ends, HasNoScript, HasNoSettings, Ran, Told, WereRead}
@@ -45,10 +46,6 @@ a_store : (bytes : List ℕ) (ops : List Op) (offset : ℕ) → DeviceHolds byte
 a_store bytes ops offset holds why = ⊎_elim (λ damaged. never_damaged bytes ops holds offset damaged) (λ stray. never_stray bytes ops holds stray.0 offset stray.1) why
 
 -- where a schedule has no byte, no letter of it stops a run
-left_none : (log : List Entry) → left_after [] log ≡ []
-left_none [] = refl
-left_none (e ∷ log) = left_none log
-
 no_steps : steps_of [] ≡ []
 unfolding steps_from
 no_steps = refl

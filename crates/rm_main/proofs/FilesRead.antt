@@ -68,16 +68,3 @@ module _ {F : Type 0} (reads : List ℕ → F → F → Type 0) (told : Told) (c
   of_run ReadFault of read = absurd of
   of_run (ClusterRefused place) of read = absurd of
   of_run (ScriptRefused line) of read = absurd of
-
--- all is read once one more file is, if there is one
-pub then_one_more : {F : Type 0} (reads : List ℕ → F → F → Type 0) (told : Told) (cluster script : List ℕ) (schedule : Option (List ℕ)) (old mid new : F) (spelled : Script) → IsScriptOf (told script) spelled
-    → ReadsScript reads told cluster script old mid → IsOneMore reads schedule mid new → ReadsAll reads told cluster script schedule old new
-then_one_more {F = F} reads told cluster script None old mid new spelled of front same = subst (λ (end : F). ReadsScript reads told cluster script old end) (sym same) front
-then_one_more reads told cluster script (Some schedule) old mid new spelled of front last = record { spelled = spelled; of_script = of; mid = mid; front = front; last = last }
-
--- where memory ran out before the words were read no file was
-pub none_read : {F : Type 0} (reads : List ℕ → F → F → Type 0) (told : Told) (asked : Option Asked) (shelf : F) → ReadsFor reads told asked Memory shelf shelf
-none_read reads told (Some (Run cluster script schedule mover)) shelf = inl refl
-none_read reads told (Some (Soak number)) shelf = refl
-none_read reads told (Some Listing) shelf = refl
-none_read reads told None shelf = refl

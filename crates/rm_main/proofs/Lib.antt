@@ -5,3 +5,4 @@ pub mod Completing
 pub mod Laws
 pub mod FilesRead
 mod Rooted
+pub mod Calls

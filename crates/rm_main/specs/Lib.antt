@@ -6,3 +6,4 @@ pub mod Statuses
 pub mod Ways
 pub mod Complete
 pub mod Laws
+pub mod Calls

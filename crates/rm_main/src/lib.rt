@@ -2,8 +2,9 @@
 //! writes the page of the run to standard output; or it writes what the device's store keeps.
 //!
 //! `top` is the call that does this, over any shelf, sink and device, and by `top_plain` all but the runs of workers in
-//! threads; `run_program` hands it the system's files, the standard output and a device of 4 MiB: an empty one in memory, or that
-//! in the file `rm.store`. It promises that the log of a run is lawful for the settings and the script of these files and
+//! threads. `run_by` hands it the system's files, the standard output and a device of 4 MiB: an empty one in memory, or that
+//! in the file `rm.store` where its words ask for it; `run_program` hands the words on, and gives the status of the outcome.
+//! `top` promises that the log of a run is lawful for the settings and the script of these files and
 //! for what the device held, that its moves are those of the schedule and then the plain policy's, or by workers of lanes
 //! that were ready, that what was written is the log's page or a beginning of it, that a run that is Done has come to its
 //! script's end with nothing owed, that at each moment of a run, also of one that was stopped, a crash leaves what is
@@ -14,6 +15,7 @@
 //! device, `rm_cluster`, `rm_script`, `rm_plain`, `rm_workers` and `rm_page`, and on the definitions of `rm_model`.
 #![tactic(auto)]
 
+mod described;
 mod hints;
 mod inputs;
 mod listing;
@@ -26,10 +28,11 @@ mod terminal;
 mod threads;
 mod writing;
 
+pub use described::Described;
 pub use hints::{ScheduleFault, schedule_hint};
 pub use messages::{Cause, Message, Names};
 pub use plain::{Ended, top_plain};
-pub use program::run_program;
+pub use program::{Call, run_by, run_program};
 pub use progress::Watched;
 pub use statuses::status_of;
 pub use threads::top;

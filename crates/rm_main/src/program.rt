@@ -1,7 +1,12 @@
+ghost use Rattle.std.specs.Prelude.{◌≡◌, ◌⊎◌, map, string_bytes, IfOk};
+ghost use Rattle.rm_main.specs.Calls.{CameBy, CountsFaults, EndsProgram, IsNewDevice, IsOfProgram, RanInMemory, RanOver, is_over_file};
+
+use crate::described::Described;
 use crate::hints::{cluster_hint, schedule_hint, script_hint};
 use crate::messages::{Cause, Message, Names, explain};
 use crate::plain::Ended;
 use crate::progress::Watched;
+use crate::statuses::status_of;
 use crate::terminal::is_terminal;
 use crate::threads::top;
 use rm_disk::{Disk, FileCause, FileDisk, Fuse, MemDisk};
@@ -9,7 +14,9 @@ use rm_outside::{FileShelf, OutSink, StandardDescriptors};
 use rm_types::{Items, NoMemory, Outcome};
 use rm_words::{command_line, name_at, word_fault};
 use rm_workers::NoGate;
+use std::alloc::Global;
 use std::fmt::Display;
+use std::process::ExitCode;
 use std::rt::Env;
 use std::sync::Wait;
 use std::thread::Threads;
@@ -36,12 +43,14 @@ fn words_of<R: Env + AllocGlobal>(rt: &R) -> io::Result<Vec<String>> {
     Ok(words)
 }
 
-/// What a call came to, and its edges as they were left, for what is told of it.
+/// What a call came to, and its edges as they were left.
 #[derive(Drop)]
-struct Call {
-    outcome: Outcome,
-    shelf: FileShelf<HostRuntime>,
-    sink: OutSink<HostRuntime>,
+pub struct Call {
+    pub outcome: Outcome,
+    /// The files that it read.
+    pub shelf: FileShelf<HostRuntime>,
+    /// The standard output.
+    pub sink: OutSink<HostRuntime>,
 }
 
 impl Call {
@@ -57,8 +66,10 @@ impl Call {
     }
 }
 
-/// A call that came to this before any file was read.
-fn stopped(rt: HostRuntime, outcome: Outcome) -> Call {
+/// A call that came to this before it did anything.
+fn stopped(rt: HostRuntime, outcome: Outcome) -> Call
+    ensures { result.outcome ≡ outcome }
+{
     Call {
         outcome,
         shelf: FileShelf::new(rt),
@@ -66,30 +77,27 @@ fn stopped(rt: HostRuntime, outcome: Outcome) -> Call {
     }
 }
 
-/// What the program does by these words over a device, which is given back. Workers run in the threads of the first runtime.
-fn run_over<R: Threads + Wait + Sync, D: Disk + Drop + Send>(
+/// What the program does by these words over a device, which is given back as the call left it. Workers run in the threads of
+/// the first runtime.
+fn call_over<R: Threads + Wait + Sync, D: Disk + Drop + Send>(
     threads: &R,
     rt: HostRuntime,
     words: &[String],
     device: D,
-) -> (Call, D) {
+) -> (Call, D)
+    ensures ran { RanOver D.view (map string_bytes words.now) device result.1 result.0.outcome }
+    ensures faults { CountsFaults result.0.outcome result.0.shelf result.0.sink }
+{
     let alloc = rt.alloc();
     let mut shelf = FileShelf::new(rt);
     let mut sink = OutSink::new(rt);
+    let fuse = Fuse::new(alloc, device);
     let Ended {
         outcome,
         opening: _,
         log: _,
         disk,
-    } = top(
-        threads,
-        alloc,
-        words,
-        &mut shelf,
-        &mut sink,
-        Fuse::new(alloc, device),
-        &NoGate,
-    );
+    } = top(threads, alloc, words, &mut shelf, &mut sink, fuse, &NoGate);
     let call = Call {
         outcome,
         shelf,
@@ -98,44 +106,52 @@ fn run_over<R: Threads + Wait + Sync, D: Disk + Drop + Send>(
     (call, disk.inner())
 }
 
-/// A device that tells on standard error how far a run has come, where that is a terminal.
-fn watched<'a, D>(rt: HostRuntime, program: &'a str, device: D) -> Watched<'a, D, HostRuntime> {
-    Watched::new(device, rt, program, is_terminal(&rt))
+/// The same, and it tells on standard error how far a run has come, where that is a terminal; that the device's store was made
+/// new, whatever the outcome, for whoever meant another folder has to know; and what stopped the call. Messages have the
+/// program's path and the device's name.
+fn run_over<R: Threads + Wait + Sync, D: Disk + Described + Drop + Send>(
+    threads: &R,
+    rt: HostRuntime,
+    program: &str,
+    words: &[String],
+    name: &str,
+    device: D,
+) -> (Call, D)
+    ensures ran { RanOver D.view (map string_bytes words.now) device result.1 result.0.outcome }
+    ensures faults { CountsFaults result.0.outcome result.0.shelf result.0.sink }
+{
+    let watched = Watched::new(device, rt, program, is_terminal(&rt));
+    let (call, watched) = call_over(threads, rt, words, watched);
+    let device = watched.inner();
+    if device.made_new() {
+        let program = program.escape_default();
+        let _ = eprintln!(rt; "{program}: the store in {name} is new");
+    }
+    tell(&rt, program, words, &call, name, device.last_fault());
+    (call, device)
 }
 
-/// What it does over a new device in memory.
+/// A new device in memory, all of whose bytes are 0.
+fn new_device(alloc: Global) -> Result<MemDisk, NoMemory>
+    ensures { IfOk result IsNewDevice }
+{
+    MemDisk::new(alloc, DEVICE_SIZE, Items::new(alloc))
+}
+
+/// What the program does by these words over a new device in memory.
 fn run_in_memory<R: Threads + Wait + Sync>(
     threads: &R,
     rt: HostRuntime,
     program: &str,
     words: &[String],
-) -> Outcome {
-    let alloc = rt.alloc();
-    let call = match MemDisk::new(alloc, DEVICE_SIZE, Items::new(alloc)) {
-        Ok(device) => run_over(threads, rt, words, watched(rt, program, device)).0,
-        Err(NoMemory) => stopped(rt, Outcome::Memory),
-    };
-    tell(&rt, program, words, &call, MEMORY_DEVICE, None);
-    call.outcome
-}
-
-/// What it does over the device in the store's file, which is made where there is none. Where it was made that is told on
-/// standard error: whoever meant another folder has to know.
-fn run_in_file<R: Threads + Wait + Sync>(
-    threads: &R,
-    rt: HostRuntime,
-    program: &str,
-    words: &[String],
-) -> Outcome {
-    let device = watched(rt, program, FileDisk::new(&rt, STORE_FILE));
-    let (call, device) = run_over(threads, rt, words, device);
-    let device = device.inner();
-    if device.made_new() {
-        let program = program.escape_default();
-        let _ = eprintln!(rt; "{program}: the store in {STORE_FILE} is new");
+) -> Call
+    ensures ran { (result.outcome ≡ Outcome.Memory) ⊎ RanInMemory (map string_bytes words.now) result.outcome }
+    ensures faults { CountsFaults result.outcome result.shelf result.sink }
+{
+    match new_device(rt.alloc()) {
+        Ok(device) => run_over(threads, rt, program, words, MEMORY_DEVICE, device).0,
+        Err(NoMemory) => starved(rt, program),
     }
-    tell(&rt, program, words, &call, STORE_FILE, device.last_fault());
-    call.outcome
 }
 
 /// Tells on standard error what stopped a call, if anything did.
@@ -200,26 +216,40 @@ fn tell_hint<H: Display + Drop>(
     explain(rt, &message);
 }
 
-/// What the program does by the words behind its path; it tells on standard error what stopped it.
-fn run_by<R: Threads + Wait + Sync>(threads: &R, rt: HostRuntime, all: &[String]) -> Outcome {
-    let (path, words) = match all.split_first() {
-        Some((first, rest)) => (first.as_str(), rest),
-        None => (PROGRAM, all),
-    };
-    match command_line(rt.alloc(), words) {
-        Ok(Some(line)) if line.is_in_file => run_in_file(threads, rt, path, words),
-        Ok(_) => run_in_memory(threads, rt, path, words),
-        Err(NoMemory) => {
-            tell_before(&rt, Outcome::Memory, "", Cause::Unknown);
-            Outcome::Memory
-        }
+/// Whether the device of a call by these words is that in the store's file: they ask for something, and `--file` is among them.
+fn is_over_file(alloc: Global, words: &[String]) -> Result<bool, NoMemory>
+    ensures { IfOk result (λ is. is ≡ is_over_file (map string_bytes words.now)) }
+{
+    match command_line(alloc, words)? {
+        Some(line) => Ok(line.is_in_file),
+        None => Ok(false),
     }
 }
 
-/// Tells what stopped the program before it had its words.
-fn tell_before(rt: &HostRuntime, outcome: Outcome, hint: &str, cause: Cause<'_>) {
+/// What the program does by its words, the path by which it was called apart; it tells on standard error what stopped it. Where
+/// the words ask for the device in the store's file, the call is over `file`, and else over a new one in memory. `file` is given
+/// back as the call left it. Workers run in the threads of the first runtime.
+pub fn run_by<R: Threads + Wait + Sync, D: Disk + Described + Drop + Send>(
+    threads: &R,
+    rt: HostRuntime,
+    program: &str,
+    words: &[String],
+    file: D,
+) -> (Call, D)
+    ensures came { CameBy D.view (map string_bytes words.now) file result.1 result.0.outcome }
+    ensures faults { CountsFaults result.0.outcome result.0.shelf result.0.sink }
+{
+    match is_over_file(rt.alloc(), words) {
+        Ok(true) => run_over(threads, rt, program, words, STORE_FILE, file),
+        Ok(false) => (run_in_memory(threads, rt, program, words), file),
+        Err(NoMemory) => (starved(rt, program), file),
+    }
+}
+
+/// Tells what stopped the program before it used its words or a device.
+fn tell_before(rt: &HostRuntime, program: &str, outcome: Outcome, hint: &str, cause: Cause<'_>) {
     let names = Names {
-        program: PROGRAM,
+        program,
         cluster: "",
         script: "",
         schedule: "",
@@ -229,16 +259,33 @@ fn tell_before(rt: &HostRuntime, outcome: Outcome, hint: &str, cause: Cause<'_>)
     tell_hint(rt, outcome, names, hint, cause);
 }
 
-/// What the program does by its command line; it tells on standard error what stopped it. Nothing comes back but the
-/// outcome: the page is on standard output by then. Workers run in the threads of the first runtime.
+/// A call that found no memory for its words or for a device, which is told.
+fn starved(rt: HostRuntime, program: &str) -> Call
+    ensures { result.outcome ≡ Outcome.Memory }
+{
+    tell_before(&rt, program, Outcome::Memory, "", Cause::Unknown);
+    stopped(rt, Outcome::Memory)
+}
+
+/// What the program does by its command line; it ends with the status of its outcome, and tells on standard error what stopped
+/// it. The page is on standard output by then. Workers run in the threads of the first runtime.
 ///
 /// Before any other file is opened the descriptors of the standard streams are taken, so that none of them that is closed
 /// becomes the store's file.
-pub fn run_program<R: Threads + Wait + Sync>(threads: &R, rt: HostRuntime) -> Outcome {
+pub fn run_program<R: Threads + Wait + Sync>(threads: &R, rt: HostRuntime) -> ExitCode
+    ensures { EndsProgram ⟦<FileDisk<'static, HostRuntime> as Disk>⟧.view result }
+{
+    ExitCode::from(status_of(run_held(threads, rt)))
+}
+
+/// What it comes to, with these descriptors held meanwhile.
+fn run_held<R: Threads + Wait + Sync>(threads: &R, rt: HostRuntime) -> Outcome
+    ensures { IsOfProgram ⟦<FileDisk<'static, HostRuntime> as Disk>⟧.view result }
+{
     let held = match StandardDescriptors::take(&rt) {
         Ok(held) => held,
         Err(error) => {
-            tell_before(&rt, Outcome::ReadFault, "", Cause::System(&error));
+            tell_before(&rt, PROGRAM, Outcome::ReadFault, "", Cause::System(&error));
             return Outcome::ReadFault;
         }
     };
@@ -247,16 +294,33 @@ pub fn run_program<R: Threads + Wait + Sync>(threads: &R, rt: HostRuntime) -> Ou
     outcome
 }
 
-/// The same once these are taken.
-fn run_words<R: Threads + Wait + Sync>(threads: &R, rt: HostRuntime) -> Outcome {
+/// The same by the words of the command line. Where the words ask for no file the store's is not opened.
+fn run_words<R: Threads + Wait + Sync>(threads: &R, rt: HostRuntime) -> Outcome
+    ensures { IsOfProgram ⟦<FileDisk<'static, HostRuntime> as Disk>⟧.view result }
+{
     match words_of(&rt) {
-        Ok(words) => run_by(threads, rt, words.as_slice()),
+        Ok(words) => {
+            let all = words.as_slice();
+            let (program, words) = match all.split_first() {
+                Some((first, rest)) => (first.as_str(), rest),
+                None => (PROGRAM, all),
+            };
+            run_by(threads, rt, program, words, FileDisk::new(&rt, STORE_FILE))
+                .0
+                .outcome
+        }
         Err(error) if error.kind() == io::ErrorKind::OutOfMemory => {
-            tell_before(&rt, Outcome::Memory, "", Cause::Unknown);
+            tell_before(&rt, PROGRAM, Outcome::Memory, "", Cause::Unknown);
             Outcome::Memory
         }
         Err(_) => {
-            tell_before(&rt, Outcome::Usage, "the words are no text", Cause::Unknown);
+            tell_before(
+                &rt,
+                PROGRAM,
+                Outcome::Usage,
+                "the words are no text",
+                Cause::Unknown,
+            );
             Outcome::Usage
         }
     }
