@@ -36,7 +36,3 @@ adds_more a b c p q = record {
 
 pub adds_begins : (a b : List Entry) → AddsCommon a b → IsPrefix a b
 adds_begins a b p = (p.added, p.grown)
-
--- one entry more that any pass may add
-pub adds_one : (old new : List Entry) (e : Entry) → IsCommon e → new ≡ old ++ e ∷ [] → AddsCommon old new
-adds_one old new e is grown = record { added = e ∷ []; grown = sym grown; common = (is, tt) }

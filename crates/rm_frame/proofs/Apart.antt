@@ -19,6 +19,7 @@ use Rattle.rm_formats.specs.Frames.{frame, text_frame, app_id_frame, attempt_id_
 use Rattle.rm_types.specs.Ranges.{IsOperation, IsText, IsSubmission}
 use Rattle.rm_types.specs.Ranges.{IsAppId, IsAttemptId, IsContainerId}
 use Rattle.rm_types.specs.Texts.{fault_of, first_not_allowed, least_length, greatest_length}
+use Rattle.rm_types.proofs.IdLemmas.{container_of_parts, attempt_of_parts, app_of_parts}
 use Rattle.rm_formats.specs.declared.codes.TheConstants.{EPOCH_CODE, APP_CODE, ATTEMPT_CODE, ATTEMPT_END_CODE, APP_END_CODE, REMOVE_CODE}
 use Rattle.rm_frame.specs.Framed.{IsFramed}
 use Rattle.rm_frame.specs.Reads.{ReadsOp}
@@ -74,21 +75,6 @@ number64_alike m n x y lt_m lt_n e = number_alike w64 (2 ^ 64) wide64 m n x y lt
 
 -- records whose parts are equal are equal
 
-app_id_same : (a b : AppId) → a.stamp ≡ b.stamp → a.number ≡ b.number → a ≡ b
-app_id_same a b p q =
-    let make : ℕ → ℕ → AppId = λ stamp number. record { stamp = stamp; number = number } in
-    ap (λ (stamp : ℕ). make stamp a.number) p ∙ ap (make b.stamp) q
-
-attempt_id_same : (a b : AttemptId) → a.app ≡ b.app → a.number ≡ b.number → a ≡ b
-attempt_id_same a b p q =
-    let make : AppId → ℕ → AttemptId = λ app number. record { app = app; number = number } in
-    ap (λ (app : AppId). make app a.number) p ∙ ap (make b.app) q
-
-container_id_same : (a b : ContainerId) → a.attempt ≡ b.attempt → a.epoch ≡ b.epoch → a.seq ≡ b.seq → a ≡ b
-container_id_same a b p q r =
-    let make : AttemptId → ℕ → ℕ → ContainerId = λ attempt epoch seq. record { attempt = attempt; epoch = epoch; seq = seq } in
-    ap (λ (attempt : AttemptId). make attempt a.epoch a.seq) p ∙ ap (λ (epoch : ℕ). make b.attempt epoch a.seq) q ∙ ap (make b.attempt b.epoch) r
-
 resource_same : (a b : Resource) → a.memory_mb ≡ b.memory_mb → a.vcores ≡ b.vcores → a ≡ b
 resource_same a b p q =
     let make : ℕ → ℕ → Resource = λ memory_mb vcores. record { memory_mb = memory_mb; vcores = vcores } in
@@ -109,19 +95,19 @@ app_id_alike : (a b : AppId) (x y : List ℕ) → IsAppId a → IsAppId b → ap
 app_id_alike a b x y is_a is_b e =
     let s = number64_alike a.stamp b.stamp (to_be_bytes w32 a.number ++ x) (to_be_bytes w32 b.number ++ y) (omega (arith, is_a.stamp)) (omega (arith, is_b.stamp)) e in
     let n = number32_alike a.number b.number x y (omega (arith, is_a.number)) (omega (arith, is_b.number)) s.1 in
-    (app_id_same a b s.0 n.0, n.1)
+    (app_of_parts a b s.0 n.0, n.1)
 
 attempt_id_alike : (a b : AttemptId) (x y : List ℕ) → IsAttemptId a → IsAttemptId b → attempt_id_frame a ++ x ≡ attempt_id_frame b ++ y → (a ≡ b) × (x ≡ y)
 attempt_id_alike a b x y is_a is_b e =
     let i = app_id_alike a.app b.app (to_be_bytes w32 a.number ++ x) (to_be_bytes w32 b.number ++ y) is_a.app is_b.app e in
     let n = number32_alike a.number b.number x y (omega (arith, is_a.number)) (omega (arith, is_b.number)) i.1 in
-    (attempt_id_same a b i.0 n.0, n.1)
+    (attempt_of_parts a b i.0 n.0, n.1)
 
 master_alike : (a b : ContainerId) (x y : List ℕ) → IsContainerId a → IsContainerId b → a.attempt ≡ b.attempt → master_frame a ++ x ≡ master_frame b ++ y → (a ≡ b) × (x ≡ y)
 master_alike a b x y is_a is_b one e =
     let p = number32_alike a.epoch b.epoch (to_be_bytes w64 a.seq ++ x) (to_be_bytes w64 b.seq ++ y) (omega (arith, is_a.epoch)) (omega (arith, is_b.epoch)) e in
     let n = number64_alike a.seq b.seq x y (omega (arith, is_a.seq)) (omega (arith, is_b.seq)) p.1 in
-    (container_id_same a b one p.0 n.0, n.1)
+    (container_of_parts a b one p.0 n.0, n.1)
 
 how_alike : (a b : How) → how_code a ≡ how_code b → a ≡ b
 how_alike Finished Finished e = refl

@@ -3,7 +3,7 @@ use Rattle.std.proofs.Common.{◌≡◌, ℕ, ◌+◌, ◌-◌, ◌≤◌, Bool,
 use Rattle.std.specs.Prelude.{nat_le, is_none, slice_index, option_map, IfErr}
 use Rattle.std.specs.Result.{IsErrAnd}
 use Rattle.std.specs.Int.{Width, w16, byte_len, from_be_bytes, to_be_bytes}
-use Rattle.std.proofs.lemmas.Bool.{le-leb, leb-true}
+use Rattle.std.proofs.lemmas.Bool.{le-leb, leb-true, false_from_ne_true, and_parts}
 use Rattle.std.proofs.lemmas.List.{take-append-drop, length-take, length-drop, drop-drop}
 use Rattle.rm_types.specs.declared.texts.TextKind.{TextKind}
 use Rattle.rm_types.specs.Ranges.{IsText}
@@ -22,14 +22,6 @@ is_nothing : (o : Option ℕ) → is_none o ≡ true → o ≡ None
 is_nothing None e = refl
 is_nothing (Some n) e = absurd cc
 
-both_true : (a b : Bool) → (a && b) ≡ true → (a ≡ true) × (b ≡ true)
-both_true true b e = (refl, e)
-both_true false b e = absurd cc
-
-not_true : (b : Bool) → (b ≡ true → ⊥) → b ≡ false
-not_true true never = absurd (never refl)
-not_true false never = refl
-
 pub goes_past : (field : Field) (bytes : List ℕ) (more : List Field) → stands field bytes ≡ true → left_at_fault (field ∷ more) bytes ≡ left_at_fault more (drop (size_of field bytes) bytes)
 unfolding left_at_fault
 goes_past field bytes more e = rw e refl
@@ -38,7 +30,7 @@ pub stops_at : (field : Field) (bytes : List ℕ) → (stands field bytes ≡ tr
 unfolding left_at_fault
 stops_at field bytes never left is =
     let n : length bytes ≡ left = cc in
-    let e : stands field bytes ≡ false = not_true (stands field bytes) never in
+    let e : stands field bytes ≡ false = false_from_ne_true (stands field bytes) never in
     record { at = λ more. rw (e, n) refl }
 
 within_true : (least greatest n : ℕ) → IsWithin least greatest n → (nat_le least n && nat_le n greatest) ≡ true
@@ -46,7 +38,7 @@ within_true least greatest n h = rw (le-leb least n h.0, le-leb n greatest h.1) 
 
 true_within : (least greatest n : ℕ) → (nat_le least n && nat_le n greatest) ≡ true → IsWithin least greatest n
 true_within least greatest n e =
-    let b = both_true (nat_le least n) (nat_le n greatest) e in
+    let b = and_parts (nat_le least n) (nat_le n greatest) e in
     (leb-true least n b.0, leb-true n greatest b.1)
 
 -- ---- a byte
@@ -59,7 +51,7 @@ byte_reads least greatest n bytes rest e low high =
 pub byte_stands : (least greatest n : ℕ) (bytes rest : List ℕ) → bytes ≡ n ∷ rest → stands (ByteFrom least greatest) bytes ≡ true → IsWithin least greatest n
 byte_stands least greatest n bytes rest e s =
     let t : stands (ByteFrom least greatest) (n ∷ rest) ≡ true = rw e at s in
-    true_within least greatest n (both_true (nat_le 1 (length (n ∷ rest))) (nat_le least n && nat_le n greatest) t).1
+    true_within least greatest n (and_parts (nat_le 1 (length (n ∷ rest))) (nat_le least n && nat_le n greatest) t).1
 
 pub no_byte : (least greatest : ℕ) (bytes : List ℕ) → bytes ≡ [] → stands (ByteFrom least greatest) bytes ≡ true → ⊥
 no_byte least greatest bytes e s = let t = rw e at s in absurd cc
@@ -70,7 +62,7 @@ pub number_stands : (w : Width) (least greatest : ℕ) (bytes : List ℕ) → st
     → (byte_len w ≤ length bytes) × IsWithin least greatest (from_be_bytes w (take (byte_len w) bytes))
 number_stands w least greatest bytes s =
     let n = from_be_bytes w (take (byte_len w) bytes) in
-    let b = both_true (nat_le (byte_len w) (length bytes)) (nat_le least n && nat_le n greatest) s in
+    let b = and_parts (nat_le (byte_len w) (length bytes)) (nat_le least n && nat_le n greatest) s in
     (leb-true (byte_len w) (length bytes) b.0, true_within least greatest n b.1)
 
 pub stands_number : (w : Width) (least greatest : ℕ) (bytes : List ℕ) → byte_len w ≤ length bytes → IsWithin least greatest (from_be_bytes w (take (byte_len w) bytes)) → stands (NumberFrom w least greatest) bytes ≡ true
@@ -99,8 +91,8 @@ pub text_stands : (kind : TextKind) (bytes : List ℕ) → stands (TextOf kind) 
     → (2 ≤ length bytes) × (2 + told_length bytes ≤ length bytes) × (fault_of kind (take (told_length bytes) (drop 2 bytes)) ≡ None)
 text_stands kind bytes s =
     let told = told_length bytes in
-    let a = both_true (nat_le 2 (length bytes)) (nat_le (2 + told) (length bytes) && is_none (fault_of kind (take told (drop 2 bytes)))) s in
-    let b = both_true (nat_le (2 + told) (length bytes)) (is_none (fault_of kind (take told (drop 2 bytes)))) a.1 in
+    let a = and_parts (nat_le 2 (length bytes)) (nat_le (2 + told) (length bytes) && is_none (fault_of kind (take told (drop 2 bytes)))) s in
+    let b = and_parts (nat_le (2 + told) (length bytes)) (is_none (fault_of kind (take told (drop 2 bytes)))) a.1 in
     (leb-true 2 (length bytes) a.0, leb-true (2 + told) (length bytes) b.0, is_nothing (fault_of kind (take told (drop 2 bytes))) b.1)
 
 pub stands_text : (kind : TextKind) (bytes : List ℕ) → 2 + told_length bytes ≤ length bytes → IsText kind (take (told_length bytes) (drop 2 bytes)) → stands (TextOf kind) bytes ≡ true

@@ -8,6 +8,7 @@ use Rattle.rm_types.specs.declared.ids.AttemptId.{AttemptId}
 use Rattle.rm_types.specs.declared.ids.ContainerId.{ContainerId}
 use Rattle.rm_formats.specs.IdTexts.{padded, app_text, attempt_text, container_text}
 use Rattle.rm_types.specs.Ranges.{IsWithin, IsAppId, IsAttemptId, IsContainerId}
+use Rattle.rm_types.proofs.IdLemmas.{container_of_parts, attempt_of_parts, app_of_parts}
 use Rattle.rm_ids.specs.declared.parts.Part.{Part}
 use Rattle.rm_ids.specs.declared.parts.Part.TheVariants.{Stamp, AppNumber, AttemptNumber, AttemptInContainer, Epoch, Sequence}
 use Rattle.rm_ids.specs.Parts.{least_digits, greatest}
@@ -28,28 +29,13 @@ number_alike part m n x y within_m within_n lacks_x lacks_y e =
     let small_n : n < 2 ^ 64 = omega (arith, within_n.1, fits part) in
     (sym (value_of-padded (least_digits part) m small_m) ∙ ap value_of same.0 ∙ value_of-padded (least_digits part) n small_n, same.1)
 
-app_same : (a b : AppId) → a.stamp ≡ b.stamp → a.number ≡ b.number → a ≡ b
-app_same a b p q =
-    let make : ℕ → ℕ → AppId = λ stamp number. record { stamp = stamp; number = number } in
-    ap (λ (stamp : ℕ). make stamp a.number) p ∙ ap (make b.stamp) q
-
-attempt_same : (a b : AttemptId) → a.app ≡ b.app → a.number ≡ b.number → a ≡ b
-attempt_same a b p q =
-    let make : AppId → ℕ → AttemptId = λ app number. record { app = app; number = number } in
-    ap (λ (app : AppId). make app a.number) p ∙ ap (make b.app) q
-
-container_same : (a b : ContainerId) → a.attempt ≡ b.attempt → a.epoch ≡ b.epoch → a.seq ≡ b.seq → a ≡ b
-container_same a b p q r =
-    let make : AttemptId → ℕ → ℕ → ContainerId = λ attempt epoch seq. record { attempt = attempt; epoch = epoch; seq = seq } in
-    ap (λ (attempt : AttemptId). make attempt a.epoch a.seq) p ∙ ap (λ (epoch : ℕ). make b.attempt epoch a.seq) q ∙ ap (make b.attempt b.epoch) r
-
 app_alike : (a b : AppId) (x y : List ℕ) → IsAppId a → IsAppId b → LacksDigit x → LacksDigit y → app_then a x ≡ app_then b y → (a ≡ b) × (x ≡ y)
 app_alike a b x y is_a is_b lacks_x lacks_y e =
     let first = heads_alike 95 95 (padded 1 a.stamp ++ (95 ∷ (padded 4 a.number ++ x))) (padded 1 b.stamp ++ (95 ∷ (padded 4 b.number ++ y))) e in
     let stamp = number_alike Stamp a.stamp b.stamp (95 ∷ (padded 4 a.number ++ x)) (95 ∷ (padded 4 b.number ++ y)) is_a.stamp is_b.stamp no_digit no_digit first.1 in
     let second = heads_alike 95 95 (padded 4 a.number ++ x) (padded 4 b.number ++ y) stamp.1 in
     let number = number_alike AppNumber a.number b.number x y is_a.number is_b.number lacks_x lacks_y second.1 in
-    (app_same a b stamp.0 number.0, number.1)
+    (app_of_parts a b stamp.0 number.0, number.1)
 
 grant_alike : (a b : AttemptId) (m n : ℕ) → IsAttemptId a → IsAttemptId b → IsWithin 1 (2 ^ 40 - 1) m → IsWithin 1 (2 ^ 40 - 1) n → grant_text a m ≡ grant_text b n → (a ≡ b) × (m ≡ n)
 grant_alike a b m n is_a is_b within_m within_n e =
@@ -58,7 +44,7 @@ grant_alike a b m n is_a is_b within_m within_n e =
     let number = number_alike AttemptInContainer a.number b.number (95 ∷ (padded 6 m ++ [])) (95 ∷ (padded 6 n ++ [])) is_a.number is_b.number no_digit no_digit first.1 in
     let second = heads_alike 95 95 (padded 6 m ++ []) (padded 6 n ++ []) number.1 in
     let seq = number_alike Sequence m n [] [] within_m within_n tt tt second.1 in
-    (attempt_same a b app.0 number.0, seq.0)
+    (attempt_of_parts a b app.0 number.0, seq.0)
 
 -- ---- ids
 
@@ -74,7 +60,7 @@ attempts_apart a b is_a is_b e =
     let app = app_alike a.app b.app (behind a) (behind b) is_a.app is_b.app no_digit no_digit (append_cancel_left (codes "appattempt") (app_then a.app (behind a)) (app_then b.app (behind b)) spelled) in
     let bar = heads_alike 95 95 (padded 6 a.number ++ []) (padded 6 b.number ++ []) app.1 in
     let number = number_alike AttemptNumber a.number b.number [] [] is_a.number is_b.number tt tt bar.1 in
-    attempt_same a b app.0 number.0
+    attempt_of_parts a b app.0 number.0
 
 epochs_alike : (m n : ℕ) (a b : ContainerId) → IsWithin 0 (2 ^ 24 - 1) m → IsWithin 0 (2 ^ 24 - 1) n → IsContainerId a → IsContainerId b
     → epoch_then m (grant_text a.attempt a.seq) ≡ epoch_then n (grant_text b.attempt b.seq) → (m ≡ n) × (grant_text a.attempt a.seq ≡ grant_text b.attempt b.seq)
@@ -110,4 +96,4 @@ containers_apart a b is_a is_b e =
     let spelled : codes "container" ++ x ≡ codes "container" ++ y = sym (container_spelled a is_a) ∙ e ∙ container_spelled b is_b in
     let epoch = epochs_alike a.epoch b.epoch a b is_a.epoch is_b.epoch is_a is_b (append_cancel_left (codes "container") x y spelled) in
     let grant = grant_alike a.attempt b.attempt a.seq b.seq is_a.attempt is_b.attempt is_a.seq is_b.seq epoch.1 in
-    container_same a b grant.0 epoch.0 grant.1
+    container_of_parts a b grant.0 epoch.0 grant.1

@@ -4,13 +4,15 @@ use Rattle.std.specs.Str.{bytes_eq}
 use Rattle.std.proofs.lemmas.List.Folds.{list_any-append}
 use Rattle.std.proofs.lemmas.List.Sorted.{list_any-IsPermutation}
 use Rattle.std.proofs.lemmas.Map.Views.{any-filter_same}
-use Rattle.std.proofs.lemmas.Slice.Eq.{bytes_eq-Decides}
+use Rattle.std.proofs.lemmas.Bool.{and_parts}
 use Rattle.rm_types.specs.declared.containers.ContainerState.TheVariants.{Running}
 use Rattle.rm_types.specs.declared.containers.Grant.{Grant}
 use Rattle.rm_types.specs.declared.containers.Held.{Held}
 use Rattle.rm_types.specs.declared.ids.ContainerId.{ContainerId}
 use Rattle.rm_types.specs.Ids.{is_container}
 use Rattle.rm_types.specs.Order.{Ascend}
+use Rattle.rm_types.proofs.TestLemmas.{same_text, and_false}
+use Rattle.rm_types.proofs.IdLemmas.{same_container}
 use Rattle.rm_model.specs.State.{NodeState, Row, Scene}
 use Rattle.rm_model.specs.Facts.{has_container}
 use Rattle.rm_model.specs.Containers.{ids_on, is_living, lives_elsewhere, lives_on}
@@ -18,13 +20,11 @@ use Rattle.rm_model.specs.Absorbing.{book_taken, is_held, not_taken, row_absorbe
 use Rattle.rm_model.specs.Nodes.{node_of}
 use Rattle.rm_model.specs.Passing.{row_granted}
 use Rattle.rm_laws.proofs.Lists.{Each}
-use Rattle.rm_laws.proofs.Tests.{both}
 use Rattle.rm_laws.proofs.Taken.{each_taken}
-use Rattle.rm_laws.proofs.Same.{is_container_same}
 
 -- a test of a container answers alike for two that are the same
 same_test : (a b : ContainerId) (test : ContainerId → Bool) → is_container a b ≡ true → test a ≡ test b
-same_test a b test h = ap test (is_container_same a b h)
+same_test a b test h = ap test (same_container a b h)
 
 -- a row stands where this container does
 abbrev pub is_at : List ℕ → ContainerId → Row → Bool
@@ -44,7 +44,7 @@ pub lives-filter : (list : List ContainerId) (book : List Row) (name : List ℕ)
     → lives_on (filter (λ row. not (has_container list row.id)) book) name id ≡ (not (has_container list id) && lives_on book name id)
 lives-filter list book name id =
     any-filter_same (is_at name id) (λ row. not (has_container list row.id)) (not (has_container list id))
-    (λ row at. same_test row.id id (λ x. not (has_container list x)) (both (is_container row.id id) (bytes_eq row.node name) at).0) book
+    (λ row at. same_test row.id id (λ x. not (has_container list x)) (and_parts (is_container row.id id) (bytes_eq row.node name) at).0) book
 
 pub is_living-filter : (list : List ContainerId) (book : List Row) (id : ContainerId)
     → is_living (filter (λ row. not (has_container list row.id)) book) id ≡ (not (has_container list id) && is_living book id)
@@ -59,20 +59,16 @@ swap_parts true false c = refl
 swap_parts false true c = refl
 swap_parts false false c = refl
 
-none_of : (b : Bool) → (b && false) ≡ false
-none_of true = refl
-none_of false = refl
-
 pub lives-granted : (on name : List ℕ) (id : ContainerId) (grants : List Grant) → Each (λ (grant : Grant). grant.node ≡ on) grants
     → lives_on (map row_granted grants) name id ≡ (bytes_eq on name && has_container (map (λ (grant : Grant). grant.id) grants) id)
-lives-granted on name id [] h = sym (none_of (bytes_eq on name))
+lives-granted on name id [] h = sym (and_false (bytes_eq on name))
 lives-granted on name id (grant ∷ grants) h =
     rw (h.0, lives-granted on name id grants h.1) (swap_parts (is_container grant.id id) (bytes_eq on name) (has_container (map (λ (one : Grant). one.id) grants) id))
 
 -- absorbed rows
 pub lives-absorbed : (on name : List ℕ) (id : ContainerId) (taken : List Held)
     → lives_on (map (row_absorbed on) taken) name id ≡ (bytes_eq on name && is_held taken id)
-lives-absorbed on name id [] = sym (none_of (bytes_eq on name))
+lives-absorbed on name id [] = sym (and_false (bytes_eq on name))
 lives-absorbed on name id (held ∷ taken) =
     rw (lives-absorbed on name id taken) (swap_parts (is_container held.id id) (bytes_eq on name) (is_held taken id))
 
@@ -119,7 +115,7 @@ each_held P id [] h is = cc
 each_held P id (held ∷ taken) h is = go (each_held P id taken h.1) (is_container held.id id) refl is
   where
     go : (is_held taken id ≡ true → P id) → (b : Bool) → is_container held.id id ≡ b → (b || is_held taken id) ≡ true → P id
-    go more true e x = subst P (is_container_same held.id id e) h.0
+    go more true e x = subst P (same_container held.id id e) h.0
     go more false e x = more x
 
 -- a container that lives, and on no other node, lives on this one
@@ -134,16 +130,13 @@ lives_home [] name id out living = cc
 lives_home (row ∷ book) name id out living =
     home_row row book name id (is_container row.id id) (bytes_eq row.node name) (lives_elsewhere book name id) (is_living book id) (lives_on book name id) out living (lives_home book name id)
 
-pub same_name : (a b : List ℕ) → bytes_eq a b ≡ true → a ≡ b
-same_name a b h = (bytes_eq-Decides a b).0 h
-
 -- the node that is found by a name has that name
 pub found : (nodes : List NodeState) (at : List ℕ) (node : NodeState) → node_of nodes at ≡ Some node → node.name ≡ at
 found [] at node e = cc
 found (one ∷ nodes) at node e = go (found nodes at node) (bytes_eq one.name at) refl e
   where
     go : (node_of nodes at ≡ Some node → node.name ≡ at) → (b : Bool) → bytes_eq one.name at ≡ b → (if b then Some one else node_of nodes at) ≡ Some node → node.name ≡ at
-    go more true same e = let x : one ≡ node = cc in subst (λ (n : NodeState). n.name ≡ at) x (same_name one.name at same)
+    go more true same e = let x : one ≡ node = cc in subst (λ (n : NodeState). n.name ≡ at) x (same_text one.name at same)
     go more false same e = more e
 
 -- the book after an absorption
@@ -151,11 +144,11 @@ pub absorbed_by : (stood ended living home held here : Bool)
     → (held ≡ true → ended ≡ false) → (held ≡ true → here ≡ true → living ≡ true → stood ≡ true)
     → ((not ended && stood) || (here && (not (not ended && living) && held))) ≡ ((stood || (here && held)) && not ended)
 absorbed_by true true living home true here a b = let x = a refl in cc
-absorbed_by true true living home false true a b = rw (none_of (not (not true && living))) refl
+absorbed_by true true living home false true a b = rw (and_false (not (not true && living))) refl
 absorbed_by true true living home false false a b = refl
 absorbed_by true false living home held here a b = refl
 absorbed_by false true living home true here a b = let x = a refl in cc
-absorbed_by false true living home false true a b = rw (none_of (not (not true && living))) refl
+absorbed_by false true living home false true a b = rw (and_false (not (not true && living))) refl
 absorbed_by false true living home false false a b = refl
 absorbed_by false false true home true true a b = let x = b refl refl refl in cc
 absorbed_by false false true home true false a b = refl

@@ -2,6 +2,7 @@
 use Rattle.std.proofs.Common.{◌≡◌, ℕ, ◌+◌, List, [], ◌∷◌, Bool, true, false, ◌||◌, not, ◌==◌, if◌then◌else◌, Option, None, Some, filter, refl, sym, ap, subst, arith, ◌∙◌}
 use Rattle.std.proofs.lemmas.Bool.Decides.{nat_tests}
 use Rattle.std.proofs.lemmas.Map.Views.{any-filter_same}
+use Rattle.std.proofs.lemmas.Bool.{not-true}
 use Rattle.rm_types.specs.declared.containers.Held.{Held}
 use Rattle.rm_types.specs.declared.entries.Entry.{Entry}
 use Rattle.rm_types.specs.declared.entries.Entry.TheVariants.{Served}
@@ -14,6 +15,7 @@ use Rattle.rm_types.specs.declared.replies.Reply.TheVariants as replies
 use Rattle.rm_types.specs.declared.settings.Settings.{Settings}
 use Rattle.rm_types.specs.Ids.{is_container}
 use Rattle.rm_types.specs.Records.{is_some_and}
+use Rattle.rm_types.proofs.IdLemmas.{same_container}
 use Rattle.rm_model.specs.State.{LifeState, Manager, NodeState, Scene, scene, opening_state}
 use Rattle.rm_model.specs.Facts.{has_container}
 use Rattle.rm_model.specs.Containers.{lives_on, once}
@@ -28,8 +30,6 @@ use Rattle.rm_laws.proofs.Lists.{Each, each_all, each-filter, each-map, each-pas
 use Rattle.rm_laws.proofs.Phases.{state}
 use Rattle.rm_laws.proofs.Book.{found}
 use Rattle.rm_laws.proofs.Rows.{step}
-use Rattle.rm_laws.proofs.Same.{is_container_same}
-use Rattle.rm_laws.proofs.Tests.{not_true}
 use Rattle.rm_laws.proofs.Walks.{walk}
 
 -- what holds of each container of a list holds of each once
@@ -50,7 +50,7 @@ has_once id (one ∷ ids) h = go (is_container one id) refl h (has_once id ids)
     go true e x more = refl
     go false e x more =
         any-filter_same (λ (other : ContainerId). is_container other id) (λ other. not (is_container other one)) true
-        (λ other at. apart other (is_container_same other id at) e) (once ids)
+        (λ other at. apart other (same_container other id at) e) (once ids)
         ∙ more x
 
 has_reported : (id : ContainerId) (running : List Held) → is_held running id ≡ true → has_container (reported running) id ≡ true
@@ -64,13 +64,13 @@ has_reported id (held ∷ running) h = go (is_container held.id id) h (has_repor
 module _ (m : Scene) (name : List ℕ) (running : List Held) where
   strangers_out : Each (λ id. lives_on m.life.book name id ≡ false) (strangers m name running)
   strangers_out =
-      each_once (λ id. lives_on m.life.book name id ≡ false) _ (each-passing (λ id. lives_on m.life.book name id ≡ false) (λ id. not (lives_on m.life.book name id)) (λ id out. not_true (lives_on m.life.book name id) out) (reported running))
+      each_once (λ id. lives_on m.life.book name id ≡ false) _ (each-passing (λ id. lives_on m.life.book name id ≡ false) (λ id. not (lives_on m.life.book name id)) (λ id out. not-true (lives_on m.life.book name id) out) (reported running))
 
   strangers_all : (id : ContainerId) → is_held running id ≡ true → lives_on m.life.book name id ≡ false → has_container (strangers m name running) id ≡ true
   strangers_all id held away =
       has_once id (filter (λ one. not (lives_on m.life.book name one)) (reported running))
       (any-filter_same (λ (one : ContainerId). is_container one id) (λ one. not (lives_on m.life.book name one)) true
-      (λ one at. ap (λ (x : ContainerId). not (lives_on m.life.book name x)) (is_container_same one id at) ∙ rw away refl) (reported running)
+      (λ one at. ap (λ (x : ContainerId). not (lives_on m.life.book name x)) (same_container one id at) ∙ rw away refl) (reported running)
       ∙ has_reported id running held)
 
   -- what a node is told, where it is ready and where it isn't

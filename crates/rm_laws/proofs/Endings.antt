@@ -11,13 +11,11 @@ use Rattle.rm_types.specs.Ids.{is_app}
 use Rattle.rm_types.specs.Records.{Records, records, recorded, no_records, record_of, with_record}
 use Rattle.rm_model.specs.Facts.{end_in, is_app_end_op, is_remove_op}
 use Rattle.rm_laws.proofs.Counts.{count_front, count_one}
+use Rattle.rm_laws.proofs.Views.{apart}
 
 -- the end of an application, by these records
 abbrev pub end_of : List AppRecord → AppId → Option (How × List ℕ)
 end_of apps id = end_in (record_of apps id)
-
-apart : (a b c : AppId) → is_app a b ≡ true → is_app c b ≡ false → is_app a c ≡ false
-apart a b c h n = grind (arith, nat_tests)
 
 module _ (id : AppId) where
   end-append : (apps : List AppRecord) (new : AppRecord) → new.ending ≡ None → end_of (apps ++ new ∷ []) id ≡ end_of apps id

@@ -4,6 +4,7 @@ use Rattle.std.specs.Prelude.{slice_get}
 use Rattle.std.specs.List.{list_any}
 use Rattle.std.proofs.lemmas.List.Folds.{list_any-append}
 use Rattle.std.proofs.lemmas.List.Sums.{fold_push}
+use Rattle.std.proofs.lemmas.Bool.{or_parts}
 use Rattle.rm_types.specs.declared.entries.Entry.{Entry}
 use Rattle.rm_types.specs.declared.entries.Entry.TheVariants.{Opened, Issued, Kept}
 use Rattle.rm_types.specs.declared.ids.AppId.{AppId}
@@ -13,16 +14,16 @@ use Rattle.rm_types.specs.declared.operations.Op.TheVariants.{Epoch, App, Attemp
 use Rattle.rm_types.specs.declared.settings.Settings.{Settings}
 use Rattle.rm_types.specs.Ids.{is_app}
 use Rattle.rm_types.specs.Records.{Records, records, recorded, no_records}
+use Rattle.rm_types.proofs.IdLemmas.{same_app}
 use Rattle.rm_model.specs.State.{LifeState, Manager, scene}
 use Rattle.rm_model.specs.Facts.{is_app_end_op, is_remove_op}
 use Rattle.rm_model.specs.Rules.{Allowed, AllowedIn}
 use Rattle.rm_model.specs.Changes.{after, after_all}
 use Rattle.rm_model.specs.Lawful.{AllAllowed}
 use Rattle.rm_laws.proofs.Phases.{state}
-use Rattle.rm_laws.proofs.Recorded.{is_app_same, grow, grow_all}
+use Rattle.rm_laws.proofs.Recorded.{grow, grow_all}
 use Rattle.rm_laws.proofs.Endings.{OneEnd, at_most_one, awaiting_ends, end_of, end_stays, ends_at, one_end_kept}
 use Rattle.rm_laws.proofs.Counts.{count_front, count_join, count_none, count_one}
-use Rattle.rm_laws.proofs.Tests.{not_either}
 
 none_at : (o : Option (How × List ℕ)) → is_some o ≡ false → ◌≡◌ {A = ℕ} (cond (is_some o) 1 0) 0
 none_at None h = refl
@@ -43,8 +44,8 @@ module _ (kept awaiting : List Op) (one : OneEnd kept awaiting) where
       go false e =
           let c = count_join (is_app_end_op id) awaiting (AppEnd ended how text ∷ []) in let o = count_one (is_app_end_op id) (AppEnd ended how text) false e in let h = one id in omega (arith, c, o, h)
       go true e =
-          let same = is_app_same ended id e in
-          let n = not_either (list_any (is_app_end_op id) awaiting) (is_some (end_of (records kept).apps id))
+          let same = same_app ended id e in
+          let n = or_parts (list_any (is_app_end_op id) awaiting) (is_some (end_of (records kept).apps id))
           (subst (λ (i : AppId). (list_any (is_app_end_op i) awaiting || is_some (end_of (records kept).apps i)) ≡ false) same none) in
           let c = count_join (is_app_end_op id) awaiting (AppEnd ended how text ∷ []) in
           let o = count_one (is_app_end_op id) (AppEnd ended how text) true e in
@@ -101,7 +102,7 @@ landed_end kept awaiting landed id ending (inl zero) one ended none = rw zero (r
 landed_end kept [] landed id ending (inr some) one ended none = rw some (rw (append-nil kept) ended)
 landed_end kept (op ∷ ops) landed id ending (inr some) one ended none =
     let none_at_one : list_any (is_remove_op id) (op ∷ []) ≡ false = ap (λ (n : ℕ). list_any (is_remove_op id) (take n (op ∷ ops))) (sym some) ∙ none in
-    rw some (end_kept kept op ops id ending one ended (not_either (is_remove_op id op) false none_at_one).0)
+    rw some (end_kept kept op ops id ending one ended (or_parts (is_remove_op id op) false none_at_one).0)
 
 entry_end : (settings : Settings) (kept awaiting : List Op) (blew : Bool) (life : Option LifeState) (e : Entry) (id : AppId) (ending : How × List ℕ) → OneEnd kept awaiting
     → Allowed settings (state kept awaiting blew life) e → end_of (records kept).apps id ≡ Some ending → list_any (is_remove_op id) (grow kept awaiting blew life e).0 ≡ false
@@ -112,7 +113,7 @@ entry_end settings kept awaiting blew None (Opened landed epoch stamp) id ending
     which (inl a) = inl a
     which (inr b) = inr b.0
 entry_end settings kept awaiting blew None _ id ending one may ended none = absurd may
-entry_end settings kept awaiting blew (Some life) (Kept op) id ending one may ended none = first_end kept awaiting op may.first id ending one ended (not_either (is_remove_op id op) false none).0
+entry_end settings kept awaiting blew (Some life) (Kept op) id ending one may ended none = first_end kept awaiting op may.first id ending one ended (or_parts (is_remove_op id op) false none).0
 entry_end settings kept awaiting blew (Some life) _ id ending one may ended none = ended
 
 -- and over a log
@@ -120,7 +121,7 @@ pub log_end : (settings : Settings) (s : Manager) (log : List Entry) (id : AppId
     → end_of (records s.kept).apps id ≡ Some ending → list_any (is_remove_op id) (grow_all s log).0 ≡ false → end_of (records (after_all s log).kept).apps id ≡ Some ending
 log_end settings s [] id ending one allowed ended none = ended
 log_end settings s (e ∷ log) id ending one allowed ended none =
-    let both = not_either (list_any (is_remove_op id) (grow s.kept s.awaiting s.blew s.life e).0) (list_any (is_remove_op id) (grow_all (after s e) log).0)
+    let both = or_parts (list_any (is_remove_op id) (grow s.kept s.awaiting s.blew s.life e).0) (list_any (is_remove_op id) (grow_all (after s e) log).0)
     (sym (list_any-append (is_remove_op id) (grow s.kept s.awaiting s.blew s.life e).0 (grow_all (after s e) log).0) ∙ none) in
     log_end settings (after s e) log id ending (step settings s.kept s.awaiting s.blew s.life e one allowed.0) allowed.1
     (entry_end settings s.kept s.awaiting s.blew s.life e id ending one allowed.0 ended both.0) both.1

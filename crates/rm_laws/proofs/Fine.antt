@@ -5,6 +5,7 @@ use Rattle.std.specs.Prelude.{nat_le}
 use Rattle.std.specs.List.{list_all}
 use Rattle.std.proofs.lemmas.Bool.Decides.{nat_tests}
 use Rattle.std.proofs.lemmas.List.Folds.{list_all-append}
+use Rattle.std.proofs.lemmas.Bool.{and_parts}
 use Rattle.rm_types.specs.declared.ids.AppId.{AppId}
 use Rattle.rm_types.specs.declared.ids.AttemptId.{AttemptId}
 use Rattle.rm_types.specs.declared.ids.ContainerId.{ContainerId}
@@ -15,9 +16,10 @@ use Rattle.rm_types.specs.declared.records.AppRecord.{AppRecord}
 use Rattle.rm_types.specs.declared.records.AttemptRecord.{AttemptRecord}
 use Rattle.rm_types.specs.Ids.{is_app, is_attempt}
 use Rattle.rm_types.specs.Records.{Records, recorded, record_of, with_record, with_end, fits_records, all_ended, is_some_and, last_attempt}
-use Rattle.rm_laws.proofs.Recorded.{is_app_same}
+use Rattle.rm_types.proofs.EndLemmas.{length-ended, all_ended-map, id_ended}
+use Rattle.rm_types.proofs.TestLemmas.{none_from_is_none}
+use Rattle.rm_types.proofs.IdLemmas.{same_app}
 use Rattle.rm_laws.proofs.Views.{Fitting, find_changed, find_left, find_own_end, is_of, other_view}
-use Rattle.rm_laws.proofs.Tests.{both}
 
 pub record FineApp (app : AppRecord) : Type 0 where
   pub ended : is_some app.ending ≡ true → all_ended app.attempts ≡ true
@@ -31,47 +33,19 @@ pub some_and : {X : Type 0} (test : X → Bool) (o : Option X) → is_some_and t
 some_and test None h = cc
 some_and test (Some x) h = (x, refl, h)
 
-pub none_of : {X : Type 0} (o : Option X) → is_none o ≡ true → o ≡ None
-none_of None h = refl
-none_of (Some x) h = cc
-
-end_one : (id : AttemptId) (how : How) (text : List ℕ) (one : AttemptRecord) → is_some one.ending ≡ true → is_some (with_end id how text one).ending ≡ true
-end_one id how text one h = go (is_attempt one.id id)
-  where
-    go : (b : Bool) → is_some (if b then record one { ending = Some (how, text) } else one).ending ≡ true
-    go true = refl
-    go false = h
-
-same_id : (id : AttemptId) (how : How) (text : List ℕ) (one : AttemptRecord) → (with_end id how text one).id ≡ one.id
-same_id id how text one = go (is_attempt one.id id)
-  where
-    go : (b : Bool) → (if b then record one { ending = Some (how, text) } else one).id ≡ one.id
-    go true = refl
-    go false = refl
-
-pub all_ended-map : (id : AttemptId) (how : How) (text : List ℕ) (attempts : List AttemptRecord) → all_ended attempts ≡ true → all_ended (map (with_end id how text) attempts) ≡ true
-all_ended-map id how text [] h = refl
-all_ended-map id how text (one ∷ attempts) h =
-    let b = both (is_some one.ending) (all_ended attempts) h in
-    rw (end_one id how text one b.0) (all_ended-map id how text attempts b.1)
-
-pub length-ended : (id : AttemptId) (how : How) (text : List ℕ) (attempts : List AttemptRecord) → length (map (with_end id how text) attempts) ≡ length attempts
-length-ended id how text [] = refl
-length-ended id how text (one ∷ attempts) = let m = length-ended id how text attempts in omega (arith, m)
-
 numbers-map : (id : AttemptId) (how : How) (text : List ℕ) (n : ℕ) (attempts : List AttemptRecord) → list_all (λ (one : AttemptRecord). nat_le one.id.number n) attempts ≡ true
     → list_all (λ (one : AttemptRecord). nat_le one.id.number n) (map (with_end id how text) attempts) ≡ true
 numbers-map id how text n [] h = refl
 numbers-map id how text n (one ∷ attempts) h =
-    let b = both (nat_le one.id.number n) (list_all (λ (x : AttemptRecord). nat_le x.id.number n) attempts) h in
-    let a : nat_le (with_end id how text one).id.number n ≡ true = ap (λ (i : AttemptId). nat_le i.number n) (same_id id how text one) ∙ b.0 in
+    let b = and_parts (nat_le one.id.number n) (list_all (λ (x : AttemptRecord). nat_le x.id.number n) attempts) h in
+    let a : nat_le (with_end id how text one).id.number n ≡ true = ap (λ (i : AttemptId). nat_le i.number n) (id_ended id how text one) ∙ b.0 in
     ap (λ (t : Bool). t && list_all (λ (x : AttemptRecord). nat_le x.id.number n) (map (with_end id how text) attempts)) a ∙ numbers-map id how text n attempts b.1
 
 numbers-more : (n : ℕ) (attempts : List AttemptRecord) → list_all (λ (one : AttemptRecord). nat_le one.id.number n) attempts ≡ true
     → list_all (λ (one : AttemptRecord). nat_le one.id.number (n + 1)) attempts ≡ true
 numbers-more n [] h = refl
 numbers-more n (one ∷ attempts) h =
-    let b = both (nat_le one.id.number n) (list_all (λ (x : AttemptRecord). nat_le x.id.number n) attempts) h in
+    let b = and_parts (nat_le one.id.number n) (list_all (λ (x : AttemptRecord). nat_le x.id.number n) attempts) h in
     let a : nat_le one.id.number (n + 1) ≡ true = grind (arith, nat_tests) in
     rw a (numbers-more n attempts b.1)
 
@@ -94,7 +68,7 @@ fine_added id master node app fine goes number =
     list_all-append (λ (one : AttemptRecord). nat_le one.id.number (length app.attempts + 1)) app.attempts (new ∷ [])
     ∙ rw (numbers-more (length app.attempts) app.attempts fine.numbers, last) refl in
     record {
-      ended = λ h. absurd (let n = none_of app.ending goes in let y : false ≡ true = ap (λ (o : Option (How × List ℕ)). is_some o) (sym n) ∙ h in cc);
+      ended = λ h. absurd (let n = none_from_is_none app.ending goes in let y : false ≡ true = ap (λ (o : Option (How × List ℕ)). is_some o) (sym n) ∙ h in cc);
       numbers = ap (λ (n : ℕ). list_all (λ (one : AttemptRecord). nat_le one.id.number n) (app.attempts ++ new ∷ [])) longer ∙ all;
     }
 
@@ -110,7 +84,7 @@ fine_ended id how text app fine =
 module _ (id : AppId) where
   -- the view at the operation's own application
   pub at_own : (one : AppId) (r : Records) → is_app one id ≡ true → record_of r.apps one ≡ record_of r.apps id
-  at_own one r own = ap (λ (i : AppId). record_of r.apps i) (is_app_same one id own)
+  at_own one r own = ap (λ (i : AppId). record_of r.apps i) (same_app one id own)
 
   pub changed_own : (change : AppRecord → AppRecord) → ((app : AppRecord) → (change app).id ≡ app.id) → (one : AppId) (r : Records) (app : AppRecord) → is_app one id ≡ true → record_of r.apps one ≡ Some app
       → record_of (with_record change one r.apps) id ≡ Some (change app)
@@ -120,12 +94,12 @@ module _ (id : AppId) where
   pub own_fine : (r : Records) (op : Op) → Fine (record_of r.apps id) → is_of id op ≡ true → fits_records r op ≡ true → Fine (record_of (recorded r op).apps id)
   own_fine r (Epoch next stamp) fine own fits = fine
   own_fine r (App one submission) fine own fits =
-      let none = none_of (record_of r.apps one) fits in
+      let none = none_from_is_none (record_of r.apps one) fits in
       rw (find_own_end id r.apps (record { id = one; submission = submission; attempts = []; ending = None; end_order = 0 }) own (sym (at_own one r own) ∙ none)) (record { ended = λ h. cc; numbers = refl })
   own_fine r (Attempt one master node) fine own fits =
       let s = some_and (λ app. is_none app.ending && (all_ended app.attempts && (one.number == length app.attempts + 1))) (record_of r.apps one.app) fits in
-      let a = both (is_none s.0.ending) (all_ended s.0.attempts && (one.number == length s.0.attempts + 1)) s.2 in
-      let b = both (all_ended s.0.attempts) (one.number == length s.0.attempts + 1) a.1 in
+      let a = and_parts (is_none s.0.ending) (all_ended s.0.attempts && (one.number == length s.0.attempts + 1)) s.2 in
+      let b = and_parts (all_ended s.0.attempts) (one.number == length s.0.attempts + 1) a.1 in
       let was : FineApp s.0 = subst Fine (sym (at_own one.app r own) ∙ s.1) fine in
       subst Fine (sym (changed_own (add_attempt one master node) (λ x. refl) one.app r s.0 own s.1)) (fine_added one master node s.0 was a.0 b.1)
   own_fine r (AttemptEnd one how text) fine own fits =
@@ -134,7 +108,7 @@ module _ (id : AppId) where
       subst Fine (sym (changed_own (end_attempt one how text) (λ x. refl) one.app r s.0 own s.1)) (fine_ended one how text s.0 was)
   own_fine r (AppEnd one how text) fine own fits =
       let s = some_and (λ app. is_none app.ending && all_ended app.attempts) (record_of r.apps one) fits in
-      let b = both (is_none s.0.ending) (all_ended s.0.attempts) s.2 in
+      let b = and_parts (is_none s.0.ending) (all_ended s.0.attempts) s.2 in
       let was : FineApp s.0 = subst Fine (sym (at_own one r own) ∙ s.1) fine in
       subst Fine (sym (changed_own (end_app how text r.applied) (λ x. refl) one r s.0 own s.1)) (record { ended = λ h. b.1; numbers = was.numbers })
   own_fine r (Remove one) fine own fits = rw (find_left id one true own r.apps) tt

@@ -4,12 +4,15 @@ use Rattle.std.specs.Prelude.{sum_by, option_map, nat_lt}
 use Rattle.std.specs.Str.{bytes_eq}
 use Rattle.std.proofs.lemmas.Bool.Decides.{nat_tests}
 use Rattle.std.proofs.lemmas.List.Sums.{sum_by-append}
+use Rattle.std.proofs.lemmas.Bool.{or_right}
 use Rattle.rm_types.specs.declared.containers.Held.{Held}
 use Rattle.rm_types.specs.declared.ids.ContainerId.{ContainerId}
 use Rattle.rm_types.specs.declared.resources.Resource.{Resource}
 use Rattle.rm_types.specs.Order.{Ascend}
 use Rattle.rm_types.specs.Ids.{is_container}
 use Rattle.rm_types.specs.Passes.{total_of}
+use Rattle.rm_types.proofs.IdLemmas.{container_back, same_container}
+use Rattle.rm_types.proofs.TestLemmas.{found_passes}
 use Rattle.rm_model.specs.State.{NodeState, Row, Scene}
 use Rattle.rm_model.specs.Facts.{has_container}
 use Rattle.rm_model.specs.Attempts.{attempt_was_first}
@@ -18,13 +21,10 @@ use Rattle.rm_model.specs.Absorbing.{as_booked, as_counted, as_reported, is_held
 use Rattle.rm_laws.proofs.Lists.{Each, each-append}
 use Rattle.rm_laws.proofs.Book.{ended_test}
 use Rattle.rm_laws.proofs.Told.{some_same}
-use Rattle.rm_laws.proofs.Stray.{find_passes}
 use Rattle.rm_laws.proofs.Weights.{IsPart, weight, weight-append}
 use Rattle.rm_laws.proofs.Fits.{rows_of}
 use Rattle.rm_laws.proofs.Counts.{count_join, count_none}
 use Rattle.rm_laws.proofs.Taken.{IsFree, all_taken}
-use Rattle.rm_laws.proofs.Tests.{or_right}
-use Rattle.rm_laws.proofs.Same.{is_container_same}
 
 -- one part of the sizes of what was taken
 abbrev pub taken_weight : (Resource → ℕ) → List Held → ℕ
@@ -68,7 +68,7 @@ module _ (m : Scene) (node : NodeState) where
         once_by id true same =
             let j = join id in
             let o : times_held (one ∷ []) id ≡ 1 = rw same refl in
-            let z = count_none (λ (held : Held). is_container held.id id) taken (ap (λ (i : ContainerId). is_held taken i) (sym (is_container_same one.id id same)) ∙ free.new) in
+            let z = count_none (λ (held : Held). is_container held.id id) taken (ap (λ (i : ContainerId). is_held taken i) (sym (same_container one.id id same)) ∙ free.new) in
             omega (arith, j, o, z)
         once_by id false other =
             let j = join id in
@@ -107,7 +107,7 @@ module _ (m : Scene) (node : NodeState) where
       go true l (Some row) r h =
           let made : Held = record { id = row.id; size = row.size } in
           let same : made ≡ one = some_same h in
-          let at : row.id ≡ held.id = is_container_same row.id held.id (find_passes (λ (x : Row). is_container x.id held.id) m.life.book row r) in
+          let at : row.id ≡ held.id = same_container row.id held.id (found_passes (λ (x : Row). is_container x.id held.id) m.life.book row r) in
           let id : one.id ≡ held.id = ap (λ (x : Held). x.id) (sym same) ∙ at in
           record {
             row = row;
@@ -115,9 +115,6 @@ module _ (m : Scene) (node : NodeState) where
             found = ap (λ (i : ContainerId). row_of m.life.book i) id ∙ r;
             size = ap (λ (x : Held). x.size) same;
           }
-
-alike_tests : (a b : ContainerId) → is_container a b ≡ is_container b a
-alike_tests a b = grind (arith, nat_tests)
 
 -- one part of the size of a container's rows
 abbrev pub own_weight : (Resource → ℕ) → ContainerId → List Row → ℕ
@@ -194,7 +191,7 @@ hits_held f row (held ∷ taken) h = go (is_container held.id row.id) refl h (hi
 
     go : (b : Bool) → is_container held.id row.id ≡ b → (b || is_held taken row.id) ≡ true → (is_held taken row.id ≡ true → f row.size ≤ hits f row taken) → f row.size ≤ hits f row (held ∷ taken)
     go true e x more =
-        let a : ◌≡◌ {A = ℕ} (cond (is_container row.id held.id) (f row.size) 0) (f row.size) = ap (λ (t : Bool). let n : ℕ = cond t (f row.size) 0 in n) (alike_tests row.id held.id ∙ e) in
+        let a : ◌≡◌ {A = ℕ} (cond (is_container row.id held.id) (f row.size) 0) (f row.size) = ap (λ (t : Bool). let n : ℕ = cond t (f row.size) 0 in n) (container_back row.id held.id ∙ e) in
         let fr = front in omega (arith, a, fr)
     go false e x more = let m = more x in let fr = front in omega (arith, m, fr)
 

@@ -10,6 +10,7 @@ use Rattle.rm_types.specs.declared.ids.ContainerId.{ContainerId}
 use Rattle.rm_types.specs.declared.resources.Resource.{Resource}
 use Rattle.rm_types.specs.declared.settings.Settings.{Settings}
 use Rattle.rm_types.specs.Ids.{is_container}
+use Rattle.rm_types.proofs.IdLemmas.{same_container}
 use Rattle.rm_model.specs.State.{NodeState, Row, Scene}
 use Rattle.rm_model.specs.Containers.{is_living}
 use Rattle.rm_model.specs.Nodes.{node_of, with_node}
@@ -21,7 +22,6 @@ use Rattle.rm_laws.proofs.Grants.{made, pass_new, made_append, made_map}
 use Rattle.rm_laws.proofs.Told.{either_true}
 use Rattle.rm_laws.proofs.Weights.{IsPart, capability_of, granted_weight, turns_weight, weight, weight-append}
 use Rattle.rm_laws.proofs.Fits.{FitLife, rows_of, stands_on, tidied_offers, with_node_offers}
-use Rattle.rm_laws.proofs.Same.{is_container_same}
 use Rattle.rm_laws.proofs.Counts.{count_join, count_none}
 
 -- what holds of each grant's container holds of one that is among them
@@ -30,7 +30,7 @@ each_granted P id [] e h = cc
 each_granted P id (grant ∷ grants) e h = go (is_container grant.id id) refl h (each_granted P id grants e.1)
   where
     go : (b : Bool) → is_container grant.id id ≡ b → (b || is_living (map row_granted grants) id) ≡ true → (is_living (map row_granted grants) id ≡ true → P id) → P id
-    go true same x more = subst P (is_container_same grant.id id same) e.0
+    go true same x more = subst P (same_container grant.id id same) e.0
     go false other x more = more x
 
 -- containers that differ have one row at most
@@ -40,7 +40,7 @@ granted_once id (grant ∷ grants) apart = go (is_container grant.id id) refl (g
   where
     none : is_container grant.id id ≡ true → (list : List Grant) → Each (λ (b : Grant). grant.id ≢ b.id) list → (c : Bool) → is_living (map row_granted list) id ≡ c → c ≡ false
     none same list differ true there =
-        absurd (each_granted (λ x. grant.id ≢ x) id list differ there (is_container_same grant.id id same))
+        absurd (each_granted (λ x. grant.id ≢ x) id list differ there (same_container grant.id id same))
     none same list differ false there = refl
 
     go : (b : Bool) → is_container grant.id id ≡ b → rows_of (map row_granted grants) id ≤ 1 → rows_of (map row_granted (grant ∷ grants)) id ≤ 1

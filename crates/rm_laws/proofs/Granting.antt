@@ -1,7 +1,6 @@
 -- The sequences that a pass gives go on from those that were given.
-use Rattle.std.proofs.Common.{◌≡◌, ◌≢◌, ℕ, zero, suc, ◌+◌, ◌<◌, ◌≤◌, List, [], ◌∷◌, ◌++◌, true, cond, map, fold, count_by, refl, subst, arith, append-nil, append_assoc}
+use Rattle.std.proofs.Common.{◌≡◌, ◌≢◌, ℕ, zero, suc, ◌+◌, ◌<◌, ◌≤◌, List, [], ◌∷◌, ◌++◌, cond, map, fold, count_by, refl, subst, arith, append-nil, append_assoc}
 use Rattle.std.specs.List.{range_with_len}
-use Rattle.std.proofs.lemmas.Bool.Decides.{nat_tests}
 use Rattle.std.proofs.lemmas.List.Sums.{sum_by-append}
 use Rattle.rm_types.specs.declared.containers.Ask.{Ask}
 use Rattle.rm_types.specs.declared.containers.Grant.{Grant}
@@ -11,10 +10,8 @@ use Rattle.rm_types.specs.declared.ids.ContainerId.{ContainerId}
 use Rattle.rm_types.specs.declared.resources.Resource.{Resource}
 use Rattle.rm_types.specs.Ids.{is_attempt}
 use Rattle.rm_types.specs.Passes.{PassNode, fitting, grant_of, by_priority, left_of, seq_after, with_granted, with_turn}
+use Rattle.rm_types.proofs.IdLemmas.{attempt_itself}
 use Rattle.rm_laws.proofs.Lists.{Each, Pairs, each-append, each-map, pairs-append}
-
-pub is_attempt-refl : (a : AttemptId) → is_attempt a a ≡ true
-is_attempt-refl a = grind (arith, nat_tests)
 
 -- how many of these grants are to an attempt
 abbrev pub made_to : AttemptId → List Grant → ℕ
@@ -59,7 +56,7 @@ module _ (epoch : ℕ) (node : List ℕ) (base : AttemptId → ℕ) where
       itself : IsNew (grants ++ grant ∷ []) grant
       itself =
           let a = made_to-append grant.id.attempt grants (grant ∷ []) in
-          let one : made_to grant.id.attempt (grant ∷ []) ≡ 1 = rw (is_attempt-refl grant.id.attempt) refl in
+          let one : made_to grant.id.attempt (grant ∷ []) ≡ 1 = rw (attempt_itself grant.id.attempt) refl in
           record { node_is = o; epoch_is = e; above = omega (arith, is); within = omega (arith, is, a, one) }
 
   module _ (pass : PassNode) (turn : Turn) (of_node : pass.node ≡ node) (of_epoch : pass.epoch ≡ epoch) (follows : turn.next_seq ≡ base turn.attempt + 1) where
@@ -70,7 +67,7 @@ module _ (epoch : ℕ) (node : List ℕ) (base : AttemptId → ℕ) where
     size_new size (suc n) grants seq is new =
         let grant = grant_of pass turn size seq in
         let a = made_to-append turn.attempt grants (grant ∷ []) in
-        let one : made_to turn.attempt (grant ∷ []) ≡ 1 = rw (is_attempt-refl turn.attempt) refl in
+        let one : made_to turn.attempt (grant ∷ []) ≡ 1 = rw (attempt_itself turn.attempt) refl in
         let next = size_new size n (grants ++ grant ∷ []) (seq + 1) (omega (arith, is, a, one)) (one_more grants grant of_node of_epoch is new) in
         subst AreNew (append_assoc grants (grant ∷ []) (map (grant_of pass turn size) (range_with_len (seq + 1) n))) next
 

@@ -1,7 +1,7 @@
 -- An operation that may be issued fits what the kept and the awaiting ones record.
-use Rattle.std.proofs.Common.{◌≡◌, ℕ, ◌+◌, List, [], ◌∷◌, length, Bool, true, false, ◌||◌, ◌&&◌, ◌==◌, Option, None, Some, is_some, is_none, fold, refl, sym, ap, subst, arith, ◌∙◌}
+use Rattle.std.proofs.Common.{◌≡◌, ℕ, ◌+◌, List, [], ◌∷◌, length, Bool, true, false, ◌||◌, ◌&&◌, ◌==◌, Option, None, Some, is_some, is_none, fold, refl, sym, ap, subst, ◌∙◌}
 use Rattle.std.specs.List.{list_any}
-use Rattle.std.proofs.lemmas.Bool.Decides.{nat_tests}
+use Rattle.std.proofs.lemmas.Bool.{and_parts}
 use Rattle.rm_types.specs.declared.ids.AppId.{AppId}
 use Rattle.rm_types.specs.declared.ids.AttemptId.{AttemptId}
 use Rattle.rm_types.specs.declared.ids.ContainerId.{ContainerId}
@@ -13,11 +13,11 @@ use Rattle.rm_types.specs.declared.records.AppRecord.{AppRecord}
 use Rattle.rm_types.specs.declared.records.AttemptRecord.{AttemptRecord}
 use Rattle.rm_types.specs.Ids.{is_app, is_attempt}
 use Rattle.rm_types.specs.Records.{Records, recorded, record_of, fits_records, all_ended, is_some_and, last_attempt}
+use Rattle.rm_types.proofs.TestLemmas.{none_from_is_none, number_itself}
+use Rattle.rm_types.proofs.IdLemmas.{same_attempt}
 use Rattle.rm_model.specs.Facts.{is_app_op, is_attempt_op, is_attempt_end_op, is_app_end_op, is_remove_op}
 use Rattle.rm_laws.proofs.Views.{Fitting, is_of, quiet}
-use Rattle.rm_laws.proofs.Fine.{FineApp, at_own, none_of}
-use Rattle.rm_laws.proofs.Tests.{both}
-use Rattle.rm_laws.proofs.Same.{is_attempt_same}
+use Rattle.rm_laws.proofs.Fine.{FineApp, at_own}
 
 -- an operation fits, by the record of its application alone
 abbrev pub fits_view : Option AppRecord → Op → Bool
@@ -36,16 +36,13 @@ by_view id r (AttemptEnd one how text) own = ap (λ (v : Option AppRecord). fits
 by_view id r (AppEnd one how text) own = ap (λ (v : Option AppRecord). fits_view v (AppEnd one how text)) (at_own id one r own)
 by_view id r (Remove one) own = ap (λ (v : Option AppRecord). fits_view v (Remove one)) (at_own id one r own)
 
-itself : (n : ℕ) → (n == n) ≡ true
-itself n = grind (arith, nat_tests)
-
 -- the last of ended attempts has ended
 last_ended : (attempts : List AttemptRecord) (test : AttemptRecord → Bool) → all_ended attempts ≡ true → is_some_and (λ last. test last && is_none last.ending) (last_attempt attempts) ≡ true → ⊥
 last_ended [] test all h = cc
 last_ended (one ∷ []) test all h =
-    let b = both (is_some one.ending) true all in let c = both (test one) (is_none one.ending) h in
-    let n = none_of one.ending c.1 in let y : false ≡ true = ap (λ (o : Option (How × List ℕ)). is_some o) (sym n) ∙ b.0 in cc
-last_ended (one ∷ next ∷ more) test all h = last_ended (next ∷ more) test (both (is_some one.ending) (all_ended (next ∷ more)) all).1 h
+    let b = and_parts (is_some one.ending) true all in let c = and_parts (test one) (is_none one.ending) h in
+    let n = none_from_is_none one.ending c.1 in let y : false ≡ true = ap (λ (o : Option (How × List ℕ)). is_some o) (sym n) ∙ b.0 in cc
+last_ended (one ∷ next ∷ more) test all h = last_ended (next ∷ more) test (and_parts (is_some one.ending) (all_ended (next ∷ more)) all).1 h
 
 not_both : {X : Type 0} (o : Option X) → is_none o ≡ true → is_some o ≡ true → ⊥
 not_both None a b = cc
@@ -81,9 +78,9 @@ module _ (id : AppId) (r : Records) (awaiting : List Op) (fit : Fitting r awaiti
       go : (op : Op) → is_of id op ≡ true → fits_view (Some app) op ≡ true → is_remove_op id op ≡ true
       go (Epoch next stamp) own f = cc
       go (App one submission) own f = cc
-      go (Attempt one master node) own f = absurd (not_both app.ending (both (is_none app.ending) (all_ended app.attempts && (one.number == length app.attempts + 1)) f).0 ended)
+      go (Attempt one master node) own f = absurd (not_both app.ending (and_parts (is_none app.ending) (all_ended app.attempts && (one.number == length app.attempts + 1)) f).0 ended)
       go (AttemptEnd one how text) own f = absurd (last_ended app.attempts (λ last. is_attempt last.id one) (fine.ended ended) f)
-      go (AppEnd one how text) own f = absurd (not_both app.ending (both (is_none app.ending) (all_ended app.attempts) f).0 ended)
+      go (AppEnd one how text) own f = absurd (not_both app.ending (and_parts (is_none app.ending) (all_ended app.attempts) f).0 ended)
       go (Remove one) own f = own
 
   pub remove_fits : (app : AppRecord) → record_of r.apps id ≡ Some app → is_some app.ending ≡ true → FineApp app → list_any (is_remove_op id) awaiting ≡ false
@@ -104,8 +101,8 @@ module _ (id : AppId) (r : Records) (awaiting : List Op) (fit : Fitting r awaiti
       go (Epoch next stamp) own f = cc
       go (App one submission) own f = cc
       go (Attempt one master node) own f =
-          let a = both (is_none app.ending) (all_ended app.attempts && (one.number == length app.attempts + 1)) f in
-          numbered one own (both (all_ended app.attempts) (one.number == length app.attempts + 1) a.1).1
+          let a = and_parts (is_none app.ending) (all_ended app.attempts && (one.number == length app.attempts + 1)) f in
+          numbered one own (and_parts (all_ended app.attempts) (one.number == length app.attempts + 1) a.1).1
       go (AttemptEnd one how text) own f = absurd (last_ended app.attempts (λ last. is_attempt last.id one) g.ended f)
       go (AppEnd one how text) own f = rw own refl
       go (Remove one) own f = absurd (not_both app.ending g.goes f)
@@ -135,7 +132,7 @@ module _ (id : AppId) (r : Records) (awaiting : List Op) (fit : Fitting r awaiti
       → list_any (is_attempt_op (record { app = id; number = length app.attempts + 1 })) awaiting ≡ false → (master : ContainerId) (node : List ℕ)
       → fits_records (fold recorded r awaiting) (Attempt (record { app = id; number = length app.attempts + 1 }) master node) ≡ true
   attempt_fits app is g ends attempts master node =
-      ap (λ (v : Option AppRecord). fits_view v (Attempt (record { app = id; number = length app.attempts + 1 }) master node)) (going_same app is g ends attempts ∙ is) ∙ rw (g.goes, g.ended) (itself (length app.attempts + 1))
+      ap (λ (v : Option AppRecord). fits_view v (Attempt (record { app = id; number = length app.attempts + 1 }) master node)) (going_same app is g ends attempts ∙ is) ∙ rw (g.goes, g.ended) (number_itself (length app.attempts + 1))
 
   -- of one whose last attempt has no end only that attempt's end fits
   live_blocks : (t : AttemptId) (app : AppRecord) → FineApp app → is_some_and (λ last. is_attempt last.id t && is_none last.ending) (last_attempt app.attempts) ≡ true
@@ -146,18 +143,18 @@ module _ (id : AppId) (r : Records) (awaiting : List Op) (fit : Fitting r awaiti
       go (Epoch next stamp) own f = cc
       go (App one submission) own f = cc
       go (Attempt one master node) own f =
-          let a = both (is_none app.ending) (all_ended app.attempts && (one.number == length app.attempts + 1)) f in
-          absurd (last_ended app.attempts (λ last. is_attempt last.id t) (both (all_ended app.attempts) (one.number == length app.attempts + 1) a.1).0 live)
+          let a = and_parts (is_none app.ending) (all_ended app.attempts && (one.number == length app.attempts + 1)) f in
+          absurd (last_ended app.attempts (λ last. is_attempt last.id t) (and_parts (all_ended app.attempts) (one.number == length app.attempts + 1) a.1).0 live)
       go (AttemptEnd one how text) own f = same_last (last_attempt app.attempts) live f
         where
           same_last : (o : Option AttemptRecord) → is_some_and (λ last. is_attempt last.id t && is_none last.ending) o ≡ true → is_some_and (λ last. is_attempt last.id one && is_none last.ending) o ≡ true → is_attempt one t ≡ true
           same_last None a b = cc
           same_last (Some last) a b =
-              let x = is_attempt_same last.id t (both (is_attempt last.id t) (is_none last.ending) a).0 in
-              let y = (both (is_attempt last.id one) (is_none last.ending) b).0 in
-              let z = is_attempt_same last.id one y in
-              subst (λ (i : AttemptId). is_attempt i t ≡ true) z (both (is_attempt last.id t) (is_none last.ending) a).0
-      go (AppEnd one how text) own f = absurd (last_ended app.attempts (λ last. is_attempt last.id t) (both (is_none app.ending) (all_ended app.attempts) f).1 live)
+              let x = same_attempt last.id t (and_parts (is_attempt last.id t) (is_none last.ending) a).0 in
+              let y = (and_parts (is_attempt last.id one) (is_none last.ending) b).0 in
+              let z = same_attempt last.id one y in
+              subst (λ (i : AttemptId). is_attempt i t ≡ true) z (and_parts (is_attempt last.id t) (is_none last.ending) a).0
+      go (AppEnd one how text) own f = absurd (last_ended app.attempts (λ last. is_attempt last.id t) (and_parts (is_none app.ending) (all_ended app.attempts) f).1 live)
       go (Remove one) own f = absurd (last_ended app.attempts (λ last. is_attempt last.id t) (fine.ended f) live)
 
   pub attempt_end_fits : (t : AttemptId) (app : AppRecord) → is_app t.app id ≡ true → record_of r.apps id ≡ Some app → FineApp app → is_some_and (λ last. is_attempt last.id t && is_none last.ending) (last_attempt app.attempts) ≡ true

@@ -23,12 +23,10 @@ pub mod Recorded
 pub mod Registered
 pub mod Rows
 pub mod RowsFit
-pub mod Same
 pub mod Served
 pub mod Stamps
 pub mod Stray
 pub mod Taken
-pub mod Tests
 pub mod Told
 pub mod Views
 pub mod Walks

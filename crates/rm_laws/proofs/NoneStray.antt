@@ -5,6 +5,7 @@ use Rattle.std.specs.List.{list_any}
 use Rattle.std.specs.Str.{bytes_eq}
 use Rattle.std.proofs.lemmas.List.{take-append-drop}
 use Rattle.std.proofs.lemmas.List.Folds.{list_any-append}
+use Rattle.std.proofs.lemmas.Bool.{or_left, and_parts}
 use Rattle.rm_types.specs.declared.containers.Ask.{Ask}
 use Rattle.rm_types.specs.declared.containers.AskOf.{AskOf}
 use Rattle.rm_types.specs.declared.containers.Grant.{Grant}
@@ -27,6 +28,7 @@ use Rattle.rm_types.specs.declared.replies.Reply.TheVariants as replies
 use Rattle.rm_types.specs.declared.settings.Settings.{Settings}
 use Rattle.rm_types.specs.Ids.{is_app, is_attempt}
 use Rattle.rm_types.specs.Records.{records, no_records, record_of, all_ended, is_some_and, last_attempt, stray}
+use Rattle.rm_types.proofs.IdLemmas.{same_app, same_attempt}
 use Rattle.rm_model.specs.State.{LifeState, MasterState, NodeState, Row, Scene, scene, opening_state}
 use Rattle.rm_model.specs.Facts.{has_app, has_container, is_known, is_submitted, submission_of, attempts_in}
 use Rattle.rm_model.specs.Attempts.{attempt_end_issued, attempt_is_kept, finishing_text, has_failed, has_registered, is_current, is_live, is_registered, master_of}
@@ -47,14 +49,11 @@ use Rattle.rm_laws.proofs.Taken.{each_taken}
 use Rattle.rm_laws.proofs.Messages.{Changes, either, served}
 use Rattle.rm_laws.proofs.Phases.{sound_opening, state}
 use Rattle.rm_laws.proofs.Ids.{steps as id_steps}
-use Rattle.rm_laws.proofs.Recorded.{is_app_same}
 use Rattle.rm_laws.proofs.Told.{AreKnown, any-filter, any-map, pushed, stays_there, either_true, step as known_step}
 use Rattle.rm_laws.proofs.Views.{Fitting, fitting, not_stray, fitting-front}
 use Rattle.rm_laws.proofs.Fine.{Fine}
 use Rattle.rm_laws.proofs.Pending.{Pend, Pending, asks_for, lives_for, current_pends, fewer, granted_all, granted_rows, kept_pends, more, pass_asks, with_asks_of}
 use Rattle.rm_laws.proofs.Stray.{Sane, SaneIn, Whole, app_waits, asks_less, by_submitted, fine, issued_fit, kept_sane, other_waits, stays_sane}
-use Rattle.rm_laws.proofs.Tests.{both, or_left}
-use Rattle.rm_laws.proofs.Same.{is_attempt_same}
 use Rattle.rm_laws.proofs.Walks.{walk}
 
 -- an allocation that is answered is of a registered master
@@ -93,12 +92,12 @@ module _ (settings : Settings) (m : Scene) (fine_all : (id : AppId) → Fine (re
 
   attempt_kept : (attempt : AttemptId) → is_registered m attempt ≡ true → attempt_is_kept m attempt ≡ true
   attempt_kept attempt h =
-      (both (attempt_is_kept m attempt) (not (attempt_end_issued m attempt)) (both (is_live m attempt) (has_registered m attempt && is_none (finishing_text m attempt)) h).0).0
+      (and_parts (attempt_is_kept m attempt) (not (attempt_end_issued m attempt)) (and_parts (is_live m attempt) (has_registered m attempt && is_none (finishing_text m attempt)) h).0).0
 
   own_asks : (attempt t : AttemptId) → is_registered m attempt ≡ true → (asks_for m.life.asks t ≡ true) ⊎ (is_attempt attempt t ≡ true) → (asks_for m.life.asks t ≡ true) ⊎ Pend (record_of m.records.apps t.app) m.life.apps.retired t
   own_asks attempt t r (inl x) = inl x
   own_asks attempt t r (inr same) =
-      inr (subst (λ (i : AttemptId). Pend (record_of m.records.apps i.app) m.life.apps.retired i) (is_attempt_same attempt t same)
+      inr (subst (λ (i : AttemptId). Pend (record_of m.records.apps i.app) m.life.apps.retired i) (same_attempt attempt t same)
       (kept_pends (record_of m.records.apps attempt.app) m.life.apps.retired attempt (fine_all attempt.app) (attempt_kept attempt r)))
 
   -- all messages but submissions that join
@@ -142,7 +141,7 @@ module _ (settings : Settings) (m : Scene) (fine_all : (id : AppId) → Fine (re
     where
       go : (b : Bool) → is_attempt held.id.attempt t ≡ b → (b || lives_for (map (row_absorbed name) taken) t) ≡ true → (lives_for (map (row_absorbed name) taken) t ≡ true → Pend (record_of m.records.apps t.app) m.life.apps.retired t) → Pend (record_of m.records.apps t.app) m.life.apps.retired t
       go true same x rest =
-          subst (λ (i : AttemptId). Pend (record_of m.records.apps i.app) m.life.apps.retired i) (is_attempt_same held.id.attempt t same)
+          subst (λ (i : AttemptId). Pend (record_of m.records.apps i.app) m.life.apps.retired i) (same_attempt held.id.attempt t same)
           (current_pends (record_of m.records.apps held.id.attempt.app) m.life.apps.retired held.id.attempt (fine_all held.id.attempt.app) e.0)
       go false other x rest = rest x
 
@@ -171,7 +170,7 @@ submit_sane kept awaiting life id submission w none =
   where
     from : (one : AppId) → has_app life.apps.retired one ≡ true → (is_submitted life.apps.submitted one ≡ true) ⊎ (is_app id one ≡ true) → ⊥
     from one r (inl s) = w.retired_out one r s
-    from one r (inr same) = let x : has_app life.apps.retired id ≡ true = subst (λ (i : AppId). has_app life.apps.retired i ≡ true) (sym (is_app_same id one same)) r in let y : true ≡ false = sym x ∙ none in cc
+    from one r (inr same) = let x : has_app life.apps.retired id ≡ true = subst (λ (i : AppId). has_app life.apps.retired i ≡ true) (sym (same_app id one same)) r in let y : true ≡ false = sym x ∙ none in cc
 
 -- an attempt that may be queued may ask
 queue_pends : (settings : Settings) (kept awaiting : List Op) (blew : Bool) (life : LifeState) → AreKnown (records kept).apps life.apps → (t : AttemptId)
@@ -236,7 +235,7 @@ module _ (settings : Settings) (kept awaiting : List Op) (blew : Bool) (life : L
       go : (one : AttemptId) → (asks_for life.asks one ≡ true) ⊎ (asks_for (master_ask t submission) one ≡ true) → (asks_for life.asks one ≡ true) ⊎ Pend (record_of (records kept).apps one.app) life.apps.retired one
       go one (inl x) = inl x
       go one (inr x) =
-          inr (subst (λ (i : AttemptId). Pend (record_of (records kept).apps i.app) life.apps.retired i) (is_attempt_same t one (master_asks one t submission x))
+          inr (subst (λ (i : AttemptId). Pend (record_of (records kept).apps i.app) life.apps.retired i) (same_attempt t one (master_asks one t submission x))
           (queue_pends settings kept awaiting blew life w.known t may))
 
   ended : (list : List ContainerId) (new : LifeState) → new.apps.retired ≡ life.apps.retired → new.apps.submitted ≡ life.apps.submitted → new.asks ≡ life.asks → new.book ≡ filter (λ row. not (has_container list row.id)) life.book → Sane kept awaiting new

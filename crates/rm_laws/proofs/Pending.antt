@@ -4,6 +4,7 @@ use Rattle.std.proofs.Common.{◌≡◌, ◌⊎◌, ℕ, zero, suc, ◌+◌, ◌
 use Rattle.std.specs.Prelude.{nat_le, nat_lt}
 use Rattle.std.specs.List.{list_any, list_all, range_with_len}
 use Rattle.std.proofs.lemmas.Bool.Decides.{nat_tests}
+use Rattle.std.proofs.lemmas.Bool.{or_right, or_left, and_parts}
 use Rattle.rm_types.specs.declared.containers.Ask.{Ask}
 use Rattle.rm_types.specs.declared.containers.AskOf.{AskOf}
 use Rattle.rm_types.specs.declared.containers.Grant.{Grant}
@@ -20,6 +21,9 @@ use Rattle.rm_types.specs.declared.settings.Settings.{Settings}
 use Rattle.rm_types.specs.Ids.{is_app, is_attempt}
 use Rattle.rm_types.specs.Passes.{PassNode, fitting, grant_of, by_priority, left_of, seq_after, with_granted, with_turn}
 use Rattle.rm_types.specs.Records.{Records, recorded, record_of, fits_records, all_ended, is_some_and, last_attempt}
+use Rattle.rm_types.proofs.EndLemmas.{length-ended, all_ended-map}
+use Rattle.rm_types.proofs.TestLemmas.{none_from_is_none}
+use Rattle.rm_types.proofs.IdLemmas.{same_attempt}
 use Rattle.rm_model.specs.State.{NodeState, Row, Scene}
 use Rattle.rm_model.specs.Facts.{attempts_in, has_app, is_app_op}
 use Rattle.rm_model.specs.MasterReplies.{is_line_of, with_ask, with_asks}
@@ -27,9 +31,7 @@ use Rattle.rm_model.specs.Passing.{answered_ask, ask_lessened, asks_lessened, as
 use Rattle.rm_laws.proofs.Lists.{Each, each-append}
 use Rattle.rm_laws.proofs.Told.{any-filter, any-map, last_there, pushed, stays_there, either_true}
 use Rattle.rm_laws.proofs.Views.{find_left, is_of, other_view}
-use Rattle.rm_laws.proofs.Fine.{Fine, add_attempt, all_ended-map, at_own, changed_own, end_app, end_attempt, length-ended, none_of, some_and}
-use Rattle.rm_laws.proofs.Tests.{both, or_left, or_right}
-use Rattle.rm_laws.proofs.Same.{is_attempt_same}
+use Rattle.rm_laws.proofs.Fine.{Fine, add_attempt, at_own, changed_own, end_app, end_attempt, some_and}
 
 -- an attempt by the record of its application and the retired ids
 abbrev pub Pend : Option AppRecord → List AppId → AttemptId → Type 0
@@ -168,7 +170,7 @@ granted_rows asks t [] e h = cc
 granted_rows asks t (grant ∷ grants) e h = go (is_attempt grant.id.attempt t) refl h (granted_rows asks t grants e.1)
   where
     go : (b : Bool) → is_attempt grant.id.attempt t ≡ b → (b || lives_for (map row_granted grants) t) ≡ true → (lives_for (map row_granted grants) t ≡ true → asks_for asks t ≡ true) → asks_for asks t ≡ true
-    go true same x more = subst (λ (i : AttemptId). asks_for asks i ≡ true) (is_attempt_same grant.id.attempt t same) e.0
+    go true same x more = subst (λ (i : AttemptId). asks_for asks i ≡ true) (same_attempt grant.id.attempt t same) e.0
     go false other x more = more x
 
 -- a kept attempt is numbered up to how many are kept
@@ -176,20 +178,20 @@ in_numbers : (t : AttemptId) (n : ℕ) (attempts : List AttemptRecord) → list_
     → is_some (find (λ (one : AttemptRecord). is_attempt one.id t) attempts) ≡ true → nat_le t.number n ≡ true
 in_numbers t n [] all h = cc
 in_numbers t n (one ∷ attempts) all h =
-    let b = both (nat_le one.id.number n) (list_all (λ (x : AttemptRecord). nat_le x.id.number n) attempts) all in
+    let b = and_parts (nat_le one.id.number n) (list_all (λ (x : AttemptRecord). nat_le x.id.number n) attempts) all in
     go b.0 (is_attempt one.id t) refl h (in_numbers t n attempts b.1)
   where
     go : nat_le one.id.number n ≡ true → (c : Bool) → is_attempt one.id t ≡ c → is_some (cond c (Some one) (find (λ (x : AttemptRecord). is_attempt x.id t) attempts)) ≡ true
         → (is_some (find (λ (x : AttemptRecord). is_attempt x.id t) attempts) ≡ true → nat_le t.number n ≡ true) → nat_le t.number n ≡ true
-    go first true same x more = subst (λ (i : AttemptId). nat_le i.number n ≡ true) (is_attempt_same one.id t same) first
+    go first true same x more = subst (λ (i : AttemptId). nat_le i.number n ≡ true) (same_attempt one.id t same) first
     go first false other x more = more x
 
 last_numbers : (n : ℕ) (attempts : List AttemptRecord) (test : AttemptRecord → Bool) (P : AttemptRecord → Type 0) → list_all (λ (one : AttemptRecord). nat_le one.id.number n) attempts ≡ true
     → is_some_and test (last_attempt attempts) ≡ true → (last : AttemptRecord) × (test last ≡ true) × (nat_le last.id.number n ≡ true)
 last_numbers n [] test P all h = cc
-last_numbers n (one ∷ []) test P all h = (one, h, (both (nat_le one.id.number n) true all).0)
+last_numbers n (one ∷ []) test P all h = (one, h, (and_parts (nat_le one.id.number n) true all).0)
 last_numbers n (one ∷ next ∷ more) test P all h =
-    last_numbers n (next ∷ more) test P (both (nat_le one.id.number n) (list_all (λ (x : AttemptRecord). nat_le x.id.number n) (next ∷ more)) all).1 h
+    last_numbers n (next ∷ more) test P (and_parts (nat_le one.id.number n) (list_all (λ (x : AttemptRecord). nat_le x.id.number n) (next ∷ more)) all).1 h
 
 below : (a b : ℕ) → nat_le a b ≡ true → a ≤ b
 below a b h = grind (arith, nat_tests)
@@ -202,7 +204,7 @@ pub current_pends : (v : Option AppRecord) (retired : List AppId) (t : AttemptId
 current_pends None retired t fine h = cc
 current_pends (Some app) retired t fine h =
     let l = last_numbers (length app.attempts) app.attempts (λ last. is_attempt last.id t && is_none last.ending) (λ x. Unit {0}) fine.numbers h in
-    let same = is_attempt_same l.0.id t (both (is_attempt l.0.id t) (is_none l.0.ending) l.1).0 in
+    let same = same_attempt l.0.id t (and_parts (is_attempt l.0.id t) (is_none l.0.ending) l.1).0 in
     inl (below t.number (length app.attempts) (subst (λ (i : AttemptId). nat_le i.number (length app.attempts) ≡ true) same l.2))
 
 -- an operation that fits is kept
@@ -225,7 +227,7 @@ own_pends : (r : Records) (retired : List AppId) (t : AttemptId) (op : Op) → i
     → Pend (record_of r.apps t.app) retired t → Pend (record_of (recorded r op).apps t.app) (retired_by retired op) t
 own_pends r retired t (Epoch next stamp) own fits out p = cc
 own_pends r retired t (App one submission) own fits out p =
-    let none = none_of (record_of r.apps one) fits in
+    let none = none_from_is_none (record_of r.apps one) fits in
     let was : has_app retired t.app ≡ true = subst (λ (v : Option AppRecord). Pend v retired t) (sym (at_own t.app one r own) ∙ none) p in
     absurd (let x = out own in let y : true ≡ false = sym was ∙ x in cc)
 own_pends r retired t (Attempt one master node) own fits out p =

@@ -5,6 +5,7 @@ use Rattle.std.specs.List.{list_any}
 use Rattle.std.proofs.lemmas.Bool.Decides.{nat_tests}
 use Rattle.std.proofs.lemmas.List.Sums.{fold_push}
 use Rattle.std.proofs.Math.Seq.{drop-append_seam}
+use Rattle.std.proofs.lemmas.Bool.{or_parts}
 use Rattle.rm_types.specs.declared.entries.Entry.{Entry}
 use Rattle.rm_types.specs.declared.entries.Entry.TheVariants.{Opened, Kept}
 use Rattle.rm_types.specs.declared.ids.AppId.{AppId}
@@ -16,19 +17,13 @@ use Rattle.rm_types.specs.declared.records.AppRecord.{AppRecord}
 use Rattle.rm_types.specs.declared.records.AttemptRecord.{AttemptRecord}
 use Rattle.rm_types.specs.Ids.{is_app}
 use Rattle.rm_types.specs.Records.{Records, records, recorded, no_records, record_of, with_end, with_record}
+use Rattle.rm_types.proofs.IdLemmas.{same_app}
 use Rattle.rm_model.specs.State.{LifeState, Manager, opening_state}
 use Rattle.rm_model.specs.Facts.{is_remove_op}
 use Rattle.rm_model.specs.Changes.{after, after_all}
 use Rattle.rm_laws.specs.Laws.{IsRemembered, Passage, kept_since}
 use Rattle.rm_laws.proofs.Phases.{state}
 use Rattle.rm_laws.proofs.Walks.{after-append}
-use Rattle.rm_laws.proofs.Tests.{not_either}
-
-pub is_app_same : (a b : AppId) → is_app a b ≡ true → a ≡ b
-is_app_same a b h = grind (arith, nat_tests)
-
-pub is_app-refl : (a : AppId) → is_app a a ≡ true
-is_app-refl a = grind (arith, nat_tests)
 
 -- the first that passes, in a longer list, a changed one, and one from which others went
 module _ {X : Type 0} (p : X → Bool) (P : X → Type 0) where
@@ -84,7 +79,7 @@ module _ (id : AppId) (P : AppRecord → Type 0) (lasts : IsLasting P) where
 
   removed_says : (one : AppId) (apps : List AppRecord) → is_app one id ≡ false → Says apps → Says (filter (λ app. not (is_app app.id one)) apps)
   removed_says one apps other h =
-      find-filter (λ app. is_app app.id id) P (λ app. not (is_app app.id one)) (λ app same. differs app.id (is_app_same app.id id same)) apps h
+      find-filter (λ app. is_app app.id id) P (λ app. not (is_app app.id one)) (λ app same. differs app.id (same_app app.id id same)) apps h
     where
       differs : (x : AppId) → x ≡ id → not (is_app x one) ≡ true
       differs x e = grind (arith, nat_tests)
@@ -101,7 +96,7 @@ module _ (id : AppId) (P : AppRecord → Type 0) (lasts : IsLasting P) where
   pub kept_says : (kept more : List Op) → list_any (is_remove_op id) more ≡ false → Says (records kept).apps → Says (records (kept ++ more)).apps
   kept_says kept [] none h = rw (append-nil kept) h
   kept_says kept (op ∷ more) none h =
-      let n = not_either (is_remove_op id op) (list_any (is_remove_op id) more) none in
+      let n = or_parts (is_remove_op id op) (list_any (is_remove_op id) more) none in
       let next : Says (records (kept ++ op ∷ [])).apps = subst (λ (r : Records). Says r.apps) (sym (fold_push recorded no_records kept op)) (recorded_says (records kept) op n.0 h) in
       subst (λ (ops : List Op). Says (records ops).apps) (append_assoc kept (op ∷ []) more) (kept_says (kept ++ op ∷ []) more n.1 next)
 

@@ -2,6 +2,7 @@
 use Rattle.std.proofs.Common.{◌≡◌, ◌⊎◌, ℕ, List, [], ◌∷◌, ◌++◌, Bool, true, false, ◌&&◌, not, cond, if◌then◌else◌, Option, None, Some, is_some, map, find, refl, sym, ap, subst, ◌∙◌, inl, inr}
 use Rattle.std.specs.Prelude.{IsSomeAnd}
 use Rattle.std.proofs.lemmas.List.Sums.{fold_push}
+use Rattle.std.proofs.lemmas.Bool.{and_parts}
 use Rattle.rm_types.specs.declared.entries.Entry.{Entry}
 use Rattle.rm_types.specs.declared.entries.Entry.TheVariants.{Opened, Issued, Kept, Served, Down}
 use Rattle.rm_types.specs.declared.ids.AppId.{AppId}
@@ -15,6 +16,7 @@ use Rattle.rm_types.specs.declared.replies.Reply.TheVariants as replies
 use Rattle.rm_types.specs.declared.settings.Settings.{Settings}
 use Rattle.rm_types.specs.Ids.{is_app, is_attempt}
 use Rattle.rm_types.specs.Records.{Records, records, recorded, no_records, record_of, with_end}
+use Rattle.rm_types.proofs.TestLemmas.{is_some-find}
 use Rattle.rm_model.specs.State.{LifeState, Manager, MasterState, Masters, Scene, scene, opening_state}
 use Rattle.rm_model.specs.Facts.{attempts_in, has_app, is_remove_op}
 use Rattle.rm_model.specs.Attempts.{attempt_end_issued, attempt_is_kept, has_registered}
@@ -27,8 +29,7 @@ use Rattle.rm_laws.proofs.Lists.{Each, each_all, each-append, each-map}
 use Rattle.rm_laws.proofs.Messages.{Changes, served}
 use Rattle.rm_laws.proofs.Phases.{state}
 use Rattle.rm_laws.proofs.Recorded.{IsLasting, recorded_says}
-use Rattle.rm_laws.proofs.Tests.{both}
-use Rattle.rm_laws.proofs.Told.{is_some-find, last_there, stays_there}
+use Rattle.rm_laws.proofs.Told.{last_there, stays_there}
 use Rattle.rm_laws.proofs.Walks.{walk}
 
 -- an attempt stands in a record, and in the records
@@ -133,7 +134,7 @@ module _ (m : Scene) where
         registered = λ attempt is.
             let live = registers_kept attempt m.life.is_open (attempt_is_kept m attempt && not (attempt_end_issued m attempt)) (has_registered m attempt) is in
             each-append (λ master. IsHeld m.records.apps m.life.apps.retired master.attempt) m.life.masters.registered _ k
-            (inl (both (attempt_is_kept m attempt) (not (attempt_end_issued m attempt)) live).0, tt);
+            (inl (and_parts (attempt_is_kept m attempt) (not (attempt_end_issued m attempt)) live).0, tt);
         allocated = λ attempt id asks release next grants ended is. each_changed (IsHeld m.records.apps m.life.apps.retired) _ (λ one. refl) attempt m.life.masters.registered k;
         finishes = λ attempt text. each_changed (IsHeld m.records.apps m.life.apps.retired) _ (λ one. refl) attempt m.life.masters.registered k;
         node_registered = λ name registration reply. k;

@@ -11,6 +11,7 @@ use Rattle.rm_types.specs.declared.ids.ContainerId.{ContainerId}
 use Rattle.rm_types.specs.declared.operations.Op.{Op}
 use Rattle.rm_types.specs.declared.operations.Op.TheVariants.{Epoch, App, Attempt, AttemptEnd, AppEnd, Remove}
 use Rattle.rm_types.specs.declared.settings.Settings.{Settings}
+use Rattle.rm_types.proofs.TestLemmas.{same_text}
 use Rattle.rm_model.specs.State.{LifeState, Manager, NodeState, Row, Scene, scene, opening_state}
 use Rattle.rm_model.specs.Facts.{has_container}
 use Rattle.rm_model.specs.Containers.{is_living, lives_elsewhere, lives_on}
@@ -28,7 +29,7 @@ use Rattle.rm_laws.proofs.Messages.{Any, Changes, either, served}
 use Rattle.rm_laws.proofs.Phases.{state}
 use Rattle.rm_laws.proofs.Granting.{AreNew}
 use Rattle.rm_laws.proofs.Grants.{made, pass_new}
-use Rattle.rm_laws.proofs.Book.{absorbed_by, each_held, found, is_living-filter, lives-filter, lives-granted, lives-map, lives-taken, lives_home, not_taken_apart, same_name, taken_home}
+use Rattle.rm_laws.proofs.Book.{absorbed_by, each_held, found, is_living-filter, lives-filter, lives-granted, lives-map, lives-taken, lives_home, not_taken_apart, taken_home}
 
 module _ (name : List ℕ) (id : ContainerId) where
   -- a life has the container on the node where another does
@@ -96,7 +97,7 @@ module _ (name : List ℕ) (id : ContainerId) where
 
         home : is_held taken id ≡ true → bytes_eq on name ≡ true → is_living life.book id ≡ true → lives_on life.book name id ≡ true
         home held here living =
-            let at : n.name ≡ name = found life.nodes on n e ∙ same_name on name here in
+            let at : n.name ≡ name = found life.nodes on n e ∙ same_text on name here in
             let all = subst (λ (list : List Held). Each (λ held. lives_elsewhere life.book n.name held.id ≡ false) list) (sym may.takes) (taken_home (scene (state kept awaiting blew (Some life)) life) n) in
             let out = each_held (λ x. lives_elsewhere life.book n.name x ≡ false) id taken all held in
             subst (λ (x : List ℕ). lives_on life.book x id ≡ true) at (lives_home life.book n.name id out living)

@@ -4,6 +4,7 @@ use Rattle.std.specs.Prelude.{sum_by, option_and_then, IsSomeAnd}
 use Rattle.std.specs.Str.{bytes_eq}
 use Rattle.std.proofs.lemmas.List.Folds.{list_any-append}
 use Rattle.std.proofs.lemmas.List.Sums.{sum_by-append}
+use Rattle.std.proofs.lemmas.Bool.{or_right}
 use Rattle.rm_types.specs.declared.containers.Cause.TheVariants.{Gone}
 use Rattle.rm_types.specs.declared.containers.Held.{Held}
 use Rattle.rm_types.specs.declared.containers.Grant.{Grant}
@@ -15,6 +16,8 @@ use Rattle.rm_types.specs.declared.operations.Op.TheVariants.{Epoch, App, Attemp
 use Rattle.rm_types.specs.declared.resources.Resource.{Resource}
 use Rattle.rm_types.specs.declared.settings.Settings.{Settings}
 use Rattle.rm_types.specs.Ids.{is_container}
+use Rattle.rm_types.proofs.TestLemmas.{same_text}
+use Rattle.rm_types.proofs.IdLemmas.{container_itself, same_container}
 use Rattle.rm_model.specs.State.{LifeState, Manager, NodeState, Row, Scene, scene, opening_state}
 use Rattle.rm_model.specs.Facts.{has_container}
 use Rattle.rm_model.specs.Containers.{ids_on, is_living, leave, lives_on, without_launches}
@@ -27,15 +30,13 @@ use Rattle.rm_laws.specs.Laws.{AllFit, FitsOn, InEachState, RowsDiffer, RowsFit}
 use Rattle.rm_laws.proofs.Lists.{Each, Pairs, each-map, pairs_all}
 use Rattle.rm_laws.proofs.Phases.{state}
 use Rattle.rm_laws.proofs.Grants.{made}
-use Rattle.rm_laws.proofs.Book.{found, is_living-filter, not_taken_apart, row_taken_stays, same_name}
+use Rattle.rm_laws.proofs.Book.{found, is_living-filter, not_taken_apart, row_taken_stays}
 use Rattle.rm_laws.proofs.Told.{any-filter, any-map, either_true}
 use Rattle.rm_laws.proofs.Weights.{IsPart, capability_of, memory_part, no_weight, offers-map, vcores_part, weight, weight-append, weight-filter, weight-map}
 use Rattle.rm_laws.proofs.Fits.{FitLife, calm_fits, calm_served, left_rows, rows_of, same_rows, stands_on, tidied_offers, with_node_offers}
 use Rattle.rm_laws.proofs.FitsPass.{pass_fits}
 use Rattle.rm_laws.proofs.Counts.{count_filter, count_join, count_map, count_none}
 use Rattle.rm_laws.proofs.FitsAbsorb.{Booked, IsTaken, booked_counts, bounded, covered, former_counts, in_ids, left_held, own_filter, own_found, own_weight, taken_is, taken_weight, times_held}
-use Rattle.rm_laws.proofs.Tests.{or_right}
-use Rattle.rm_laws.proofs.Same.{is_container-refl, is_container_same}
 use Rattle.rm_laws.proofs.Walks.{walk}
 
 -- a node after it changed, and after all did
@@ -72,7 +73,7 @@ node_other change names name at other (one ∷ nodes) = go (bytes_eq one.name na
     go : (b : Bool) → bytes_eq one.name name ≡ b → capability_of (with_node change name nodes) at ≡ capability_of nodes at
         → option_and_then (λ (n : NodeState). n.capability) (node_of ((if b then change one else one) ∷ with_node change name nodes) at) ≡ option_and_then (λ (n : NodeState). n.capability) (node_of (one ∷ nodes) at)
     go true e m =
-        let away : bytes_eq one.name at ≡ false = subst (λ (n : List ℕ). bytes_eq n at ≡ false) (sym (same_name one.name name e)) other in
+        let away : bytes_eq one.name at ≡ false = subst (λ (n : List ℕ). bytes_eq n at ≡ false) (sym (same_text one.name name e)) other in
         let gone : bytes_eq (change one).name at ≡ false = ap (λ (n : List ℕ). bytes_eq n at) (names one) ∙ away in
         ap (λ (b : Bool). option_and_then (λ (n : NodeState). n.capability) (cond b (Some (change one)) (node_of (with_node change name nodes) at))) gone ∙ m ∙ ap (λ (b : Bool). option_and_then (λ (n : NodeState). n.capability) (cond b (Some one) (node_of nodes at))) (sym away)
     go false e m = skip (bytes_eq one.name at) refl m
@@ -122,7 +123,7 @@ filtered_living left on id (held ∷ taken) h = go (is_living left held.id) refl
     go : (a : Bool) → is_living left held.id ≡ a → (b : Bool) → is_container held.id id ≡ b → is_living (map (row_absorbed on) (cond (not a) (held ∷ filter (λ x. not (is_living left x.id)) taken) (filter (λ x. not (is_living left x.id)) taken))) id ≡ true
         → (is_living (map (row_absorbed on) (filter (λ x. not (is_living left x.id)) taken)) id ≡ true → is_living left id ≡ false) → is_living left id ≡ false
     go true l b e h more = more h
-    go false l true e h more = subst (λ (i : ContainerId). is_living left i ≡ false) (is_container_same held.id id e) l
+    go false l true e h more = subst (λ (i : ContainerId). is_living left i ≡ false) (same_container held.id id e) l
     go false l false e h more = more (rw e at h)
 
 all_living : (left : List Row) (taken : List Held) → Each (λ (held : Held). is_living left held.id ≡ true) taken → filter (λ held. not (is_living left held.id)) taken ≡ []
@@ -135,7 +136,7 @@ each_entered P q on id [] e h = cc
 each_entered P q on id (held ∷ taken) e h = go (q held) (is_container held.id id) refl h (each_entered P q on id taken e.1)
   where
     go : (a b : Bool) → is_container held.id id ≡ b → is_living (map (row_absorbed on) (cond a (held ∷ filter q taken) (filter q taken))) id ≡ true → (is_living (map (row_absorbed on) (filter q taken)) id ≡ true → P id) → P id
-    go true true same h more = subst P (is_container_same held.id id same) e.0
+    go true true same h more = subst P (same_container held.id id same) e.0
     go true false same h more = more (rw same at h)
     go false b same h more = more h
 
@@ -162,7 +163,7 @@ members whole [] incl = tt
 members whole (held ∷ taken) incl = (incl held.id own, members whole taken (λ id h. incl id (or_right (is_container held.id id) (is_held taken id) h)))
   where
     own : is_held (held ∷ taken) held.id ≡ true
-    own = rw (is_container-refl held.id) refl
+    own = rw (container_itself held.id) refl
 
 each_both : (P Q R : Held → Type 0) → ((held : Held) → P held → Q held → R held) → (taken : List Held) → Each P taken → Each Q taken → Each R taken
 each_both P Q R h [] a b = tt
@@ -271,7 +272,7 @@ module _ (m : Scene) (name : List ℕ) (node : NodeState) (here : node_of m.life
 
       bare_by : (at : List ℕ) (b : Bool) → bytes_eq name at ≡ b → capability_of (with_node absorbed name (map (without_launches ended) m.life.nodes)) at ≡ None → stands_on (book_taken name taken (filter (λ row. not (has_container ended row.id)) m.life.book)) at ≡ false
       bare_by at true is none =
-          let same : name ≡ at = same_name name at is in
+          let same : name ≡ at = same_text name at is in
           let own = own_offer m name node here named w taken ended may in
           absurd (let x : Some node.last.capability ≡ None = sym own ∙ ap (λ (n : List ℕ). capability_of (with_node absorbed name (map (without_launches ended) m.life.nodes)) n) same ∙ none in cc)
       bare_by at false is none =
@@ -287,7 +288,7 @@ module _ (m : Scene) (name : List ℕ) (node : NodeState) (here : node_of m.life
       held_by : (f : Resource → ℕ) → IsPart f → (at : List ℕ) (capability : Resource) (b : Bool) → bytes_eq name at ≡ b → capability_of (with_node absorbed name (map (without_launches ended) m.life.nodes)) at ≡ Some capability
           → weight f at (book_taken name taken (filter (λ row. not (has_container ended row.id)) m.life.book)) ≤ f capability
       held_by f part at capability true is some =
-          let same : name ≡ at = same_name name at is in
+          let same : name ≡ at = same_text name at is in
           let own = own_offer m name node here named w taken ended may in
           let e : Some node.last.capability ≡ Some capability = sym own ∙ ap (λ (n : List ℕ). capability_of (with_node absorbed name (map (without_launches ended) m.life.nodes)) n) same ∙ some in
           let c : f node.last.capability ≡ f capability = ap f (the_same node.last.capability capability e) in
@@ -400,7 +401,7 @@ others : (id : ContainerId) (book : List Row) → rows_of book id ≡ 0 → Each
 others id [] none = tt
 others id (row ∷ book) none =
     let f = count_join (λ (one : Row). is_container one.id id) (row ∷ []) book in (
-      (λ same. let one : rows_of (row ∷ []) id ≡ 1 = rw (subst (λ (i : ContainerId). is_container i id ≡ true) same (is_container-refl id)) refl in omega (arith, none, f, one)),
+      (λ same. let one : rows_of (row ∷ []) id ≡ 1 = rw (subst (λ (i : ContainerId). is_container i id ≡ true) same (container_itself id)) refl in omega (arith, none, f, one)),
       others id book (omega (arith, none, f)),
     )
 
@@ -411,7 +412,7 @@ rows_apart (row ∷ book) once = (others row.id book none, rows_apart book less)
     none : rows_of book row.id ≡ 0
     none =
         let f = count_join (λ (one : Row). is_container one.id row.id) (row ∷ []) book in
-        let one : rows_of (row ∷ []) row.id ≡ 1 = rw (is_container-refl row.id) refl in
+        let one : rows_of (row ∷ []) row.id ≡ 1 = rw (container_itself row.id) refl in
         let o = once row.id in
         omega (arith, f, one, o)
 

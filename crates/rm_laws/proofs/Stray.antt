@@ -6,6 +6,7 @@ use Rattle.std.specs.Str.{bytes_eq}
 use Rattle.std.proofs.lemmas.Bool.Decides.{nat_tests}
 use Rattle.std.proofs.lemmas.List.Sums.{fold_push}
 use Rattle.std.proofs.lemmas.Map.Views.{any-filter_same}
+use Rattle.std.proofs.lemmas.Bool.{or_right, or_left, not-true, or_parts, and_parts}
 use Rattle.rm_types.specs.declared.containers.AskOf.{AskOf}
 use Rattle.rm_types.specs.declared.ids.AppId.{AppId}
 use Rattle.rm_types.specs.declared.ids.AttemptId.{AttemptId}
@@ -20,20 +21,20 @@ use Rattle.rm_types.specs.declared.records.AttemptRecord.{AttemptRecord}
 use Rattle.rm_types.specs.declared.settings.Settings.{Settings}
 use Rattle.rm_types.specs.Ids.{is_app, is_attempt, is_container}
 use Rattle.rm_types.specs.Records.{Records, records, recorded, no_records, record_of, fits_records, all_ended, is_some_and, last_attempt}
+use Rattle.rm_types.proofs.IdLemmas.{app_itself, same_app}
+use Rattle.rm_types.proofs.TestLemmas.{none_from_is_some, found_passes, is_some-find}
 use Rattle.rm_model.specs.State.{LifeState, Manager, Row, scene}
 use Rattle.rm_model.specs.Facts.{app_issued, has_app, is_app_op, is_attempt_op, is_app_end_op, is_epoch_op, is_remove_op, is_submitted, attempts_in, end_in, is_completed}
 use Rattle.rm_model.specs.Issuing.{MayIssue, MayIssueApp, MayIssueAttempt, MayIssueAttemptEnd, MayIssueAppEnd, MayIssueRemove, is_before}
 use Rattle.rm_model.specs.Changes.{asks_without, life_keeps}
 use Rattle.rm_laws.proofs.Stamps.{Phase, Sound}
 use Rattle.rm_laws.proofs.Phases.{state}
-use Rattle.rm_laws.proofs.Recorded.{is_app_same, is_app-refl}
-use Rattle.rm_laws.proofs.Told.{AreKnown, Known, has_record, is_some-find, any-filter, pushed}
+use Rattle.rm_laws.proofs.Told.{AreKnown, Known, has_record, any-filter, pushed}
 use Rattle.rm_laws.proofs.Counts.{count_front, count_join, count_none, count_one}
 use Rattle.rm_laws.proofs.Views.{Fitting, fitting-append, fitting-front}
 use Rattle.rm_laws.proofs.Fine.{Fine, all_fine, some_and}
 use Rattle.rm_laws.proofs.Issues.{app_fits, app_end_fits, attempt_end_fits, attempt_fits, remove_fits}
 use Rattle.rm_laws.proofs.Pending.{Pend, Pending, asks_for, lives_for, fewer, more, op_pends, retired_by}
-use Rattle.rm_laws.proofs.Tests.{both, not_either, not_true, or_left, or_right}
 
 -- what a life's parts have to do with what is kept and what awaits
 pub record Sane (kept awaiting : List Op) (life : LifeState) : Type 0 where
@@ -57,14 +58,6 @@ fold-append : (r : Records) (xs ys : List Op) → fold recorded r (xs ++ ys) ≡
 fold-append r [] ys = refl
 fold-append r (op ∷ xs) ys = fold-append (recorded r op) xs ys
 
-pub find_passes : {X : Type 0} (p : X → Bool) (xs : List X) (x : X) → find p xs ≡ Some x → p x ≡ true
-find_passes p [] x h = cc
-find_passes p (y ∷ xs) x h = go (p y) refl h (find_passes p xs x)
-  where
-    go : (b : Bool) → p y ≡ b → cond b (Some y) (find p xs) ≡ Some x → (find p xs ≡ Some x → p x ≡ true) → p x ≡ true
-    go true e h more = let same : y ≡ x = cc in subst (λ (z : _). p z ≡ true) same e
-    go false e h more = more h
-
 find_there : {X : Type 0} (p q : X → Bool) (xs : List X) (x : X) → find p xs ≡ Some x → q x ≡ true → list_any q xs ≡ true
 find_there p q [] x h t = cc
 find_there p q (y ∷ xs) x h t = go (p y) h (find_there p q xs x)
@@ -83,7 +76,7 @@ any_implies p q h (x ∷ xs) a = go (p x) refl (q x) refl a (any_implies p q h x
     go false e false f a more = more a
 
 same_attempt : (a b : ContainerId) → is_container a b ≡ true → is_attempt a.attempt b.attempt ≡ true
-same_attempt a b h = (both (is_attempt a.attempt b.attempt) ((a.epoch == b.epoch) && (a.seq == b.seq)) h).0
+same_attempt a b h = (and_parts (is_attempt a.attempt b.attempt) ((a.epoch == b.epoch) && (a.seq == b.seq)) h).0
 
 some_of : {X : Type 0} (o : Option X) → is_some o ≡ true → (x : X) × (o ≡ Some x)
 some_of None h = cc
@@ -92,10 +85,6 @@ some_of (Some x) h = (x, refl)
 none_is : {X : Type 0} (o : Option X) → is_some o ≡ false → is_none o ≡ true
 none_is None h = refl
 none_is (Some x) h = cc
-
-end_of_none : {X : Type 0} (o : Option X) → is_some o ≡ false → o ≡ None
-end_of_none None h = refl
-end_of_none (Some x) h = cc
 
 -- an operation that may be issued fits
 module _ (settings : Settings) (kept awaiting : List Op) (blew : Bool) (life : LifeState) (w : Whole (state kept awaiting blew (Some life))) where
@@ -109,7 +98,7 @@ module _ (settings : Settings) (kept awaiting : List Op) (blew : Bool) (life : L
   by_app : (id : AppId) (how : How) (text : List ℕ) → MayIssueAppEnd settings (scene (state kept awaiting blew (Some life)) life) id how text → fits_records (fold recorded (records kept) awaiting) (AppEnd id how text) ≡ true
   by_app id how text may =
       let s = some_of (record_of (records kept).apps id) may.kept in
-      let n = not_either (list_any (is_app_end_op id) awaiting) _ may.not_issued in
+      let n = or_parts (list_any (is_app_end_op id) awaiting) _ may.not_issued in
       let goes : is_none s.0.ending ≡ true = none_is s.0.ending (subst (λ (o : Option AppRecord). is_some (end_in o) ≡ false) s.1 n.1) in
       let ended : all_ended s.0.attempts ≡ true = subst (λ (o : Option AppRecord). all_ended (attempts_in o) ≡ true) s.1 may.ended in
       let waits = subst (λ (o : Option AppRecord). list_any (is_attempt_op (record { app = id; number = length (attempts_in o) + 1 })) awaiting ≡ false) s.1 may.no_attempt in
@@ -122,25 +111,25 @@ module _ (settings : Settings) (kept awaiting : List Op) (blew : Bool) (life : L
       go None e = absurd (let x : false ≡ true = ap (λ (o : Option AppRecord). is_some_and (λ (last : AttemptRecord). is_attempt last.id id && is_none last.ending) (last_attempt (attempts_in o))) (sym e) ∙ may.current in cc)
       go (Some app) e =
           let live = ap (λ (o : Option AppRecord). is_some_and (λ (last : AttemptRecord). is_attempt last.id id && is_none last.ending) (last_attempt (attempts_in o))) (sym e) ∙ may.current in
-          attempt_end_fits id.app (records kept) awaiting fits_kept.1 id app (is_app-refl id.app) e (subst Fine e (fine id.app)) live may.not_issued how text
+          attempt_end_fits id.app (records kept) awaiting fits_kept.1 id app (app_itself id.app) e (subst Fine e (fine id.app)) live may.not_issued how text
 
   by_completed : (id : AppId) → MayIssueRemove settings (scene (state kept awaiting blew (Some life)) life) id → fits_records (fold recorded (records kept) awaiting) (Remove id) ≡ true
   by_completed id may =
       let m = scene (state kept awaiting blew (Some life)) life in
       let s = some_and (λ app. is_completed m app && list_all (is_before m app) m.records.apps) (record_of (records kept).apps id) may.first in
-      let c = both (is_completed m s.0) (list_all (is_before m s.0) m.records.apps) s.2 in
-      let d = both (is_some s.0.ending) (not (list_any (is_remove_op s.0.id) awaiting)) c.0 in
-      let same = is_app_same s.0.id id (find_passes (λ (app : AppRecord). is_app app.id id) (records kept).apps s.0 s.1) in
-      let waits = subst (λ (i : AppId). list_any (is_remove_op i) awaiting ≡ false) same (not_true (list_any (is_remove_op s.0.id) awaiting) d.1) in
+      let c = and_parts (is_completed m s.0) (list_all (is_before m s.0) m.records.apps) s.2 in
+      let d = and_parts (is_some s.0.ending) (not (list_any (is_remove_op s.0.id) awaiting)) c.0 in
+      let same = same_app s.0.id id (found_passes (λ (app : AppRecord). is_app app.id id) (records kept).apps s.0 s.1) in
+      let waits = subst (λ (i : AppId). list_any (is_remove_op i) awaiting ≡ false) same (not-true (list_any (is_remove_op s.0.id) awaiting) d.1) in
       remove_fits id (records kept) awaiting fits_kept.1 s.0 s.1 d.0 (subst Fine s.1 (fine id)) waits
 
   pub by_submitted : (id : AppId) (submission : Submission) → MayIssueApp (scene (state kept awaiting blew (Some life)) life) id submission
       → (list_any (is_app_op id) awaiting ≡ false) × (record_of (records kept).apps id ≡ None)
   by_submitted id submission may =
       let m = scene (state kept awaiting blew (Some life)) life in
-      let p = find_passes (λ (one : Submitted). not (app_issued m one.id)) life.apps.submitted (record { id = id; submission = submission }) may.first in
-      let n = not_either (list_any (is_app_op id) awaiting) (is_some (record_of (records kept).apps id)) (not_true _ p) in
-      (n.0, end_of_none (record_of (records kept).apps id) n.1)
+      let p = found_passes (λ (one : Submitted). not (app_issued m one.id)) life.apps.submitted (record { id = id; submission = submission }) may.first in
+      let n = or_parts (list_any (is_app_op id) awaiting) (is_some (record_of (records kept).apps id)) (not-true _ p) in
+      (n.0, none_from_is_some (record_of (records kept).apps id) n.1)
 
   by_row : (id : AttemptId) (master : ContainerId) (node : List ℕ) → MayIssueAttempt (scene (state kept awaiting blew (Some life)) life) id master node
       → fits_records (fold recorded (records kept) awaiting) (Attempt id master node) ≡ true
@@ -150,7 +139,7 @@ module _ (settings : Settings) (kept awaiting : List Op) (blew : Bool) (life : L
       lives =
           subst (λ (t : AttemptId). lives_for life.book t ≡ true) may.of_it
           (any_implies (λ (row : Row). is_container row.id master && bytes_eq row.node node) (λ row. is_attempt row.id.attempt master.attempt)
-          (λ row at. same_attempt row.id master (both (is_container row.id master) (bytes_eq row.node node) at).0) life.book may.living)
+          (λ row at. same_attempt row.id master (and_parts (is_container row.id master) (bytes_eq row.node node) at).0) life.book may.living)
 
       pend : Pend (record_of (records kept).apps id.app) life.apps.retired id
       pend = w.sane.pending id (or_right (asks_for life.asks id) (lives_for life.book id) lives)
@@ -165,7 +154,7 @@ module _ (settings : Settings) (kept awaiting : List Op) (blew : Bool) (life : L
           submitted true h = refl
           submitted false h = cc
       go (Some app) e =
-          let n = not_either (list_any (is_app_end_op id.app) awaiting) _ may.no_end in
+          let n = or_parts (list_any (is_app_end_op id.app) awaiting) _ may.no_end in
           let goes : is_none app.ending ≡ true = none_is app.ending (subst (λ (o : Option AppRecord). is_some (end_in o) ≡ false) e n.1) in
           let next : id ≡ record { app = id.app; number = length app.attempts + 1 } = may.next ∙ ap (λ (o : Option AppRecord). let t : AttemptId = record { app = id.app; number = length (attempts_in o) + 1 } in t) e in
           let number : id.number ≡ length app.attempts + 1 = ap (λ (t : AttemptId). t.number) next in
@@ -253,15 +242,15 @@ app_waits settings kept awaiting blew life w id submission may none =
     from : (one : AppId) → (list_any (is_app_op one) awaiting ≡ true) ⊎ (is_app id one ≡ true) → is_submitted life.apps.submitted one ≡ true
     from one (inl x) = w.apps_wait one x
     from one (inr x) =
-        subst (λ (i : AppId). is_submitted life.apps.submitted i ≡ true) (is_app_same id one x)
-        (find_there (λ (s : Submitted). not (app_issued (scene (state kept awaiting blew (Some life)) life) s.id)) (λ (s : Submitted). is_app s.id id) life.apps.submitted (record { id = id; submission = submission }) may.first (is_app-refl id))
+        subst (λ (i : AppId). is_submitted life.apps.submitted i ≡ true) (same_app id one x)
+        (find_there (λ (s : Submitted). not (app_issued (scene (state kept awaiting blew (Some life)) life) s.id)) (λ (s : Submitted). is_app s.id id) life.apps.submitted (record { id = id; submission = submission }) may.first (app_itself id))
 
     count : (one : AppId) (b : Bool) → is_app id one ≡ b → count_by (is_app_op one) (awaiting ++ App id submission ∷ []) ≤ 1
     count one false e = let c = count_join (is_app_op one) awaiting (App id submission ∷ []) in let o = count_one (is_app_op one) (App id submission) false e in let h = w.apps_once one in omega (arith, c, o, h)
     count one true e =
         let c = count_join (is_app_op one) awaiting (App id submission ∷ []) in
         let o = count_one (is_app_op one) (App id submission) true e in
-        let z = count_none (is_app_op one) awaiting (subst (λ (i : AppId). list_any (is_app_op i) awaiting ≡ false) (is_app_same id one e) none) in
+        let z = count_none (is_app_op one) awaiting (subst (λ (i : AppId). list_any (is_app_op i) awaiting ≡ false) (same_app id one e) none) in
         omega (arith, c, o, z)
 
 -- the first awaiting operation is kept
@@ -320,7 +309,7 @@ kept_sane kept (Remove id) ops life known w fits =
     from one s (inr same) =
         let x = some_and (λ app. is_some app.ending) (record_of (records kept).apps id) fits in
         let there : has_record (records kept).apps id ≡ true = sym (is_some-find (λ (app : AppRecord). is_app app.id id) (records kept).apps) ∙ ap (λ (o : Option AppRecord). is_some o) x.1 in
-        known.kept_out one (subst (λ (i : AppId). has_record (records kept).apps i ≡ true) (is_app_same id one same) there) s
+        known.kept_out one (subst (λ (i : AppId). has_record (records kept).apps i ≡ true) (same_app id one same) there) s
 kept_sane kept (App id submission) ops life known w fits =
     record {
       retired_out = λ one r s. w.retired_out one r (any-filter (λ (x : Submitted). is_app x.id one) (λ x. not (is_app x.id id)) life.apps.submitted s);
@@ -337,7 +326,7 @@ kept_sane kept (App id submission) ops life known w fits =
         let none = none_counted (is_app_op one) ops (omega (arith, c, o, k)) in
         absurd (let y : true ≡ false = sym h ∙ none in cc)
     go one h false e =
-        any-filter_same (λ (x : Submitted). is_app x.id one) (λ x. not (is_app x.id id)) true (λ x at. still x.id (is_app_same x.id one at)) life.apps.submitted
+        any-filter_same (λ (x : Submitted). is_app x.id one) (λ x. not (is_app x.id id)) true (λ x at. still x.id (same_app x.id one at)) life.apps.submitted
         ∙ rest_wait kept (App id submission) ops life known w fits one h
       where
         still : (a : AppId) → a ≡ one → not (is_app a id) ≡ true

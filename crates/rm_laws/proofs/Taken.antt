@@ -1,5 +1,6 @@
 -- What an absorption takes, one container after the other.
 use Rattle.std.proofs.Common.{◌≡◌, List, [], ◌∷◌, ◌++◌, Bool, true, false, ◌&&◌, not, if◌then◌else◌, Option, None, Some, fold, refl}
+use Rattle.std.proofs.lemmas.Bool.{not-true, and_parts}
 use Rattle.rm_types.specs.declared.containers.Held.{Held}
 use Rattle.rm_types.specs.Resources.{fits}
 use Rattle.rm_model.specs.State.{NodeState, Scene}
@@ -7,7 +8,6 @@ use Rattle.rm_model.specs.Containers.{lives_elsewhere}
 use Rattle.rm_model.specs.Attempts.{is_current}
 use Rattle.rm_model.specs.Absorbing.{as_counted, is_held, left_beside, may_take, taken_of, with_counted}
 use Rattle.rm_laws.proofs.Lists.{Each, each-append}
-use Rattle.rm_laws.proofs.Tests.{both, not_true}
 
 -- a container that may be taken: what its test says
 pub record IsFree (m : Scene) (node : NodeState) (taken : List Held) (held : Held) : Type 0 where
@@ -19,10 +19,10 @@ pub record IsFree (m : Scene) (node : NodeState) (taken : List Held) (held : Hel
 module _ (m : Scene) (node : NodeState) where
   is_free : (taken : List Held) (held : Held) → may_take m node taken held ≡ true → IsFree m node taken held
   is_free taken held may =
-      let a = both (not (is_held taken held.id)) (is_current m held.id.attempt && (not (lives_elsewhere m.life.book node.name held.id) && fits held.size (left_beside node taken))) may in
-      let b = both (is_current m held.id.attempt) (not (lives_elsewhere m.life.book node.name held.id) && fits held.size (left_beside node taken)) a.1 in
-      let c = both (not (lives_elsewhere m.life.book node.name held.id)) (fits held.size (left_beside node taken)) b.1 in
-      record { new = not_true (is_held taken held.id) a.0; current = b.0; home = not_true (lives_elsewhere m.life.book node.name held.id) c.0; fit = c.1 }
+      let a = and_parts (not (is_held taken held.id)) (is_current m held.id.attempt && (not (lives_elsewhere m.life.book node.name held.id) && fits held.size (left_beside node taken))) may in
+      let b = and_parts (is_current m held.id.attempt) (not (lives_elsewhere m.life.book node.name held.id) && fits held.size (left_beside node taken)) a.1 in
+      let c = and_parts (not (lives_elsewhere m.life.book node.name held.id)) (fits held.size (left_beside node taken)) b.1 in
+      record { new = not-true (is_held taken held.id) a.0; current = b.0; home = not-true (lives_elsewhere m.life.book node.name held.id) c.0; fit = c.1 }
 
   -- what holds of nothing, and stays where one that counts and is free is taken, holds of what is taken
   pub all_taken : (P : List Held → Type 0) → P [] → ((taken : List Held) (held one : Held) → as_counted m node held ≡ Some one → IsFree m node taken one → P taken → P (taken ++ one ∷ []))

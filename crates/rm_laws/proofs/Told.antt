@@ -6,6 +6,7 @@ use Rattle.std.proofs.lemmas.Bool.Decides.{nat_tests}
 use Rattle.std.proofs.lemmas.List.Folds.{list_any-append}
 use Rattle.std.proofs.lemmas.List.Sums.{fold_push}
 use Rattle.std.proofs.lemmas.Map.Views.{any-filter_same}
+use Rattle.std.proofs.lemmas.Bool.{or_parts}
 use Rattle.rm_types.specs.declared.entries.Entry.{Entry}
 use Rattle.rm_types.specs.declared.entries.Entry.TheVariants.{Opened, Issued, Kept, Served, Accepted, Down}
 use Rattle.rm_types.specs.declared.ids.AppId.{AppId}
@@ -30,6 +31,8 @@ use Rattle.rm_model.specs.State.{Applications, LifeState, Manager, Scene, scene,
 use Rattle.rm_model.specs.Facts.{attempts_in, awaits, end_in, has_app, is_accepted, is_app_op, is_submitted, is_known, kept_attempts, kept_end, submission_in, submission_of, waiting_submission}
 use Rattle.rm_model.specs.ClientReplies.{going_word, is_running, report_of, state_word, submit_reply}
 use Rattle.rm_types.specs.declared.replies.StateWord.TheVariants as states
+use Rattle.rm_types.proofs.IdLemmas.{app_itself, same_app}
+use Rattle.rm_types.proofs.TestLemmas.{is_some-find}
 use Rattle.rm_model.specs.Replies.{reply_to}
 use Rattle.rm_model.specs.Rules.{Allowed, AllowedIn}
 use Rattle.rm_model.specs.Changes.{after, after_all, life_issues, life_keeps}
@@ -37,21 +40,12 @@ use Rattle.rm_model.specs.Lawful.{AllAllowed}
 use Rattle.rm_laws.specs.Laws.{IsReported, ToldStays, is_told_word, told_by}
 use Rattle.rm_laws.proofs.Messages.{Changes, served}
 use Rattle.rm_laws.proofs.Phases.{state}
-use Rattle.rm_laws.proofs.Recorded.{IsLasting, is_app_same, is_app-refl, kept_says, kept_later, none_removed, since}
-use Rattle.rm_laws.proofs.Tests.{not_either}
+use Rattle.rm_laws.proofs.Recorded.{IsLasting, kept_says, kept_later, none_removed, since}
 use Rattle.rm_laws.proofs.Walks.{walk}
 
 -- an application has a record
 abbrev pub has_record : List AppRecord → AppId → Bool
 has_record apps id = list_any (λ app. is_app app.id id) apps
-
-pub is_some-find : {X : Type 0} (p : X → Bool) (xs : List X) → is_some (find p xs) ≡ list_any p xs
-is_some-find p [] = refl
-is_some-find p (x ∷ xs) = go (p x) (is_some-find p xs)
-  where
-    go : (b : Bool) → is_some (find p xs) ≡ list_any p xs → is_some (cond b (Some x) (find p xs)) ≡ (b || list_any p xs)
-    go true e = refl
-    go false e = e
 
 -- what holds of the applications that a life knows: none is submitted that was accepted or is kept; and what was accepted is
 -- kept or retired
@@ -121,15 +115,15 @@ joined recorded_apps apps id submission k new none here =
 
     go_kept : (x : AppId) → has_record recorded_apps x ≡ true → (is_submitted apps.submitted x ≡ true) ⊎ (is_app id x ≡ true) → ⊥
     go_kept x kept (inl there) = k.kept_out x kept there
-    go_kept x kept (inr same) = let e = is_app_same id x same in let y : has_record recorded_apps id ≡ true = subst (λ (i : AppId). has_record recorded_apps i ≡ true) (sym e) kept in cc
+    go_kept x kept (inr same) = let e = same_app id x same in let y : has_record recorded_apps id ≡ true = subst (λ (i : AppId). has_record recorded_apps i ≡ true) (sym e) kept in cc
 
     go_accepted : (x : AppId) → has_app apps.accepted x ≡ true → (is_submitted apps.submitted x ≡ true) ⊎ (is_app id x ≡ true) → ⊥
     go_accepted x accepted (inl there) = k.accepted_out x accepted there
     go_accepted x accepted (inr same) = which (k.held x accepted)
       where
         which : (has_record recorded_apps x ≡ true) ⊎ (has_app apps.retired x ≡ true) → ⊥
-        which (inl kept) = let e = is_app_same id x same in let y : has_record recorded_apps id ≡ true = subst (λ (i : AppId). has_record recorded_apps i ≡ true) (sym e) kept in cc
-        which (inr gone) = let e = is_app_same id x same in let y : has_app apps.retired id ≡ true = subst (λ (i : AppId). has_app apps.retired i ≡ true) (sym e) gone in cc
+        which (inl kept) = let e = same_app id x same in let y : has_record recorded_apps id ≡ true = subst (λ (i : AppId). has_record recorded_apps i ≡ true) (sym e) kept in cc
+        which (inr gone) = let e = same_app id x same in let y : has_app apps.retired id ≡ true = subst (λ (i : AppId). has_app apps.retired i ≡ true) (sym e) gone in cc
 
 -- a kept application is accepted
 accepts : (recorded_apps : List AppRecord) (apps : Applications) (id : AppId) → AreKnown recorded_apps apps → has_record recorded_apps id ≡ true
@@ -143,11 +137,11 @@ accepts recorded_apps apps id k kept =
   where
     go_out : (x : AppId) → is_submitted apps.submitted x ≡ true → (has_app apps.accepted x ≡ true) ⊎ (is_app id x ≡ true) → ⊥
     go_out x there (inl accepted) = k.accepted_out x accepted there
-    go_out x there (inr same) = k.kept_out x (subst (λ (i : AppId). has_record recorded_apps i ≡ true) (is_app_same id x same) kept) there
+    go_out x there (inr same) = k.kept_out x (subst (λ (i : AppId). has_record recorded_apps i ≡ true) (same_app id x same) kept) there
 
     go_held : (x : AppId) → (has_app apps.accepted x ≡ true) ⊎ (is_app id x ≡ true) → (has_record recorded_apps x ≡ true) ⊎ (has_app apps.retired x ≡ true)
     go_held x (inl accepted) = k.held x accepted
-    go_held x (inr same) = inl (subst (λ (i : AppId). has_record recorded_apps i ≡ true) (is_app_same id x same) kept)
+    go_held x (inr same) = inl (subst (λ (i : AppId). has_record recorded_apps i ≡ true) (same_app id x same) kept)
 
 -- the applications after a record of one is added
 adds : (old new : List AppRecord) (apps : Applications) (id : AppId) → ((x : AppId) → has_record new x ≡ true → (has_record old x ≡ true) ⊎ (is_app id x ≡ true))
@@ -168,8 +162,8 @@ adds old new apps id back on k =
         let y : true ≡ false = sym there ∙ none in cc
       where
         out : (a : AppId) → is_app a x ≡ true → not (is_app a id) ≡ false
-        out a at = let e = is_app_same a x at in let f = is_app_same id x same in
-            let g : is_app a id ≡ true = subst (λ (i : AppId). is_app i id ≡ true) (f ∙ sym e) (is_app-refl id) in rw g refl
+        out a at = let e = same_app a x at in let f = same_app id x same in
+            let g : is_app a id ≡ true = subst (λ (i : AppId). is_app i id ≡ true) (f ∙ sym e) (app_itself id) in rw g refl
 
     held : (x : AppId) → (has_record old x ≡ true) ⊎ (has_app apps.retired x ≡ true) → (has_record new x ≡ true) ⊎ (has_app apps.retired x ≡ true)
     held x (inl kept) = inl (on x kept)
@@ -211,7 +205,7 @@ retires old apps id k =
     go x h true same = inr (last_there (λ (one : AppId). is_app one x) apps.retired id same)
     go x (inr gone) false other = inr (stays_there (λ (one : AppId). is_app one x) apps.retired (id ∷ []) gone)
     go x (inl kept) false other =
-        inl (any-filter_same (λ (app : AppRecord). is_app app.id x) (λ app. not (is_app app.id id)) true (λ app at. still app.id (is_app_same app.id x at)) old ∙ kept)
+        inl (any-filter_same (λ (app : AppRecord). is_app app.id x) (λ app. not (is_app app.id id)) true (λ app at. still app.id (same_app app.id x at)) old ∙ kept)
       where
         still : (a : AppId) → a ≡ x → not (is_app a id) ≡ true
         still a e = grind (arith, nat_tests)
@@ -244,7 +238,7 @@ module _ (m : Scene) where
       → AppsAreKnown m.life → AppsAreKnown (record m.life { apps = record m.life.apps { submitted = m.life.apps.submitted ++ record { id = id; submission = submission } ∷ [] } })
   submits settings id submission false is new k = absurd (let x = is in cc)
   submits settings id submission true is new k =
-      let both = not_either (is_submitted m.life.apps.submitted id) (is_some (record_of m.records.apps id)) new in
+      let both = or_parts (is_submitted m.life.apps.submitted id) (is_some (record_of m.records.apps id)) new in
       joined m.records.apps m.life.apps id submission k both.0 (sym (is_some-find (λ (app : AppRecord). is_app app.id id) m.records.apps) ∙ both.1) (not_retired _ (has_app m.life.apps.retired id) _ is)
 
   answered : (settings : Settings) → AppsAreKnown m.life → Changes m AppsAreKnown (λ message reply. reply ≡ reply_to settings m message)

@@ -8,7 +8,7 @@ use Rattle.rm_types.specs.declared.operations.Op.TheVariants.{Epoch, App, Attemp
 use Rattle.rm_types.specs.declared.records.AppRecord.{AppRecord}
 use Rattle.rm_types.specs.Ids.{is_app}
 use Rattle.rm_types.specs.Records.{Records, recorded, record_of, with_record, fits_records, stray_from}
-use Rattle.rm_laws.proofs.Recorded.{is_app_same}
+use Rattle.rm_types.proofs.IdLemmas.{same_app}
 
 -- the operation is one of this application
 abbrev pub is_of : AppId → Op → Bool
@@ -19,11 +19,11 @@ is_of id (AttemptEnd one how text) = is_app one.app id
 is_of id (AppEnd one how text) = is_app one id
 is_of id (Remove one) = is_app one id
 
-apart : (a b c : AppId) → is_app a b ≡ true → is_app c b ≡ false → is_app a c ≡ false
+pub apart : (a b c : AppId) → is_app a b ≡ true → is_app c b ≡ false → is_app a c ≡ false
 apart a b c h n = grind (arith, nat_tests)
 
 alike : (a b c : AppId) → is_app c b ≡ true → is_app a c ≡ is_app a b
-alike a b c h = ap (is_app a) (is_app_same c b h)
+alike a b c h = ap (is_app a) (same_app c b h)
 
 module _ (id : AppId) where
   find_other_end : (apps : List AppRecord) (new : AppRecord) → is_app new.id id ≡ false → record_of (apps ++ new ∷ []) id ≡ record_of apps id

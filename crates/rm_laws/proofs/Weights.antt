@@ -5,6 +5,7 @@ use Rattle.std.specs.List.{list_any, range_with_len}
 use Rattle.std.specs.Str.{bytes_eq}
 use Rattle.std.proofs.lemmas.Bool.Decides.{nat_tests}
 use Rattle.std.proofs.lemmas.List.Sums.{sum_by-append}
+use Rattle.std.proofs.lemmas.Bool.{and_parts}
 use Rattle.rm_types.specs.declared.containers.Ask.{Ask}
 use Rattle.rm_types.specs.declared.containers.Grant.{Grant}
 use Rattle.rm_types.specs.declared.containers.Turn.{Turn}
@@ -15,7 +16,6 @@ use Rattle.rm_types.specs.Resources.{difference_of, fits}
 use Rattle.rm_model.specs.State.{NodeState, Row}
 use Rattle.rm_model.specs.Containers.{rows_on}
 use Rattle.rm_model.specs.Nodes.{node_of}
-use Rattle.rm_laws.proofs.Tests.{both}
 
 -- one part of the size of all that stands on a node
 abbrev pub weight : (Resource → ℕ) → List ℕ → List Row → ℕ
@@ -157,7 +157,7 @@ module _ (f : Resource → ℕ) (part : IsPart f) where
 pub memory_part : IsPart (λ size. size.memory_mb)
 memory_part =
     record {
-      less = λ a b h. let x = (both (nat_le a.memory_mb b.memory_mb) (nat_le a.vcores b.vcores) h).0 in grind (arith, nat_tests);
+      less = λ a b h. let x = (and_parts (nat_le a.memory_mb b.memory_mb) (nat_le a.vcores b.vcores) h).0 in grind (arith, nat_tests);
       multiple = λ n a. refl;
       difference = λ a b. refl;
       sum = λ sizes. refl;
@@ -166,7 +166,7 @@ memory_part =
 pub vcores_part : IsPart (λ size. size.vcores)
 vcores_part =
     record {
-      less = λ a b h. let x = (both (nat_le a.memory_mb b.memory_mb) (nat_le a.vcores b.vcores) h).1 in grind (arith, nat_tests);
+      less = λ a b h. let x = (and_parts (nat_le a.memory_mb b.memory_mb) (nat_le a.vcores b.vcores) h).1 in grind (arith, nat_tests);
       multiple = λ n a. refl;
       difference = λ a b. refl;
       sum = λ sizes. refl;

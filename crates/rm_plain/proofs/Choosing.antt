@@ -2,6 +2,7 @@
 use Rattle.std.proofs.Common.{ℕ, ◌≡◌, ◌≢◌, ◌⊎◌, inl, inr, ⊎_elim, List, [], ◌∷◌, ◌++◌, Bool, true, false, None, Some, Option, if◌then◌else◌, refl, sym, ◌∙◌, ap, subst}
 use Rattle.std.specs.Prelude.{IfNone, find, is_some}
 use Rattle.std.proofs.lemmas.List.Sums.{fold_push}
+use Rattle.std.proofs.lemmas.Option.{same_Some}
 use Rattle.rm_types.specs.declared.entries.Entry.{Entry}
 use Rattle.rm_types.specs.declared.messages.Lane.{Lane}
 use Rattle.rm_types.specs.declared.messages.Lane.TheVariants.{Client, Master, Node, Clock, Main, Sched, Hand, Write, End, Begin}
@@ -11,6 +12,7 @@ use Rattle.rm_types.specs.declared.scripts.Life.{Life}
 use Rattle.rm_types.specs.declared.scripts.Script.{Script}
 use Rattle.rm_types.specs.Lanes.{lane_of_entry}
 use Rattle.rm_types.specs.Records.{Records}
+use Rattle.rm_types.proofs.TestLemmas.{found_passes}
 use Rattle.rm_model.specs.Place.{Place, close_left}
 use Rattle.rm_tables.specs.declared.tables.Tables.{Tables}
 use Rattle.rm_model.specs.Lawful.{place_after}
@@ -51,7 +53,7 @@ split_push (l ∷ log) (y ∷ past) e x more h =
 pub left_push : (steps : List Step) (log : List Entry) (e : Entry) → left_after steps (log ++ e ∷ []) ≡ used_by (lane_of_entry e) (left_after steps log)
 left_push steps log e = fold_push (λ left x. used_by (lane_of_entry x) left) steps log e
 
-left_none : (log : List Entry) → left_after [] log ≡ []
+pub left_none : (log : List Entry) → left_after [] log ≡ []
 left_none [] = refl
 left_none (e ∷ log) = left_none log
 
@@ -158,11 +160,6 @@ found_here : {X : Type 0} (b : Bool) (p : X → Bool) (rest : Option X) (x y : X
 found_here true p rest x y e h more = let same : y ≡ x = cc in rw (sym same) e
 found_here false p rest x y e h more = more h
 
--- what is found passes
-pub found_passes : {X : Type 0} (p : X → Bool) (xs : List X) (x : X) → find p xs ≡ Some x → p x ≡ true
-found_passes p [] x h = cc
-found_passes p (y ∷ ys) x h = found_here (p y) p (find p ys) x y refl h (found_passes p ys x)
-
 -- where no lane is found, none is ready
 pub none_ready : (d : DeskView) → first_ready d ≡ None → (lane : Lane) → is_ready_at d lane ≡ false
 none_ready d h lane =
@@ -189,12 +186,9 @@ none_ready d h lane =
       | Begin ↦ begin.0
     ]
 
-pub some_same : {X : Type 0} (x y : X) → Some x ≡ Some y → x ≡ y
-some_same x y h = cc
-
 -- none of the lanes of the manager's work was ready where its end was chosen
 not_before : {X : Type 0} (b : Bool) (x : X) (rest : Option X) (y : X) → (x ≢ y) → (if b then Some x else rest) ≡ Some y → (b ≡ false) × (rest ≡ Some y)
-not_before true x rest y other h = absurd (other (some_same x y h))
+not_before true x rest y other h = absurd (other (same_Some x y h))
 not_before false x rest y other h = (refl, h)
 
 end_idle : (d : DeskView) → first_ready d ≡ Some End → HasNoWork d
@@ -223,7 +217,7 @@ end_idle d h lane work =
 
 -- the lane that is to move is ready
 if_ready : (b : Bool) (d : DeskView) (lane next : Lane) → is_ready_at d lane ≡ b → (if b then Some lane else None) ≡ Some next → is_ready_at d next ≡ true
-if_ready true d lane next ready is = subst (λ (l : Lane). is_ready_at d l ≡ true) (some_same lane next is) ready
+if_ready true d lane next ready is = subst (λ (l : Lane). is_ready_at d l ≡ true) (same_Some lane next is) ready
 if_ready false d lane next ready is = cc
 
 if_first : (b : Bool) (d : DeskView) (next : Lane) → (if b then first_ready d else None) ≡ Some next → is_ready_at d next ≡ true

@@ -2,6 +2,7 @@
 use Rattle.std.proofs.Common.{◌≡◌, ◌≢◌, ◌≤◌, ℕ, List, [], ◌∷◌, ◌++◌, Bool, true, false, Some, None, Option, Ok, Err, Result, refl, sym, ◌∙◌, ap, subst, arith}
 use Rattle.std.specs.Prelude.{is_ok}
 use Rattle.std.proofs.lemmas.List.{append-nil, append_assoc}
+use Rattle.std.proofs.lemmas.Option.{same_Some}
 use Rattle.rm_types.specs.declared.messages.Lane.{Lane}
 use Rattle.rm_types.specs.declared.messages.Lane.TheVariants.{Client, Master, Node, Clock, Main, Sched, Hand, Write, End, Begin}
 use Rattle.rm_types.specs.declared.operations.Op.{Op}
@@ -26,7 +27,7 @@ use Rattle.rm_plain.specs.Keeping.{FuseStays, IsUnkept, Serves, StoresOn, armed_
 use Rattle.rm_plain.specs.Lives.{ComesToRest, TakesStep, WentDown, Stores}
 use Rattle.rm_plain.specs.Order.{May, Order}
 use Rattle.rm_plain.specs.Policy.{first_ready}
-use Rattle.rm_plain.proofs.Choosing.{none_ready, some_same}
+use Rattle.rm_plain.proofs.Choosing.{none_ready}
 use Rattle.rm_plain.proofs.Moving.{TellsAll, Works, down_goes, down_unkept, goes_same}
 use Rattle.rm_plain.proofs.Stored.{keeps_trans, unkept_stores}
 
@@ -49,7 +50,7 @@ stores_trans opening a b c one two three goes ab bc = λ k has.
     keeps_trans opening a.core.log b.core.log c.core.log one two three first (bc (goes.lawful opening tt k) first.kept)
 
 -- a fuse lets no more pass than it is armed with, over any call of the disk
-within_kept : {D : Type 0} (view : D → DiskView) (keeps : D → D → Type 0) (succeeds : Bool) (old new : Fused D) → ((calls : ℕ) → old.armed ≡ Some calls → old.passed ≤ calls) → KeepsFuse view keeps succeeds old new
+pub within_kept : {D : Type 0} (view : D → DiskView) (keeps : D → D → Type 0) (succeeds : Bool) (old new : Fused D) → ((calls : ℕ) → old.armed ≡ Some calls → old.passed ≤ calls) → KeepsFuse view keeps succeeds old new
     → (calls : ℕ) → new.armed ≡ Some calls → new.passed ≤ calls
 within_kept view keeps succeeds old new within kept calls armed = let was = sym kept.armed ∙ armed in kept.within calls was (within calls was)
 
@@ -169,7 +170,7 @@ module _ {order : Order} {D : Type 0} (view : D → DiskView) where
         armed = serves.armed ∙ ap armed_by crash;
         blown = serves.blown;
         within = serves.within calls (serves.armed ∙ ap armed_by crash);
-        spent = λ blew. some_same store.disk.passed calls (sym (serves.spent (serves.blown ∙ blew)) ∙ serves.armed ∙ ap armed_by crash);
+        spent = λ blew. same_Some store.disk.passed calls (sym (serves.spent (serves.blown ∙ blew)) ∙ serves.armed ∙ ap armed_by crash);
         goes = down_goes d next does chosen tells told idle calls image crash;
         down = does.standing ∙ ap (stands_after End) crash;
         stores = record { sound = serves.sound; kept = λ opening. unkept_stores opening d next (down_unkept d next does chosen tells told idle calls image crash) (seen view store.disk) };

@@ -2,6 +2,7 @@
 use Rattle.std.proofs.Common.{◌≡◌, ◌≢◌, ◌⊎◌, ℕ, List, [], ◌∷◌, ◌++◌, true, false, not, None, Ok, Err, Result, refl, sym, ◌∙◌, ap, subst, inl, inr, ⊎_elim, arith}
 use Rattle.std.specs.Prelude.{IfErr, IsOk, OnOk}
 use Rattle.std.proofs.lemmas.List.{append-nil, append_assoc}
+use Rattle.std.proofs.lemmas.Bool.{and_parts, not-true}
 use Rattle.rm_types.specs.declared.operations.Op.{Op}
 use Rattle.rm_types.specs.declared.entries.Entry.{Entry}
 use Rattle.rm_types.specs.declared.messages.Lane.TheVariants.{Begin}
@@ -9,6 +10,7 @@ use Rattle.rm_types.specs.declared.scripts.Life.{Life}
 use Rattle.rm_types.specs.declared.scripts.Script.{Script}
 use Rattle.rm_types.specs.declared.settings.Settings.{Settings}
 use Rattle.rm_types.specs.Lists.{is_nil}
+use Rattle.rm_types.proofs.TestLemmas.{on_ok_map, on_ok, not_nil}
 use Rattle.rm_disk.specs.declared.fallen.Fallen.{Fallen}
 use Rattle.rm_disk.specs.Disk.{DiskView}
 use Rattle.rm_disk.specs.Fuse.{Fused}
@@ -43,7 +45,7 @@ use Rattle.rm_plain.specs.Whole.{AllLived, Ends}
 use Rattle.rm_plain.proofs.Choosing.{letters_stop, none_split}
 use Rattle.rm_plain.proofs.Ending.{goes_trans}
 use Rattle.rm_plain.proofs.Halting.{after_within, full_known, goes_any, keeps_leaves}
-use Rattle.rm_plain.proofs.Moving.{both, goes_same, is_not, not_nil, ok_map, on_ok}
+use Rattle.rm_plain.proofs.Moving.{goes_same}
 use Rattle.rm_plain.proofs.Onward.{never_handed, no_store_not, stays_same, stays_trans}
 use Rattle.rm_plain.proofs.Stored.{within_longer}
 
@@ -210,7 +212,7 @@ module _ (order : Order) {D : Type 0} (view : D → DiskView) (opening : List Op
 -- what is told of the letters that are left is told of the order that they give
 module _ (steps left : List Step) (d : DeskView) (at : left ≡ left_after steps d.core.log) (r : Result (Unit {0}) Stop) where
   pub used_as : OnOk r (left ≡ []) → OnOk r ((by_letters steps).ends d.core.log)
-  used_as used = ok_map r (λ none. sym at ∙ none) used
+  used_as used = on_ok_map r (λ none. sym at ∙ none) used
 
   pub stops_as : IfErr r (λ stop. (place : ℕ) × (stop ≡ Schedule place) × StopsAt left d place) → IfErr r (λ stop. (place : ℕ) × (stop ≡ Schedule place) × StopsHere (by_letters steps) d place)
   stops_as stops = if_err r (λ stop is. (is.0, is.1, letters_stop steps d is.0 (subst (λ (l : List Step). StopsAt l d is.0) at is.2))) stops
@@ -240,10 +242,10 @@ none_left d dead h = by d.place.lives refl
     by (life ∷ more) e = let x = rw (dead, e) at h in cc
 
 pub some_left : (d : DeskView) → is_ready_at d Begin ≡ true → d.place.lives ≢ []
-some_left d h = not_nil d.place.lives (both (not (stands d.core)) (not (is_nil d.place.lives)) h).1
+some_left d h = not_nil d.place.lives (and_parts (not (stands d.core)) (not (is_nil d.place.lives)) h).1
 
 pub none_stands : (d : DeskView) → is_ready_at d Begin ≡ true → stands d.core ≡ false
-none_stands d h = is_not (stands d.core) (both (not (stands d.core)) (not (is_nil d.place.lives)) h).0
+none_stands d h = not-true (stands d.core) (and_parts (not (stands d.core)) (not (is_nil d.place.lives)) h).0
 
 -- after the last life none is left
 pub none_after : (d : DeskView) → (stands d.core ≡ false) ⊎ IsOver d → is_ready_at d Begin ≡ false → d.place.lives ≡ []

@@ -149,7 +149,7 @@ kept_stays opening log e h =
     ap (λ (s : Manager). s.kept) (fold_push after (opening_state opening) log e) ∙ kept_where e (state_after opening log) (state_after opening log).life h
 
 -- and what awaits first does so still
-first_more : (ops : List Op) (more op : Op) → slice_get ops 0 ≡ Some op → slice_get (ops ++ more ∷ []) 0 ≡ Some op
+pub first_more : (ops : List Op) (more op : Op) → slice_get ops 0 ≡ Some op → slice_get (ops ++ more ∷ []) 0 ≡ Some op
 first_more [] more op h = cc
 first_more (one ∷ ops) more op h = h
 

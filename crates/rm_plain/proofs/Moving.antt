@@ -1,5 +1,5 @@
 -- The moves of a desk, each a longer run.
-use Rattle.std.proofs.Common.{◌≡◌, ◌≢◌, ℕ, ◌<◌, ◌≤◌, List, [], ◌∷◌, ◌++◌, Bool, true, false, not, ◌&&◌, Some, None, Option, Ok, Err, Result, length, refl, sym, ◌∙◌, ap, subst, arith}
+use Rattle.std.proofs.Common.{◌≡◌, ◌≢◌, ℕ, ◌<◌, ◌≤◌, List, [], ◌∷◌, ◌++◌, Bool, true, false, ◌&&◌, Some, None, Option, Ok, Err, Result, length, refl, sym, ◌∙◌, ap, subst, arith}
 use Rattle.std.specs.Prelude.{OnErr, OnOk, is_ok, slice_get}
 use Rattle.std.proofs.lemmas.List.{append-nil}
 use Rattle.std.proofs.lemmas.List.Sums.{fold_push}
@@ -16,8 +16,8 @@ use Rattle.rm_types.specs.declared.scripts.Life.{Life}
 use Rattle.rm_types.specs.declared.scripts.Segment.{Segment}
 use Rattle.rm_types.specs.declared.settings.Settings.{Settings}
 use Rattle.rm_types.specs.Lanes.{lane_of_entry}
-use Rattle.rm_types.specs.Lists.{is_nil}
 use Rattle.rm_types.specs.Records.{Records}
+use Rattle.rm_types.proofs.TestLemmas.{never_nil, first_of}
 use Rattle.rm_disk.specs.declared.fallen.Fallen.{Fallen}
 use Rattle.rm_model.specs.State.{LifeState, Manager, opening_state}
 use Rattle.rm_model.specs.Changes.{after, after_where, kept_after_landing}
@@ -31,25 +31,12 @@ use Rattle.rm_desk.specs.View.{DeskView}
 use Rattle.rm_desk.specs.Lanes.{HasNoWork, IsStep}
 use Rattle.rm_desk.specs.Runs.{HasBlown, IsLast, IsPlaceSound as IsDeskSound, DescribesState}
 use Rattle.rm_desk.specs.Effects.{Answers, LifeBegins, Blows, LaneEffect, EffectBy, IsEntryOf}
-use Rattle.rm_desk.proofs.Longer.{not_empty}
 use Rattle.rm_plain.specs.Falls.{fall, falls_at}
 use Rattle.rm_plain.specs.Goes.{ExtendsRun, ExtendsRunOver, IsRun}
 use Rattle.rm_plain.specs.Keeping.{IsBegun, IsUnkept, blown_in, has_blown}
 use Rattle.rm_plain.specs.Order.{May, Order}
 use Rattle.rm_plain.proofs.Longer.{IsQuiet, falls_none, first_stays, hand_quiet, is_plain, kept_stays, main_quiet, no_down, one_more, plain_stands, sched_quiet}
 use Rattle.rm_plain.proofs.Stored.{holds_on}
-
-pub is_not : (b : Bool) → not b ≡ true → b ≡ false
-is_not true h = cc
-is_not false h = refl
-
-pub both : (a b : Bool) → (a && b) ≡ true → (a ≡ true) × (b ≡ true)
-both true b h = (refl, h)
-both false b h = cc
-
-pub not_nil : {X : Type 0} (xs : List X) → not (is_nil xs) ≡ true → xs ≢ []
-not_nil [] h = cc
-not_nil (x ∷ xs) h = λ e. cc
 
 -- what is said of a move that was made, or refused
 pub ok_holds : {A E : Type 0} {P : Type 0} (r : Result A E) → is_ok r ≡ true → OnOk r P → P
@@ -64,18 +51,6 @@ err_holds (Err x) e p = p
 pub no_err : {A E : Type 0} {P : Type 0} (r : Result A E) → ((e : E) → r ≡ Err e → ⊥) → OnOk r P → P
 no_err (Ok x) none p = p
 no_err (Err x) none p = absurd (none x refl)
-
-pub on_ok : {A E : Type 0} {P : Type 0} (r : Result A E) → P → OnOk r P
-on_ok (Ok x) p = p
-on_ok (Err x) p = tt
-
-pub on_err : {A E : Type 0} {P : Type 0} (r : Result A E) → P → OnErr r P
-on_err (Ok x) p = tt
-on_err (Err x) p = p
-
-pub ok_map : {X E A B : Type 0} (r : Result X E) → (A → B) → OnOk r A → OnOk r B
-ok_map (Ok x) f a = f a
-ok_map (Err e) f a = tt
 
 pub both_ok : {X E A B C : Type 0} (r : Result X E) → (A → B → C) → OnOk r A → OnOk r B → OnOk r C
 both_ok (Ok x) f a b = f a b
@@ -119,7 +94,7 @@ module _ {order : Order} (kind : Entry → Type 0) (blew : Bool) (lane : Lane) (
         settings = does.goes.settings;
         began = does.goes.began;
         lives = fewer d.place.lives next.place.lives lives;
-        some = λ was. rw does.adds.added (not_empty d.core.log does.adds.entry);
+        some = λ was. rw does.adds.added (never_nil d.core.log does.adds.entry);
         lawful = λ opening over k. does.goes.lawful opening over k;
         run = λ opening script fallen over run.
             one_more opening script fallen more d next does.adds.entry run (does.goes.run opening script over run.goes) does.goes.settings does.goes.began (may.keeps opening script does.adds.entry run.goes does.of_lane) does.adds.added (down opening run.goes.stands) (falls opening run.goes.stands);
@@ -164,7 +139,7 @@ quiet_works lane d next does tells told chosen quiet =
       blown = does.blown;
     }
 
-close_without : (sender : Sender) (segments : List Segment) → close_left (segments_without sender segments) ≡ close_left segments
+pub close_without : (sender : Sender) (segments : List Segment) → close_left (segments_without sender segments) ≡ close_left segments
 close_without sender [] = refl
 close_without sender (segment ∷ more) = refl
 
@@ -295,11 +270,6 @@ module _ {order : Order} (d next : DeskView) (does : LaneEffect End d next) (may
         grows = does.adds.added;
       }
 
--- the first of a list
-first_of : {X : Type 0} (xs : List X) (x : X) → slice_get xs 0 ≡ Some x → (more : List X) × (xs ≡ x ∷ more)
-first_of [] x h = cc
-first_of (one ∷ more) x h = let same : one ≡ x = cc in (more, ap (λ y. y ∷ more) same)
-
 -- A LIFE BEGINS
 
 -- over what the last one left
@@ -328,7 +298,7 @@ module _ (tree : Records) (d next : DeskView) (begins : LifeBegins tree d next) 
         settings = begins.goes.settings;
         began = begins.goes.began;
         lives = let less = begin_fewer in omega (arith, less);
-        some = λ was. rw begins.adds.added (not_empty d.core.log begins.adds.entry);
+        some = λ was. rw begins.adds.added (never_nil d.core.log begins.adds.entry);
         lawful = λ opening over k. begins.goes.lawful opening over k;
         run = λ opening script fallen over run.
             one_more opening script fallen [] d next begins.adds.entry run (begins.goes.run opening script over run.goes) begins.goes.settings begins.goes.began (may.keeps opening script begins.adds.entry run.goes (ap lane_of_entry begins.adds.of_kind.2)) begins.adds.added
@@ -360,5 +330,5 @@ module _ (tree : Records) (d next : DeskView) (begins : LifeBegins tree d next) 
             ap has_blown (begin_state opening) ∙ opened_unblown s s.life (landed_over d.core tree) tree.next_epoch (stamp_of life tree.stamp) ((tells opening k).none begins.stood);
         more = begins.adds.entry ∷ [];
         grows = begins.adds.added;
-        some = rw begins.adds.added (not_empty d.core.log begins.adds.entry);
+        some = rw begins.adds.added (never_nil d.core.log begins.adds.entry);
       }

@@ -4,9 +4,9 @@ use Rattle.std.specs.Cmp.Lexicographic.{nat_list_eq_equiv}
 use Rattle.std.specs.HashMap.{HashMap, get_by, UpdatesBy}
 use Rattle.std.specs.List.{position_or_len}
 use Rattle.std.specs.Map.{KeepsOthers, IsKeyTest, AreApart, lookup}
-use Rattle.std.specs.Option.{option_or, is_some}
+use Rattle.std.specs.Option.{option_or}
 use Rattle.std.specs.Str.{bytes_eq}
-use Rattle.std.proofs.lemmas.Bool.{false≢true, cond-true, cond-false, cases_Bool, cases_lt, lt-ltb, le-ltb, eq-eqb, ne_eqb}
+use Rattle.std.proofs.lemmas.Bool.{cond-true, cond-false, cases_Bool, cases_lt, lt-ltb, le-ltb, eq-eqb, ne_eqb}
 use Rattle.std.proofs.lemmas.List.{take_more, length_push, length-take-le}
 use Rattle.std.proofs.lemmas.List.Folds.{position_or_len_push}
 use Rattle.std.proofs.lemmas.List.Sums.{prefix_len-le-length}
@@ -20,10 +20,6 @@ option_or-none None = refl
 option_or-none (Some x) = refl
 
 -- nothing is there
-pub none_from_is_some : {X : Type 0} (o : Option X) → is_some o ≡ false → o ≡ None
-none_from_is_some None is = refl
-none_from_is_some (Some x) is = absurd (false≢true (sym is))
-
 other_entries : {K X : Type 0} (eq : K → K → Bool) (test : K → Bool) (old new : List (K × X)) → KeepsOthers eq test old new → (other : K → Bool) → IsKeyTest eq other → AreApart test other → lookup other new ≡ lookup other old
 unfolding KeepsOthers
 other_entries eq test old new h = h

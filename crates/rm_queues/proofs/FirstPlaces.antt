@@ -10,18 +10,10 @@ use Rattle.std.proofs.lemmas.Option.{slice_get-get_or, none-some, same_Some}
 use Rattle.std.proofs.lemmas.Slice.Eq.{bytes_eq-Decides}
 use Rattle.rm_types.specs.declared.settings.QueueSpec.{QueueSpec}
 use Rattle.rm_types.specs.Rights.{queue_of, is_queue}
+use Rattle.rm_types.proofs.TestLemmas.{found_passes, find_none}
 use Rattle.rm_queues.specs.Places.{first_in, AreFirstPlaces}
 use Rattle.rm_queues.specs.declared.places.Places.{Places}
 use Rattle.rm_queues.specs.Trees.{place_of, first_place}
-
--- nothing is found where no item passes
-find-none : {X : Type 0} (test : X → Bool) (xs : List X) → list_any test xs ≡ false → find test xs ≡ None
-find-none test [] none = refl
-find-none test (x ∷ xs) none =
-    elim (test x) as (λ b. (b || list_any test xs) ≡ false → cond b (Some x) (find test xs) ≡ None) [
-      | true ↦ λ never. absurd (false≢true (sym never))
-      | false ↦ λ rest. find-none test xs rest
-    ] none
 
 -- a list with an item that passes has a first one
 position_or_len-within : {X : Type 0} (test : X → Bool) (xs : List X) → list_any test xs ≡ true → position_or_len test xs < length xs
@@ -41,15 +33,6 @@ position_or_len-past test (x ∷ xs) none =
       | false ↦ λ later. let rest = position_or_len-past test xs later in omega (arith, rest)
     ] none
 
--- an item that is there is one that passes
-passes-find : {X : Type 0} (test : X → Bool) (xs : List X) (x : X) → find test xs ≡ Some x → test x ≡ true
-passes-find test [] x found = absurd (none-some x found)
-passes-find test (y ∷ xs) x found =
-    elim (test y) as (λ b. test y ≡ b → cond b (Some y) (find test xs) ≡ Some x → test x ≡ true) [
-      | true ↦ λ here is. ap test (sym (same_Some y x is)) ∙ here
-      | false ↦ λ here is. passes-find test xs x is
-    ] refl found
-
 -- the queue at a place is the first of its name
 pub record IsFirstPlace (queues : List QueueSpec) (place : ℕ) (queue : QueueSpec) : Type 0 where
   pub at : slice_get queues place ≡ Some queue
@@ -65,7 +48,7 @@ place_of-none queues name none = cond-false _ (Some (position_or_len (is_named n
 
 -- and no queue
 pub queue_of-none : (queues : List QueueSpec) (name : List ℕ) → is_queue queues name ≡ false → queue_of queues name ≡ None
-queue_of-none queues name none = find-none (is_named name) queues none
+queue_of-none queues name none = find_none (is_named name) queues none
 
 -- a name in the tree has a place
 pub place_of-some : (queues : List QueueSpec) (name : List ℕ) → is_queue queues name ≡ true → place_of queues name ≡ Some (position_or_len (is_named name) queues)
@@ -91,7 +74,7 @@ find-at_place test xs place x is at = find_at test xs ∙ ap (slice_get xs) (of_
 
 -- where there is no place, nothing is found
 pub find-no_place : {X : Type 0} (test : X → Bool) (xs : List X) → position test xs ≡ None → find test xs ≡ None
-find-no_place test xs is = ⊎_elim (λ some. absurd (none-some _ (sym is ∙ at_some some))) (find-none test xs) (cases_Bool (list_any test xs))
+find-no_place test xs is = ⊎_elim (λ some. absurd (none-some _ (sym is ∙ at_some some))) (find_none test xs) (cases_Bool (list_any test xs))
   where
     at_some : list_any test xs ≡ true → position test xs ≡ Some (position_or_len test xs)
     at_some some = cond-true _ (Some (position_or_len test xs)) None (lt-ltb _ (length xs) (position_or_len-within test xs some))
@@ -138,6 +121,6 @@ sought queues names = by_find (find (is_queue queues) names) refl
     by_find : (found : Option (List ℕ)) → find (is_queue queues) names ≡ found → Sought queues names
     by_find None is = NotThere is (ap (option_and_then (place_of queues)) is)
     by_find (Some name) is =
-        let place = place_of-some queues name (passes-find (is_queue queues) names name is) in
+        let place = place_of-some queues name (found_passes (is_queue queues) names name is) in
         let first = IsFirstPlace-from_place queues name _ place in
         There (position_or_len (is_named name) queues) first.0 first.1 (is ∙ ap Some (sym first.2)) (ap (option_and_then (place_of queues)) is ∙ place)

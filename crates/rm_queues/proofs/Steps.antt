@@ -18,13 +18,3 @@ steps_left (Some name) = 1 + length name
 -- what is known of a name's parent, or of its want
 abbrev pub ParentIs : List ℕ → Option (Bor (List ℕ)) → Type 0
 ParentIs name parent = MatchOption parent (parents_of name ≡ []) (λ one. IsParent name one.now)
-
--- the parents are the path from the parent on
-pub path_from-parent : (name : List ℕ) (parent : Option (Bor (List ℕ))) → ParentIs name parent → path_from (option_copied parent) ≡ parents_of name
-path_from-parent name None is = sym is
-path_from-parent name (Some parent) is = sym is.path
-
--- each step leaves fewer
-pub steps_left-parent : (name : List ℕ) (parent : Option (Bor (List ℕ))) → ParentIs name parent → steps_left (option_copied parent) < 1 + length name
-steps_left-parent name None is = omega arith
-steps_left-parent name (Some parent) is = omega (arith, is.shorter)

@@ -73,10 +73,6 @@ admits_from-there : (op : AclOp) (settings : Settings) (user : List ℕ) (names 
 admits_from-there op settings user names place queue at is =
     ap (path_admits op settings user) (ap (option_and_then (slice_get settings.queues)) is ∙ at)
 
--- where they have none, no list does
-admits_from-none : (op : AclOp) (settings : Settings) (user : List ℕ) (names : List (List ℕ)) → first_place settings.queues names ≡ None → admits_from op settings user names ≡ false
-admits_from-none op settings user names is = ap (path_admits op settings user) (ap (option_and_then (slice_get settings.queues)) is)
-
 -- a name in the tree is the first along its path
 in_tree : (op : AclOp) (settings : Settings) (user name : List ℕ) (names : List (List ℕ)) → is_queue settings.queues name ≡ true
     → Sought settings.queues (name ∷ names) → admits_in op settings user (path_of name) ≡ admits_from op settings user (name ∷ names)

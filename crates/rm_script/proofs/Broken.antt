@@ -48,12 +48,3 @@ other faults.LifeGoesOn limit is e = cc
 other (faults.NoLife form) limit is e = cc
 other faults.Unclosed limit is e = cc
 other (faults.Untold form) limit is e = cc
-
--- none is broken, and another fault is told
-pub told_other : (fault : ScriptFault) (line : ℕ) (bytes : List ℕ) → IsOtherFault fault → broken_limit line bytes ≡ None → (limit : Limit) → (fault ≡ faults.Limit limit) ↔ (broken_limit line bytes ≡ Some limit)
-told_other fault line bytes is none limit = ((λ e. absurd (other fault limit is e)), (λ e. absurd (let both : None ≡ Some limit = sym none ∙ e in cc)))
-
--- one is, and it is told
-pub told_limit : (told : Limit) (line : ℕ) (bytes : List ℕ) → broken_limit line bytes ≡ Some told → (limit : Limit) → (faults.Limit told ≡ faults.Limit limit) ↔ (broken_limit line bytes ≡ Some limit)
-told_limit told line bytes broken limit =
-    ((λ e. broken ∙ ap Some (let same : told ≡ limit = cc in same)), (λ e. ap faults.Limit (let same : told ≡ limit = same_Some told limit (sym broken ∙ e) in same)))

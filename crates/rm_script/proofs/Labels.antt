@@ -3,11 +3,12 @@ use Rattle.std.proofs.Common.{◌≡◌, ℕ, Bool, true, false, cond, List, ◌
 use Rattle.std.specs.Str.{bytes_eq}
 use Rattle.std.proofs.lemmas.Option.{cond_some, same_Some}
 use Rattle.std.proofs.lemmas.List.{take_at, drop_at, take-append-drop}
+use Rattle.rm_types.proofs.TestLemmas.{text_itself, same_text}
 use Rattle.rm_script.specs.declared.errors.LineError.{LineError}
 use Rattle.rm_script.specs.declared.errors.LineError.TheVariants.{Refused, Memory}
 use Rattle.rm_script.specs.Results.{◌>>=◌, IsOf, Finds}
 use Rattle.rm_script.specs.Words.{after_label}
-use Rattle.rm_script.proofs.Parts.{is_text, is_itself, not_some}
+use Rattle.rm_script.proofs.Parts.{not_some}
 
 -- ---- steps that may fail
 
@@ -28,12 +29,12 @@ not_found false x e = refl
 pub after_label_is : (label word text : List ℕ) → after_label label word ≡ Some text → word ≡ label ++ text
 after_label_is label word text e =
     let parts = cond_some (bytes_eq (take (length label) word) label) (drop (length label) word) text e in
-    let front : take (length label) word ≡ label = is_text (take (length label) word) label parts.0 in
+    let front : take (length label) word ≡ label = same_text (take (length label) word) label parts.0 in
     sym (take-append-drop (length label) word) ∙ ap (λ (t : List ℕ). t ++ drop (length label) word) front ∙ ap (λ (t : List ℕ). label ++ t) parts.1
 
 pub after_label-label : (label text : List ℕ) → after_label label (label ++ text) ≡ Some text
 after_label-label label text =
-    rw (take_at label text (length label) refl, drop_at label text (length label) refl, is_itself label) refl
+    rw (take_at label text (length label) refl, drop_at label text (length label) refl, text_itself label) refl
 
 -- what is found after the label is found of the word
 pub labelled : {X : Type 0} (written : X → List ℕ) (Fits : X → Type 0) (label word text : List ℕ) (answer : Result X LineError) → after_label label word ≡ Some text → Finds answer (IsOf written Fits text)

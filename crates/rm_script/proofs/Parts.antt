@@ -1,9 +1,9 @@
 -- Parts of what is read: where one isn't found, neither is the whole.
-use Rattle.std.proofs.Common.{◌≡◌, ℕ, true, false, List, ◌∷◌, Option, Some, None, Result, Ok, Err, refl, sym, ap, ◌∙◌}
+use Rattle.std.proofs.Common.{◌≡◌, ℕ, true, false, List, ◌∷◌, Option, Some, None, Result, Ok, Err, sym, ap, ◌∙◌}
 use Rattle.std.specs.Prelude.{IsErrAnd}
 use Rattle.std.specs.Str.{bytes_eq}
 use Rattle.std.proofs.lemmas.Bool.{false≢true}
-use Rattle.std.proofs.lemmas.Slice.Eq.{bytes_eq-Decides}
+use Rattle.rm_types.proofs.TestLemmas.{text_itself}
 use Rattle.rm_script.specs.declared.errors.LineError.{LineError}
 use Rattle.rm_script.specs.declared.errors.LineError.TheVariants.{Refused, Memory}
 use Rattle.rm_script.specs.Results.{Finds, FindsNone}
@@ -20,14 +20,8 @@ not_some o y e f = absurd (let none : None ≡ Some y = sym e ∙ f in cc)
 
 -- ---- words
 
-pub is_text : (word text : List ℕ) → bytes_eq word text ≡ true → word ≡ text
-is_text word text e = (bytes_eq-Decides word text).0 e
-
-pub is_itself : (text : List ℕ) → bytes_eq text text ≡ true
-is_itself text = (bytes_eq-Decides text text).1 refl
-
 pub differ : (a b : List ℕ) → bytes_eq a b ≡ false → a ≡ b → ⊥
-differ a b e same = false≢true (sym e ∙ ap (λ (word : List ℕ). bytes_eq word b) same ∙ is_itself b)
+differ a b e same = false≢true (sym e ∙ ap (λ (word : List ℕ). bytes_eq word b) same ∙ text_itself b)
 
 pub heads : {a b : List ℕ} {xs ys : List (List ℕ)} → a ∷ xs ≡ b ∷ ys → (a ≡ b) × (xs ≡ ys)
 heads e = (cc, cc)

@@ -1,6 +1,5 @@
 -- Operations of which none is stray have one record of each application at most.
-use Rattle.std.proofs.Common.{◌≡◌, ℕ, ◌+◌, ◌≤◌, Bool, true, false, List, [], ◌∷◌, ◌++◌, map, filter, fold, cond, count_by, not, Option, None, Some, is_none, refl, ap, subst, arith, if◌then◌else◌}
-use Rattle.std.proofs.lemmas.Bool.Decides.{nat_tests}
+use Rattle.std.proofs.Common.{◌≡◌, ℕ, ◌+◌, ◌≤◌, Bool, true, false, List, [], ◌∷◌, ◌++◌, map, filter, fold, cond, count_by, not, None, Some, is_none, refl, ap, subst, arith, if◌then◌else◌}
 use Rattle.std.proofs.lemmas.List.Sums.{sum_by-append, sum_by-cons}
 use Rattle.rm_types.specs.declared.ids.AppId.{AppId}
 use Rattle.rm_types.specs.declared.operations.Op.{Op}
@@ -8,6 +7,8 @@ use Rattle.rm_types.specs.declared.operations.Op.TheVariants.{Epoch, App, Attemp
 use Rattle.rm_types.specs.declared.records.AppRecord.{AppRecord}
 use Rattle.rm_types.specs.Ids.{is_app}
 use Rattle.rm_types.specs.Records.{Records, no_records, records, recorded, record_of, with_record, fits_records, with_end, stray, stray_from}
+use Rattle.rm_types.proofs.TestLemmas.{none_from_is_none}
+use Rattle.rm_types.proofs.IdLemmas.{same_app}
 
 -- how many records an application has
 abbrev pub count_of : AppId → List AppRecord → ℕ
@@ -15,13 +16,6 @@ count_of id apps = count_by (λ app. is_app app.id id) apps
 
 count_front : (id : AppId) (app : AppRecord) (apps : List AppRecord) → count_of id (app ∷ apps) ≡ cond (is_app app.id id) 1 0 + count_of id apps
 count_front id app apps = sum_by-cons (λ (a : AppRecord). cond (is_app a.id id) 1 0) app apps
-
-same_id : (a b : AppId) → is_app a b ≡ true → a ≡ b
-same_id a b e = grind (arith, nat_tests)
-
-none_of : {X : Type 0} (o : Option X) → is_none o ≡ true → o ≡ None
-none_of None is = refl
-none_of (Some x) is = absurd cc
 
 -- an application whose record isn't found has none
 not_found : (apps : List AppRecord) (id : AppId) → record_of apps id ≡ None → count_of id apps ≡ 0
@@ -70,7 +64,7 @@ one_new apps app none one id = by (is_app app.id id) refl
   where
     by : (b : Bool) → is_app app.id id ≡ b → count_of id (apps ++ app ∷ []) ≤ 1
     by true e =
-        let absent = not_found apps id (subst (λ (i : AppId). record_of apps i ≡ None) (same_id app.id id e) (none_of (record_of apps app.id) none)) in
+        let absent = not_found apps id (subst (λ (i : AppId). record_of apps i ≡ None) (same_app app.id id e) (none_from_is_none (record_of apps app.id) none)) in
         let more = rw e at (count_more apps app id) in
         omega (arith, absent, more)
     by false e =

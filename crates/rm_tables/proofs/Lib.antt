@@ -3,4 +3,3 @@ pub mod Inserted
 pub mod Placed
 pub mod Stays
 pub mod Once
-pub mod Posted

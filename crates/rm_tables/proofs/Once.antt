@@ -1,20 +1,14 @@
 -- A loop that takes each of a list once is the judge's list.
-use Rattle.std.proofs.Common.{◌≡◌, List, [], ◌∷◌, ◌++◌, Bool, true, false, not, ◌&&◌, ◌||◌, filter, fold, refl, sym, ◌∙◌, ap, append-nil, append_assoc, subst, arith}
+use Rattle.std.proofs.Common.{◌≡◌, List, [], ◌∷◌, ◌++◌, Bool, true, false, not, ◌&&◌, ◌||◌, filter, fold, refl, sym, ◌∙◌, ap, append-nil, append_assoc}
 use Rattle.std.specs.Prelude.{if◌then◌else◌}
 use Rattle.std.proofs.lemmas.Bool.{false≢true}
-use Rattle.std.proofs.lemmas.Bool.Decides.{nat_tests}
 use Rattle.std.proofs.lemmas.List.Folds.{list_any-append}
 use Rattle.std.proofs.lemmas.List.Elements.{filter_agree}
 use Rattle.rm_types.specs.declared.ids.ContainerId.{ContainerId}
 use Rattle.rm_types.specs.Ids.{is_container}
+use Rattle.rm_types.proofs.IdLemmas.{container_back, same_container}
 use Rattle.rm_model.specs.Facts.{has_container}
 use Rattle.rm_model.specs.Containers.{once}
-
-same_container : (a b : ContainerId) → is_container a b ≡ true → a ≡ b
-same_container a b h = grind (arith, nat_tests)
-
-container-refl : (a : ContainerId) → is_container a a ≡ true
-container-refl a = grind (arith, nat_tests)
 
 -- the loop's step: one that passes and isn't there yet is taken
 abbrev pub take_one : (ContainerId → Bool) → List ContainerId → ContainerId → List ContainerId
@@ -37,15 +31,6 @@ there_by out x y true false e f h = let g : has_container out y ≡ true = rw (s
 there_by out x y false c e f h = rw e refl
 
 -- where it comes to be there
-both_ways : (x y : ContainerId) → is_container x y ≡ is_container y x
-both_ways x y = by_test (is_container x y) (is_container y x) refl refl
-  where
-    by_test : (b c : Bool) → is_container x y ≡ b → is_container y x ≡ c → is_container x y ≡ is_container y x
-    by_test true true e f = e ∙ sym f
-    by_test false false e f = e ∙ sym f
-    by_test true false e f = let g : is_container x x ≡ false = subst (λ (z : ContainerId). is_container z x ≡ false) (sym (same_container x y e)) f in absurd (false≢true (sym g ∙ container-refl x))
-    by_test false true e f = let g : is_container x x ≡ false = subst (λ (z : ContainerId). is_container x z ≡ false) (same_container y x f) e in absurd (false≢true (sym g ∙ container-refl x))
-
 pushed_by : (a b : Bool) → not (a || (b || false)) ≡ (not b && not a)
 pushed_by true true = refl
 pushed_by true false = refl
@@ -56,7 +41,7 @@ now_there : (out : List ContainerId) (x y : ContainerId) → not (has_container 
 now_there out x y =
     ap (λ (b : Bool). not b) (list_any-append (λ one. is_container one y) out (x ∷ []))
     ∙ pushed_by (has_container out y) (is_container x y)
-    ∙ ap (λ (b : Bool). not b && not (has_container out y)) (both_ways x y)
+    ∙ ap (λ (b : Bool). not b && not (has_container out y)) (container_back x y)
 
 taken_from : (test : ContainerId → Bool) (ids out : List ContainerId) → fold (take_one test) out ids ≡ out ++ filter (λ y. not (has_container out y)) (once (filter test ids))
 taken_from test [] out = sym (append-nil out)

@@ -1,5 +1,5 @@
 -- Records at their places: none before one is of its application, where no two are of one.
-use Rattle.std.proofs.Common.{◌≡◌, ℕ, ◌+◌, ◌-◌, suc, zero, List, [], ◌∷◌, ◌++◌, Bool, true, false, None, Some, length, slice_get, take, cond, refl, ap, sym, ◌∙◌, arith, append-nil}
+use Rattle.std.proofs.Common.{◌≡◌, ℕ, ◌+◌, ◌-◌, suc, zero, List, [], ◌∷◌, ◌++◌, Bool, true, false, None, Some, slice_get, take, cond, refl, ap, sym, ◌∙◌, arith, append-nil}
 use Rattle.std.specs.Prelude.{is_none, is_some}
 use Rattle.std.specs.List.{flat_map}
 use Rattle.std.proofs.lemmas.List.Concat.{flat_map-append}
@@ -7,19 +7,11 @@ use Rattle.std.proofs.lemmas.List.Sums.{sum_by-append, sum_by-cons}
 use Rattle.std.proofs.lemmas.Bool.{false≢true}
 use Rattle.rm_types.specs.declared.ids.AppId.{AppId}
 use Rattle.rm_types.specs.declared.records.AppRecord.{AppRecord}
-use Rattle.rm_types.specs.declared.records.AttemptRecord.{AttemptRecord}
 use Rattle.rm_types.specs.Ids.{is_app}
-use Rattle.rm_types.specs.Records.{last_attempt, record_of}
+use Rattle.rm_types.specs.Records.{record_of}
 use Rattle.rm_tree.specs.Numbers.{AreApart}
 use Rattle.rm_tables.specs.Opening.{going_in, recovered_row, recovered_rows}
 use Rattle.rm_tables.specs.Rows.{slot_of}
-
-pub last_is : (attempts : List AttemptRecord) → last_attempt attempts ≡ slice_get attempts (length attempts - 1)
-last_is [] = refl
-last_is (x ∷ []) = refl
-last_is (x ∷ next ∷ more) =
-    let e : length (x ∷ next ∷ more) - 1 ≡ suc (length (next ∷ more) - 1) = omega arith in
-    rw e (last_is (next ∷ more))
 
 -- a record that stands somewhere is found
 there : (apps : List AppRecord) (place : ℕ) (app : AppRecord) (id : AppId) → slice_get apps place ≡ Some app → is_app app.id id ≡ true → is_some (record_of apps id) ≡ true

@@ -1,1 +1,4 @@
+pub mod EndLemmas
 pub mod Examples
+pub mod IdLemmas
+pub mod TestLemmas

@@ -3,6 +3,7 @@ use Rattle.std.proofs.lemmas.Result.{err_from_is_err_and}
 use Rattle.std.specs.Prelude.{is_ok}
 use Rattle.rm_types.specs.declared.messages.Lane.TheVariants.{End}
 use Rattle.rm_types.specs.declared.scripts.Close.TheVariants.{Settle}
+use Rattle.rm_types.proofs.TestLemmas.{on_ok_map, on_ok}
 use Rattle.rm_model.specs.Place.{close_left}
 use Rattle.rm_core.specs.Words.{is_blown}
 use Rattle.rm_desk.specs.Effects.{LaneEffect}
@@ -11,7 +12,7 @@ use Rattle.rm_desk.specs.View.{DeskView}
 use Rattle.rm_plain.specs.declared.halts.Halt.{Halt}
 use Rattle.rm_plain.specs.Keeping.{HaltsBy, armed_by}
 use Rattle.rm_plain.specs.Schedule.{order_of}
-use Rattle.rm_plain.proofs.Moving.{err_holds, ok_holds, ok_map, on_ok, settle_goes, settling_unblown}
+use Rattle.rm_plain.proofs.Moving.{err_holds, ok_holds, settle_goes, settling_unblown}
 use Rattle.rm_plain.proofs.Ending.{settles_on}
 use Rattle.rm_plain.proofs.Halting.{halts_still, halts_unkept, if_memory}
 use Rattle.rm_plain.proofs.lives.settle_on.Goals as goal
@@ -45,7 +46,7 @@ returns-clause-on g c =
     let made : is_ok c.step.result ≡ true = sym c.memory_only.ensures ∙ rw c.in_ok-memory_only.was refl in
     let does = ok_holds c.step.result made c.step.ensures.does in
     let settled = settle_goes d c.step.new.self does c.law.ensures.tells c.law-2.ensures.tells c.requires.chosen c.requires.settles in
-    ok_map c.arm.result (settles_on g.D.Disk.view d c.step.new.self c.args.store.now c.arm.new.store does settled.0 settled.1 c.requires.settles c.arm.ensures.inner c.arm.ensures.refused) c.arm.ensures.serves
+    on_ok_map c.arm.result (settles_on g.D.Disk.view d c.step.new.self c.args.store.now c.arm.new.store does settled.0 settled.1 c.requires.settles c.arm.ensures.inner c.arm.ensures.refused) c.arm.ensures.serves
 
 pub returns-clause-halts : goal.returns-clause-halts
 returns-clause-halts g c =

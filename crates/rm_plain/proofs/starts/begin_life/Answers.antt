@@ -3,13 +3,14 @@ use Rattle.std.proofs.lemmas.Result.{err_from_is_err_and}
 use Rattle.std.specs.Prelude.{is_ok}
 use Rattle.rm_types.specs.declared.operations.Op.{Op}
 use Rattle.rm_types.specs.Lanes.{lane_of_entry}
+use Rattle.rm_types.proofs.TestLemmas.{on_ok_map, on_err, on_ok}
 use Rattle.rm_model.specs.Lawful.{state_after}
 use Rattle.rm_store.specs.Store.{seen}
 use Rattle.rm_core.specs.Moves.{IsLeft}
 use Rattle.rm_plain.specs.declared.halts.Halt.{Halt}
 use Rattle.rm_plain.specs.Keeping.{HaltsOver, IsFoundOn}
 use Rattle.rm_plain.proofs.Halting.{goes_any, halts_same, if_memory}
-use Rattle.rm_plain.proofs.Moving.{begin_fewer, begin_goes, begin_kept, err_holds, goes_same, ok_holds, ok_map, on_err, on_ok}
+use Rattle.rm_plain.proofs.Moving.{begin_fewer, begin_goes, begin_kept, err_holds, goes_same, ok_holds}
 use Rattle.rm_plain.proofs.Starting.{begins, begun_halts}
 use Rattle.rm_plain.proofs.starts.begin_life.Goals as goal
 
@@ -44,7 +45,7 @@ pub returns-clause-begun : goal.returns-clause-begun
 returns-clause-begun g c =
     let made : is_ok c.begin.result ≡ true = sym c.memory_only.ensures ∙ rw c.in_ok-memory_only.was refl in
     let begun = ok_holds c.begin.result made c.begin.ensures.begins in
-    ok_map c.arm.result
+    on_ok_map c.arm.result
     (begins g.D.Disk.view c.args.d.now c.begin.new.self c.args.store.now c.arm.new.store c.args.tree (begin_kept c.args.tree c.args.d.now c.begin.new.self begun c.law.ensures.tells)
     begun.standing c.arm.ensures.inner c.arm.ensures.refused)
     c.arm.ensures.serves

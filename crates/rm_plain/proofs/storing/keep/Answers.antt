@@ -1,6 +1,7 @@
 use Rattle.std.proofs.Common.{◌≡◌, ◌++◌, ◌∷◌, [], Bool, true, false, Option, Err, refl, sym, ◌∙◌, ap, subst}
 use Rattle.std.proofs.lemmas.Result.{err_from_is_err_and}
 use Rattle.std.specs.Prelude.{is_ok}
+use Rattle.std.proofs.lemmas.Option.{same_Some}
 use Rattle.rm_types.specs.declared.entries.Entry.{Entry}
 use Rattle.rm_types.specs.declared.entries.Entry.TheVariants.{Kept as KeptEntry}
 use Rattle.rm_types.specs.declared.operations.Op.{Op}
@@ -12,7 +13,6 @@ use Rattle.rm_store.specs.Store.{seen}
 use Rattle.rm_desk.specs.Runs.{HasBlown}
 use Rattle.rm_plain.specs.declared.halts.Halt.{Halt}
 use Rattle.rm_plain.proofs.Moving.{blown_goes, err_holds, kept_goes, no_err, ok_holds, told_blown}
-use Rattle.rm_plain.proofs.Choosing.{some_same}
 use Rattle.rm_plain.proofs.Stored.{blown_stores, op_stores}
 use Rattle.rm_plain.proofs.Ending.{fuse_kept}
 use Rattle.rm_plain.proofs.Halting.{append_halts, unlearned_halts}
@@ -101,7 +101,7 @@ returns-clause-stores g c = λ ops k has.
     let made : is_ok c.kept.result ≡ true = sym c.memory_only-2.ensures ∙ rw c.in_ok-memory_only-2.was refl in
     let does = ok_holds c.kept.result made c.kept.ensures.does in
     let op : Op = c.in-Some.op.now in
-    let same : does.adds.of_kind.0 ≡ op = some_same does.adds.of_kind.0 op (sym does.adds.of_kind.1 ∙ sym c.in-Some.ensures.op) in
+    let same : does.adds.of_kind.0 ≡ op = same_Some does.adds.of_kind.0 op (sym does.adds.of_kind.1 ∙ sym c.in-Some.ensures.op) in
     let s = state_after ops d.core.log in
     op_stores ops d.core c.kept.new.self.core op _ _ (unblown_life _ s.life c.in-Some.ensures.unblown ((c.law.ensures.tells ops k).life does.stood)) (c.in-Some.ensures.next ops k)
     (does.adds.added ∙ ap (λ (e : Entry). d.core.log ++ e ∷ []) (does.adds.of_kind.2 ∙ ap (λ (x : Op). KeptEntry x) same))

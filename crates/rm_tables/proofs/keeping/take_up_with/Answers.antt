@@ -1,5 +1,5 @@
 use Rattle.std.proofs.Common.{refl, sym, ◌∙◌}
-use Rattle.rm_tables.proofs.Posted.{on_ok_map}
+use Rattle.rm_types.proofs.TestLemmas.{on_ok_map}
 use Rattle.rm_tables.proofs.keeping.take_up_with.Goals as goal
 
 pub returns-clause-ok : goal.returns-clause-ok

@@ -1,5 +1,5 @@
 use Rattle.std.proofs.Common.{sym, ◌∙◌}
-use Rattle.rm_tables.proofs.Placed.{last_is}
+use Rattle.rm_types.proofs.EndLemmas.{last_is}
 use Rattle.rm_tables.proofs.opening.last_attempt.Goals as goal
 
 pub returns : goal.returns

@@ -1,8 +1,9 @@
 use Rattle.std.proofs.Common.{Some, None, cond, sym, ap, ◌∙◌}
 use Rattle.std.specs.Option.{option_or}
 use Rattle.std.specs.Str.{bytes_eq}
+use Rattle.rm_types.proofs.TestLemmas.{none_from_is_some}
 use Rattle.rm_queues.specs.Places.{place_in}
-use Rattle.rm_queues.proofs.Adding.{get_by-insert, none_from_is_some}
+use Rattle.rm_queues.proofs.Adding.{get_by-insert}
 use Rattle.rm_queues.proofs.places.Places.add.Goals as goal
 
 pub returns-in_ok-insert : goal.returns-in_ok-insert
