@@ -1,11 +1,13 @@
 //! Tests of the program as a whole: runs over files, an output and a device in memory, whose pages are compared with texts; runs by
-//! workers in threads; and the device that tells how far a run has come.
+//! workers in threads; calls over a store in a file; and the device that tells how far a run has come.
 //!
 //! They see public items of the crates below alone, and promise nothing.
 #![tactic(auto)]
 
 #[cfg(test)]
 mod attempt_tests;
+#[cfg(test)]
+mod bound_tests;
 #[cfg(test)]
 mod cases;
 #[cfg(test)]
@@ -14,6 +16,8 @@ mod crash_tests;
 mod device_tests;
 #[cfg(test)]
 mod example_tests;
+#[cfg(test)]
+mod file_tests;
 #[cfg(test)]
 mod hint_tests;
 #[cfg(test)]

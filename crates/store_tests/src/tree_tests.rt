@@ -1,8 +1,9 @@
 //! What no clause says: that calls succeed, and what a job's operations amount to, by hand.
 use crate::helpers::{wants, wants_words};
+use rm_folding::fold;
 use rm_tree::{Tree, TreeError};
 use rm_types::{
-    AppId, AppRecord, AttemptId, ContainerId, How, Op, Resource, Submission, Text, TextKind,
+    AppId, AppRecord, AttemptId, ContainerId, How, Items, Op, Resource, Submission, Text, TextKind,
 };
 use std::alloc::{AllocError, Global};
 use std::process::Abort;
@@ -288,4 +289,43 @@ fn a_removal_leaves_the_order_of_the_others(rt: HostRuntime) {
     );
     wants(&rt, is_found(&tree, numbered(6)));
     wants(&rt, tree.find(numbered(5)).is_none());
+}
+
+/// Two lives, and two jobs, of which one is removed.
+const TO_FOLD: [(AppId, Step); 7] = [
+    (NOBODY, Step::Life(1, 7)),
+    (JOB, Step::Submit),
+    (OTHER, Step::Submit),
+    (NOBODY, Step::Life(2, 9)),
+    (JOB, Step::End),
+    (JOB, Step::Remove),
+    (OTHER, Step::Start(1)),
+];
+
+/// The operations of these steps.
+fn ops_of<R: Abort>(rt: &R, alloc: Global, steps: &[(AppId, Step)]) -> Items<Op> {
+    let mut ops = Items::new(alloc);
+    for (app, step) in steps {
+        ops.push(op_of(rt, alloc, *app, *step)).expect(rt, "memory");
+    }
+    ops
+}
+
+/// What operations amount to, none of which is stray.
+fn tree_of<R: Abort>(rt: &R, alloc: Global, ops: &Items<Op>) -> Tree {
+    let mut tree = Tree::new(alloc);
+    for op in ops.as_slice() {
+        wants(rt, tree.apply(op).is_ok());
+    }
+    tree
+}
+
+#[test]
+fn a_folded_list_lacks_the_first_life_and_the_removed_job(rt: HostRuntime) {
+    let ops = ops_of(&rt, rt.alloc(), TO_FOLD.as_slice());
+    let left = fold(rt.alloc(), &ops).expect(&rt, "memory");
+    wants(&rt, left.len() == 3);
+    let tree = tree_of(&rt, rt.alloc(), &left);
+    wants(&rt, tree.next_epoch() == 2 && tree.stamp() == 9);
+    are_kept(&rt, rt.alloc(), &tree, "2: goes on - goes on;");
 }

@@ -20,14 +20,21 @@ fn container(attempt: AttemptId, seq: u64) -> ContainerId
     }
 }
 
-/// What comes of adding a granted container on a node.
-fn outcome(book: &mut Book, id: ContainerId, node: &Text, size: Resource) -> &'static str {
+/// What comes of adding a container on a node.
+fn outcome(
+    book: &mut Book,
+    id: ContainerId,
+    node: &Text,
+    size: Resource,
+    state: ContainerState,
+) -> &'static str {
     if book.free_of(node).is_none() {
         return "no capability";
     }
-    match book.add(id, node, size, ContainerState::Granted) {
+    match book.add(id, node, size, state) {
         Ok(()) => "ok",
         Err(BookError::Held) => "held",
+        Err(BookError::Ended) => "ended",
         Err(BookError::NoRoom) => "no room",
         Err(BookError::Memory) => "no memory",
     }
@@ -42,7 +49,8 @@ fn grant<R: Abort>(
     size: Resource,
     wanted: &str,
 ) {
-    wants_words(rt, outcome(book, id, node, size), wanted);
+    let found = outcome(book, id, node, size, ContainerState::Granted);
+    wants_words(rt, found, wanted);
 }
 
 fn is_free(book: &Book, node: &Text, memory_mb: u32, vcores: u32) -> bool {
@@ -133,6 +141,14 @@ fn two_attempts_share_a_node(rt: HostRuntime) {
     let third = container(SECOND, 2);
     grant(&rt, &mut book, third, &one, size(1025, 1), "no room");
     grant(&rt, &mut book, third, &one, size(1, 3), "no room");
+    let ended = outcome(
+        &mut book,
+        third,
+        &one,
+        size(1, 3),
+        ContainerState::Completed,
+    );
+    wants_words(&rt, ended, "ended");
     grant(&rt, &mut book, third, &one, size(1024, 2), "ok");
     wants(&rt, book.len() == 4);
 }
@@ -183,14 +199,8 @@ fn two_of_one<R: Abort>(rt: &R, alloc: Global, node: &Text) -> Book {
         size(1024, 1),
         "ok",
     );
-    wants(
-        rt,
-        book.set_state(container(FIRST, 2), ContainerState::Running),
-    );
-    wants(
-        rt,
-        !book.set_state(container(FIRST, 3), ContainerState::Running),
-    );
+    wants(rt, book.run(container(FIRST, 2)));
+    wants(rt, !book.run(container(FIRST, 3)));
     book
 }
 
@@ -396,6 +406,6 @@ fn what_nobody_was_told_of_is_granted(rt: HostRuntime) {
         size(1024, 1),
         "ok",
     );
-    book.set_state(container(FIRST, 1), ContainerState::Acquired);
+    wants(&rt, book.run(container(FIRST, 1)));
     is_granted(&rt, &book, FIRST, container(FIRST, 2));
 }
