@@ -41,13 +41,6 @@ pub same_first : (area payload : List ℕ) (next : ℕ) (rest : List ℕ) (g : �
 same_first area payload next rest g small is has =
     (same_sized payload (to_be_bytes w64 g) (next ∷ rest) (has.next ∷ has.rest) small (small_of g) (ap (λ (l : List ℕ). drop 1 l) (sym is ∙ has.is))).0
 
-pub other_size : (from end many : ℕ) (bytes : List ℕ) → FindsAt from end bytes (Some many) → many ≢ 8 → HasBadHead (region_of from end bytes)
-other_size from end many bytes (payload, next, rest, small, size, is) other = record {
-  rest = sized payload ++ next ∷ rest;
-  live = is;
-  never = λ g has. let same = ap length (same_first (region_of from end bytes) payload next rest g small is has) in other (omega (arith, size, same, size_of g));
-}
-
 pub no_generation : (from end : ℕ) (bytes read : List ℕ) → FindsAt from end bytes (Some 8) → from + 13 < end → read ≡ take 8 (drop (from + 5) bytes) → from_be_bytes w64 read ≡ 0 → ((g : ℕ) → g < 2 ^ 64 → from_be_bytes w64 (to_be_bytes w64 g) ≡ g) → HasBadHead (region_of from end bytes)
 no_generation from end bytes read (payload, next, rest, small, size, is) room reads zero_is back = record {
   rest = sized payload ++ next ∷ rest;

@@ -3,10 +3,8 @@ use Rattle.std.proofs.Common.{◌≡◌, ◌≢◌, ℕ, zero, suc, ◌-◌, ◌
 use Rattle.std.specs.Int.{w64, to_be_bytes, from_be_bytes}
 use Rattle.std.proofs.lemmas.Bool.{true≢false}
 use Rattle.std.proofs.lemmas.Nat.{from_be_bytes-to_be_bytes_8}
-use Rattle.rm_formats.specs.Device.{HasPayloads, IsDamagedAt, journal_records}
+use Rattle.rm_formats.specs.Device.{HasPayloads, IsDamagedAt}
 use Rattle.rm_journal.proofs.Payloads.{unique, sound_never}
-use Rattle.rm_journal.proofs.Walks.{begins}
-use Rattle.rm_areas.specs.Reading.{HasFront}
 use Rattle.rm_areas.specs.Areas.{area_of, head_of, IsShut, empty, closed, HasGeneration, IsOlder, shut, older, HasCurrent, HasLayout, HasBadHead, IsDamagedLayout, first_head, second_head, twice, later, area_from}
 use Rattle.rm_areas.proofs.Bytes.{holds_live, holds_shut}
 use Rattle.rm_areas.proofs.Heads.{same_first, small_of}
@@ -101,33 +99,3 @@ never_by half false g offset payloads bytes has (later true h one two low damage
 
 pub held_undamaged : (half : ℕ) (payloads : List (List ℕ)) (bytes : List ℕ) → HasLayout half payloads bytes → (offset : ℕ) → IsDamagedLayout half bytes offset → ⊥
 held_undamaged half payloads bytes has offset damage = never_by half has.second has.generation offset payloads bytes has.current damage
-
-begins_live : (given : List (List ℕ)) (payload : List ℕ) (next : ℕ) (rest : List ℕ) → (more : List ℕ) × (journal_records (given ++ payload ∷ []) ++ next ∷ rest ≡ 1 ∷ more)
-begins_live [] payload next rest = (drop 1 (journal_records (payload ∷ []) ++ next ∷ rest), refl)
-begins_live (p ∷ given) payload next rest = (drop 1 (journal_records ((p ∷ given) ++ payload ∷ []) ++ next ∷ rest), refl)
-
-front_same : (half : ℕ) (second : Bool) (g h : ℕ) (given all : List (List ℕ)) (payload : List ℕ) (bytes : List ℕ) → HasFront half second g (given ++ payload ∷ []) bytes → HasCurrent half second h all bytes → (more : List (List ℕ)) × (all ≡ (given ++ payload ∷ []) ++ more)
-front_same half second zero h given all payload bytes front has =
-    let live = begins_live given payload front.begins.next front.begins.rest in
-    absurd (shut_not_live (area_of half second bytes) live.0 front.current (front.begins.is ∙ live.1))
-front_same half second (suc n) zero given all payload bytes front has =
-    absurd (not_shut (area_of half second bytes) (suc n) (holds_shut (area_of half second bytes) (subst (λ (l : List (List ℕ)). HasPayloads (area_of half second bytes) l) (has.none refl).1 has.holds)) front.current)
-front_same half second (suc n) (suc m) given all payload bytes front has =
-    let more = begins (head_of (suc n) ++ (given ++ payload ∷ [])) front.begins.next front.begins.rest (area_of half second bytes) (head_of (suc m) ++ all) front.begins.sizes front.begins.is has.holds in
-    (more.0, ap (λ (l : List (List ℕ)). drop 1 l) more.1)
-
-front_other : (half : ℕ) (second : Bool) (g h : ℕ) (given all : List (List ℕ)) (payload : List ℕ) (bytes : List ℕ) → HasFront half (not second) g (given ++ payload ∷ []) bytes → HasCurrent half second h all bytes → IsOlder (area_of half second bytes) g → ⊥
-front_other half second zero h given all payload bytes front has behind =
-    let live = begins_live given payload front.begins.next front.begins.rest in
-    shut_not_live (area_of half (not second) bytes) live.0 front.current (front.begins.is ∙ live.1)
-front_other half second (suc n) h given all payload bytes front has behind = older_never half second h (suc n) all bytes has front.current behind
-
--- bytes that hold payloads, and begin with some, hold these first
-pub front_layout : (half : ℕ) (second : Bool) (g : ℕ) (given all : List (List ℕ)) (payload : List ℕ) (bytes : List ℕ) → HasFront half second g (given ++ payload ∷ []) bytes → HasLayout half all bytes → (more : List (List ℕ)) × (all ≡ (given ++ payload ∷ []) ++ more)
-front_layout half second g given all payload bytes front has = by second has.second front has.current
-  where
-    by : (s t : Bool) → HasFront half s g (given ++ payload ∷ []) bytes → HasCurrent half t has.generation all bytes → (more : List (List ℕ)) × (all ≡ (given ++ payload ∷ []) ++ more)
-    by true true f c = front_same half true g has.generation given all payload bytes f c
-    by false false f c = front_same half false g has.generation given all payload bytes f c
-    by true false f c = absurd (front_other half false g has.generation given all payload bytes f c f.other)
-    by false true f c = absurd (front_other half true g has.generation given all payload bytes f c f.other)

@@ -1,9 +1,9 @@
 -- The areas of a disk while what they hold is read for the first time. This project's own.
-use Rattle.std.specs.Prelude.{◌≡◌, ◌≢◌, ◌⊎◌, ◌+◌, ◌<◌, ◌≤◌, ◌/◌, ◌^◌, ℕ, Bool, true, false, not, List, length, ◌++◌}
+use Rattle.std.specs.Prelude.{◌≡◌, ◌≢◌, ◌⊎◌, ◌+◌, ◌<◌, ◌≤◌, ◌/◌, ◌^◌, ℕ, Bool, true, false, not}
 use Rattle.rm_disk.specs.Disk.{DiskView, IfTold}
-use Rattle.rm_journal.specs.Walk.{WalkAt, IsWalking, BeginsWith}
+use Rattle.rm_journal.specs.Walk.{WalkAt, IsWalking}
 use Rattle.rm_areas.specs.declared.areas.TheConstants.{GENERATION_RECORD}
-use Rattle.rm_areas.specs.Areas.{IsGeneration, IsOlder, area_of, area_from, area_end, head_of}
+use Rattle.rm_areas.specs.Areas.{IsGeneration, area_of, area_from, area_end}
 
 -- which area is the current one, by the generations of both
 pub record IsPicked (v : DiskView) (half : ℕ) (second : Bool) (g o : ℕ) : Type 0 where
@@ -34,10 +34,3 @@ pub record IsReading (disk : DiskView) (r : ReadingAt) : Type 0 where
   pub picked : IsPicked disk r.half r.second r.generation other
   pub alive : r.other_live ≡ true → other ≢ 0
   pub dead : r.other_live ≡ false → other ≡ 0
-
--- an area is the current one, of this generation, and begins with these payloads
-pub record HasFront (half : ℕ) (second : Bool) (generation : ℕ) (payloads : List (List ℕ)) (bytes : List ℕ) : Type 0 where
-  pub size : half ≡ length bytes / 2
-  pub current : IsGeneration (area_of half second bytes) generation
-  pub begins : BeginsWith (area_of half second bytes) (head_of generation ++ payloads)
-  pub other : IsOlder (area_of half (not second) bytes) generation

@@ -147,6 +147,10 @@ impl Areas {
         ensures no_build { self.new.build ≡ None }
         ensures any_moment { self.old.is_broken ≡ false → IfTold (D.view disk.old) (λ bytes. (payloads : List (List ℕ)) → AreasHold self.old payloads bytes → LeavesEither (D.view disk.old) (D.view disk.new) self.old.half payloads (payloads ++ payload.now ∷ [])) }
         ensures added { OnOk result (IfTold (D.view disk.old) (λ bytes. (payloads : List (List ℕ)) → AreasHold self.old payloads bytes → HoldsPayloads (D.view disk.new) self.old.half (payloads ++ payload.now ∷ []))) }
+
+        // It writes no more than the closed gate, what it puts behind that, and the next gate.
+        ensures place_alone { MayWrite self.old.journal.gate (length payload.now + RECORD_FRAME) (D.view disk.old) (D.view disk.new) }
+
         ensures kept { D.keeps (is_ok result) disk.old disk.new }
         ensures counted { D.counted disk.new ≤ D.counted disk.old + CALLS_OF_APPEND }
         ensures goes_on { IsLaterView (D.view disk.old) (D.view disk.new) }
@@ -181,6 +185,10 @@ impl Areas {
         ensures has { OnOk result ((payloads : List (List ℕ)) (bytes : List ℕ) → AreasHold self.old payloads bytes → AreasHold self.new payloads bytes) }
         ensures any_moment { self.old.is_broken ≡ false → IfTold (D.view disk.old) (λ bytes. (payloads : List (List ℕ)) → AreasHold self.old payloads bytes → LeavesPayloads (D.view disk.old) (D.view disk.new) self.old.half payloads) }
         ensures told { OnOk result (IfTold (D.view disk.old) (λ bytes. (payloads : List (List ℕ)) → AreasHold self.old payloads bytes → IfTold (D.view disk.new) (AreasHold self.new payloads))) }
+
+        // It writes no more than the other area's first gate, a generation behind that, and the next gate.
+        ensures place_alone { MayWrite (other_from self.old) (GENERATION_RECORD + 1) (D.view disk.old) (D.view disk.new) }
+
         ensures kept { D.keeps (is_ok result) disk.old disk.new }
         ensures counted { D.counted disk.new ≤ D.counted disk.old + (if self.old.other_live then 3 else 1) }
         ensures goes_on { IsLaterView (D.view disk.old) (D.view disk.new) }
@@ -222,6 +230,10 @@ impl Areas {
         ensures builds { OnOk result ((added : List (List ℕ)) → IsBuilt (D.view disk.old) self.old added → IsBuilt (D.view disk.new) self.new (added ++ payload.now ∷ [])) }
         ensures any_moment { self.old.is_broken ≡ false → IfTold (D.view disk.old) (λ bytes. (payloads : List (List ℕ)) → AreasHold self.old payloads bytes → LeavesPayloads (D.view disk.old) (D.view disk.new) self.old.half payloads) }
         ensures told { OnOk result (IfTold (D.view disk.old) (λ bytes. (payloads : List (List ℕ)) → AreasHold self.old payloads bytes → IfTold (D.view disk.new) (AreasHold self.new payloads))) }
+
+        // It writes no more than the closed gate of what is built, what it puts behind that, and the next gate.
+        ensures place_alone { (gate : ℕ) → self.old.build ≡ Some gate → MayWrite gate (length payload.now + RECORD_FRAME) (D.view disk.old) (D.view disk.new) }
+
         ensures kept { D.keeps (is_ok result) disk.old disk.new }
         ensures counted { D.counted disk.new ≤ D.counted disk.old + 1 }
         ensures goes_on { IsLaterView (D.view disk.old) (D.view disk.new) }
@@ -266,6 +278,10 @@ impl Areas {
         ensures no_build { OnOk result (self.new.build ≡ None) }
         ensures any_moment { self.old.is_broken ≡ false → IfTold (D.view disk.old) (λ bytes. (payloads added : List (List ℕ)) → AreasHold self.old payloads bytes → IsBuilt (D.view disk.old) self.old added → LeavesEither (D.view disk.old) (D.view disk.new) self.old.half payloads added) }
         ensures added { OnOk result ((added : List (List ℕ)) → IsBuilt (D.view disk.old) self.old added → IfTold (D.view disk.new) (AreasHold self.new added) × EachImage (D.view disk.new) (AreasHold self.new added)) }
+
+        // It writes no more than the other area's first gate.
+        ensures place_alone { MayWrite (other_from self.old) 1 (D.view disk.old) (D.view disk.new) }
+
         ensures kept { D.keeps (is_ok result) disk.old disk.new }
         ensures counted { D.counted disk.new ≤ D.counted disk.old + 3 }
         ensures goes_on { IsLaterView (D.view disk.old) (D.view disk.new) }

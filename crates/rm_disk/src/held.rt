@@ -75,9 +75,9 @@ fn whole<F: HeldFile + OpenFile + Drop>(file: F) -> Result<F, FileFault> {
     Ok(file)
 }
 
-// What stands behind an open gate is for the reader of the records to judge.
+// What stands behind the open first gate of a half is for the reader of the records to judge.
 fn refuse_foreign<F: FileExt>(file: &F) -> Result<(), FileFault> {
-    let mut scan = Scan::new();
+    let mut scan = Scan::new(FILE_SIZE as usize);
     let mut block = [0; BLOCK];
     'blocks: for part in 0..FILE_SIZE / BLOCK as u64 {
         file.read_exact_at(&mut block, part * BLOCK as u64)?;

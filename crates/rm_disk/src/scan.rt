@@ -1,15 +1,43 @@
-ghost use Rattle.std.specs.Prelude.{◌≡◌, ◌↔◌, ◌++◌, [], ◌∷◌, List, ℕ, IsTrue, All, take, slice_get};
-ghost use Rattle.rm_disk.specs.Scan.{MayBeStore, HasSeen};
+ghost use Rattle.std.specs.Prelude.{◌≡◌, ◌↔◌, ◌⊎◌, ◌/◌, ◌++◌, [], ◌∷◌, List, ℕ, IsTrue, All, get_or, length};
+ghost use Rattle.rm_disk.specs.Scan.{MayBeStore, HasByte, HasSeen};
 
-/// The place behind the first record of a store and the gate behind that: 1 byte of a gate, 4 of a length, 13 of the
-/// record's payload, and 1 of the next gate. Until the first gate is open nothing is written from there on.
-pub const FIRST_END: usize = 19;
+/// The place behind the first record of an area and the gate behind that: 1 byte of a gate, 4 of a length, 8 of a
+/// generation, and 1 of the next gate. Until a first gate is open nothing is written from there on.
+pub const FIRST_END: usize = 14;
+
+/// A look for the byte at a place, while bytes are seen a block at a time from the first on.
+#[derive(Drop)]
+pub struct ByteWatch {
+    /// The byte, once it was seen; 0 before that.
+    pub byte: u8,
+    /// How many bytes are still to be seen until it is seen.
+    pub left: usize,
+}
+
+impl ByteWatch {
+    /// Looks at the next bytes.
+    fn see(&mut self, block: &[u8])
+        ensures { (place : ℕ) (bytes : List ℕ) → HasByte self.old place bytes → HasByte self.new place (bytes ++ block.now) }
+    {
+        if self.left == 0 {
+            return;
+        }
+        if self.left > block.len() {
+            self.left -= block.len();
+            return;
+        }
+        self.byte = block[self.left - 1];
+        self.left = 0;
+    }
+}
 
 /// A look at bytes, a block at a time from the first on, that asks whether a store may have left them.
 #[derive(Drop)]
 pub struct Scan {
-    /// The first byte, once it was seen.
-    pub first: Option<u8>,
+    /// The first byte of the first half.
+    pub first: ByteWatch,
+    /// The first byte of the second half.
+    pub second: ByteWatch,
     /// How many of the bytes before `FIRST_END` are still to be seen.
     pub front: usize,
     /// Whether each byte that was seen from there on is 0.
@@ -17,12 +45,16 @@ pub struct Scan {
 }
 
 impl Scan {
-    /// A scan that has seen nothing.
-    pub fn new() -> Scan
-        ensures { HasSeen result [] }
+    /// A scan that has seen nothing of so many bytes.
+    pub fn new(size: usize) -> Scan
+        ensures { HasSeen result size [] }
     {
         Scan {
-            first: None,
+            first: ByteWatch { byte: 0, left: 1 },
+            second: ByteWatch {
+                byte: 0,
+                left: size / 2 + 1,
+            },
             front: FIRST_END,
             is_clear: true,
         }
@@ -30,36 +62,27 @@ impl Scan {
 
     /// Looks at the next bytes.
     pub fn see(&mut self, block: &[u8])
-        ensures { (bytes : List ℕ) → HasSeen self.old bytes → HasSeen self.new (bytes ++ block.now) }
+        ensures { (size : ℕ) (bytes : List ℕ) → HasSeen self.old size bytes → HasSeen self.new size (bytes ++ block.now) }
     {
-        self.first = first_after(self.first, block);
+        self.first.see(block);
+        self.second.see(block);
         let skipped = self.front.min(block.len());
         self.front -= skipped;
         self.is_clear = self.is_clear && are_zeros(&block[skipped..]);
     }
 
-    /// Whether the first gate is open.
+    /// Whether the first gate of a half is open.
     pub fn is_open(&self) -> bool
-        ensures { (bytes : List ℕ) → HasSeen self.now bytes → IsTrue result ↔ (take 1 bytes ≡ 1 ∷ []) }
+        ensures { (size : ℕ) (bytes : List ℕ) → HasSeen self.now size bytes → IsTrue result ↔ ((get_or bytes 0 0 ≡ 1) ⊎ (get_or bytes (size / 2) 0 ≡ 1)) }
     {
-        self.first == Some(1)
+        self.first.byte == 1 || self.second.byte == 1
     }
 
     /// Whether a store may have left these bytes.
     pub fn may_be_store(&self) -> bool
-        ensures { (bytes : List ℕ) → HasSeen self.now bytes → IsTrue result ↔ MayBeStore bytes }
+        ensures { (bytes : List ℕ) → HasSeen self.now (length bytes) bytes → IsTrue result ↔ MayBeStore bytes }
     {
         self.is_open() || self.is_clear
-    }
-}
-
-/// The first byte of what was seen and of a block behind that.
-fn first_after(first: Option<u8>, block: &[u8]) -> Option<u8>
-    ensures { (bytes : List ℕ) → first ≡ slice_get bytes 0 → result ≡ slice_get (bytes ++ block.now) 0 }
-{
-    match first {
-        None => block.first().copied(),
-        Some(byte) => Some(byte),
     }
 }
 

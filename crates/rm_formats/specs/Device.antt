@@ -1,10 +1,6 @@
--- What a device holds: the payloads of the journal that its bytes are, and the operations whose frames these are.
-use Rattle.std.specs.Prelude.{◌≡◌, ◌≢◌, ◌≤◌, ℕ, List, [], ◌∷◌, ◌++◌, length, map, All, flat_map, None}
+-- What bytes of a device hold: the payloads of the journal that they are. This project's own.
+use Rattle.std.specs.Prelude.{◌≡◌, ◌≢◌, ◌≤◌, ℕ, List, [], ◌∷◌, ◌++◌, length, All, flat_map}
 use Rattle.std.specs.Int.{w32, to_be_bytes}
-use Rattle.rm_types.specs.declared.operations.Op.{Op}
-use Rattle.rm_formats.specs.Frames.{frame}
-use Rattle.rm_types.specs.Ranges.{IsOperation}
-use Rattle.rm_types.specs.Records.{stray}
 use Rattle.rm_formats.specs.declared.TheConstants.{MOST_PAYLOAD}
 
 -- A payload has 1 to 1,024 bytes.
@@ -41,10 +37,3 @@ pub record IsDamagedAt (bytes : List ℕ) (offset : ℕ) : Type 0 where
   pub bytes_are : bytes ≡ journal_records payloads ++ 1 ∷ rest
   pub place : offset ≡ length (journal_records payloads)
   pub no_record : NoRecord rest
-
--- A device holds these operations, whose parts are in their ranges: its payloads are exactly their frames in order, and
--- none of them is stray.
-pub record DeviceHolds (bytes : List ℕ) (ops : List Op) : Type 0 where
-  pub framed : All IsOperation ops
-  pub frames : HasPayloads bytes (map frame ops)
-  pub none_stray : stray ops ≡ None

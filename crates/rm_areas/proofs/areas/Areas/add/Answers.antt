@@ -5,6 +5,7 @@ use Rattle.rm_areas.specs.Areas.{AreasAt, AreasInvariant, AreasHold, HasLayout, 
 use Rattle.rm_areas.proofs.Moments.{moment_of, at_once}
 use Rattle.rm_journal.proofs.Payloads.{length-journal_record}
 use Rattle.rm_areas.proofs.Steps.{broken_on, each_has, layout, build_low, same_gate, adding_has, adding_builds, adding_stands}
+use Rattle.rm_disk.proofs.Views.{quiet_same, quiet_writes}
 use Rattle.rm_areas.proofs.areas.Areas.add.Goals as goal
 
 pub returns-then-needed-room-clause-any_moment : goal.returns-then-needed-room-clause-any_moment
@@ -188,3 +189,35 @@ returns-clause-told g c =
     let inside : gate + length body ≤ other_end a = omega (arith, ap length body_is, length-append (journal_record c.args.payload.now) (0 ∷ []), length-journal_record c.args.payload.now, fits) in
     subst (λ (q : AreasAt). (bytes : List ℕ) → v0.told ≡ Some bytes → (payloads : List (List ℕ)) → AreasHold q payloads bytes → IfTold v1 (AreasHold a payloads)) c.self.view_is
     (λ bytes told payloads has bytes2 told2. (adding_has v0 a stands sound sizes reads room v1 gate c.args.payload.now body body_is small behind fits wrote b0.shut payloads (each_has v0 a stands sound reads bytes payloads told has)).now bytes2 (d.as_it_reads c.write.new.self bytes2 told2))
+
+pub returns-then-self-clause-place_alone : goal.returns-then-self-clause-place_alone
+returns-then-self-clause-place_alone g c = λ gate is.
+    let v0 = g.D.Disk.view c.args.disk.now in
+    quiet_writes gate (length c.args.payload.now + 6) v0 v0 (quiet_same v0)
+
+pub returns-then-needed-room-clause-place_alone : goal.returns-then-needed-room-clause-place_alone
+returns-then-needed-room-clause-place_alone g c = λ gate is.
+    let v0 = g.D.Disk.view c.args.disk.now in
+    quiet_writes gate (length c.args.payload.now + 6) v0 v0 (quiet_same v0)
+
+pub returns-in_err-write-clause-place_alone : goal.returns-in_err-write-clause-place_alone
+returns-in_err-write-clause-place_alone g c =
+    let v0 = g.D.Disk.view c.args.disk.now in
+    let v1 = g.D.Disk.view c.write.new.self in
+    let a : AreasAt = record { half = c.self.inside.half; second = c.self.inside.second; generation = c.self.inside.generation; journal = c.self.inside.journal; other_live = c.self.inside.other_live; build = c.self.inside.build; is_broken = c.self.inside.is_broken } in
+    let body = c.deref.result.now in
+    let body_is : body ≡ journal_record c.args.payload.now ++ 0 ∷ [] = c.deref.ensures.value ∙ c.fill_record.ensures.items in
+    let many : length body ≡ length c.args.payload.now + 6 = omega (arith, ap length body_is, length-append (journal_record c.args.payload.now) (0 ∷ []), length-journal_record c.args.payload.now) in
+    subst (λ (q : AreasAt). (gate : ℕ) → q.build ≡ Some gate → MayWrite gate (length c.args.payload.now + 6) v0 v1) c.self.view_is
+    (λ gate is. subst (λ (n : ℕ). MayWrite gate n v0 v1) many (subst (λ (at : ℕ). MayWrite at (length body) v0 v1) (same_gate a.build c.in-Some.gate gate c.in-Some.is is) c.write.ensures.in_range))
+
+pub returns-clause-place_alone : goal.returns-clause-place_alone
+returns-clause-place_alone g c =
+    let v0 = g.D.Disk.view c.args.disk.now in
+    let v1 = g.D.Disk.view c.write.new.self in
+    let a : AreasAt = record { half = c.self.inside.half; second = c.self.inside.second; generation = c.self.inside.generation; journal = c.self.inside.journal; other_live = c.self.inside.other_live; build = c.self.inside.build; is_broken = c.self.inside.is_broken } in
+    let body = c.deref.result.now in
+    let body_is : body ≡ journal_record c.args.payload.now ++ 0 ∷ [] = c.deref.ensures.value ∙ c.fill_record.ensures.items in
+    let many : length body ≡ length c.args.payload.now + 6 = omega (arith, ap length body_is, length-append (journal_record c.args.payload.now) (0 ∷ []), length-journal_record c.args.payload.now) in
+    subst (λ (q : AreasAt). (gate : ℕ) → q.build ≡ Some gate → MayWrite gate (length c.args.payload.now + 6) v0 v1) c.self.view_is
+    (λ gate is. subst (λ (n : ℕ). MayWrite gate n v0 v1) many (subst (λ (at : ℕ). MayWrite at (length body) v0 v1) (same_gate a.build c.in-Some.gate gate c.in-Some.is is) c.write.ensures.in_range))

@@ -1,9 +1,11 @@
-use Rattle.std.proofs.Common.{◌≡◌, ◌⊎◌, ◌≤◌, ℕ, Bool, false, None, Some, List, [], ◌∷◌, ◌++◌, sym, ◌∙◌, ap, subst}
+use Rattle.std.proofs.Common.{◌≡◌, ◌⊎◌, ◌≤◌, ℕ, Bool, false, None, Some, List, [], ◌∷◌, ◌+◌, ◌++◌, length, sym, ◌∙◌, ap, subst}
 use Rattle.std.specs.Prelude.{OnOk}
 use Rattle.rm_disk.specs.Disk.{AtEachMoment, IfTold, EachImage}
 use Rattle.rm_areas.specs.Areas.{AreasAt, AreasInvariant, AreasHold, HasLayout, HoldsPayloads}
 use Rattle.rm_journal.specs.Journal.{broken_after}
 use Rattle.rm_areas.proofs.Appends.{appending, append_stands, refused_view, added_all}
+use Rattle.rm_disk.specs.Disk.{MayWrite}
+use Rattle.rm_disk.proofs.Views.{quiet_same, quiet_writes}
 use Rattle.rm_areas.proofs.areas.Areas.append.Goals as goal
 
 pub returns-clause-stands : goal.returns-clause-stands
@@ -58,3 +60,15 @@ returns-clause-added g c =
     let whole : a.journal.is_broken ≡ false = stands.unbroken sound in
     subst (λ (q : AreasAt). OnOk c.append-outcome.result (IfTold v0 (λ bytes. (payloads : List (List ℕ)) → AreasHold q payloads bytes → HoldsPayloads v1 q.half (payloads ++ c.args.payload.now ∷ [])))) c.self.view_is
     (added_all v0 v1 a stands sound reads c.args.payload.now live wrote (d.as_it_reads c.append-outcome.new.disk) c.append-outcome.result c.append-outcome.ensures.added)
+
+pub returns-clause-place_alone : goal.returns-clause-place_alone
+returns-clause-place_alone g c =
+    let v0 = g.D.Disk.view c.args.disk.now in
+    let a : AreasAt = record { half = c.self.inside.half; second = c.self.inside.second; generation = c.self.inside.generation; journal = c.self.inside.journal; other_live = c.self.inside.other_live; build = c.self.inside.build; is_broken = c.self.inside.is_broken } in
+    let v1 = g.D.Disk.view c.append-outcome.new.disk in
+    subst (λ (q : AreasAt). MayWrite q.journal.gate (length c.args.payload.now + 6) v0 v1) c.self.view_is c.append-outcome.ensures.place_alone
+
+pub returns-then-self-clause-place_alone : goal.returns-then-self-clause-place_alone
+returns-then-self-clause-place_alone g c =
+    let v0 = g.D.Disk.view c.args.disk.now in
+    quiet_writes c.args.self.now.journal.gate (length c.args.payload.now + 6) v0 v0 (quiet_same v0)

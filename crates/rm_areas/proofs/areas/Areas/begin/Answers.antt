@@ -3,10 +3,12 @@ use Rattle.std.proofs.Common.{◌≡◌, ◌+◌, ◌-◌, ◌<◌, ◌≤◌, �
 use Rattle.std.specs.Prelude.{option_map}
 use Rattle.std.specs.Int.{w64, to_be_bytes}
 use Rattle.rm_formats.specs.Device.{sized}
-use Rattle.rm_disk.specs.Disk.{AtEachMoment, put, MayWrite, IfTold}
+use Rattle.rm_disk.specs.Disk.{DiskView, IsQuiet, AtEachMoment, put, MayWrite, IfTold}
 use Rattle.rm_areas.specs.Areas.{AreasAt, AreasInvariant, AreasHold, HasLayout, ClosesGate, other_from}
 use Rattle.rm_areas.proofs.Moments.{moment_of}
 use Rattle.rm_areas.proofs.Steps.{broken_on, each_has, layout, closing_live, headed_has, headed_builds, headed_stands}
+use Rattle.rm_disk.proofs.Views.{quiet_same, quiet_writes, write_wider}
+use Rattle.rm_journal.proofs.Outside.{write_write}
 use Rattle.rm_areas.proofs.areas.Areas.begin.Goals as goal
 
 pub returns-in_err-shut-clause-stands : goal.returns-in_err-shut-clause-stands
@@ -205,3 +207,47 @@ returns-clause-told g c =
 pub returns-clause-kept : goal.returns-clause-kept
 returns-clause-kept g c =
     g.met.D.Disk.keeps_on true true _ _ _ c.in_ok-shut.ensures.kept c.in_ok-write.ensures.kept
+
+pub returns-then-self-clause-place_alone : goal.returns-then-self-clause-place_alone
+returns-then-self-clause-place_alone g c =
+    let v0 = g.D.Disk.view c.args.disk.now in
+    quiet_writes (other_from c.args.self.now) 14 v0 v0 (quiet_same v0)
+
+pub returns-in_err-shut-clause-place_alone : goal.returns-in_err-shut-clause-place_alone
+returns-in_err-shut-clause-place_alone g c =
+    let v0 = g.D.Disk.view c.args.disk.now in
+    let v1 = g.D.Disk.view c.shut.new.disk in
+    let a : AreasAt = record { half = c.self.inside.half; second = c.self.inside.second; generation = c.self.inside.generation; journal = c.self.inside.journal; other_live = c.self.inside.other_live; build = c.self.inside.build; is_broken = c.self.inside.is_broken } in
+    let from_is : c.other_from-from.result ≡ other_from a = c.other_from-from.ensures in
+    let wrote : MayWrite (other_from a) 1 v0 v1 = subst (λ (n : ℕ). MayWrite n 1 v0 v1) from_is c.shut.ensures.in_range in
+    subst (λ (q : AreasAt). MayWrite (other_from q) 14 v0 v1) c.self.view_is (write_wider (other_from a) 14 (other_from a) 1 v0 v1 (omega arith) (omega arith) wrote)
+
+begin_writes : (from many : ℕ) (v0 v1 v2 : DiskView) → many ≡ 13 → MayWrite from 1 v0 v1 → MayWrite (from + 1) many v1 v2 → MayWrite from 14 v0 v2
+begin_writes from many v0 v1 v2 is one two =
+    write_write from 14 v0 v1 v2 (write_wider from 14 from 1 v0 v1 (omega arith) (omega arith) one) (write_wider from 14 (from + 1) many v1 v2 (omega arith) (omega (arith, is)) two)
+
+pub returns-in_err-write-clause-place_alone : goal.returns-in_err-write-clause-place_alone
+returns-in_err-write-clause-place_alone g c =
+    let v0 = g.D.Disk.view c.args.disk.now in
+    let v1 = g.D.Disk.view c.shut.new.disk in
+    let v2 = g.D.Disk.view c.write.new.self in
+    let a : AreasAt = record { half = c.self.inside.half; second = c.self.inside.second; generation = c.self.inside.generation; journal = c.self.inside.journal; other_live = c.self.inside.other_live; build = c.self.inside.build; is_broken = c.self.inside.is_broken } in
+    let from_is : c.other_from-from.result ≡ other_from a = c.other_from-from.ensures in
+    let head = c.deref.result.now in
+    let head_is : head ≡ sized c.to_be_bytes-generation.result ++ 0 ∷ [] = c.deref.ensures.value ∙ c.fill_body.ensures.items in
+    let many : length head ≡ 13 = ap length (head_is ∙ ap (λ (l : List ℕ). sized l ++ 0 ∷ []) c.to_be_bytes-generation.ensures) in
+    subst (λ (q : AreasAt). MayWrite (other_from q) 14 v0 v2) c.self.view_is
+    (subst (λ (n : ℕ). MayWrite n 14 v0 v2) from_is (begin_writes c.other_from-from.result (length head) v0 v1 v2 many c.shut.ensures.in_range c.write.ensures.in_range))
+
+pub returns-clause-place_alone : goal.returns-clause-place_alone
+returns-clause-place_alone g c =
+    let v0 = g.D.Disk.view c.args.disk.now in
+    let v1 = g.D.Disk.view c.shut.new.disk in
+    let v2 = g.D.Disk.view c.write.new.self in
+    let a : AreasAt = record { half = c.self.inside.half; second = c.self.inside.second; generation = c.self.inside.generation; journal = c.self.inside.journal; other_live = c.self.inside.other_live; build = c.self.inside.build; is_broken = c.self.inside.is_broken } in
+    let from_is : c.other_from-from.result ≡ other_from a = c.other_from-from.ensures in
+    let head = c.deref.result.now in
+    let head_is : head ≡ sized c.to_be_bytes-generation.result ++ 0 ∷ [] = c.deref.ensures.value ∙ c.fill_body.ensures.items in
+    let many : length head ≡ 13 = ap length (head_is ∙ ap (λ (l : List ℕ). sized l ++ 0 ∷ []) c.to_be_bytes-generation.ensures) in
+    subst (λ (q : AreasAt). MayWrite (other_from q) 14 v0 v2) c.self.view_is
+    (subst (λ (n : ℕ). MayWrite n 14 v0 v2) from_is (begin_writes c.other_from-from.result (length head) v0 v1 v2 many c.shut.ensures.in_range c.write.ensures.in_range))

@@ -1,10 +1,12 @@
 use Rattle.std.proofs.lemmas.Result.{err_from_is_err_and}
 use Rattle.std.proofs.Common.{◌≡◌, ◌⊎◌, ◌+◌, ◌≤◌, ℕ, suc, true, false, not, None, Some, List, [], ◌∷◌, nat_lt, sym, ◌∙◌, ap, subst, arith}
 use Rattle.std.specs.Prelude.{option_map}
-use Rattle.rm_disk.specs.Disk.{AtEachMoment, put, MayWrite, IfTold, EachImage}
+use Rattle.rm_disk.specs.Disk.{DiskView, IsQuiet, AtEachMoment, put, MayWrite, IfTold, EachImage}
 use Rattle.rm_areas.specs.Areas.{AreasAt, AreasInvariant, AreasHold, HasLayout, HasCurrent, IsBuilt, other_from, other_end}
 use Rattle.rm_journal.specs.Journal.{Place}
 use Rattle.rm_areas.proofs.Steps.{broken_on, broken_quiet, each_has, build_low, same_gate, quiet_either, finishing, grown_at, grown_told, grown_images, grown_stands}
+use Rattle.rm_disk.proofs.Views.{quiet_same, quiet_writes}
+use Rattle.rm_journal.proofs.Outside.{write_write}
 use Rattle.rm_areas.proofs.areas.Areas.finish.Goals as goal
 
 pub returns-in_err-sync-clause-stands : goal.returns-in_err-sync-clause-stands
@@ -185,3 +187,37 @@ returns-clause-added g c =
 pub returns-clause-kept : goal.returns-clause-kept
 returns-clause-kept g c =
     g.met.D.Disk.keeps_on true true _ _ _ c.in_ok-sync.ensures.kept c.in_ok-write_through.ensures.kept
+
+pub returns-then-self-clause-place_alone : goal.returns-then-self-clause-place_alone
+returns-then-self-clause-place_alone g c =
+    let v0 = g.D.Disk.view c.args.disk.now in
+    quiet_writes (other_from c.args.self.now) 1 v0 v0 (quiet_same v0)
+
+pub returns-in_err-sync-clause-place_alone : goal.returns-in_err-sync-clause-place_alone
+returns-in_err-sync-clause-place_alone g c =
+    let v0 = g.D.Disk.view c.args.disk.now in
+    let v1 = g.D.Disk.view c.sync.new.self in
+    quiet_writes (other_from c.args.self.now) 1 v0 v1 c.sync.ensures.quiet
+
+finish_writes : (from : ℕ) (v0 v1 v2 : DiskView) → IsQuiet v0 v1 → MayWrite from 1 v1 v2 → MayWrite from 1 v0 v2
+finish_writes from v0 v1 v2 quiet wrote = write_write from 1 v0 v1 v2 (quiet_writes from 1 v0 v1 quiet) wrote
+
+pub returns-in_err-write_through-clause-place_alone : goal.returns-in_err-write_through-clause-place_alone
+returns-in_err-write_through-clause-place_alone g c =
+    let v0 = g.D.Disk.view c.args.disk.now in
+    let v1 = g.D.Disk.view c.sync.new.self in
+    let v2 = g.D.Disk.view c.write_through.new.disk in
+    let a : AreasAt = record { half = c.self.inside.half; second = c.self.inside.second; generation = c.self.inside.generation; journal = c.self.inside.journal; other_live = c.self.inside.other_live; build = c.self.inside.build; is_broken = c.self.inside.is_broken } in
+    let from_is : c.other_from-from.result ≡ other_from a = c.other_from-from.ensures in
+    subst (λ (q : AreasAt). MayWrite (other_from q) 1 v0 v2) c.self.view_is
+    (subst (λ (n : ℕ). MayWrite n 1 v0 v2) from_is (finish_writes c.other_from-from.result v0 v1 v2 c.sync.ensures.quiet c.write_through.ensures.in_range))
+
+pub returns-clause-place_alone : goal.returns-clause-place_alone
+returns-clause-place_alone g c =
+    let v0 = g.D.Disk.view c.args.disk.now in
+    let v1 = g.D.Disk.view c.sync.new.self in
+    let v2 = g.D.Disk.view c.write_through.new.disk in
+    let a : AreasAt = record { half = c.self.inside.half; second = c.self.inside.second; generation = c.self.inside.generation; journal = c.self.inside.journal; other_live = c.self.inside.other_live; build = c.self.inside.build; is_broken = c.self.inside.is_broken } in
+    let from_is : c.other_from-from.result ≡ other_from a = c.other_from-from.ensures in
+    subst (λ (q : AreasAt). MayWrite (other_from q) 1 v0 v2) c.self.view_is
+    (subst (λ (n : ℕ). MayWrite n 1 v0 v2) from_is (finish_writes c.other_from-from.result v0 v1 v2 c.sync.ensures.quiet c.write_through.ensures.in_range))

@@ -1,4 +1,4 @@
-use Rattle.std.proofs.Common.{ℕ, ◌-◌, Bool, true, ◌≡◌, List, ◌++◌, length, drop, arith, length-append, sym, ◌∙◌, subst}
+use Rattle.std.proofs.Common.{ℕ, ◌-◌, ◌/◌, Bool, true, ◌≡◌, List, ◌++◌, length, drop, arith, length-append, sym, ◌∙◌, subst}
 use Rattle.std.specs.Prelude.{◌↔◌, All}
 use Rattle.rm_disk.specs.declared.scan.TheConstants.{FIRST_END}
 use Rattle.rm_disk.proofs.Scans.{clear_after, unclear_after}
@@ -6,11 +6,12 @@ use Rattle.rm_disk.proofs.scan.Scan.see.Goals.{then-self, else-self}
 use Rattle.rm_disk.proofs.scan.Scan.see.Goals as goal
 
 pub returns : goal.returns
-returns c = λ bytes seen.
+returns c = λ size bytes seen.
     let was = c.args.self.now in
     let block = c.args.block.now in
     record {
-      first = c.first_after-self.ensures bytes seen.first;
+      first = c.see.ensures 0 bytes seen.first;
+      second = c.see-2.ensures (size / 2) bytes seen.second;
       front = omega (arith, seen.front, c.min-skipped.ensures, length-append bytes block);
       clear =
           elim c.if-self.branch [
