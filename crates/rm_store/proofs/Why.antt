@@ -1,20 +1,18 @@
 -- Why a store was refused.
 use Rattle.std.proofs.Common.{◌≡◌, ℕ, false, List, length, inl, inr, refl, sym, subst}
 use Rattle.rm_types.specs.declared.operations.Op.{Op}
-use Rattle.rm_formats.specs.Frames.{frame}
-use Rattle.rm_types.specs.Ranges.{IsOperation}
 use Rattle.rm_types.specs.Records.{records, fits_records}
-use Rattle.rm_formats.specs.Device.{IsDamagedAt}
+use Rattle.rm_areas.specs.Areas.{IsDamagedLayout}
+use Rattle.rm_store.specs.Content.{IsFrameOf, half_of}
 use Rattle.rm_journal.specs.declared.fault.JournalError.{JournalError}
 use Rattle.rm_journal.specs.declared.fault.JournalError.TheVariants as journal
 use Rattle.rm_store.specs.declared.fault.StoreError.{StoreError}
 use Rattle.rm_store.specs.declared.fault.StoreError.TheVariants.{DiskFault, Damaged, Stray, Full, NeedsReopen, Memory}
 use Rattle.rm_store.specs.Causes.{ReadsUpTo, IsWhy}
 use Rattle.rm_store.specs.Errors.{of_journal}
-use Rattle.rm_store.specs.Reading.{IsFrameOf}
 
--- the journal's damage
-pub why_open : (bytes : List ℕ) (error : JournalError) → ((offset : ℕ) → error ≡ journal.Damaged offset → IsDamagedAt bytes offset) → IsWhy bytes (of_journal error)
+-- the areas' damage
+pub why_open : (bytes : List ℕ) (error : JournalError) → ((offset : ℕ) → error ≡ journal.Damaged offset → IsDamagedLayout (half_of bytes) bytes offset) → IsWhy bytes (of_journal error)
 why_open bytes journal.DiskFault damaged = tt
 why_open bytes (journal.Damaged offset) damaged = inl (damaged offset refl)
 why_open bytes (journal.Full needed room) damaged = tt
@@ -23,7 +21,7 @@ why_open bytes journal.Memory damaged = tt
 
 -- a payload behind operations that is no frame, or whose operation is stray
 pub why_taken : (bytes payload : List ℕ) (ops : List Op) (gate : ℕ) (error : StoreError) → ReadsUpTo bytes ops payload gate
-    → ((offset : ℕ) → error ≡ Damaged offset → (offset ≡ gate) × ((op : Op) → IsOperation op → payload ≡ frame op → ⊥))
+    → ((offset : ℕ) → error ≡ Damaged offset → (offset ≡ gate) × ((op : Op) → IsFrameOf payload op → ⊥))
     → ((number offset : ℕ) → error ≡ Stray number offset → (offset ≡ gate) × (number ≡ length ops) × ((op : Op) × IsFrameOf payload op × (fits_records (records ops) op ≡ false)))
     → IsWhy bytes error
 why_taken bytes payload ops gate DiskFault reads damaged stray = tt
@@ -32,12 +30,12 @@ why_taken bytes payload ops gate (Damaged offset) reads damaged stray =
     inr (record { ops = ops; payload = payload; reads = subst (ReadsUpTo bytes ops payload) (sym d.0) reads; no_frame = d.1 })
 why_taken bytes payload ops gate (Stray number offset) reads damaged stray =
     let s = stray number offset refl in
-    let here = subst (ReadsUpTo bytes ops payload) (sym s.0) reads in
     record {
       ops = ops;
       op = s.2.0;
-      reads = subst (λ p. ReadsUpTo bytes ops p offset) s.2.1.is here;
-      can = s.2.1.can;
+      payload = payload;
+      reads = subst (ReadsUpTo bytes ops payload) (sym s.0) reads;
+      framed = s.2.1;
       stray = s.2.2;
       number_is = s.1;
     }

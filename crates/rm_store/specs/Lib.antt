@@ -1,4 +1,7 @@
 pub mod Causes
+pub mod Changing
+pub mod Content
 pub mod Errors
+pub mod Kept
 pub mod Reading
 pub mod Store

@@ -1,15 +1,12 @@
--- Steps of reading a store.
-use Rattle.std.specs.Prelude.{◌≡◌, ℕ, List}
-use Rattle.rm_types.specs.declared.operations.Op.{Op}
-use Rattle.rm_formats.specs.Frames.{frame}
-use Rattle.rm_types.specs.Ranges.{IsOperation}
+-- Steps of reading a store. This project's own.
+use Rattle.std.specs.Prelude.{ℕ, List, ◌++◌}
+use Rattle.rm_journal.specs.Walk.{WalkAt, HasWalked}
 use Rattle.rm_store.specs.declared.fault.StoreError.{StoreError}
 use Rattle.rm_store.specs.declared.fault.StoreError.TheVariants.{Damaged, Stray, Memory}
 
--- The payload is the frame of this operation, whose parts are in their ranges.
-pub record IsFrameOf (payload : List ℕ) (op : Op) : Type 0 where
-  pub can : IsOperation op
-  pub is : payload ≡ frame op
+-- A walk went on over some payloads more.
+abbrev pub WalkedOn : WalkAt → WalkAt → List ℕ → Type 0
+WalkedOn old new bytes = (given : List (List ℕ)) → HasWalked old bytes given → (more : List (List ℕ)) × HasWalked new bytes (given ++ more)
 
 -- A payload is not read with one of these.
 abbrev pub IsFrameError : StoreError → Type 0

@@ -10,7 +10,8 @@ pub enum StoreError {
     /// The disk failed, and counted the fault.
     #[error("the disk failed")]
     DiskFault,
-    /// An open gate stands at this offset of the disk, and behind it no record, or one whose payload isn't
+    /// The disk's areas are damaged at this offset: an area is live there without a generation, or with that of
+    /// the other one, or an open gate stands before no record; or a payload, whose gate stands there, isn't
     /// exactly the frame of an operation.
     #[error("the store is damaged at byte {offset}")]
     Damaged { offset: u64 },
@@ -18,7 +19,8 @@ pub enum StoreError {
     /// offset of the disk.
     #[error("the store's operation {number} doesn't fit those before it, at byte {offset}")]
     Stray { number: u64, offset: u64 },
-    /// The operation needs so many bytes behind those that are stored, and the disk has only this room.
+    /// The operation needs so many bytes, and only this room is left for it, also where an area is written anew
+    /// with what is left of those that are stored.
     #[error("the store is full: {needed} bytes are needed, {room} are left")]
     Full { needed: u64, room: u64 },
     /// An earlier append failed, so that what the disk holds is known again only once the store is opened

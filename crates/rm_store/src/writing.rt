@@ -3,43 +3,48 @@ ghost use Rattle.rm_types.specs.declared.operations.Op.{Op as AnyOp};
 ghost use Rattle.rm_types.specs.Ranges.{IsOperation};
 ghost use Rattle.rm_types.specs.Records.{records, fits_records};
 ghost use Rattle.rm_disk.specs.Disk.{IsLaterView};
-ghost use Rattle.rm_store.specs.Errors.{IsWriteError, IsRefusal};
-ghost use Rattle.rm_store.specs.Store.{IsWhole, Has, LeavesOps, AddsOp, LooksOwn, BeginsByEpoch, StaysOwn, needed_for, room_behind};
+ghost use Rattle.rm_journal.specs.declared.journal.TheConstants.{CALLS_OF_APPEND};
+ghost use Rattle.rm_areas.specs.Areas.{AreasInvariant};
+ghost use Rattle.rm_store.specs.Errors.{IsWriteError, broken_after};
+ghost use Rattle.rm_store.specs.Kept.{IsKept, HasOps, LeavesOps, AddsOp, IsFull, needed_for, room_here, told_room, calls_of_change};
+ghost use Rattle.rm_store.specs.Store.{KeepsOwn};
 
+use crate::appending::append;
 use crate::fault::StoreError;
+use rm_areas::Areas;
 use rm_disk::Disk;
 use rm_frame::Encoder;
-use rm_journal::{CALLS_OF_APPEND, Journal};
-use rm_types::Op;
+use rm_types::{Items, Op};
+use std::alloc::Global;
 
 /// Writes an operation behind those that a disk holds.
 pub fn write_op<D: Disk>(
+    alloc: Global,
     disk: &mut D,
-    journal: &mut Journal,
+    areas: &mut Areas,
+    content: &mut Items<Op>,
     encoder: &mut Encoder,
     op: &Op,
 ) -> Result<(), StoreError>
-    requires whole { IsWhole (D.view disk.old) journal.old }
-    requires unbroken { journal.old.is_broken ≡ false }
+    requires kept { IsKept (D.view disk.old) areas.old content.old }
     requires op { IsOperation op.now }
 
-    ensures whole { IsWhole (D.view disk.new) journal.new }
-    ensures unbroken { OnOk result (journal.new.is_broken ≡ false) }
-    ensures any_moment { (ops : List AnyOp) → Has (D.view disk.old) ops → fits_records (records ops) op.now ≡ true → LeavesOps (D.view disk.old) (D.view disk.new) ops op.now }
-    ensures added { OnOk result ((ops : List AnyOp) → Has (D.view disk.old) ops → fits_records (records ops) op.now ≡ true → AddsOp (D.view disk.new) ops op.now) }
+    ensures stands { AreasInvariant (D.view disk.new) areas.new }
+    ensures stays { broken_after result false ≡ false → IsKept (D.view disk.new) areas.new content.new }
+    ensures any_moment { (ops : List AnyOp) → HasOps (D.view disk.old) ops → fits_records (records ops) op.now ≡ true → LeavesOps (D.view disk.old) (D.view disk.new) ops op.now }
+    ensures added { OnOk result ((ops : List AnyOp) → HasOps (D.view disk.old) ops → fits_records (records ops) op.now ≡ true → AddsOp (D.view disk.new) ops op.now) }
     ensures kept { D.keeps (is_ok result) disk.old disk.new }
-    ensures counted { D.counted disk.new ≤ D.counted disk.old + CALLS_OF_APPEND }
+    ensures counted { D.counted disk.new ≤ D.counted disk.old + calls_of_change areas.old content.old + CALLS_OF_APPEND }
+    ensures few { 1 ≤ areas.old.generation → needed_for op.now ≤ room_here areas.old → D.counted disk.new ≤ D.counted disk.old + CALLS_OF_APPEND }
     ensures goes_on { IsLaterView (D.view disk.old) (D.view disk.new) }
-    ensures own { (ops : List AnyOp) → Has (D.view disk.old) ops → BeginsByEpoch ops op.now → LooksOwn (D.view disk.old) → StaysOwn (D.view disk.old) (D.view disk.new) }
+    ensures own { KeepsOwn (D.view disk.old) (D.view disk.new) }
 
     ensures errors { IfErr result IsWriteError }
-    ensures refused { IfErr result (λ error. IsRefusal error → (journal.new ≡ journal.old) × (disk.new ≡ disk.old)) }
-    ensures full { (ops : List AnyOp) → Has (D.view disk.old) ops → room_behind (D.view disk.old).size ops < needed_for op.now
-        → (result ≡ Err (StoreError.Full (needed_for op.now) (room_behind (D.view disk.old).size ops))) ⊎ (result ≡ Err StoreError.Memory) }
-    ensures only_full { (needed room : ℕ) → result ≡ Err (StoreError.Full needed room) → (room < needed) × (needed ≡ needed_for op.now) × ((ops : List AnyOp) → Has (D.view disk.old) ops → room ≡ room_behind (D.view disk.old).size ops) }
+    ensures refused { (needed room : ℕ) → result ≡ Err (StoreError.Full needed room) → (areas.new ≡ areas.old) × (content.new ≡ content.old) × (disk.new ≡ disk.old) }
+    ensures only_full { (needed room : ℕ) → result ≡ Err (StoreError.Full needed room) → (needed ≡ needed_for op.now) × (room < needed) × IsFull areas.old content.old op.now × (room ≡ told_room areas.old content.old) }
+    ensures full { IsFull areas.old content.old op.now → (result ≡ Err (StoreError.Full (needed_for op.now) (told_room areas.old content.old))) ⊎ (result ≡ Err StoreError.Memory) }
     ensures fault { IsErrOf result StoreError.DiskFault → D.faulted disk.old disk.new }
 {
-    let bytes = encoder.frame(op)?;
-    journal.append(disk, bytes)?;
+    append(alloc, disk, areas, content, encoder, op)?;
     Ok(())
 }

@@ -11,14 +11,14 @@ whole payload op can e = record { can = can; within = omega arith; is = take_all
 pub returns-then-count-payload-clause-damaged : goal.returns-then-count-payload-clause-damaged
 returns-then-count-payload-clause-damaged c = λ offset e. (
   let f : offset ≡ c.args.gate = cc in f,
-  λ op can is.
-      let same = c.in-Ok.ensures.only op (length c.args.payload.now) (whole c.args.payload.now op can is) in
+  λ op is.
+      let same = c.in-Ok.ensures.only op (length c.args.payload.now) (whole c.args.payload.now op is.can is.is) in
       absurd (omega (arith, same.1, c.if-count-payload.true)),
 )
 
 pub returns-in-Err-BadFrame-clause-damaged : goal.returns-in-Err-BadFrame-clause-damaged
 returns-in-Err-BadFrame-clause-damaged c = λ offset e. (
   let f : offset ≡ c.args.gate = cc in f,
-  λ op can is.
-      c.in-Err-BadFrame.ensures.no_frame _ c.in-Err-BadFrame.field-0-is op (length c.args.payload.now) (whole c.args.payload.now op can is),
+  λ op is.
+      c.in-Err-BadFrame.ensures.no_frame _ c.in-Err-BadFrame.field-0-is op (length c.args.payload.now) (whole c.args.payload.now op is.can is.is),
 )

@@ -1,0 +1,69 @@
+-- Payloads read as operations in one way at most.
+use Rattle.std.proofs.Common.{◌≡◌, ℕ, List, [], ◌∷◌, ◌++◌, map, refl, sym, ◌∙◌, ap, subst}
+use Rattle.std.specs.Prelude.{All}
+use Rattle.std.proofs.lemmas.List.{append-nil}
+use Rattle.std.proofs.lemmas.List.Elements.{All-nil, All-cons, All-head, All-tail}
+use Rattle.rm_types.specs.declared.operations.Op.{Op}
+use Rattle.rm_types.specs.Ranges.{IsOperation}
+use Rattle.rm_types.specs.Records.{records}
+use Rattle.rm_formats.specs.Frames.{frame}
+use Rattle.rm_frame.proofs.Apart.{frames_alike}
+use Rattle.rm_areas.proofs.Unique.{one_layout}
+use Rattle.rm_types.specs.Alike.{IsAlike}
+use Rattle.rm_types.specs.Folded.{folded}
+use Rattle.rm_folding.proofs.Ordering.{alike}
+use Rattle.rm_store.specs.Content.{IsFrameOf, ReadsAs, HasContent, DeviceHolds, half_of}
+
+pub reads_framed : (payloads : List (List ℕ)) (ops : List Op) → ReadsAs payloads ops → All IsOperation ops
+reads_framed [] [] reads = All-nil IsOperation
+reads_framed [] (op ∷ ops) reads = absurd reads
+reads_framed (p ∷ payloads) [] reads = absurd reads
+reads_framed (p ∷ payloads) (op ∷ ops) reads = All-cons IsOperation op ops reads.0.can (reads_framed payloads ops reads.1)
+
+pub reads_frames : (ops : List Op) → All IsOperation ops → ReadsAs (map frame ops) ops
+reads_frames [] all = tt
+reads_frames (op ∷ ops) all = (record { can = All-head IsOperation op ops all; is = refl }, reads_frames ops (All-tail IsOperation op ops all))
+
+pub reads_more : (payloads : List (List ℕ)) (ops : List Op) (payload : List ℕ) (op : Op) → ReadsAs payloads ops → IsFrameOf payload op → ReadsAs (payloads ++ payload ∷ []) (ops ++ op ∷ [])
+reads_more [] [] payload op reads one = (one, tt)
+reads_more [] (x ∷ ops) payload op reads one = absurd reads
+reads_more (p ∷ payloads) [] payload op reads one = absurd reads
+reads_more (p ∷ payloads) (x ∷ ops) payload op reads one = (reads.0, reads_more payloads ops payload op reads.1 one)
+
+-- a payload is the frame of one operation at most
+pub same_op : (payload : List ℕ) (a b : Op) → IsFrameOf payload a → IsFrameOf payload b → a ≡ b
+same_op payload a b one two = (frames_alike a b [] [] one.can two.can (append-nil (frame a) ∙ (sym one.is ∙ two.is) ∙ sym (append-nil (frame b)))).0
+
+pub reads_one : (payloads : List (List ℕ)) (one other : List Op) → ReadsAs payloads one → ReadsAs payloads other → one ≡ other
+reads_one [] [] [] a b = refl
+reads_one [] [] (y ∷ other) a b = absurd b
+reads_one [] (x ∷ one) other a b = absurd a
+reads_one (p ∷ payloads) [] other a b = absurd a
+reads_one (p ∷ payloads) (x ∷ one) [] a b = absurd b
+reads_one (p ∷ payloads) (x ∷ one) (y ∷ other) a b = ap (λ (z : Op). z ∷ one) (same_op p x y a.0 b.0) ∙ ap (λ (l : List Op). y ∷ l) (reads_one payloads one other a.1 b.1)
+
+-- an operation that reads behind others
+pub record StandsBehind (ops front : List Op) (payload : List ℕ) : Type 0 where
+  pub op : Op
+  pub rest : List Op
+  pub is : ops ≡ front ++ op ∷ rest
+  pub framed : IsFrameOf payload op
+
+pub stands_behind : (given more : List (List ℕ)) (payload : List ℕ) (ops front : List Op) → ReadsAs (given ++ payload ∷ more) ops → ReadsAs given front → StandsBehind ops front payload
+stands_behind [] more payload [] [] a b = absurd a
+stands_behind [] more payload (op ∷ ops) [] a b = record { op = op; rest = ops; is = refl; framed = a.0 }
+stands_behind [] more payload ops (x ∷ front) a b = absurd b
+stands_behind (p ∷ given) more payload [] front a b = absurd a
+stands_behind (p ∷ given) more payload (op ∷ ops) [] a b = absurd b
+stands_behind (p ∷ given) more payload (op ∷ ops) (x ∷ front) a b =
+    let s = stands_behind given more payload ops front a.1 b.1 in
+    record { op = s.op; rest = s.rest; is = ap (λ (z : Op). z ∷ ops) (same_op p op x a.0 b.0) ∙ ap (λ (l : List Op). x ∷ l) s.is; framed = s.framed }
+
+pub one_content : (bytes : List ℕ) (one other : List Op) → HasContent bytes one → HasContent bytes other → one ≡ other
+one_content bytes one other has also =
+    let same = one_layout (half_of bytes) has.payloads also.payloads bytes has.layout also.layout in
+    reads_one also.payloads one other (subst (λ (l : List (List ℕ)). ReadsAs l one) same has.reads) also.reads
+
+-- the records of what a device holds and of its content
+pub holds_alike : (bytes : List ℕ) (content ops : List Op) → DeviceHolds bytes ops → HasContent bytes content → IsAlike (records content) (records ops)
+holds_alike bytes content ops holds has = alike content ops (ap folded (one_content bytes content holds.content has holds.has) ∙ holds.same)

@@ -1,0 +1,47 @@
+-- What a device of two areas holds: its content, which is the operations that stand there, and each list of which the same is left as of the
+-- content. This project's own.
+use Rattle.std.specs.Prelude.{◌≡◌, ◌+◌, ◌-◌, ◌/◌, ℕ, List, [], ◌∷◌, length, map, sum, None}
+use Rattle.rm_types.specs.declared.operations.Op.{Op}
+use Rattle.rm_types.specs.Folded.{folded}
+use Rattle.rm_types.specs.Ranges.{IsOperation}
+use Rattle.rm_types.specs.Records.{stray}
+use Rattle.rm_formats.specs.declared.TheConstants.{RECORD_HEAD}
+use Rattle.rm_formats.specs.Frames.{frame}
+use Rattle.rm_areas.specs.declared.areas.TheConstants.{GENERATION_RECORD}
+use Rattle.rm_areas.specs.Areas.{HasLayout}
+
+-- The size of an area: half of the device's bytes, rounded down.
+abbrev pub half_of : List ℕ → ℕ
+half_of bytes = length bytes / 2
+
+-- The payload is the frame of this operation, whose parts are in their ranges.
+pub record IsFrameOf (payload : List ℕ) (op : Op) : Type 0 where
+  pub can : IsOperation op
+  pub is : payload ≡ frame op
+
+-- The payloads are the frames of these operations, one by one.
+abbrev pub ReadsAs : List (List ℕ) → List Op → Type 0
+ReadsAs [] [] = Unit {0}
+ReadsAs [] (op ∷ ops) = ⊥
+ReadsAs (payload ∷ payloads) [] = ⊥
+ReadsAs (payload ∷ payloads) (op ∷ ops) = IsFrameOf payload op × ReadsAs payloads ops
+
+-- The content of a device: the operations whose frames are the payloads of its current area, in order, of which none is
+-- stray.
+pub record HasContent (bytes : List ℕ) (content : List Op) : Type 0 where
+  pub payloads : List (List ℕ)
+  pub layout : HasLayout (half_of bytes) payloads bytes
+  pub reads : ReadsAs payloads content
+  pub none_stray : stray content ≡ None
+
+-- A device holds these operations: what is left of them is what is left of its content. So it holds them whether or not
+-- those that say nothing any more were left out when an area was written anew.
+pub record DeviceHolds (bytes : List ℕ) (ops : List Op) : Type 0 where
+  pub content : List Op
+  pub has : HasContent bytes content
+  pub same : folded content ≡ folded ops
+
+-- How many bytes an area of this size has behind a generation's record and the records of what is left of these
+-- operations.
+abbrev pub room_for : ℕ → List Op → ℕ
+room_for half ops = half - GENERATION_RECORD - sum (map (λ op. length (frame op) + RECORD_HEAD) (folded ops))
