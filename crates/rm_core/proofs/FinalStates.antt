@@ -1,16 +1,15 @@
 -- A final state is never left, and an end is told only once it is kept: by the tables, since each move within a life follows them.
-use Rattle.std.proofs.Common.{◌≡◌, ◌⊎◌, inl, inr, ℕ, ◌+◌, Bool, true, false, Option, Some, refl, sym, ◌∙◌, subst, arith, rules}
+use Rattle.std.proofs.Common.{◌≡◌, ◌⊎◌, inl, inr, true, Some, sym, ◌∙◌, subst, arith, rules}
 use Rattle.rm_types.specs.declared.ids.AppId.{AppId}
 use Rattle.rm_types.specs.declared.operations.How.{How}
-use Rattle.rm_app.specs.declared.states.AppState.{AppState}
 use Rattle.rm_app.specs.declared.states.AppState.TheVariants.{FinalSaving}
-use Rattle.rm_app.specs.Table.{IsFinal as IsFinalOfApp, state_of}
+use Rattle.rm_app.specs.Table.{state_of}
 use Rattle.rm_app.proofs.Rows.{ends_are_kept}
 use Rattle.rm_attempt.specs.declared.states.AttemptState.{AttemptState}
 use Rattle.rm_attempt.specs.declared.states.AttemptState.TheVariants.{Ending, Ended}
 use Rattle.rm_attempt.specs.declared.states.AttemptEvent.{AttemptEvent}
 use Rattle.rm_attempt.specs.declared.states.AttemptAction.{AttemptAction}
-use Rattle.rm_attempt.specs.Table.{IsFinal as IsFinalOfAttempt, Row as AttemptTableRow}
+use Rattle.rm_attempt.specs.Table.{Row as AttemptTableRow}
 use Rattle.rm_tables.specs.declared.rows.AppRow.{AppRow}
 use Rattle.rm_tables.specs.declared.rows.Current.{Current}
 use Rattle.rm_tables.specs.declared.tables.Tables.{Tables}

@@ -1,4 +1,8 @@
 mod Listed
+pub mod Alike
+mod EndOrder
+mod Refusing
+mod Stores
 mod Standing
 mod Recorded
 mod Queued

@@ -13,3 +13,8 @@ take_got xs i x e = take_more xs i x (slice_get_within xs i x e) ∙ ap (λ y. t
 pub if_copied : {X : Type 0} (P : X → Type 0) (o : Option (Bor X)) (h : Option X) → option_copied o ≡ h → ((x : X) → h ≡ Some x → P x) → IfSome o (λ b. P b.now)
 if_copied P None h e p = tt
 if_copied P (Some b) h e p = p b.now (sym e)
+
+-- a first item
+pub first_of : {X : Type 0} (xs : List X) (x : X) → slice_get xs 0 ≡ Some x → (rest : List X) × (xs ≡ x ∷ rest)
+first_of [] x e = cc
+first_of (y ∷ xs) x e = let same : y ≡ x = cc in (xs, ap (λ z. z ∷ xs) same)

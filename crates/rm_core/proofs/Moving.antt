@@ -1,5 +1,5 @@
 -- Each move, whether it was made or refused, keeps what holds, and does what it says.
-use Rattle.std.proofs.Common.{◌∙◌, ◌≡◌, ◌≢◌, ℕ, ◌+◌, ◌<◌, ◌≤◌, ◌^◌, max, List, [], ◌∷◌, ◌++◌, Bool, true, false, not, ◌&&◌, ◌||◌, Option, None, Some, Ok, Err, Result, length, refl, sym, ap, subst, arith}
+use Rattle.std.proofs.Common.{◌∙◌, ◌≡◌, ◌≢◌, ℕ, ◌+◌, ◌*◌, ◌<◌, ◌≤◌, ◌^◌, max, List, [], ◌∷◌, ◌++◌, Bool, true, false, not, ◌&&◌, ◌||◌, Option, None, Some, Ok, Err, Result, length, refl, sym, ap, subst, arith}
 use Rattle.std.specs.Prelude.{OnOk, OnErr, slice_get}
 use Rattle.std.proofs.lemmas.Bool.{and_parts, not-true}
 use Rattle.rm_types.specs.declared.entries.Entry.{Entry}
@@ -47,14 +47,19 @@ use Rattle.rm_core.specs.declared.manager.Move.{Move}
 use Rattle.rm_core.specs.declared.manager.Move.TheVariants.{Begin, Blown, Down, Hand, Kept, Main, Sched, Serve, Settle}
 use Rattle.rm_core.specs.Moves.{CanBeginOver, MoveEffect, LifeAround, StatesFollowTables}
 use Rattle.rm_core.specs.Invariant.{HasPhase, IsSoundCore, LogInvariant}
-use Rattle.rm_core.specs.Queues.{answered, answered_where, landed_in, served_moved}
+use Rattle.rm_core.specs.Queues.{answered, answered_where, landed_in, own_tree, served_moved}
 use Rattle.rm_core.specs.Seen.{IsToBeKept, Seen, handed_op}
 use Rattle.rm_core.specs.Serving.{IsReply, IsReplyWhere, IsServed}
 use Rattle.rm_core.specs.Words.{new_manager}
 use Rattle.rm_core.proofs.Lives.{begin_keeps, begin_sound}
+use Rattle.rm_types.specs.Alike.{IsAlike}
+use Rattle.rm_core.proofs.Alike.{like_length}
+use Rattle.rm_invariant.specs.measure.Measure.{begin_measure, untried_measure, measure}
 use Rattle.rm_core.proofs.Queued.{main_told, sched_told}
+use Rattle.rm_core.proofs.Refusing.{main_framed, open_framed, sched_framed, unblown_framed}
 use Rattle.rm_core.proofs.Serving.{serve_goes, serve_weighs}
-use Rattle.rm_core.proofs.Standing.{keeps_more, sound_after}
+use Rattle.rm_core.proofs.Standing.{keeps_more, sound_after, sound_with}
+use Rattle.rm_core.proofs.Stores.{main_none, sched_none, tree_with}
 
 abbrev pub seen_of : Tables → List Entry → Seen
 seen_of t log = record { settings = t.settings; tables = t; log = log }
@@ -90,7 +95,7 @@ module _ (t : Tables) (log : List Entry) (s : HasPhase t) where
       let own = main_leads s.history t event rest s.phase front in
       let told = main_told t rest event front in
       record {
-        sound = sound_after s.history t (main_step event t).0 (main_worked (main_step event t)).1 own.leads;
+        sound = sound_after t s (main_worked (main_step event t)).0 (main_worked (main_step event t)).1 own.leads own.stood (main_none (main_worked (main_step event t)).0 told.lane) (main_framed s.history t event rest s.phase front);
         settings = own.leads.settings;
         does = record {
           added = record { entry = (main_worked (main_step event t)).0; of_move = told.lane; added = refl };
@@ -132,7 +137,7 @@ module _ (t : Tables) (log : List Entry) (s : HasPhase t) where
       let own = sched_leads s.history t event list rest s.phase front ends in
       let told = sched_told t rest event front list in
       record {
-        sound = sound_after s.history t (sched_step event list t).0 (sched_worked (sched_step event list t)).1 own.leads;
+        sound = sound_after t s (sched_worked (sched_step event list t)).0 (sched_worked (sched_step event list t)).1 own.leads own.stood (sched_none (sched_worked (sched_step event list t)).0 told.lane) (sched_framed s.history t event list rest s.phase front ends);
         settings = own.leads.settings;
         does = record {
           added = record { entry = (sched_worked (sched_step event list t)).0; of_move = told.lane; added = refl };
@@ -172,7 +177,7 @@ module _ (t : Tables) (log : List Entry) (s : HasPhase t) where
       let unblown = not-true t.blown (and_parts (not t.handed) (not t.blown) second.1).1 in
       let own = hand_leads s.history t s.phase first.0 some free unblown in
       rw (ok.0, ok.1) (record {
-        sound = sound_after s.history t Handed (handed_out t) own.leads;
+        sound = sound_after t s Handed (handed_out t) own.leads own.stood (λ h x. refl) s.framed;
         settings = refl;
         does = record {
           added = record { entry = Handed; of_move = refl; added = refl };
@@ -198,7 +203,7 @@ module _ (t : Tables) (log : List Entry) (s : HasPhase t) where
   keep_made op rest front a hd x =
       let own = keep_leads s.history t op rest s.phase a hd front in
       record {
-        sound = sound_after s.history t (KeptEntry op) (kept op t) own.leads;
+        sound = sound_with t s (KeptEntry op) (kept op t) op own.leads (framed_in s.history t op rest s.phase a hd front) (fits_in s.history t op rest s.phase a hd front) (tree_with s.history t op (kept op t) s.phase own.leads a) (unblown_framed (kept op t) (own.blown ∙ unblown_of s.history t s.phase a hd));
         settings = own.leads.settings;
         does = record {
           added = record { entry = KeptEntry op; of_move = (op, handed_first op rest front a hd, refl); added = refl };
@@ -233,7 +238,7 @@ module _ (t : Tables) (log : List Entry) (s : HasPhase t) where
       let lives = and_parts t.alive t.handed ready in
       let leads = blow_leads s.history t passed s.phase lives.0 lives.1 in
       rw (ok.0, ok.1) (record {
-        sound = sound_after s.history t (BlownEntry passed) (refused_by t) leads;
+        sound = sound_after t s (BlownEntry passed) (refused_by t) leads lives.0 (λ h x. refl) (λ blew op rest front. framed_in s.history t op rest s.phase lives.0 lives.1 front);
         settings = refl;
         does = record {
           added = record { entry = BlownEntry passed; of_move = refl; added = refl };
@@ -294,7 +299,7 @@ module _ (t : Tables) (log : List Entry) (s : HasPhase t) where
       let free = not-true t.handed lives.1 in
       let leads = down_leads s.history t s.phase lives.0 free in
       rw (ok.0, ok.1) (record {
-        sound = sound_after s.history t DownEntry (gone_down t) leads;
+        sound = sound_after t s DownEntry (gone_down t) leads lives.0 (λ h x. refl) s.framed;
         settings = refl;
         does = record {
           added = record { entry = DownEntry; of_move = refl; added = refl };
@@ -312,22 +317,24 @@ module _ (t : Tables) (log : List Entry) (s : HasPhase t) where
       })
 
   -- a life begins
-  pub begin_done : KeepsLimits t.settings → (tree : Records) (handed : ℕ) → t.alive ≡ false → CanBeginOver tree → handed ≤ greatest_stamp → (next : Tables) (longer : List Entry) (r : Result (Unit {0}) Refused)
-      → OnOk r ((next ≡ begun tree (max handed (tree.stamp + 1)) t) × (longer ≡ log ++ Opened (landed_in t tree) tree.next_epoch (max handed (tree.stamp + 1)) ∷ []))
+  pub begin_done : KeepsLimits t.settings → (tree own : Records) (handed : ℕ) → t.alive ≡ false → CanBeginOver own → own ≡ own_tree log t tree → IsAlike own tree → handed ≤ greatest_stamp → (next : Tables) (longer : List Entry) (r : Result (Unit {0}) Refused)
+      → OnOk r ((next ≡ begun own (max handed (own.stamp + 1)) t) × (longer ≡ log ++ Opened (landed_in t tree) own.next_epoch (max handed (own.stamp + 1)) ∷ []))
       → OnErr r ((next ≡ t) × (longer ≡ log)) → Done (Begin tree handed) t next log longer r
-  begin_done limits tree handed a over high next longer (Err e) ok err = refused (Begin tree handed) t next log longer e s err.0
-  begin_done limits tree handed a over high next longer (Ok x) ok err =
-      let above : tree.stamp < max handed (tree.stamp + 1) = omega arith in
+  begin_done limits tree own handed a over is_own like high next longer (Err e) ok err = refused (Begin tree handed) t next log longer e s err.0
+  begin_done limits tree own handed a over is_own like high next longer (Ok x) ok err =
+      let above : own.stamp < max handed (own.stamp + 1) = omega arith in
       let fits = over.stamp in
-      let within : max handed (tree.stamp + 1) < 2 ^ 63 = omega arith in
+      let within : max handed (own.stamp + 1) < 2 ^ 63 = omega arith in
+      let few = like_length own tree like in
+      let weight_ : measure (begun own (max handed (own.stamp + 1)) t) ≤ begin_measure t.settings tree = subst (λ (n : ℕ). measure (begun own (max handed (own.stamp + 1)) t) ≤ 7 + (10 + untried_measure t.settings.max_attempts) * n) few (begin_weighs own (max handed (own.stamp + 1)) t) in
       rw (ok.0, ok.1) (record {
-        sound = begin_sound t tree (max handed (tree.stamp + 1)) limits over above within;
+        sound = begin_sound t tree own (max handed (own.stamp + 1)) limits over above within;
         settings = refl;
         does = record {
-          added = record { entry = Opened (landed_in t tree) tree.next_epoch (max handed (tree.stamp + 1)); of_move = refl; added = refl };
-          lawful = λ opening k from. begin_keeps t tree (max handed (tree.stamp + 1)) limits over above within opening log k a from;
+          added = record { entry = Opened (landed_in t tree) own.next_epoch (max handed (own.stamp + 1)); of_move = rw (like.epoch, like.stamp) refl; added = refl };
+          lawful = λ opening k from. begin_keeps t tree own (max handed (own.stamp + 1)) limits over above within opening log k a is_own from.first;
           ready = rw a refl;
-          weighs = begin_weighs tree (max handed (tree.stamp + 1)) t;
+          weighs = weight_;
           stands = (a, refl);
           served = refl;
           blown = refl;
@@ -370,7 +377,7 @@ module _ (t : Tables) (log : List Entry) (s : HasPhase t) where
       let goes = serve_goes s.history t r few message reply in_range answers in
       let leads = goes_leads s.history t (Served (sender_of message) message reply) (served_moved message reply t) lives.0 goes in
       record {
-        sound = sound_after s.history t (Served (sender_of message) message reply) (served_moved message reply t) leads;
+        sound = sound_after t s (Served (sender_of message) message reply) (served_moved message reply t) leads lives.0 (λ h x. refl) (open_framed goes.history (served_moved message reply t) goes.runs);
         settings = leads.settings;
         does = record {
           added = record { entry = Served (sender_of message) message reply; of_move = (reply, refl); added = refl };
@@ -398,7 +405,7 @@ module _ (t : Tables) (log : List Entry) (s : HasPhase t) where
       let blew : t.blown ≡ true = let b = lives.1 in rw closed at b in
       let leads = shut_serves s.history t message (serving_shut s.history t s.phase lives.0 closed blew) in
       record {
-        sound = sound_after s.history t (Served (sender_of message) message NotOpen) (record t { served = t.served + 1 }) leads;
+        sound = sound_after t s (Served (sender_of message) message NotOpen) (record t { served = t.served + 1 }) leads lives.0 (λ h x. refl) s.framed;
         settings = refl;
         does = record {
           added = record { entry = Served (sender_of message) message NotOpen; of_move = (NotOpen, refl); added = refl };

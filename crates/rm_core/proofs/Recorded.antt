@@ -1,6 +1,5 @@
 -- What a store's operations amount to has each application once, with sound attempts and parts in their ranges, and no end was kept after them.
 use Rattle.std.proofs.Common.{◌≡◌, ℕ, ◌+◌, ◌≤◌, List, [], ◌∷◌, ◌++◌, Bool, true, false, not, cond, fold, map, filter, find, is_none, is_some, None, Some, Option, if◌then◌else◌, count_by, refl, sym, ◌∙◌, ap, subst, arith}
-use Rattle.std.specs.List.{list_any}
 use Rattle.std.proofs.lemmas.List.Sums.{sum_by-append, sum_by-cons}
 use Rattle.rm_types.specs.declared.ids.AppId.{AppId}
 use Rattle.rm_types.specs.declared.operations.Op.{Op}

@@ -14,7 +14,11 @@ use Rattle.rm_tables.specs.declared.tables.Tables.{Tables}
 use Rattle.rm_refinement.specs.History.{History}
 use Rattle.rm_invariant.specs.Phases.{Simulates}
 use Rattle.rm_core.specs.Queues.{tables_after, tables_moved, unopened}
-use Rattle.rm_core.specs.Invariant.{HasPhase, LogInvariant}
+use Rattle.rm_core.specs.Invariant.{HasPhase, IsRefusedFramed, LogInvariant}
+use Rattle.rm_core.specs.Stores.{IsOfStore}
+use Rattle.rm_core.proofs.Stores.{IsOfNone, stored_with, tree_stays}
+use Rattle.rm_types.specs.Ranges.{IsOperation}
+use Rattle.rm_types.specs.Records.{fits_records, recorded}
 
 -- an entry that is allowed after a log may be added to it
 pub AllAllowed-push : (settings : Settings) (s : Manager) (log : List Entry) (e : Entry) → AllAllowed settings s log → Allowed settings (after_all s log) e
@@ -53,6 +57,12 @@ keeps_more opening log t next e k alive m =
       told_by = λ some. told_more opening log t next e (k.told_by (some_entry opening log t k alive)) l.settings l.alloc m.own;
     }
 
--- the tables stay sound
-pub sound_after : (h : History) (t : Tables) (e : Entry) (next : Tables) → Simulates h t e next → HasPhase next
-sound_after h t e next leads = record { history = leads.history; phase = leads.phase }
+-- the tables stay sound, where the entry keeps nothing
+pub sound_after : (t : Tables) (s : HasPhase t) (e : Entry) (next : Tables) → Simulates s.history t e next → t.alive ≡ true → IsOfNone e → IsRefusedFramed next → HasPhase next
+sound_after t s e next leads alive none framed =
+    record { history = leads.history; phase = leads.phase; stored = subst IsOfStore (sym (tree_stays s.history t e next s.phase leads alive none)) s.stored; framed = framed }
+
+-- and where it keeps an operation that fits what is recorded
+pub sound_with : (t : Tables) (s : HasPhase t) (e : Entry) (next : Tables) (op : Op) → Simulates s.history t e next → IsOperation op → fits_records t.tree op ≡ true → next.tree ≡ recorded t.tree op → IsRefusedFramed next → HasPhase next
+sound_with t s e next op leads can fits is framed =
+    record { history = leads.history; phase = leads.phase; stored = subst IsOfStore (sym is) (stored_with t.tree op s.stored can fits); framed = framed }

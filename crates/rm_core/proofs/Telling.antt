@@ -8,11 +8,12 @@ use Rattle.rm_model.specs.State.{LifeState, Manager}
 use Rattle.rm_model.specs.Lawful.{state_after}
 use Rattle.rm_tables.specs.declared.tables.Tables.{Tables}
 use Rattle.rm_refinement.specs.History.{abstract_life}
-use Rattle.rm_core.specs.Moves.{HasLanded, IsLeft}
+use Rattle.rm_core.specs.Moves.{HasLanded, IsLeftAfter}
 use Rattle.rm_core.specs.Seen.{Seen, StandsFor}
-use Rattle.rm_core.specs.Words.{as_new, is_blown, is_handed, landed_over, manager_after, stands}
+use Rattle.rm_core.specs.Words.{as_new, is_blown, is_handed, landed_over, manager_after, own_over, stands}
+use Rattle.rm_types.specs.Alike.{IsAlike}
 use Rattle.rm_invariant.proofs.opening.Whole.{told_standing}
-use Rattle.rm_core.proofs.Lives.{landing, landing_none, landing_one, stands_for}
+use Rattle.rm_core.proofs.Lives.{landing_none, landing_one, own_is, stands_for}
 
 -- a life stands after the log; it was blown where an operation of it was refused, and an operation is with the store where the manager has handed one
 pub record LifeTold (opening : List Op) (s : Seen) : Type 0 where
@@ -40,12 +41,12 @@ module _ (s : Seen) (opening : List Op) (k : StandsFor opening s) where
   told_blew dead = ap (λ (m : Manager). m.blew) k.same ∙ rw dead refl
 
   -- and a life that begins then begins over what is kept with so many operations
-  pub told_landed : stands s ≡ false → (tree : Records) → IsLeft tree (state_after opening s.log) → tree ≡ records (kept_after_landing (state_after opening s.log) (landed_over s tree))
-  told_landed dead tree left =
-      (landing opening s.log s.tables k dead tree left).is ∙ sym (ap (λ (m : Manager). records (kept_after_landing m (landed_over s tree))) (stands_for opening s.log s.tables k dead))
+  pub told_own : stands s ≡ false → (tree : Records) → IsLeftAfter tree opening s.log → own_over s tree ≡ records (kept_after_landing (state_after opening s.log) (landed_over s tree))
+  told_own dead tree left =
+      own_is opening s.log s.tables k dead tree left.first ∙ sym (ap (λ (m : Manager). records (kept_after_landing m (landed_over s tree))) (stands_for opening s.log s.tables k dead))
 
   -- none over what is kept, and one over this and the first that awaited
-  pub told_none_landed : stands s ≡ false → (tree : Records) → tree ≡ records (state_after opening s.log).kept → landed_over s tree ≡ 0
+  pub told_none_landed : stands s ≡ false → (tree : Records) → IsAlike tree (records (state_after opening s.log).kept) → landed_over s tree ≡ 0
   told_none_landed dead tree amounts = landing_none opening s.log s.tables k dead tree amounts
 
   pub told_one_landed : stands s ≡ false → (tree : Records) → HasLanded tree (state_after opening s.log) → landed_over s tree ≡ 1

@@ -1,8 +1,9 @@
 -- What holds of the tables and the log between two moves. This project's own.
-use Rattle.std.specs.Prelude.{◌≢◌, ◌≡◌, List, [], Option, None, Some, false}
+use Rattle.std.specs.Prelude.{◌≢◌, ◌≡◌, List, [], ◌∷◌, Option, None, Some, true, false}
 use Rattle.rm_types.specs.declared.entries.Entry.{Entry}
 use Rattle.rm_types.specs.declared.operations.Op.{Op}
 use Rattle.rm_types.specs.declared.settings.Settings.{Settings}
+use Rattle.rm_types.specs.Ranges.{IsOperation}
 use Rattle.rm_types.specs.Records.{records}
 use Rattle.rm_queues.specs.Rules.{KeepsRules}
 use Rattle.rm_model.specs.State.{opening_state}
@@ -13,11 +14,18 @@ use Rattle.rm_refinement.specs.History.{History, abstract_state}
 use Rattle.rm_invariant.specs.messages.Ranges.{KeepsLimits}
 use Rattle.rm_invariant.specs.Phases.{Phase}
 use Rattle.rm_core.specs.Queues.{tables_after}
+use Rattle.rm_core.specs.Stores.{IsOfStore}
 
--- what holds of the tables by themselves: with some history a phase of the life is reached
+-- the parts of the operation that the store refused, which awaits first, are in their ranges
+abbrev pub IsRefusedFramed : Tables → Type 0
+IsRefusedFramed t = t.blown ≡ true → (op : Op) (rest : List Op) → t.awaiting ≡ op ∷ rest → IsOperation op
+
+-- what holds of the tables by themselves: with some history a phase of the life is reached, and what is recorded is of a store
 pub record HasPhase (t : Tables) : Type 0 where
   pub history : History
   pub phase : Phase history t
+  pub stored : IsOfStore t.tree
+  pub framed : IsRefusedFramed t
 
 -- from the first life on the manager has the queues of its settings
 abbrev pub QueuesAre : Option Settings → Tables → Type 0

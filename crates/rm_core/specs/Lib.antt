@@ -17,6 +17,8 @@ pub use Rattle.rm_invariant.specs.messages.Ranges
 pub use Rattle.rm_invariant.specs.measure.Measure
 pub mod Serving
 pub mod Queues
+pub mod Stores
+pub mod Ends
 pub mod Invariant
 pub mod Seen
 pub mod Moves

@@ -1,5 +1,5 @@
 -- What a move asks, and what it adds to the log.
-use Rattle.std.specs.Prelude.{◌≡◌, ℕ, ◌+◌, ◌-◌, ◌^◌, ◌<◌, ◌≤◌, ◌⊎◌, max, List, [], ◌∷◌, ◌++◌, All, Bool, true, false, None, Some, slice_get}
+use Rattle.std.specs.Prelude.{◌≡◌, ℕ, ◌+◌, ◌-◌, ◌<◌, ◌≤◌, ◌⊎◌, max, List, [], ◌∷◌, ◌++◌, Bool, true, false, Some, slice_get}
 use Rattle.rm_types.specs.declared.entries.Entry.{Entry}
 use Rattle.rm_types.specs.declared.entries.Entry.TheVariants.{Opened, Handed, Kept as KeptEntry, Blown as BlownEntry, Served, Settled, Down as DownEntry}
 use Rattle.rm_types.specs.declared.messages.Lane.{Lane}
@@ -8,14 +8,15 @@ use Rattle.rm_types.specs.declared.operations.Op.{Op}
 use Rattle.rm_types.specs.declared.replies.Reply.{Reply}
 use Rattle.rm_types.specs.declared.settings.Settings.{Settings}
 use Rattle.rm_types.specs.declared.limits.TheConstants.{EPOCHS, STAMPS}
-use Rattle.rm_types.specs.Ranges.{IsOperation}
-use Rattle.rm_types.specs.Records.{Records, records, stray}
+use Rattle.rm_types.specs.Alike.{IsAlike}
+use Rattle.rm_types.specs.Records.{Records, records}
 use Rattle.rm_model.specs.Lawful.{state_after}
 use Rattle.rm_model.specs.State.{Manager}
 use Rattle.rm_types.specs.Lanes.{feed_lane, lane_of_entry, sender_of}
 use Rattle.rm_types.specs.Limits.{greatest_stamp, most_served}
 use Rattle.rm_core.specs.Seen.{Seen, StandsFor, handed_op}
-use Rattle.rm_core.specs.Queues.{landed_in}
+use Rattle.rm_core.specs.Queues.{landed_in, own_tree}
+use Rattle.rm_core.specs.Stores.{IsOfStore}
 use Rattle.rm_core.specs.Words.{as_new}
 use Rattle.rm_tables.specs.declared.tables.Tables.{Tables}
 use Rattle.rm_tables.specs.Lives.{is_ready, may_go_down}
@@ -25,25 +26,22 @@ use Rattle.rm_invariant.specs.Transitions.{BookFollowsTable, NodesFollowTable, R
 use Rattle.rm_core.specs.declared.manager.Move.{Move}
 use Rattle.rm_core.specs.declared.manager.Move.TheVariants.{Serve, Main, Sched, Hand, Kept, Blown, Settle, Down, Begin}
 
--- the tree is what some operations of a store amount to, whose parts are in their ranges
-pub record IsOfStore (tree : Records) : Type 0 where
-  pub ops : List Op
-  pub framed : All IsOperation ops
-  pub none_stray : stray ops ≡ None
-  pub amounts : tree ≡ records ops
-
 -- a life may begin over what is recorded, whatever that is: there is an epoch and a stamp left
 pub record CanBeginOver (tree : Records) : Type 0 where
   pub of_store : IsOfStore tree
   pub epoch : tree.next_epoch < EPOCHS
   pub stamp : tree.stamp < STAMPS - 1
 
--- a move may be asked for: the number that is handed to a life is 1 to 10^15; the parts of a message are in their ranges, and
--- not more than 100,000 are served in a life
-abbrev pub CanMake : Tables → Move → Type 0
-CanMake t (Begin tree handed) = CanBeginOver tree × (1 ≤ handed) × (handed ≤ greatest_stamp)
-CanMake t (Serve message) = IsMessage message × (t.served < most_served)
-CanMake t _ = Unit {0}
+-- what is handed to a life is its own but for the numbers of ends
+abbrev pub IsOwn : Seen → Records → Type 0
+IsOwn seen tree = IsAlike (own_tree seen.log seen.tables tree) tree
+
+-- a move may be asked for: what is handed to a life is its own but for the numbers of ends, and its number is 1 to 10^15; the parts of a
+-- message are in their ranges, and not more than 100,000 are served in a life
+abbrev pub CanMake : Seen → Move → Type 0
+CanMake seen (Begin tree handed) = CanBeginOver tree × IsOwn seen tree × (1 ≤ handed) × (handed ≤ greatest_stamp)
+CanMake seen (Serve message) = IsMessage message × (seen.tables.served < most_served)
+CanMake seen _ = Unit {0}
 
 -- the lane of a move
 abbrev pub lane_of : Move → Lane
@@ -80,20 +78,25 @@ pub record AddsEntry (next : Move) (t : Tables) (log longer : List Entry) : Type
   pub of_move : IsOf next t entry
   pub added : longer ≡ log ++ entry ∷ []
 
--- the last life blew, and the tree is what is kept and the first operation that awaits amount to
+-- the last life blew, and the tree is what is kept and the first operation that awaits amount to, but for the numbers of ends
 pub record HasLanded (tree : Records) (s : Manager) : Type 0 where
   pub blew : s.blew ≡ true
   pub op : Op
   pub first : slice_get s.awaiting 0 ≡ Some op
-  pub amounts : tree ≡ records (s.kept ++ op ∷ [])
+  pub amounts : IsAlike tree (records (s.kept ++ op ∷ []))
 
--- what a life can have left of its store: what is kept, or this and the operation that the store refused
+-- what a life can have left of its store: what is kept, or this and the operation that the store refused, but for the numbers of ends
 abbrev pub IsLeft : Records → Manager → Type 0
-IsLeft tree s = (tree ≡ records s.kept) ⊎ HasLanded tree s
+IsLeft tree s = IsAlike tree (records s.kept) ⊎ HasLanded tree s
 
--- a life begins over what the last one left; of other moves this says nothing
+-- a life begins over what the last one left, the first one over just what the store held
+pub record IsLeftAfter (tree : Records) (opening : List Op) (log : List Entry) : Type 0 where
+  pub left : IsLeft tree (state_after opening log)
+  pub first : log ≡ [] → tree ≡ records opening
+
+-- so does it begin; of other moves this says nothing
 abbrev pub GoesOnFrom : Move → List Op → Seen → Type 0
-GoesOnFrom (Begin tree handed) opening seen = IsLeft tree (state_after opening seen.log)
+GoesOnFrom (Begin tree handed) opening seen = IsLeftAfter tree opening seen.log
 GoesOnFrom _ opening seen = Unit {0}
 
 -- a move of the manager's own makes the weight less; a message adds a fixed weight at most; a life begins with the weight of its

@@ -80,6 +80,11 @@ landed_in t tree = landed_where t.blown t.awaiting tree
 abbrev pub tree_landed : ℕ → Tables → Records
 tree_landed landed t = fold recorded t.tree (take landed t.awaiting)
 
+-- what a life begins over: the first one over what is handed to it, a later one over what the manager itself has recorded, with what landed
+abbrev pub own_tree : List Entry → Tables → Records → Records
+own_tree [] t tree = tree
+own_tree (e ∷ log) t tree = tree_landed (landed_in t tree) t
+
 -- the tables after one more entry
 abbrev pub tables_moved : Tables → Entry → Tables
 tables_moved t (Opened landed epoch stamp) = begun (tree_landed landed t) stamp t

@@ -10,7 +10,7 @@ use Rattle.rm_types.specs.Records.{Records, records}
 use Rattle.rm_tables.specs.Lives.{is_ready, may_go_down, no_life}
 use Rattle.rm_invariant.specs.messages.Ranges.{IsMessage}
 use Rattle.rm_invariant.specs.measure.Measure.{message_measure as weight_added, measure}
-use Rattle.rm_core.specs.Queues.{landed_in, tables_moved}
+use Rattle.rm_core.specs.Queues.{landed_in, own_tree, tables_moved}
 use Rattle.rm_core.specs.Seen.{Seen, handed_op}
 
 -- a life stands
@@ -28,6 +28,10 @@ is_blown seen = seen.tables.blown
 -- so many operations of the last life landed over the tree with which the next one begins
 abbrev pub landed_over : Seen → Records → ℕ
 landed_over seen tree = landed_in seen.tables tree
+
+-- what the next life begins over
+abbrev pub own_over : Seen → Records → Records
+own_over seen tree = own_tree seen.log seen.tables tree
 
 -- so many messages were served in the life that stands
 abbrev pub served_in : Seen → ℕ

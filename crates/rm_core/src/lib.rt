@@ -8,6 +8,7 @@
 //! and when a segment closes is for the layer above to say.
 #![tactic(auto)]
 
+mod ends;
 mod laws;
 mod likeness;
 mod manager;

@@ -1,8 +1,10 @@
-ghost use Rattle.std.specs.Prelude.{◌≡◌, ◌↔◌, IfOk, IsTrue, true};
-ghost use Rattle.rm_types.specs.Records.{fits_records, recorded};
+ghost use Rattle.std.specs.Prelude.{◌≡◌, ◌↔◌, IfOk, IsTrue, map};
+ghost use Rattle.rm_types.specs.Alike.{IsAlike, bare};
 
-use rm_tree::{Tree, TreeError};
-use rm_types::{AppRecord, AttemptRecord, How, NoMemory, Op, Submission, Text};
+use crate::ends::end_together;
+use rm_tree::Tree;
+use rm_types::{AppRecord, AttemptRecord, How, NoMemory, Submission, Text};
+use std::alloc::Global;
 
 fn is_same_submission(one: &Submission, other: &Submission) -> bool
     ensures { IsTrue result ↔ (one.now ≡ other.now) }
@@ -48,53 +50,40 @@ fn are_same_attempts(some: &[AttemptRecord], others: &[AttemptRecord]) -> bool
     true
 }
 
-fn is_same_app(one: &AppRecord, other: &AppRecord) -> bool
-    ensures { IsTrue result ↔ (one.now ≡ other.now) }
+/// Whether two records are the same but for the numbers of their ends.
+fn is_like_app(one: &AppRecord, other: &AppRecord) -> bool
+    ensures { IsTrue result ↔ (bare one.now ≡ bare other.now) }
 {
     one.id == other.id
         && is_same_submission(&one.submission, &other.submission)
         && are_same_attempts(one.attempts.as_slice(), other.attempts.as_slice())
         && is_same_ending(&one.ending, &other.ending)
-        && one.end_order == other.end_order
 }
 
-fn are_same_apps(tree: &Tree, other: &Tree) -> bool
-    ensures { IsTrue result ↔ (tree.now.apps ≡ other.now.apps) }
+fn are_like_apps(tree: &Tree, other: &Tree) -> bool
+    ensures { IsTrue result ↔ (map bare tree.now.apps ≡ map bare other.now.apps) }
 {
     if tree.len() != other.len() {
         return false;
     }
     'records: for place in 0..tree.len() {
-        if !is_same_app(tree.at(place), other.at(place)) {
+        if !is_like_app(tree.at(place), other.at(place)) {
             return false;
         }
     }
     true
 }
 
-/// Whether two trees record the same.
-pub fn are_same(tree: &Tree, other: &Tree) -> bool
-    ensures { IsTrue result ↔ (tree.now ≡ other.now) }
+/// Whether two trees record the same but for the numbers of ends, which stand in the same order. `NoMemory` where no memory was
+/// found to compare that order.
+pub fn are_alike(alloc: Global, tree: &Tree, other: &Tree) -> Result<bool, NoMemory>
+    ensures { IfOk result (λ alike. IsTrue alike ↔ IsAlike tree.now other.now) }
 {
-    let numbers = tree.next_epoch() == other.next_epoch()
-        && tree.stamp() == other.stamp()
-        && tree.applied() == other.applied();
-    numbers && are_same_apps(tree, other)
-}
-
-/// Whether a tree records what another does once an operation is kept that fits it.
-pub fn is_after(before: &Tree, op: &Op, tree: &Tree) -> Result<bool, NoMemory>
-    requires { fits_records before.now op.now ≡ true }
-    ensures { IfOk result (λ after. IsTrue after ↔ (tree.now ≡ recorded before.now op.now)) }
-{
-    let mut with_op = before.copy()?;
-    match with_op.apply(op) {
-        Ok(()) => {
-            // What a life removed left gaps, over which each look at a place would walk.
-            with_op.close_gaps();
-            Ok(are_same(tree, &with_op))
-        }
-        Err(TreeError::Memory) => Err(NoMemory),
-        Err(TreeError::Stray) => unreachable!(),
+    if tree.next_epoch() != other.next_epoch() || tree.stamp() != other.stamp() {
+        return Ok(false);
     }
+    if !are_like_apps(tree, other) {
+        return Ok(false);
+    }
+    end_together(alloc, tree, other)
 }

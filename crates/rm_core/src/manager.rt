@@ -3,6 +3,7 @@ ghost use Rattle.std.specs.Option.{option_copied};
 ghost use Rattle.rm_types.specs.declared.entries.Entry.{Entry};
 ghost use Rattle.rm_types.specs.declared.messages.Lane.{Lane};
 ghost use Rattle.rm_types.specs.declared.operations.Op.{Op as AnyOp};
+ghost use Rattle.rm_types.specs.Alike.{IsAlike};
 ghost use Rattle.rm_types.specs.Ranges.{IsOperation};
 ghost use Rattle.rm_types.specs.Limits.{greatest_stamp, most_served};
 ghost use Rattle.rm_types.specs.Records.{no_records};
@@ -10,12 +11,12 @@ ghost use Rattle.rm_queues.specs.Rules.{KeepsRules};
 ghost use Rattle.rm_model.specs.State.{opening_state};
 ghost use Rattle.rm_model.specs.Lawful.{AllAllowed, state_after};
 ghost use Rattle.rm_tables.specs.Lives.{is_ready, may_go_down, no_life};
-ghost use Rattle.rm_core.specs.Moves.{CanBeginOver, CanMake, MoveEffect, IsLeft, may_make};
+ghost use Rattle.rm_core.specs.Moves.{CanBeginOver, CanMake, MoveEffect, IsLeft, IsOwn, may_make};
 ghost use Rattle.rm_core.specs.Invariant.{QueuesAre};
 ghost use Rattle.rm_core.specs.Seen.{IsToBeKept, Rests, StandsFor, handed_op, is_kept_entry};
 ghost use Rattle.rm_invariant.specs.messages.Ranges.{IsMessage, KeepsLimits};
 
-use crate::likeness::{are_same, is_after};
+use crate::likeness::are_alike;
 use crate::moves;
 use rm_queues::QueueTree;
 use rm_tables::{Refused, Tables};
@@ -45,7 +46,8 @@ pub enum Move {
     /// The life goes down. What awaits may land on the device or be lost.
     Down,
     /// A life begins over what the store holds, of which `tree` is what it amounts to; `handed` (1 to 10^15)
-    /// is the stamp that its script gives it.
+    /// is the stamp that its script gives it. After the first life the manager goes on with its own records, from which
+    /// `tree` differs in the numbers of ends alone: it tells whether the operation that the store refused landed.
     Begin { tree: Tree, handed: u64 },
 }
 
@@ -145,23 +147,18 @@ impl Core {
         self.tables.may_go_down()
     }
 
-    /// Whether a tree is what the last life can have left of the store: what the kept operations amount to or, where that life
-    /// blew, these and the first that awaits. Before the first life, when nothing is known of a store, whether it records nothing.
+    /// Whether a tree is what the last life can have left of the store, but for the numbers of ends, which stand in the same order:
+    /// what the kept operations amount to or, where that life blew, these and the first that awaits. Over such a tree a later life
+    /// may begin. Before the first life, when nothing is known of a store, whether it records nothing. `NoMemory` where no memory was
+    /// found to compare the two.
     pub fn is_left(&self, tree: &Tree) -> Result<bool, NoMemory>
         requires { self.now.tables.alive ≡ false }
         ensures left { (opening : List AnyOp) → StandsFor opening self.now → (self.now.log ≡ [] → ⊥) → IfOk result (λ left. IsTrue left ↔ IsLeft tree.now (state_after opening self.now.log)) }
-        ensures unbegun { (opening : List AnyOp) → StandsFor opening self.now → self.now.log ≡ [] → IfOk result (λ left. IsTrue left ↔ (tree.now ≡ no_records)) }
+        ensures unbegun { (opening : List AnyOp) → StandsFor opening self.now → self.now.log ≡ [] → IfOk result (λ left. IsTrue left ↔ IsAlike tree.now no_records) }
+        ensures own { (self.now.log ≡ [] → ⊥) → IfOk result (λ left. IsTrue left → IsOwn self.now tree.now) }
     {
-        if are_same(&self.tables.tree, tree) {
-            return Ok(true);
-        }
-        if !self.tables.blown {
-            return Ok(false);
-        }
-        match self.tables.awaiting.first() {
-            Some(op) => is_after(&self.tables.tree, op, tree),
-            None => Ok(false),
-        }
+        let own = moves::with_landed(&self.tables, moves::landed_in(&self.tables, tree))?;
+        are_alike(self.tables.alloc, &own, tree)
     }
 
     /// Where nothing is left to do, nothing is owed.
@@ -175,7 +172,7 @@ impl Core {
     /// move's lane isn't ready: a life begins where none stands, and one goes down where no operation is with the store. Where the log
     /// was lawful over a store that held an opening list, and a life begins over what is kept by then, it is lawful after the move too.
     pub fn step(&mut self, next: Move) -> Result<(), Refused>
-        requires { CanMake self.old.tables next }
+        requires { CanMake self.old next }
         ensures does { OnOk result (MoveEffect next self.old self.new) }
         ensures not_ready { IsErrOf result Refused.NotReady ↔ (may_make self.old.tables next ≡ false) }
         ensures err { OnErr result (self.new ≡ self.old) }
@@ -195,6 +192,7 @@ impl Core {
 
     fn begin(&mut self, tree: Tree, handed: u64) -> Result<(), Refused>
         requires over { CanBeginOver tree }
+        requires own { IsOwn self.old tree }
         requires low { 1 ≤ handed }
         requires high { handed ≤ greatest_stamp }
         ensures does { OnOk result (MoveEffect (Move.Begin tree handed) self.old self.new) }
@@ -205,8 +203,10 @@ impl Core {
             return Err(Refused::NotReady);
         }
         ready_queues(&mut self.queues, &self.tables)?;
-        let stamp = handed.max(tree.stamp() + 1);
-        moves::begin(&mut self.tables, &mut self.log, tree, stamp)
+        let landed = moves::landed_in(&self.tables, &tree);
+        let own = moves::own_tree(&self.log, &self.tables, landed, tree)?;
+        let stamp = handed.max(own.stamp() + 1);
+        moves::begin(&mut self.tables, &mut self.log, landed, own, stamp)
     }
 
     fn main(&mut self) -> Result<(), Refused>

@@ -3,9 +3,9 @@ ghost use Rattle.rm_types.specs.declared.entries.Entry.{Entry};
 ghost use Rattle.rm_types.specs.declared.ids.AppId.{AppId};
 ghost use Rattle.rm_types.specs.declared.ids.ContainerId.{ContainerId};
 ghost use Rattle.rm_types.specs.declared.messages.Lane.{Lane};
-ghost use Rattle.rm_types.specs.declared.operations.Op.{Op};
+ghost use Rattle.rm_types.specs.declared.operations.Op.{Op as AnyOp};
 ghost use Rattle.rm_types.specs.Lanes.{sender_of};
-ghost use Rattle.rm_types.specs.Records.{fits_records};
+ghost use Rattle.rm_types.specs.Records.{fits_records, recorded};
 ghost use Rattle.rm_types.specs.Limits.{most_served};
 ghost use Rattle.rm_model.specs.Facts.{attempts_in};
 ghost use Rattle.rm_tables.specs.declared.events.MainEvent.{MainEvent};
@@ -18,13 +18,13 @@ ghost use Rattle.rm_tables.specs.SchedEvents.{EndsBy, sched_step};
 ghost use Rattle.rm_sched.specs.CanWork.{AreFew, CanAbsorb, CanPass};
 ghost use Rattle.rm_invariant.specs.messages.Ranges.{IsMessage};
 ghost use Rattle.rm_invariant.specs.bounds.InBounds.{InBounds};
-ghost use Rattle.rm_core.specs.Queues.{answered, landed_in, served_moved};
+ghost use Rattle.rm_core.specs.Queues.{answered, landed_in, own_tree, served_moved, tree_landed};
 ghost use Rattle.rm_core.specs.Serving.{IsOpenReply, IsReply, IsServed};
 
 use rm_queues::QueueTree;
 use rm_tables::{Refused, Tables};
-use rm_tree::Tree;
-use rm_types::{Boxed, Duplicate, Entry, Items, Lane, Message, NoMemory, Reply, Sender};
+use rm_tree::{Tree, TreeError};
+use rm_types::{Boxed, Duplicate, Entry, Items, Lane, Message, NoMemory, Op, Reply, Sender};
 use std::alloc::Global;
 use std::mem;
 
@@ -61,7 +61,7 @@ fn log_entry(log: &mut Items<Entry>, mut list: Vec<Entry>, entry: Entry)
 }
 
 /// How many of the awaiting operations a tree shows after a life that blew: the first, or none.
-fn landed_in(t: &Tables, tree: &Tree) -> u32
+pub fn landed_in(t: &Tables, tree: &Tree) -> u32
     ensures { result ≡ landed_in t.now tree.now }
 {
     if !t.blown {
@@ -73,13 +73,70 @@ fn landed_in(t: &Tables, tree: &Tree) -> u32
     }
 }
 
-/// A life begins over what a store holds.
-pub fn begin(t: &mut Tables, log: &mut Items<Entry>, tree: Tree, stamp: u64) -> Result<(), Refused>
-    ensures ok { OnOk result ((t.new ≡ begun tree stamp t.old) × (log.new ≡ log.old ++ Entry.Opened (landed_in t.old tree) tree.next_epoch stamp ∷ [])) }
+/// A copy of what is recorded, with the first awaiting operation where it landed.
+pub fn with_landed(t: &Tables, landed: u32) -> Result<Tree, NoMemory>
+    requires one { landed ≤ 1 }
+    requires fits { landed ≡ 1 → (op : AnyOp) (rest : List AnyOp) → t.now.awaiting ≡ op ∷ rest → fits_records t.now.tree op ≡ true }
+    ensures { IfOk result (λ own. own ≡ tree_landed landed t.now) }
+{
+    let own = dense_copy(&t.tree)?;
+    if landed == 0 {
+        return Ok(own);
+    }
+    match t.awaiting.first() {
+        Some(op) => with_op(own, op),
+        None => Ok(own),
+    }
+}
+
+/// A copy in which the record at a place is found without a walk.
+fn dense_copy(tree: &Tree) -> Result<Tree, NoMemory>
+    ensures { IfOk result (λ copy. copy ≡ tree.now) }
+{
+    let mut copy = tree.copy()?;
+    // What a life removed left gaps.
+    copy.close_gaps();
+    Ok(copy)
+}
+
+/// What is recorded once an operation is kept that fits it.
+fn with_op(mut tree: Tree, op: &Op) -> Result<Tree, NoMemory>
+    requires { fits_records tree op.now ≡ true }
+    ensures { IfOk result (λ after. after ≡ recorded tree op.now) }
+{
+    match tree.apply(op) {
+        Ok(()) => Ok(tree),
+        Err(TreeError::Memory) => Err(NoMemory),
+        Err(TreeError::Stray) => unreachable!(),
+    }
+}
+
+/// What a life begins over: the first one over what is handed to it, a later one over what the manager itself has recorded, with
+/// what landed.
+pub fn own_tree(log: &Items<Entry>, t: &Tables, landed: u32, tree: Tree) -> Result<Tree, NoMemory>
+    requires one { landed ≤ 1 }
+    requires fits { landed ≡ 1 → (op : AnyOp) (rest : List AnyOp) → t.now.awaiting ≡ op ∷ rest → fits_records t.now.tree op ≡ true }
+    requires landed { landed ≡ landed_in t.now tree }
+    ensures { IfOk result (λ own. own ≡ own_tree log.now t.now tree) }
+{
+    if log.is_empty() {
+        return Ok(tree);
+    }
+    with_landed(t, landed)
+}
+
+/// A life begins over these records; so many of the operations that awaited are among them.
+pub fn begin(
+    t: &mut Tables,
+    log: &mut Items<Entry>,
+    landed: u32,
+    tree: Tree,
+    stamp: u64,
+) -> Result<(), Refused>
+    ensures ok { OnOk result ((t.new ≡ begun tree stamp t.old) × (log.new ≡ log.old ++ Entry.Opened landed tree.next_epoch stamp ∷ [])) }
     ensures ready { result ≢ Err Refused.NotReady }
     ensures err { OnErr result ((t.new ≡ t.old) × (log.new ≡ log.old)) }
 {
-    let landed = landed_in(t, &tree);
     let epoch = tree.next_epoch();
     let list = list_with_room(t.alloc, log)?;
     match t.begin(tree, stamp) {
@@ -166,9 +223,9 @@ pub fn hand(t: &mut Tables, log: &mut Items<Entry>) -> Result<(), Refused>
 
 /// The operation that was handed to the store is kept.
 pub fn keep(t: &mut Tables, log: &mut Items<Entry>) -> Result<(), Refused>
-    requires fits { is_ready t.old Lane.Write ≡ true → (op : Op) (rest : List Op) → t.old.awaiting ≡ op ∷ rest → fits_records t.old.tree op ≡ true }
+    requires fits { is_ready t.old Lane.Write ≡ true → (op : AnyOp) (rest : List AnyOp) → t.old.awaiting ≡ op ∷ rest → fits_records t.old.tree op ≡ true }
     requires awaits { is_ready t.old Lane.Write ≡ true → t.old.awaiting ≢ [] }
-    ensures ok { OnOk result ((op : Op) (rest : List Op) → t.old.awaiting ≡ op ∷ rest → (t.new ≡ kept op t.old) × (log.new ≡ log.old ++ Entry.Kept op ∷ [])) }
+    ensures ok { OnOk result ((op : AnyOp) (rest : List AnyOp) → t.old.awaiting ≡ op ∷ rest → (t.new ≡ kept op t.old) × (log.new ≡ log.old ++ Entry.Kept op ∷ [])) }
     ensures ready { OnOk result (is_ready t.old Lane.Write ≡ true) }
     ensures not_ready { IsErrOf result Refused.NotReady ↔ (is_ready t.old Lane.Write ≡ false) }
     ensures err { OnErr result ((t.new ≡ t.old) × (log.new ≡ log.old)) }

@@ -9,10 +9,10 @@ use Rattle.rm_types.specs.Limits.{greatest_stamp}
 use Rattle.rm_model.specs.Changes.{kept_after_landing}
 use Rattle.rm_model.specs.Lawful.{state_after}
 use Rattle.rm_model.specs.Place.{BeginsAsScripted as BeginsAt, Place, begun, stamp_of}
-use Rattle.rm_core.specs.Moves.{IsLeft}
+use Rattle.rm_core.specs.Moves.{IsLeftAfter, IsOwn}
 use Rattle.rm_core.specs.Seen.{Seen, StandsFor}
 use Rattle.rm_core.specs.Words.{as_new, is_blown, landed_over, served_in, stands}
-use Rattle.rm_core.proofs.Telling.{told_landed}
+use Rattle.rm_core.proofs.Telling.{told_own}
 use Rattle.rm_desk.specs.View.{DeskView}
 use Rattle.rm_desk.specs.Scripts.{AllLive, CanFollow, EndsInCrash, messages_in}
 use Rattle.rm_desk.specs.Runs.{IsPlaceSound}
@@ -28,7 +28,7 @@ next_stamp d h (one ∷ more) e life first =
     (can.0.low, can.0.high)
 
 module _ (d : DeskView) (new : Seen) (place : Place) (h : IsPlaceSound d) (tree : Records) (settings : new.settings ≡ d.core.settings) (began : as_new new ≡ as_new d.core)
-    (lawful : (opening : List Op) → StandsFor opening d.core → IsLeft tree (state_after opening d.core.log) → StandsFor opening new)
+    (lawful : (opening : List Op) → StandsFor opening d.core → IsLeftAfter tree opening d.core.log → StandsFor opening new) (own : IsOwn d.core tree)
     (stood : stands d.core ≡ false) (standing : stands new ≡ true) (count : served_in new ≡ 0) (unblown : is_blown new ≡ false) (life : Life)
     (added : new.log ≡ d.core.log ++ Opened (landed_over d.core tree) tree.next_epoch (stamp_of life tree.stamp) ∷ []) where
   -- it begins over what the last one left
@@ -59,7 +59,7 @@ module _ (d : DeskView) (new : Seen) (place : Place) (h : IsPlaceSound d) (tree 
           run = λ opening script left run.
               let s = state_after opening d.core.log in
               let stamp : stamp_of life tree.stamp ≡ stamp_of life (records (kept_after_landing s (landed_over d.core tree))).stamp =
-              ap (λ (r : Records). stamp_of life r.stamp) (told_landed d.core opening run.stands stood tree left) in
+              ap (λ (n : ℕ). stamp_of life n) (sym own.stamp ∙ ap (λ (r : Records). r.stamp) (told_own d.core opening run.stands stood tree left)) in
               let isnext : BeginsAt s d.place (landed_over d.core tree) (stamp_of life tree.stamp) = record { life = life; more = more; next = whole; at_end = h.between stood; stamped = stamp } in
               one_more opening script d (record { core = new; place = place }) entry run (lawful opening run.stands left) added p isnext;
         };

@@ -3,7 +3,6 @@ use Rattle.std.proofs.Common.{◌≡◌, ◌+◌, List, [], ◌∷◌, Bool, tru
 use Rattle.rm_types.specs.declared.entries.Entry.{Entry}
 use Rattle.rm_types.specs.declared.messages.Lane.TheVariants as lanes
 use Rattle.rm_types.specs.declared.messages.Message.{Message}
-use Rattle.rm_types.specs.declared.messages.Message.TheVariants as messages
 use Rattle.rm_types.specs.declared.messages.Sender.{Sender}
 use Rattle.rm_types.specs.declared.messages.Sender.TheVariants as senders
 use Rattle.rm_types.specs.declared.scripts.Close.{Close}

@@ -30,7 +30,7 @@ use Rattle.rm_desk.specs.declared.feeds.Feeds.{Feeds}
 use Rattle.rm_desk.specs.View.{DeskView}
 use Rattle.rm_desk.specs.Scripts.{AllLive, CanFollow, EndsInCrash, messages_in}
 use Rattle.rm_desk.specs.Lanes.{IsWork, may_close, stands_after}
-use Rattle.rm_desk.specs.Feeds.{IsEntered, at, current_in, place_of}
+use Rattle.rm_desk.specs.Feeds.{IsEntered, at, place_of}
 use Rattle.rm_desk.specs.Runs.{IsLast, IsPlaceSound, segment_cost}
 use Rattle.rm_desk.specs.Effects.{LaneEffect, EffectBy, IsEntryOf}
 use Rattle.rm_desk.proofs.Feeding.{answers_entry, found_sender, no_work, not_end, one_less, served_found, served_without, stands_on}

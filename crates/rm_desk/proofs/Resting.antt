@@ -1,5 +1,5 @@
 -- Where nothing is left to do, a lane of the script is ready, or the run is done.
-use Rattle.std.proofs.Common.{◌≡◌, ◌⊎◌, inl, inr, ⊎_elim, List, [], ◌∷◌, Bool, true, false, None, is_some, refl, sym, ◌∙◌, ap, subst}
+use Rattle.std.proofs.Common.{◌≡◌, ◌⊎◌, inl, inr, ⊎_elim, List, [], ◌∷◌, Bool, true, false, is_some, refl, sym, ◌∙◌, subst}
 use Rattle.std.proofs.lemmas.Bool.{and_parts}
 use Rattle.rm_types.specs.declared.messages.Lane.{Lane}
 use Rattle.rm_types.specs.declared.messages.Lane.TheVariants.{Client, Master, Node, Clock, Main, Sched, Hand, Write, End, Begin}
@@ -10,17 +10,13 @@ use Rattle.rm_types.specs.declared.operations.Op.{Op}
 use Rattle.rm_types.specs.declared.scripts.Close.{Close}
 use Rattle.rm_types.specs.declared.scripts.Close.TheVariants.{Settle, Crash}
 use Rattle.rm_types.specs.declared.scripts.Life.{Life}
-use Rattle.rm_types.specs.declared.scripts.Script.{Script}
 use Rattle.rm_types.specs.declared.scripts.Segment.{Segment}
-use Rattle.rm_types.specs.declared.settings.Settings.{Settings}
-use Rattle.rm_model.specs.State.{Manager}
-use Rattle.rm_model.specs.Lawful.{IsAtRest, IsDone, state_after}
-use Rattle.rm_model.specs.Place.{Place, close_left, first_from, messages_left}
+use Rattle.rm_model.specs.Place.{close_left, first_from, messages_left}
 use Rattle.rm_core.specs.Seen.{Rests, StandsFor}
 use Rattle.rm_core.specs.Words.{can_go_down, has_rest, is_blown, ready_at, stands}
 use Rattle.rm_desk.specs.View.{DeskView}
 use Rattle.rm_desk.specs.Lanes.{HasNoWork, is_ready_at}
-use Rattle.rm_desk.specs.Runs.{IsLast, IsScriptOver, IsScriptRun, IsPlaceSound, DescribesState}
+use Rattle.rm_desk.specs.Runs.{IsLast, IsScriptOver, IsPlaceSound, DescribesState}
 use Rattle.rm_desk.specs.Scripts.{EndsInCrash, IsCrash}
 use Rattle.rm_desk.proofs.Words.{blown_down, blown_serves, dead_idle, idle_rests, life_blew, life_none, life_stands, rest_down, rest_ends, rest_open, rest_owes}
 

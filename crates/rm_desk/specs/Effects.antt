@@ -1,5 +1,5 @@
 -- What a desk's calls do.
-use Rattle.std.specs.Prelude.{Bool, ℕ, ◌≡◌, ◌+◌, ◌<◌, List, [], ◌∷◌, ◌++◌, Option, None, Some, slice_get, true, false}
+use Rattle.std.specs.Prelude.{Bool, ℕ, ◌≡◌, ◌<◌, List, [], ◌∷◌, ◌++◌, Option, None, Some, slice_get, true, false}
 use Rattle.rm_types.specs.declared.entries.Entry.{Entry}
 use Rattle.rm_types.specs.declared.entries.Entry.TheVariants.{Blown, Opened, Handed, Kept, Served, Settled, Down}
 use Rattle.rm_types.specs.declared.messages.Lane.{Lane}
@@ -18,7 +18,7 @@ use Rattle.rm_types.specs.Records.{Records}
 use Rattle.rm_model.specs.State.{LifeState}
 use Rattle.rm_model.specs.Lawful.{state_after}
 use Rattle.rm_model.specs.Place.{close_left, first_from, messages_left, moved, stamp_of}
-use Rattle.rm_core.specs.Moves.{IsLeft}
+use Rattle.rm_core.specs.Moves.{IsLeftAfter}
 use Rattle.rm_core.specs.Seen.{StandsFor}
 use Rattle.rm_core.specs.Words.{as_new, handed_of, has_rest, is_blown, landed_over, stands}
 use Rattle.rm_desk.specs.View.{DeskView}
@@ -93,7 +93,7 @@ Blows passed old new = EffectBy (λ e. e ≡ Blown passed) true Write old new
 -- the script's next life begins over what the last one left
 pub record LifeBegins (tree : Records) (old new : DeskView) : Type 0 where
   pub adds : AddsOne (IsOpening tree old) old new
-  pub goes : ExtendsScriptRun (λ opening. IsLeft tree (state_after opening old.core.log)) old new
+  pub goes : ExtendsScriptRun (λ opening. IsLeftAfter tree opening old.core.log) old new
   pub stood : stands old.core ≡ false
   pub standing : stands new.core ≡ true
   pub unblown : is_blown new.core ≡ false

@@ -4,6 +4,7 @@ ghost use Rattle.rm_types.specs.declared.messages.Lane.{Lane};
 ghost use Rattle.rm_types.specs.declared.operations.Op.{Op as AnyOp};
 ghost use Rattle.rm_types.specs.declared.scripts.Close.{Close};
 ghost use Rattle.rm_types.specs.declared.scripts.Script.{Script as AnyScript};
+ghost use Rattle.rm_types.specs.Alike.{IsAlike};
 ghost use Rattle.rm_types.specs.Ranges.{IsOperation};
 ghost use Rattle.rm_types.specs.Records.{no_records};
 ghost use Rattle.rm_model.specs.Lawful.{IsDone, Lawful, state_after};
@@ -11,7 +12,7 @@ ghost use Rattle.rm_model.specs.Place.{beginning, close_left};
 ghost use Rattle.rm_tables.specs.declared.events.Refused.{Refused};
 ghost use Rattle.rm_queues.specs.Rules.{KeepsRules};
 ghost use Rattle.rm_invariant.specs.messages.Ranges.{KeepsLimits};
-ghost use Rattle.rm_core.specs.Moves.{CanBeginOver, IsLeft};
+ghost use Rattle.rm_core.specs.Moves.{CanBeginOver, IsLeft, IsOwn};
 ghost use Rattle.rm_core.specs.Seen.{IsToBeKept, StandsFor};
 ghost use Rattle.rm_core.specs.Words.{as_new, handed_of, has_rest, is_blown, new_manager, stands};
 ghost use Rattle.rm_desk.specs.Effects.{LifeBegins, Blows, LaneEffect, IsHanded};
@@ -147,11 +148,13 @@ impl Desk {
         blown(&mut self.core, &self.feeds, passed)
     }
 
-    /// The script's next life begins over what the last one left of the store, of which `tree` is what it amounts to.
+    /// The script's next life begins over what the last one left of the store, of which `tree` is what it amounts to; after the first
+    /// life the manager goes on with its own records, from which `tree` differs in the numbers of ends alone.
     /// `NotReady` comes exactly where a life stands or none is left in the script, and `Memory` where no
     /// memory was found; then nothing has changed.
     pub fn begin(&mut self, tree: Tree) -> Result<(), Refused>
-        requires { CanBeginOver tree }
+        requires over { CanBeginOver tree }
+        requires own { IsOwn self.old.core tree }
         ensures begins { OnOk result (LifeBegins tree self.old self.new) }
         ensures ready { OnOk result (is_ready_at self.old Lane.Begin ≡ true) }
         ensures not_ready { IsErrOf result Refused.NotReady ↔ (is_ready_at self.old Lane.Begin ≡ false) }
@@ -185,12 +188,15 @@ impl Desk {
         self.feeds.close
     }
 
-    /// Whether a tree is what the last life can have left of the store: what the kept operations amount to or, where that life
-    /// blew, these and the first that awaits. Before the first life, when nothing is known of a store, whether it records nothing.
+    /// Whether a tree is what the last life can have left of the store, but for the numbers of ends, which stand in the same order:
+    /// what the kept operations amount to or, where that life blew, these and the first that awaits. Over such a tree a later life
+    /// may begin. Before the first life, when nothing is known of a store, whether it records nothing. `NoMemory` where no memory was
+    /// found to compare the two.
     pub fn is_left(&self, tree: &Tree) -> Result<bool, NoMemory>
         requires { stands self.now.core ≡ false }
         ensures left { (opening : List AnyOp) → StandsFor opening self.now.core → (self.now.core.log ≡ [] → ⊥) → IfOk result (λ left. IsTrue left ↔ IsLeft tree.now (state_after opening self.now.core.log)) }
-        ensures unbegun { (opening : List AnyOp) → StandsFor opening self.now.core → self.now.core.log ≡ [] → IfOk result (λ left. IsTrue left ↔ (tree.now ≡ no_records)) }
+        ensures unbegun { (opening : List AnyOp) → StandsFor opening self.now.core → self.now.core.log ≡ [] → IfOk result (λ left. IsTrue left ↔ IsAlike tree.now no_records) }
+        ensures own { (self.now.core.log ≡ [] → ⊥) → IfOk result (λ left. IsTrue left → IsOwn self.now.core tree.now) }
     {
         self.core.is_left(tree)
     }

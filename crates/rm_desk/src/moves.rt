@@ -4,7 +4,7 @@ ghost use Rattle.rm_types.specs.declared.scripts.Close.{Close};
 ghost use Rattle.rm_types.specs.Lanes.{feed_lane};
 ghost use Rattle.rm_model.specs.Place.{close_left};
 ghost use Rattle.rm_tables.specs.declared.events.Refused.{Refused};
-ghost use Rattle.rm_core.specs.Moves.{CanBeginOver};
+ghost use Rattle.rm_core.specs.Moves.{CanBeginOver, IsOwn};
 ghost use Rattle.rm_desk.specs.Effects.{LifeBegins, Blows, LaneEffect};
 ghost use Rattle.rm_desk.specs.Feeds.{IsEntered, at};
 ghost use Rattle.rm_desk.specs.Lanes.{IsStep, has_message, is_ready_at};
@@ -178,6 +178,7 @@ pub(crate) fn begin(core: &mut Core, feeds: &mut Feeds, tree: Tree) -> Result<()
     requires entered { IsEntered feeds.old }
     requires ready { is_ready_at (at core.old feeds.old) Lane.Begin ≡ true }
     requires over { CanBeginOver tree }
+    requires own { IsOwn core.old tree }
     ensures ready { result ≢ Err Refused.NotReady }
     ensures begins { OnOk result (LifeBegins tree (at core.old feeds.old) (at core.new feeds.new)) }
     ensures entered { OnOk result (IsEntered feeds.new) }

@@ -11,7 +11,7 @@ use Rattle.rm_desk.proofs.moves.begin.Goals as goal
 pub step-requires : goal.step-requires
 step-requires c =
     let stamp = next_stamp (at c.args.core.now c.args.feeds.now) c.requires.sound c.args.feeds.now.lives refl c.in-Some.life.now (sym c.in-Some.ensures.first) in
-    (c.requires.over, stamp.0, stamp.1)
+    (c.requires.over, c.requires.own, stamp.0, stamp.1)
 
 pub returns-clause-begins : goal.returns-clause-begins
 returns-clause-begins c =
@@ -21,5 +21,5 @@ returns-clause-begins c =
     let ready = and_parts (not (stands core)) (not (is_nil f.lives)) c.requires.ready in
     let life = c.in-Some.life.now in
     let first = first_of f.lives life (sym c.in-Some.ensures.first) in
-    begin_does (at core f) c.step.new.self (place_of c.enter_life.new.self) c.requires.sound c.args.tree step.settings step.began step.lawful (not-true (stands core) ready.0) step.stands.1 step.served step.blown life
+    begin_does (at core f) c.step.new.self (place_of c.enter_life.new.self) c.requires.sound c.args.tree step.settings step.began step.lawful c.requires.own (not-true (stands core) ready.0) step.stands.1 step.served step.blown life
     (step.added.added ∙ ap (λ (e : Entry). core.log ++ e ∷ []) step.added.of_move) first.0 first.1 c.enter_life.ensures.place
