@@ -20,7 +20,7 @@ use Rattle.rm_model.specs.Lawful.{IsAtRest, IsDone, Lawful, state_after}
 use Rattle.rm_model.specs.Place.{Place}
 use Rattle.rm_model.specs.State.{Manager, opening_state}
 use Rattle.rm_plain.specs.Survives.{HoldsWithin, SurvivesAll, SurvivesNow}
-use Rattle.rm_store.specs.Store.{seen}
+use Rattle.rm_store.specs.Store.{IsBelowLast, seen}
 use Rattle.rm_core.specs.Seen.{Seen, StandsFor}
 use Rattle.rm_core.specs.Words.{as_new, stands}
 use Rattle.rm_desk.specs.View.{DeskView}
@@ -145,7 +145,7 @@ module _ (order : Order) {D : Type 0} (view : D → DiskView) (opening : List Op
       λ none. absurd (some none),
     )
     later_stop k some (Full needed room) why =
-        full_known (IsKeptOn opening b.core.log (seen view second)) (IsTold (seen view first)) opening c.core.log (view third.inner).size needed room (λ told. held told k) why
+        full_known (IsKeptOn opening b.core.log (seen view second)) (IsTold (seen view first)) (IsBelowLast (view third.inner)) opening c.core.log (view third.inner).size needed room (λ told. held told k) why
     later_stop k some (Schedule place) why = (why, λ none. absurd (some none))
     later_stop k some EpochsSpent why = (why.0, (λ bytes told. (ab.kept bytes told k).opened, why.1))
     later_stop k some Memory why = tt

@@ -11,7 +11,7 @@ use Rattle.rm_types.specs.Records.{Records, records, fits_records}
 use Rattle.rm_disk.specs.Disk.{DiskView}
 use Rattle.rm_disk.specs.Fuse.{Fused, KeepsFuse}
 use Rattle.rm_disk.proofs.Views.{leaves_of, leaves_same, leaves_trans}
-use Rattle.rm_formats.specs.Device.{DeviceHolds}
+use Rattle.rm_store.specs.Content.{DeviceHolds}
 use Rattle.rm_model.specs.Changes.{kept_after_landing}
 use Rattle.rm_model.specs.Lawful.{state_after}
 use Rattle.rm_model.specs.Place.{close_left}
@@ -21,7 +21,8 @@ use Rattle.rm_plain.specs.Order.{HaltsHere, Order}
 use Rattle.rm_plain.specs.Survives.{HoldsAfter, HoldsKept, HoldsWithin}
 use Rattle.rm_store.specs.declared.fault.StoreError.{StoreError}
 use Rattle.rm_store.specs.declared.fault.StoreError.TheVariants as store
-use Rattle.rm_store.specs.Store.{Has, LeavesOps, needed_for, room_behind, seen}
+use Rattle.rm_store.specs.Kept.{HasOps, LeavesOps, needed_for}
+use Rattle.rm_store.specs.Store.{IsBelowLast, room_behind, seen}
 use Rattle.rm_core.specs.Seen.{Seen, StandsFor, IsToBeKept}
 use Rattle.rm_core.specs.Words.{landed_over}
 use Rattle.rm_desk.specs.Effects.{IsHanded}
@@ -57,7 +58,7 @@ after_within opening log image is = record { before = log; later = []; whole = s
 
 -- a disk to which the operation that awaits was to be added
 op_leaves : (opening : List Op) (core : Seen) (op : Op) (old new : DiskView) → has_blown (state_after opening core.log) ≡ false → IsToBeKept opening core op
-    → ((ops : List Op) → Has old ops → fits_records (records ops) op ≡ true → LeavesOps old new ops op)
+    → ((ops : List Op) → HasOps old ops → fits_records (records ops) op ≡ true → LeavesOps old new ops op)
     → IsKeptOn opening core.log old → LeavesOn opening core.log core.log old new
 op_leaves opening core op old new unblown to_keep leaves has =
     let s = state_after opening core.log in
@@ -89,9 +90,9 @@ if_memory P (Ok x) p h = tt
 if_memory P (Err halt) p h = subst P (sym h) p
 
 -- what is told of a full disk where more is known, is told where less is
-pub full_known : (known less : Type 0) (opening : List Op) (log : List Entry) (size needed room : ℕ) → (less → known) → IsFull known opening log size needed room → IsFull less opening log size needed room
-full_known known less opening log size needed room by full =
-    record { op = full.op; handed = full.handed; needs = full.needs; less = full.less; behind = λ is. full.behind (by is) }
+pub full_known : (known less below : Type 0) (opening : List Op) (log : List Entry) (size needed room : ℕ) → (less → known) → IsFull (known × below) opening log size needed room → IsFull (less × below) opening log size needed room
+full_known known less below opening log size needed room by full =
+    record { op = full.op; handed = full.handed; needs = full.needs; less = full.less; behind = λ is. full.behind (by is.0, is.1) }
 
 -- a part of a run over some opening lists alone
 pub goes_any : {order : Order} (over : List Op → Type 0) (a b : DeskView) → ExtendsRun order [] a b → ExtendsRunOver order over [] a b
@@ -178,10 +179,10 @@ module _ {order : Order} {D : Type 0} (view : D → DiskView) where
   pub append_halts : (faulted : D → D → Type 0) → ((x y : D) → faulted x y → Rose (view x).faults (view y).faults)
       → (d : DeskView) (disk now : Fused D) (op : Op) → ((opening : List Op) → StandsFor opening d.core → has_blown (state_after opening d.core.log) ≡ false) → ((opening : List Op) → StandsFor opening d.core → IsToBeKept opening d.core op)
       → ((opening : List Op) → StandsFor opening d.core → IsHanded opening d.core.log op)
-      → ((ops : List Op) → Has (seen view disk) ops → fits_records (records ops) op ≡ true → LeavesOps (seen view disk) (seen view now) ops op)
+      → ((ops : List Op) → HasOps (seen view disk) ops → fits_records (records ops) op ≡ true → LeavesOps (seen view disk) (seen view now) ops op)
       → (view now.inner).size ≡ (view disk.inner).size
       → (error : StoreError) → (error ≡ store.DiskFault → faulted disk.inner now.inner)
-      → ((needed room : ℕ) → error ≡ store.Full needed room → (room < needed) × (needed ≡ needed_for op) × ((ops : List Op) → Has (seen view disk) ops → room ≡ room_behind (view disk.inner).size ops))
+      → ((needed room : ℕ) → error ≡ store.Full needed room → (needed ≡ needed_for op) × (room < needed) × ((ops : List Op) → HasOps (seen view disk) ops → IsBelowLast (view now.inner) → room ≡ room_behind (view disk.inner).size ops))
       → HaltsBy order view d d disk now (halt_of error)
   append_halts faulted counts d disk now op unblown next is_handed leaves size error fault full =
       record {
@@ -191,7 +192,7 @@ module _ {order : Order} {D : Type 0} (view : D → DiskView) where
       }
     where
       by : (error : StoreError) → (error ≡ store.DiskFault → faulted disk.inner now.inner)
-          → ((needed room : ℕ) → error ≡ store.Full needed room → (room < needed) × (needed ≡ needed_for op) × ((ops : List Op) → Has (seen view disk) ops → room ≡ room_behind (view disk.inner).size ops))
+          → ((needed room : ℕ) → error ≡ store.Full needed room → (needed ≡ needed_for op) × (room < needed) × ((ops : List Op) → HasOps (seen view disk) ops → IsBelowLast (view now.inner) → room ≡ room_behind (view disk.inner).size ops))
           → IsHaltedBy order view (λ opening. Unit {0}) (λ opening. IsKeptOn opening d.core.log (seen view disk)) d d disk now (halt_of error)
       by store.DiskFault fault full = (counts disk.inner now.inner (fault refl), λ opening is k. (op, is_handed opening k))
       by (store.Full needed room) fault full = λ opening is k.
@@ -199,10 +200,10 @@ module _ {order : Order} {D : Type 0} (view : D → DiskView) where
           record {
             op = op;
             handed = is_handed opening k;
-            needs = told.1;
-            less = told.0;
+            needs = told.0;
+            less = told.1;
             behind = λ has.
-                told.2 (state_after opening d.core.log).kept (has_kept opening d.core.log (seen view disk) (unblown opening k) has)
+                told.2 (state_after opening d.core.log).kept (has_kept opening d.core.log (seen view disk) (unblown opening k) has.0) has.1
                 ∙ ap (λ (n : ℕ). room_behind n (state_after opening d.core.log).kept) (sym size);
           }
       by (store.Damaged offset) fault full = tt
@@ -213,7 +214,7 @@ module _ {order : Order} {D : Type 0} (view : D → DiskView) where
   -- the store has the operation, or refused it, and the manager found no memory to learn so
   pub unlearned_halts : (d : DeskView) (disk now : Fused D) (op : Op) → ((opening : List Op) → StandsFor opening d.core → has_blown (state_after opening d.core.log) ≡ false)
       → ((opening : List Op) → StandsFor opening d.core → IsToBeKept opening d.core op)
-      → ((ops : List Op) → Has (seen view disk) ops → fits_records (records ops) op ≡ true → LeavesOps (seen view disk) (seen view now) ops op)
+      → ((ops : List Op) → HasOps (seen view disk) ops → fits_records (records ops) op ≡ true → LeavesOps (seen view disk) (seen view now) ops op)
       → HaltsBy order view d d disk now Memory
   unlearned_halts d disk now op unblown next leaves =
       record {
@@ -239,7 +240,7 @@ module _ {order : Order} {D : Type 0} (view : D → DiskView) where
         by : (halt : Halt) → IsHaltedBy order view (λ opening. Unit {0}) (λ opening. IsKeptOn opening b.core.log (seen view second)) b c second third halt → IsHaltedBy order view over found a c first third halt
         by DiskFault why = (let rose = why.0 in omega (arith, faults, rose), λ opening is k. why.1 opening tt (goes.lawful opening is k))
         by (Full needed room) why = λ opening is k.
-            full_known (IsKeptOn opening b.core.log (seen view second)) (found opening) opening c.core.log (view third.inner).size needed room
+            full_known (IsKeptOn opening b.core.log (seen view second)) (found opening) (IsBelowLast (view third.inner)) opening c.core.log (view third.inner).size needed room
             (λ has. (kept opening is k has).kept) (why opening tt (goes.lawful opening is k))
         by (Schedule place) why = why
         by Memory why = tt

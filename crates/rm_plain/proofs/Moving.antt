@@ -1,5 +1,5 @@
 -- The moves of a desk, each a longer run.
-use Rattle.std.proofs.Common.{◌≡◌, ◌≢◌, ℕ, ◌<◌, ◌≤◌, List, [], ◌∷◌, ◌++◌, Bool, true, false, ◌&&◌, Some, None, Option, Ok, Err, Result, length, refl, sym, ◌∙◌, ap, subst, arith}
+use Rattle.std.proofs.Common.{◌≡◌, ◌≢◌, ℕ, ◌<◌, ◌≤◌, List, [], ◌∷◌, ◌++◌, Bool, true, false, Some, None, Option, Ok, Err, Result, length, refl, sym, ◌∙◌, ap, subst, arith}
 use Rattle.std.specs.Prelude.{OnErr, OnOk, is_ok, slice_get}
 use Rattle.std.proofs.lemmas.List.{append-nil}
 use Rattle.std.proofs.lemmas.List.Sums.{fold_push}
@@ -24,7 +24,7 @@ use Rattle.rm_model.specs.Changes.{after, after_where, kept_after_landing}
 use Rattle.rm_model.specs.Downs.{GoesDownAtRest}
 use Rattle.rm_model.specs.Lawful.{IsAtRest, state_after}
 use Rattle.rm_model.specs.Place.{Place, begun, close_left, moved, rest_of, segments_without, stamp_of}
-use Rattle.rm_core.specs.Moves.{IsLeft}
+use Rattle.rm_core.specs.Moves.{IsLeftAfter}
 use Rattle.rm_core.specs.Seen.{StandsFor}
 use Rattle.rm_core.specs.Words.{has_rest, is_blown, landed_over, stands}
 use Rattle.rm_desk.specs.View.{DeskView}
@@ -292,7 +292,7 @@ module _ (tree : Records) (d next : DeskView) (begins : LifeBegins tree d next) 
   not_down : begins.adds.entry ≢ Down
   not_down = λ down. let x = sym begins.adds.of_kind.2 ∙ down in cc
 
-  pub begin_goes : {order : Order} → May order Begin d → ExtendsRunOver order (λ opening. IsLeft tree (state_after opening d.core.log)) [] d next
+  pub begin_goes : {order : Order} → May order Begin d → ExtendsRunOver order (λ opening. IsLeftAfter tree opening d.core.log) [] d next
   begin_goes may =
       record {
         settings = begins.goes.settings;

@@ -9,10 +9,13 @@ use Rattle.rm_disk.specs.declared.fallen.Fallen.{Fallen}
 use Rattle.rm_disk.specs.Disk.{DiskView, Leaves, IfTold}
 use Rattle.rm_disk.specs.Fuse.{Fused}
 use Rattle.rm_disk.proofs.Views.{leaves_of, leaves_same, leaves_trans, quiet_trans}
-use Rattle.rm_formats.specs.Device.{DeviceHolds}
+use Rattle.rm_store.specs.Content.{HasContent, DeviceHolds}
 use Rattle.rm_model.specs.Changes.{kept_after_landing}
 use Rattle.rm_model.specs.Lawful.{state_after}
 use Rattle.rm_model.specs.State.{LifeState, Manager}
+use Rattle.rm_types.specs.Alike.{IsAlike}
+use Rattle.rm_types.specs.Folded.{folded}
+use Rattle.rm_folding.proofs.Ordering.{alike}
 use Rattle.rm_store.specs.Causes.{IsWhy}
 use Rattle.rm_store.specs.Errors.{IsOpenError}
 use Rattle.rm_store.specs.declared.fault.StoreError.{StoreError}
@@ -20,9 +23,11 @@ use Rattle.rm_store.specs.declared.fault.StoreError.TheVariants as store
 use Rattle.rm_plain.specs.Opens.{IsOfDevice, OpensAgain}
 use Rattle.rm_plain.specs.Order.{HaltsHere, Order, StopsHere}
 use Rattle.rm_plain.specs.Survives.{HoldsKept, HoldsWithin, SurvivesAll, SurvivesNow}
-use Rattle.rm_store.specs.Store.{StoreState, seen}
-use Rattle.rm_store.proofs.Faultless.{one_list, never_damaged, never_stray}
-use Rattle.rm_core.specs.Moves.{HasLanded, IsLeft}
+use Rattle.rm_store.specs.Store.{StoreState, IsBelowLast, seen}
+use Rattle.rm_store.proofs.Faultless.{one_left, never_damaged, never_stray}
+use Rattle.rm_core.proofs.Alike.{like_same}
+use Rattle.rm_core.specs.Queues.{own_tree}
+use Rattle.rm_core.specs.Moves.{HasLanded, IsLeft, IsLeftAfter, IsOwn}
 use Rattle.rm_core.specs.Seen.{Seen, StandsFor}
 use Rattle.rm_core.specs.Words.{landed_over, stands}
 use Rattle.rm_core.proofs.Telling.{told_none_landed, told_one_landed}
@@ -42,6 +47,14 @@ use Rattle.rm_plain.proofs.Ending.{goes_trans}
 use Rattle.rm_plain.proofs.Halting.{after_within, full_known, goes_any, leaves_after}
 use Rattle.rm_plain.proofs.Moving.{goes_same}
 use Rattle.rm_plain.proofs.Stored.{holds_kept, keeps_trans, within_longer}
+
+-- a content, and what is held where the same is left of both
+held_by : (bytes : List ℕ) (content ops : List Op) → HasContent bytes content → folded content ≡ folded ops → DeviceHolds bytes ops
+held_by bytes content ops has same = record { content = content; has = has; same = same }
+
+-- and their records are alike
+like_left : (tree : Records) (content ops : List Op) → tree ≡ records content → folded content ≡ folded ops → IsAlike tree (records ops)
+like_left tree content ops amounts same = subst (λ (r : Records). IsAlike r (records ops)) (sym amounts) (alike content ops same)
 
 -- a device that holds operations is a store
 pub no_store_not : (bytes : List ℕ) (ops : List Op) (offset : ℕ) → DeviceHolds bytes ops → IsNoStore offset bytes → ⊥
@@ -102,7 +115,7 @@ module _ {D : Type 0} (view : D → DiskView) where
     -- what was opened is what the last life left, and what the next one begins with
     record Found (s : Manager) (core : Seen) : Type 0 where
       left : IsLeft tree s
-      are : ops ≡ kept_after_landing s (landed_over core tree)
+      same : folded ops ≡ folded (kept_after_landing s (landed_over core tree))
 
     module _ (opening : List Op) (core : Seen) (k : StandsFor opening core) (dead : stands core ≡ false) (none : (state_after opening core.log).life ≡ None) (has : IsKeptOn opening core.log (seen view disk)) where
       abbrev s : Manager
@@ -111,19 +124,19 @@ module _ {D : Type 0} (view : D → DiskView) where
       -- just what is kept
       kept_found : DeviceHolds has.bytes s.kept → Found s core
       kept_found holds =
-          let same : ops ≡ s.kept = one_list has.bytes ops s.kept (o.holds has.bytes has.told) holds in
-          let amounts : tree ≡ records s.kept = o.read.amounts ∙ ap records same in
-          record { left = inl amounts; are = same ∙ sym (ap (λ (n : ℕ). kept_after_landing s n) (told_none_landed core opening k dead tree amounts) ∙ append-nil s.kept) }
+          let same : folded ops ≡ folded s.kept = one_left has.bytes ops s.kept (held_by has.bytes ops ops (o.holds has.bytes has.told) refl) holds in
+          let like : IsAlike tree (records s.kept) = like_left tree ops s.kept o.read.amounts same in
+          record { left = inl like; same = same ∙ sym (ap folded (ap (λ (n : ℕ). kept_after_landing s n) (told_none_landed core opening k dead tree like) ∙ append-nil s.kept)) }
 
       -- or this and the operation that was refused
       more_found : has_blown s ≡ true → (op : Op) → slice_get s.awaiting 0 ≡ Some op → DeviceHolds has.bytes (s.kept ++ op ∷ []) → Found s core
       more_found blown op first holds =
-          let same : ops ≡ s.kept ++ op ∷ [] = one_list has.bytes ops (s.kept ++ op ∷ []) (o.holds has.bytes has.told) holds in
+          let same : folded ops ≡ folded (s.kept ++ op ∷ []) = one_left has.bytes ops (s.kept ++ op ∷ []) (held_by has.bytes ops ops (o.holds has.bytes has.told) refl) holds in
           let blew : s.blew ≡ true = sym (ap (λ (life : Option LifeState). blown_in life s.blew) none) ∙ blown in
-          let landed : HasLanded tree s = record { blew = blew; op = op; first = first; amounts = o.read.amounts ∙ ap records same } in
+          let landed : HasLanded tree s = record { blew = blew; op = op; first = first; amounts = like_left tree ops (s.kept ++ op ∷ []) o.read.amounts same } in
           record {
             left = inr landed;
-            are = same ∙ sym (ap (λ (n : ℕ). kept_after_landing s n) (told_one_landed core opening k dead tree landed) ∙ ap (λ (l : List Op). s.kept ++ l) (take_first s.awaiting op first));
+            same = same ∙ sym (ap folded (ap (λ (n : ℕ). kept_after_landing s n) (told_one_landed core opening k dead tree landed) ∙ ap (λ (l : List Op). s.kept ++ l) (take_first s.awaiting op first)));
           }
 
       found_on : Found s core
@@ -139,12 +152,13 @@ module _ {D : Type 0} (view : D → DiskView) where
 
       again_found : IsFoundOn opening core tree (seen view store.disk)
       again_found =
-          let are = found_on.are in
+          let same = found_on.same in
+          let kept = kept_after_landing s (landed_over core tree) in
           record {
             bytes = has.bytes;
             told = o.quiet.told ∙ has.told;
-            holds = subst (λ (l : List Op). DeviceHolds has.bytes l) are (o.holds has.bytes has.told);
-            images = λ image is. subst (λ (l : List Op). DeviceHolds image l) are (o.images has.bytes has.told image is);
+            holds = held_by has.bytes ops kept (o.holds has.bytes has.told) same;
+            images = λ image is. held_by image ops kept (o.images has.bytes has.told image is) same;
           }
 
     ready : tree.next_epoch < 2 ^ 24 → tree.stamp < 2 ^ 63 - 1 → IsReady view disk store tree
@@ -166,7 +180,7 @@ module _ {D : Type 0} (view : D → DiskView) where
     -- for its operations
     pub refused_first : (stop : Stop) → IsRefusedBy tree stop → IsUnfounded view ops disk store.disk stop
     refused_first (Damaged offset) h = absurd h
-    refused_first EpochsSpent h = (o.holds, (tree, inl o.read.amounts, h))
+    refused_first EpochsSpent h = (o.holds, (tree, inl (like_same tree (records ops) o.read.amounts), h))
     refused_first DiskFault h = absurd h
     refused_first (Full needed room) h = absurd h
     refused_first (Schedule place) h = absurd h
@@ -191,11 +205,12 @@ module _ {D : Type 0} (view : D → DiskView) where
         }
 
     pub is_again : (core : Seen) → stands core ≡ false → ((opening : List Op) → StandsFor opening core → (state_after opening core.log).life ≡ None) → tree.next_epoch < 2 ^ 24 → tree.stamp < 2 ^ 63 - 1
-        → ((opening : List Op) → StandsFor opening core → IsLeft tree (state_after opening core.log)) → IsAgain view core disk store tree
-    is_again core dead none epoch stamp left =
+        → core.log ≢ [] → IsOwn core tree → ((opening : List Op) → StandsFor opening core → IsLeft tree (state_after opening core.log)) → IsAgain view core disk store tree
+    is_again core dead none epoch stamp some own left =
         record {
           ready = ready epoch stamp;
-          left = left;
+          own = own;
+          left = λ opening k. record { left = left opening k; first = λ empty. absurd (some empty) };
           found = λ opening k has. again_found opening core k dead (none opening k) has;
           time = λ opening k has.
               leaves_of (seen view disk) (seen view store.disk) (seen view disk).images (HoldsWithin opening core.log)
@@ -238,7 +253,7 @@ module _ (order : Order) {D : Type 0} (view : D → DiskView) where
   -- a life after an earlier one
   module _ (d new : DeskView) (disk now : Fused D) (store : StoreState D) (tree : Records) (again : IsAgain view d.core disk store tree) where
     abbrev over : List Op → Type 0
-    over opening = IsLeft tree (state_after opening d.core.log)
+    over opening = IsLeftAfter tree opening d.core.log
 
     abbrev found : List Op → Type 0
     found opening = IsFoundOn opening d.core tree (seen view store.disk)
@@ -248,7 +263,7 @@ module _ (order : Order) {D : Type 0} (view : D → DiskView) where
     halted_later stop h halts.DiskFault why opening k =
         (let before = again.ready.stays.faults in let rose = why.0 in omega arith, inr (why.1 opening (again.left opening k) k))
     halted_later stop h (halts.Full needed room) why opening k =
-        full_known (found opening) (IsKeptOn opening d.core.log (seen view disk)) opening new.core.log (view now.inner).size needed room
+        full_known (found opening) (IsKeptOn opening d.core.log (seen view disk)) (IsBelowLast (view now.inner)) opening new.core.log (view now.inner).size needed room
         (λ has. again.found opening k has) (why opening (again.left opening k) k)
     halted_later stop h (halts.Schedule place) why opening k = why
     halted_later stop h halts.Memory why opening k = tt
@@ -367,7 +382,7 @@ module _ (order : Order) {D : Type 0} (view : D → DiskView) where
     later_stop opening k DiskFault why = (let before = ab.disk_stays.faults in let rose = why.0 in omega arith, why.1)
     later_stop opening k (Damaged offset) why = (why.0, λ has. why.1 (ab.kept opening tt k has).kept)
     later_stop opening k (Full needed room) why =
-        full_known (IsKeptOn opening b.core.log (seen view second)) (IsKeptOn opening a.core.log (seen view first)) opening c.core.log (view third.inner).size needed room
+        full_known (IsKeptOn opening b.core.log (seen view second)) (IsKeptOn opening a.core.log (seen view first)) (IsBelowLast (view third.inner)) opening c.core.log (view third.inner).size needed room
         (λ has. (ab.kept opening tt k has).kept) why
     later_stop opening k (Schedule place) why = why
     later_stop opening k EpochsSpent why = why
@@ -390,7 +405,7 @@ module _ (order : Order) {D : Type 0} (view : D → DiskView) where
   -- the first life
   module _ (d new : DeskView) (disk now : Fused D) (store : StoreState D) (tree : Records) (opening : List Op) (first : IsFirst view disk store tree opening) (empty : d.core.log ≡ []) (dead : stands d.core ≡ false) where
     abbrev over_first : List Op → Type 0
-    over_first ops = IsLeft tree (state_after ops d.core.log)
+    over_first ops = IsLeftAfter tree ops d.core.log
 
     abbrev found_first : List Op → Type 0
     found_first ops = IsFoundOn ops d.core tree (seen view store.disk)
@@ -399,7 +414,7 @@ module _ (order : Order) {D : Type 0} (view : D → DiskView) where
     kept_first ops same = ap (λ (l : List Entry). (state_after ops l).kept) empty ∙ same
 
     left_first : (ops : List Op) → ops ≡ opening → over_first ops
-    left_first ops same = inl (first.amounts ∙ sym (ap records (kept_first ops same)))
+    left_first ops same = record { left = inl (like_same tree (records (state_after ops d.core.log).kept) (first.amounts ∙ sym (ap records (kept_first ops same)))); first = λ e. first.amounts ∙ ap records (sym same) }
 
     -- its disk holds just what it begins with
     is_found : (bytes : List ℕ) → (seen view disk).told ≡ Some bytes → StandsFor opening d.core → found_first opening
@@ -407,13 +422,13 @@ module _ (order : Order) {D : Type 0} (view : D → DiskView) where
         let s = state_after opening d.core.log in
         let kept = kept_first opening refl in
         let are : kept_after_landing s (landed_over d.core tree) ≡ opening =
-        ap (λ (n : ℕ). kept_after_landing s n) (told_none_landed d.core opening k dead tree (first.amounts ∙ sym (ap records kept))) ∙ append-nil s.kept ∙ kept in
+        ap (λ (n : ℕ). kept_after_landing s n) (told_none_landed d.core opening k dead tree (like_same tree (records s.kept) (first.amounts ∙ sym (ap records kept)))) ∙ append-nil s.kept ∙ kept in
         let held = first.kept bytes told in
         record {
           bytes = bytes;
           told = first.quiet.told ∙ told;
-          holds = subst (λ (l : List Op). DeviceHolds bytes l) (sym are) held.0;
-          images = λ image is. subst (λ (l : List Op). DeviceHolds image l) (sym are) (held.1 image is);
+          holds = held_by bytes opening (kept_after_landing s (landed_over d.core tree)) held.0 (ap folded (sym are));
+          images = λ image is. held_by image opening (kept_after_landing s (landed_over d.core tree)) (held.1 image is) (ap folded (sym are));
         }
 
     -- a halt of it stops the run
@@ -427,7 +442,7 @@ module _ (order : Order) {D : Type 0} (view : D → DiskView) where
           λ none. absurd (never_handed opening handed.0 (subst (λ (l : List Entry). IsHanded opening l handed.0) none handed.1)),
         )
     halted_first stop h (halts.Full needed room) why is k =
-        full_known (found_first opening) (IsTold (seen view disk)) opening new.core.log (view now.inner).size needed room
+        full_known (found_first opening) (IsTold (seen view disk)) (IsBelowLast (view now.inner)) opening new.core.log (view now.inner).size needed room
         (λ told. is_found told.0 told.1 k) (why opening (left_first opening refl) k)
     halted_first stop h (halts.Schedule place) why is k = (why, λ none. let x = sym is ∙ h.unbegun none in cc)
     halted_first stop h halts.Memory why is k = tt
@@ -483,7 +498,7 @@ module _ (order : Order) {D : Type 0} (view : D → DiskView) where
 
   -- the first life had no store to begin over
   pub unfounded_stops : (d : DeskView) (disk now : Fused D) (opening : List Op) (stop : Stop) → stands d.core ≡ false → d.place.lives ≢ [] → d.core.log ≡ [] → IsGivenBack view disk now
-      → (opening ≡ []) ⊎ IfTold (seen view disk) (λ bytes. DeviceHolds bytes opening) → IsUnfounded view opening disk now stop → FirstStopped order view opening d d disk now stop
+      → (opening ≡ []) ⊎ IfTold (seen view disk) (λ bytes. HasContent bytes opening) → IsUnfounded view opening disk now stop → FirstStopped order view opening d d disk now stop
   unfounded_stops d disk now opening stop dead lives empty back found why =
       record {
         goes = goes_any (λ ops. ops ≡ opening) d d (goes_same d);
@@ -531,3 +546,7 @@ module _ (order : Order) {D : Type 0} (view : D → DiskView) (a b : DeskView) (
   pub lives_end : (r : Result (Unit {0}) Stop) → IfErr r (λ stop. (place : ℕ) × (stop ≡ Schedule place) × StopsHere order b place) → LaterTo order view a b first second r
   lives_end (Ok x) stops = lived
   lives_end (Err stop) stops = at_place stop stops.0 stops.1 stops.2
+
+-- before the first life what is handed is its own
+pub own_first : (core : Seen) (tree : Records) → core.log ≡ [] → IsOwn core tree
+own_first core tree empty = like_same (own_tree core.log core.tables tree) tree (ap (λ (l : List Entry). own_tree l core.tables tree) empty)

@@ -7,14 +7,19 @@ use Rattle.rm_types.specs.declared.entries.Entry.{Entry}
 use Rattle.rm_types.specs.Records.{Records}
 use Rattle.rm_disk.specs.declared.fallen.Fallen.{Fallen}
 use Rattle.rm_disk.specs.Disk.{DiskView, EachImage, Falls, IsQuiet, IfTold}
-use Rattle.rm_disk.specs.Fuse.{Fused, KeepsFuse, blown_after_fall, fallen_fuse, falls_after, unarmed_falls_after}
+use Rattle.rm_disk.specs.Fuse.{FaultedFuse, Fused, KeepsFuse, blown_after_fall, fallen_fuse, falls_after, unarmed_falls_after}
 use Rattle.rm_disk.proofs.Views.{leaves_of, leaves_same, quiet_same, told_after}
-use Rattle.rm_formats.specs.Device.{DeviceHolds}
+use Rattle.rm_store.specs.Content.{DeviceHolds, HasContent}
 use Rattle.rm_model.specs.Lawful.{state_after}
 use Rattle.rm_plain.specs.Order.{Order}
 use Rattle.rm_plain.specs.Survives.{HoldsWithin}
+use Rattle.rm_store.specs.Causes.{IsWhy}
+use Rattle.rm_store.specs.Errors.{IsOpenError}
 use Rattle.rm_store.specs.Store.{StoreState, AreRead, StoreInvariant as IsStoreSound, seen}
-use Rattle.rm_core.specs.Moves.{IsLeft}
+use Rattle.rm_store.specs.declared.fault.StoreError.{StoreError}
+use Rattle.rm_store.specs.declared.fault.StoreError.TheVariants as store
+use Rattle.rm_types.specs.Counts.{Rose}
+use Rattle.rm_core.specs.Moves.{IsLeftAfter}
 use Rattle.rm_core.specs.Seen.{StandsFor}
 use Rattle.rm_core.specs.Words.{stands}
 use Rattle.rm_desk.specs.View.{DeskView}
@@ -25,10 +30,10 @@ use Rattle.rm_plain.specs.declared.lives.LifeEnd.{LifeEnd}
 use Rattle.rm_plain.specs.declared.lives.LifeEnd.TheVariants.{Rest, Down}
 use Rattle.rm_plain.specs.Falls.{fall}
 use Rattle.rm_plain.specs.Goes.{ExtendsRunOver}
-use Rattle.rm_plain.specs.Halted.{stop_of}
+use Rattle.rm_plain.specs.Halted.{stop_of, stop_at_open}
 use Rattle.rm_plain.specs.Keeping.{FuseStays, HaltsBy, HaltsOver, HoldsIn, IsBegun, IsFoundOn, IsHaltedBy, IsKeptOn, KeepsOn, Serves, StoresOn}
 use Rattle.rm_plain.specs.Lives.{EndsBy, ComesToRest, WentDown}
-use Rattle.rm_plain.specs.Starts.{StartEffect, DiskStays, Halts, IsOpened, KeepsOver, Leaves, Lives, LivesTo, disarmed}
+use Rattle.rm_plain.specs.Starts.{StartEffect, DiskStays, Halts, IsOpened, IsUnopenedBy, KeepsOver, Leaves, Lives, LivesTo, disarmed}
 use Rattle.rm_plain.proofs.Ending.{fuse_trans, goes_trans}
 use Rattle.rm_plain.proofs.Halting.{after_within, halts_on, keeps_leaves}
 use Rattle.rm_plain.proofs.Stored.{holds_kept, just_holds, keeps_trans}
@@ -37,11 +42,11 @@ module _ {D : Type 0} (view : D → DiskView) where
   -- a store that was opened on a disarmed fuse
   pub opened : (inner : D → D → Type 0) (old disarmed : Fused D) (store : StoreState D) (tree : Records) (ops : List Op) → disarmed ≡ record old { armed = None; blown = false }
       → IsStoreSound view store → store.is_broken ≡ false → AreRead tree ops
-      → IfTold (seen view disarmed) (λ bytes. DeviceHolds bytes ops) → IfTold (seen view disarmed) (λ bytes. EachImage (seen view store.disk) (λ image. DeviceHolds image ops))
+      → IfTold (seen view disarmed) (λ bytes. HasContent bytes ops) → IfTold (seen view disarmed) (λ bytes. EachImage (seen view store.disk) (λ image. HasContent image ops))
       → IsQuiet (seen view disarmed) (seen view store.disk) → KeepsFuse view inner true disarmed store.disk → IsOpened view old store tree ops
   opened inner old disarmed store tree ops is sound unbroken read =
       let F : Fused D → Type 0 = λ x.
-      IfTold (seen view x) (λ bytes. DeviceHolds bytes ops) → IfTold (seen view x) (λ bytes. EachImage (seen view store.disk) (λ image. DeviceHolds image ops))
+      IfTold (seen view x) (λ bytes. HasContent bytes ops) → IfTold (seen view x) (λ bytes. EachImage (seen view store.disk) (λ image. HasContent image ops))
       → IsQuiet (seen view x) (seen view store.disk) → KeepsFuse view inner true x store.disk → IsOpened view old store tree ops in
       subst F (sym is) (λ holds images quiet kept.
       let unblown : store.disk.blown ≡ false = kept.success refl in
@@ -61,6 +66,28 @@ module _ {D : Type 0} (view : D → DiskView) where
         holds = holds;
         images = images;
       })
+
+  -- a store that wasn't opened on a disarmed fuse
+  pub unopened : (inner faulted : D → D → Type 0) → ((x y : D) → faulted x y → Rose (view x).faults (view y).faults) → (old disarmed now : Fused D) → disarmed ≡ record old { armed = None; blown = false }
+      → (error : StoreError) → IsOpenError error → IfTold (seen view disarmed) (λ bytes. IsWhy bytes error) → (error ≡ store.DiskFault → FaultedFuse view faulted disarmed now) → KeepsFuse view inner false disarmed now
+      → IsUnopenedBy view old now (stop_at_open error)
+  unopened inner faulted counts old disarmed now is error can why fault kept = by error can (subst (λ (f : Fused D). IfTold (seen view f) (λ bytes. IsWhy bytes error)) is why) fault
+    where
+      unblown : (b : Bool) → now.blown ≡ b → now.blown ≡ false
+      unblown false e = e
+      unblown true e = absurd (
+          let armed = sym kept.armed ∙ kept.blew (ap (λ (f : Fused D). f.blown) is) e in
+          let none : disarmed.armed ≡ None = ap (λ (f : Fused D). f.armed) is in
+          cc
+          )
+
+      by : (error : StoreError) → IsOpenError error → IfTold (seen view old) (λ bytes. IsWhy bytes error) → (error ≡ store.DiskFault → FaultedFuse view faulted disarmed now) → IsUnopenedBy view old now (stop_at_open error)
+      by store.DiskFault can why fault = subst (λ (x : D). Rose (view x).faults (view now.inner).faults) (ap (λ (f : Fused D). f.inner) is) (counts disarmed.inner now.inner ((fault refl).inside (unblown now.blown refl)))
+      by (store.Damaged offset) can why fault = λ bytes told. inl (why bytes told)
+      by (store.Stray number offset) can why fault = λ bytes told. inr (number, why bytes told)
+      by (store.Full needed room) can why fault = absurd can
+      by store.NeedsReopen can why fault = absurd can
+      by store.Memory can why fault = tt
 
   -- what a life begins with is on the disk on which it was found
   begun_keeps : (d mid : DeskView) (tree : Records) → IsBegun tree d mid → (opening : List Op) → StandsFor opening d.core → (disk : DiskView) → IsFoundOn opening d.core tree disk → KeepsOn opening d.core.log mid.core.log disk disk
@@ -82,7 +109,7 @@ module _ {D : Type 0} (view : D → DiskView) where
 
   -- a life began, and its store serves it
   pub begins : (d mid : DeskView) (store now : StoreState D) (tree : Records) → IsBegun tree d mid → stands mid.core ≡ true → now.disk.inner ≡ store.disk.inner → now.disk.refused ≡ store.disk.refused
-      → Serves view mid now → StartEffect view (λ opening. IsLeft tree (state_after opening d.core.log)) (λ opening. IsFoundOn opening d.core tree (seen view store.disk)) d mid store now
+      → Serves view mid now → StartEffect view (λ opening. IsLeftAfter tree opening d.core.log) (λ opening. IsFoundOn opening d.core tree (seen view store.disk)) d mid store now
   begins d mid store now tree begun alive inner refused serves =
       record {
         stands = alive;
@@ -221,8 +248,8 @@ module _ {order : Order} {D : Type 0} (view : D → DiskView) where
       })
 
   -- memory ran out directly after a life began
-  pub begun_halts : (d mid : DeskView) (disk now : Fused D) (tree : Records) → ExtendsRunOver order (λ opening. IsLeft tree (state_after opening d.core.log)) [] d mid → IsBegun tree d mid → now.inner ≡ disk.inner → now.refused ≡ disk.refused
-      → HaltsOver order view (λ opening. IsLeft tree (state_after opening d.core.log)) (λ opening. IsFoundOn opening d.core tree (seen view disk)) d mid disk now halts.Memory
+  pub begun_halts : (d mid : DeskView) (disk now : Fused D) (tree : Records) → ExtendsRunOver order (λ opening. IsLeftAfter tree opening d.core.log) [] d mid → IsBegun tree d mid → now.inner ≡ disk.inner → now.refused ≡ disk.refused
+      → HaltsOver order view (λ opening. IsLeftAfter tree opening d.core.log) (λ opening. IsFoundOn opening d.core tree (seen view disk)) d mid disk now halts.Memory
   begun_halts d mid disk now tree goes begun inner refused =
       record {
         goes = goes;

@@ -9,12 +9,12 @@ use Rattle.rm_types.specs.declared.operations.Op.TheVariants as ops
 use Rattle.rm_types.specs.Records.{records, fits_records}
 use Rattle.rm_disk.specs.Disk.{DiskView, IsLaterView}
 use Rattle.rm_disk.proofs.Views.{leaves_same, leaves_trans, leaves_of, told_after}
-use Rattle.rm_formats.specs.Device.{DeviceHolds}
+use Rattle.rm_store.specs.Content.{DeviceHolds}
 use Rattle.rm_model.specs.State.{Manager, LifeState, opening_state}
 use Rattle.rm_model.specs.Changes.{after, after_where, life_keeps}
 use Rattle.rm_model.specs.Lawful.{state_after}
 use Rattle.rm_plain.specs.Survives.{HoldsKept, HoldsWithin}
-use Rattle.rm_store.specs.Store.{Has, AddsOp, LeavesOps}
+use Rattle.rm_store.specs.Kept.{HasOps, AddsOp, LeavesOps}
 use Rattle.rm_core.specs.Seen.{Seen, IsToBeKept}
 use Rattle.rm_desk.specs.Runs.{HasBlown}
 use Rattle.rm_desk.specs.View.{DeskView}
@@ -103,7 +103,7 @@ holds_more s None op stands image h = absurd stands
 holds_more s (Some life) op stands image h = just_holds (after_where s (Some life) (KeptEntry op)) image (keeps_blown life op ∙ stands) h
 
 -- a disk has what is kept in a life that isn't blown
-pub has_kept : (opening : List Op) (log : List Entry) (disk : DiskView) → has_blown (state_after opening log) ≡ false → IsKeptOn opening log disk → Has disk (state_after opening log).kept
+pub has_kept : (opening : List Op) (log : List Entry) (disk : DiskView) → has_blown (state_after opening log) ≡ false → IsKeptOn opening log disk → HasOps disk (state_after opening log).kept
 has_kept opening log disk unblown has = record { bytes = has.bytes; told = has.told; holds = holds_just (state_after opening log) has.bytes unblown has.holds }
 
 -- a life that isn't blown
@@ -114,8 +114,8 @@ unblown_life s (Some life) is h = rw is h
 -- the store has one operation more, the one that was next
 pub op_stores : (opening : List Op) (seen next : Seen) (op : Op) (old new : DiskView) → HasBlown false (state_after opening seen.log).life → IsToBeKept opening seen op
     → next.log ≡ seen.log ++ KeptEntry op ∷ []
-    → ((ops : List Op) → Has old ops → fits_records (records ops) op ≡ true → AddsOp new ops op)
-    → ((ops : List Op) → Has old ops → fits_records (records ops) op ≡ true → LeavesOps old new ops op)
+    → ((ops : List Op) → HasOps old ops → fits_records (records ops) op ≡ true → AddsOp new ops op)
+    → ((ops : List Op) → HasOps old ops → fits_records (records ops) op ≡ true → LeavesOps old new ops op)
     → IsKeptOn opening seen.log old → KeepsOn opening seen.log next.log old new
 op_stores opening seen next op old new stands to_keep added adds leaves has =
     let s = state_after opening seen.log in
@@ -151,7 +151,7 @@ holds_blown s (Some life) passed stands image h = kept_holds (after_where s (Som
 -- the store refused the operation that was next, and may have it all the same
 pub blown_stores : (opening : List Op) (seen next : Seen) (op : Op) (passed : ℕ) (old new : DiskView) → HasBlown false (state_after opening seen.log).life → IsToBeKept opening seen op
     → next.log ≡ seen.log ++ Blown passed ∷ [] → IsLaterView old new → ((bytes : List ℕ) → new.told ≡ Some bytes → new.images bytes)
-    → ((ops : List Op) → Has old ops → fits_records (records ops) op ≡ true → LeavesOps old new ops op)
+    → ((ops : List Op) → HasOps old ops → fits_records (records ops) op ≡ true → LeavesOps old new ops op)
     → IsKeptOn opening seen.log old → KeepsOn opening seen.log next.log old new
 blown_stores opening seen next op passed old new stands to_keep added goes_on as_it_reads leaves has =
     let s = state_after opening seen.log in

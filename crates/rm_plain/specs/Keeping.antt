@@ -7,7 +7,7 @@ use Rattle.rm_types.specs.declared.scripts.Close.TheVariants.{Crash}
 use Rattle.rm_types.specs.Counts.{Rose}
 use Rattle.rm_disk.specs.Disk.{DiskView, EachImage, Leaves}
 use Rattle.rm_disk.specs.Fuse.{Fused}
-use Rattle.rm_formats.specs.Device.{DeviceHolds}
+use Rattle.rm_store.specs.Content.{DeviceHolds}
 use Rattle.rm_model.specs.Changes.{kept_after_landing}
 use Rattle.rm_model.specs.Lawful.{state_after}
 use Rattle.rm_model.specs.Place.{close_left}
@@ -15,7 +15,8 @@ use Rattle.rm_model.specs.State.{LifeState, Manager}
 use Rattle.rm_plain.specs.Goes.{ExtendsRunOver}
 use Rattle.rm_plain.specs.Order.{Order, StopsHere}
 use Rattle.rm_plain.specs.Survives.{HoldsAfter, HoldsKept, HoldsWithin}
-use Rattle.rm_store.specs.Store.{StoreState, StoreInvariant, seen, needed_for, room_behind}
+use Rattle.rm_store.specs.Kept.{needed_for}
+use Rattle.rm_store.specs.Store.{StoreState, StoreInvariant, IsBelowLast, seen, room_behind}
 use Rattle.rm_types.specs.Records.{Records}
 use Rattle.rm_core.specs.Seen.{Seen, StandsFor}
 use Rattle.rm_core.specs.Words.{is_blown, landed_over}
@@ -120,7 +121,7 @@ LeftOver over found old new before now =
     (opening : List Op) → over opening → StandsFor opening old.core → found opening → LeavesOn opening old.core.log new.core.log before now
 
 -- the operation that is with the store needs so much, and a disk of so many bytes has less room; where the disk is known,
--- the room is that behind what is kept
+-- and isn't of the last generation, the room is that behind what is left of what is kept
 pub record IsFull (known : Type 0) (opening : List Op) (log : List Entry) (size needed room : ℕ) : Type 0 where
   pub op : Op
   pub handed : IsHanded opening log op
@@ -134,7 +135,7 @@ IsHaltedBy order view over found old new disk now DiskFault =
     Rose (view disk.inner).faults (view now.inner).faults × ((opening : List Op) → over opening → StandsFor opening old.core → (op : Op) × IsHanded opening new.core.log op)
 IsHaltedBy order view over found old new disk now (Full needed room) =
     (opening : List Op) → over opening → StandsFor opening old.core
-    → IsFull (found opening) opening new.core.log (view now.inner).size needed room
+    → IsFull (found opening × IsBelowLast (view now.inner)) opening new.core.log (view now.inner).size needed room
 IsHaltedBy order view over found old new disk now (Schedule place) = StopsHere order new place
 IsHaltedBy order view over found old new disk now Memory = Unit {0}
 

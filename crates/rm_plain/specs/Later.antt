@@ -7,12 +7,11 @@ use Rattle.rm_types.specs.Records.{Records, records}
 use Rattle.rm_disk.specs.declared.fallen.Fallen.{Fallen}
 use Rattle.rm_disk.specs.Disk.{DiskView, EachImage, IsQuiet, Leaves, IfTold}
 use Rattle.rm_disk.specs.Fuse.{Fused}
-use Rattle.rm_formats.specs.Device.{DeviceHolds}
-use Rattle.rm_model.specs.Lawful.{state_after}
+use Rattle.rm_store.specs.Content.{HasContent}
 use Rattle.rm_plain.specs.Survives.{HoldsWithin, SurvivesAll, SurvivesNow}
 use Rattle.rm_desk.specs.Effects.{IsHanded}
-use Rattle.rm_store.specs.Store.{StoreState, StoreInvariant, seen}
-use Rattle.rm_core.specs.Moves.{CanBeginOver, IsLeft}
+use Rattle.rm_store.specs.Store.{StoreState, StoreInvariant, IsBelowLast, seen}
+use Rattle.rm_core.specs.Moves.{CanBeginOver, IsLeftAfter, IsOwn}
 use Rattle.rm_core.specs.Seen.{Seen, StandsFor}
 use Rattle.rm_core.specs.Words.{stands}
 use Rattle.rm_desk.specs.View.{DeskView}
@@ -38,13 +37,14 @@ pub record IsReady {D : Type 0} (view : D → DiskView) (disk : Fused D) (store 
 pub record IsFirst {D : Type 0} (view : D → DiskView) (disk : Fused D) (store : StoreState D) (tree : Records) (opening : List Op) : Type 0 where
   pub ready : IsReady view disk store tree
   pub amounts : tree ≡ records opening
-  pub kept : (bytes : List ℕ) → (seen view disk).told ≡ Some bytes → DeviceHolds bytes opening × EachImage (seen view store.disk) (λ image. DeviceHolds image opening)
+  pub kept : (bytes : List ℕ) → (seen view disk).told ≡ Some bytes → HasContent bytes opening × EachImage (seen view store.disk) (λ image. HasContent image opening)
   pub quiet : IsQuiet (seen view disk) (seen view store.disk)
 
 -- the store of a later life, over what the last one left: its disk shows what it showed, so that nothing is taken off it between two lives
 pub record IsAgain {D : Type 0} (view : D → DiskView) (core : Seen) (disk : Fused D) (store : StoreState D) (tree : Records) : Type 0 where
   pub ready : IsReady view disk store tree
-  pub left : (opening : List Op) → StandsFor opening core → IsLeft tree (state_after opening core.log)
+  pub own : IsOwn core tree
+  pub left : (opening : List Op) → StandsFor opening core → IsLeftAfter tree opening core.log
   pub found : (opening : List Op) → StandsFor opening core → IsKeptOn opening core.log (seen view disk) → IsFoundOn opening core tree (seen view store.disk)
   pub time : (opening : List Op) → StandsFor opening core → IsKeptOn opening core.log (seen view disk) → Leaves (seen view disk) (seen view store.disk) (HoldsWithin opening core.log)
   pub quiet : IsQuiet (seen view disk) (seen view store.disk)
@@ -70,7 +70,7 @@ IsLaterStop order view opening old new disk now DiskFault =
 IsLaterStop order view opening old new disk now (Damaged offset) =
     IsDueAt new × (IsKeptOn opening old.core.log (seen view disk) → ⊥)
 IsLaterStop order view opening old new disk now (Full needed room) =
-    IsFull (IsKeptOn opening old.core.log (seen view disk)) opening new.core.log (view now.inner).size needed room
+    IsFull (IsKeptOn opening old.core.log (seen view disk) × IsBelowLast (view now.inner)) opening new.core.log (view now.inner).size needed room
 IsLaterStop order view opening old new disk now (Schedule place) = StopsHere order new place
 IsLaterStop order view opening old new disk now EpochsSpent = IsDueAt new × NoneLeft opening new.core.log
 IsLaterStop order view opening old new disk now Memory = Unit {0}
@@ -92,7 +92,7 @@ LaterTo order view old new disk now (Err stop) = StopsLater order view old new d
 
 -- what the disk held at first, holds now, and could be left of it between
 pub record HeldFirst {D : Type 0} (view : D → DiskView) (opening : List Op) (new : DeskView) (disk now : Fused D) (bytes : List ℕ) : Type 0 where
-  pub opened : DeviceHolds bytes opening
+  pub opened : HasContent bytes opening
   pub kept : IsKeptOn opening new.core.log (seen view now)
   pub time : Leaves (seen view disk) (seen view now) (λ image. (seen view disk).images image ⊎ HoldsWithin opening new.core.log image)
 
@@ -105,7 +105,7 @@ pub record FirstLived (order : Order) {D : Type 0} (view : D → DiskView) (open
   pub stays : DiskStays view disk now
   pub ends : (stands new.core ≡ false) ⊎ IsOver new
   pub some : new.core.log ≢ []
-  pub opened : IfTold (seen view disk) (λ bytes. DeviceHolds bytes opening)
+  pub opened : IfTold (seen view disk) (λ bytes. HasContent bytes opening)
   pub kept : (bytes : List ℕ) → (seen view disk).told ≡ Some bytes → StandsFor opening old.core → HeldFirst view opening new disk now bytes
 
 -- the first life stopped the run; where nothing was logged, its disk was left alone
@@ -114,8 +114,8 @@ pub record FirstStopped (order : Order) {D : Type 0} (view : D → DiskView) (op
   pub falls : now.falls ≡ disk.falls
   pub stays : DiskStays view disk now
   pub at_ease : IsAtEase now
-  pub held : new.core.log ≢ [] → IfTold (seen view disk) (λ bytes. DeviceHolds bytes opening)
-  pub found : (opening ≡ []) ⊎ IfTold (seen view disk) (λ bytes. DeviceHolds bytes opening)
+  pub held : new.core.log ≢ [] → IfTold (seen view disk) (λ bytes. HasContent bytes opening)
+  pub found : (opening ≡ []) ⊎ IfTold (seen view disk) (λ bytes. HasContent bytes opening)
   pub quiet : new.core.log ≡ [] → IsQuiet (seen view disk) (seen view now)
   pub left : StandsFor opening old.core → SurvivesAll opening new.core.log (seen view disk) (seen view now) × SurvivesNow opening new.core.log (seen view disk) (seen view now)
   pub why : StandsFor opening old.core → IsStoppedBy view (IsDueAt new) (StopsHere order new) disk now opening new.core.log stop

@@ -3,7 +3,7 @@ use Rattle.std.specs.Prelude.{◌≡◌, ℕ, List, [], Some, IfErr, Result}
 use Rattle.rm_types.specs.declared.entries.Entry.{Entry}
 use Rattle.rm_types.specs.declared.operations.Op.{Op}
 use Rattle.rm_disk.specs.Disk.{DiskView}
-use Rattle.rm_formats.specs.Device.{DeviceHolds}
+use Rattle.rm_store.specs.Content.{DeviceHolds}
 use Rattle.rm_store.specs.Causes.{IsWhy}
 use Rattle.rm_store.specs.Errors.{IsOpenError}
 use Rattle.rm_store.specs.declared.fault.StoreError.{StoreError}

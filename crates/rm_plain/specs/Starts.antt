@@ -1,12 +1,12 @@
 -- How a life starts over what its disk holds, and what a life leaves of its disk.
-use Rattle.std.specs.Prelude.{◌≡◌, ◌≢◌, ◌⊎◌, ℕ, ◌-◌, ◌^◌, ◌≤◌, List, [], ◌++◌, true, false, None, Result, Ok, Err}
+use Rattle.std.specs.Prelude.{◌≡◌, ◌≢◌, ◌⊎◌, ℕ, ◌≤◌, List, [], ◌++◌, true, false, None, Result, Ok, Err}
 use Rattle.rm_types.specs.declared.operations.Op.{Op}
 use Rattle.rm_types.specs.Counts.{Rose}
 use Rattle.rm_types.specs.Records.{Records}
 use Rattle.rm_disk.specs.declared.fallen.Fallen.{Fallen}
 use Rattle.rm_disk.specs.Disk.{DiskView, EachImage, Falls, IsQuiet, IfTold}
 use Rattle.rm_disk.specs.Fuse.{Fused, FallsThrough}
-use Rattle.rm_formats.specs.Device.{DeviceHolds}
+use Rattle.rm_store.specs.Content.{HasContent}
 use Rattle.rm_store.specs.Store.{StoreState, AreRead, StoreInvariant, seen}
 use Rattle.rm_core.specs.Seen.{StandsFor}
 use Rattle.rm_core.specs.Words.{stands}
@@ -34,7 +34,7 @@ pub record IsAtEase {D : Type 0} (fuse : Fused D) : Type 0 where
   pub unarmed : fuse.armed ≡ None
   pub unblown : fuse.blown ≡ false
 
--- a store was opened on a disk, quietly: the disk holds these operations, and so does each image of what it became
+-- a store was opened on a disk, quietly: these operations are the disk's content, and that of each image of what it became
 pub record IsOpened {D : Type 0} (view : D → DiskView) (old : Fused D) (store : StoreState D) (tree : Records) (ops : List Op) : Type 0 where
   pub sound : StoreInvariant view store
   pub unbroken : store.is_broken ≡ false
@@ -44,8 +44,8 @@ pub record IsOpened {D : Type 0} (view : D → DiskView) (old : Fused D) (store 
   pub disk : DiskStays view old store.disk
   pub read : AreRead tree ops
   pub quiet : IsQuiet (seen view old) (seen view store.disk)
-  pub holds : IfTold (seen view old) (λ bytes. DeviceHolds bytes ops)
-  pub images : IfTold (seen view old) (λ bytes. EachImage (seen view store.disk) (λ image. DeviceHolds image ops))
+  pub holds : IfTold (seen view old) (λ bytes. HasContent bytes ops)
+  pub images : IfTold (seen view old) (λ bytes. EachImage (seen view store.disk) (λ image. HasContent image ops))
 
 -- why a store was not opened: the disk inside the fuse failed, it holds no store, or memory ran out
 abbrev pub IsUnopenedBy : {D : Type 0} → (D → DiskView) → Fused D → Fused D → Stop → Type 0

@@ -8,13 +8,13 @@ use Rattle.rm_types.specs.Records.{Records}
 use Rattle.rm_types.specs.declared.scripts.Script.{Script}
 use Rattle.rm_disk.specs.Disk.{DiskView, IfTold}
 use Rattle.rm_disk.specs.Fuse.{Fused}
-use Rattle.rm_formats.specs.Device.{DeviceHolds}
+use Rattle.rm_store.specs.Content.{HasContent}
 use Rattle.rm_model.specs.Lawful.{place_after, state_after}
 use Rattle.rm_store.specs.Causes.{IsWhy}
 use Rattle.rm_store.specs.declared.fault.StoreError.TheVariants as store
 use Rattle.rm_core.specs.Moves.{IsLeft}
 use Rattle.rm_desk.specs.Effects.{IsHanded}
-use Rattle.rm_store.specs.Store.{seen}
+use Rattle.rm_store.specs.Store.{IsBelowLast, seen}
 use Rattle.rm_plain.specs.Keeping.{IsFull}
 use Rattle.rm_plain.specs.declared.halts.Stop.{Stop}
 use Rattle.rm_plain.specs.declared.halts.Stop.TheVariants.{DiskFault, Damaged, Full, Schedule, EpochsSpent, Memory}
@@ -37,7 +37,7 @@ NoneLeft opening log = (tree : Records) × IsLeft tree (state_after opening log)
 
 -- the disk held the opening list, and no epoch or no stamp is left for one more life
 abbrev pub IsSpent : DiskView → List Op → List Entry → Type 0
-IsSpent disk opening log = IfTold disk (λ bytes. DeviceHolds bytes opening) × NoneLeft opening log
+IsSpent disk opening log = IfTold disk (λ bytes. HasContent bytes opening) × NoneLeft opening log
 
 -- the disk tells its bytes
 abbrev pub IsTold : DiskView → Type 0
@@ -57,7 +57,7 @@ IsStoppedBy view due stops old new opening log DiskFault =
     Rose (view old.inner).faults (view new.inner).faults × (due ⊎ ((op : Op) × IsHanded opening log op)) × (log ≡ [] → opening ≡ [])
 IsStoppedBy view due stops old new opening log (Damaged offset) =
     due × IsDamaged (seen view old) opening log offset × (log ≡ [] → opening ≡ [])
-IsStoppedBy view due stops old new opening log (Full needed room) = IsFull (IsTold (seen view old)) opening log (view new.inner).size needed room
+IsStoppedBy view due stops old new opening log (Full needed room) = IsFull (IsTold (seen view old) × IsBelowLast (view new.inner)) opening log (view new.inner).size needed room
 IsStoppedBy view due stops old new opening log (Schedule place) = stops place × (log ≡ [] → opening ≡ [])
 IsStoppedBy view due stops old new opening log EpochsSpent = due × IsSpent (seen view old) opening log
 IsStoppedBy view due stops old new opening log Memory = Unit {0}

@@ -5,7 +5,7 @@ use Rattle.rm_types.specs.declared.operations.Op.{Op}
 use Rattle.rm_disk.specs.Disk.{DiskView, AtEachMoment, EachImage, IfTold}
 use Rattle.rm_model.specs.State.{Manager}
 use Rattle.rm_model.specs.Lawful.{state_after}
-use Rattle.rm_formats.specs.Device.{DeviceHolds}
+use Rattle.rm_store.specs.Content.{DeviceHolds}
 
 -- the bytes hold the operations that are kept in a state, or these and the first that awaits there
 abbrev pub HoldsKept : Manager → List ℕ → Type 0

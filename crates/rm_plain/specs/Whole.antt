@@ -4,7 +4,7 @@ use Rattle.rm_types.specs.declared.operations.Op.{Op}
 use Rattle.rm_disk.specs.declared.fallen.Fallen.{Fallen}
 use Rattle.rm_disk.specs.Disk.{DiskView, IsQuiet, IfTold}
 use Rattle.rm_disk.specs.Fuse.{Fused}
-use Rattle.rm_formats.specs.Device.{DeviceHolds}
+use Rattle.rm_store.specs.Content.{HasContent}
 use Rattle.rm_plain.specs.Later.{IsDueAt}
 use Rattle.rm_plain.specs.Survives.{SurvivesAll, SurvivesNow}
 use Rattle.rm_store.specs.Store.{seen}
@@ -31,8 +31,8 @@ pub record AllLived (order : Order) {D : Type 0} (view : D → DiskView) (openin
   pub stays : DiskStays view disk now
   pub unarmed : now.armed ≡ None
   pub unblown : disk.blown ≡ false → now.blown ≡ false
-  pub opened : new.core.log ≢ [] → IfTold (seen view disk) (λ bytes. DeviceHolds bytes opening)
-  pub found : (opening ≡ []) ⊎ IfTold (seen view disk) (λ bytes. DeviceHolds bytes opening)
+  pub opened : new.core.log ≢ [] → IfTold (seen view disk) (λ bytes. HasContent bytes opening)
+  pub found : (opening ≡ []) ⊎ IfTold (seen view disk) (λ bytes. HasContent bytes opening)
   pub ends : OnOk ended (Ends new)
   pub used_up : OnOk ended (order.ends new.core.log)
   pub quiet : new.core.log ≡ [] → IsQuiet (seen view disk) (seen view now)

@@ -9,7 +9,8 @@ pub enum Halt {
     /// The disk failed, and counted the fault.
     #[error("the store's device failed")]
     DiskFault,
-    /// The next operation needs so many bytes behind those that are stored, and the disk has only this room.
+    /// The next operation needs so many bytes, and the disk has only this room for it, also where an area is written anew with what is left
+    /// of those that are stored.
     #[error("the store is full: {needed} bytes are needed, {room} are left")]
     Full { needed: u64, room: u64 },
     /// The schedule has a letter at this byte that is unknown, or whose lane isn't ready.
@@ -40,7 +41,8 @@ pub enum Stop {
     /// it.
     #[error("the store is damaged at offset {offset}")]
     Damaged { offset: u64 },
-    /// The next operation needs so many bytes behind those that are stored, and the disk has only this room.
+    /// The next operation needs so many bytes, and the disk has only this room for it, also where an area is written anew with what is left
+    /// of those that are stored.
     #[error("the store is full: {needed} bytes are needed, {room} are left")]
     Full { needed: u64, room: u64 },
     /// The schedule has a letter at this byte that is unknown, or whose lane isn't ready.

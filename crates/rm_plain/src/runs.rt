@@ -1,6 +1,6 @@
 ghost use Rattle.std.specs.Prelude.{◌≡◌, ◌≢◌, ◌⊎◌, ◌++◌, ◌<◌, ℕ, [], length, IsOk, IfErr, OnOk, None, Some, true, false};
 ghost use Rattle.rm_disk.specs.Disk.{IsQuiet, IfTold};
-ghost use Rattle.rm_formats.specs.Device.{DeviceHolds};
+ghost use Rattle.rm_store.specs.Content.{HasContent};
 ghost use Rattle.rm_queues.specs.Rules.{KeepsRules};
 ghost use Rattle.rm_invariant.specs.messages.Ranges.{KeepsLimits};
 ghost use Rattle.rm_model.specs.Downs.{AllGoDownAtRest};
@@ -262,8 +262,8 @@ pub fn run_script<D: Disk>(
     ensures unblown { disk.blown ≡ false → result.disk.blown ≡ false }
     ensures idle { script.lives ≡ [] → (result.log ≡ []) × (result.disk ≡ disk) × (steps_of schedule.now ≡ [] → IsOk result.ended) }
     ensures begun { script.lives ≢ [] → OnOk result.ended (result.log ≢ []) }
-    ensures opening { result.log ≢ [] → IfTold (seen D.view disk) (λ bytes. DeviceHolds bytes result.opening) }
-    ensures found { (result.opening ≡ []) ⊎ IfTold (seen D.view disk) (λ bytes. DeviceHolds bytes result.opening) }
+    ensures opening { result.log ≢ [] → IfTold (seen D.view disk) (λ bytes. HasContent bytes result.opening) }
+    ensures found { (result.opening ≡ []) ⊎ IfTold (seen D.view disk) (λ bytes. HasContent bytes result.opening) }
     ensures read_back { stray result.opening ≡ None }
     ensures quiet { result.log ≡ [] → IsQuiet (seen D.view disk) (seen D.view result.disk) }
     ensures images { SurvivesAll result.opening result.log (seen D.view disk) (seen D.view result.disk) }

@@ -1,11 +1,10 @@
 ghost use Rattle.std.specs.Prelude.{◌≡◌, ◌≢◌, ◌⊎◌, ◌<◌, ◌-◌, ◌^◌, ◌↔◌, List, [], length, IfOk, IfErr, OnOk, OnErr, IsTrue, None, Some, true, false};
 ghost use Rattle.rm_disk.specs.Disk.{IfTold};
 ghost use Rattle.rm_disk.specs.Fuse.{Fused};
-ghost use Rattle.rm_formats.specs.Device.{DeviceHolds};
+ghost use Rattle.rm_store.specs.Content.{HasContent};
 ghost use Rattle.rm_store.specs.Errors.{IsOpenError};
 ghost use Rattle.rm_store.specs.Store.{StoreInvariant as IsStoreSound, seen};
-ghost use Rattle.rm_core.specs.Moves.{CanBeginOver, IsLeft};
-ghost use Rattle.rm_model.specs.Lawful.{state_after};
+ghost use Rattle.rm_core.specs.Moves.{CanBeginOver, IsLeftAfter, IsOwn};
 ghost use Rattle.rm_core.specs.Words.{stands};
 ghost use Rattle.rm_types.specs.declared.messages.Lane.{Lane};
 ghost use Rattle.rm_types.specs.declared.operations.Op.{Op as AnyOp};
@@ -109,19 +108,20 @@ pub fn begin_life<D: Disk, O: Ordered>(
     requires dead { stands d.old.core ≡ false }
     requires lives { d.old.place.lives ≢ [] }
     requires over { CanBeginOver tree }
+    requires own { IsOwn d.old.core tree }
     requires store { IsStoreSound D.view store.old }
     requires unbroken { store.old.is_broken ≡ false }
     requires unarmed { store.old.disk.armed ≡ None }
     requires unblown { store.old.disk.blown ≡ false }
     ensures one { OnOk result (AddsOneOf Lane.Begin d.old d.new) }
-    ensures goes { ExtendsRunOver (O.order by.now) (λ opening. IsLeft tree (state_after opening d.old.core.log)) [] d.old d.new }
-    ensures begun { OnOk result (StartEffect D.view (λ opening. IsLeft tree (state_after opening d.old.core.log)) (λ opening. IsFoundOn opening d.old.core tree (seen D.view store.old.disk)) d.old d.new store.old store.new) }
+    ensures goes { ExtendsRunOver (O.order by.now) (λ opening. IsLeftAfter tree opening d.old.core.log) [] d.old d.new }
+    ensures begun { OnOk result (StartEffect D.view (λ opening. IsLeftAfter tree opening d.old.core.log) (λ opening. IsFoundOn opening d.old.core tree (seen D.view store.old.disk)) d.old d.new store.old store.new) }
     ensures fuse { FuseStays D.view store.old.disk store.new.disk }
     ensures fewer { OnOk result (length d.new.place.lives < length d.old.place.lives) }
     ensures inner { store.new.disk.inner ≡ store.old.disk.inner }
     ensures refused { store.new.disk.refused ≡ store.old.disk.refused }
     ensures memory { IfErr result (λ halt. halt ≡ Halt.Memory) }
-    ensures halts { IfErr result (HaltsOver (O.order by.now) D.view (λ opening. IsLeft tree (state_after opening d.old.core.log)) (λ opening. IsFoundOn opening d.old.core tree (seen D.view store.old.disk)) d.old d.new store.old.disk store.new.disk) }
+    ensures halts { IfErr result (HaltsOver (O.order by.now) D.view (λ opening. IsLeftAfter tree opening d.old.core.log) (λ opening. IsFoundOn opening d.old.core tree (seen D.view store.old.disk)) d.old d.new store.old.disk store.new.disk) }
     ensures left { OnErr result ((d.new ≡ d.old) ⊎ TakesUp tree d.old d.new) }
 {
     let _ = by;
@@ -173,6 +173,7 @@ pub(crate) fn live<D: Disk>(
     requires dead { stands d.old.core ≡ false }
     requires lives { d.old.place.lives ≢ [] }
     requires over { CanBeginOver tree }
+    requires own { IsOwn d.old.core tree }
     requires store { IsStoreSound D.view store }
     requires unbroken { store.is_broken ≡ false }
     requires unarmed { store.disk.armed ≡ None }
@@ -180,7 +181,7 @@ pub(crate) fn live<D: Disk>(
     ensures whole { schedule.new.whole ≡ schedule.old.whole }
     ensures at { OnOk result.ended (IsAt schedule.new d.new.core.log) }
     ensures used { OnOk result.ended (stands d.new.core ≡ true → left_of schedule.new ≡ []) }
-    ensures lived { LivesTo (order_of schedule.old) D.view (λ opening. IsLeft tree (state_after opening d.old.core.log)) (λ opening. IsFoundOn opening d.old.core tree (seen D.view store.disk)) d.old d.new store.disk result.disk result.ended }
+    ensures lived { LivesTo (order_of schedule.old) D.view (λ opening. IsLeftAfter tree opening d.old.core.log) (λ opening. IsFoundOn opening d.old.core tree (seen D.view store.disk)) d.old d.new store.disk result.disk result.ended }
     ensures fewer { OnOk result.ended (length d.new.place.lives < length d.old.place.lives) }
 {
     let mut store = store;
@@ -212,7 +213,7 @@ pub fn open_first<D: Disk>(
     ensures why { IfErr result (λ none. IsUnfounded D.view none.opening disk none.disk none.why) }
     ensures read_back { IfOk result (λ first. stray first.2 ≡ None) }
     ensures read_back_yet { IfErr result (λ none. stray none.opening ≡ None) }
-    ensures found { IfErr result (λ none. (none.opening ≡ []) ⊎ IfTold (seen D.view disk) (λ bytes. DeviceHolds bytes none.opening)) }
+    ensures found { IfErr result (λ none. (none.opening ≡ []) ⊎ IfTold (seen D.view disk) (λ bytes. HasContent bytes none.opening)) }
     ensures given_back { IfErr result (λ none. IsGivenBack D.view disk none.disk) }
 {
     let (store, tree, opening) = match open(alloc, disk) {

@@ -11,14 +11,15 @@ use Rattle.rm_types.specs.Records.{records, fits_records}
 use Rattle.rm_disk.specs.Disk.{DiskView, IsLaterView}
 use Rattle.rm_disk.specs.Fuse.{KeepsFuse}
 use Rattle.rm_disk.proofs.Views.{leaves_of}
-use Rattle.rm_formats.specs.Device.{DeviceHolds}
+use Rattle.rm_store.specs.Content.{DeviceHolds}
 use Rattle.rm_model.specs.Lawful.{state_after}
 use Rattle.rm_model.specs.Place.{Place, close_left, moved}
 use Rattle.rm_model.specs.State.{LifeState, Manager}
 use Rattle.rm_types.specs.Counts.{Rose}
 use Rattle.rm_store.specs.declared.fault.StoreError.{StoreError}
 use Rattle.rm_store.specs.declared.fault.StoreError.TheVariants as store
-use Rattle.rm_store.specs.Store.{StoreState, AddsOp, Has, StoreInvariant, LeavesOps, needed_for, room_behind, seen}
+use Rattle.rm_store.specs.Kept.{AddsOp, HasOps, LeavesOps, needed_for}
+use Rattle.rm_store.specs.Store.{StoreState, StoreInvariant, IsBelowLast, room_behind, seen}
 use Rattle.rm_core.specs.Seen.{StandsFor, IsToBeKept}
 use Rattle.rm_core.specs.Words.{has_rest, is_blown, stands}
 use Rattle.rm_desk.specs.Effects.{Blows, LaneEffect, HasHanded, IsHanded}
@@ -51,7 +52,7 @@ unblown_life s handed unblown = by s.life handed unblown
 
 -- a disk to which the operation that is with the store was to be added
 op_left : (opening : List Op) (log : List Entry) (op : Op) (old new : DiskView) → IsWithStore opening log op
-    → ((ops : List Op) → Has old ops → fits_records (records ops) op ≡ true → LeavesOps old new ops op)
+    → ((ops : List Op) → HasOps old ops → fits_records (records ops) op ≡ true → LeavesOps old new ops op)
     → IsKeptOn opening log old → LeavesOn opening log log old new
 op_left opening log op old new next leaves has =
     let s = state_after opening log in
@@ -319,7 +320,7 @@ module _ {D : Type 0} (view : D → DiskView) (began : Began) where
 
 module _ {D : Type 0} (view : D → DiskView) (keeps : D → D → Type 0) (began : Began) (old new : StoreState D) (op : Op) (succeeds : Bool)
     (sound : StoreInvariant view new) (fuse : KeepsFuse view keeps succeeds old.disk new.disk) (goes_on : IsLaterView (seen view old.disk) (seen view new.disk))
-    (moments : old.is_broken ≡ false → (ops : List Op) → Has (seen view old.disk) ops → fits_records (records ops) op ≡ true → LeavesOps (seen view old.disk) (seen view new.disk) ops op) where
+    (moments : old.is_broken ≡ false → (ops : List Op) → HasOps (seen view old.disk) ops → fits_records (records ops) op ≡ true → LeavesOps (seen view old.disk) (seen view new.disk) ops op) where
   stays_on : Stays view began old → Stays view began new
   stays_on s =
       record {
@@ -342,7 +343,7 @@ module _ {D : Type 0} (view : D → DiskView) (keeps : D → D → Type 0) (bega
       }
 
   -- the operation was written
-  pub wrote_after : succeeds ≡ true → new.is_broken ≡ old.is_broken → ((ops : List Op) → Has (seen view old.disk) ops → fits_records (records ops) op ≡ true → AddsOp (seen view new.disk) ops op) → (log : List Entry)
+  pub wrote_after : succeeds ≡ true → new.is_broken ≡ old.is_broken → ((ops : List Op) → HasOps (seen view old.disk) ops → fits_records (records ops) op ≡ true → AddsOp (seen view new.disk) ops op) → (log : List Entry)
       → Owing view began old op log → Wrote view began new op log
   wrote_after made broken adds log o = record { tried = tried_after log o; unbroken = broken ∙ o.serving.unbroken o.unblown; blown = fuse.success made; adds = adds }
 
@@ -355,13 +356,13 @@ module _ {D : Type 0} (view : D → DiskView) (keeps : D → D → Type 0) (bega
 
   -- or it failed otherwise
   module _ (error : StoreError) (rose : error ≡ store.DiskFault → Rose (view old.disk.inner).faults (view new.disk.inner).faults)
-      (full : (needed room : ℕ) → error ≡ store.Full needed room → (room < needed) × (needed ≡ needed_for op) × ((ops : List Op) → Has (seen view old.disk) ops → room ≡ room_behind (seen view old.disk).size ops))
+      (full : (needed room : ℕ) → error ≡ store.Full needed room → (needed ≡ needed_for op) × (room < needed) × ((ops : List Op) → HasOps (seen view old.disk) ops → IsBelowLast (view new.disk.inner) → room ≡ room_behind (seen view old.disk).size ops))
       (log : List Entry) (o : Owing view began old op log) where
     is_handed : (opening : List Op) → StandsFor opening began.desk.core → IsHanded opening log op
     is_handed opening k = let next = o.next opening k in record { first = next.first; handed = next.handed }
 
     why : (error : StoreError) → (error ≡ store.DiskFault → Rose (view old.disk.inner).faults (view new.disk.inner).faults)
-        → ((needed room : ℕ) → error ≡ store.Full needed room → (room < needed) × (needed ≡ needed_for op) × ((ops : List Op) → Has (seen view old.disk) ops → room ≡ room_behind (seen view old.disk).size ops))
+        → ((needed room : ℕ) → error ≡ store.Full needed room → (needed ≡ needed_for op) × (room < needed) × ((ops : List Op) → HasOps (seen view old.disk) ops → IsBelowLast (view new.disk.inner) → room ≡ room_behind (seen view old.disk).size ops))
         → IsWhy began (view new.disk.inner) log (halt_of error)
     why store.DiskFault rose full = (let r = rose refl in let before = o.serving.stays.faults in omega (arith, r, before), λ opening k. (op, is_handed opening k))
     why (store.Full needed room) rose full = λ opening k.
@@ -369,10 +370,10 @@ module _ {D : Type 0} (view : D → DiskView) (keeps : D → D → Type 0) (bega
         record {
           op = op;
           handed = is_handed opening k;
-          needs = told.1;
-          less = told.0;
+          needs = told.0;
+          less = told.1;
           behind = λ has.
-              told.2 (state_after opening log).kept (has_kept opening log (seen view old.disk) (o.next opening k).unblown (o.serving.kept opening k has).kept)
+              told.2 (state_after opening log).kept (has_kept opening log (seen view old.disk) (o.next opening k).unblown (o.serving.kept opening k has.0).kept) has.1
               ∙ ap (λ (n : ℕ). room_behind n (state_after opening log).kept) (sym goes_on.size);
         }
     why (store.Damaged offset) rose full = tt

@@ -7,7 +7,8 @@ use Rattle.rm_types.specs.Records.{records, fits_records}
 use Rattle.rm_disk.specs.Disk.{DiskView, IsLaterView}
 use Rattle.rm_model.specs.Lawful.{state_after}
 use Rattle.rm_model.specs.Place.{close_left}
-use Rattle.rm_store.specs.Store.{StoreState, AddsOp, Has, StoreInvariant, LeavesOps, seen}
+use Rattle.rm_store.specs.Kept.{AddsOp, HasOps, LeavesOps}
+use Rattle.rm_store.specs.Store.{StoreState, StoreInvariant, IsBelowLast, seen}
 use Rattle.rm_core.specs.Seen.{StandsFor}
 use Rattle.rm_desk.specs.Effects.{HasHanded, IsHanded}
 use Rattle.rm_baton.specs.declared.carries.Known.{Known}
@@ -53,7 +54,7 @@ Awaits began log op = (opening : List Op) → StandsFor opening began.desk.core 
 abbrev pub IsWhy : Began → DiskView → List Entry → Halt → Type 0
 IsWhy began inner log DiskFault = Rose began.inner.faults inner.faults × ((opening : List Op) → StandsFor opening began.desk.core → (op : Op) × IsHanded opening log op)
 IsWhy began inner log (Full needed room) =
-    (opening : List Op) → StandsFor opening began.desk.core → IsFull (IsKeptOn opening began.desk.core.log (seen_then began)) opening log inner.size needed room
+    (opening : List Op) → StandsFor opening began.desk.core → IsFull (IsKeptOn opening began.desk.core.log (seen_then began) × IsBelowLast inner) opening log inner.size needed room
 IsWhy began inner log (Schedule place) = ⊥
 IsWhy began inner log Memory = Unit {0}
 
@@ -122,14 +123,14 @@ module _ {D : Type 0} (view : D → DiskView) (began : Began) (store : StoreStat
     pub sound : StoreInvariant view store
     pub armed : store.disk.armed ≡ before.disk.armed
     pub within : (calls : ℕ) → store.disk.armed ≡ Some calls → store.disk.passed ≤ calls
-    pub leaves : (ops : List Op) → Has (seen view before.disk) ops → fits_records (records ops) op ≡ true → LeavesOps (seen view before.disk) (seen view store.disk) ops op
+    pub leaves : (ops : List Op) → HasOps (seen view before.disk) ops → fits_records (records ops) op ≡ true → LeavesOps (seen view before.disk) (seen view store.disk) ops op
 
   -- it was written
   pub record Wrote (op : Op) (log : List Entry) : Type 0 where
     pub tried : Tried op log
     pub unbroken : store.is_broken ≡ false
     pub blown : store.disk.blown ≡ tried.before.disk.blown
-    pub adds : (ops : List Op) → Has (seen view tried.before.disk) ops → fits_records (records ops) op ≡ true → AddsOp (seen view store.disk) ops op
+    pub adds : (ops : List Op) → HasOps (seen view tried.before.disk) ops → fits_records (records ops) op ≡ true → AddsOp (seen view store.disk) ops op
 
   -- or the fuse refused it, after so many calls
   pub record Refused (passed : ℕ) (log : List Entry) : Type 0 where

@@ -3,13 +3,13 @@ ghost use Rattle.std.specs.Prelude.{◌≡◌, ◌≢◌, ◌⊎◌, ◌++◌, �
 ghost use Rattle.rm_types.specs.declared.messages.Lane.{Lane};
 ghost use Rattle.rm_types.specs.Records.{stray};
 ghost use Rattle.rm_disk.specs.Disk.{IsQuiet, IfTold};
-ghost use Rattle.rm_formats.specs.Device.{DeviceHolds};
+ghost use Rattle.rm_store.specs.Content.{HasContent};
 ghost use Rattle.rm_queues.specs.Rules.{KeepsRules};
 ghost use Rattle.rm_invariant.specs.messages.Ranges.{KeepsLimits};
 ghost use Rattle.rm_model.specs.Downs.{AllGoDownAtRest};
-ghost use Rattle.rm_model.specs.Lawful.{Lawful, IsDone, state_after};
+ghost use Rattle.rm_model.specs.Lawful.{Lawful, IsDone};
 ghost use Rattle.rm_model.specs.State.{opening_state};
-ghost use Rattle.rm_core.specs.Moves.{CanBeginOver, IsLeft};
+ghost use Rattle.rm_core.specs.Moves.{CanBeginOver, IsLeftAfter, IsOwn};
 ghost use Rattle.rm_core.specs.Words.{new_manager, stands};
 ghost use Rattle.rm_desk.specs.Lanes.{is_ready_at};
 ghost use Rattle.rm_desk.specs.Scripts.{CanGoAlong};
@@ -128,11 +128,12 @@ fn live<D: Disk + Drop + Send, G: Gate + Sync, R: Threads + Wait + Sync>(
 ) -> Lived<D>
     requires ready { is_ready_at d Lane.Begin ≡ true }
     requires over { CanBeginOver tree }
+    requires own { IsOwn d.core tree }
     requires store { IsStoreSound D.view store }
     requires unbroken { store.is_broken ≡ false }
     requires unarmed { store.disk.armed ≡ None }
     requires unblown { store.disk.blown ≡ false }
-    ensures lived { LivesTo any_order D.view (λ opening. IsLeft tree (state_after opening d.core.log)) (λ opening. IsFoundOn opening d.core tree (seen D.view store.disk)) d result.desk store.disk result.disk result.ended }
+    ensures lived { LivesTo any_order D.view (λ opening. IsLeftAfter tree opening d.core.log) (λ opening. IsFoundOn opening d.core tree (seen D.view store.disk)) d result.desk store.disk result.disk result.ended }
     ensures fewer { OnOk result.ended (length result.desk.place.lives < length d.place.lives) }
 {
     let mut d = d;
@@ -316,8 +317,8 @@ pub fn run_script<D: Disk + Drop + Send, G: Gate + Sync, R: Threads + Wait + Syn
     ensures unblown { disk.blown ≡ false → result.disk.blown ≡ false }
     ensures idle { script.lives ≡ [] → (result.log ≡ []) × (result.disk ≡ disk) × IsOk result.ended }
     ensures begun { script.lives ≢ [] → OnOk result.ended (result.log ≢ []) }
-    ensures opening { result.log ≢ [] → IfTold (seen D.view disk) (λ bytes. DeviceHolds bytes result.opening) }
-    ensures found { (result.opening ≡ []) ⊎ IfTold (seen D.view disk) (λ bytes. DeviceHolds bytes result.opening) }
+    ensures opening { result.log ≢ [] → IfTold (seen D.view disk) (λ bytes. HasContent bytes result.opening) }
+    ensures found { (result.opening ≡ []) ⊎ IfTold (seen D.view disk) (λ bytes. HasContent bytes result.opening) }
     ensures read_back { stray result.opening ≡ None }
     ensures quiet { result.log ≡ [] → IsQuiet (seen D.view disk) (seen D.view result.disk) }
     ensures images { SurvivesAll result.opening result.log (seen D.view disk) (seen D.view result.disk) }

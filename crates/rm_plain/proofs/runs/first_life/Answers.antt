@@ -1,4 +1,4 @@
-use Rattle.rm_plain.proofs.Onward.{first_to, unfounded_stops}
+use Rattle.rm_plain.proofs.Onward.{first_to, own_first, unfounded_stops}
 use Rattle.rm_plain.proofs.runs.first_life.Goals as goal
 
 pub returns-in-Ok-clause-first : goal.returns-in-Ok-clause-first
@@ -10,3 +10,6 @@ pub returns-in-Err-clause-first : goal.returns-in-Err-clause-first
 returns-in-Err-clause-first g c =
     let none = c.in-Err.ensures in
     unfounded_stops _ g.D.Disk.view c.args.d.now c.args.disk c.in-Err.field-0.disk c.in-Err.field-0.opening c.in-Err.field-0.why c.requires.dead c.requires.lives c.requires.empty none.given_back none.found none.why
+
+pub live-disk-requires-clause-own : goal.live-disk-requires-clause-own
+live-disk-requires-clause-own g c = own_first c.args.d.now.core c.in-Ok.tree c.requires.empty

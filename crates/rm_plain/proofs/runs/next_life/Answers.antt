@@ -8,3 +8,6 @@ returns-in-Ok-clause-later g c =
 pub returns-in-Err-clause-later : goal.returns-in-Err-clause-later
 returns-in-Err-clause-later g c =
     stopped_before _ g.D.Disk.view c.args.d.now c.args.disk c.in-Err.field-0.disk c.in-Err.field-0.why c.requires.dead c.requires.lives c.in-Err.ensures.given_back c.in-Err.ensures.why
+
+pub live-requires-clause-own : goal.live-requires-clause-own
+live-requires-clause-own g c = c.in-Ok.ensures.again.own

@@ -4,9 +4,8 @@ use Rattle.std.specs.Prelude.{is_ok}
 use Rattle.rm_types.specs.declared.operations.Op.{Op}
 use Rattle.rm_types.specs.Lanes.{lane_of_entry}
 use Rattle.rm_types.proofs.TestLemmas.{on_ok_map, on_err, on_ok}
-use Rattle.rm_model.specs.Lawful.{state_after}
 use Rattle.rm_store.specs.Store.{seen}
-use Rattle.rm_core.specs.Moves.{IsLeft}
+use Rattle.rm_core.specs.Moves.{IsLeftAfter}
 use Rattle.rm_plain.specs.declared.halts.Halt.{Halt}
 use Rattle.rm_plain.specs.Keeping.{HaltsOver, IsFoundOn}
 use Rattle.rm_plain.proofs.Halting.{goes_any, halts_same, if_memory}
@@ -20,7 +19,7 @@ returns-in_err-memory_only-clause-halts g c =
     let failed : is_ok c.begin.result ≡ false = sym c.memory_only.ensures ∙ rw c.in_err-memory_only.was refl in
     let same : c.begin.new.self ≡ d = err_holds c.begin.result failed c.begin.ensures.err in
     let p = err_from_is_err_and c.from_residual.result c.from_residual.ensures.1 in
-    rw (p.1 ∙ ap (λ (e : Halt). Err e) p.2, same) (halts_same g.D.Disk.view (λ ops. IsLeft c.args.tree (state_after ops d.core.log)) d c.args.store.now.disk c.args.tree)
+    rw (p.1 ∙ ap (λ (e : Halt). Err e) p.2, same) (halts_same g.D.Disk.view (λ ops. IsLeftAfter c.args.tree ops d.core.log) d c.args.store.now.disk c.args.tree)
 
 pub arm-requires-clause-whole : goal.arm-requires-clause-whole
 arm-requires-clause-whole g c =
@@ -33,7 +32,7 @@ returns-clause-halts g c =
     let mid = c.begin.new.self in
     let made : is_ok c.begin.result ≡ true = sym c.memory_only.ensures ∙ rw c.in_ok-memory_only.was refl in
     let begun = ok_holds c.begin.result made c.begin.ensures.begins in
-    let over : List Op → Type 0 = λ ops. IsLeft c.args.tree (state_after ops d.core.log) in
+    let over : List Op → Type 0 = λ ops. IsLeftAfter c.args.tree ops d.core.log in
     let found : List Op → Type 0 = λ ops. IsFoundOn ops d.core c.args.tree (seen g.D.Disk.view c.args.store.now.disk) in
     let P : Halt → Type 0 = λ halt. HaltsOver (g.O.Ordered.order c.args.by.now) g.D.Disk.view over found d mid c.args.store.now.disk c.arm.new.store.disk halt in
     if_memory P c.arm.result
@@ -61,7 +60,7 @@ returns-in_err-memory_only-clause-goes g c =
     let d = c.args.d.now in
     let failed : is_ok c.begin.result ≡ false = sym c.memory_only.ensures ∙ rw c.in_err-memory_only.was refl in
     let same : c.begin.new.self ≡ d = err_holds c.begin.result failed c.begin.ensures.err in
-    rw same (goes_any (λ ops. IsLeft c.args.tree (state_after ops d.core.log)) d d (goes_same d))
+    rw same (goes_any (λ ops. IsLeftAfter c.args.tree ops d.core.log) d d (goes_same d))
 
 pub returns-clause-fewer : goal.returns-clause-fewer
 returns-clause-fewer g c =

@@ -5,9 +5,8 @@ use Rattle.rm_types.specs.declared.messages.Lane.{Lane}
 use Rattle.rm_types.specs.declared.messages.Lane.TheVariants.{Begin}
 use Rattle.rm_types.specs.declared.operations.Op.{Op}
 use Rattle.rm_types.specs.Lanes.{lane_of_entry}
-use Rattle.rm_model.specs.Lawful.{state_after}
 use Rattle.rm_store.specs.Store.{seen}
-use Rattle.rm_core.specs.Moves.{IsLeft}
+use Rattle.rm_core.specs.Moves.{IsLeftAfter}
 use Rattle.rm_desk.specs.View.{DeskView}
 use Rattle.rm_plain.specs.Keeping.{HaltsBy, IsFoundOn}
 use Rattle.rm_plain.specs.Lives.{EndsBy}
@@ -50,7 +49,7 @@ returns-in-Ok-clause-lived g c =
     let two = c.run_life-ended.new.store in
     let ends = subst (λ (w : List ℕ). IfOk c.run_life-ended.result (EndsBy (by_letters (steps_of w)) g.D.Disk.view mid new one two)) c.pass.ensures.whole run.ends in
     let halts = subst (λ (w : List ℕ). IfErr c.run_life-ended.result (HaltsBy (by_letters (steps_of w)) g.D.Disk.view mid new one.disk two.disk)) c.pass.ensures.whole run.halts in
-    lived g.D.Disk.view (λ ops. IsLeft c.args.tree (state_after ops d.core.log)) (λ ops. IsFoundOn ops d.core c.args.tree (seen g.D.Disk.view c.args.store.disk)) d mid new c.args.store one two
+    lived g.D.Disk.view (λ ops. IsLeftAfter c.args.tree ops d.core.log) (λ ops. IsFoundOn ops d.core c.args.tree (seen g.D.Disk.view c.args.store.disk)) d mid new c.args.store one two
     begun.goes begun.begun begun.fuse run.fuse g.D.Disk.falls_to c.leave.result.disk c.run_life-ended.result c.leave.result.ended ends halts c.leave.ensures
 
 pub returns-in-Ok-clause-at : goal.returns-in-Ok-clause-at
@@ -71,7 +70,7 @@ returns-in-Err-clause-lived g c =
     let d = c.args.d.now in
     let begun = c.in-Err.ensures in
     let left = c.leave-in-Err.ensures in
-    let over : List Op → Type 0 = λ ops. IsLeft c.args.tree (state_after ops d.core.log) in
+    let over : List Op → Type 0 = λ ops. IsLeftAfter c.args.tree ops d.core.log in
     let found : List Op → Type 0 = λ ops. IsFoundOn ops d.core c.args.tree (seen g.D.Disk.view c.args.store.disk) in
     subst (λ (r : Result (Unit {0}) Stop). LivesTo (order_of c.args.schedule.now) g.D.Disk.view over found d c.begin_life.new.d c.args.store.disk c.leave-in-Err.result.disk r) (sym left.1)
     (unbegun g.D.Disk.view over found d c.begin_life.new.d c.args.store c.begin_life.new.store c.leave-in-Err.result.disk c.in-Err.halt begun.halts begun.inner begun.refused begun.fuse left.0 begun.memory)

@@ -18,4 +18,4 @@ returns-in-Ok-false-clause-why g c = λ opening k has.
 pub returns-in-Ok-can_begin-clause-again : goal.returns-in-Ok-can_begin-clause-again
 returns-in-Ok-can_begin-clause-again g c =
     is_again g.D.Disk.view c.args.disk c.in-Ok.store c.in-Ok.tree c.in-Ok.field-0-2 c.in-Ok.ensures.opened c.args.d.now.core c.requires.dead (λ opening k. (c.law.ensures.tells opening k).none c.requires.dead)
-    c.in-Ok-can_begin.ensures.epoch c.in-Ok-can_begin.ensures.stamp (λ opening k. (c.in-Ok-true.ensures.left opening k c.requires.some).0 c.in-Ok-true.field-0-test)
+    c.in-Ok-can_begin.ensures.epoch c.in-Ok-can_begin.ensures.stamp c.requires.some (c.in-Ok-true.ensures.own c.requires.some c.in-Ok-true.field-0-test) (λ opening k. (c.in-Ok-true.ensures.left opening k c.requires.some).0 c.in-Ok-true.field-0-test)

@@ -12,7 +12,7 @@ use Rattle.rm_store.specs.declared.fault.StoreError.{StoreError}
 use Rattle.rm_store.specs.Store.{seen}
 use Rattle.rm_desk.specs.Runs.{HasBlown}
 use Rattle.rm_plain.specs.declared.halts.Halt.{Halt}
-use Rattle.rm_plain.proofs.Moving.{blown_goes, err_holds, kept_goes, no_err, ok_holds, told_blown}
+use Rattle.rm_plain.proofs.Moving.{blown_goes, err_holds, goes_same, kept_goes, no_err, ok_holds, told_blown}
 use Rattle.rm_plain.proofs.Stored.{blown_stores, op_stores}
 use Rattle.rm_plain.proofs.Ending.{fuse_kept}
 use Rattle.rm_plain.proofs.Halting.{append_halts, unlearned_halts}
@@ -36,7 +36,9 @@ returns-then-not-blown-clause-halts g c =
     rw (c.halt_of.ensures, c.fuse.ensures.value)
     (append_halts g.D.Disk.view g.D.Disk.faulted g.met.D.Disk.faulted_counts d store.disk now.disk c.in-Some.op.now (λ opening k. told_blown d c.law.ensures.tells opening k ∙ unblown) c.in-Some.ensures.next c.in-Some.ensures.handed
     (tried.any_moment (c.requires.serves.unbroken unblown)) tried.goes_on.size c.in-Err.error (λ is. (refused.fault (ap (λ (e : StoreError). Err e) is)).inside whole)
-    (λ needed room is. refused.only_full needed room (ap (λ (e : StoreError). Err e) is)))
+    (λ needed room is.
+    let told = refused.only_full needed room (ap (λ (e : StoreError). Err e) is) in
+    (told.0, told.1, λ ops has below. refused.room needed room (ap (λ (e : StoreError). Err e) is) ops has below)))
 
 -- THE FUSE REFUSED IT
 
@@ -120,3 +122,15 @@ returns-clause-one g c =
     let made : is_ok c.kept.result ≡ true = sym c.memory_only-2.ensures ∙ rw c.in_ok-memory_only-2.was refl in
     let does = ok_holds c.kept.result made c.kept.ensures.does in
     (does.adds.entry, does.of_lane, does.adds.added)
+
+pub returns-in_err-memory_only-clause-goes : goal.returns-in_err-memory_only-clause-goes
+returns-in_err-memory_only-clause-goes g c =
+    let failed : is_ok c.blown-in-Err.result ≡ false = sym c.memory_only.ensures ∙ rw c.in_err-memory_only.was refl in
+    let same : c.blown-in-Err.new.self ≡ c.args.d.now = err_holds c.blown-in-Err.result failed c.blown-in-Err.ensures.err in
+    rw same (goes_same c.args.d.now)
+
+pub returns-in_err-memory_only-2-clause-goes : goal.returns-in_err-memory_only-2-clause-goes
+returns-in_err-memory_only-2-clause-goes g c =
+    let failed : is_ok c.kept.result ≡ false = sym c.memory_only-2.ensures ∙ rw c.in_err-memory_only-2.was refl in
+    let same : c.kept.new.self ≡ c.args.d.now = err_holds c.kept.result failed c.kept.ensures.err in
+    rw same (goes_same c.args.d.now)

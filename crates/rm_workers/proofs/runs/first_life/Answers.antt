@@ -1,5 +1,5 @@
 use Rattle.rm_plain.proofs.Finishing.{none_stands, some_left}
-use Rattle.rm_plain.proofs.Onward.{first_to, unfounded_stops}
+use Rattle.rm_plain.proofs.Onward.{first_to, own_first, unfounded_stops}
 use Rattle.rm_workers.specs.AnyOrder.{any_order}
 use Rattle.rm_workers.proofs.runs.first_life.Goals as goal
 
@@ -13,3 +13,6 @@ returns-in-Err-clause-first g c =
     let none = c.in-Err.ensures in
     unfounded_stops any_order g.D.Disk.view c.args.d c.args.disk c.in-Err.field-0.disk c.in-Err.field-0.opening c.in-Err.field-0.why (none_stands c.args.d c.requires.ready) (some_left c.args.d c.requires.ready) c.requires.empty none.given_back none.found
     none.why
+
+pub live-desk-requires-clause-own : goal.live-desk-requires-clause-own
+live-desk-requires-clause-own g c = λ κs lives. own_first c.args.d.core c.in-Ok.tree c.requires.empty

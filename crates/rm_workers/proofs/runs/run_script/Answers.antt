@@ -1,3 +1,4 @@
+use Rattle.std.proofs.Common.{◌∙◌}
 use Rattle.rm_core.specs.Words.{new_manager}
 use Rattle.rm_plain.specs.Later.{IsDueAt}
 use Rattle.rm_plain.specs.Order.{StopsHere}
@@ -75,3 +76,6 @@ pub returns-clause-idle : goal.returns-clause-idle
 returns-clause-idle g c = λ none.
     let idle = c.all_lives-opening.ensures.all.idle (rw c.in-Ok.ensures.place none) in
     rw c.into_log-log.ensures.log (idle.0, idle.1, idle.2 tt)
+
+pub returns-clause-opening : goal.returns-clause-opening
+returns-clause-opening g c = λ some. c.all_lives-opening.ensures.all.opened (λ none. some (c.into_log-log.ensures.log ∙ none))

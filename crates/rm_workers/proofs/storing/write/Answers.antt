@@ -29,5 +29,7 @@ returns-else-is_blown g c = record {
       (failed_after g.D.Disk.view (g.D.Disk.keeps false) g.S.Since.began c.args.store.now c.append.new.self c.args.op.now false c.append.ensures.sound c.in-Err.ensures.kept c.append.ensures.goes_on c.append.ensures.any_moment
       c.in-Err.error
       (λ is. g.met.D.Disk.faulted_counts c.args.store.now.disk.inner c.append.new.self.disk.inner ((c.in-Err.ensures.fault (ap (λ (e : StoreError). Err e) is)).inside whole))
-      (λ needed room is. c.in-Err.ensures.only_full needed room (ap (λ (e : StoreError). Err e) is)) log o c.is_blown.new.store c.is_blown.ensures.same);
+      (λ needed room is.
+      let told = c.in-Err.ensures.only_full needed room (ap (λ (e : StoreError). Err e) is) in
+      (told.0, told.1, λ ops has below. c.in-Err.ensures.room needed room (ap (λ (e : StoreError). Err e) is) ops has below)) log o c.is_blown.new.store c.is_blown.ensures.same);
 }
