@@ -6,7 +6,7 @@ use Rattle.rm_types.specs.declared.outcomes.Outcome.TheVariants.{Done, Usage, Re
 use Rattle.rm_types.specs.declared.settings.Settings.{Settings}
 use Rattle.rm_types.specs.Counts.{Rose}
 use Rattle.rm_disk.specs.Disk.{DiskView}
-use Rattle.rm_formats.specs.Device.{DeviceHolds}
+use Rattle.rm_store.specs.Content.{DeviceHolds}
 use Rattle.rm_outside.specs.Shelves.{bytes_read}
 use Rattle.rm_cluster.specs.Clusters.{IsCluster, IsNoCluster}
 use Rattle.rm_cluster.specs.declared.clusters.ClusterError.TheVariants.{Refused}
@@ -14,6 +14,7 @@ use Rattle.rm_cluster.specs.Rules.{first_broken}
 use Rattle.rm_script.specs.Refusals.{IsFirstRefused}
 use Rattle.rm_script.proofs.Answered.{not_both}
 use Rattle.rm_store.proofs.Faultless.{never_damaged, never_stray}
+use Rattle.rm_store.specs.Store.{IsBelowLast}
 use Rattle.rm_types.specs.declared.entries.Entry.{Entry}
 use Rattle.rm_core.specs.Words.{new_manager}
 use Rattle.rm_desk.specs.View.{DeskView}
@@ -77,8 +78,8 @@ module _ {D : Type 0} (view : D → DiskView) (told : Told) (made : Made D) (pla
 
     no_full : (needed room : ℕ) → Ran view told asked made (StoreFull needed room) → ⊥
     no_full needed room ran =
-        let full : IsFull (IsTold (view made.before.inner)) made.opening made.log (view made.after.inner).size needed room = ran.ran.caused in
-        let behind = ran.ran.caused.behind (place.bytes, place.told) in
+        let full : IsFull (IsTold (view made.before.inner) × IsBelowLast (view made.after.inner)) made.opening made.log (view made.after.inner).size needed room = ran.ran.caused in
+        let behind = ran.ran.caused.behind ((place.bytes, place.told), place.below_last) in
         let enough = place.room ran.ran.caused.op ran.ran.caused.handed.first in
         let less = ran.ran.caused.less in
         let needs = ran.ran.caused.needs in

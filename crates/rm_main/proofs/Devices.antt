@@ -4,7 +4,7 @@ use Rattle.rm_types.specs.declared.operations.Op.{Op}
 use Rattle.rm_disk.specs.Disk.{DiskView, IsQuiet, IfTold}
 use Rattle.rm_disk.specs.Fuse.{Fused}
 use Rattle.rm_disk.proofs.Views.{leaves_of, quiet_same}
-use Rattle.rm_formats.specs.Device.{DeviceHolds}
+use Rattle.rm_store.specs.Content.{HasContent}
 use Rattle.rm_plain.specs.Starts.{DiskStays}
 use Rattle.rm_plain.specs.Survives.{HoldsWithin}
 use Rattle.rm_store.specs.Store.{seen}
@@ -12,7 +12,7 @@ use Rattle.rm_main.specs.Made.{LeavesDevice}
 
 -- it changed no byte
 pub left_alone : {D : Type 0} (view : D → DiskView) (opening : List Op) (before after : Fused D) → IsQuiet (seen view before) (seen view after) → DiskStays view before after → after.armed ≡ None → (before.blown ≡ false → after.blown ≡ false)
-    → (opening ≡ []) ⊎ IfTold (seen view before) (λ bytes. DeviceHolds bytes opening) → LeavesDevice view (record { opening = opening; log = []; before = before; after = after })
+    → (opening ≡ []) ⊎ IfTold (seen view before) (λ bytes. HasContent bytes opening) → LeavesDevice view (record { opening = opening; log = []; before = before; after = after })
 left_alone view opening before after quiet stays unarmed unblown held =
     record {
       stays = stays;

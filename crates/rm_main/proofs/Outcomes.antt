@@ -8,7 +8,7 @@ use Rattle.rm_types.specs.declared.outcomes.Outcome.{Outcome}
 use Rattle.rm_types.specs.declared.outcomes.Outcome.TheVariants.{Done, Usage, ReadFault, WriteFault, ClusterRefused, ScriptRefused, ScheduleRefused, DiskFault, StoreDamaged, StoreFull, EpochsSpent, Memory}
 use Rattle.rm_disk.specs.Disk.{DiskView, EachImage, IfTold}
 use Rattle.rm_disk.specs.Fuse.{Fused}
-use Rattle.rm_formats.specs.Device.{DeviceHolds}
+use Rattle.rm_store.specs.Content.{HasContent}
 use Rattle.rm_plain.specs.declared.halts.Stop.{Stop}
 use Rattle.rm_plain.specs.declared.halts.Stop.TheVariants as stops
 use Rattle.rm_plain.specs.Starts.{IsUnopenedBy}
@@ -160,7 +160,7 @@ caused view due refuses made (Err stop) Memory h why = tt
 
 -- what is listed is what the store holds, and nothing where it wasn't opened
 pub listed : {D : Type 0} (view : D → DiskView) (made : Made D) (ended : Result (Unit {0}) Stop) (written : Outcome) → IsOfWriting written → IfErr ended (IsUnopenedBy view made.before made.after) → IfErr ended (λ stop. made.opening ≡ [])
-    → (IsOk ended → IfTold (seen view made.before) (λ bytes. DeviceHolds bytes made.opening × EachImage (seen view made.after) (λ image. DeviceHolds image made.opening))) → IsListed view made (outcome_of ended written)
+    → (IsOk ended → IfTold (seen view made.before) (λ bytes. HasContent bytes made.opening × EachImage (seen view made.after) (λ image. HasContent image made.opening))) → IsListed view made (outcome_of ended written)
 listed view made (Ok done) Done h why empty holds = holds refl
 listed view made (Ok done) (WriteFault took_nothing) h why empty holds = tt
 listed view made (Ok done) Memory h why empty holds = tt
@@ -192,8 +192,8 @@ listed view made (Err stop) (StoreFull needed room) h why empty holds = absurd h
 listed view made (Err stop) EpochsSpent h why empty holds = absurd h
 
 -- an opening list is empty where the store wasn't opened, and else the disk held it
-pub listed_held : {D : Type 0} (view : D → DiskView) (disk : Fused D) (ops : List Op) (ended : Result (Unit {0}) Stop) → IfErr ended (λ stop. ops ≡ []) → (IsOk ended → IfTold (seen view disk) (λ bytes. DeviceHolds bytes ops))
-    → (ops ≡ []) ⊎ IfTold (seen view disk) (λ bytes. DeviceHolds bytes ops)
+pub listed_held : {D : Type 0} (view : D → DiskView) (disk : Fused D) (ops : List Op) (ended : Result (Unit {0}) Stop) → IfErr ended (λ stop. ops ≡ []) → (IsOk ended → IfTold (seen view disk) (λ bytes. HasContent bytes ops))
+    → (ops ≡ []) ⊎ IfTold (seen view disk) (λ bytes. HasContent bytes ops)
 listed_held view disk ops (Ok done) empty holds = inr (holds refl)
 listed_held view disk ops (Err stop) empty holds = inl empty
 

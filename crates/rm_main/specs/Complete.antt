@@ -6,12 +6,13 @@ use Rattle.rm_types.specs.declared.scripts.Script.{Script}
 use Rattle.rm_types.specs.declared.settings.Settings.{Settings}
 use Rattle.rm_types.specs.Counts.{Rose}
 use Rattle.rm_disk.specs.Disk.{DiskView}
-use Rattle.rm_formats.specs.Device.{DeviceHolds}
+use Rattle.rm_store.specs.Content.{DeviceHolds}
 use Rattle.rm_model.specs.Lawful.{state_after}
 use Rattle.rm_outside.specs.Shelves.{bytes_read}
 use Rattle.rm_cluster.specs.Clusters.{IsCluster}
 use Rattle.rm_script.specs.Scripts.{IsScript}
-use Rattle.rm_store.specs.Store.{needed_for, room_behind}
+use Rattle.rm_store.specs.Kept.{needed_for}
+use Rattle.rm_store.specs.Store.{IsBelowLast, room_behind}
 use Rattle.rm_core.specs.Words.{new_manager}
 use Rattle.rm_plain.specs.Policy.{run_after}
 use Rattle.rm_plain.specs.Schedule.{StopsAt, left_after, steps_of}
@@ -38,7 +39,8 @@ IsAccepted told (Some (Soak number)) = Unit {0}
 IsAccepted told _ = ⊥
 
 -- The device tells that it held a store. An epoch and a stamp are left behind what is kept after the log; the
--- operation that awaits there, if one does, has room; and the disk inside the fuse counted no fault.
+-- operation that awaits there, if one does, has room, and the generation of the disk given back is below the last one; and the disk inside
+-- the fuse counted no fault.
 pub record HasPlace {D : Type 0} (view : D → DiskView) (made : Made D) : Type 0 where
   pub bytes : List ℕ
   pub told : (view made.before.inner).told ≡ Some bytes
@@ -46,6 +48,7 @@ pub record HasPlace {D : Type 0} (view : D → DiskView) (made : Made D) : Type 
   pub holds : DeviceHolds bytes ops
   pub some_left : NoneLeft made.opening made.log → ⊥
   pub room : (op : Op) → slice_get (state_after made.opening made.log).awaiting 0 ≡ Some op → needed_for op ≤ room_behind (view made.after.inner).size (state_after made.opening made.log).kept
+  pub below_last : IsBelowLast (view made.after.inner)
   pub faultless : Rose (view made.before.inner).faults (view made.after.inner).faults → ⊥
 
 -- Where moves are told by a schedule, each of its letters that is reached is known and its lane ready: none stops the run.

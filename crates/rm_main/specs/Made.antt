@@ -4,7 +4,7 @@ use Rattle.rm_types.specs.declared.entries.Entry.{Entry}
 use Rattle.rm_types.specs.declared.operations.Op.{Op}
 use Rattle.rm_disk.specs.Disk.{DiskView, IsQuiet, IfTold}
 use Rattle.rm_disk.specs.Fuse.{Fused}
-use Rattle.rm_formats.specs.Device.{DeviceHolds}
+use Rattle.rm_store.specs.Content.{HasContent}
 use Rattle.rm_plain.specs.Starts.{DiskStays}
 use Rattle.rm_plain.specs.Survives.{SurvivesAll, SurvivesNow}
 use Rattle.rm_store.specs.Store.{seen}
@@ -29,8 +29,8 @@ pub record LeavesDevice {D : Type 0} (view : D → DiskView) (made : Made D) : T
   pub unarmed : made.after.armed ≡ None
   pub unblown : made.before.blown ≡ false → made.after.blown ≡ false
   -- a device on which something was logged held the opening list; and this is empty, or the device held it
-  pub opening : made.log ≢ [] → IfTold (seen view made.before) (λ bytes. DeviceHolds bytes made.opening)
-  pub held : (made.opening ≡ []) ⊎ IfTold (seen view made.before) (λ bytes. DeviceHolds bytes made.opening)
+  pub opening : made.log ≢ [] → IfTold (seen view made.before) (λ bytes. HasContent bytes made.opening)
+  pub held : (made.opening ≡ []) ⊎ IfTold (seen view made.before) (λ bytes. HasContent bytes made.opening)
   -- where nothing was logged, no byte of it changed
   pub quiet : made.log ≡ [] → IsQuiet (seen view made.before) (seen view made.after)
   -- at each moment of the call a crash left what could be left of the handed device, or what is kept at some moment of the log,

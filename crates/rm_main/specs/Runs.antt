@@ -10,7 +10,7 @@ use Rattle.rm_types.specs.declared.scripts.Script.{Script}
 use Rattle.rm_types.specs.declared.settings.Settings.{Settings}
 use Rattle.rm_types.specs.Counts.{Rose}
 use Rattle.rm_disk.specs.Disk.{DiskView, EachImage, IfTold}
-use Rattle.rm_formats.specs.Device.{DeviceHolds}
+use Rattle.rm_store.specs.Content.{HasContent}
 use Rattle.rm_model.specs.Downs.{AllGoDownAtRest}
 use Rattle.rm_model.specs.Lawful.{Lawful, IsDone}
 use Rattle.rm_formats.specs.Page.{page, store_page}
@@ -83,11 +83,11 @@ IsCausedBy view due stops made EpochsSpent = IsStoppedBy view due stops made.bef
 IsCausedBy view due stops made _ = Unit {0}
 
 -- what a listing shows, by its outcome: the disk inside the fuse counted a fault, or it holds no store, and then nothing is
--- listed; or it holds what is listed, and so does whatever a crash leaves of it from now on
+-- listed; or what is listed is its content, and that of whatever a crash leaves of it from now on
 abbrev pub IsListed : {D : Type 0} → (D → DiskView) → Made D → Outcome → Type 0
 IsListed view made DiskFault = (made.opening ≡ []) × Rose (view made.before.inner).faults (view made.after.inner).faults
 IsListed view made (StoreDamaged offset) = (made.opening ≡ []) × IfTold (seen view made.before) (IsNoStore offset)
-IsListed view made Done = IfTold (seen view made.before) (λ bytes. DeviceHolds bytes made.opening × EachImage (seen view made.after) (λ image. DeviceHolds image made.opening))
+IsListed view made Done = IfTold (seen view made.before) (λ bytes. HasContent bytes made.opening × EachImage (seen view made.after) (λ image. HasContent image made.opening))
 IsListed view made _ = Unit {0}
 
 -- what a run is made from: the settings, the script and the schedule that the named files hold, or those of a soak, which has no schedule

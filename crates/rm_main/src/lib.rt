@@ -26,6 +26,7 @@ mod progress;
 mod statuses;
 mod terminal;
 mod threads;
+mod usage;
 mod writing;
 
 pub use described::Described;
@@ -36,3 +37,4 @@ pub use program::{Call, run_by, run_program};
 pub use progress::Watched;
 pub use statuses::status_of;
 pub use threads::top;
+pub use usage::{Usage, usage_of};

@@ -1,6 +1,6 @@
 ghost use Rattle.std.specs.Prelude.{◌≡◌, [], IsOk, IfErr, None};
 ghost use Rattle.rm_disk.specs.Disk.{EachImage, IsQuiet, IfTold};
-ghost use Rattle.rm_formats.specs.Device.{DeviceHolds};
+ghost use Rattle.rm_store.specs.Content.{HasContent};
 ghost use Rattle.rm_plain.specs.Starts.{DiskStays, IsAtEase, IsUnopenedBy};
 ghost use Rattle.rm_store.specs.Store.{seen};
 
@@ -18,12 +18,13 @@ pub struct Listing<D: Disk> {
     pub ended: Result<(), Stop>,
 }
 
-/// Opens the store that a disk holds, and closes it again: what it keeps, in the order in which it was kept.
+/// Opens the store that a disk holds, and closes it again: the operations that stand there, in the order in which they were kept. Those
+/// that say nothing any more may have been left out when the store was written anew.
 /// The disk is left as it was, and what is listed is what a crash leaves of it from then on.
 pub fn list_store<D: Disk>(alloc: Global, disk: Fuse<D>) -> Listing<D>
     requires { disk.armed ≡ None }
-    ensures holds { IsOk result.ended → IfTold (seen D.view disk) (λ bytes. DeviceHolds bytes result.ops) }
-    ensures lasts { IsOk result.ended → IfTold (seen D.view disk) (λ _. EachImage (seen D.view result.disk) (λ image. DeviceHolds image result.ops)) }
+    ensures holds { IsOk result.ended → IfTold (seen D.view disk) (λ bytes. HasContent bytes result.ops) }
+    ensures lasts { IsOk result.ended → IfTold (seen D.view disk) (λ _. EachImage (seen D.view result.disk) (λ image. HasContent image result.ops)) }
     ensures stopped { IfErr result.ended (IsUnopenedBy D.view disk result.disk) }
     ensures empty { IfErr result.ended (λ _. result.ops ≡ []) }
     ensures quiet { IsQuiet (seen D.view disk) (seen D.view result.disk) }

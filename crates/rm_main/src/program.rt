@@ -9,9 +9,10 @@ use crate::progress::Watched;
 use crate::statuses::status_of;
 use crate::terminal::is_terminal;
 use crate::threads::top;
+use crate::usage::{Usage, usage_of};
 use rm_disk::{Disk, FileCause, FileDisk, Fuse, MemDisk};
 use rm_outside::{FileShelf, OutSink, StandardDescriptors};
-use rm_types::{Items, NoMemory, Outcome};
+use rm_types::{Entry, Items, NoMemory, Op, Outcome};
 use rm_words::{command_line, name_at, word_fault};
 use rm_workers::NoGate;
 use std::alloc::Global;
@@ -51,6 +52,8 @@ pub struct Call {
     pub shelf: FileShelf<HostRuntime>,
     /// The standard output.
     pub sink: OutSink<HostRuntime>,
+    /// How much of the store in a file is used, where it could be told.
+    pub usage: Option<Usage>,
 }
 
 impl Call {
@@ -74,16 +77,18 @@ fn stopped(rt: HostRuntime, outcome: Outcome) -> Call
         outcome,
         shelf: FileShelf::new(rt),
         sink: OutSink::new(rt),
+        usage: None,
     }
 }
 
-/// What the program does by these words over a device, which is given back as the call left it. Workers run in the threads of
-/// the first runtime.
+/// What the program does by these words over a device, which is given back as the call left it, and where it is a file how much of
+/// its store is used. Workers run in the threads of the first runtime.
 fn call_over<R: Threads + Wait + Sync, D: Disk + Drop + Send>(
     threads: &R,
     rt: HostRuntime,
     words: &[String],
     device: D,
+    is_file: bool,
 ) -> (Call, D)
     ensures ran { RanOver D.view (map string_bytes words.now) device result.1 result.0.outcome }
     ensures faults { CountsFaults result.0.outcome result.0.shelf result.0.sink }
@@ -94,21 +99,37 @@ fn call_over<R: Threads + Wait + Sync, D: Disk + Drop + Send>(
     let fuse = Fuse::new(alloc, device);
     let Ended {
         outcome,
-        opening: _,
-        log: _,
+        opening,
+        log,
         disk,
     } = top(threads, alloc, words, &mut shelf, &mut sink, fuse, &NoGate);
+    let device = disk.inner();
     let call = Call {
         outcome,
         shelf,
         sink,
+        usage: usage_where(is_file, alloc, device.size() / 2, &opening, &log),
     };
-    (call, disk.inner())
+    (call, device)
+}
+
+/// How much of a store is used, where that is asked for and there is memory to tell it.
+fn usage_where(
+    is_file: bool,
+    alloc: Global,
+    size: u64,
+    opening: &Items<Op>,
+    log: &Items<Entry>,
+) -> Option<Usage> {
+    if !is_file {
+        return None;
+    }
+    usage_of(alloc, size, opening, log).ok()
 }
 
 /// The same, and it tells on standard error how far a run has come, where that is a terminal; that the device's store was made
-/// new, whatever the outcome, for whoever meant another folder has to know; and what stopped the call. Messages have the
-/// program's path and the device's name.
+/// new, whatever the outcome, for whoever meant another folder has to know; of a store in a file how much is used, where it is listed
+/// or nearly full; and what stopped the call. Messages have the program's path and the device's name.
 fn run_over<R: Threads + Wait + Sync, D: Disk + Described + Drop + Send>(
     threads: &R,
     rt: HostRuntime,
@@ -116,17 +137,19 @@ fn run_over<R: Threads + Wait + Sync, D: Disk + Described + Drop + Send>(
     words: &[String],
     name: &str,
     device: D,
+    is_file: bool,
 ) -> (Call, D)
     ensures ran { RanOver D.view (map string_bytes words.now) device result.1 result.0.outcome }
     ensures faults { CountsFaults result.0.outcome result.0.shelf result.0.sink }
 {
     let watched = Watched::new(device, rt, program, is_terminal(&rt));
-    let (call, watched) = call_over(threads, rt, words, watched);
+    let (call, watched) = call_over(threads, rt, words, watched, is_file);
     let device = watched.inner();
     if device.made_new() {
         let program = program.escape_default();
         let _ = eprintln!(rt; "{program}: the store in {name} is new");
     }
+    tell_usage(&rt, program, words, &call, name);
     tell(&rt, program, words, &call, name, device.last_fault());
     (call, device)
 }
@@ -149,8 +172,20 @@ fn run_in_memory<R: Threads + Wait + Sync>(
     ensures faults { CountsFaults result.outcome result.shelf result.sink }
 {
     match new_device(rt.alloc()) {
-        Ok(device) => run_over(threads, rt, program, words, MEMORY_DEVICE, device).0,
+        Ok(device) => run_over(threads, rt, program, words, MEMORY_DEVICE, device, false).0,
         Err(NoMemory) => starved(rt, program),
+    }
+}
+
+/// Tells on standard error how much of a store in a file is used: of one that was listed, and of one in which less than a tenth of an
+/// area is free.
+fn tell_usage(rt: &HostRuntime, program: &str, words: &[String], call: &Call, device: &str) {
+    let is_listed = call.outcome == Outcome::Done && name_at(words, 0) == "store";
+    if let Some(usage) = &call.usage {
+        if is_listed || usage.is_nearly_full() {
+            let program = program.escape_default();
+            let _ = eprintln!(rt; "{program}: {device}: {usage}");
+        }
     }
 }
 
@@ -240,7 +275,7 @@ pub fn run_by<R: Threads + Wait + Sync, D: Disk + Described + Drop + Send>(
     ensures faults { CountsFaults result.0.outcome result.0.shelf result.0.sink }
 {
     match is_over_file(rt.alloc(), words) {
-        Ok(true) => run_over(threads, rt, program, words, STORE_FILE, file),
+        Ok(true) => run_over(threads, rt, program, words, STORE_FILE, file, true),
         Ok(false) => (run_in_memory(threads, rt, program, words), file),
         Err(NoMemory) => (starved(rt, program), file),
     }

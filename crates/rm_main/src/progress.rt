@@ -3,17 +3,14 @@ ghost use Rattle.std.specs.Prelude.{◌≡◌};
 use rm_disk::{Disk, DiskError};
 use std::marker::Model;
 
-// An operation is kept by one append to a journal, which makes two syncs.
-const SYNCS_PER_OPERATION: u64 = 2;
-
 // How many more operations are kept from one line to the next.
 const OPERATIONS_PER_LINE: u64 = 1000;
 
 /// A disk that passes each call on to an inner one, and tells on standard error how many operations are kept so far,
 /// in one line for each 1,000 of them.
 ///
-/// It sees calls alone: two syncs that succeed count as one operation, as an append to a journal makes them. A line
-/// that can't be written is lost, and changes no answer.
+/// It sees calls alone: a sync that succeeds behind the write of an open gate counts as one operation, but not behind the first
+/// gate of an area, which is opened where that is written anew. A line that can't be written is lost, and changes no answer.
 ///
 /// Contracts see of it the inner disk.
 #[derive(Drop)]
@@ -21,7 +18,8 @@ pub struct Watched<'a, D, R> {
     device: D,
     rt: R,
     program: &'a str,
-    syncs: u64,
+    operations: u64,
+    is_opened: bool,
     tells: bool,
 }
 
@@ -41,7 +39,8 @@ impl<'a, D, R: Drop> Watched<'a, D, R> {
             device,
             rt,
             program,
-            syncs: 0,
+            operations: 0,
+            is_opened: false,
             tells,
         }
     }
@@ -54,7 +53,8 @@ impl<'a, D, R: Drop> Watched<'a, D, R> {
             device,
             rt: _,
             program: _,
-            syncs: _,
+            operations: _,
+            is_opened: _,
             tells: _,
         } = self;
         device
@@ -62,16 +62,30 @@ impl<'a, D, R: Drop> Watched<'a, D, R> {
 }
 
 impl<D, R: Eprint> Watched<'_, D, R> {
-    // Counts a sync that succeeded, and tells where it ends as many operations as a line stands for.
+    // Counts an operation whose open gate was made to last by a sync, and tells where it ends as many as a line stands for.
     fn count(&mut self)
         ensures { self.new ≡ self.old }
     {
-        self.syncs = self.syncs.saturating_add(1);
-        if self.tells && self.syncs % (SYNCS_PER_OPERATION * OPERATIONS_PER_LINE) == 0 {
+        if !self.is_opened {
+            return;
+        }
+        self.is_opened = false;
+        self.operations = self.operations.saturating_add(1);
+        if self.tells && self.operations % OPERATIONS_PER_LINE == 0 {
             let program = self.program.escape_default();
-            let operations = self.syncs / SYNCS_PER_OPERATION;
+            let operations = self.operations;
             let _ = eprintln!(self.rt; "{program}: {operations} operations kept");
         }
+    }
+}
+
+impl<D: Disk, R> Watched<'_, D, R> {
+    // Notes whether a write opens the gate of an operation: it is one byte, 1, and not at the beginning of an area.
+    fn note(&mut self, at: u64, bytes: &[u8])
+        ensures { self.new ≡ self.old }
+    {
+        let is_first = at == 0 || at == self.device.size() / 2;
+        self.is_opened = !is_first && bytes.len() == 1 && bytes[0] == 1;
     }
 }
 
@@ -111,6 +125,7 @@ impl<D: Disk, R: Eprint> Disk for Watched<'_, D, R> {
     }
 
     fn write(&mut self, at: u64, bytes: &[u8]) -> Result<(), DiskError> {
+        self.note(at, bytes);
         self.device.write(at, bytes)
     }
 

@@ -7,7 +7,7 @@ returns-clause-ran g c =
     record {
       made = record { opening = result.opening; log = result.log; before = c.new-fuse.result; after = result.disk };
       over = c.new-fuse.ensures;
-      given_back = sym c.inner.ensures;
+      given_back = sym c.inner-device.ensures;
       ends = c.top-outcome.ensures.ends;
       unused = c.top-outcome.ensures.unused;
       device = c.top-outcome.ensures.device;
