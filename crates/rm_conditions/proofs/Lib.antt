@@ -1,0 +1,3 @@
+mod Apart
+mod Few
+mod Fronts

@@ -1,0 +1,10 @@
+use Rattle.std.proofs.Common.{arith}
+use Rattle.rm_conditions.proofs.Few.{fewer_found, fewer_placed}
+use Rattle.rm_conditions.proofs.counts.has_countable.Goals as goal
+
+pub returns : goal.returns
+returns c =
+    let apps = c.args.t.now.tree.apps in (
+      λ yes id. fewer_found 4294967296 apps (omega arith) (c.have_fewer.ensures.each.0 yes) id,
+      λ few. c.have_fewer.ensures.each.1 (fewer_placed 4294967296 apps c.have_fewer.ensures.apart few),
+    )
