@@ -139,7 +139,7 @@ fn sixty_four_applications_go_on_over_a_restart(rt: HostRuntime) {
     let case = Case {
         cluster: BOUND,
         device: Device {
-            size: 8192,
+            size: 16384,
             ..EMPTY
         },
         ..plain(&parts)

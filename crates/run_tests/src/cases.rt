@@ -6,10 +6,13 @@ use rm_outside::{MemShelf, MemSink, NamedFile};
 use rm_types::{Items, Outcome, Text};
 use std::process::Abort;
 
-/// A device in memory: it begins with these bytes, behind which stand zeros.
+/// The record of generation 1, with which the first area of a device begins.
+pub(crate) const GENERATION: [u8; 13] = [1, 0, 0, 0, 8, 0, 0, 0, 0, 0, 0, 0, 1];
+
+/// A device in memory: it begins with these bytes, in parts, behind which stand zeros.
 #[derive(Clone, Copy)]
 pub(crate) struct Device<'a> {
-    pub bytes: &'a [u8],
+    pub bytes: &'a [&'a [u8]],
     pub size: usize,
     pub failing: &'a [u64],
 }
@@ -123,9 +126,17 @@ pub(crate) fn words_of<R: Abort + AllocGlobal>(rt: &R, case: &Case<'_>) -> Vec<S
     words
 }
 
+fn flattened<R: Abort + AllocGlobal>(rt: &R, parts: &[&[u8]]) -> Vec<u8> {
+    let mut bytes = Vec::new(rt.alloc());
+    for part in parts {
+        bytes.extend_from_slice(part).expect(rt, "memory");
+    }
+    bytes
+}
+
 /// A device in memory.
 pub(crate) fn device_of<R: Abort + AllocGlobal>(rt: &R, device: Device<'_>) -> MemDisk {
-    let mut bytes = Vec::from_slice(rt.alloc(), device.bytes).expect(rt, "memory");
+    let mut bytes = flattened(rt, device.bytes);
     bytes.resize(device.size, 0).expect(rt, "memory");
     let failing = numbers(rt, device.failing);
     MemDisk::of(rt.alloc(), Items::from_vec(bytes), failing).expect(rt, "memory")
@@ -202,11 +213,12 @@ pub(crate) fn keeps<R: Abort + AllocGlobal>(rt: &R, device: MemDisk, page: &str)
     wrote(rt, &case, &left, &[page]);
 }
 
-/// Checks that a device begins with these bytes, and has zeros behind them up to the twentieth.
-pub(crate) fn begins<R: Abort>(rt: &R, device: MemDisk, wanted: &[u8]) {
+/// Checks that a device begins with these bytes, in parts, and has zeros behind them up to the fortieth.
+pub(crate) fn begins<R: Abort + AllocGlobal>(rt: &R, device: MemDisk, wanted: &[&[u8]]) {
     let mut device = device;
-    assert!(rt; device.size() >= 20);
-    let mut bytes = [255; 20];
+    let wanted = flattened(rt, wanted);
+    assert!(rt; device.size() >= 40);
+    let mut bytes = [255; 40];
     device.read(0, &mut bytes).expect(rt, "a read");
     for (place, byte) in bytes.iter().enumerate() {
         let is_so = *byte == *wanted.get(place).unwrap_or(&0);

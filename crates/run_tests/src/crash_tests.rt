@@ -160,7 +160,7 @@ const FALLS: [(&str, &str, &str, &str, &str); 15] = [
 ];
 
 // The device falls while an application is kept. The third call opens the gate of its record, and the fourth makes that last: between the
-// two the image says what is left. The gate stands at 18, where image 2 has the byte 96.
+// two the image says what is left. The gate stands at 31, where image 2 has the byte 109.
 #[test]
 fn a_crash_leaves_a_submission_or_none(rt: HostRuntime) {
     for &(crash, end, landed, queued, told) in FALLS.as_slice() {
@@ -225,18 +225,26 @@ kept epoch next=2 stamp=1410901177872
 const UNOPENED: &str = "served client alice new -> NOTOPEN\n";
 
 /// What is asked, a crash, how the life ends by it, what is answered, how many operations landed, and how the next life begins.
-const EPOCH_FALLS: [(&str, &str, &str, &str, &str, &str); 4] = [
+const EPOCH_FALLS: [(&str, &str, &str, &str, &str, &str); 5] = [
     (
         "client alice new\n",
-        "3 1",
-        "blown passed=3",
+        "7 1",
+        "blown passed=7",
         UNOPENED,
         "1",
         SECOND,
     ),
     (
         "client alice new\n",
-        "3 0",
+        "7 0",
+        "blown passed=7",
+        UNOPENED,
+        "0",
+        FIRST,
+    ),
+    (
+        "client alice new\n",
+        "3 1",
         "blown passed=3",
         UNOPENED,
         "0",
@@ -245,7 +253,7 @@ const EPOCH_FALLS: [(&str, &str, &str, &str, &str, &str); 4] = [
     (FIRST_ASKED, "0 2", "blown passed=0", NOT_OPEN, "0", FIRST),
     (
         FIRST_ASKED,
-        "4 0",
+        "8 0",
         "kept epoch next=1 stamp=1410901177871",
         OPEN,
         "0",
@@ -253,7 +261,7 @@ const EPOCH_FALLS: [(&str, &str, &str, &str, &str, &str); 4] = [
     ),
 ];
 
-// The device falls while a life's own epoch is kept. Its fuse is armed after the store was opened, and what is asked is answered all the
+// The device falls while a life's own epoch is kept: four calls begin the first generation, and four append the epoch. Its fuse is armed after the store was opened, and what is asked is answered all the
 // same.
 #[test]
 fn a_crash_leaves_an_epoch_or_none(rt: HostRuntime) {

@@ -1,6 +1,6 @@
 //! Runs that end early: words and files that are refused, and reads and writes that fail.
 
-use crate::cases::{Case, Device, EMPTY, begins, leaves, plain};
+use crate::cases::{Case, Device, EMPTY, GENERATION, begins, leaves, plain};
 use rm_disk::{Disk, DiskError};
 use rm_types::Outcome;
 use std::process::Abort;
@@ -43,7 +43,10 @@ fn a_second_write_that_fails_leaves_the_first_piece(rt: HostRuntime) {
     begins(
         &rt,
         device,
-        &[1, 0, 0, 0, 13, 1, 0, 0, 0, 1, 0, 0, 0, 0, 0, 0, 0, 5, 0, 0],
+        &[
+            &GENERATION,
+            &[1, 0, 0, 0, 13, 1, 0, 0, 0, 1, 0, 0, 0, 0, 0, 0, 0, 5],
+        ],
     );
 }
 

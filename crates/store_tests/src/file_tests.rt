@@ -18,24 +18,26 @@ const NO_STORE: &str = "the file is no store, and is left as it is";
 type Foreign = (&'static [u8], usize, u8, &'static str);
 
 /// All other bytes are 0.
-const FILES: [Foreign; 9] = [
+const FILES: [Foreign; 10] = [
     // Nothing was written yet.
-    (&[], 19, 0, ""),
-    // A first append was cut off: what it wrote first, any of it, and a gate of which it isn't known what was written.
-    (&[0, 0, 0, 0, 13, 1, 0, 0, 0, 1], 18, 0, ""),
-    (&[0, 255, 3, 7, 9], 18, 255, ""),
+    (&[], 14, 0, ""),
+    // A first change was cut off: the generation that it wrote first, any of it, and a gate of which it isn't known what was
+    // written.
+    (&[0, 0, 0, 0, 8, 0, 0, 0, 0, 0, 0, 0, 1], 13, 0, ""),
+    (&[0, 255, 3, 7, 9], 13, 255, ""),
+    (&[7, 0, 0, 0, 8, 0, 0, 0, 0, 0, 0, 0, 1], 13, 0, ""),
+    (&[7, 255, 3, 7, 9], 13, 255, ""),
+    // Behind the open first gate of a half anything may stand.
+    (&[1, 255], 4_194_303, 5, ""),
     (
-        &[7, 0, 0, 0, 13, 1, 0, 0, 0, 1, 0, 0, 1, 72, 128, 67, 118, 15],
-        18,
-        0,
+        &[0, 255, 3, 7, 9, 1, 1, 1, 1, 1, 1, 1, 1, 1, 1],
+        2_097_152,
+        1,
         "",
     ),
-    (&[7, 255, 3, 7, 9], 18, 255, ""),
-    // Behind an open gate anything may stand.
-    (&[1, 255], 4_194_303, 5, ""),
-    // An Epoch ends at place 18.
-    (&[0, 0, 0, 0, 13, 1], 19, 1, NO_STORE),
-    (&[], 4_194_303, 1, NO_STORE),
+    // A generation and the gate behind it end at place 13.
+    (&[0, 0, 0, 0, 8], 14, 1, NO_STORE),
+    (&[0, 255], 2_097_153, 1, NO_STORE),
     // An executable.
     (&[127, b'E', b'L', b'F', 2, 1, 1], 20, 1, NO_STORE),
 ];

@@ -94,9 +94,10 @@ fn outcome<D: Disk + Drop>(alloc: Global, disk: Fuse<D>) -> Result<(), StoreErro
     outcome
 }
 
-/// The disk has the record of the Epoch, and an open gate before a record.
-const FIRST_BYTES: [u8; 20] = [
-    1, 0, 0, 0, 13, 1, 0, 0, 0, 1, 0, 0, 1, 72, 128, 67, 118, 15, 1, 0,
+/// The first area has the record of generation 1 and that of the Epoch, and an open gate before a record.
+const FIRST_BYTES: [u8; 33] = [
+    1, 0, 0, 0, 8, 0, 0, 0, 0, 0, 0, 0, 1, 1, 0, 0, 0, 13, 1, 0, 0, 0, 1, 0, 0, 1, 72, 128, 67,
+    118, 15, 1, 0,
 ];
 
 #[test]
@@ -104,7 +105,7 @@ fn operations_are_read_back_in_order(rt: HostRuntime) {
     let (outcome, mut disk) = append_both(rt.alloc(), zeros(&rt, rt.alloc(), 200, &[]));
     wants(&rt, outcome.is_ok());
     wants(&rt, disk.size() == 200);
-    let mut first = [0; 20];
+    let mut first = [0; 33];
     read(&rt, &mut disk, 0, &mut first);
     wants(&rt, first == FIRST_BYTES);
     wants(
@@ -128,51 +129,79 @@ fn put<R: Abort>(rt: &R, bytes: &mut Vec<u8>, more: &[u8]) {
     bytes.extend_from_slice(more).expect(rt, "memory");
 }
 
-/// The record of a payload, and these bytes behind it.
+/// The record of generation 1 in the first area.
+const GENERATION: [u8; 13] = [1, 0, 0, 0, 8, 0, 0, 0, 0, 0, 0, 0, 1];
+
+/// A first area with this generation, the record of a payload, and these bytes behind it, and a second one of as many zeros.
 fn with_record<R: Abort>(rt: &R, alloc: Global, payload: &[u8], rest: &[u8]) -> Vec<u8> {
     let length = u32::try_from(payload.len()).expect(rt, "a length");
-    let mut bytes = vec![in alloc; 1].expect(rt, "memory");
+    let mut bytes = Vec::from_slice(alloc, &GENERATION).expect(rt, "memory");
+    put(rt, &mut bytes, &[1]);
     put(rt, &mut bytes, &length.to_be_bytes());
     put(rt, &mut bytes, payload);
     put(rt, &mut bytes, rest);
+    let half = bytes.len();
+    bytes.resize(half + half, 0).expect(rt, "memory");
     bytes
 }
 
-/// A disk that has the record of this payload, and behind it these bytes, isn't opened for this reason.
+/// A disk whose first area has the record of this payload, and behind it these bytes, isn't opened for this reason.
 fn is_refused<R: Abort>(rt: &R, alloc: Global, payload: &[u8], rest: &[u8], wanted: StoreError) {
     let bytes = with_record(rt, alloc, payload, rest);
     let disk = Fuse::new(alloc, disk_of(rt, alloc, bytes, &[]));
     assert!(rt; found(alloc, disk).err() == Some(wanted));
 }
 
-/// The payload of a record, what stands behind it, and the first fault.
+/// The payload of a record, what stands behind it, and what is told: damage of the area before a payload that is stray or no frame.
 const FAULTS: [(&[u8], &[u8], StoreError); 6] = [
     (
         &REMOVE,
         &END,
         StoreError::Stray {
             number: 0,
-            offset: 0,
+            offset: 13,
         },
     ),
-    (&REMOVE, &NO_RECORD, StoreError::Damaged { offset: 18 }),
-    (&LONGER, &END, StoreError::Damaged { offset: 0 }),
-    (&CUT, &END, StoreError::Damaged { offset: 0 }),
-    (&EPOCH, &NO_RECORD, StoreError::Damaged { offset: 18 }),
+    (&REMOVE, &NO_RECORD, StoreError::Damaged { offset: 31 }),
+    (&LONGER, &END, StoreError::Damaged { offset: 13 }),
+    (&LONGER, &NO_RECORD, StoreError::Damaged { offset: 32 }),
+    (&EPOCH, &NO_RECORD, StoreError::Damaged { offset: 31 }),
     (
         &EPOCH,
         &EPOCH_AGAIN,
         StoreError::Stray {
             number: 1,
-            offset: 18,
+            offset: 31,
         },
     ),
 ];
 
 #[test]
-fn the_first_fault_is_told(rt: HostRuntime) {
+fn damage_is_told_before_a_stray_payload(rt: HostRuntime) {
     for (payload, rest, wanted) in FAULTS.as_slice() {
         is_refused(&rt, rt.alloc(), payload, rest, *wanted);
+    }
+}
+
+/// The first bytes of each area of a disk, and where it is damaged: its areas have one generation, there is no generation 0, and
+/// a first payload of 13 bytes, as a store of one journal has, is none.
+const DAMAGED: [(&[u8], &[u8], u64); 4] = [
+    (&GENERATION, &GENERATION, 50),
+    (&[1, 0, 0, 0, 8], &[], 0),
+    (&EPOCH_AGAIN, &[], 0),
+    (&GENERATION, &EPOCH_AGAIN, 50),
+];
+
+#[test]
+fn areas_are_damaged_by_their_generations(rt: HostRuntime) {
+    for (first, second, offset) in DAMAGED.as_slice() {
+        let mut bytes = Vec::from_slice(rt.alloc(), first).expect(&rt, "memory");
+        bytes.resize(50, 0).expect(&rt, "memory");
+        put(&rt, &mut bytes, second);
+        bytes.resize(100, 0).expect(&rt, "memory");
+        let disk = Fuse::new(rt.alloc(), disk_of(&rt, rt.alloc(), bytes, &[]));
+        let wanted = StoreError::Damaged { offset: *offset };
+        wants(&rt, found(rt.alloc(), disk).err() == Some(wanted));
     }
 }
 
@@ -204,9 +233,9 @@ fn after_failure<R: Abort>(rt: &R, alloc: Global, disk: Fuse<MemDisk>) -> Fuse<M
 
 #[test]
 fn a_store_that_failed_has_to_be_opened_again(rt: HostRuntime) {
-    // Opening syncs and reads the first gate twice; then come the four calls of the append, of which the last
-    // fails.
-    let disk = zeros(&rt, rt.alloc(), 100, &[7]);
+    // Opening reads the first gate of each area, syncs, and reads the current one again; then come the four calls that begin a
+    // generation, and the four of the append, of which the last fails.
+    let disk = zeros(&rt, rt.alloc(), 100, &[12]);
     let disk = after_failure(&rt, rt.alloc(), disk);
     wants(
         &rt,
@@ -220,12 +249,49 @@ fn see_outcome<R: Abort>(rt: &R, alloc: Global, size: usize, wanted: Result<(), 
     assert!(rt; outcome(alloc, disk) == wanted, "{size}");
 }
 
+// Each area of 83 bytes has 52 behind a generation and the Epoch, and the App needs 53.
 #[test]
 fn an_operation_needs_room_for_the_next_gate(rt: HostRuntime) {
     let full = StoreError::Full {
         needed: 53,
         room: 52,
     };
-    see_outcome(&rt, rt.alloc(), 70, Err(full));
-    see_outcome(&rt, rt.alloc(), 71, Ok(()));
+    see_outcome(&rt, rt.alloc(), 167, Err(full));
+    see_outcome(&rt, rt.alloc(), 168, Ok(()));
+}
+
+/// The Epochs of three lives.
+const EPOCH_1: [u8; 13] = [1, 0, 0, 0, 1, 0, 0, 0, 0, 0, 0, 0, 1];
+
+const EPOCH_2: [u8; 13] = [1, 0, 0, 0, 2, 0, 0, 0, 0, 0, 0, 0, 2];
+
+const EPOCH_3: [u8; 13] = [1, 0, 0, 0, 3, 0, 0, 0, 0, 0, 0, 0, 3];
+
+fn append_epochs<D: Disk>(alloc: Global, store: &mut Store<D>) -> Result<(), StoreError>
+    requires { StoreInvariant D.view store.old }
+{
+    append(alloc, store, &EPOCH_1)?;
+    append(alloc, store, &EPOCH_2)?;
+    append(alloc, store, &EPOCH_3)
+}
+
+/// A disk, once the Epochs were appended to what it holds.
+fn with_epochs<R: Abort, D: Disk>(rt: &R, alloc: Global, disk: Fuse<D>) -> Fuse<D> {
+    match Store::open(alloc, disk) {
+        Ok((mut store, _tree, _ops)) => {
+            wants(rt, append_epochs(alloc, &mut store).is_ok());
+            store.close()
+        }
+        Err(_) => panic!(rt; "the store isn't opened"),
+    }
+}
+
+// An area of 64 bytes takes two Epochs behind a generation: the third one is written behind the second in a new area.
+#[test]
+fn an_area_is_written_anew_where_the_current_one_is_full(rt: HostRuntime) {
+    let mut disk = with_epochs(&rt, rt.alloc(), zeros(&rt, rt.alloc(), 128, &[]));
+    let mut second = [0; 13];
+    read(&rt, &mut disk, 64, &mut second);
+    wants(&rt, second == [1, 0, 0, 0, 8, 0, 0, 0, 0, 0, 0, 0, 2]);
+    wants(&rt, found(rt.alloc(), disk) == Ok((2, 3, 3, 0)));
 }
