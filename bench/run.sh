@@ -1,5 +1,5 @@
 #!/bin/bash
-# Measures a store in a file beside other stores and beside the bare calls of the system, and prints two tables:
+# Measures a store in a file beside other stores and beside the bare calls of the system, and prints three tables:
 #
 #   bench/run.sh [FOLDER]      in a new folder below the current one, if none is said
 #
@@ -7,9 +7,12 @@
 #    order is shuffled. Median, mean and 99th percentile of a round, their ratios to those of the bare calls (write, sync,
 #    write, sync) in the same round, the median's ratio to one write and one sync, and how often the device was told to
 #    flush. Each figure is the median of all rounds.
-# 2. Opening a store of 1,000, 10,000 and 20,000 operations and reading all of them, for each operation; warm, with the
+# 2. Opening a store of 1,000, 10,000 and 16,000 operations and reading all of them, for each operation; warm, with the
 #    files in memory, and cold, with the system told to forget them. What the other stores give is kept in memory, as this
 #    store keeps it, or only looked at.
+# 3. Appends over more than 100 changes of area, in memory where the system has such a folder, so that a sync costs nothing: over
+#    100, 1,000 and 10,000 jobs that go on, another job, its removal and an Epoch again and again. Median, 99th percentile and the
+#    worst, which are those that write an area anew. A last line has 20 changes over 16,500 jobs in the folder itself.
 #
 # It builds crates/rm_bench by `rt run`, and bench/peers.cc by g++. It installs nothing: on Debian the other stores are
 #
@@ -121,18 +124,41 @@ open_round() {
 
 open_table() {
   local opener system what many how
-  echo "| system | what is read is | 1,000 warm | cold | 10,000 warm | cold | 20,000 warm | cold |"
+  echo "| system | what is read is | 1,000 warm | cold | 10,000 warm | cold | 16,000 warm | cold |"
   echo "|---|---|---|---|---|---|---|---|"
   for opener in "${openers[@]}"; do
     read -r system what <<< "$opener"
     if [ "$what" = keep ]; then printf '| %s | kept |' "$system"; else printf '| %s | looked at |' "$system"; fi
-    for many in 250 2500 5000; do
+    for many in 250 2500 4000; do
       for how in warm cold; do
         median < "$folder/open.$system.$what.$many.$how" | awk '{printf " %.0f |", $1}'
       done
     done
     echo
   done
+}
+
+# Appends over so many jobs that go on, in a folder, until so many areas are full: a line of the table. A job takes 125 bytes, a removal
+# and an Epoch 18 each, of half of 4 MiB less a generation and an Epoch.
+pauses_of() {
+  local place=$1 live=$2 changes=$3 name=$4 cycles
+  cycles=$(((2097152 - 13 - 18 - 125 * live) * changes / 161))
+  rm -f "$place/store"
+  "$ours" pauses "$place/store" "$live" "$cycles" | sort -n | awk -v live="$live" -v changes="$changes" -v name="$name" '
+    {value[NR] = $1}
+    END {printf "| %s | %d | %d | %d | %.1f | %.1f | %.1f |\n", name, live, NR, changes,
+      value[int((NR + 1) / 2)] / 1e3, value[int(NR * 0.99 + 0.5)] / 1e3, value[NR] / 1e6}'
+  rm -f "$place/store"
+}
+
+pause_table() {
+  local memory=$folder live
+  if [ -w /dev/shm ]; then memory=$(mktemp -d /dev/shm/run.XXXXXX); fi
+  echo "| where | jobs that go on | appends | changes of area | median µs | p99 µs | worst ms |"
+  echo "|---|---|---|---|---|---|---|"
+  for live in 100 1000 10000; do pauses_of "$memory" "$live" 100 memory; done
+  [ "$memory" = "$folder" ] || rm -rf "$memory"
+  pauses_of "$folder" 16500 20 folder
 }
 
 machine() {
@@ -160,7 +186,7 @@ for ((round = 0; round < rounds; round++)); do
 done
 
 cases=()
-for many in 250 2500 5000; do
+for many in 250 2500 4000; do
   for system in "${systems[@]}"; do make_store "$system" "$many"; done
   for opener in "${openers[@]}"; do cases+=("$opener $many warm" "$opener $many cold"); done
 done
@@ -175,3 +201,7 @@ echo
 echo "Nanoseconds for each operation, of an opening:"
 echo
 open_table
+echo
+echo "Appends over changes of area:"
+echo
+pause_table

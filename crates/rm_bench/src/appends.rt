@@ -59,8 +59,8 @@ fn append_job<D: Disk>(
     Ok(())
 }
 
-/// The time of an append of the operation of a frame.
-fn append<D: Disk>(rt: HostRuntime, store: &mut Store<D>, frame: &[u8]) -> Result<u64, Stop>
+/// The time of an append of the operation of a frame, in nanoseconds.
+pub fn append<D: Disk>(rt: HostRuntime, store: &mut Store<D>, frame: &[u8]) -> Result<u64, Stop>
     requires { StoreInvariant D.view store.old }
     ensures { StoreInvariant D.view store.new }
 {

@@ -53,6 +53,20 @@ pub fn frame_of(out: &mut Vec<u8>, step: Step, job: u32) -> Result<(), AllocErro
     }
 }
 
+/// Puts the frame of the removal of the job of a number in place of what there was: 13 bytes.
+pub fn removal_of(out: &mut Vec<u8>, job: u32) -> Result<(), AllocError> {
+    out.clear();
+    put_id(out, 6, job)
+}
+
+/// Puts the frame of an Epoch in place of what there was: 13 bytes.
+pub fn epoch_of(out: &mut Vec<u8>, next: u32) -> Result<(), AllocError> {
+    out.clear();
+    out.extend_from_slice(&[1])?;
+    out.extend_from_slice(&next.to_be_bytes())?;
+    out.extend_from_slice(&u64::from(next).to_be_bytes())
+}
+
 fn put_app(out: &mut Vec<u8>, job: u32) -> Result<(), AllocError> {
     put_id(out, 2, job)?;
     put_text(out, USER)?;

@@ -6,6 +6,7 @@
 
 mod appends;
 mod costs;
+mod cycles;
 mod jobs;
 mod makes;
 mod numbered;
@@ -33,7 +34,10 @@ append FILE JOBS
 make FILE JOBS
 open FILE
 number FILE
-count FILE";
+count FILE
+cycle FILE JOBS
+pauses FILE JOBS CYCLES
+last FILE JOBS";
 
 /// The words of the command line, behind the program's name.
 fn words_of<R: Env + AllocGlobal>(rt: &R) -> io::Result<Vec<String>> {
@@ -55,6 +59,7 @@ fn word_at(words: &[String], place: usize) -> &str {
 fn run_by(rt: HostRuntime, words: &[String]) -> Result<(), Stop> {
     let name = word_at(words, 1);
     let jobs = word_at(words, 2).parse().unwrap_or(1);
+    let cycles = word_at(words, 3).parse().unwrap_or(1);
     match word_at(words, 0) {
         "tree" => tree::measure(rt),
         "rights" => rights::measure(rt),
@@ -65,6 +70,9 @@ fn run_by(rt: HostRuntime, words: &[String]) -> Result<(), Stop> {
         "open" => do_work(rt, name, Work::Open),
         "number" => do_work(rt, name, Work::Number),
         "count" => do_work(rt, name, Work::Count),
+        "cycle" => do_work(rt, name, Work::Cycle { jobs }),
+        "pauses" => do_work(rt, name, Work::Pauses { jobs, cycles }),
+        "last" => do_work(rt, name, Work::Last { jobs }),
         "make" => makes::make(rt, name, jobs),
         "" => {
             println!(rt; "{USAGE}")?;

@@ -14,8 +14,9 @@ pub fn make(rt: HostRuntime, name: &str, jobs: u32) -> Result<(), Stop> {
     Err(Stop)
 }
 
-/// The records of the operations of so many jobs, and a closed gate.
+/// The records of a generation and of the operations of so many jobs, and a closed gate.
 fn put_jobs(rt: HostRuntime, bytes: &mut Vec<u8>, jobs: u32) -> Result<(), AllocError> {
+    put_record(bytes, &1u64.to_be_bytes())?;
     let mut frame = Vec::new(rt.alloc());
     for job in 0..jobs {
         for step in STEPS {
@@ -34,7 +35,7 @@ fn put_record(bytes: &mut Vec<u8>, payload: &[u8]) -> Result<(), AllocError> {
     bytes.extend_from_slice(payload)
 }
 
-/// Whether the bytes could be written from the disk's start on, and last.
+/// Whether the bytes could be written into the disk's first half, from its start on, and last.
 fn write_to<D: Disk>(disk: &mut D, bytes: &[u8]) -> bool {
-    bytes.len() as u64 <= disk.size() && disk.write(0, bytes).is_ok() && disk.sync().is_ok()
+    bytes.len() as u64 <= disk.size() / 2 && disk.write(0, bytes).is_ok() && disk.sync().is_ok()
 }

@@ -1,9 +1,11 @@
 ghost use Rattle.rm_store.specs.Store.{StoreInvariant};
 
 use crate::costs::Stop;
-use crate::{appends, numbered};
+use crate::cycles::Told;
+use crate::{appends, cycles, numbered};
 use rm_disk::{Disk, FileDisk, Fuse, Window};
 use rm_store::{OpenFail, Store};
+use rm_tree::Tree;
 use rm_types::{Items, Op};
 use std::time::Instant;
 
@@ -18,7 +20,16 @@ pub enum Work {
     Number,
     /// Its operations must be the numbered ones, from the first on, and their count is told.
     Count,
+    /// Cycles are run over so many jobs that go on, until the process ends, and each is told once it is kept.
+    Cycle { jobs: u32 },
+    /// So many cycles are run, and the time of each append is told.
+    Pauses { jobs: u32, cycles: u32 },
+    /// It must have so many jobs, or one more, and the number of its last cycle is told.
+    Last { jobs: u32 },
 }
+
+/// More cycles than a process runs before it is ended.
+const MOST_CYCLES: u32 = 1 << 23;
 
 /// Opens the store in a file, or tells why it can't be opened, and does this work with it.
 pub fn do_work(rt: HostRuntime, name: &str, work: Work) -> Result<(), Stop> {
@@ -26,7 +37,7 @@ pub fn do_work(rt: HostRuntime, name: &str, work: Work) -> Result<(), Stop> {
     let since = Instant::now(&rt)?;
     let disk = Fuse::new(alloc, Window::new(alloc, FileDisk::new(&rt, name)));
     match Store::open(alloc, disk) {
-        Ok((mut store, _tree, ops)) => work_on(rt, &mut store, &ops, since, work),
+        Ok((mut store, tree, ops)) => work_on(rt, &mut store, &tree, &ops, since, work),
         Err(refused) => Err(tell_refusal(rt, name, refused)),
     }
 }
@@ -34,6 +45,7 @@ pub fn do_work(rt: HostRuntime, name: &str, work: Work) -> Result<(), Stop> {
 fn work_on<D: Disk>(
     rt: HostRuntime,
     store: &mut Store<D>,
+    tree: &Tree,
     ops: &Items<Op>,
     since: Instant,
     work: Work,
@@ -45,6 +57,9 @@ fn work_on<D: Disk>(
         Work::Open => tell_time(rt, ops.len(), since),
         Work::Number => numbered::append_behind(rt, store, ops.len()),
         Work::Count => numbered::tell_count(rt, ops),
+        Work::Cycle { jobs } => cycles::cycle(rt, store, tree, jobs, MOST_CYCLES, Told::Number),
+        Work::Pauses { jobs, cycles } => cycles::cycle(rt, store, tree, jobs, cycles, Told::Times),
+        Work::Last { jobs } => cycles::tell_last(rt, tree, jobs),
     }
 }
 

@@ -33,10 +33,13 @@ fn put_records(rt: HostRuntime, bytes: &mut Vec<u8>, count: u32) -> Result<(), S
     Ok(())
 }
 
-/// A disk with so many operations.
+/// A disk with so many operations in its first area, and a second one of zeros.
 fn disk_of(rt: HostRuntime, count: u32) -> Result<MemDisk, Stop> {
     let mut bytes = Vec::new(rt.alloc());
+    put_record(&mut bytes, &1u64.to_be_bytes())?;
     put_records(rt, &mut bytes, count)?;
+    let half = bytes.len();
+    bytes.resize(half.saturating_mul(2), 0)?;
     Ok(MemDisk::of(rt.alloc(), Items::from_vec(bytes), Items::new(rt.alloc()))?)
 }
 
