@@ -1,17 +1,12 @@
 #!/bin/bash
 # Kills a process that appends numbered operations to a store in a file, at a random moment, and looks at what it left:
 #
-#   bench/kill.sh [KILLS [FOLDER [JOBS]]]      1000 kills, in a new folder below the current one, if nothing is said
+#   bench/kill.sh [KILLS] [FOLDER]      1000 kills, in a new folder below the current one, if nothing is said
 #
 # The process tells each number on its standard output as soon as its append was acknowledged, and goes on from what the
 # last one left. After each kill the store is opened: its operations have to be those of the numbers from 1 on, in order, up
 # to the last number that was told, or to the one after it. Every twentieth process finds no file, and so may be killed while
 # it makes one. The last line counts what was lost; the status is 0 where that is nothing.
-#
-# With JOBS the store keeps so many jobs, of 125 bytes each, and what is appended is another job, its removal and a numbered Epoch, again
-# and again: so an area is written anew each time that the other one is full, and a process is killed amid that, the more often the
-# less room the jobs leave and the faster a sync is (16,500 in a folder in memory). Then the store has to have these jobs, or also the
-# next one, and the Epoch of the last number that was told, or of the one after it.
 #
 # It builds crates/rm_bench by `rt run`, and needs nothing else. A kill ends a process and not the system: what a loss of
 # power leaves is not tried here.
@@ -19,17 +14,11 @@ set -euo pipefail
 
 here=$(cd "$(dirname "$0")/.." && pwd)
 kills=${1:-1000}
-jobs=${3:-}
 folder=$(mktemp -d "${2:-$PWD}/kill.XXXXXX")
 program=$here/crates/rm_bench/out/rm_bench
 trap 'rm -rf "$folder"' EXIT
 
 (cd "$here/crates/rm_bench" && rt run > /dev/null 2>&1) || { echo "rm_bench was not built" >&2; exit 1; }
-
-# The number of what was appended last.
-look() {
-  if [ -z "$jobs" ]; then "$program" count "$file"; else "$program" last "$file" "$jobs"; fi
-}
 
 file=$folder/store
 told=0      # the last number that was told, of this file
@@ -45,13 +34,8 @@ for ((kill = 0; kill < kills; kill++)); do
     rm -f "$file" "$file.new"
     told=0
     longest=15000
-    [ -z "$jobs" ] || "$program" pauses "$file" "$jobs" 0
   fi
-  if [ -z "$jobs" ]; then
-    "$program" number "$file" > "$folder/told" &
-  else
-    "$program" cycle "$file" "$jobs" > "$folder/told" &
-  fi
+  "$program" number "$file" > "$folder/told" &
   process=$!
   sleep "$(printf '0.%06d' $((RANDOM * longest / 32768)))"
   kill -9 "$process" 2> /dev/null || true
@@ -66,7 +50,7 @@ for ((kill = 0; kill < kills; kill++)); do
   else
     silent=$((silent + 1))
   fi
-  if ! found=$(look); then
+  if ! found=$("$program" count "$file"); then
     wrong=$((wrong + 1))
     echo "kill $kill: the store is not what was appended" >&2
     continue
