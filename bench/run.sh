@@ -11,7 +11,7 @@
 #    files in memory, and cold, with the system told to forget them. What the other stores give is kept in memory, as this
 #    store keeps it, or only looked at.
 # 3. Appends over more than 100 changes of area, in memory where the system has such a folder, so that a sync costs nothing: over
-#    100, 1,000 and 10,000 jobs that go on, another job, its removal and an Epoch again and again. Median, 99th percentile and the
+#    100, 1,000 and 10,000 jobs that go on, another job, its end, its removal and an Epoch again and again. Median, 99th percentile and the
 #    worst, which are those that write an area anew. A last line has 20 changes over 16,500 jobs in the folder itself.
 #
 # It builds crates/rm_bench by `rt run`, and bench/peers.cc by g++. It installs nothing: on Debian the other stores are
@@ -138,11 +138,11 @@ open_table() {
   done
 }
 
-# Appends over so many jobs that go on, in a folder, until so many areas are full: a line of the table. A job takes 125 bytes, a removal
-# and an Epoch 18 each, of half of 4 MiB less a generation and an Epoch.
+# Appends over so many jobs that go on, in a folder, until so many areas are full: a line of the table. A job takes 125 bytes, its end
+# 21, a removal and an Epoch 18 each, of half of 4 MiB less a generation and an Epoch.
 pauses_of() {
   local place=$1 live=$2 changes=$3 name=$4 cycles
-  cycles=$(((2097152 - 13 - 18 - 125 * live) * changes / 161))
+  cycles=$(((2097152 - 13 - 18 - 125 * live) * changes / 182))
   rm -f "$place/store"
   "$ours" pauses "$place/store" "$live" "$cycles" | sort -n | awk -v live="$live" -v changes="$changes" -v name="$name" '
     {value[NR] = $1}

@@ -16,8 +16,8 @@ pub enum Told {
     Times,
 }
 
-/// Keeps so many jobs that go on, and then in each cycle another one, its removal and an Epoch of the cycle's number: so what is left
-/// stays the same, and an area is written anew again and again. It goes on behind the last cycle that the store tells.
+/// Keeps so many jobs that go on, and then in each cycle another one, its end, its removal and an Epoch of the cycle's number: so what is
+/// left stays the same, and an area is written anew again and again. It goes on behind the last cycle that the store tells.
 pub fn cycle<D: Disk>(
     rt: HostRuntime,
     store: &mut Store<D>,
@@ -32,9 +32,9 @@ pub fn cycle<D: Disk>(
     let mut frame = Vec::new(rt.alloc());
     keep_jobs(rt, store, tree.len(), live, &mut frame)?;
     if tree.len() > live as usize {
-        // The last cycle was cut off behind its job.
-        removal_of(&mut frame, live.saturating_add(first))?;
-        append(rt, store, &frame)?;
+        // The last cycle was cut off behind its job, or behind the end of it.
+        let is_ended = tree.at(tree.len() - 1).ending.is_some();
+        take_away(rt, store, live.saturating_add(first), is_ended, &mut frame)?;
     }
     'cycles: for number in first..first.saturating_add(cycles) {
         run_cycle(rt, store, live, number, &mut frame, told)?;
@@ -61,6 +61,27 @@ fn keep_jobs<D: Disk>(
     Ok(())
 }
 
+/// Ends the job of a number, where it hasn't ended, and removes it: the times of both.
+fn take_away<D: Disk>(
+    rt: HostRuntime,
+    store: &mut Store<D>,
+    job: u32,
+    is_ended: bool,
+    frame: &mut Vec<u8>,
+) -> Result<(u64, u64), Stop>
+    requires { StoreInvariant D.view store.old }
+    ensures { StoreInvariant D.view store.new }
+{
+    let mut end = 0;
+    if !is_ended {
+        frame_of(frame, Step::AppEnd, job)?;
+        end = append(rt, store, frame)?;
+    }
+    removal_of(frame, job)?;
+    let removal = append(rt, store, frame)?;
+    Ok((end, removal))
+}
+
 fn run_cycle<D: Disk>(
     rt: HostRuntime,
     store: &mut Store<D>,
@@ -76,13 +97,12 @@ fn run_cycle<D: Disk>(
     let next = number.saturating_add(1);
     frame_of(frame, Step::App, job)?;
     let app = append(rt, store, frame)?;
-    removal_of(frame, job)?;
-    let removal = append(rt, store, frame)?;
+    let (end, removal) = take_away(rt, store, job, false, frame)?;
     epoch_of(frame, next)?;
     let epoch = append(rt, store, frame)?;
     match told {
         Told::Number => println!(rt; "{next}")?,
-        Told::Times => println!(rt; "{app}\n{removal}\n{epoch}")?,
+        Told::Times => println!(rt; "{app}\n{end}\n{removal}\n{epoch}")?,
     }
     Ok(())
 }
