@@ -1,7 +1,7 @@
-//! Measures how long the parts of the manager take: `rm_bench NAME` prints a line for each size and the
-//! ratio of their times. With no name it prints the names.
+//! Works on a store in a file for the scripts in `bench/`, which tell what they want by its words: it makes one, appends to it, opens
+//! it, and tells times and counts. With no word it prints the words.
 //!
-//! It promises nothing but to end; the numbers are the machine's. It stands on the crates that it measures.
+//! It promises nothing but to end; the numbers are the machine's. It stands on the store and what is below it.
 #![tactic(auto)]
 
 mod appends;
@@ -11,12 +11,6 @@ mod jobs;
 mod makes;
 mod numbered;
 mod opened;
-mod operations;
-mod page;
-mod rights;
-mod script;
-mod store;
-mod tree;
 
 use costs::Stop;
 use opened::{Work, do_work};
@@ -25,12 +19,7 @@ use std::rt::Env;
 use std::{env, io};
 
 /// How the program is called.
-const USAGE: &str = "tree
-rights
-store
-script
-page
-append FILE JOBS
+const USAGE: &str = "append FILE JOBS
 make FILE JOBS
 open FILE
 number FILE
@@ -61,11 +50,6 @@ fn run_by(rt: HostRuntime, words: &[String]) -> Result<(), Stop> {
     let jobs = word_at(words, 2).parse().unwrap_or(1);
     let cycles = word_at(words, 3).parse().unwrap_or(1);
     match word_at(words, 0) {
-        "tree" => tree::measure(rt),
-        "rights" => rights::measure(rt),
-        "store" => store::measure(rt),
-        "script" => script::measure(rt),
-        "page" => page::measure(rt),
         "append" => do_work(rt, name, Work::Append { jobs }),
         "open" => do_work(rt, name, Work::Open),
         "number" => do_work(rt, name, Work::Number),
