@@ -1,7 +1,7 @@
 //! The job's run over a device of which one call fails: each call of a whole run, in turn, and then each write, of which half is
 //! written.
 
-use crate::cases::{Device, EMPTY, device_of, joined, listed, plain, run_on, wants};
+use crate::cases::{Device, EMPTY, Left, device_of, joined, listed, plain, run_on, wants};
 use crate::job_tests::{FINISH, FINISH_PAGE, JOB, JOB_PAGE, JOB_STORE, RESYNCED, RESYNCED_PAGE};
 use rm_disk::{MemDisk, Torn};
 use rm_types::Outcome;
@@ -26,7 +26,7 @@ fn stopped_well<R: Abort + AllocGlobal>(rt: &R, page: &str, device: MemDisk) {
     wants(rt, JOB_STORE.starts_with(list.as_str()));
     let kept = kept_in(page);
     let found = kept_in(list.as_str());
-    wants(rt, found == kept || found == kept + 1);
+    wants(rt, found == kept || found.checked_sub(kept) == Some(1));
 }
 
 /// Whether a run was stopped by its device, and then left it well; else it was done.
@@ -50,32 +50,46 @@ fn stops_at_call<R: Abort + AllocGlobal>(rt: &R, call: u64) -> bool {
         failing: &[call],
         ..EMPTY
     };
-    let left = run_on(rt, &plain(&SCRIPT), device_of(rt, device));
-    is_stopped(rt, left.outcome, left.page.as_str(), left.device)
+    let Left {
+        outcome,
+        page,
+        device,
+    } = run_on(rt, &plain(&SCRIPT), device_of(rt, device));
+    is_stopped(rt, outcome, page.as_str(), device)
 }
 
 /// Whether a run stops whose device writes half of this write.
 fn stops_at_write<R: Abort + AllocGlobal>(rt: &R, write: u64) -> bool {
     let device = Torn::new(device_of(rt, EMPTY), write);
-    let left = run_on(rt, &plain(&SCRIPT), device);
-    is_stopped(rt, left.outcome, left.page.as_str(), left.device.inner())
+    let Left {
+        outcome,
+        page,
+        device,
+    } = run_on(rt, &plain(&SCRIPT), device);
+    is_stopped(rt, outcome, page.as_str(), device.inner())
 }
 
 // Six operations are kept, each by two writes and two syncs, and the device is read at the beginning of each life.
 #[test]
 fn a_run_stops_where_its_device_fails(rt: HostRuntime) {
-    let calls = (1..1000)
-        .take_while(|call| stops_at_call(&rt, *call))
-        .count();
-    wants(&rt, calls >= 26);
-    wants(&rt, calls < 999);
+    let mut stopped = 0;
+    for call in 1..1000 {
+        if !stops_at_call(&rt, call) {
+            break;
+        }
+        stopped = call;
+    }
+    wants(&rt, stopped >= 26 && stopped < 999);
 }
 
 #[test]
 fn a_run_stops_where_a_write_is_torn(rt: HostRuntime) {
-    let writes = (1..1000)
-        .take_while(|write| stops_at_write(&rt, *write))
-        .count();
-    wants(&rt, writes >= 12);
-    wants(&rt, writes < 999);
+    let mut stopped = 0;
+    for write in 1..1000 {
+        if !stops_at_write(&rt, write) {
+            break;
+        }
+        stopped = write;
+    }
+    wants(&rt, stopped >= 12 && stopped < 999);
 }

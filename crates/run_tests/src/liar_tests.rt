@@ -127,22 +127,24 @@ const REGISTERS_PAGE: &str = "\
 served master appattempt_1410901177871_0001_000001 register -> registered
 served master appattempt_1410901177871_0001_000001 allocate 0 ask=";
 
-// A master may have 64 asks, whatever it sends to come there: more of them are refused whole, and of 65 the last may ask for none.
+/// It asks once more by that id.
+const AGAIN: &str = "\nmaster appattempt_1410901177871_0001_000001 allocate 0 ask=";
+
+const FULL: &str = " -> FULL\nserved master appattempt_1410901177871_0001_000001 allocate 0 ask=";
+
+const SETTLE: &str = "\nsettle\n";
+
+const ALLOCATED: &str = " -> allocated id=1 grants=[] ended=[]\nsettled\n";
+
+// A master may have 64 asks: 65 at once are refused whole, and of 65 one may ask for none.
 #[test]
 fn a_list_of_too_many_asks_is_refused_whole(rt: HostRuntime) {
     let (many, most, fit) = (asks(&rt, 65, 0), asks(&rt, 64, 0), asks(&rt, 65, 65));
     let (many, most, fit) = (many.as_str(), most.as_str(), fit.as_str());
-    let again = "\nmaster appattempt_1410901177871_0001_000001 allocate 0 ask=";
-    let refused = " -> FULL\nserved master appattempt_1410901177871_0001_000001 allocate 0 ask=";
-    let allocated = " -> allocated id=1 grants=[] ended=[]\nsettled\n";
-    let said = [REGISTERS, many, again, most, "\nsettle\n"];
-    let page = [REGISTERS_PAGE, many, refused, most, allocated];
+    let said = [REGISTERS, many, AGAIN, most, SETTLE];
+    let page = [REGISTERS_PAGE, many, FULL, most, ALLOCATED];
     answers(&rt, "node n1 beat 1", &said, &page);
-    let page = [REGISTERS_PAGE, fit, allocated];
-    answers(
-        &rt,
-        "node n1 beat 1",
-        &[REGISTERS, fit, "\nsettle\n"],
-        &page,
-    );
+    let said = [REGISTERS, fit, SETTLE];
+    let page = [REGISTERS_PAGE, fit, ALLOCATED];
+    answers(&rt, "node n1 beat 1", &said, &page);
 }
