@@ -6,20 +6,22 @@
 #
 # The cases are a submission and its reports (the script of the program's stored run, up to its crash), in memory and over a
 # file; the job of examples/job.txt, whose manager dies amid it, over a file; two lives of examples/script.txt over a file; the
-# listing of what these two left; and the submission by workers. Of each run it looks at this:
+# listing of what these two left; the submission over a file whose first area is full of Epochs, so that the first operation
+# changes the area; and the submission by workers. Of each run it looks at this:
 #
 # - It ends by itself with status 11; or with 0 where the refused allocation was one that is done without, or with 7 where the
 #   device in the file found none and says so.
 # - Its page is a beginning of the page of a run to which nothing is refused, and with status 0 that page. That of workers has
 #   another order in each run, and isn't compared.
-# - The store that is left lists a beginning of what that run's store lists, and in it all that the page says is kept.
+# - The store that is left lists a beginning of what that run's store lists, and in it all that the page says is kept. Over the
+#   full file it lists what is left of its Epochs and of the first of that run's operations, with all that the page says is kept.
 # - The same call once more, with all memory, has status 0.
 #
 # A run that goes wrong is told with its number, by which it can be done again (bench/refuse.c says how). It prints a table;
 # the last line is `N held, M failed`, and the status is 0 where M is 0.
 #
 # The program is the proved one, and bench/refuse.c, which cc builds, refuses the allocations: so a run with what is looked at
-# behind it takes some 20 milliseconds, and all cases some minutes. `rt try` refuses an allocation of a program that is compiled
+# behind it takes some 20 milliseconds, over the full file some hundreds, which python3 makes; and all cases some minutes. `rt try` refuses an allocation of a program that is compiled
 # with checks of each access, but compiles it anew for each number, in more than a minute.
 set -uo pipefail
 
@@ -68,10 +70,29 @@ runs() {
   status=$?
 }
 
-# What the store lists, into the variable of that name, by a call to which nothing is refused.
+# What is left of a list of operations that removes nothing: of its Epochs the last one.
+left_of() {
+  awk '/^kept epoch /{ delete line[last]; last = NR } { line[NR] = $0 } END { for (at = 1; at <= NR; at++) if (at in line) print line[at] }'
+}
+
+# What the store lists, into the variable of that name, by a call to which nothing is refused; of a store that was full, what is
+# left of it.
 lists() {
   "$program" store --file < /dev/null > list 2> listed || wrong "the store isn't one any more: $(head -c 200 listed)"
+  if [ -n "$full" ]; then
+    left_of < list > left
+    mv left list
+  fi
   content "$1" list
+}
+
+# Whether what is left of this, and of the first operations of the whole run, is what the store lists; at least so many of them.
+is_left_of() {
+  local many
+  for ((many = $2; many <= operations; many++)); do
+    { printf %s "$1"; kept_of "$whole_page"; head -n "$many" <<< "${kept%$'\n'}"; } | left_of | cmp -s - list && return
+  done
+  return 1
 }
 
 wrong() { wrongs+=$'\n'"    $*"; }
@@ -108,10 +129,12 @@ look() {
   fi
   [ "$device" = file ] || return
   lists store
-  [[ $whole_store == "$store"* ]] || wrong "the store lists what was never kept: $(tail -n 1 list)"
-  if [ "$1" != store ]; then
-    kept_of "$seen"
-    [[ $store == "$before$kept"* ]] || wrong "the store lacks what the page says is kept"
+  kept_of "$seen"
+  if [ -n "$full" ]; then
+    is_left_of "$before" "$(grep -c . <<< "$kept")" || wrong "the store lists something else: $(tail -n 1 list)"
+  else
+    [[ $whole_store == "$store"* ]] || wrong "the store lists what was never kept: $(tail -n 1 list)"
+    [ "$1" = store ] || [[ $store == "$before$kept"* ]] || wrong "the store lacks what the page says is kept"
   fi
   runs 0 "$@"
   [ "$status" -eq 0 ] || wrong "the same call once more has status $status: $(head -c 200 told)"
@@ -121,13 +144,15 @@ look() {
 try_case() {
   local name=$1 device=$2 over=$3 number tried=0 done_without=0 of_device=0 failures=0 counted refused wrongs
   shift 3
-  local whole_page whole_store= before=
+  local whole_page whole_store= before= full= operations kept
   wrongs=
+  [ "$over" != "$folder/full" ] || full=yes
   begin "$over"
   [ -z "$over" ] || lists before
   runs 0 "$@"
   [ "$status" -eq 0 ] || wrong "with nothing refused the status is $status"
   content whole_page page
+  operations=$(grep -c '^kept ' page)
   read -r counted refused < "$folder/counted"
   [ "$counted" -gt 0 ] || wrong "no allocation was seen"
   [ "$device" = memory ] || lists whole_store
@@ -156,6 +181,21 @@ try_case() {
     fi
   done
   rows+=("| $name | $tried | $((tried - done_without - of_device - failures)) | $done_without | $of_device | $failures |")
+}
+
+# Makes a store whose first area has no room for one more operation: a generation, and the records of Epochs that follow each other.
+make_full() {
+  python3 - "$1" << 'END'
+import struct, sys
+
+half = 2097152
+record = lambda payload: struct.pack(">BI", 1, len(payload)) + payload
+content = record(struct.pack(">Q", 1))
+for number in range(1, (half - len(content)) // 18 + 1):
+    content += record(struct.pack(">BIQ", 1, number, number))
+with open(sys.argv[1], "wb") as file:
+    file.write(content.ljust(2 * half, b"\0"))
+END
 }
 
 # The first case by the kit: the program is compiled with checks, for each number anew.
@@ -190,6 +230,8 @@ else
   runs 0 plain cluster.json script.txt --file
   cp rm.store "$folder/store"
   try_case "a listing" file "$folder/store" store --file
+  make_full "$folder/full" || { echo "no full store was made" >&2; exit 1; }
+  try_case "a submission that changes the area of a file" file "$folder/full" plain cluster.json submission.txt --file
   try_case "a submission by workers, over a file" file "" threads cluster.json submission.txt --file
   echo "| case | runs, each with one allocation refused | status 11 | done without it | status 7 | failed |"
   echo "|---|---|---|---|---|---|"

@@ -3,6 +3,7 @@ pub mod Puts
 pub mod Records
 pub mod Renewed
 pub mod Scans
+pub mod Torns
 pub mod Views
 pub mod Windows
 pub mod Written

@@ -7,4 +7,6 @@ pub mod Images
 pub mod MemDisk
 pub mod Memory
 pub mod Scan
+pub mod Torn
+pub mod TornLaws
 pub mod Window

@@ -105,11 +105,32 @@ impl<'a> Schedule<'a> {
         ensures whole { result.whole ≡ bytes.now }
         ensures left { left_of result ≡ steps_from 0 bytes.now }
     {
-        Schedule {
+        let mut schedule = Schedule {
             whole: bytes,
             rest: bytes,
             place: 0,
+        };
+        schedule.skip();
+        schedule
+    }
+
+    // Drops the line feeds before the first letter that is left, so that no later look for it has to go over them again.
+    #[tactic(auto, unfolding(crate::specs::Schedule::steps_from))]
+    fn skip(&mut self)
+        ensures whole { self.new.whole ≡ self.old.whole }
+        ensures left { left_of self.new ≡ left_of self.old }
+    {
+        let mut rest = self.rest;
+        let mut place = self.place;
+        'skipped: while let [byte, more @ ..] = rest {
+            if *byte != b'\n' || place >= MOST_SCHEDULED {
+                break;
+            }
+            rest = more;
+            place += 1;
         }
+        self.rest = rest;
+        self.place = place;
     }
 
     /// The first letter that is left, and the bytes behind it.
@@ -167,6 +188,7 @@ impl<'a> Schedule<'a> {
             }
             self.rest = rest;
             self.place = step.place + 1;
+            self.skip();
         }
     }
 }

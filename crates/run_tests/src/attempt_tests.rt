@@ -123,10 +123,10 @@ fn beats_are_answered_in_turn_and_passes_grant_what_fits(rt: HostRuntime) {
     );
 }
 
-/// A list of 65 asks of different priorities, in which the one of this priority asks for none.
-fn asks<R: Abort + AllocGlobal>(rt: &R, none: u32) -> String {
+/// A list of so many asks of different priorities, in which the one of this priority asks for none.
+pub(crate) fn asks<R: Abort + AllocGlobal>(rt: &R, number: u32, none: u32) -> String {
     let mut list = String::new(rt.alloc());
-    for priority in 1..=65 {
+    for priority in 1..=number {
         let count = if priority == none { 0 } else { 1 };
         let comma = if priority == 1 { "" } else { "," };
         write!(list, "{comma}{priority}:{count}:8192:8").expect(rt, "memory");
@@ -269,8 +269,8 @@ settled
 // In the next life the id of the job that was removed may be submitted again.
 #[test]
 fn masters_are_answered_in_turn_and_an_ended_job_is_removed(rt: HostRuntime) {
-    let full = asks(&rt, 0);
-    let fit = asks(&rt, 33);
+    let full = asks(&rt, 65, 0);
+    let fit = asks(&rt, 65, 33);
     let (full, fit) = (full.as_str(), fit.as_str());
     let script = [TWO_JOBS, MASTERS, full, RELEASED, fit, REMOVED];
     let page = [

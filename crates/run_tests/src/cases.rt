@@ -35,10 +35,10 @@ pub(crate) struct Case<'a> {
 
 /// What a run left.
 #[derive(Drop)]
-pub(crate) struct Left {
+pub(crate) struct Left<D> {
     pub outcome: Outcome,
     pub page: String,
-    pub device: MemDisk,
+    pub device: D,
 }
 
 const PLAIN: [&str; 3] = ["plain", "cluster", "script"];
@@ -154,7 +154,11 @@ pub(crate) fn page_of<R: Abort + AllocGlobal>(rt: &R, sink: &MemSink) -> String 
 }
 
 /// Makes a run on this device.
-fn run_on<R: Abort + AllocGlobal>(rt: &R, case: &Case<'_>, device: MemDisk) -> Left {
+pub(crate) fn run_on<R: Abort + AllocGlobal, D: Disk>(
+    rt: &R,
+    case: &Case<'_>,
+    device: D,
+) -> Left<D> {
     let mut shelf = shelf_of(rt, case);
     let mut sink = sink_of(rt, case);
     let words = words_of(rt, case);
@@ -168,18 +172,22 @@ fn run_on<R: Abort + AllocGlobal>(rt: &R, case: &Case<'_>, device: MemDisk) -> L
 }
 
 /// Checks what a run came to.
-fn comes_to<R: Abort>(rt: &R, case: &Case<'_>, left: &Left, outcome: Outcome) {
+fn comes_to<R: Abort>(rt: &R, case: &Case<'_>, left: &Left<MemDisk>, outcome: Outcome) {
     assert_eq!(rt; left.outcome, outcome, "{} {:?}", case.cluster, case.script);
 }
 
 /// Checks that a run wrote a page of these parts.
-fn wrote<R: Abort + AllocGlobal>(rt: &R, case: &Case<'_>, left: &Left, parts: &[&str]) {
+fn wrote<R: Abort + AllocGlobal>(rt: &R, case: &Case<'_>, left: &Left<MemDisk>, parts: &[&str]) {
     let wanted = joined(rt, parts);
     assert_eq!(rt; left.page.as_str(), wanted.as_str(), "{:?}", case.script);
 }
 
 /// Makes a run, and checks what it comes to.
-pub(crate) fn ends<R: Abort + AllocGlobal>(rt: &R, case: &Case<'_>, outcome: Outcome) -> Left {
+pub(crate) fn ends<R: Abort + AllocGlobal>(
+    rt: &R,
+    case: &Case<'_>,
+    outcome: Outcome,
+) -> Left<MemDisk> {
     let left = run_on(rt, case, device_of(rt, case.device));
     comes_to(rt, case, &left, outcome);
     left
@@ -202,15 +210,21 @@ pub(crate) fn writes<R: Abort + AllocGlobal>(rt: &R, case: &Case<'_>, page: &[&s
     let _device = leaves(rt, case, Outcome::Done, page);
 }
 
-/// Checks what the store of a device keeps.
-pub(crate) fn keeps<R: Abort + AllocGlobal>(rt: &R, device: MemDisk, page: &str) {
+/// What the store of a device lists.
+pub(crate) fn listed<R: Abort + AllocGlobal>(rt: &R, device: MemDisk) -> String {
     let case = Case {
         words: &["store"],
         ..plain(&[])
     };
     let left = run_on(rt, &case, device);
     comes_to(rt, &case, &left, Outcome::Done);
-    wrote(rt, &case, &left, &[page]);
+    left.page
+}
+
+/// Checks what the store of a device keeps.
+pub(crate) fn keeps<R: Abort + AllocGlobal>(rt: &R, device: MemDisk, page: &str) {
+    let list = listed(rt, device);
+    assert_eq!(rt; list.as_str(), page);
 }
 
 /// Checks that a device begins with these bytes, in parts, and has zeros behind them up to the fortieth.

@@ -17,6 +17,8 @@ mod device_tests;
 #[cfg(test)]
 mod example_tests;
 #[cfg(test)]
+mod fault_tests;
+#[cfg(test)]
 mod file_tests;
 #[cfg(test)]
 mod hint_tests;
@@ -24,6 +26,8 @@ mod hint_tests;
 mod job_tests;
 #[cfg(test)]
 mod kill_tests;
+#[cfg(test)]
+mod liar_tests;
 #[cfg(test)]
 mod message_tests;
 #[cfg(test)]

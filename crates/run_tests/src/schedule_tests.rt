@@ -27,7 +27,7 @@ fn a_soak_tells_what_it_counted(rt: HostRuntime) {
 }
 
 /// A submission, reported while it is saved and once it is accepted.
-const REPORTED: &str = "\
+pub(crate) const REPORTED: &str = "\
 start 5
 client alice new
 settle
@@ -105,8 +105,8 @@ fn lines<R: Abort + AllocGlobal>(rt: &R, number: usize) -> Vec<u8> {
 #[test]
 fn a_schedule_may_not_be_longer(rt: HostRuntime) {
     let longest = lines(&rt, 16_777_216);
-    let _left = ends(&rt, &replay(&[], longest.as_slice()), Outcome::Done);
+    let _left = ends(&rt, &replay(&[REPORTED], longest.as_slice()), Outcome::Done);
     let longer = lines(&rt, 16_777_217);
     let refused = Outcome::ScheduleRefused { place: 16_777_216 };
-    let _device = leaves(&rt, &replay(&[], longer.as_slice()), refused, &[]);
+    let _device = leaves(&rt, &replay(&[REPORTED], longer.as_slice()), refused, &[]);
 }
