@@ -1,30 +1,26 @@
--- What the first event of a queue needs, by its kind.
-use Rattle.std.proofs.Common.{◌≡◌, ◌↔◌, List, [], ◌∷◌, Bool, true, Some, slice_get, refl, ◌∙◌, ap}
+-- What the first event of a queue needs, by whether it makes a pass.
+use Rattle.std.proofs.Common.{◌≡◌, ℕ, List, [], ◌∷◌, true, Some, slice_get, refl, ◌∙◌, ap}
 use Rattle.std.proofs.lemmas.Bool.{false≢true}
 use Rattle.rm_tables.specs.declared.events.SchedEvent.{SchedEvent}
 use Rattle.rm_tables.specs.declared.events.SchedEvent.TheVariants.{AppAdded, AttemptRecovered, AttemptAdded, AttemptRemoved, Release, NodeAdded, NodeDone, NodeUpdate, NodeLost}
-use Rattle.rm_conditions.specs.Events.{FrontNeedsNothing, needs_nothing}
+use Rattle.rm_conditions.specs.Events.{makes_pass}
 
-needs_of : (event : SchedEvent) (more : List SchedEvent) → (needs_nothing event ≡ true) ↔ FrontNeedsNothing (event ∷ more)
-needs_of (AppAdded id) more = (λ yes name turn rest. (λ e. cc, λ e. cc), λ none. refl)
-needs_of (AttemptRecovered id) more = (λ yes name turn rest. (λ e. cc, λ e. cc), λ none. refl)
-needs_of (AttemptAdded id) more = (λ yes name turn rest. (λ e. cc, λ e. cc), λ none. refl)
-needs_of (AttemptRemoved id) more = (λ yes name turn rest. (λ e. cc, λ e. cc), λ none. refl)
-needs_of (Release attempt list) more = (λ yes name turn rest. (λ e. cc, λ e. cc), λ none. refl)
-needs_of (NodeAdded node turn) more = (λ yes. absurd (false≢true yes), λ none. absurd ((none node turn more).1 refl))
-needs_of (NodeDone node list) more = (λ yes name turn rest. (λ e. cc, λ e. cc), λ none. refl)
-needs_of (NodeUpdate node) more = (λ yes. absurd (false≢true yes), λ none. absurd ((none node 0 more).0 refl))
-needs_of (NodeLost node) more = (λ yes name turn rest. (λ e. cc, λ e. cc), λ none. refl)
+-- an event that makes a pass is a beat's
+update_of : (event : SchedEvent) → makes_pass event ≡ true → (name : List ℕ) × (event ≡ NodeUpdate name)
+update_of (AppAdded id) e = absurd (false≢true e)
+update_of (AttemptRecovered id) e = absurd (false≢true e)
+update_of (AttemptAdded id) e = absurd (false≢true e)
+update_of (AttemptRemoved id) e = absurd (false≢true e)
+update_of (Release attempt list) e = absurd (false≢true e)
+update_of (NodeAdded node turn) e = absurd (false≢true e)
+update_of (NodeDone node list) e = absurd (false≢true e)
+update_of (NodeUpdate node) e = (node, refl)
+update_of (NodeLost node) e = absurd (false≢true e)
 
--- a queue whose first event is this one
-pub front_needs : (queue : List SchedEvent) (event : SchedEvent) (b : Bool) → Some event ≡ slice_get queue 0 → b ≡ needs_nothing event → (b ≡ true) ↔ FrontNeedsNothing queue
-front_needs [] event b e is = absurd (cc)
-front_needs (one ∷ more) event b e is =
-    let same : event ≡ one = cc in
-    let test : b ≡ needs_nothing one = is ∙ ap needs_nothing same in
-    rw test (needs_of one more)
-
--- a queue of no events
-pub none_needs : (queue : List SchedEvent) → queue ≡ [] → FrontNeedsNothing queue
-none_needs [] e = λ name turn rest. (λ f. cc, λ f. cc)
-none_needs (one ∷ more) e = absurd (cc)
+-- a queue whose first event makes a pass
+pub first_update : (queue : List SchedEvent) (event : SchedEvent) → Some event ≡ slice_get queue 0 → makes_pass event ≡ true → (name : List ℕ) × (rest : List SchedEvent) × (queue ≡ NodeUpdate name ∷ rest)
+first_update [] event is e = cc
+first_update (one ∷ rest) event is e =
+    let update = update_of event e in
+    let same : one ≡ NodeUpdate update.0 = let first : one ≡ event = cc in first ∙ update.1 in
+    (update.0, rest, ap (λ (x : SchedEvent). x ∷ rest) same)

@@ -1,3 +1,4 @@
 mod Apart
 mod Few
 mod Fronts
+mod Passable

@@ -76,8 +76,8 @@ pub fn have_sizes(asks: &Asks, order: &Items<Turn>) -> bool
         .all(|turn| has_sizes(asks, turn.attempt))
 }
 
-/// Whether each size that an attempt asks for has.
-fn has_sizes(asks: &Asks, attempt: AttemptId) -> bool
+/// Whether each size that an attempt asks for has a megabyte and a core at least.
+pub fn has_sizes(asks: &Asks, attempt: AttemptId) -> bool
     ensures { result ≡ are_some_sizes (asks_of asks.now attempt) }
 {
     match asks.of(attempt) {

@@ -1,3 +1,4 @@
+pub mod Absorbable
 pub mod Listed
 pub mod Granting
 pub mod Fronted

@@ -8,7 +8,6 @@ ghost use Rattle.rm_tables.specs.Absorbing.{absorbed_by, absorbed_with, absorbs,
 ghost use Rattle.rm_tables.specs.Nodes.{node_of};
 ghost use Rattle.rm_tables.specs.Rows.{row_of};
 ghost use Rattle.rm_tables.specs.SchedEvents.{EndsAbsorbed};
-ghost use Rattle.rm_sched.specs.CanWork.{CanAbsorb};
 
 use crate::asking::quiet;
 use crate::closing_lists::{closing_lists, set_lists};
@@ -215,7 +214,6 @@ fn absorb(
 
 /// NodeAdded: the report of a node that waits is absorbed, where this is its last registration.
 pub fn added(t: &mut Tables, name: &Text, turn: u32) -> Result<Entry, NoMemory>
-    requires absorb { CanAbsorb t.old }
     ensures ok { IfOk result (λ e. (list : List Id) × EndsAbsorbed (node_of t.old.nodes name.now) name.now turn t.old list × ((e, t.new) ≡ absorbed_by (node_of t.old.nodes name.now) name.now turn list t.old)) }
     ensures err { OnErr result (t.new ≡ t.old) }
 {
@@ -227,5 +225,7 @@ pub fn added(t: &mut Tables, name: &Text, turn: u32) -> Result<Entry, NoMemory>
     }
     let capability = row.capability;
     let taken = taken_in(t, name, row)?;
+    // With its length a book tells that what stands on a node fits what it offers, so that what is taken differs and fits.
+    let _living = t.book.len();
     absorb(t, name, capability, taken)
 }

@@ -17,3 +17,4 @@ mod passing;
 mod records;
 
 pub use fronts::front;
+pub use passing::{asks_some, attempt_at, granted_to};

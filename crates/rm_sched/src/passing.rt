@@ -38,7 +38,7 @@ fn count_ended(attempts: &[AttemptRecord]) -> usize
 }
 
 /// The attempt that an application is at: the one after those that have ended.
-fn attempt_at(app: &AppRecord) -> AttemptId
+pub fn attempt_at(app: &AppRecord) -> AttemptId
     requires few { length app.now.attempts + 1 < 2 ^ 32 }
     ensures { result ≡ attempt_at app.now }
 {
@@ -49,8 +49,8 @@ fn attempt_at(app: &AppRecord) -> AttemptId
     }
 }
 
-/// How many containers this life granted to an attempt, where it is the current one of its application.
-fn granted_to(rows: &Rows, id: AttemptId) -> u64
+/// How many containers this life granted to an attempt, where it is the current one of its application; otherwise 0.
+pub fn granted_to(rows: &Rows, id: AttemptId) -> u64
     ensures { result ≡ granted_by id.number (row_of rows.now id.app) }
 {
     let Some(row) = rows.find(id.app) else {
@@ -67,7 +67,7 @@ fn granted_to(rows: &Rows, id: AttemptId) -> u64
 }
 
 /// Whether an attempt asks for something.
-fn asks_some(asks: &Asks, id: AttemptId) -> bool
+pub fn asks_some(asks: &Asks, id: AttemptId) -> bool
     ensures { result ≡ asks_some asks.now id }
 {
     asks.of(id).is_some()

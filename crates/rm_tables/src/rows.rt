@@ -1,4 +1,4 @@
-ghost use Rattle.std.specs.Prelude.{◌≡◌, ◌∷◌, [], ◌++◌, Some, None, IfOk, OnOk, OnErr, option_map};
+ghost use Rattle.std.specs.Prelude.{◌≡◌, ◌<◌, ◌∷◌, [], ◌++◌, Some, None, IfOk, OnOk, OnErr, length, option_map, slice_get};
 ghost use Rattle.std.specs.Option.{option_copied};
 ghost use Rattle.rm_tables.specs.Rows.{slot_of, row_of, is_retired, with_row, without_row};
 ghost use Rattle.rm_tables.specs.Changes.{changed};
@@ -96,6 +96,22 @@ impl Rows {
         Rows {
             map: IndexMap::new(alloc),
         }
+    }
+
+    /// How many slots there are, those of removed applications among them.
+    pub fn len(&self) -> usize
+        ensures { result ≡ length self.now }
+    {
+        self.map.len()
+    }
+
+    /// The application whose slot stands at a place in the order of entering, which is below the length.
+    pub fn id_at(&self, place: usize) -> AppId
+        requires { place < length self.now }
+        ensures { option_map (λ slot. slot.0) (slice_get self.now place) ≡ Some result }
+    {
+        let (id, _slot) = self.map.get_index(place).unwrap();
+        *id
     }
 
     /// The row of an application. `None` comes exactly where the life doesn't know it.
