@@ -1,13 +1,13 @@
 -- Each move keeps what is in its range, and what calls take of it.
 pub mod FewGrants
 pub mod Passable
-pub mod Absorbable
 pub mod NextFits
 pub mod RowRanges
 pub mod TreeRanges
 pub mod AskRanges
 pub mod NodeRanges
 pub mod BookRanges
+pub mod Lists
 pub mod MainEvents
 pub mod SchedEvents
 pub mod KeptOps

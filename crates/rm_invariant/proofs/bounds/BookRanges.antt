@@ -28,7 +28,7 @@ use Rattle.rm_invariant.specs.nodes.Book.{All}
 use Rattle.rm_invariant.proofs.nodes.Holds.{all_append, all_filter, all_map}
 use Rattle.rm_invariant.specs.messages.Ranges.{IsHeld, IsList, IsSize}
 use Rattle.rm_invariant.specs.bounds.InBounds.{IsBooked, IsOffer}
-use Rattle.rm_invariant.proofs.bounds.Absorbable.{found_one}
+use Rattle.rm_invariant.proofs.bounds.Lists.{found_one}
 
 -- what holds of each of a list
 pub each_of : {X : Type 0} (P : X → Type 0) (xs : List X) → Every P xs → All P xs

@@ -24,7 +24,7 @@ use Rattle.rm_invariant.proofs.nodes.Entries.{KeepsPlace, taken_place}
 use Rattle.rm_invariant.proofs.nodes.Holds.{all_append, all_map, leave_holds, lives_still}
 use Rattle.rm_invariant.proofs.nodes.Moved.{name_of, node_of-map}
 use Rattle.rm_invariant.proofs.masters.LeavingEvents.{lives_there}
-use Rattle.rm_invariant.proofs.bounds.Absorbable.{once_more}
+use Rattle.rm_invariant.proofs.bounds.Lists.{once_more}
 
 -- TESTS
 
