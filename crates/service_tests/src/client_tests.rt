@@ -3,14 +3,14 @@ ghost use Rattle.std.specs.Prelude.{◌≡◌, ◌+◌, ◌<◌, ◌^◌};
 ghost use Rattle.rm_types.specs.Records.{no_records};
 ghost use Rattle.rm_tables.specs.Lives.{no_life};
 
-use crate::helpers::{APP, SIZE, let_go, text, wants, wants_words, word};
+use crate::helpers::{APP, SIZE, job, let_go, text, wants, wants_words, word};
 use rm_app::AppState;
 use rm_client::serve;
 use rm_queues::{QueueTree, starts_at_root};
 use rm_tables::{AppRow, Tables};
 use rm_types::{
     AppId, AttemptId, ClientAsk, ContainerId, ContainerState, Items, QueueSpec, Reply, Resource,
-    Settings, Submission, Text,
+    Settings, Text,
 };
 use std::alloc::Global;
 use std::process::Abort;
@@ -60,21 +60,6 @@ fn cluster<R: Abort>(rt: &R, alloc: Global) -> (QueueTree, Tables)
 /// Drops both, in one place for all tests.
 fn let_go_both(_queues: QueueTree, tables: Tables) {
     let_go(tables);
-}
-
-/// A job of alice.
-fn job<R: Abort>(rt: &R, alloc: Global) -> Submission {
-    let user = text(rt, alloc, "alice");
-    let queue = text(rt, alloc, "root");
-    let name = text(rt, alloc, "job");
-    Submission {
-        user,
-        queue,
-        name,
-        master: SIZE,
-        attempts: 0,
-        modify: Text::empty(alloc),
-    }
 }
 
 /// The row of that job, which isn't issued yet.

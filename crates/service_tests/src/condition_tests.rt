@@ -1,11 +1,14 @@
 //! What no clause says: that what services and dispatchers require can be tested for, in tables that know nothing yet.
-use crate::helpers::{APP, let_go, tables, text, wants};
+use crate::helpers::{APP, ATTEMPT, SIZE, job, let_go, tables, text, wants};
+use rm_book::Book;
 use rm_conditions::{
-    are_few, can_decide, can_serve_client, can_serve_clock, can_serve_master, can_serve_node,
-    front_needs_nothing,
+    are_few, can_decide, can_pass, can_schedule, can_serve_client, can_serve_clock,
+    can_serve_master, can_serve_node,
 };
 use rm_tables::{SchedEvent, Tables};
-use rm_types::{ClockAsk, Items, MasterAsk, NodeAsk};
+use rm_types::{
+    Ask, ClockAsk, ContainerId, ContainerState, Items, MasterAsk, NodeAsk, Op, Resource,
+};
 use std::alloc::Global;
 use std::process::Abort;
 
@@ -64,26 +67,84 @@ fn the_last_response_id_has_no_next_one(rt: HostRuntime) {
     wants(&rt, !can_serve_node(&beat(rt.alloc(), u32::MAX)));
 }
 
-/// Whether the first event needs nothing, once this one stands last.
-fn needs_nothing_with<R: Abort>(rt: &R, tables: &mut Tables, event: SchedEvent) -> bool {
+/// The book of these tables has one node, which offers so many cores.
+fn offer<R: Abort>(rt: &R, tables: &mut Tables, vcores: u32) {
+    let capability = Resource {
+        memory_mb: 1024,
+        vcores,
+    };
+    let node = text(rt, tables.alloc, "n1");
+    let mut book = Book::new(tables.alloc);
+    book.set_node(&node, capability).expect(rt, "memory");
+    tables.book = book;
+}
+
+/// Whether the first event may be worked off, once this one stands last.
+fn can_schedule_with<R: Abort>(rt: &R, tables: &mut Tables, event: SchedEvent) -> bool {
     tables.sched.push(event).expect(rt, "memory");
-    front_needs_nothing(tables)
+    can_schedule(tables)
 }
 
 #[test]
-fn a_pass_needs_something_once_it_stands_first(rt: HostRuntime) {
+fn a_pass_needs_nodes_of_few_cores_once_it_stands_first(rt: HostRuntime) {
     let mut tables = tables(rt.alloc());
-    wants(&rt, front_needs_nothing(&tables));
-    let node = text(&rt, rt.alloc(), "n1");
-    wants(
-        &rt,
-        needs_nothing_with(&rt, &mut tables, SchedEvent::AppAdded(APP)),
-    );
-    wants(
-        &rt,
-        needs_nothing_with(&rt, &mut tables, SchedEvent::NodeUpdate(node)),
-    );
+    offer(&rt, &mut tables, 256);
+    wants(&rt, can_pass(&tables));
+    offer(&rt, &mut tables, 257);
+    wants(&rt, !can_pass(&tables));
+    let added = SchedEvent::AppAdded(APP);
+    wants(&rt, can_schedule_with(&rt, &mut tables, added));
+    let update = SchedEvent::NodeUpdate(text(&rt, rt.alloc(), "n1"));
+    wants(&rt, can_schedule_with(&rt, &mut tables, update));
     let _ = tables.sched.take_first();
-    wants(&rt, !front_needs_nothing(&tables));
+    wants(&rt, !can_schedule(&tables));
+    let_go(tables);
+}
+
+/// The first attempt of an application that is recorded asks for a container of so many cores.
+fn ask<R: Abort>(rt: &R, tables: &mut Tables, vcores: u32) {
+    let size = Resource {
+        memory_mb: 1024,
+        vcores,
+    };
+    let ask = Ask {
+        priority: 1,
+        count: 1,
+        size,
+    };
+    tables.asks.set(ATTEMPT, ask).expect(rt, "memory");
+}
+
+/// The first container of that attempt, in a life's epoch, runs on a node.
+fn run<R: Abort>(rt: &R, tables: &mut Tables, epoch: u32) {
+    let node = text(rt, tables.alloc, "n1");
+    let id = ContainerId {
+        attempt: ATTEMPT,
+        epoch,
+        seq: 1,
+    };
+    assert!(rt; tables.book.free_of(&node).is_some());
+    let added = tables.book.add(id, &node, SIZE, ContainerState::Running);
+    wants(rt, added.is_ok());
+}
+
+#[test]
+fn a_pass_needs_sizes_and_containers_that_are_new(rt: HostRuntime) {
+    let mut tables = tables(rt.alloc());
+    let submission = job(&rt, rt.alloc());
+    let recorded = tables.tree.apply(&Op::App {
+        id: APP,
+        submission,
+    });
+    wants(&rt, recorded.is_ok());
+    offer(&rt, &mut tables, 1);
+    run(&rt, &mut tables, 1);
+    ask(&rt, &mut tables, 1);
+    wants(&rt, can_pass(&tables));
+    tables.epoch = 1;
+    wants(&rt, !can_pass(&tables));
+    tables.epoch = 2;
+    ask(&rt, &mut tables, 0);
+    wants(&rt, !can_pass(&tables));
     let_go(tables);
 }

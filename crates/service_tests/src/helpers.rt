@@ -2,7 +2,7 @@
 ghost use Rattle.std.specs.Prelude.{◌≡◌, []};
 
 use rm_tables::Tables;
-use rm_types::{AppId, AttemptId, Items, Reply, Resource, Settings, Text};
+use rm_types::{AppId, AttemptId, Items, Reply, Resource, Settings, Submission, Text};
 use std::alloc::Global;
 use std::process::Abort;
 
@@ -47,6 +47,21 @@ pub fn word(reply: Reply) -> &'static str {
 
 pub fn text<R: Abort>(rt: &R, alloc: Global, words: &str) -> Text {
     Text::from_bytes(alloc, words.as_bytes()).expect(rt, "memory")
+}
+
+/// A job of alice.
+pub fn job<R: Abort>(rt: &R, alloc: Global) -> Submission {
+    let user = text(rt, alloc, "alice");
+    let queue = text(rt, alloc, "root");
+    let name = text(rt, alloc, "job");
+    Submission {
+        user,
+        queue,
+        name,
+        master: SIZE,
+        attempts: 0,
+        modify: Text::empty(alloc),
+    }
 }
 
 /// Tables that know nothing yet.
