@@ -5,3 +5,4 @@ pub mod Turning
 pub mod Making
 pub mod Finishing
 pub mod Stays
+pub mod Calling

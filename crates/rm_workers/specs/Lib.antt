@@ -7,3 +7,4 @@ pub mod Turns
 pub mod Ends
 pub mod Still
 pub mod Start
+pub mod Waking

@@ -1,37 +1,77 @@
-use std::sync::{Condvar, Mutex, Wait};
+use crate::ready::Called;
+use rm_types::Lane;
+use std::sync::Wait;
+use std::thread::Parker;
+use std::time::Duration;
 
-/// Tells the workers that something moved. A worker whose lane isn't ready waits for that.
+/// How many milliseconds a worker waits at most for a baton that another one has, before it tries again.
+const TURN: u64 = 1;
+
+/// A bell for each of a life's workers, who sleeps until it rings. One that rings for a worker who is awake rings on, until that
+/// worker sleeps the next time.
 #[derive(Drop)]
-pub(crate) struct Bell {
-    moves: Mutex<u64>,
-    moved: Condvar,
+pub(crate) struct Bells {
+    client: Parker,
+    master: Parker,
+    node: Parker,
+    clock: Parker,
+    main: Parker,
+    sched: Parker,
+    store: Parker,
 }
 
-impl Bell {
-    /// A bell that has told of nothing. It takes no memory.
-    pub(crate) fn new() -> Bell {
-        Bell {
-            moves: Mutex::new(0),
-            moved: Condvar::new(),
+impl Bells {
+    /// No bell rings. It takes no memory.
+    pub(crate) fn new() -> Bells {
+        Bells {
+            client: Parker::new(),
+            master: Parker::new(),
+            node: Parker::new(),
+            clock: Parker::new(),
+            main: Parker::new(),
+            sched: Parker::new(),
+            store: Parker::new(),
         }
     }
 
-    /// Tells of a move.
-    pub(crate) fn tell<R: Wait>(&self, rt: &R) {
-        let mut moves = self.moves.lock(rt);
-        *moves = moves.wrapping_add(1);
-        self.moved.notify_all();
+    /// Rings for those who are called.
+    pub(crate) fn ring(&self, called: Called) {
+        for (is_called, bell) in [
+            (called.client, &self.client),
+            (called.master, &self.master),
+            (called.node, &self.node),
+            (called.clock, &self.clock),
+            (called.main, &self.main),
+            (called.sched, &self.sched),
+            (called.store, &self.store),
+        ] {
+            if is_called {
+                bell.unpark();
+            }
+        }
     }
 
-    /// How many moves it has told of, which a worker remembers before it looks.
-    pub(crate) fn told<R: Wait>(&self, rt: &R) -> u64 {
-        *self.moves.lock(rt)
+    /// The bell of a lane's worker.
+    fn of(&self, lane: Lane) -> &Parker {
+        match lane {
+            Lane::Client => &self.client,
+            Lane::Master => &self.master,
+            Lane::Node => &self.node,
+            Lane::Clock => &self.clock,
+            Lane::Main => &self.main,
+            Lane::Sched => &self.sched,
+            Lane::Hand | Lane::Write | Lane::End | Lane::Begin => &self.store,
+        }
     }
 
-    /// Waits until it has told of another number of moves than these.
-    pub(crate) fn wait_past<R: Wait>(&self, rt: &R, told: u64) {
-        let _moves = self
-            .moved
-            .wait_while(rt, self.moves.lock(rt), |moves| *moves == told);
+    /// The lane's worker found nothing to do. It sleeps until its bell rings.
+    pub(crate) fn sleep<R: Wait>(&self, rt: &R, lane: Lane) {
+        self.of(lane).park(rt);
+    }
+
+    /// The lane's worker found the baton with another one. It sleeps until its bell rings, and not for long: who puts the baton back
+    /// and takes it again at once needn't ring.
+    pub(crate) fn nap<R: Wait>(&self, rt: &R, lane: Lane) {
+        self.of(lane).park_timeout(rt, Duration::from_millis(TURN));
     }
 }

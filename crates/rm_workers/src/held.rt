@@ -11,7 +11,9 @@ ghost use Rattle.rm_desk.specs.Effects.{Blows, LaneEffect};
 ghost use Rattle.rm_desk.specs.Lanes.{IsStep, is_ready_at};
 ghost use Rattle.rm_desk.specs.Runs.{IsScriptOver};
 ghost use Rattle.rm_workers.specs.Came.{Moves, Went, came};
+ghost use Rattle.rm_workers.specs.Waking.{CallsAll, CallsReady, IsGoing, IsSeen};
 
+use crate::ready::{Called, Ready};
 use crate::since::Since;
 use rm_baton::Carries;
 use rm_core::Refused;
@@ -106,8 +108,39 @@ impl<S: Since> Held<S> {
     pub(crate) fn is_over(&self) -> bool
         ensures over { IsTrue result → self.now.halt ≡ None → (stands self.now.desk.core ≡ false) ⊎ IsScriptOver self.now.desk }
         ensures going { result ≡ false → (self.now.halt ≡ None) × (stands self.now.desk.core ≡ true) }
+        ensures unfinished { result ≡ false → IsScriptOver self.now.desk → ⊥ }
     {
         self.halt.is_some() || self.desk.is_down() || self.desk.is_at_end()
+    }
+
+    /// Where something is left to do.
+    pub(crate) fn ready(&self) -> Ready
+        ensures seen { IsSeen result self.now.desk }
+        ensures over { IsGoing self.now ⊎ (result.over ≡ true) }
+    {
+        let end = self.desk.ready(Lane::End);
+        Ready {
+            client: self.desk.ready(Lane::Client),
+            master: self.desk.ready(Lane::Master),
+            node: self.desk.ready(Lane::Node),
+            clock: self.desk.ready(Lane::Clock),
+            main: self.desk.ready(Lane::Main),
+            sched: self.desk.ready(Lane::Sched),
+            hand: self.desk.ready(Lane::Hand),
+            write: self.desk.ready(Lane::Write),
+            end,
+            rests: end && self.desk.is_idle(),
+            over: self.is_over(),
+        }
+    }
+
+    /// Who is to look, after a worker who goes on or doesn't has held it and it was ready so before: each worker of whom a lane is
+    /// ready, but where the holder goes on, those alone of whom it wasn't before; and all once none has anything left to do.
+    pub(crate) fn called(&self, before: Ready, goes_on: bool) -> Called
+        ensures ready { CallsReady goes_on before self.now.desk result }
+        ensures all { IsGoing self.now ⊎ CallsAll result }
+    {
+        self.ready().called(before, goes_on)
     }
 
     /// One move of a lane, as the desk makes it. A segment closes only at rest, unless the life blew.

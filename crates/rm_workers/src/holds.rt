@@ -10,6 +10,7 @@ ghost use Rattle.rm_workers.specs.Carried.{log_of, run_of};
 ghost use Rattle.rm_workers.specs.Turns.{EndFact, IsHelpers, LearnedFact, TurnFact, TurnOp};
 ghost use Rattle.rm_workers.specs.Work.{Halting, IsHelper, Knows, Refused as WasRefused, Serving, Wrote};
 
+use crate::bells::Bells;
 use crate::held::Held;
 use crate::moves::{blow, help, keep, turn};
 use crate::since::Since;
@@ -20,12 +21,12 @@ use rm_plain::Halt;
 use rm_store::Store;
 use rm_types::{Lane, Op};
 use std::sync::Wait;
-use std::thread;
 
 /// A helper's hold. `None` where another worker has the baton.
 pub(crate) fn hold_help<S: Since, R: Wait>(
     rt: &R,
     baton: &Baton<Held<S>>,
+    bells: &Bells,
     pass: &mut Pass<Held<S>>,
     lane: Lane,
 ) -> Option<Helped>
@@ -38,8 +39,11 @@ pub(crate) fn hold_help<S: Since, R: Wait>(
     let Some(mut held) = baton.take(rt, pass) else {
         return None;
     };
+    let ready = held.ready();
     let helped = help(&mut held, lane);
+    let called = held.called(ready, helped.goes_on());
     baton.put(rt, pass, held);
+    bells.ring(called);
     Some(helped)
 }
 
@@ -47,6 +51,7 @@ pub(crate) fn hold_help<S: Since, R: Wait>(
 pub(crate) fn hold_turn<S: Since, D: Disk, R: Wait>(
     rt: &R,
     baton: &Baton<Held<S>>,
+    bells: &Bells,
     pass: &mut Pass<Held<S>>,
     store: &mut Store<D>,
 ) -> Turn
@@ -59,8 +64,11 @@ pub(crate) fn hold_turn<S: Since, D: Disk, R: Wait>(
     let Some(mut held) = baton.take(rt, pass) else {
         return Turn::Out;
     };
+    let ready = held.ready();
     let turn = turn(&mut held, store);
+    let called = held.called(ready, turn.goes_on());
     baton.put(rt, pass, held);
+    bells.ring(called);
     turn
 }
 
@@ -68,6 +76,7 @@ pub(crate) fn hold_turn<S: Since, D: Disk, R: Wait>(
 fn wait_for<S: Since, R: Wait>(
     rt: &R,
     baton: &Baton<Held<S>>,
+    bells: &Bells,
     pass: Pass<Held<S>>,
 ) -> (Pass<Held<S>>, Held<S>)
     requires of { IsPassOf baton.now pass }
@@ -81,7 +90,7 @@ fn wait_for<S: Since, R: Wait>(
         if let Some(held) = baton.take(rt, &mut mine) {
             return (mine, held);
         }
-        thread::yield_now();
+        bells.nap(rt, Lane::Write);
     }
     unreachable!()
 }
@@ -90,6 +99,7 @@ fn wait_for<S: Since, R: Wait>(
 pub(crate) fn hold_kept<S: Since, D: Disk, R: Wait>(
     rt: &R,
     baton: &Baton<Held<S>>,
+    bells: &Bells,
     pass: Pass<Held<S>>,
     store: &Store<D>,
     op: &Op,
@@ -99,9 +109,12 @@ pub(crate) fn hold_kept<S: Since, D: Disk, R: Wait>(
     ensures of { IsPassOf baton.now result.0 }
     ensures knows { Knows (LearnedFact D.view S.began store.now result.1) (view result.0) }
 {
-    let (mut pass, mut held) = wait_for(rt, baton, pass);
+    let (mut pass, mut held) = wait_for(rt, baton, bells, pass);
+    let ready = held.ready();
     let halt = keep(&mut held, store, op);
+    let called = held.called(ready, halt.is_none());
     baton.put(rt, &mut pass, held);
+    bells.ring(called);
     (pass, halt)
 }
 
@@ -109,6 +122,7 @@ pub(crate) fn hold_kept<S: Since, D: Disk, R: Wait>(
 pub(crate) fn hold_blown<S: Since, D: Disk, R: Wait>(
     rt: &R,
     baton: &Baton<Held<S>>,
+    bells: &Bells,
     pass: Pass<Held<S>>,
     store: &Store<D>,
     passed: u32,
@@ -118,9 +132,12 @@ pub(crate) fn hold_blown<S: Since, D: Disk, R: Wait>(
     ensures of { IsPassOf baton.now result.0 }
     ensures knows { Knows (LearnedFact D.view S.began store.now result.1) (view result.0) }
 {
-    let (mut pass, mut held) = wait_for(rt, baton, pass);
+    let (mut pass, mut held) = wait_for(rt, baton, bells, pass);
+    let ready = held.ready();
     let halt = blow(&mut held, store, passed);
+    let called = held.called(ready, halt.is_none());
     baton.put(rt, &mut pass, held);
+    bells.ring(called);
     (pass, halt)
 }
 
@@ -128,6 +145,7 @@ pub(crate) fn hold_blown<S: Since, D: Disk, R: Wait>(
 pub(crate) fn hold_halt<S: Since, D: Disk, R: Wait>(
     rt: &R,
     baton: &Baton<Held<S>>,
+    bells: &Bells,
     pass: Pass<Held<S>>,
     store: &Store<D>,
     halt: Halt,
@@ -138,9 +156,12 @@ pub(crate) fn hold_halt<S: Since, D: Disk, R: Wait>(
     ensures knows { Knows (Halting D.view S.began store.now halt) (view result) }
 {
     let _ = store;
-    let (mut pass, mut held) = wait_for(rt, baton, pass);
+    let (mut pass, mut held) = wait_for(rt, baton, bells, pass);
+    let ready = held.ready();
     held.stop(halt);
+    let called = held.called(ready, false);
     baton.put(rt, &mut pass, held);
+    bells.ring(called);
     pass
 }
 
@@ -148,6 +169,7 @@ pub(crate) fn hold_halt<S: Since, D: Disk, R: Wait>(
 pub(crate) fn hold_unstarted<S: Since, D: Disk, R: Wait>(
     rt: &R,
     baton: &Baton<Held<S>>,
+    bells: &Bells,
     pass: Pass<Held<S>>,
     store: &Store<D>,
 ) -> (Pass<Held<S>>, Halt)
@@ -158,13 +180,14 @@ pub(crate) fn hold_unstarted<S: Since, D: Disk, R: Wait>(
     ensures memory { result.1 ≡ Halt.Memory }
 {
     let halt = Halt::Memory;
-    (hold_halt(rt, baton, pass, store, halt), halt)
+    (hold_halt(rt, baton, bells, pass, store, halt), halt)
 }
 
 /// The last hold, by the only pass that is left: the value as the workers left it, which is over.
 pub(crate) fn hold_last<S: Since, D: Disk, R: Wait>(
     rt: &R,
     baton: &Baton<Held<S>>,
+    bells: &Bells,
     pass: Pass<Held<S>>,
     store: &Store<D>,
     end: End,
@@ -178,7 +201,7 @@ pub(crate) fn hold_last<S: Since, D: Disk, R: Wait>(
     let _ = end;
     let mut mine = pass;
     'holds: for _ in rt.forever() {
-        let (next, held) = wait_for(rt, baton, mine);
+        let (next, held) = wait_for(rt, baton, bells, mine);
         mine = next;
         if held.is_over() {
             return held;

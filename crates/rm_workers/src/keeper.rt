@@ -6,7 +6,7 @@ ghost use Rattle.rm_baton.specs.Views.{view};
 ghost use Rattle.rm_workers.specs.Turns.{EndFact, LearnedFact};
 ghost use Rattle.rm_workers.specs.Work.{Knows, Owing, Serving};
 
-use crate::bells::Bell;
+use crate::bells::Bells;
 use crate::gates::Gate;
 use crate::held::Held;
 use crate::holds::{hold_blown, hold_halt, hold_kept, hold_turn, hold_unstarted};
@@ -20,12 +20,12 @@ use rm_plain::Halt;
 use rm_store::Store;
 use rm_types::{Lane, Op};
 use std::sync::Wait;
-use std::thread;
 
 // Writes the operation outside the baton, and lets the manager learn what came of it, unless that halts the life.
 fn write_on<S: Since, D: Disk, R: Wait>(
     rt: &R,
     baton: &Baton<Held<S>>,
+    bells: &Bells,
     pass: Pass<Held<S>>,
     store: &mut Store<D>,
     op: &Op,
@@ -37,9 +37,9 @@ fn write_on<S: Since, D: Disk, R: Wait>(
     ensures knows { Knows (LearnedFact D.view S.began store.new result.1) (view result.0) }
 {
     match write::<S, D>(store, op) {
-        Written::Kept => hold_kept(rt, baton, pass, store, op),
-        Written::Blown(passed) => hold_blown(rt, baton, pass, store, passed),
-        Written::Failed(halt) => (hold_halt(rt, baton, pass, store, halt), Some(halt)),
+        Written::Kept => hold_kept(rt, baton, bells, pass, store, op),
+        Written::Blown(passed) => hold_blown(rt, baton, bells, pass, store, passed),
+        Written::Failed(halt) => (hold_halt(rt, baton, bells, pass, store, halt), Some(halt)),
     }
 }
 
@@ -57,7 +57,7 @@ fn keep_to_end<S: Since, D: Disk, G: Gate, R: Wait>(
     rt: &R,
     baton: &Baton<Held<S>>,
     gate: &G,
-    bell: &Bell,
+    bells: &Bells,
     mut pass: Pass<Held<S>>,
     mut store: Store<D>,
 ) -> (Pass<Held<S>>, Store<D>, End)
@@ -68,29 +68,23 @@ fn keep_to_end<S: Since, D: Disk, G: Gate, R: Wait>(
 {
     let mut number: u64 = 0;
     'turns: for _ in rt.forever() {
-        let told = bell.told(rt);
-        match hold_turn(rt, baton, &mut pass, &mut store) {
-            Turn::Out => thread::yield_now(),
+        match hold_turn(rt, baton, bells, &mut pass, &mut store) {
+            Turn::Out => bells.nap(rt, Lane::Hand),
             Turn::Wait => {
                 gate.after_hold(Lane::Hand);
-                bell.wait_past(rt, told);
+                bells.sleep(rt, Lane::Hand);
             }
-            Turn::Moved(lane) => {
-                gate.after_hold(lane);
-                bell.tell(rt);
-            }
+            Turn::Moved(lane) => gate.after_hold(lane),
             Turn::Write(op) => {
                 gate.after_hold(Lane::Hand);
-                bell.tell(rt);
                 number = number.saturating_add(1);
                 gate.before_append(number);
-                let (next, halt) = write_on(rt, baton, pass, &mut store, &op);
+                let (next, halt) = write_on(rt, baton, bells, pass, &mut store, &op);
                 gate.after_hold(if halt.is_none() {
                     Lane::Write
                 } else {
                     Lane::Hand
                 });
-                bell.tell(rt);
                 if let Some(halt) = halt {
                     return (next, store, End::Halted(halt));
                 }
@@ -98,7 +92,6 @@ fn keep_to_end<S: Since, D: Disk, G: Gate, R: Wait>(
             }
             Turn::Ends(end) => {
                 gate.after_hold(lane_of(end));
-                bell.tell(rt);
                 return (pass, store, end);
             }
         }
@@ -122,9 +115,9 @@ pub(crate) fn keeper<S: Since, D: Disk, G: Gate, R: Wait>(
 {
     gate.before_start(Lane::Hand);
     if signals.start.all_come(rt) {
-        return keep_to_end(rt, baton, gate, &signals.bell, pass, store);
+        return keep_to_end(rt, baton, gate, &signals.bells, pass, store);
     }
-    let (pass, halt) = hold_unstarted(rt, baton, pass, &store);
+    let (pass, halt) = hold_unstarted(rt, baton, &signals.bells, pass, &store);
     gate.after_hold(Lane::Hand);
     (pass, store, End::Halted(halt))
 }

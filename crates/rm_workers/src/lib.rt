@@ -17,6 +17,7 @@ mod holds;
 mod keeper;
 mod lives;
 mod moves;
+mod ready;
 mod runs;
 mod signals;
 mod since;

@@ -84,7 +84,7 @@ fn live<S: Since + Send + Sync, D: Disk + Drop + Send, G: Gate + Sync, R: Thread
         Ok((baton, pass)) => {
             let signals = Signals::new();
             let (pass, store, end) = seven(rt, &baton, gate, &signals, pass, store);
-            let held = hold_last(rt, &baton, pass, &store, end);
+            let held = hold_last(rt, &baton, &signals.bells, pass, &store, end);
             finish(held, store, end)
         }
     }

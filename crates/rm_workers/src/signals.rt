@@ -1,11 +1,11 @@
-use crate::bells::Bell;
+use crate::bells::Bells;
 use crate::start::StartBarrier;
 
 /// What a life's workers share beside the baton.
 #[derive(Drop)]
 pub(crate) struct Signals {
     pub(crate) start: StartBarrier,
-    pub(crate) bell: Bell,
+    pub(crate) bells: Bells,
 }
 
 impl Signals {
@@ -13,7 +13,7 @@ impl Signals {
     pub(crate) fn new() -> Signals {
         Signals {
             start: StartBarrier::new(),
-            bell: Bell::new(),
+            bells: Bells::new(),
         }
     }
 }

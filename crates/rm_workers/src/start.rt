@@ -108,7 +108,9 @@ impl StartBarrier {
     fn arrive<R: Wait>(&self, rt: &R) {
         let mut arrivals = self.arrivals.lock(rt);
         *arrivals = arrivals.with_one_more();
-        self.changed.notify_all();
+        if arrivals.decision().is_some() {
+            self.changed.notify_all();
+        }
     }
 
     fn give_up<R: Wait>(&self, rt: &R) -> bool {

@@ -12,6 +12,13 @@ pub(crate) enum Helped {
     Over,
 }
 
+impl Helped {
+    /// Whether the worker takes the baton again at once.
+    pub(crate) fn goes_on(self) -> bool {
+        matches!(self, Helped::Moved)
+    }
+}
+
 /// How the store's worker ended.
 #[derive(Clone, Copy, Debug, PartialEq, Eq)]
 pub(crate) enum End {
@@ -36,6 +43,13 @@ pub(crate) enum Turn {
     Write(Op),
     /// There are no more turns.
     Ends(End),
+}
+
+impl Turn {
+    /// Whether the store's worker takes the baton again at once.
+    pub(crate) fn goes_on(&self) -> bool {
+        matches!(self, Turn::Moved(_))
+    }
 }
 
 /// What a write came to.

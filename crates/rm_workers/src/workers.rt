@@ -3,9 +3,9 @@ ghost use Rattle.std.specs.Prelude.{◌≡◌, false};
 ghost use Rattle.rm_baton.specs.Passes.{IsPassOf};
 ghost use Rattle.rm_baton.specs.Views.{view};
 ghost use Rattle.rm_workers.specs.Turns.{EndFact, IsHelpers};
-ghost use Rattle.rm_workers.specs.Work.{IsHelper, Knows, Serving};
+ghost use Rattle.rm_workers.specs.Work.{IsHelper, IsHelperOf, Knows, Serving};
 
-use crate::bells::Bell;
+use crate::bells::Bells;
 use crate::gates::Gate;
 use crate::held::Held;
 use crate::holds::hold_help;
@@ -37,7 +37,7 @@ fn help_to_end<S: Since, G: Gate, R: Wait>(
     rt: &R,
     baton: &Baton<Held<S>>,
     gate: &G,
-    bell: &Bell,
+    bells: &Bells,
     mut pass: Pass<Held<S>>,
     lane: Lane,
 ) -> Pass<Held<S>>
@@ -51,20 +51,15 @@ fn help_to_end<S: Since, G: Gate, R: Wait>(
         if let Some(sender) = sender_of(lane) {
             gate.before_serve(sender);
         }
-        let told = bell.told(rt);
-        match hold_help(rt, baton, &mut pass, lane) {
-            None => thread::yield_now(),
+        match hold_help(rt, baton, bells, &mut pass, lane) {
+            None => bells.nap(rt, lane),
             Some(Helped::Still) => {
                 gate.after_hold(lane);
-                bell.wait_past(rt, told);
+                bells.sleep(rt, lane);
             }
-            Some(Helped::Moved) => {
-                gate.after_hold(lane);
-                bell.tell(rt);
-            }
+            Some(Helped::Moved) => gate.after_hold(lane),
             Some(Helped::Over) => {
                 gate.after_hold(lane);
-                bell.tell(rt);
                 return pass;
             }
         }
@@ -91,7 +86,14 @@ fn helper<S: Since, G: Gate, R: Wait>(
     if !signals.start.all_come(rt) {
         return pass;
     }
-    help_to_end(rt, baton, gate, &signals.bell, pass, lane)
+    help_to_end(rt, baton, gate, &signals.bells, pass, lane)
+}
+
+/// The pass of a worker that doesn't touch the store, and the lane that it moves.
+#[derive(Drop)]
+pub(crate) struct LanePass<S: Since> {
+    pass: Pass<Held<S>>,
+    lane: Lane,
 }
 
 // Two workers side by side. The pass of the one takes up that of the other.
@@ -100,82 +102,101 @@ fn pair<S: Since + Send + Sync, G: Gate + Sync, R: Threads + Wait + Sync>(
     baton: &Baton<Held<S>>,
     gate: &G,
     signals: &Signals,
-    one: (Pass<Held<S>>, Lane),
-    other: (Pass<Held<S>>, Lane),
+    one: LanePass<S>,
+    other: LanePass<S>,
 ) -> Pass<Held<S>>
-    requires one { IsPassOf baton.now one.0 × IsHelper (view one.0) × IsHelpers one.1 }
-    requires other { IsPassOf baton.now other.0 × IsHelper (view other.0) × IsHelpers other.1 }
+    requires one { IsHelperOf baton.now one.pass × IsHelpers one.lane }
+    requires other { IsHelperOf baton.now other.pass × IsHelpers other.lane }
     ensures of { IsPassOf baton.now result }
     ensures helper { IsHelper (view result) }
 {
     let (mut mine, theirs) = thread::join(
         rt,
         move ||
-            requires { IsPassOf baton.now one.0 × IsHelper (view one.0) × IsHelpers one.1 }
-            ensures { IsPassOf baton.entry.now result × IsHelper (view result) }
-        { helper(rt, baton, gate, signals, one.0, one.1) },
+            requires { IsHelperOf baton.now one.pass × IsHelpers one.lane }
+            ensures { IsHelperOf baton.entry.now result }
+        { helper(rt, baton, gate, signals, one.pass, one.lane) },
         move ||
-            requires { IsPassOf baton.now other.0 × IsHelper (view other.0) × IsHelpers other.1 }
-            ensures { IsPassOf baton.entry.now result × IsHelper (view result) }
-        { helper(rt, baton, gate, signals, other.0, other.1) },
+            requires { IsHelperOf baton.now other.pass × IsHelpers other.lane }
+            ensures { IsHelperOf baton.entry.now result }
+        { helper(rt, baton, gate, signals, other.pass, other.lane) },
     );
     baton.join(&mut mine, theirs);
     mine
 }
 
-// The workers of the four services, whose passes these are in the order of the lanes.
+/// The passes of the workers of the four services.
+#[derive(Drop)]
+pub(crate) struct ServicePasses<S: Since> {
+    client: Pass<Held<S>>,
+    master: Pass<Held<S>>,
+    node: Pass<Held<S>>,
+    clock: Pass<Held<S>>,
+}
+
+/// The passes of the six workers that don't touch the store.
+#[derive(Drop)]
+pub(crate) struct HelperPasses<S: Since> {
+    services: ServicePasses<S>,
+    main: Pass<Held<S>>,
+    sched: Pass<Held<S>>,
+}
+
+// The workers of the four services.
 fn services<S: Since + Send + Sync, G: Gate + Sync, R: Threads + Wait + Sync>(
     rt: &R,
     baton: &Baton<Held<S>>,
     gate: &G,
     signals: &Signals,
-    first: (Pass<Held<S>>, Pass<Held<S>>),
-    second: (Pass<Held<S>>, Pass<Held<S>>),
+    passes: ServicePasses<S>,
 ) -> Pass<Held<S>>
-    requires first { IsPassOf baton.now first.0 × IsHelper (view first.0) × IsPassOf baton.now first.1 × IsHelper (view first.1) }
-    requires second { IsPassOf baton.now second.0 × IsHelper (view second.0) × IsPassOf baton.now second.1 × IsHelper (view second.1) }
+    requires client { IsHelperOf baton.now passes.client }
+    requires master { IsHelperOf baton.now passes.master }
+    requires node { IsHelperOf baton.now passes.node }
+    requires clock { IsHelperOf baton.now passes.clock }
     ensures of { IsPassOf baton.now result }
     ensures helper { IsHelper (view result) }
 {
+    let ServicePasses {
+        client,
+        master,
+        node,
+        clock,
+    } = passes;
     let (mut mine, theirs) = thread::join(
         rt,
         move ||
-            requires { IsPassOf baton.now first.0 × IsHelper (view first.0) × IsPassOf baton.now first.1 × IsHelper (view first.1) }
-            ensures { IsPassOf baton.entry.now result × IsHelper (view result) }
+            requires { IsHelperOf baton.now client × IsHelperOf baton.now master }
+            ensures { IsHelperOf baton.entry.now result }
         {
-            pair(
-                rt,
-                baton,
-                gate,
-                signals,
-                (first.0, Lane::Client),
-                (first.1, Lane::Master),
-            )
+            let one = LanePass {
+                pass: client,
+                lane: Lane::Client,
+            };
+            let other = LanePass {
+                pass: master,
+                lane: Lane::Master,
+            };
+            pair(rt, baton, gate, signals, one, other)
         },
         move ||
-            requires { IsPassOf baton.now second.0 × IsHelper (view second.0) × IsPassOf baton.now second.1 × IsHelper (view second.1) }
-            ensures { IsPassOf baton.entry.now result × IsHelper (view result) }
+            requires { IsHelperOf baton.now node × IsHelperOf baton.now clock }
+            ensures { IsHelperOf baton.entry.now result }
         {
-            pair(
-                rt,
-                baton,
-                gate,
-                signals,
-                (second.0, Lane::Node),
-                (second.1, Lane::Clock),
-            )
+            let one = LanePass {
+                pass: node,
+                lane: Lane::Node,
+            };
+            let other = LanePass {
+                pass: clock,
+                lane: Lane::Clock,
+            };
+            pair(rt, baton, gate, signals, one, other)
         },
     );
     baton.join(&mut mine, theirs);
     mine
 }
-
-/// The passes of the six workers that don't touch the store: two for each two services, and two for the dispatchers.
-pub(crate) type Six<S> = (
-    (Pass<Held<S>>, Pass<Held<S>>),
-    (Pass<Held<S>>, Pass<Held<S>>),
-    (Pass<Held<S>>, Pass<Held<S>>),
-);
 
 // The six workers that don't touch the store.
 fn six<S: Since + Send + Sync, G: Gate + Sync, R: Threads + Wait + Sync>(
@@ -183,33 +204,41 @@ fn six<S: Since + Send + Sync, G: Gate + Sync, R: Threads + Wait + Sync>(
     baton: &Baton<Held<S>>,
     gate: &G,
     signals: &Signals,
-    all: Six<S>,
+    passes: HelperPasses<S>,
 ) -> Pass<Held<S>>
-    requires first { IsPassOf baton.now all.0.0 × IsHelper (view all.0.0) × IsPassOf baton.now all.0.1 × IsHelper (view all.0.1) }
-    requires second { IsPassOf baton.now all.1.0 × IsHelper (view all.1.0) × IsPassOf baton.now all.1.1 × IsHelper (view all.1.1) }
-    requires third { IsPassOf baton.now all.2.0 × IsHelper (view all.2.0) × IsPassOf baton.now all.2.1 × IsHelper (view all.2.1) }
+    requires client { IsHelperOf baton.now passes.services.client }
+    requires master { IsHelperOf baton.now passes.services.master }
+    requires node { IsHelperOf baton.now passes.services.node }
+    requires clock { IsHelperOf baton.now passes.services.clock }
+    requires main { IsHelperOf baton.now passes.main }
+    requires sched { IsHelperOf baton.now passes.sched }
     ensures of { IsPassOf baton.now result }
     ensures helper { IsHelper (view result) }
 {
-    let (first, second, third) = all;
+    let HelperPasses {
+        services: passes,
+        main,
+        sched,
+    } = passes;
     let (mut mine, theirs) = thread::join(
         rt,
         move ||
-            requires { (IsPassOf baton.now first.0 × IsHelper (view first.0) × IsPassOf baton.now first.1 × IsHelper (view first.1)) × (IsPassOf baton.now second.0 × IsHelper (view second.0) × IsPassOf baton.now second.1 × IsHelper (view second.1)) }
-            ensures { IsPassOf baton.entry.now result × IsHelper (view result) }
-        { services(rt, baton, gate, signals, first, second) },
+            requires { IsHelperOf baton.now passes.client × IsHelperOf baton.now passes.master × IsHelperOf baton.now passes.node × IsHelperOf baton.now passes.clock }
+            ensures { IsHelperOf baton.entry.now result }
+        { services(rt, baton, gate, signals, passes) },
         move ||
-            requires { IsPassOf baton.now third.0 × IsHelper (view third.0) × IsPassOf baton.now third.1 × IsHelper (view third.1) }
-            ensures { IsPassOf baton.entry.now result × IsHelper (view result) }
+            requires { IsHelperOf baton.now main × IsHelperOf baton.now sched }
+            ensures { IsHelperOf baton.entry.now result }
         {
-            pair(
-                rt,
-                baton,
-                gate,
-                signals,
-                (third.0, Lane::Main),
-                (third.1, Lane::Sched),
-            )
+            let one = LanePass {
+                pass: main,
+                lane: Lane::Main,
+            };
+            let other = LanePass {
+                pass: sched,
+                lane: Lane::Sched,
+            };
+            pair(rt, baton, gate, signals, one, other)
         },
     );
     baton.join(&mut mine, theirs);
@@ -224,13 +253,16 @@ fn beside<S: Since + Send + Sync, D: Disk + Drop + Send, G: Gate + Sync, R: Thre
     signals: &Signals,
     pass: Pass<Held<S>>,
     store: Store<D>,
-    all: Six<S>,
+    passes: HelperPasses<S>,
 ) -> (Pass<Held<S>>, Store<D>, End)
     requires of { IsPassOf baton.now pass }
     requires knows { Knows (Serving D.view S.began store) (view pass) }
-    requires first { IsPassOf baton.now all.0.0 × IsHelper (view all.0.0) × IsPassOf baton.now all.0.1 × IsHelper (view all.0.1) }
-    requires second { IsPassOf baton.now all.1.0 × IsHelper (view all.1.0) × IsPassOf baton.now all.1.1 × IsHelper (view all.1.1) }
-    requires third { IsPassOf baton.now all.2.0 × IsHelper (view all.2.0) × IsPassOf baton.now all.2.1 × IsHelper (view all.2.1) }
+    requires client { IsHelperOf baton.now passes.services.client }
+    requires master { IsHelperOf baton.now passes.services.master }
+    requires node { IsHelperOf baton.now passes.services.node }
+    requires clock { IsHelperOf baton.now passes.services.clock }
+    requires main { IsHelperOf baton.now passes.main }
+    requires sched { IsHelperOf baton.now passes.sched }
     ensures of { IsPassOf baton.now result.0 }
     ensures knows { Knows (EndFact D.view S.began result.1 result.2) (view result.0) }
 {
@@ -241,9 +273,9 @@ fn beside<S: Since + Send + Sync, D: Disk + Drop + Send, G: Gate + Sync, R: Thre
             ensures { IsPassOf baton.entry.now result.0 × Knows (EndFact D.view S.began result.1 result.2) (view result.0) }
         { keeper(rt, baton, gate, signals, pass, store) },
         move ||
-            requires { (IsPassOf baton.now all.0.0 × IsHelper (view all.0.0) × IsPassOf baton.now all.0.1 × IsHelper (view all.0.1)) × (IsPassOf baton.now all.1.0 × IsHelper (view all.1.0) × IsPassOf baton.now all.1.1 × IsHelper (view all.1.1)) × (IsPassOf baton.now all.2.0 × IsHelper (view all.2.0) × IsPassOf baton.now all.2.1 × IsHelper (view all.2.1)) }
-            ensures { IsPassOf baton.entry.now result × IsHelper (view result) }
-        { six(rt, baton, gate, signals, all) },
+            requires { (IsHelperOf baton.now passes.services.client × IsHelperOf baton.now passes.services.master × IsHelperOf baton.now passes.services.node × IsHelperOf baton.now passes.services.clock) × IsHelperOf baton.now passes.main × IsHelperOf baton.now passes.sched }
+            ensures { IsHelperOf baton.entry.now result }
+        { six(rt, baton, gate, signals, passes) },
     );
     baton.join(&mut pass, rest);
     (pass, store, end)
@@ -284,12 +316,18 @@ pub(crate) fn seven<
     ensures of { IsPassOf baton.now result.0 }
     ensures knows { Knows (EndFact D.view S.began result.1 result.2) (view result.0) }
 {
-    let client = assist(baton, &mut pass, &store);
-    let master = assist(baton, &mut pass, &store);
-    let node = assist(baton, &mut pass, &store);
-    let clock = assist(baton, &mut pass, &store);
+    let services = ServicePasses {
+        client: assist(baton, &mut pass, &store),
+        master: assist(baton, &mut pass, &store),
+        node: assist(baton, &mut pass, &store),
+        clock: assist(baton, &mut pass, &store),
+    };
     let main = assist(baton, &mut pass, &store);
     let sched = assist(baton, &mut pass, &store);
-    let all = ((client, master), (node, clock), (main, sched));
-    beside(rt, baton, gate, signals, pass, store, all)
+    let passes = HelperPasses {
+        services,
+        main,
+        sched,
+    };
+    beside(rt, baton, gate, signals, pass, store, passes)
 }

@@ -1,0 +1,7 @@
+-- By what is ready.
+use Rattle.std.proofs.Common.{rules}
+use Rattle.rm_workers.proofs.Calling.{CalledBy, all_called, ready_called}
+use Rattle.rm_workers.proofs.held.Held.called.Goals as goal
+
+pub returns-clause-ready : goal.returns-clause-ready
+returns-clause-ready g c = ready_called c.ready.result.over c.args.goes_on c.ready.result c.args.before c.args.self.now.desk c.called.result c.ready.ensures.seen (search rules)
