@@ -10,7 +10,7 @@ use crate::statuses::status_of;
 use crate::terminal::is_terminal;
 use crate::threads::top;
 use crate::usage::{Usage, usage_of};
-use rm_disk::{Disk, FileCause, FileDisk, Fuse, MemDisk};
+use rm_disk::{Disk, FileCause, FileDisk, Fuse, MemDisk, Window};
 use rm_outside::{FileShelf, OutSink, StandardDescriptors};
 use rm_types::{Entry, Items, NoMemory, Op, Outcome};
 use rm_words::{command_line, name_at, word_fault};
@@ -127,9 +127,10 @@ fn usage_where(
     usage_of(alloc, size, opening, log).ok()
 }
 
-/// The same, and it tells on standard error how far a run has come, where that is a terminal; that the device's store was made
-/// new, whatever the outcome, for whoever meant another folder has to know; of a store in a file how much is used, where it is listed
-/// or nearly full; and what stopped the call. Messages have the program's path and the device's name.
+/// The same, with the device read ahead, so that an opening makes few calls of it. It tells on standard error how far a run has come, where
+/// that is a terminal; that the device's store was made new, whatever the outcome, for whoever meant another folder has to know; of a store in
+/// a file how much is used, where it is listed or nearly full; and what stopped the call. Messages have the program's path and the device's
+/// name.
 fn run_over<R: Threads + Wait + Sync, D: Disk + Described + Drop + Send>(
     threads: &R,
     rt: HostRuntime,
@@ -142,9 +143,11 @@ fn run_over<R: Threads + Wait + Sync, D: Disk + Described + Drop + Send>(
     ensures ran { RanOver D.view (map string_bytes words.now) device result.1 result.0.outcome }
     ensures faults { CountsFaults result.0.outcome result.0.shelf result.0.sink }
 {
-    let watched = Watched::new(device, rt, program, is_terminal(&rt));
+    let ahead = Window::new(rt.alloc(), device);
+    let watched = Watched::new(ahead, rt, program, is_terminal(&rt));
     let (call, watched) = call_over(threads, rt, words, watched, is_file);
-    let device = watched.inner();
+    let ahead = watched.inner();
+    let device = ahead.inner();
     if device.made_new() {
         let program = program.escape_default();
         let _ = eprintln!(rt; "{program}: the store in {name} is new");
