@@ -20,12 +20,14 @@ fn an_empty_script_makes_no_call_of_the_device(rt: HostRuntime) {
     assert_eq!(rt; device.sync(), Err(DiskError::DiskFault));
 }
 
-// The first read is that of the cluster file, and the second that of the script.
+/// The first read is that of the cluster file, and the second that of the script.
+const FAILING_READS: [&[u64]; 2] = [&[1], &[2]];
+
 #[test]
 fn a_read_that_fails_is_a_read_fault(rt: HostRuntime) {
-    for failing_reads in [[1], [2]].as_slice() {
+    for failing_reads in FAILING_READS.as_slice() {
         let case = Case {
-            failing_reads,
+            failing_reads: *failing_reads,
             ..plain(&["start 5\nsettle\n"])
         };
         let _device = leaves(&rt, &case, Outcome::ReadFault, &[]);
