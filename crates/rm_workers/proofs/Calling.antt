@@ -1,11 +1,10 @@
 -- Who is called after a hold.
 use Rattle.std.proofs.Common.{◌≡◌, Bool, true, false, true≢false, ◌||◌, refl, sym, ◌∙◌}
-use Rattle.rm_types.specs.declared.messages.Lane.{Lane}
 use Rattle.rm_types.specs.declared.messages.Lane.TheVariants.{Client, Master, Node, Clock, Main, Sched, Hand, Write, End, Begin}
 use Rattle.rm_desk.specs.View.{DeskView}
 use Rattle.rm_workers.specs.declared.ready.Called.{Called}
 use Rattle.rm_workers.specs.declared.ready.Ready.{Ready}
-use Rattle.rm_workers.specs.Waking.{CallsAll, CallsReady, IsSeen, calls}
+use Rattle.rm_workers.specs.Waking.{CallsReady, IsSeen, calls}
 
 -- who is called by what is ready
 pub record CalledBy (over goes_on : Bool) (now before : Ready) (called : Called) : Type 0 where
@@ -45,16 +44,3 @@ ready_called over goes_on now before d called seen by Write is unless =
 ready_called over goes_on now before d called seen by End is unless =
     by.store ∙ second (calls over goes_on now.hand before.hand) _ (second (calls over goes_on now.write before.write) _ (first _ _ (calls_ready over goes_on now.end before.end (seen.end ∙ is) unless)))
 ready_called over goes_on now before d called seen by Begin is unless = refl
-
-pub all_called : (over goes_on : Bool) (now before : Ready) (called : Called) → over ≡ true → CalledBy over goes_on now before called → CallsAll called
-all_called true goes_on now before called is by Client = by.client
-all_called true goes_on now before called is by Master = by.master
-all_called true goes_on now before called is by Node = by.node
-all_called true goes_on now before called is by Clock = by.clock
-all_called true goes_on now before called is by Main = by.main
-all_called true goes_on now before called is by Sched = by.sched
-all_called true goes_on now before called is by Hand = by.store
-all_called true goes_on now before called is by Write = by.store
-all_called true goes_on now before called is by End = by.store
-all_called true goes_on now before called is by Begin = refl
-all_called false goes_on now before called is by lane = absurd (true≢false (sym is))
