@@ -15,7 +15,7 @@ ghost use Rattle.rm_tables.specs.KeptOps.{kept};
 ghost use Rattle.rm_tables.specs.Lives.{begun, gone_down, handed_out, is_ready, may_go_down, refused};
 ghost use Rattle.rm_tables.specs.MainEvents.{main_step};
 ghost use Rattle.rm_tables.specs.SchedEvents.{EndsBy, sched_step};
-ghost use Rattle.rm_sched.specs.CanWork.{AreFew, CanAbsorb, CanPass};
+ghost use Rattle.rm_sched.specs.CanWork.{AreFew, CanPass};
 ghost use Rattle.rm_invariant.specs.messages.Ranges.{IsMessage};
 ghost use Rattle.rm_invariant.specs.bounds.InBounds.{InBounds};
 ghost use Rattle.rm_core.specs.Queues.{answered, landed_in, own_tree, served_moved, tree_landed};
@@ -184,7 +184,6 @@ pub fn main(t: &mut Tables, log: &mut Items<Entry>) -> Result<(), Refused>
 /// The first event of the scheduler's queue is worked off.
 pub fn sched(t: &mut Tables, log: &mut Items<Entry>) -> Result<(), Refused>
     requires pass { (name : List ℕ) (rest : List SchedEvent) → t.old.sched ≡ SchedEvent.NodeUpdate name ∷ rest → AreFew t.old × CanPass t.old }
-    requires absorb { (name : List ℕ) (turn : ℕ) (rest : List SchedEvent) → t.old.sched ≡ SchedEvent.NodeAdded name turn ∷ rest → CanAbsorb t.old }
     ensures ok { OnOk result ((event : SchedEvent) (rest : List SchedEvent) → t.old.sched ≡ event ∷ rest → (list : List ContainerId) × EndsBy event t.old list × (t.new ≡ (sched_worked (sched_step event list t.old)).1) × (log.new ≡ log.old ++ (sched_worked (sched_step event list t.old)).0 ∷ [])) }
     ensures some { OnOk result (t.old.sched ≢ []) }
     ensures not_ready { IsErrOf result Refused.NotReady ↔ (is_ready t.old Lane.Sched ≡ false) }

@@ -1,7 +1,6 @@
 -- Each move keeps what is in its range, and what calls take of it.
 pub mod FewGrants
 pub mod Passable
-pub mod Absorbable
 pub mod NextFits
 pub mod RowRanges
 pub mod TreeRanges

@@ -1,7 +1,6 @@
 use Rattle.rm_core.specs.declared.manager.Move.TheVariants.{Sched}
 use Rattle.rm_core.proofs.Moving.{Done, core_sound, sched_done}
 use Rattle.rm_invariant.proofs.auxiliary.Facts.{sched_facts_of}
-use Rattle.rm_invariant.proofs.bounds.Absorbable.{can_absorb}
 use Rattle.rm_invariant.proofs.bounds.Passable.{are_few, can_pass}
 use Rattle.rm_invariant.proofs.Phases.{sched_open}
 use Rattle.rm_core.proofs.manager.Core.sched.Goals as goal
@@ -15,16 +14,11 @@ invariant_of-self c = core_sound c.self.inside.queues Sched c.self.inside.tables
 pub returns-clause-does : goal.returns-clause-does
 returns-clause-does c = rw (← c.self.view_is) (done c).does
 
-pub sched-requires-clause-pass : goal.sched-requires-clause-pass
-sched-requires-clause-pass c = λ name rest front.
-    let t = c.self.inside.tables in
-    let h = c.self.invariant.sound.history in
-    let r = sched_open h t _ rest c.self.invariant.sound.phase front in
-    (are_few t.settings h t r.whole (sched_facts_of h t r.sides) r.ranged, can_pass t.settings h t r.whole (sched_facts_of h t r.sides) r.ranged)
-
-pub sched-requires-clause-absorb : goal.sched-requires-clause-absorb
-sched-requires-clause-absorb c = λ name turn rest front.
-    let t = c.self.inside.tables in
-    let h = c.self.invariant.sound.history in
-    let r = sched_open h t _ rest c.self.invariant.sound.phase front in
-    can_absorb t.settings h t r.whole
+pub sched-requires : goal.sched-requires
+sched-requires c = record {
+  pass = λ name rest front.
+      let t = c.self.inside.tables in
+      let h = c.self.invariant.sound.history in
+      let r = sched_open h t _ rest c.self.invariant.sound.phase front in
+      (are_few t.settings h t r.whole (sched_facts_of h t r.sides) r.ranged, can_pass t.settings h t r.whole (sched_facts_of h t r.sides) r.ranged);
+}
