@@ -45,7 +45,7 @@ found_one P p (y ∷ xs) x all e = by (p y) refl (found_one P p xs x all.1)
 -- WHAT IS TAKEN, ONE AFTER THE OTHER
 
 -- no two are of one container
-once_more : (taken : List Held) (held : Held) → AreOnce taken → is_held taken held.id ≡ false → AreOnce (taken ++ held ∷ [])
+pub once_more : (taken : List Held) (held : Held) → AreOnce taken → is_held taken held.id ≡ false → AreOnce (taken ++ held ∷ [])
 once_more [] held once new = (refl, tt)
 once_more (one ∷ taken) held once new =
     let parts = or_parts (is_container one.id held.id) (is_held taken held.id) new in

@@ -28,7 +28,8 @@ pub record CanPass (t : Tables) : Type 0 where
   pub sizes : have_sizes (asks_of t.asks) (turns_in t) ≡ true
   pub past : are_past t.epoch (turns_in t) t.book.rows ≡ true
 
--- the report of any node may be absorbed: no container is taken twice, and what is taken fits what the node offers
+-- the report of any node may be absorbed: no container is taken twice, and what is taken fits what the node offers; it holds in any tables, so that
+-- nothing asks for it
 pub record CanAbsorb (t : Tables) : Type 0 where
   pub once : (name : List ℕ) (row : NodeRow) → node_of t.nodes name ≡ Some row → AreOnce (taken_in t name row)
   pub fit : (name : List ℕ) (row : NodeRow) (ended : List ContainerId) → node_of t.nodes name ≡ Some row → Ascend (not_taken t.book name (taken_in t name row)) ended

@@ -1,5 +1,5 @@
 -- What stands in the book stays in its range, and so does what its nodes offer.
-use Rattle.std.proofs.Common.{◌≡◌, ℕ, ◌+◌, List, [], ◌∷◌, ◌++◌, Bool, true, false, not, ◌&&◌, nat_lt, Option, None, Some, filter, fold, is_some, map, refl, ◌∙◌, subst}
+use Rattle.std.proofs.Common.{◌≡◌, ℕ, ◌+◌, List, [], ◌∷◌, ◌++◌, Bool, true, false, not, ◌&&◌, nat_lt, Option, None, Some, filter, find, fold, is_some, map, refl, ◌∙◌, subst}
 use Rattle.std.specs.Prelude.{if◌then◌else◌, All as Every}
 use Rattle.std.specs.List.{AllByRecursion, list_any}
 use Rattle.std.specs.Str.{bytes_eq}
@@ -28,7 +28,6 @@ use Rattle.rm_invariant.specs.nodes.Book.{All}
 use Rattle.rm_invariant.proofs.nodes.Holds.{all_append, all_filter, all_map}
 use Rattle.rm_invariant.specs.messages.Ranges.{IsHeld, IsList, IsSize}
 use Rattle.rm_invariant.specs.bounds.InBounds.{IsBooked, IsOffer}
-use Rattle.rm_invariant.proofs.bounds.Lists.{found_one}
 
 -- what holds of each of a list
 pub each_of : {X : Type 0} (P : X → Type 0) (xs : List X) → Every P xs → All P xs
@@ -37,6 +36,18 @@ each_of {X = X} P xs every = by xs (recursion_from_All P xs every)
     by : (list : List X) → AllByRecursion P list → All P list
     by [] all = tt
     by (x ∷ list) all = (all.0, by list all.1)
+
+-- what is found is one of them
+pub found_one : {X : Type 0} (P : X → Type 0) (p : X → Bool) (xs : List X) (x : X) → All P xs → find p xs ≡ Some x → P x
+found_one P p [] x all e = cc
+found_one P p (y ∷ xs) x all e = by (p y) refl (found_one P p xs x all.1)
+  where
+    by : (b : Bool) → p y ≡ b → (find p xs ≡ Some x → P x) → P x
+    by true f rest =
+        let is : Some y ≡ Some x = rw f at e in
+        let same : y ≡ x = cc in
+        subst P same all.0
+    by false f rest = rest (rw f at e)
 
 -- CONTAINERS LEAVE, AND CHANGE THEIR STATES
 

@@ -51,7 +51,7 @@ use Rattle.rm_invariant.specs.messages.Ranges.{KeepsLimits}
 use Rattle.rm_invariant.specs.events.Outcomes.{IsCurrentOf, IsEndOfApp, IsEndOfAttempt, Outcome, accepts, adds, delays, ends, ends_one, follows, idles, issues, kills, loses, orders, removes, requeues, saves}
 use Rattle.rm_invariant.proofs.events.Outcomes.{main_outcome}
 use Rattle.rm_invariant.specs.bounds.InBounds.{AreAsked, AreGrants, AreNodes, AreRecords, AreRows, IfThere, IsAppRecord, IsAttemptRecord, IsBooked, IsCurrent, IsEnd, InBounds, is_update}
-use Rattle.rm_invariant.proofs.bounds.Lists.{found_one}
+use Rattle.rm_invariant.proofs.bounds.BookRanges.{found_one}
 use Rattle.rm_invariant.proofs.bounds.AskRanges.{asked_without}
 use Rattle.rm_invariant.proofs.bounds.NodeRanges.{nodes_ordered}
 use Rattle.rm_invariant.proofs.bounds.Passable.{record_found}

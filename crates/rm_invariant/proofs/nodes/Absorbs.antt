@@ -19,12 +19,12 @@ use Rattle.rm_model.specs.Containers.{is_living, leave, lives_on, row_of, withou
 use Rattle.rm_model.specs.Facts.{has_container}
 use Rattle.rm_model.specs.Nodes.{node_of, with_node}
 use Rattle.rm_model.specs.State.{LifeState, NodeState, Row, Scene}
+use Rattle.rm_sched.proofs.Absorbable.{once_more}
 use Rattle.rm_invariant.specs.nodes.Book.{All, AreApart, AreLaunches, BookInvariant, IsAbsorbed, BookRowInvariant}
 use Rattle.rm_invariant.proofs.nodes.Entries.{KeepsPlace, taken_place}
 use Rattle.rm_invariant.proofs.nodes.Holds.{all_append, all_map, leave_holds, lives_still}
 use Rattle.rm_invariant.proofs.nodes.Moved.{name_of, node_of-map}
 use Rattle.rm_invariant.proofs.masters.LeavingEvents.{lives_there}
-use Rattle.rm_invariant.proofs.bounds.Lists.{once_more}
 
 -- TESTS
 
