@@ -7,7 +7,6 @@ pub mod TreeRanges
 pub mod AskRanges
 pub mod NodeRanges
 pub mod BookRanges
-pub mod Lists
 pub mod MainEvents
 pub mod SchedEvents
 pub mod KeptOps
