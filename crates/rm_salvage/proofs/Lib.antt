@@ -1,0 +1,4 @@
+mod Faulting
+mod Forming
+mod Fronting
+mod Writing

@@ -1,0 +1,77 @@
+-- What a call comes to behind its page.
+use Rattle.std.proofs.Common.{◌≡◌, ◌⊎◌, inl, inr, ℕ, Bool, true, false, Option, None, Some, List, refl, sym, subst}
+use Rattle.std.specs.Prelude.{IfNone, IfSome}
+use Rattle.rm_types.specs.declared.operations.Op.{Op}
+use Rattle.rm_disk.specs.Disk.{DiskView}
+use Rattle.rm_outside.specs.declared.writes.Written.{Written}
+use Rattle.rm_outside.specs.declared.writes.Written.TheVariants as written
+use Rattle.rm_tool.specs.declared.outcomes.ToolOutcome.{ToolOutcome}
+use Rattle.rm_tool.specs.declared.outcomes.ToolOutcome.TheVariants.{Done, Usage, ReadFault, WriteFault, OtherLength, OtherForm, Faulty, DiskFault, NotNew, Full, Memory}
+use Rattle.rm_salvage.specs.declared.checks.Fault.{Fault}
+use Rattle.rm_salvage.specs.declared.forms.Form.{Form}
+use Rattle.rm_salvage.specs.Checks.{IsFault, IsWhole}
+use Rattle.rm_salvage.specs.Forms.{IsForm}
+use Rattle.rm_tool.specs.Outcomes.{IsBeforePage, after_page, of_fault}
+use Rattle.rm_tool.specs.Runs.{Checks, Comes, Told, WereRead}
+use Rattle.rm_tool.specs.Words.{Asked, Check, Convert, Salvage}
+
+pub comes_after : (told : Told) (asked : Asked) (new : DiskView) (outcome : ToolOutcome) (w : Written) → Comes told (Some asked) new outcome → Comes told (Some asked) new (after_page outcome w)
+comes_after told asked new outcome written.All comes = comes
+comes_after told (Check file) new outcome written.Fault comes = tt
+comes_after told (Check file) new outcome written.Nothing comes = tt
+comes_after told (Check file) new outcome written.Memory comes = tt
+comes_after told (Convert old target) new outcome written.Fault comes = tt
+comes_after told (Convert old target) new outcome written.Nothing comes = tt
+comes_after told (Convert old target) new outcome written.Memory comes = tt
+comes_after told (Salvage file target) new outcome written.Fault comes = tt
+comes_after told (Salvage file target) new outcome written.Nothing comes = tt
+comes_after told (Salvage file target) new outcome written.Memory comes = tt
+
+pub read_before : (outcome : ToolOutcome) (w : Written) → after_page outcome w ≡ ReadFault → outcome ≡ ReadFault
+read_before outcome written.All is = is
+read_before outcome written.Fault is = cc
+read_before outcome written.Nothing is = cc
+read_before outcome written.Memory is = cc
+
+pub disk_before : (outcome : ToolOutcome) (w : Written) → after_page outcome w ≡ DiskFault → outcome ≡ DiskFault
+disk_before outcome written.All is = is
+disk_before outcome written.Fault is = cc
+disk_before outcome written.Nothing is = cc
+disk_before outcome written.Memory is = cc
+
+-- before its page no outcome is a fault of the output
+no_write : (outcome : ToolOutcome) (took_nothing : Bool) → IsBeforePage outcome → outcome ≡ WriteFault took_nothing → ⊥
+no_write (WriteFault took) took_nothing before is = before
+no_write Done took_nothing before is = cc
+no_write Usage took_nothing before is = cc
+no_write ReadFault took_nothing before is = cc
+no_write (OtherLength many) took_nothing before is = cc
+no_write OtherForm took_nothing before is = cc
+no_write (Faulty fault) took_nothing before is = cc
+no_write DiskFault took_nothing before is = cc
+no_write NotNew took_nothing before is = cc
+no_write (Full size) took_nothing before is = cc
+no_write Memory took_nothing before is = cc
+
+pub fault_before : (outcome : ToolOutcome) (w : Written) → IsBeforePage outcome → after_page outcome w ≡ WriteFault false → w ≡ written.Fault
+fault_before outcome written.All before is = absurd (no_write outcome false before is)
+fault_before outcome written.Fault before is = refl
+fault_before outcome written.Nothing before is = cc
+fault_before outcome written.Memory before is = cc
+
+pub nothing_before : (outcome : ToolOutcome) (w : Written) → IsBeforePage outcome → after_page outcome w ≡ WriteFault true → w ≡ written.Nothing
+nothing_before outcome written.All before is = absurd (no_write outcome true before is)
+nothing_before outcome written.Fault before is = cc
+nothing_before outcome written.Nothing before is = refl
+nothing_before outcome written.Memory before is = cc
+
+-- with its page, or without memory for that
+pub either_page : (P : ToolOutcome → Type 0) (given outcome : ToolOutcome) → (outcome ≡ given) ⊎ (outcome ≡ Memory) → P given → P Memory → P outcome
+either_page P given outcome (inl is) p q = subst P (sym is) p
+either_page P given outcome (inr is) p q = subst P (sym is) q
+
+-- what a check comes to by the fault that was found, or none
+pub checks_by : (told : Option (List ℕ)) (bytes : List ℕ) (form : Form) (ops : List Op) (fault : Option Fault) → WereRead told bytes → IsForm bytes form → IfNone fault (IsWhole form bytes ops) → IfSome fault (IsFault form bytes)
+    → Checks told (of_fault fault)
+checks_by told bytes form ops None read of_form whole fault = record { bytes = bytes; read = read; form = form; of_form = of_form; ops = ops; whole = whole }
+checks_by told bytes form ops (Some one) read of_form whole fault = record { bytes = bytes; read = read; form = form; of_form = of_form; faulty = fault }

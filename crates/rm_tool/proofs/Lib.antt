@@ -1,0 +1,3 @@
+mod Comings
+mod Parses
+mod Rows

@@ -1,0 +1,48 @@
+-- What a call of the tool came to, and its exit status. This project's own: the statuses are those of the program where they say the same.
+use Rattle.std.specs.Prelude.{ℕ, true, false, Option, None, Some}
+use Rattle.rm_salvage.specs.declared.checks.Fault.{Fault}
+use Rattle.rm_outside.specs.declared.writes.Written.{Written}
+use Rattle.rm_outside.specs.declared.writes.Written.TheVariants as written
+use Rattle.rm_salvage.specs.declared.errors.WriteError.{WriteError}
+use Rattle.rm_salvage.specs.declared.errors.WriteError.TheVariants as errors
+use Rattle.rm_tool.specs.declared.outcomes.ToolOutcome.{ToolOutcome}
+use Rattle.rm_tool.specs.declared.outcomes.ToolOutcome.TheVariants.{Done, Usage, ReadFault, WriteFault, OtherLength, OtherForm, Faulty, DiskFault, NotNew, Full, Memory}
+
+-- the status with which the tool ends
+abbrev pub status_of : ToolOutcome → ℕ
+status_of Done = 0
+status_of Usage = 1
+status_of ReadFault = 2
+status_of (WriteFault took_nothing) = 3
+status_of (OtherLength length) = 8
+status_of OtherForm = 8
+status_of (Faulty fault) = 8
+status_of DiskFault = 7
+status_of NotNew = 7
+status_of (Full size) = 9
+status_of Memory = 11
+
+-- what a call came to whose store was not written
+abbrev pub of_write : WriteError → ToolOutcome
+of_write errors.DiskFault = DiskFault
+of_write (errors.Damaged offset) = NotNew
+of_write errors.Used = NotNew
+of_write (errors.Full size) = Full size
+of_write errors.Memory = Memory
+
+-- what a call comes to behind its page, which was written so
+abbrev pub after_page : ToolOutcome → Written → ToolOutcome
+after_page outcome written.All = outcome
+after_page outcome written.Fault = WriteFault false
+after_page outcome written.Nothing = WriteFault true
+after_page outcome written.Memory = Memory
+
+-- what a check comes to that found this fault, or none
+abbrev pub of_fault : Option Fault → ToolOutcome
+of_fault None = Done
+of_fault (Some fault) = Faulty fault
+
+-- before its page a call comes to no fault of the output
+abbrev pub IsBeforePage : ToolOutcome → Type 0
+IsBeforePage (WriteFault took_nothing) = ⊥
+IsBeforePage _ = Unit {0}

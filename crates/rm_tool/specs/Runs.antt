@@ -1,0 +1,141 @@
+-- What a call of the tool comes to, by what it was asked for. This project's own.
+use Rattle.std.specs.Prelude.{◌≡◌, ◌⊎◌, ◌+◌, ◌-◌, ℕ, List, [], ◌++◌, Option, None, Some, IfSome, length, take, replicate}
+use Rattle.rm_types.specs.declared.operations.Op.{Op}
+use Rattle.rm_types.specs.Folded.{folded}
+use Rattle.rm_disk.specs.Disk.{DiskView}
+use Rattle.rm_outside.specs.Shelves.{bytes_read}
+use Rattle.rm_salvage.specs.declared.checks.Fault.{Fault}
+use Rattle.rm_salvage.specs.declared.forms.Form.{Form}
+use Rattle.rm_salvage.specs.declared.fronts.Stop.{Stop}
+use Rattle.rm_salvage.specs.Checks.{HasOldContent, IsFault, IsOldFault, IsWhole}
+use Rattle.rm_salvage.specs.Forms.{HasFirstFrame, IsForm}
+use Rattle.rm_salvage.specs.Fronts.{IsFront, IsLongest, IsStop}
+use Rattle.rm_salvage.specs.Lists.{left_by}
+use Rattle.rm_salvage.specs.Writes.{HoldsAll, LeavesNoneOrAll}
+use Rattle.rm_tool.specs.declared.outcomes.ToolOutcome.{ToolOutcome}
+use Rattle.rm_tool.specs.declared.outcomes.ToolOutcome.TheVariants.{Done, Usage, ReadFault, WriteFault, OtherLength, OtherForm, Faulty, DiskFault, NotNew, Full, Memory}
+use Rattle.rm_tool.specs.declared.store_files.TheConstants.{STORE_SIZE}
+use Rattle.rm_tool.specs.Words.{Asked, Check, Convert, Salvage}
+
+-- what a shelf tells of each name
+abbrev pub Told : Type 0
+Told = List ℕ → Option (List ℕ)
+
+-- these bytes were read of a file: where the shelf tells the file's bytes, they are what a read gives of them
+abbrev pub WereRead : Option (List ℕ) → List ℕ → Type 0
+WereRead told bytes = IfSome told (λ all. bytes ≡ bytes_read all)
+
+-- bytes brought to the size of a store: what is behind is left out, and zeros stand for what is missing
+abbrev pub brought_to_size : List ℕ → List ℕ
+brought_to_size bytes = take STORE_SIZE bytes ++ replicate (STORE_SIZE - length bytes) 0
+
+-- the bytes that were read of a file are not those of a store, by their number
+pub record HasOtherLength (told : Option (List ℕ)) (many : ℕ) : Type 0 where
+  pub bytes : List ℕ
+  pub read : WereRead told bytes
+  pub long : length bytes ≡ many
+  pub other : many ≡ STORE_SIZE → ⊥
+
+-- a file was not read with one of these
+abbrev pub IsUnread : ToolOutcome → Type 0
+IsUnread ReadFault = Unit {0}
+IsUnread Memory = Unit {0}
+IsUnread _ = ⊥
+
+-- the file of a store was not read with one of these
+abbrev pub IsNotRead : Option (List ℕ) → ToolOutcome → Type 0
+IsNotRead told ReadFault = Unit {0}
+IsNotRead told Memory = Unit {0}
+IsNotRead told (OtherLength many) = HasOtherLength told many
+IsNotRead told _ = ⊥
+
+-- the file is a whole store
+pub record IsWholeFile (told : Option (List ℕ)) : Type 0 where
+  pub bytes : List ℕ
+  pub read : WereRead told bytes
+  pub form : Form
+  pub of_form : IsForm bytes form
+  pub ops : List Op
+  pub whole : IsWhole form bytes ops
+
+-- the file has this fault
+pub record IsFaultyFile (told : Option (List ℕ)) (fault : Fault) : Type 0 where
+  pub bytes : List ℕ
+  pub read : WereRead told bytes
+  pub form : Form
+  pub of_form : IsForm bytes form
+  pub faulty : IsFault form bytes fault
+
+-- what a check comes to
+abbrev pub Checks : Option (List ℕ) → ToolOutcome → Type 0
+Checks told Done = IsWholeFile told
+Checks told (Faulty fault) = IsFaultyFile told fault
+Checks told (OtherLength many) = HasOtherLength told many
+Checks told ReadFault = Unit {0}
+Checks told (WriteFault took_nothing) = Unit {0}
+Checks told Memory = Unit {0}
+Checks told Usage = ⊥
+Checks told OtherForm = ⊥
+Checks told DiskFault = ⊥
+Checks told NotNew = ⊥
+Checks told (Full size) = ⊥
+
+-- the file is a whole store of the old form, and the new disk holds what is left of its operations
+pub record IsConverted (told : Option (List ℕ)) (new : DiskView) : Type 0 where
+  pub bytes : List ℕ
+  pub read : WereRead told bytes
+  pub ops : List Op
+  pub old : HasOldContent bytes ops
+  pub holds : HoldsAll new (folded ops)
+
+-- the file doesn't begin as a store of the old form does that isn't empty
+pub record IsOtherForm (told : Option (List ℕ)) : Type 0 where
+  pub bytes : List ℕ
+  pub read : WereRead told bytes
+  pub other : HasFirstFrame bytes → ⊥
+
+-- the file is of the old form, with this fault
+pub record IsFaultyOld (told : Option (List ℕ)) (fault : Fault) : Type 0 where
+  pub bytes : List ℕ
+  pub read : WereRead told bytes
+  pub faulty : IsOldFault bytes fault
+
+-- what a conversion comes to
+abbrev pub Converts : Option (List ℕ) → DiskView → ToolOutcome → Type 0
+Converts told new Done = IsConverted told new
+Converts told new OtherForm = IsOtherForm told
+Converts told new (Faulty fault) = IsFaultyOld told fault
+Converts told new (OtherLength many) = HasOtherLength told many
+Converts told new Usage = ⊥
+Converts told new _ = Unit {0}
+
+-- what can be read of the file, brought to the size of a store, from the first operation on: the longest front, and why it ends; and the new disk holds it
+pub record IsSalvaged (told : Option (List ℕ)) (new : DiskView) : Type 0 where
+  pub read_bytes : List ℕ
+  pub read : WereRead told read_bytes
+  pub bytes : List ℕ
+  pub are : bytes ≡ brought_to_size read_bytes
+  pub form : Form
+  pub of_form : IsForm bytes form
+  pub ops : List Op
+  pub front : IsFront form bytes ops
+  pub longest : IsLongest form bytes ops
+  pub stop : Stop
+  pub stops : IsStop form bytes ops stop
+  pub holds : HoldsAll new (left_by form ops)
+
+-- what a salvage comes to
+abbrev pub Salvages : Option (List ℕ) → DiskView → ToolOutcome → Type 0
+Salvages told new Done = IsSalvaged told new
+Salvages told new Usage = ⊥
+Salvages told new OtherForm = ⊥
+Salvages told new (Faulty fault) = ⊥
+Salvages told new (OtherLength many) = ⊥
+Salvages told new _ = Unit {0}
+
+-- what a call comes to, by what was asked for
+abbrev pub Comes : Told → Option Asked → DiskView → ToolOutcome → Type 0
+Comes told None new outcome = (outcome ≡ Usage) ⊎ (outcome ≡ Memory)
+Comes told (Some (Check file)) new outcome = Checks (told file) outcome
+Comes told (Some (Convert old target)) new outcome = Converts (told old) new outcome
+Comes told (Some (Salvage file target)) new outcome = Salvages (told file) new outcome

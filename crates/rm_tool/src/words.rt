@@ -1,0 +1,98 @@
+ghost use Rattle.std.specs.Prelude.{◌≡◌, [], ◌∷◌, Some, None, IfErr, IfNone, IfOk, IfSome, true, map, string_bytes};
+ghost use Rattle.std.specs.List.{count_by};
+ghost use Rattle.clap.specs.Walk.{texts};
+ghost use Rattle.rm_tool.specs.Words.{are_names, asked, asked_by, is_flag, mode_of};
+
+use crate::reading::read_words;
+use rm_types::NoMemory;
+use std::alloc::Global;
+
+/// What the tool is to do.
+#[derive(Clone, Copy, Debug)]
+pub enum Mode<'a> {
+    /// Says whether the store in this file is whole.
+    Check { file: &'a str },
+    /// Writes the store of the old form in one file as one of two areas, in another.
+    Convert { old: &'a str, new: &'a str },
+    /// Writes what can be read of the store in one file as a new store, in another.
+    Salvage { file: &'a str, new: &'a str },
+}
+
+/// What the words ask for: `check FILE`, `convert OLD NEW` or `salvage FILE NEW`, of which none begins with `-`. The answer is `None` exactly
+/// where they are of another form. Want of memory may come on any words but those that begin with `-`.
+pub fn mode_of<'a>(alloc: Global, words: &'a [String]) -> Result<Option<Mode<'a>>, NoMemory>
+    ensures some { IfOk result (λ answer. IfSome answer (λ mode. mode_of (map string_bytes words.now) ≡ Some (asked mode))) }
+    ensures none { IfOk result (λ answer. IfNone answer (mode_of (map string_bytes words.now) ≡ None)) }
+    ensures err { IfErr result (λ _. are_names (map string_bytes words.now) ≡ true) }
+{
+    if !are_names(words) {
+        return Ok(None);
+    }
+    let matches = read_words(alloc, words)?;
+    let Some(names) = matches.get_strs("names") else {
+        return Ok(None);
+    };
+    Ok(mode_by(names))
+}
+
+/// Whether a word begins with `-`.
+fn is_flag(word: &str) -> bool
+    ensures { result ≡ is_flag word.now }
+{
+    match word.as_bytes() {
+        [first, ..] => *first == b'-',
+        [] => false,
+    }
+}
+
+/// How many of the words begin with `-`.
+fn flags(words: &[String]) -> usize
+    ensures { result ≡ count_by is_flag (map string_bytes words.now) }
+{
+    words.iter().filter(|word| is_flag(word.as_str())).count()
+}
+
+/// Whether no word begins with `-`.
+fn are_names(words: &[String]) -> bool
+    ensures { result ≡ are_names (map string_bytes words.now) }
+{
+    flags(words) == 0
+}
+
+/// The mode that these names ask for.
+fn mode_by<'a>(names: &[&'a str]) -> Option<Mode<'a>>
+    ensures some { IfSome result (λ mode. asked_by (texts names.now) ≡ Some (asked mode)) }
+    ensures none { IfNone result (asked_by (texts names.now) ≡ None) }
+{
+    match names {
+        [mode, file] => mode_of_two(mode, file),
+        [mode, file, new] => mode_of_three(mode, file, new),
+        _ => None,
+    }
+}
+
+/// The mode that two names ask for.
+fn mode_of_two<'a>(mode: &str, file: &'a str) -> Option<Mode<'a>>
+    ensures some { IfSome result (λ asks. asked_by (mode.now ∷ file.now ∷ []) ≡ Some (asked asks)) }
+    ensures none { IfNone result (asked_by (mode.now ∷ file.now ∷ []) ≡ None) }
+{
+    if mode == "check" {
+        Some(Mode::Check { file })
+    } else {
+        None
+    }
+}
+
+/// The mode that three names ask for.
+fn mode_of_three<'a>(mode: &str, file: &'a str, new: &'a str) -> Option<Mode<'a>>
+    ensures some { IfSome result (λ asks. asked_by (mode.now ∷ file.now ∷ new.now ∷ []) ≡ Some (asked asks)) }
+    ensures none { IfNone result (asked_by (mode.now ∷ file.now ∷ new.now ∷ []) ≡ None) }
+{
+    if mode == "convert" {
+        Some(Mode::Convert { old: file, new })
+    } else if mode == "salvage" {
+        Some(Mode::Salvage { file, new })
+    } else {
+        None
+    }
+}
