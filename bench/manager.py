@@ -1,23 +1,25 @@
 """Makes the scripts of bench/manager.sh, looks at what their pages say, measures them, and prints tables.
 
     manager.py measure PROGRAM FOLDER ROUNDS [SETTING..]      tables of these settings, or of all
-    manager.py profile PROGRAM FOLDER SETTING ROW             the functions in which a row's instructions are spent
+    manager.py profile PROGRAM FOLDER SETTING                 the functions in which the instructions of each row are spent
     manager.py page PROGRAM FOLDER                            what the log and the page of many lives need
 
 bench/manager.sh starts it, and says there what is measured and how.
 
-A setting is what stands before anything is measured. Its script is a chain of steps, and a step's figure is that of the script up to
-its end, less that of the script up to the end of the step before. So nothing that came before is counted. The world below knows what
-the manager has to answer and to decide, from docs/FORMATS.md and docs/MODEL.md; a page that says anything else ends the work.
+A setting is what stands before anything is measured. Its script is a chain of steps. The time of a step is that of the script up to its
+end, less that of the script up to the end of the step before. Its instructions are counted in one run of the whole script, which
+callgrind cuts into parts where the manager goes on to the next part of a script (MARK). The world below knows what the manager has to
+answer and to decide, from docs/FORMATS.md and docs/MODEL.md; a page that says anything else ends the work.
 """
-import collections, dataclasses, os, re, shutil, subprocess, sys
+import collections, dataclasses, glob, itertools, os, re, shutil, subprocess, sys
 
+MARK = "rm_desk::feeds::Feeds::enter"  # is called at each `start`, `settle` and `crash`
 STAMP = 1410901177871
 HOST_CORES = 250  # of a node with masters or with containers that go on
 WIDE_CORES = 256  # the most that a node offers, and as many containers as a pass grants
 MOST_ASKED = 1000  # the most that one ask is for
 REPEAT = float(os.environ.get("REPEAT", "1"))  # makes the steps of cheap messages shorter, to try the scripts
-COUNTED = 0.05  # of the repeats, where instructions are counted, which are the same in each run
+COUNTED = 0.1  # of the repeats, where instructions are counted, which are the same in each run
 
 
 @dataclasses.dataclass(frozen=True)
@@ -98,8 +100,12 @@ class World:
         return max(self.setting.going, self.setting.nodes, self.setting.containers) > 1000
 
     def times(self, number):
-        """How often a message is repeated: in large settings less, where one may walk over all that stands."""
-        return max(20, int(number * self.repeat / (20 if self.is_large else 1)))
+        """How often a message is repeated."""
+        return max(50, int(number * self.repeat))
+
+    def beats(self, number):
+        """How often a node's message is repeated: in large settings less, where a pass walks over all that stands."""
+        return self.times(number / (20 if self.is_large else 1))
 
     def say(self, line, reply):
         self.lines.append(line)
@@ -350,7 +356,7 @@ def queue_steps(world, host):
         world.submit(number)
     world.settle()
     world.step("submission, up to where it waits for its master", 50)
-    number = world.times(200)
+    number = world.beats(200)
     for _ in range(number):
         world.beat(host)
     world.settle()
@@ -369,7 +375,7 @@ def ask_steps(world, master, narrow, spare):
         world.allocate(master, [one.replace(":1:", ":0:", 1) for one in many])
     world.settle()
     world.step("allocate with 64 asks", 20)
-    number = world.times(200)
+    number = world.beats(200)
     world.ask(master, number + 1)
     world.settle()
     world.beat(narrow)
@@ -382,7 +388,7 @@ def ask_steps(world, master, narrow, spare):
     world.allocate(master, release=list(narrow.standing))
     world.take_away(narrow, *narrow.standing, "released")
     world.settle()
-    number = world.times(200)
+    number = world.beats(200)
     world.ask(master, number)
     world.settle()
     world.beat(spare)
@@ -434,16 +440,17 @@ def application_steps(world, plain, spare):
 def message_steps(world, master, host, wide, idle):
     """Messages that change little, many times."""
     running = list(host.standing)[:10]
-    number = world.times(1000)
+    number = world.beats(1000)
     for _ in range(number):
         world.beat(host, running)
     world.settle()
     world.step("beat with 10, and its pass that grants 0", number)
-    number = world.times(5000)
+    number = world.beats(5000)
     for _ in range(number):
         world.beat(wide)
     world.settle()
     world.step("beat with 0, and its pass that grants 0", number)
+    number = world.times(5000)
     for _ in range(number):
         world.allocate(master)
     world.settle()
@@ -464,12 +471,12 @@ def message_steps(world, master, host, wide, idle):
             world.say(line, reply)
         world.settle()
         world.step(name, number)
-    number = world.times(1000)
+    number = world.beats(1000)
     for _ in range(number):
         world.register(idle)
     world.settle()
     world.step("register with 0", number)
-    number = world.times(200)
+    number = world.beats(200)
     for _ in range(number):
         world.say(f"clock expire node {idle.name}", "ok")
         world.settle()
@@ -643,6 +650,18 @@ def check_page(world, step, path):
 # MEASURING
 
 
+# Starts a program from a small process, since the system counts the memory of the one that starts it, too.
+STARTER = """
+import os, sys
+process = os.fork()
+if process == 0:
+    os.execv(sys.argv[2], sys.argv[2:])
+_, status, usage = os.wait4(process, 0)
+with open(sys.argv[1], "w") as file:
+    print(os.waitstatus_to_exitcode(status), usage.ru_utime + usage.ru_stime, usage.ru_maxrss, file=file)
+"""
+
+
 class Runs:
     """Runs of the program in a folder."""
 
@@ -664,47 +683,76 @@ class Runs:
 
     def run(self):
         """Runs the script: the seconds of the processor that it took, and the most KiB that it had at once."""
-        with open(self.page, "w") as page, open(os.path.join(self.folder, "told"), "w") as told:
-            process = subprocess.Popen(self.words(), stdin=subprocess.DEVNULL, stdout=page, stderr=told)
-            _, status, usage = os.wait4(process.pid, 0)
-            process.returncode = os.waitstatus_to_exitcode(status)
-        if status != 0:
-            with open(told.name) as told:
-                sys.exit(f"the program ended with status {process.returncode}: {told.read(300)}")
-        return usage.ru_utime + usage.ru_stime, usage.ru_maxrss
+        told, usage = (os.path.join(self.folder, name) for name in ("told", "usage"))
+        with open(self.page, "w") as page, open(told, "w") as errors:
+            words = [sys.executable, "-S", "-c", STARTER, usage, *self.words()]
+            subprocess.run(words, stdin=subprocess.DEVNULL, stdout=page, stderr=errors, check=True)
+        with open(usage) as file:
+            status, seconds, peak = file.read().split()
+        if status != "0":
+            with open(told) as errors:
+                sys.exit(f"the program ended with status {status}: {errors.read(300)}")
+        return float(seconds), int(peak)
 
     def lines(self):
         """How many lines the last run's page has."""
         with open(self.page) as page:
             return sum(1 for _ in page)
 
-    def instructions(self):
-        words = ["valgrind", "--tool=cachegrind", "--cache-sim=no", "--cachegrind-out-file=/dev/null", *self.words()]
-        with open(self.page, "w") as page:
-            ran = subprocess.run(words, stdin=subprocess.DEVNULL, stdout=page, stderr=subprocess.PIPE, text=True, check=True)
-        return int(re.search(r"I\s+refs:\s+([\d,]+)", ran.stderr)[1].replace(",", ""))
-
-    def functions(self):
-        """The instructions of each function and how often each was called, by callgrind."""
-        out = os.path.join(self.folder, "callgrind")
-        words = ["valgrind", "--tool=callgrind", "--dump-instr=no", "--compress-strings=no", "--compress-pos=no", f"--callgrind-out-file={out}", *self.words()]
+    def parts(self):
+        """What callgrind counts in each part of the script: up to each mark, and behind the last one."""
+        folder = os.path.join(self.folder, "parts")
+        os.mkdir(folder)
+        words = ["valgrind", "--tool=callgrind", f"--dump-before={MARK}", f"--callgrind-out-file={folder}/part", *self.words()]
         with open(self.page, "w") as page:
             subprocess.run(words, stdin=subprocess.DEVNULL, stdout=page, stderr=subprocess.DEVNULL, check=True)
-        spent, called, name, callee, is_call = collections.Counter(), collections.Counter(), None, None, False
-        with open(out, errors="replace") as lines:
-            for line in lines:
-                if line.startswith("fn="):
-                    name = line[3:].strip()
-                elif line.startswith("cfn="):
-                    callee = line[4:].strip()
-                elif line.startswith("calls="):
-                    called[callee] += int(line[6:].split()[0])
-                    is_call = True
-                elif line[0].isdigit() or line[0] in "+-*":
-                    if not is_call:
-                        spent[name] += int(line.split()[-1])
-                    is_call = False
-        return spent, called
+        parts = sorted((part_of(name) for name in glob.glob(f"{folder}/*")), key=lambda part: part.number)
+        shutil.rmtree(folder)
+        return parts
+
+
+@dataclasses.dataclass
+class Part:
+    """The instructions in each function of a part, and how often each was called."""
+
+    number: int
+    spent: collections.Counter
+    called: collections.Counter
+    own: collections.Counter  # of the functions of this project, with what they call of libraries
+
+
+NAMED = re.compile(r"(c?fn)=\((\d+)\)(?: (.*))?")
+
+
+def part_of(path):
+    """A part, from the file that callgrind writes of it; a function has its name there where it comes first, and then a number."""
+    part = Part(0, collections.Counter(), collections.Counter(), collections.Counter())
+    names, function, callee, is_call = {}, None, None, False
+    with open(path, errors="replace") as lines:
+        for line in lines:
+            found = NAMED.match(line)
+            if found:
+                if found[3]:
+                    names[found[2]] = found[3]
+                if found[1] == "fn":
+                    function = names[found[2]]
+                else:
+                    callee = names[found[2]]
+            elif line.startswith("calls="):
+                part.called[callee] += int(line[6:].split()[0])
+                is_call = True
+            elif line[0] in "0123456789+-*":
+                many = int(line.split()[1])
+                if not is_call:
+                    part.spent[function] += many
+                if function.startswith("rm_") and not (is_call and callee.startswith("rm_")):
+                    part.own[function] += many
+                is_call = False
+            elif line.startswith("part: "):
+                part.number = int(line[6:])
+            elif line.startswith("totals: "):
+                assert part.spent.total() == int(line[8:]), path
+    return part
 
 
 @dataclasses.dataclass
@@ -715,7 +763,9 @@ class Figures:
     steps: list  # of the scripts whose time is taken
     instructions: list
     seconds: list
-    counted: list = None  # the steps of the scripts whose instructions are counted
+    counted: list = None  # the steps of the script whose instructions are counted
+    reading: float = 0  # instructions, for each line of that script
+    writing: float = 0  # for each line of its page
     peak: int = 0  # KiB, of the whole script
     lines: int = 0  # of its page
     page_bytes: int = 0
@@ -734,16 +784,31 @@ def measure(runs, setting, rounds):
             check_page(world, step, runs.page)
     figures.page_bytes, figures.lines = os.path.getsize(runs.page), runs.lines()
     figures.seconds = least if rounds else []
-    if shutil.which("valgrind") is None or os.environ.get("COUNT", "yes") == "no":
-        return figures
-    world = script_of(setting, REPEAT * COUNTED)
-    figures.counted = world.steps
-    for step in world.steps:
-        runs.write(world, step)
-        figures.instructions.append(runs.instructions())
-        check_page(world, step, runs.page)
-        print(f"{setting.name}: {figures.instructions[-1]:,} up to {step.name or 'what comes before the next row'}", file=sys.stderr, flush=True)
+    if shutil.which("valgrind") is not None and os.environ.get("COUNT", "yes") == "yes":
+        count(runs, figures)
     return figures
+
+
+def cut(runs, setting):
+    """The steps of a setting's script, what its reading took, the parts of each step, and what writing the page took."""
+    world = script_of(setting, REPEAT * COUNTED)
+    runs.write(world, world.steps[-1])
+    reading, *parts, writing = runs.parts()
+    check_page(world, world.steps[-1], runs.page)
+    marked = list(itertools.accumulate(line in ("settle", "crash 0 0") or line.startswith("start ") for line in world.lines))
+    if len(parts) != marked[-1] - 1:
+        sys.exit(f"{MARK} was called {len(parts) + 1} times, and not {marked[-1]}")
+    ends = [marked[step.lines - 1] - 1 for step in world.steps]
+    return world, reading, [parts[begin:end] for begin, end in zip([0, *ends], ends)], writing
+
+
+def count(runs, figures):
+    """Counts the instructions up to the end of each step, what the script's reading and the page's writing take left out."""
+    world, reading, parts, writing = cut(runs, figures.setting)
+    figures.counted = world.steps
+    figures.instructions = list(itertools.accumulate(sum(part.spent.total() for part in of_step) for of_step in parts))
+    figures.reading, figures.writing = reading.spent.total() / len(world.lines), writing.spent.total() / runs.lines()
+    print(f"{figures.setting.name}: {figures.instructions[-1]:,} instructions", file=sys.stderr, flush=True)
 
 
 def each(steps, totals):
@@ -771,13 +836,13 @@ def table(names, all_rows, unit, scale, least):
 
 
 def tell_sizes(all_figures):
-    print("| setting | lines of the script | lines of the page | MB of the page | seconds | MB at most |")
-    print("|---|---|---|---|---|---|")
+    print("| setting | lines of the script | lines of the page | MB of the page | seconds | MB at most | instructions for each line read | written |")
+    print("|---|---|---|---|---|---|---|---|")
     for figures in all_figures:
         seconds = f"{figures.seconds[-1]:.2f}" if figures.seconds else "-"
         print(
             f"| {figures.setting.name} | {figures.steps[-1].lines:,} | {figures.lines:,} | {figures.page_bytes / 1e6:.1f} "
-            f"| {seconds} | {figures.peak / 1024:.0f} |"
+            f"| {seconds} | {figures.peak / 1024:.0f} | {figures.reading:,.0f} | {figures.writing:,.0f} |"
         )
     print()
 
@@ -794,30 +859,28 @@ def tell_measures(runs, rounds, names):
     tell_sizes(all_figures)
 
 
-def tell_functions(before, after, number, unit):
-    """The functions in which most instructions are spent between two runs, for each of so many, and how often they are called."""
-    (spent, called), (less, fewer) = after, before
-    spent.subtract(less)
-    called.subtract(fewer)
-    whole = sum(spent.values())
-    print(f"{whole / number:,.0f} instructions for each {unit}")
-    print()
-    print(f"| share | instructions for each {unit} | calls | function |")
-    print("|---|---|---|---|")
-    for function, many in spent.most_common(15):
-        print(f"| {many / whole:.1%} | {many / number:,.0f} | {called[function] / number:,.1f} | `{function}` |")
+def together(parts):
+    """Several parts as one."""
+    whole = Part(0, collections.Counter(), collections.Counter(), collections.Counter())
+    for part in parts:
+        whole.spent.update(part.spent)
+        whole.called.update(part.called)
+        whole.own.update(part.own)
+    return whole
 
 
-def tell_profile(runs, name, row):
-    """The functions in which a row's instructions are spent."""
-    world = script_of(next(setting for setting in SETTINGS if setting.name == name), REPEAT * COUNTED)
-    place = next(place for place, step in enumerate(world.steps) if step.name == row)
-    found = []
-    for step in world.steps[place - 1 : place + 1]:
-        runs.write(world, step)
-        found.append(runs.functions())
-    print(f"{name}, {row}:")
-    tell_functions(*found, world.steps[place].number, "one")
+def tell_profile(runs, name):
+    """The functions in which the instructions of each row are spent, with those of the library's functions that they call."""
+    setting = next(setting for setting in SETTINGS if setting.name == name)
+    world, _, parts, _ = cut(runs, setting)
+    print(f"| row | instructions, {name} | most of them in |")
+    print("|---|---|---|")
+    for step, of_step in zip(world.steps, parts):
+        part = together(of_step)
+        whole = part.spent.total()
+        most = [f"{many / whole:.0%} `{function}`" for function, many in part.own.most_common(3) if many > whole / 10]
+        if step.name:
+            print(f"| {step.name} | {whole / step.number:,.0f} | {', '.join(most)} |")
 
 
 def write_lives(runs, lives):
@@ -835,27 +898,34 @@ def write_lives(runs, lives):
 
 def tell_page(runs):
     """What the log and the page of many lives need."""
-    print("| lives | lines of the page | MB of the page | seconds | MB at most | instructions for each more line | bytes at most for each more line |")
-    print("|---|---|---|---|---|---|---|")
+    print("| lives | lines of the page | MB of the page | seconds | MB at most | bytes of these for each more line |")
+    print("|---|---|---|---|---|---|")
     first = None
     for lives in (10, 100, 200, 300):
         write_lives(runs, lives)
         seconds, peak = min(runs.run() for _ in range(3))
         size, told = os.path.getsize(runs.page), runs.lines()
-        counted = runs.instructions()
-        more = "- | -"
-        if first:
-            lines = told - first[0]
-            more = f"{(counted - first[1]) / lines:,.0f} | {(peak - first[2]) * 1024 / lines:.0f}"
-        first = first or (told, counted, peak)
+        more = f"{(peak - first[1]) * 1024 / (told - first[0]):.0f}" if first else "-"
+        first = first or (told, peak)
         print(f"| {lives} | {told:,} | {size / 1e6:.1f} | {seconds:.2f} | {peak / 1024:.0f} | {more} |", flush=True)
     print()
-    found, told = [], []
-    for lives in (10, 40):
-        write_lives(runs, lives)
-        found.append(runs.functions())
-        told.append(runs.lines())
-    tell_functions(*found, told[1] - told[0], "line")
+    shorter, longer = [lives_cut(runs, lives) for lives in (10, 40)]
+    lines = longer[0] - shorter[0]
+    print("| for each line | instructions | calls of malloc | most of them in |")
+    print("|---|---|---|---|")
+    for name, less, more in zip(("a life's moves", "the page's writing", "all"), shorter[1:], longer[1:]):
+        more.spent.subtract(less.spent)
+        more.called.subtract(less.called)
+        whole = more.spent.total()
+        most = ", ".join(f"{many / whole:.0%} `{function}`" for function, many in more.spent.most_common(8))
+        print(f"| {name} | {whole / lines:,.0f} | {more.called['malloc'] / lines:.2f} | {most} |")
+
+
+def lives_cut(runs, lives):
+    """How many lines the page of so many lives has, and what the lives, the page's writing and all of it took."""
+    write_lives(runs, lives)
+    parts = runs.parts()
+    return runs.lines(), together(parts[1:-1]), together(parts[-1:]), together(parts)
 
 
 def main():

@@ -2,7 +2,7 @@
 # Measures what each message, event and pass costs, and a restart, in small settings and in large ones, and prints tables:
 #
 #   bench/manager.sh [FOLDER [SETTING..]]           what each row takes, in these settings or in all
-#   bench/manager.sh --profile SETTING ROW [FOLDER]      the functions in which a row's instructions are spent
+#   bench/manager.sh --profile SETTING [FOLDER]     the functions in which the instructions of each row are spent
 #   bench/manager.sh --page [FOLDER]                what the log and the page of many lives need
 #
 # FOLDER is a folder in which a new one is made and removed again, the current one if none is said. A setting is what stands before: 100
@@ -11,16 +11,17 @@
 # 256 and 1,000 containers, passes that grant nothing, 1 and 256, asks, releases, ends, expiries, kills, retirements, and a restart behind
 # which all nodes and masters come back. The scripts stand within the limits of docs/FORMATS.md and are made anew each time.
 #
-# Each figure is a difference: of the script up to the end of a row, and of the script up to its beginning, by as many messages as the row
-# has. So it counts all that the program does for a message, from reading its line to writing its lines of the page, and nothing that
-# came before. Of each script the page is looked at first: every message has to be answered as meant, and as many containers granted,
-# taken in and ended, for one reason or another. The instructions are counted by valgrind, and are the same in each run. The time is the
-# processor's, the least of ROUNDS in the environment, 3 if nothing is said and none where it is 0; it is told of rows that take a
-# millisecond or more. What a whole script needs of memory is told by the system. COUNT=no leaves the instructions out, and REPEAT, as
-# 0.01, shortens the rows of cheap messages, to try a change of the scripts.
+# Of each script the page is looked at first: every message has to be answered as meant, and as many containers granted, taken in and
+# ended, for one reason or another. The instructions are those between a row's first message and its `settle`, by as many messages as the
+# row has; they are the same in each run. callgrind counts them, and cuts its count where the manager enters the next part of the script.
+# What reading a line takes and writing one of the page is told apart, for all lines of a script. The time is the processor's, and that of
+# a whole message, from reading its line to writing those of the page: the difference of the script up to the end of a row and of that up to
+# its beginning, the least of ROUNDS in the environment, 3 if nothing is said and none where it is 0. It is told of rows that take a millisecond or
+# more. What a whole script needs of memory is told by the system. COUNT=no leaves the instructions out, and REPEAT, as 0.01, shortens the
+# rows of cheap messages, to try a change of the scripts.
 #
 # It builds crates/yewendro by `rt run`, or takes a built one that PROGRAM in the environment names. It needs python3, and valgrind.
-# All settings take some half an hour.
+# The instructions of all settings take some ten minutes, mostly the last ones of 50,000 containers, and the times as long.
 set -euo pipefail
 
 here=$(cd "$(dirname "$0")/.." && pwd)
@@ -29,10 +30,10 @@ mode=measure
 words=("${ROUNDS:-3}")
 case "${1:-}" in
   --profile)
-    [ $# -ge 3 ] || { echo "usage: bench/manager.sh --profile SETTING ROW [FOLDER]" >&2; exit 1; }
+    [ $# -ge 2 ] || { echo "usage: bench/manager.sh --profile SETTING [FOLDER]" >&2; exit 1; }
     mode=profile
-    words=("$2" "$3")
-    parent=${4:-$PWD}
+    words=("$2")
+    parent=${3:-$PWD}
     ;;
   --page)
     mode=page

@@ -31,7 +31,8 @@ tables=${TABLES:-append open pauses}
 changes=${CHANGES:-100}
 here=$(cd "$(dirname "$0")/.." && pwd)
 folder=$(mktemp -d "${1:-$PWD}/run.XXXXXX")
-trap 'rm -rf "$folder"' EXIT
+memory= # a folder in memory
+trap 'rm -rf "$folder" "$memory"' EXIT
 ours=${PROGRAM:-$here/crates/rm_bench/out/rm_bench}
 peers=$folder/peers
 
@@ -160,17 +161,17 @@ pauses_of() {
   else
     "$peers" pauses "$system" "$data" "$live" "$cycles" 2> "$folder/work"
   fi > "$folder/times"
-  sort -n "$folder/times" | awk -v system="$system" -v live="$live" -v work="$(cat "$folder/work")" -v name="$name" '
+  sort -n "$folder/times" | awk -v name_of_system="$system" -v live="$live" -v work="$(cat "$folder/work")" -v name="$name" '
     {value[NR] = $1}
-    END {printf "| %s | %s | %d | %d | %s | %.1f | %.1f | %.1f |\n", name, system, live, NR, work,
+    END {printf "| %s | %s | %d | %d | %s | %.1f | %.1f | %.1f |\n", name, name_of_system, live, NR, work,
       value[int((NR + 1) / 2)] / 1e3, value[int(NR * 0.99 + 0.5)] / 1e3, value[NR] / 1e6}'
   rm -rf "$data"
 }
 
 pause_table() {
-  local memory=$folder live system
+  local live system
+  memory=$folder
   if [ -w /dev/shm ]; then memory=$(mktemp -d /dev/shm/run.XXXXXX); fi
-  trap 'rm -rf "$folder" "$memory"' EXIT
   echo "| where | system | jobs that go on | appends | its own work | median µs | p99 µs | worst ms |"
   echo "|---|---|---|---|---|---|---|---|"
   for live in 100 1000 10000; do
@@ -184,7 +185,7 @@ machine() {
   echo "- $(findmnt -no FSTYPE,SOURCE -T "$folder" | awk 'END {print $1 " on " $2}')"
   echo "- $(rt version | head -n 1); $("$peers" list | paste -sd, | sed 's/,/, /g')"
   echo "- load before: $load; after: $(cut -d' ' -f1-3 /proc/loadavg)"
-  echo "- $rounds rounds of $((jobs * 4)) appends; each opening $rounds times"
+  if wants append || wants open; then echo "- $rounds rounds of $((jobs * 4)) appends; each opening $rounds times"; fi
 }
 
 build
@@ -216,6 +217,8 @@ if wants open; then
   done
 fi
 
+if wants pauses; then pause_table > "$folder/pauses"; fi
+
 machine
 if wants append; then
   echo
@@ -231,5 +234,5 @@ if wants pauses; then
   echo
   echo "Appends over changes of area, and the same to the other stores:"
   echo
-  pause_table
+  cat "$folder/pauses"
 fi
