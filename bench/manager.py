@@ -721,6 +721,8 @@ class Part:
     own: collections.Counter  # of the functions of this project, with what they call of libraries
 
 
+ALLOCATING = re.compile(r"^(_int_)?(malloc|free|realloc|calloc)|^malloc_|^unlink_chunk|^sysmalloc|^systrim|^rattle_(de|re)?alloc")
+COPYING = re.compile(r"^__mem(cpy|move|set)_")
 NAMED = re.compile(r"(c?fn)=\((\d+)\)(?: (.*))?")
 
 
@@ -764,6 +766,7 @@ class Figures:
     instructions: list
     seconds: list
     counted: list = None  # the steps of the script whose instructions are counted
+    parts: dict = None  # what was counted of each row
     reading: float = 0  # instructions, for each line of that script
     writing: float = 0  # for each line of its page
     peak: int = 0  # KiB, of the whole script
@@ -806,6 +809,7 @@ def count(runs, figures):
     """Counts the instructions up to the end of each step, what the script's reading and the page's writing take left out."""
     world, reading, parts, writing = cut(runs, figures.setting)
     figures.counted = world.steps
+    figures.parts = {step.name: together(of_step) for step, of_step in zip(world.steps, parts) if step.name}
     figures.instructions = list(itertools.accumulate(sum(part.spent.total() for part in of_step) for of_step in parts))
     figures.reading, figures.writing = reading.spent.total() / len(world.lines), writing.spent.total() / runs.lines()
     print(f"{figures.setting.name}: {figures.instructions[-1]:,} instructions", file=sys.stderr, flush=True)
@@ -824,7 +828,8 @@ def table(names, all_rows, unit, scale, least):
     print(f"| row | {unit}, {names[0]} | {' | '.join(names[1:])} |")
     print(f"|---|{'---|' * len(names)}")
     for row in first:
-        cells = [f"{first[row] * scale:,.4g}" if scale != 1 else f"{first[row]:,.0f}"]
+        told = f"{first[row] * scale:,.4g}" if scale != 1 else f"{first[row]:,.0f}"
+        cells = [told if first_whole[row] >= least else "-"]
         for each_of, whole in all_rows[1:]:
             if row not in each_of or min(first_whole[row], whole[row]) < least:
                 cells.append("-")
@@ -832,6 +837,27 @@ def table(names, all_rows, unit, scale, least):
                 ratio = each_of[row] / first[row]
                 cells.append(f"**{ratio:.2f}**" if ratio > 1.5 else f"{ratio:.2f}")
         print(f"| {row} | {' | '.join(cells)} |")
+    print()
+
+
+def tell_growth(all_figures):
+    """Of each ratio above 1.5 the functions that take most of what is more, with what they call of libraries."""
+    print("| row | setting | more instructions | of which |")
+    print("|---|---|---|---|")
+    small, *others = all_figures
+    number = [{step.name: step.number for step in figures.counted} for figures in all_figures]
+    for row, less in small.parts.items():
+        for figures, numbers in zip(others, number[1:]):
+            if row not in figures.parts:
+                continue
+            few, many = less.spent.total() / number[0][row], figures.parts[row].spent.total() / numbers[row]
+            if many <= 1.5 * few:
+                continue
+            own = figures.parts[row].own
+            more = {name: own[name] / numbers[row] - less.own[name] / number[0][row] for name in own}
+            most = sorted(more, key=more.get, reverse=True)[:3]
+            told = ", ".join(f"{more[name] / (many - few):.0%} `{name}`" for name in most if more[name] > (many - few) / 10)
+            print(f"| {row} | {figures.setting.name} | {many - few:,.0f} | {told} |")
     print()
 
 
@@ -853,9 +879,10 @@ def tell_measures(runs, rounds, names):
     names = [setting.name for setting in chosen]
     if all_figures[0].instructions:
         table(names, [each(figures.counted, figures.instructions) for figures in all_figures], "instructions", 1, 1)
+        tell_growth(all_figures)
     if rounds:
-        # (a step of less than a millisecond can't be told from what the system adds)
-        table(names, [each(figures.steps, figures.seconds) for figures in all_figures], "µs", 1e6, 1e-3)
+        # (a step of less than two milliseconds can't be told from what the system adds)
+        table(names, [each(figures.steps, figures.seconds) for figures in all_figures], "µs", 1e6, 2e-3)
     tell_sizes(all_figures)
 
 
@@ -911,14 +938,15 @@ def tell_page(runs):
     print()
     shorter, longer = [lives_cut(runs, lives) for lives in (10, 40)]
     lines = longer[0] - shorter[0]
-    print("| for each line | instructions | calls of malloc | most of them in |")
-    print("|---|---|---|---|")
+    print("| for each line | instructions | calls of malloc | in malloc and free | in copies | most of the others with what they call of libraries |")
+    print("|---|---|---|---|---|---|")
     for name, less, more in zip(("a life's moves", "the page's writing", "all"), shorter[1:], longer[1:]):
-        more.spent.subtract(less.spent)
-        more.called.subtract(less.called)
+        for counted, fewer in ((more.spent, less.spent), (more.called, less.called), (more.own, less.own)):
+            counted.subtract(fewer)
         whole = more.spent.total()
-        most = ", ".join(f"{many / whole:.0%} `{function}`" for function, many in more.spent.most_common(8))
-        print(f"| {name} | {whole / lines:,.0f} | {more.called['malloc'] / lines:.2f} | {most} |")
+        allocated, copied = (sum(many for function, many in more.spent.items() if kind.search(function)) for kind in (ALLOCATING, COPYING))
+        most = ", ".join(f"{many / whole:.0%} `{function}`" for function, many in more.own.most_common(6))
+        print(f"| {name} | {whole / lines:,.0f} | {more.called['malloc'] / lines:.2f} | {allocated / whole:.0%} | {copied / whole:.0%} | {most} |")
 
 
 def lives_cut(runs, lives):
