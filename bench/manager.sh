@@ -16,12 +16,13 @@
 # row has; they are the same in each run. callgrind counts them, and cuts its count where the manager enters the next part of the script.
 # What reading a line takes and writing one of the page is told apart, for all lines of a script. The time is the processor's, and that of
 # a whole message, from reading its line to writing those of the page: the difference of the script up to the end of a row and of that up to
-# its beginning, the least of ROUNDS in the environment, 3 if nothing is said and none where it is 0. It is told of rows that take two milliseconds
-# or more. What a whole script needs of memory is told by the system. COUNT=no leaves the instructions out, and REPEAT, as 0.01, shortens the
-# rows of cheap messages, to try a change of the scripts.
+# its beginning, the least of ROUNDS in the environment, 3 if nothing is said and none where it is 0. It is told of rows that take two
+# milliseconds or more. What a whole script needs of memory is told by the system. COUNT=no leaves the instructions out, and REPEAT, as 0.01,
+# shortens the rows of cheap messages, to try a change of the scripts.
 #
 # It builds crates/yewendro by `rt run`, or takes a built one that PROGRAM in the environment names. It needs python3, and valgrind.
-# The instructions of all settings take some ten minutes, mostly the last ones of 50,000 containers, and the times as long.
+# The instructions of all settings take some twenty minutes of a processor, mostly for the last rows of 50,000 containers, and the times
+# some half an hour.
 set -euo pipefail
 
 here=$(cd "$(dirname "$0")/.." && pwd)
