@@ -13,18 +13,18 @@
 # more kills fall amid a change. After a kill the jobs have to be those, or also the one of the cycle that was cut off, and the last Epoch that of
 # the last cycle that was told, or the one after it. FOLDER in memory makes the most of it, since a sync costs nothing there.
 #
-# It builds crates/rm_bench by `rt run`, and needs nothing else. A kill ends a process and not the system: what a loss of
-# power leaves is not tried here.
+# It builds crates/rm_bench by `rt run`, or takes a built one that PROGRAM in the environment names, and needs nothing else. A kill
+# ends a process and not the system: what a loss of power leaves is not tried here.
 set -euo pipefail
 
 here=$(cd "$(dirname "$0")/.." && pwd)
 kills=${1:-1000}
 folder=$(mktemp -d "${2:-$PWD}/kill.XXXXXX")
 jobs=${3:-}
-program=$here/crates/rm_bench/out/rm_bench
+program=${PROGRAM:-$here/crates/rm_bench/out/rm_bench}
 trap 'rm -rf "$folder"' EXIT
 
-(cd "$here/crates/rm_bench" && rt run > /dev/null 2>&1) || { echo "rm_bench was not built" >&2; exit 1; }
+[ -n "${PROGRAM:-}" ] || (cd "$here/crates/rm_bench" && rt run > /dev/null 2>&1) || { echo "rm_bench was not built" >&2; exit 1; }
 
 # What the process does, and how what it left is looked at.
 if [ -z "$jobs" ]; then work=(number) look=(count); else work=(cycle) look=(last); fi
@@ -59,6 +59,7 @@ for ((kill = 0; kill < kills; kill++)); do
     told=0
     longest=15000
   fi
+  : > "$folder/told" # (a process that is killed before it begins leaves what stands there)
   "$program" "${work[@]}" "$file" "${words[@]}" > "$folder/told" &
   process=$!
   sleep "$(printf '0.%06d' $((RANDOM * longest / 32768)))"

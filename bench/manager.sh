@@ -1,130 +1,59 @@
 #!/bin/bash
-# Measures what a message costs at 10,000 known applications and at 100, and what the beginning of a life costs for each known
-# application, and prints the times and their ratios:
+# Measures what each message, event and pass costs, and a restart, in small settings and in large ones, and prints tables:
 #
-#   bench/manager.sh [FOLDER]      in a new folder below the current one, if none is said
+#   bench/manager.sh [FOLDER [SETTING..]]           what each row takes, in these settings or in all
+#   bench/manager.sh --profile SETTING [FOLDER]     the functions in which the instructions of each row are spent
+#   bench/manager.sh --page [FOLDER]                what the log and the page of many lives need
 #
-# Each figure is a difference: of a script that makes so many applications known and then has 60,000 messages of a kind, and of
-# the same script without them; or of a script with 21 lives after them, and of one with a single one. So it counts all that the
-# program does for a message: it reads its line, serves it, and writes its line of the page. Each script begins with 10,000 new
-# ids and as many submissions, of which all but those of the known applications are refused, so that each message comes after
-# equally many others. The time is the processor's, outside the system, and the least of ROUNDS in the environment, in turn over
-# all scripts. Where valgrind is installed, the instructions are counted too, by the same differences.
+# FOLDER is a folder in which a new one is made and removed again, the current one if none is said. A setting is what stands before: 100
+# or 10,000 applications, going on or remembered, 10 or 5,000 nodes, 100 or 50,000 containers, with 10 applications removed before the
+# others or with none. Over each, bench/manager.py makes the same script (it says there what a row does): registers and beats with nothing,
+# 256 and 1,000 containers, passes that grant nothing, 1 and 256, asks, releases, ends, expiries, kills, retirements, and a restart behind
+# which all nodes and masters come back. The scripts stand within the limits of docs/FORMATS.md and are made anew each time.
 #
-# It builds crates/yewendro by `rt run`, and needs nothing else.
+# Of each script the page is looked at first: every message has to be answered as meant, and as many containers granted, taken in and
+# ended, for one reason or another. The instructions are those between a row's first message and its `settle`, by as many messages as the
+# row has; they are the same in each run. callgrind counts them, and cuts its count where the manager enters the next part of the script.
+# What reading a line takes and writing one of the page is told apart, for all lines of a script. The time is the processor's, and that of
+# a whole message, from reading its line to writing those of the page: the difference of the script up to the end of a row and of that up to
+# its beginning, the least of ROUNDS in the environment, 3 if nothing is said and none where it is 0. It is told of rows that take two
+# milliseconds or more. What a whole script needs of memory is told by the system. COUNT=no leaves the instructions out, and REPEAT, as 0.01,
+# shortens the rows of cheap messages, to try a change of the scripts.
+#
+# It builds crates/yewendro by `rt run`, or takes a built one that PROGRAM in the environment names. It needs python3, and valgrind.
+# The instructions of all settings take some twenty minutes of a processor, mostly for the last rows of 50,000 containers, and the times
+# some half an hour.
 set -euo pipefail
 
-rounds=${ROUNDS:-7}
-messages=60000
-submitted=10000
-lives=20
 here=$(cd "$(dirname "$0")/.." && pwd)
-folder=$(mktemp -d "${1:-$PWD}/manager.XXXXXX")
+program=${PROGRAM:-$here/crates/yewendro/out/yewendro}
+mode=measure
+words=("${ROUNDS:-3}")
+case "${1:-}" in
+  --profile)
+    [ $# -ge 2 ] || { echo "usage: bench/manager.sh --profile SETTING [FOLDER]" >&2; exit 1; }
+    mode=profile
+    words=("$2")
+    parent=${3:-$PWD}
+    ;;
+  --page)
+    mode=page
+    words=()
+    parent=${2:-$PWD}
+    ;;
+  *)
+    parent=${1:-$PWD}
+    words+=("${@:2}")
+    ;;
+esac
+
+[ -n "${PROGRAM:-}" ] || (cd "$here/crates/yewendro" && rt run -- store > /dev/null 2>&1) || { echo "yewendro was not built" >&2; exit 1; }
+[ -x "$program" ] || { echo "no program at $program" >&2; exit 1; }
+program=$(realpath "$program")
+folder=$(mktemp -d "$parent/manager.XXXXXX")
 trap 'rm -rf "$folder"' EXIT
-program=$here/crates/yewendro/out/yewendro
-stamp=1410901177871
-kinds=(new report unknown repeated refused)
-TIMEFORMAT=%U
 
-(cd "$here/crates/yewendro" && rt run -- store > /dev/null 2>&1) || { echo "yewendro was not built" >&2; exit 1; }
-
-# The line of a client that submits the application of a number to a queue.
-submission() { printf 'client alice submit application_%s_%04d queue=%s name=job memory=1024 vcores=1 attempts=0\n' "$stamp" "$1" "$2"; }
-
-# A script's beginning: so many applications are known, of as many that were submitted in each script, and one more id was given.
-known() {
-  echo "start $stamp"
-  local number queue
-  for ((number = 1; number <= submitted; number++)); do
-    if ((number <= $1)); then queue=root.default; else queue=root.nowhere; fi
-    echo "client alice new"
-    submission "$number" "$queue"
-  done
-  echo "client alice new"
-  echo settle
-}
-
-# A line of a kind, where so many applications are known.
-line() {
-  case $1 in
-    new) echo "client alice new" ;;
-    report) printf 'client alice report application_%s_%04d\n' "$stamp" "$2" ;;
-    unknown) printf 'client alice report application_%s_%04d\n' "$stamp" 99999 ;;
-    repeated) submission "$2" root.default ;;
-    refused) submission "$((submitted + 1))" root.nowhere ;;
-  esac
-}
-
-# A script of so many known applications, and behind them messages of a kind, or lives, or nothing.
-script() {
-  known "$2"
-  case $1 in
-    none) ;;
-    lives)
-      local life
-      for ((life = 1; life <= lives; life++)); do printf 'crash 0 0\nstart %s\nsettle\n' "$stamp"; done
-      ;;
-    *)
-      # (head ends the stream, which yes then can't write to)
-      yes "$(line "$1" "$2")" 2> /dev/null | head -n "$messages" || true
-      echo settle
-      ;;
-  esac
-}
-
-# Keeps the least time of a script, in seconds.
-measure() {
-  local time
-  time=$({ time "$program" plain "$folder/cluster.json" "$folder/$1" > "$folder/page"; } 2>&1)
-  echo "$time" >> "$folder/times.$1"
-}
-
-# Keeps the instructions of a script, in thousands of millions, as the seconds above are kept.
-count() {
-  valgrind --tool=cachegrind --cache-sim=no --cachegrind-out-file=/dev/null \
-    "$program" plain "$folder/cluster.json" "$folder/$1" 2>&1 > "$folder/page" \
-    | awk '/I *refs/ {gsub(",", "", $NF); printf "%.9f\n", $NF / 1e9}' > "$folder/times.$1"
-}
-
-least() { sort -g "$folder/times.$1" | head -n 1; }
-
-# The nanoseconds, or instructions, of each of so many steps, by which a script takes more than that without them.
-each() { echo "$(least "$1.$2") $(least "none.$2") $3" | awk '{printf "%.0f", ($1 - $2) * 1e9 / $3}'; }
-
-ratio() { echo "$1 $2" | awk '{printf "%.2f", $1 / ($2 > 0 ? $2 : 1)}'; }
-
-echo '{ "max_apps": 100000, "max_completed": 10000 }' > "$folder/cluster.json"
-sizes=(100 1000 10000)
-for size in "${sizes[@]}"; do
-  for kind in none lives "${kinds[@]}"; do script "$kind" "$size" > "$folder/$kind.$size"; done
-done
-for ((round = 0; round < rounds; round++)); do
-  for size in "${sizes[@]}"; do
-    for kind in none lives "${kinds[@]}"; do measure "$kind.$size"; done
-  done
-done
-
-# A table of all kinds in this unit, and a line of lives.
-table() {
-  echo "| message | $1 at 100 known applications | $1 at 10,000 | ratio |"
-  echo "|---|---|---|---|"
-  local kind few many
-  for kind in "${kinds[@]}"; do
-    few=$(each "$kind" 100 "$messages")
-    many=$(each "$kind" 10000 "$messages")
-    echo "| $kind | $few | $many | $(ratio "$many" "$few") |"
-  done
-  echo
-  few=$(each lives 1000 $((lives * 1000)))
-  many=$(each lives 10000 $((lives * 10000)))
-  echo "A life that begins over 1,000 known applications takes $few $1 for each of them, and one over 10,000 takes $many $1: $(ratio "$many" "$few")."
-}
-
-table ns
-if command -v valgrind > /dev/null; then
-  for size in "${sizes[@]}"; do
-    for kind in none lives "${kinds[@]}"; do count "$kind.$size"; done
-  done
-  echo
-  table instructions
-fi
+echo "- $(date -u +%Y-%m-%d), $(uname -sr), $(awk -F': ' '/model name/ {print $2; exit}' /proc/cpuinfo), $(nproc) processors"
+echo "- $(rt version 2> /dev/null | head -n 1)"
+echo
+python3 "$here/bench/manager.py" "$mode" "$program" "$folder" "${words[@]}"

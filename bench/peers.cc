@@ -4,19 +4,27 @@
 //   peers append SYSTEM DIR JOBS     appends the operations of so many jobs, each durable before the next, and
 //                                    prints of each what it was and how many nanoseconds it took
 //   peers make SYSTEM DIR JOBS       makes a store of these operations in DIR, without a sync for each
+//   peers pauses SYSTEM DIR JOBS CYCLES
+//                                    keeps so many jobs that go on, and then in each cycle another one, its end, its removal and an
+//                                    Epoch, each durable before the next; prints how many nanoseconds each took, and on standard
+//                                    error what the system tells of its own work meanwhile
 //   peers open SYSTEM DIR HOW        opens it and reads all its operations, and prints how many there are and how
 //                                    many nanoseconds that took; HOW is `look` where each value is only looked at, and
 //                                    `keep` where a copy of each is kept in memory, as a restart needs them
 //   peers evict PATH..               makes the system forget what it holds of these files in memory
 //
-// An operation is a key of 8 bytes, its number, and a value of as many bytes as the frame has that rm_bench appends.
+// An operation is a key of 8 bytes, its number, and a value of as many bytes as the frame has that rm_bench appends. In a cycle the
+// job and its end have keys of their own, the removal deletes both at once, and the Epoch takes the last one's place: so what a system
+// keeps stays the same, as what is left of the operations of a store does.
 // The two systems without a library are the calls of an append alone, over a file that was filled before: `raw` writes,
 // syncs, writes one byte and syncs; `raw-one-sync` writes and syncs once.
 #include <fcntl.h>
 #include <sys/stat.h>
 #include <unistd.h>
 
+#include <atomic>
 #include <chrono>
+#include <cstdarg>
 #include <cstdint>
 #include <cstdio>
 #include <cstdlib>
@@ -27,9 +35,13 @@
 
 #ifdef WITH_LEVELDB
 #include <leveldb/db.h>
+#include <leveldb/env.h>
+#include <leveldb/write_batch.h>
 #endif
 #ifdef WITH_ROCKSDB
 #include <rocksdb/db.h>
+#include <rocksdb/listener.h>
+#include <rocksdb/write_batch.h>
 #endif
 #ifdef WITH_SQLITE
 #include <sqlite3.h>
@@ -85,6 +97,12 @@ class System {
   virtual ~System() = default;
   virtual void Open(const std::string& dir) = 0;
   virtual void Append(uint64_t number, const std::string& value, bool durable) = 0;
+  // Keeps a value under a number, in place of what there was, and makes it durable.
+  virtual void Put(uint64_t number, const std::string& value) = 0;
+  // Takes away two numbers at once, and makes that durable.
+  virtual void Remove(uint64_t first, uint64_t second) = 0;
+  // What the system tells of the work that it did on its own since it was opened.
+  virtual std::string Work() const { return "-"; }
   // Reads every operation, and answers how many there are.
   virtual uint64_t ReadAll() = 0;
   virtual void Sync() {}
@@ -129,6 +147,8 @@ class Raw : public System {
     }
     at_ += size;
   }
+  void Put(uint64_t, const std::string&) override { Stop("the bare calls keep nothing"); }
+  void Remove(uint64_t, uint64_t) override { Stop("the bare calls keep nothing"); }
   uint64_t ReadAll() override { Stop("the bare calls have nothing to open"); }
 
  private:
@@ -138,11 +158,22 @@ class Raw : public System {
 };
 
 #ifdef WITH_LEVELDB
+// Counts what LevelDB writes into its log of its own work.
+class LevelDbLog : public leveldb::Logger {
+ public:
+  void Logv(const char* format, std::va_list) override {
+    if (std::strncmp(format, "Level-0 table", 13) == 0 && std::strstr(format, "started")) ++flushes;
+    if (std::strncmp(format, "Compacting", 10) == 0) ++compactions;
+  }
+  std::atomic<int> flushes{0}, compactions{0};
+};
+
 class LevelDb : public System {
  public:
   void Open(const std::string& dir) override {
     leveldb::Options options;
     options.create_if_missing = true;
+    options.info_log = &log_;
     leveldb::DB* db = nullptr;
     Check(leveldb::DB::Open(options, dir, &db).ok(), "leveldb open");
     db_.reset(db);
@@ -152,6 +183,18 @@ class LevelDb : public System {
     options.sync = durable;
     Check(db_->Put(options, KeyOf(number), value).ok(), "leveldb put");
   }
+  void Put(uint64_t number, const std::string& value) override { Append(number, value, true); }
+  void Remove(uint64_t first, uint64_t second) override {
+    leveldb::WriteBatch batch;
+    batch.Delete(KeyOf(first));
+    batch.Delete(KeyOf(second));
+    leveldb::WriteOptions options;
+    options.sync = true;
+    Check(db_->Write(options, &batch).ok(), "leveldb write");
+  }
+  std::string Work() const override {
+    return std::to_string(log_.flushes) + " flushes, " + std::to_string(log_.compactions) + " compactions";
+  }
   uint64_t ReadAll() override {
     uint64_t many = 0;
     std::unique_ptr<leveldb::Iterator> it(db_->NewIterator(leveldb::ReadOptions()));
@@ -160,16 +203,26 @@ class LevelDb : public System {
   }
 
  private:
+  LevelDbLog log_;
   std::unique_ptr<leveldb::DB> db_;
 };
 #endif
 
 #ifdef WITH_ROCKSDB
+// Counts what RocksDB tells of its own work.
+class RocksDbWork : public rocksdb::EventListener {
+ public:
+  void OnFlushCompleted(rocksdb::DB*, const rocksdb::FlushJobInfo&) override { ++flushes; }
+  void OnCompactionCompleted(rocksdb::DB*, const rocksdb::CompactionJobInfo&) override { ++compactions; }
+  std::atomic<int> flushes{0}, compactions{0};
+};
+
 class RocksDb : public System {
  public:
   void Open(const std::string& dir) override {
     rocksdb::Options options;
     options.create_if_missing = true;
+    options.listeners.push_back(work_);
     rocksdb::DB* db = nullptr;
     Check(rocksdb::DB::Open(options, dir, &db).ok(), "rocksdb open");
     db_.reset(db);
@@ -179,6 +232,18 @@ class RocksDb : public System {
     options.sync = durable;
     Check(db_->Put(options, KeyOf(number), value).ok(), "rocksdb put");
   }
+  void Put(uint64_t number, const std::string& value) override { Append(number, value, true); }
+  void Remove(uint64_t first, uint64_t second) override {
+    rocksdb::WriteBatch batch;
+    batch.Delete(KeyOf(first));
+    batch.Delete(KeyOf(second));
+    rocksdb::WriteOptions options;
+    options.sync = true;
+    Check(db_->Write(options, &batch).ok(), "rocksdb write");
+  }
+  std::string Work() const override {
+    return std::to_string(work_->flushes) + " flushes, " + std::to_string(work_->compactions) + " compactions";
+  }
   uint64_t ReadAll() override {
     uint64_t many = 0;
     std::unique_ptr<rocksdb::Iterator> it(db_->NewIterator(rocksdb::ReadOptions()));
@@ -187,6 +252,7 @@ class RocksDb : public System {
   }
 
  private:
+  std::shared_ptr<RocksDbWork> work_ = std::make_shared<RocksDbWork>();
   std::unique_ptr<rocksdb::DB> db_;
 };
 #endif
@@ -196,6 +262,8 @@ class Sqlite : public System {
  public:
   ~Sqlite() override {
     sqlite3_finalize(insert_);
+    sqlite3_finalize(replace_);
+    sqlite3_finalize(remove_);
     sqlite3_close(db_);
   }
   void Open(const std::string& dir) override {
@@ -203,18 +271,27 @@ class Sqlite : public System {
     Do("PRAGMA journal_mode=WAL");
     Do("PRAGMA synchronous=FULL");
     Do("CREATE TABLE IF NOT EXISTS ops (number INTEGER PRIMARY KEY, op BLOB NOT NULL)");
-    Check(sqlite3_prepare_v2(db_, "INSERT INTO ops VALUES (?, ?)", -1, &insert_, nullptr) == SQLITE_OK, "sqlite");
+    Prepare("INSERT INTO ops VALUES (?, ?)", &insert_);
+    Prepare("INSERT OR REPLACE INTO ops VALUES (?, ?)", &replace_);
+    Prepare("DELETE FROM ops WHERE number IN (?, ?)", &remove_);
+    // What sqlite3_wal_autocheckpoint does by itself, counted.
+    sqlite3_wal_hook(db_, Checkpoint, this);
   }
   void Append(uint64_t number, const std::string& value, bool durable) override {
     if (!durable && !batch_) {
       Do("BEGIN");
       batch_ = true;
     }
-    sqlite3_bind_int64(insert_, 1, static_cast<sqlite3_int64>(number));
-    sqlite3_bind_blob(insert_, 2, value.data(), static_cast<int>(value.size()), SQLITE_STATIC);
-    Check(sqlite3_step(insert_) == SQLITE_DONE, "sqlite insert");
-    sqlite3_reset(insert_);
+    Keep(insert_, number, value);
   }
+  void Put(uint64_t number, const std::string& value) override { Keep(replace_, number, value); }
+  void Remove(uint64_t first, uint64_t second) override {
+    sqlite3_bind_int64(remove_, 1, static_cast<sqlite3_int64>(first));
+    sqlite3_bind_int64(remove_, 2, static_cast<sqlite3_int64>(second));
+    Check(sqlite3_step(remove_) == SQLITE_DONE, "sqlite delete");
+    sqlite3_reset(remove_);
+  }
+  std::string Work() const override { return std::to_string(checkpoints_) + " checkpoints"; }
   void Sync() override {
     if (batch_) Do("COMMIT");
     batch_ = false;
@@ -231,10 +308,29 @@ class Sqlite : public System {
   }
 
  private:
+  // The pages after which the log is copied into the database, as sqlite3.h has it by itself.
+  static constexpr int kMostPages = 1000;
+  static int Checkpoint(void* self, sqlite3* db, const char* name, int pages) {
+    if (pages < kMostPages) return SQLITE_OK;
+    ++static_cast<Sqlite*>(self)->checkpoints_;
+    return sqlite3_wal_checkpoint(db, name);
+  }
   void Do(const char* what) { Check(sqlite3_exec(db_, what, nullptr, nullptr, nullptr) == SQLITE_OK, what); }
+  void Prepare(const char* what, sqlite3_stmt** statement) {
+    Check(sqlite3_prepare_v2(db_, what, -1, statement, nullptr) == SQLITE_OK, what);
+  }
+  void Keep(sqlite3_stmt* statement, uint64_t number, const std::string& value) {
+    sqlite3_bind_int64(statement, 1, static_cast<sqlite3_int64>(number));
+    sqlite3_bind_blob(statement, 2, value.data(), static_cast<int>(value.size()), SQLITE_STATIC);
+    Check(sqlite3_step(statement) == SQLITE_DONE, "sqlite insert");
+    sqlite3_reset(statement);
+  }
   sqlite3* db_ = nullptr;
   sqlite3_stmt* insert_ = nullptr;
+  sqlite3_stmt* replace_ = nullptr;
+  sqlite3_stmt* remove_ = nullptr;
   bool batch_ = false;
+  int checkpoints_ = 0;
 };
 #endif
 
@@ -253,11 +349,22 @@ class Lmdb : public System {
   }
   void Append(uint64_t number, const std::string& value, bool durable) override {
     if (!txn_) Check(mdb_txn_begin(env_, nullptr, 0, &txn_) == 0, "lmdb");
-    std::string key = KeyOf(number);
-    MDB_val k{key.size(), key.data()};
-    MDB_val v{value.size(), const_cast<char*>(value.data())};
-    Check(mdb_put(txn_, dbi_, &k, &v, MDB_APPEND) == 0, "lmdb put");
+    Keep(number, value, MDB_APPEND);
     if (durable) Sync();
+  }
+  void Put(uint64_t number, const std::string& value) override {
+    Check(mdb_txn_begin(env_, nullptr, 0, &txn_) == 0, "lmdb");
+    Keep(number, value, 0);
+    Sync();
+  }
+  void Remove(uint64_t first, uint64_t second) override {
+    Check(mdb_txn_begin(env_, nullptr, 0, &txn_) == 0, "lmdb");
+    for (uint64_t number : {first, second}) {
+      std::string key = KeyOf(number);
+      MDB_val k{key.size(), key.data()};
+      Check(mdb_del(txn_, dbi_, &k, nullptr) == 0, "lmdb delete");
+    }
+    Sync();
   }
   void Sync() override {
     if (txn_) Check(mdb_txn_commit(txn_) == 0, "lmdb commit");
@@ -277,6 +384,12 @@ class Lmdb : public System {
   }
 
  private:
+  void Keep(uint64_t number, const std::string& value, unsigned flags) {
+    std::string key = KeyOf(number);
+    MDB_val k{key.size(), key.data()};
+    MDB_val v{value.size(), const_cast<char*>(value.data())};
+    Check(mdb_put(txn_, dbi_, &k, &v, flags) == 0, "lmdb put");
+  }
   MDB_env* env_ = nullptr;
   MDB_dbi dbi_ = 0;
   MDB_txn* txn_ = nullptr;
@@ -343,6 +456,37 @@ void Append(const std::string& name, const std::string& dir, uint64_t jobs) {
   for (const Time& time : times) std::printf("%s %lld\n", time.word, time.nanos);
 }
 
+// The numbers of the Epoch, of a job and of its end.
+constexpr uint64_t kEpoch = 1;
+constexpr uint64_t JobOf(uint64_t job) { return 2 * job + 2; }
+constexpr uint64_t EndOf(uint64_t job) { return 2 * job + 3; }
+
+// The sizes of the frames of a job, of its end and of an Epoch in rm_bench.
+constexpr size_t kJobSize = 120, kEndSize = 16, kEpochSize = 13;
+
+void Pauses(const std::string& name, const std::string& dir, uint64_t live, uint64_t cycles) {
+  std::unique_ptr<System> system = SystemOf(name);
+  system->Open(dir);
+  for (uint64_t job = 0; job < live; ++job) system->Put(JobOf(job), ValueOf(job, kJobSize));
+  std::vector<long long> times;
+  times.reserve(cycles * 4);
+  auto timed = [&times](auto work) {
+    Clock::time_point since = Clock::now();
+    work();
+    times.push_back(NanosSince(since));
+  };
+  for (uint64_t cycle = 0; cycle < cycles; ++cycle) {
+    const uint64_t job = live + cycle;
+    const std::string value = ValueOf(job, kJobSize), end = ValueOf(job, kEndSize), epoch = ValueOf(cycle, kEpochSize);
+    timed([&] { system->Put(JobOf(job), value); });
+    timed([&] { system->Put(EndOf(job), end); });
+    timed([&] { system->Remove(JobOf(job), EndOf(job)); });
+    timed([&] { system->Put(kEpoch, epoch); });
+  }
+  for (long long time : times) std::printf("%lld\n", time);
+  std::fprintf(stderr, "%s\n", system->Work().c_str());
+}
+
 void Make(const std::string& name, const std::string& dir, uint64_t jobs) {
   std::unique_ptr<System> system = SystemOf(name);
   system->Open(dir);
@@ -383,13 +527,15 @@ int main(int argc, char** argv) {
     Append(argv[2], argv[3], std::strtoull(argv[4], nullptr, 10));
   } else if (word == "make" && argc == 5) {
     Make(argv[2], argv[3], std::strtoull(argv[4], nullptr, 10));
+  } else if (word == "pauses" && argc == 6) {
+    Pauses(argv[2], argv[3], std::strtoull(argv[4], nullptr, 10), std::strtoull(argv[5], nullptr, 10));
   } else if (word == "open" && argc == 5) {
     g_keeps = std::strcmp(argv[4], "keep") == 0;
     Open(argv[2], argv[3]);
   } else if (word == "evict") {
     for (int i = 2; i < argc; ++i) Evict(argv[i]);
   } else {
-    Stop("list | append SYSTEM DIR JOBS | make SYSTEM DIR JOBS | open SYSTEM DIR look|keep | evict PATH..");
+    Stop("list | append SYSTEM DIR JOBS | make SYSTEM DIR JOBS | pauses SYSTEM DIR JOBS CYCLES | open SYSTEM DIR look|keep | evict PATH..");
   }
   return 0;
 }

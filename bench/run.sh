@@ -12,22 +12,28 @@
 #    store keeps it, or only looked at.
 # 3. Appends over more than 100 changes of area, in memory where the system has such a folder, so that a sync costs nothing: over
 #    100, 1,000 and 10,000 jobs that go on, another job, its end, its removal and an Epoch again and again. Median, 99th percentile and the
-#    worst, which are those that write an area anew. A last line has 20 changes over 16,500 jobs in the folder itself.
+#    worst, which are those that write an area anew; and the same appends to the other stores, each durable by its own sync, with the flushes,
+#    compactions or checkpoints that it tells of. A last line has 20 changes over 16,500 jobs in the folder itself.
 #
-# It builds crates/rm_bench by `rt run`, and bench/peers.cc by g++. It installs nothing: on Debian the other stores are
+# It builds crates/rm_bench by `rt run`, or takes a built one that PROGRAM in the environment names, and bench/peers.cc by g++. It
+# installs nothing: on Debian the other stores are
 #
 #   apt-get install g++ libleveldb-dev librocksdb-dev libsqlite3-dev liblmdb-dev
 #
 # and one that isn't there is left out and named. ROUNDS and JOBS in the environment are how many rounds there are, and how
-# many jobs, of four operations each, are appended in one.
+# many jobs, of four operations each, are appended in one; TABLES names those of the tables append, open and pauses that are made, and
+# CHANGES how many changes of area the third one has.
 set -euo pipefail
 
 rounds=${ROUNDS:-7}
 jobs=${JOBS:-125}
+tables=${TABLES:-append open pauses}
+changes=${CHANGES:-100}
 here=$(cd "$(dirname "$0")/.." && pwd)
 folder=$(mktemp -d "${1:-$PWD}/run.XXXXXX")
-trap 'rm -rf "$folder"' EXIT
-ours=$here/crates/rm_bench/out/rm_bench
+memory= # a folder in memory
+trap 'rm -rf "$folder" "$memory"' EXIT
+ours=${PROGRAM:-$here/crates/rm_bench/out/rm_bench}
 peers=$folder/peers
 
 # Whether a header is there.
@@ -35,10 +41,10 @@ has() { echo "#include <$1>" | g++ -E -x c++ - > /dev/null 2>&1; }
 
 build() {
   local tool
-  for tool in rt g++ shuf findmnt; do
+  for tool in g++ shuf findmnt; do
     command -v "$tool" > /dev/null || { echo "not there: $tool" >&2; exit 1; }
   done
-  (cd "$here/crates/rm_bench" && rt run > /dev/null 2>&1) || { echo "rm_bench was not built" >&2; exit 1; }
+  [ -n "${PROGRAM:-}" ] || (cd "$here/crates/rm_bench" && rt run > /dev/null 2>&1) || { echo "rm_bench was not built" >&2; exit 1; }
   local flags=() libraries=()
   if has leveldb/db.h; then flags+=(-DWITH_LEVELDB); libraries+=(-lleveldb); else echo "not there: LevelDB"; fi
   if has rocksdb/db.h; then flags+=(-DWITH_ROCKSDB); libraries+=(-lrocksdb); else echo "not there: RocksDB"; fi
@@ -138,27 +144,40 @@ open_table() {
   done
 }
 
-# Appends over so many jobs that go on, in a folder, until so many areas are full: a line of the table. A job takes 125 bytes, its end
-# 21, a removal and an Epoch 18 each, of half of 4 MiB less a generation and an Epoch.
+# Whether a table is to be made.
+wants() { [[ " $tables " == *" $1 "* ]]; }
+
+# Appends over so many jobs that go on, in a folder, until so many areas of this store are full: a line of the table. A job takes 125
+# bytes, its end 21, a removal and an Epoch 18 each, of half of 4 MiB less a generation and an Epoch.
 pauses_of() {
-  local place=$1 live=$2 changes=$3 name=$4 cycles
-  cycles=$(((2097152 - 13 - 18 - 125 * live) * changes / 182))
-  rm -f "$place/store"
-  "$ours" pauses "$place/store" "$live" "$cycles" | sort -n | awk -v live="$live" -v changes="$changes" -v name="$name" '
+  local place=$1 system=$2 live=$3 many=$4 name=$5 cycles data
+  cycles=$(((2097152 - 13 - 18 - 125 * live) * many / 182))
+  data=$place/data
+  rm -rf "$data"
+  mkdir "$data"
+  if [ "$system" = yewendro ]; then
+    echo "$many changes of area" > "$folder/work"
+    "$ours" pauses "$data/store" "$live" "$cycles"
+  else
+    "$peers" pauses "$system" "$data" "$live" "$cycles" 2> "$folder/work"
+  fi > "$folder/times"
+  sort -n "$folder/times" | awk -v name_of_system="$system" -v live="$live" -v work="$(cat "$folder/work")" -v name="$name" '
     {value[NR] = $1}
-    END {printf "| %s | %d | %d | %d | %.1f | %.1f | %.1f |\n", name, live, NR, changes,
+    END {printf "| %s | %s | %d | %d | %s | %.1f | %.1f | %.1f |\n", name, name_of_system, live, NR, work,
       value[int((NR + 1) / 2)] / 1e3, value[int(NR * 0.99 + 0.5)] / 1e3, value[NR] / 1e6}'
-  rm -f "$place/store"
+  rm -rf "$data"
 }
 
 pause_table() {
-  local memory=$folder live
+  local live system
+  memory=$folder
   if [ -w /dev/shm ]; then memory=$(mktemp -d /dev/shm/run.XXXXXX); fi
-  echo "| where | jobs that go on | appends | changes of area | median µs | p99 µs | worst ms |"
-  echo "|---|---|---|---|---|---|---|"
-  for live in 100 1000 10000; do pauses_of "$memory" "$live" 100 memory; done
-  [ "$memory" = "$folder" ] || rm -rf "$memory"
-  pauses_of "$folder" 16500 20 folder
+  echo "| where | system | jobs that go on | appends | its own work | median µs | p99 µs | worst ms |"
+  echo "|---|---|---|---|---|---|---|---|"
+  for live in 100 1000 10000; do
+    for system in "${systems[@]}"; do pauses_of "$memory" "$system" "$live" "$changes" memory; done
+  done
+  pauses_of "$folder" yewendro 16500 20 folder
 }
 
 machine() {
@@ -166,7 +185,7 @@ machine() {
   echo "- $(findmnt -no FSTYPE,SOURCE -T "$folder" | awk 'END {print $1 " on " $2}')"
   echo "- $(rt version | head -n 1); $("$peers" list | paste -sd, | sed 's/,/, /g')"
   echo "- load before: $load; after: $(cut -d' ' -f1-3 /proc/loadavg)"
-  echo "- $rounds rounds of $((jobs * 4)) appends; each opening $rounds times"
+  if wants append || wants open; then echo "- $rounds rounds of $((jobs * 4)) appends; each opening $rounds times"; fi
 }
 
 build
@@ -181,27 +200,39 @@ for system in "${systems[@]}"; do
 done
 operations=(app attempt-end)
 
-for ((round = 0; round < rounds; round++)); do
-  for system in $(printf '%s\n' "${appenders[@]}" | shuf); do append_round "$system"; done
-done
+if wants append; then
+  for ((round = 0; round < rounds; round++)); do
+    for system in $(printf '%s\n' "${appenders[@]}" | shuf); do append_round "$system"; done
+  done
+fi
 
 cases=()
-for many in 250 2500 4000; do
-  for system in "${systems[@]}"; do make_store "$system" "$many"; done
-  for opener in "${openers[@]}"; do cases+=("$opener $many warm" "$opener $many cold"); done
-done
-for ((round = 0; round < rounds; round++)); do
-  while read -r system what many how; do open_round "$system" "$what" "$many" "$how"; done < <(printf '%s\n' "${cases[@]}" | shuf)
-done
+if wants open; then
+  for many in 250 2500 4000; do
+    for system in "${systems[@]}"; do make_store "$system" "$many"; done
+    for opener in "${openers[@]}"; do cases+=("$opener $many warm" "$opener $many cold"); done
+  done
+  for ((round = 0; round < rounds; round++)); do
+    while read -r system what many how; do open_round "$system" "$what" "$many" "$how"; done < <(printf '%s\n' "${cases[@]}" | shuf)
+  done
+fi
+
+if wants pauses; then pause_table > "$folder/pauses"; fi
 
 machine
-echo
-append_table
-echo
-echo "Nanoseconds for each operation, of an opening:"
-echo
-open_table
-echo
-echo "Appends over changes of area:"
-echo
-pause_table
+if wants append; then
+  echo
+  append_table
+fi
+if wants open; then
+  echo
+  echo "Nanoseconds for each operation, of an opening:"
+  echo
+  open_table
+fi
+if wants pauses; then
+  echo
+  echo "Appends over changes of area, and the same to the other stores:"
+  echo
+  cat "$folder/pauses"
+fi
