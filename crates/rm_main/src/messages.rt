@@ -115,7 +115,8 @@ fn stop_of(outcome: Outcome) -> Option<Stop> {
     }
 }
 
-/// The same where the output or the run stopped the call. A fault of the device or the store names the device.
+/// The same where the output or the run stopped the call. A fault of the device or the store names the device; at its first byte, where
+/// a store of the form before is at fault, also what makes one of today's of such a store.
 fn write_stop<W: fmt::Write>(
     f: &mut Formatter<W>,
     outcome: Outcome,
@@ -131,6 +132,10 @@ fn write_stop<W: fmt::Write>(
     }
     match stop_of(outcome) {
         Some(stop @ Stop::DiskFault) => write!(f, "{device}: {stop}{cause}"),
+        Some(stop @ Stop::Damaged { offset: 0 }) => write!(
+            f,
+            "{device}: {stop}; if it is a store of one journal, yewendro_tool convert makes one of two areas of it"
+        ),
         Some(stop @ (Stop::Damaged { .. } | Stop::Full { .. })) => write!(f, "{device}: {stop}"),
         Some(stop) => write!(f, "{stop}"),
         None => Ok(()),

@@ -62,6 +62,11 @@ const LINES: &[(Outcome, &str, &str)] = &[
         "yewendro: rm.store: the store is damaged at offset 19",
     ),
     (
+        Outcome::StoreDamaged { offset: 0 },
+        "",
+        "yewendro: rm.store: the store is damaged at offset 0; if it is a store of one journal, yewendro_tool convert makes one of two areas of it",
+    ),
+    (
         Outcome::StoreFull {
             needed: 59,
             room: 4,
