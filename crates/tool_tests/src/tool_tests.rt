@@ -9,8 +9,11 @@ use std::process::Abort;
 
 /// The generation's record, and those of the two operations: the first 89 bytes of the example.
 const GENERATION: &[u8] = b"\x01\0\0\0\x08\0\0\0\0\0\0\0\x01";
+
 const EPOCH: &[u8] = b"\x01\0\0\0\x0d\x01\0\0\0\x01\0\0\x01\x48\x80\x43\x76\x0f";
-const APP: &[u8] = b"\x01\0\0\0\x35\x02\0\0\x01\x48\x80\x43\x76\x0f\0\0\0\x01\0\x05alice\0\x0croot.default\0\x03job\0\0\x04\0\0\0\0\x01\0\0\0\0\0\0";
+
+const APP: &[u8] =
+    b"\x01\0\0\0\x35\x02\0\0\x01\x48\x80\x43\x76\x0f\0\0\0\x01\0\x05alice\0\x0croot.default\0\x03job\0\0\x04\0\0\0\0\x01\0\0\0\0\0\0";
 
 /// What a check tells of it. The sum is that of the two lines of `store`, by `sha256sum`.
 const WHOLE: &str = "form two-areas area=first generation=1
@@ -151,7 +154,14 @@ fn damage_is_told_and_its_front_salvaged(rt: HostRuntime) {
         let bytes = changed(&rt, parts, *place, *byte);
         let again = changed(&rt, parts, *place, *byte);
         let mut disk = new_disk(&rt);
-        tells(&rt, &["check", "old.store"], bytes, &mut disk, *status, checked);
+        tells(
+            &rt,
+            &["check", "old.store"],
+            bytes,
+            &mut disk,
+            *status,
+            checked,
+        );
         let words = ["salvage", "old.store", "new.store"];
         tells(&rt, &words, again, &mut disk, 0, salvaged);
         holds(&rt, &mut disk, "whole\n");
@@ -188,7 +198,8 @@ fn a_cut_store_is_salvaged(rt: HostRuntime) {
     let bytes = bytes_of(&rt, &[GENERATION, EPOCH, APP], 60);
     let mut disk = new_disk(&rt);
     let words = ["salvage", "old.store", "new.store"];
-    let want = "salvaged operations=1 written=1\nstopped the record at byte 31 is that of no operation\n";
+    let want =
+        "salvaged operations=1 written=1\nstopped the record at byte 31 is that of no operation\n";
     tells(&rt, &words, bytes, &mut disk, 0, want);
 }
 
