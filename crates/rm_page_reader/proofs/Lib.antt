@@ -1,0 +1,2 @@
+pub mod MessageRanges
+pub mod Fronts

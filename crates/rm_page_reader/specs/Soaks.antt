@@ -1,0 +1,15 @@
+-- The line of a soak, by its numbers. `soak_line` of `rm_soak` is this line for the counts of a log. This project's own.
+use Rattle.std.specs.Prelude.{ℕ, List, ◌++◌, codes}
+use Rattle.std.specs.Fmt.{decimal}
+use Rattle.rm_page_reader.specs.declared.soaks.SoakLine.{SoakLine}
+
+-- a soak's line with these numbers
+abbrev pub soak_text : SoakLine → List ℕ
+soak_text soak =
+    codes "soak " ++ decimal soak.apps
+    ++ codes " lives=" ++ decimal soak.lives
+    ++ codes " served=" ++ decimal soak.served
+    ++ codes " grants=" ++ decimal soak.grants
+    ++ codes " finished=" ++ decimal soak.finished
+    ++ codes " kept=" ++ decimal soak.kept
+    ++ codes "\n"

@@ -1,0 +1,26 @@
+//! Reading a page: the entries that its lines tell, with the moves or without, and the line of a soak.
+//!
+//! It promises that an answer is what the bytes tell: written again by `rm_page`, its log is these bytes, byte for byte; and
+//! that any other log of which they are the page, with the moves or without as here, shows the same (`law_one_reading`). Of
+//! its `specs/`, `Told` says what a page tells, and `Soaks` has the line of a soak.
+//!
+//! It stands on `rm_types` for the values, on `rm_page`, which writes what was read again, on `rm_script`, whose lines
+//! messages are, on `rm_ids` for the texts of ids, and on `itoa` for digits.
+#![tactic(auto)]
+
+mod entries;
+mod errors;
+mod laws;
+mod lists;
+mod messages;
+mod moves;
+mod operations;
+mod pages;
+mod replies;
+mod soaks;
+mod words;
+
+pub use errors::PageError;
+pub use laws::law_one_reading;
+pub use pages::{Page, read_page};
+pub use soaks::SoakLine;

@@ -1,0 +1,93 @@
+-- What a summary counts. This project's own.
+use Rattle.std.specs.Prelude.{ℕ, length}
+use Rattle.rm_types.specs.declared.containers.Cause.TheVariants as causes
+use Rattle.rm_types.specs.declared.entries.Entry.{Entry}
+use Rattle.rm_types.specs.declared.entries.Entry.TheVariants.{Opened, Issued, Kept, Served, Absorbed, Pass, Ended}
+use Rattle.rm_types.specs.declared.operations.How.TheVariants as hows
+use Rattle.rm_types.specs.declared.operations.Op.TheVariants as ops
+use Rattle.rm_formats.specs.Frames.{frame}
+
+-- a life begins
+abbrev pub lives_in : Entry → ℕ
+lives_in (Opened landed epoch stamp) = 1
+lives_in entry = 0
+
+-- a message is answered
+abbrev pub served_in : Entry → ℕ
+served_in (Served sender message reply) = 1
+served_in entry = 0
+
+-- a beat is answered with grants
+abbrev pub passes_in : Entry → ℕ
+passes_in (Pass node grants) = 1
+passes_in entry = 0
+
+-- the containers that are granted
+abbrev pub granted_in : Entry → ℕ
+granted_in (Pass node grants) = length grants
+granted_in entry = 0
+
+-- the containers that are taken in again
+abbrev pub taken_in : Entry → ℕ
+taken_in (Absorbed node taken ended) = length taken
+taken_in entry = 0
+
+-- an operation is issued
+abbrev pub issued_in : Entry → ℕ
+issued_in (Issued op) = 1
+issued_in entry = 0
+
+-- an operation is kept
+abbrev pub kept_in : Entry → ℕ
+kept_in (Kept op) = 1
+kept_in entry = 0
+
+-- the bytes of its frame
+abbrev pub kept_bytes_in : Entry → ℕ
+kept_bytes_in (Kept op) = length (frame op)
+kept_bytes_in entry = 0
+
+-- a submission is kept
+abbrev pub jobs_in : Entry → ℕ
+jobs_in (Kept (ops.App id submission)) = 1
+jobs_in entry = 0
+
+-- an application is kept as finished, as failed, as killed
+abbrev pub finished_in : Entry → ℕ
+finished_in (Kept (ops.AppEnd id hows.Finished text)) = 1
+finished_in entry = 0
+
+abbrev pub failed_in : Entry → ℕ
+failed_in (Kept (ops.AppEnd id hows.Failed text)) = 1
+failed_in entry = 0
+
+abbrev pub killed_in : Entry → ℕ
+killed_in (Kept (ops.AppEnd id hows.Killed text)) = 1
+killed_in entry = 0
+
+-- it is kept that an application is forgotten
+abbrev pub removed_in : Entry → ℕ
+removed_in (Kept (ops.Remove id)) = 1
+removed_in entry = 0
+
+-- the containers that end, by their cause; those that an absorption ends are gone
+abbrev pub done_in : Entry → ℕ
+done_in (Ended causes.Done list) = length list
+done_in entry = 0
+
+abbrev pub released_in : Entry → ℕ
+released_in (Ended causes.Released list) = length list
+released_in entry = 0
+
+abbrev pub lost_in : Entry → ℕ
+lost_in (Ended causes.Node list) = length list
+lost_in entry = 0
+
+abbrev pub over_in : Entry → ℕ
+over_in (Ended causes.Attempt list) = length list
+over_in entry = 0
+
+abbrev pub gone_in : Entry → ℕ
+gone_in (Ended causes.Gone list) = length list
+gone_in (Absorbed node taken ended) = length ended
+gone_in entry = 0
