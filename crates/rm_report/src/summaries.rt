@@ -8,13 +8,12 @@ use crate::counting::{
     Done, Failed, Finished, Gone, Granted, Issued, Jobs, Kept, Killed, Lives, Lost, Over, Passes,
     Released, Removed, Served, Taken, total,
 };
-use crate::errors::ReportError;
 use crate::lives::put_lives;
 use crate::longest::longest;
 use crate::sheet::Sheet;
 use crate::tallies::{Answers, Denials, put_tally};
 use rm_frame::Encoder;
-use rm_page_reader::{Page, SoakLine, read_page};
+use rm_page_reader::{Page, PageError, SoakLine, read_page};
 use rm_types::{Entry, NoMemory};
 use std::alloc::Global;
 
@@ -24,7 +23,7 @@ use std::alloc::Global;
 ///
 /// `NotAPage` names the first line that is none of a page, and `Memory` may come of any bytes.
 #[tactic(auto, using(crate::proofs::ToldRanges::told_ranges))]
-pub fn summary(alloc: Global, page: &[u8]) -> Result<Vec<u8>, ReportError> {
+pub fn summary(alloc: Global, page: &[u8]) -> Result<Vec<u8>, PageError> {
     let page = read_page(alloc, page)?;
     let mut sheet = Sheet::new(alloc);
     put_summary(alloc, &mut sheet, &page)?;

@@ -6,14 +6,16 @@ use Rattle.rm_disk.specs.Disk.{DiskView}
 use Rattle.rm_outside.specs.declared.writes.Written.{Written}
 use Rattle.rm_outside.specs.declared.writes.Written.TheVariants as written
 use Rattle.rm_tool.specs.declared.outcomes.ToolOutcome.{ToolOutcome}
-use Rattle.rm_tool.specs.declared.outcomes.ToolOutcome.TheVariants.{Done, Usage, ReadFault, WriteFault, OtherLength, OtherForm, Faulty, DiskFault, NotNew, Full, Memory}
+use Rattle.rm_tool.specs.declared.outcomes.ToolOutcome.TheVariants.{Done, Usage, ReadFault, WriteFault, OtherLength, OtherForm, Faulty, DiskFault, NotNew, Full, NotAPage, NotAnId, Memory}
 use Rattle.rm_salvage.specs.declared.checks.Fault.{Fault}
 use Rattle.rm_salvage.specs.declared.forms.Form.{Form}
 use Rattle.rm_salvage.specs.Checks.{IsFault, IsWhole}
 use Rattle.rm_salvage.specs.Forms.{IsForm}
-use Rattle.rm_tool.specs.Outcomes.{IsBeforePage, after_page, of_fault}
-use Rattle.rm_tool.specs.Runs.{Checks, Comes, Told, WereRead}
-use Rattle.rm_tool.specs.Words.{Asked, Check, Convert, Salvage}
+use Rattle.rm_report.specs.declared.errors.ReportError.{ReportError}
+use Rattle.rm_report.specs.declared.errors.ReportError.TheVariants as reports
+use Rattle.rm_tool.specs.Outcomes.{IsBeforePage, after_page, of_fault, of_report}
+use Rattle.rm_tool.specs.Runs.{Checks, Comes, IsUnread, Told, WereRead}
+use Rattle.rm_tool.specs.Words.{Asked, Check, Convert, Salvage, Summary, Follow, Draw}
 
 pub comes_after : (told : Told) (asked : Asked) (new : DiskView) (outcome : ToolOutcome) (w : Written) → Comes told (Some asked) new outcome → Comes told (Some asked) new (after_page outcome w)
 comes_after told asked new outcome written.All comes = comes
@@ -26,6 +28,15 @@ comes_after told (Convert old target) new outcome written.Memory comes = tt
 comes_after told (Salvage file target) new outcome written.Fault comes = tt
 comes_after told (Salvage file target) new outcome written.Nothing comes = tt
 comes_after told (Salvage file target) new outcome written.Memory comes = tt
+comes_after told (Summary page) new outcome written.Fault comes = tt
+comes_after told (Summary page) new outcome written.Nothing comes = tt
+comes_after told (Summary page) new outcome written.Memory comes = tt
+comes_after told (Follow page id) new outcome written.Fault comes = tt
+comes_after told (Follow page id) new outcome written.Nothing comes = tt
+comes_after told (Follow page id) new outcome written.Memory comes = tt
+comes_after told (Draw page) new outcome written.Fault comes = tt
+comes_after told (Draw page) new outcome written.Nothing comes = tt
+comes_after told (Draw page) new outcome written.Memory comes = tt
 
 pub read_before : (outcome : ToolOutcome) (w : Written) → after_page outcome w ≡ ReadFault → outcome ≡ ReadFault
 read_before outcome written.All is = is
@@ -39,6 +50,35 @@ disk_before outcome written.Fault is = cc
 disk_before outcome written.Nothing is = cc
 disk_before outcome written.Memory is = cc
 
+-- a call that is Done wrote its page whole
+pub done_before : (outcome : ToolOutcome) (w : Written) → after_page outcome w ≡ Done → (outcome ≡ Done) × (w ≡ written.All)
+done_before outcome written.All is = (is, refl)
+done_before outcome written.Fault is = cc
+done_before outcome written.Nothing is = cc
+done_before outcome written.Memory is = cc
+
+-- a call whose file was not read is not Done
+pub unread_not_done : (outcome : ToolOutcome) → IsUnread outcome → outcome ≡ Done → ⊥
+unread_not_done Done unread is = unread
+unread_not_done Usage unread is = unread
+unread_not_done ReadFault unread is = cc
+unread_not_done (WriteFault took_nothing) unread is = unread
+unread_not_done (OtherLength many) unread is = unread
+unread_not_done OtherForm unread is = unread
+unread_not_done (Faulty fault) unread is = unread
+unread_not_done DiskFault unread is = unread
+unread_not_done NotNew unread is = unread
+unread_not_done (Full size) unread is = unread
+unread_not_done (NotAPage line) unread is = unread
+unread_not_done NotAnId unread is = unread
+unread_not_done Memory unread is = cc
+
+-- nor is one whose report was not made
+pub report_not_done : (error : ReportError) → of_report error ≡ Done → ⊥
+report_not_done (reports.NotAPage line) is = cc
+report_not_done reports.NotAnId is = cc
+report_not_done reports.Memory is = cc
+
 -- before its page no outcome is a fault of the output
 no_write : (outcome : ToolOutcome) (took_nothing : Bool) → IsBeforePage outcome → outcome ≡ WriteFault took_nothing → ⊥
 no_write (WriteFault took) took_nothing before is = before
@@ -51,6 +91,8 @@ no_write (Faulty fault) took_nothing before is = cc
 no_write DiskFault took_nothing before is = cc
 no_write NotNew took_nothing before is = cc
 no_write (Full size) took_nothing before is = cc
+no_write (NotAPage line) took_nothing before is = cc
+no_write NotAnId took_nothing before is = cc
 no_write Memory took_nothing before is = cc
 
 pub fault_before : (outcome : ToolOutcome) (w : Written) → IsBeforePage outcome → after_page outcome w ≡ WriteFault false → w ≡ written.Fault

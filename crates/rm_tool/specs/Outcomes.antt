@@ -5,8 +5,12 @@ use Rattle.rm_outside.specs.declared.writes.Written.{Written}
 use Rattle.rm_outside.specs.declared.writes.Written.TheVariants as written
 use Rattle.rm_salvage.specs.declared.errors.WriteError.{WriteError}
 use Rattle.rm_salvage.specs.declared.errors.WriteError.TheVariants as errors
+use Rattle.rm_page_reader.specs.declared.errors.PageError.{PageError}
+use Rattle.rm_page_reader.specs.declared.errors.PageError.TheVariants as pages
+use Rattle.rm_report.specs.declared.errors.ReportError.{ReportError}
+use Rattle.rm_report.specs.declared.errors.ReportError.TheVariants as reports
 use Rattle.rm_tool.specs.declared.outcomes.ToolOutcome.{ToolOutcome}
-use Rattle.rm_tool.specs.declared.outcomes.ToolOutcome.TheVariants.{Done, Usage, ReadFault, WriteFault, OtherLength, OtherForm, Faulty, DiskFault, NotNew, Full, Memory}
+use Rattle.rm_tool.specs.declared.outcomes.ToolOutcome.TheVariants.{Done, Usage, ReadFault, WriteFault, OtherLength, OtherForm, Faulty, DiskFault, NotNew, Full, NotAPage, NotAnId, Memory}
 
 -- the status with which the tool ends
 abbrev pub status_of : ToolOutcome → ℕ
@@ -20,6 +24,8 @@ status_of (Faulty fault) = 8
 status_of DiskFault = 7
 status_of NotNew = 7
 status_of (Full size) = 9
+status_of (NotAPage line) = 5
+status_of NotAnId = 1
 status_of Memory = 11
 
 -- what a call came to whose store was not written
@@ -29,6 +35,17 @@ of_write (errors.Damaged offset) = NotNew
 of_write errors.Used = NotNew
 of_write (errors.Full size) = Full size
 of_write errors.Memory = Memory
+
+-- what a call came to whose page was not read
+abbrev pub of_page : PageError → ToolOutcome
+of_page (pages.NotAPage line) = NotAPage line
+of_page pages.Memory = Memory
+
+-- what a call came to whose report was not made
+abbrev pub of_report : ReportError → ToolOutcome
+of_report (reports.NotAPage line) = NotAPage line
+of_report reports.NotAnId = NotAnId
+of_report reports.Memory = Memory
 
 -- what a call comes to behind its page, which was written so
 abbrev pub after_page : ToolOutcome → Written → ToolOutcome

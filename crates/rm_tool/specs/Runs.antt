@@ -3,6 +3,10 @@ use Rattle.std.specs.Prelude.{◌≡◌, ◌⊎◌, ◌+◌, ◌-◌, ℕ, List,
 use Rattle.rm_types.specs.declared.operations.Op.{Op}
 use Rattle.rm_types.specs.Folded.{folded}
 use Rattle.rm_disk.specs.Disk.{DiskView}
+use Rattle.std.specs.Io.KnownBytes.{Appends}
+use Rattle.rm_types.specs.Ranges.{IsText}
+use Rattle.rm_types.specs.declared.texts.TextKind.TheVariants as kinds
+use Rattle.rm_report.specs.Following.{IsFollowed}
 use Rattle.rm_outside.specs.Shelves.{bytes_read}
 use Rattle.rm_salvage.specs.declared.checks.Fault.{Fault}
 use Rattle.rm_salvage.specs.declared.forms.Form.{Form}
@@ -13,9 +17,9 @@ use Rattle.rm_salvage.specs.Fronts.{IsFront, IsLongest, IsStop}
 use Rattle.rm_salvage.specs.Lists.{left_by}
 use Rattle.rm_salvage.specs.Writes.{HoldsAll, LeavesNoneOrAll}
 use Rattle.rm_tool.specs.declared.outcomes.ToolOutcome.{ToolOutcome}
-use Rattle.rm_tool.specs.declared.outcomes.ToolOutcome.TheVariants.{Done, Usage, ReadFault, WriteFault, OtherLength, OtherForm, Faulty, DiskFault, NotNew, Full, Memory}
+use Rattle.rm_tool.specs.declared.outcomes.ToolOutcome.TheVariants.{Done, Usage, ReadFault, WriteFault, OtherLength, OtherForm, Faulty, DiskFault, NotNew, Full, NotAPage, NotAnId, Memory}
 use Rattle.rm_tool.specs.declared.store_files.TheConstants.{STORE_SIZE}
-use Rattle.rm_tool.specs.Words.{Asked, Check, Convert, Salvage}
+use Rattle.rm_tool.specs.Words.{Asked, Check, Convert, Salvage, Summary, Follow, Draw}
 
 -- what a shelf tells of each name
 abbrev pub Told : Type 0
@@ -79,6 +83,8 @@ Checks told OtherForm = ⊥
 Checks told DiskFault = ⊥
 Checks told NotNew = ⊥
 Checks told (Full size) = ⊥
+Checks told (NotAPage line) = ⊥
+Checks told NotAnId = ⊥
 
 -- the file is a whole store of the old form, and the new disk holds what is left of its operations
 pub record IsConverted (told : Option (List ℕ)) (new : DiskView) : Type 0 where
@@ -107,6 +113,8 @@ Converts told new OtherForm = IsOtherForm told
 Converts told new (Faulty fault) = IsFaultyOld told fault
 Converts told new (OtherLength many) = HasOtherLength told many
 Converts told new Usage = ⊥
+Converts told new (NotAPage line) = ⊥
+Converts told new NotAnId = ⊥
 Converts told new _ = Unit {0}
 
 -- what can be read of the file, brought to the size of a store, from the first operation on: the longest front, and why it ends; and the new disk holds it
@@ -131,7 +139,23 @@ Salvages told new Usage = ⊥
 Salvages told new OtherForm = ⊥
 Salvages told new (Faulty fault) = ⊥
 Salvages told new (OtherLength many) = ⊥
+Salvages told new (NotAPage line) = ⊥
+Salvages told new NotAnId = ⊥
 Salvages told new _ = Unit {0}
+
+-- what a report of a page comes to
+abbrev pub Reports : ToolOutcome → Type 0
+Reports Done = Unit {0}
+Reports ReadFault = Unit {0}
+Reports (WriteFault took_nothing) = Unit {0}
+Reports (NotAPage line) = Unit {0}
+Reports Memory = Unit {0}
+Reports _ = ⊥
+
+-- the same where it is of an id: it is refused only where it is no id and can't be a node's name
+abbrev pub Follows : List ℕ → ToolOutcome → Type 0
+Follows id NotAnId = IsText kinds.Node id → ⊥
+Follows id outcome = Reports outcome
 
 -- what a call comes to, by what was asked for
 abbrev pub Comes : Told → Option Asked → DiskView → ToolOutcome → Type 0
@@ -139,3 +163,22 @@ Comes told None new outcome = (outcome ≡ Usage) ⊎ (outcome ≡ Memory)
 Comes told (Some (Check file)) new outcome = Checks (told file) outcome
 Comes told (Some (Convert old target)) new outcome = Converts (told old) new outcome
 Comes told (Some (Salvage file target)) new outcome = Salvages (told file) new outcome
+Comes told (Some (Summary page)) new outcome = Reports outcome
+Comes told (Some (Follow page id)) new outcome = Follows id outcome
+Comes told (Some (Draw page)) new outcome = Reports outcome
+
+-- a text is a report of the page that was read of a file
+pub record IsReport (told : Option (List ℕ)) (IsOf : List ℕ → List ℕ → Type 0) (text : List ℕ) : Type 0 where
+  pub bytes : List ℕ
+  pub read : WereRead told bytes
+  pub is : IsOf bytes text
+
+-- what a call that is Done wrote, by what was asked for: of an id what the page tells of it
+abbrev pub IsWritten : Told → Asked → List ℕ → Type 0
+IsWritten told (Follow page id) text = IsReport (told page) (λ bytes report. IsFollowed bytes id report) text
+IsWritten told _ text = Unit {0}
+
+-- the sink took exactly what was to be written
+abbrev pub Writes : Told → Option Asked → Option (List ℕ) → Option (List ℕ) → Type 0
+Writes told None old new = ⊥
+Writes told (Some asked) old new = (text : List ℕ) × IsWritten told asked text × Appends old new text

@@ -8,8 +8,11 @@ const USAGE: &str = "modes:
   check FILE          says whether the store in the file is whole
   convert OLD NEW     writes a store of the old form, one journal, as one of two areas
   salvage FILE NEW    writes what can be read of a damaged store as a new one
+  summary PAGE        tells in short what a page tells
+  follow PAGE ID      tells the lines of a page that name an application, an attempt, a container or a node
+  draw PAGE           draws the run of a page, as an SVG
 statuses:
-  0 done   1 words   2 a file not read   3 the page not written   7 the new file failed, or is there already
+  0 done   1 words   2 a file not read   3 the page not written   5 no page   7 the new file failed, or is there already
   8 no whole store   9 the operations don't fit   11 out of memory
 manual: docs/OPERATING.md and docs/FORMATS.md";
 

@@ -1,7 +1,9 @@
 ghost use Rattle.std.specs.Prelude.{◌≡◌};
-ghost use Rattle.rm_tool.specs.Outcomes.{after_page, of_fault, of_write, status_of};
+ghost use Rattle.rm_tool.specs.Outcomes.{after_page, of_fault, of_page, of_report, of_write, status_of};
 
 use rm_outside::Written;
+use rm_page_reader::PageError;
+use rm_report::ReportError;
 use rm_salvage::{Fault, WriteError};
 use thiserror::Error;
 
@@ -38,6 +40,12 @@ pub enum ToolOutcome {
     /// The operations don't fit an area of a store, which has so many bytes.
     #[error("the operations don't fit an area of {size} bytes")]
     Full { size: u64 },
+    /// The file is no page: this is its first line that is none of a page.
+    #[error("the file is no page: line {line} is none of a page")]
+    NotAPage { line: u32 },
+    /// The word is no id, and can't be a node's name.
+    #[error("no id of an application, an attempt, a container or a node")]
+    NotAnId,
     /// Out of memory.
     #[error("out of memory")]
     Memory,
@@ -50,8 +58,10 @@ pub fn status_of(outcome: ToolOutcome) -> u8
     match outcome {
         ToolOutcome::Done => 0,
         ToolOutcome::Usage => 1,
+        ToolOutcome::NotAnId => 1,
         ToolOutcome::ReadFault => 2,
         ToolOutcome::WriteFault { .. } => 3,
+        ToolOutcome::NotAPage { .. } => 5,
         ToolOutcome::DiskFault => 7,
         ToolOutcome::NotNew => 7,
         ToolOutcome::OtherLength { .. } => 8,
@@ -72,6 +82,27 @@ pub(crate) fn of_write(error: WriteError) -> ToolOutcome
         WriteError::Used => ToolOutcome::NotNew,
         WriteError::Full { size } => ToolOutcome::Full { size },
         WriteError::Memory => ToolOutcome::Memory,
+    }
+}
+
+/// What a call comes to whose page was not read.
+pub(crate) fn of_page(error: PageError) -> ToolOutcome
+    ensures { result ≡ of_page error }
+{
+    match error {
+        PageError::NotAPage { line } => ToolOutcome::NotAPage { line },
+        PageError::Memory => ToolOutcome::Memory,
+    }
+}
+
+/// What a call comes to whose report was not made.
+pub(crate) fn of_report(error: ReportError) -> ToolOutcome
+    ensures { result ≡ of_report error }
+{
+    match error {
+        ReportError::NotAPage { line } => ToolOutcome::NotAPage { line },
+        ReportError::NotAnId => ToolOutcome::NotAnId,
+        ReportError::Memory => ToolOutcome::Memory,
     }
 }
 

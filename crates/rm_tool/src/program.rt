@@ -4,7 +4,7 @@ use crate::store_files::StoreShelf;
 use crate::tool::top;
 use crate::words::{Mode, mode_of};
 use rm_disk::FileDisk;
-use rm_outside::{OutSink, StandardDescriptors};
+use rm_outside::{FileShelf, OutSink, StandardDescriptors};
 use std::fmt::Display;
 use std::fs::OpenOptions;
 use std::io::ErrorKind;
@@ -56,6 +56,9 @@ fn run_held(rt: HostRuntime) -> ToolOutcome {
         Ok(Some(Mode::Check { file })) => run_check(rt, program, words, file),
         Ok(Some(Mode::Convert { old, new })) => run_new(rt, program, words, old, new),
         Ok(Some(Mode::Salvage { file, new })) => run_new(rt, program, words, file, new),
+        Ok(Some(Mode::Summary { page } | Mode::Follow { page, .. } | Mode::Draw { page })) => {
+            run_report(rt, program, words, page)
+        }
         Ok(None) => {
             tell::<io::Error>(&rt, program, "", ToolOutcome::Usage, None);
             ToolOutcome::Usage
@@ -87,6 +90,22 @@ fn run_check(rt: HostRuntime, program: &str, words: &[String], file: &str) -> To
         ToolOutcome::Done => {}
         ToolOutcome::WriteFault { .. } => tell(&rt, program, file, outcome, sink.last_fault()),
         _ => tell(&rt, program, file, outcome, shelf.last_fault()),
+    }
+    outcome
+}
+
+/// Tells what a page tells.
+fn run_report(rt: HostRuntime, program: &str, words: &[String], page: &str) -> ToolOutcome {
+    let mut shelf = FileShelf::new(rt);
+    let mut sink = OutSink::new(rt);
+    // A report writes no store: this disk is not used, so that its file is not made.
+    let mut unused = FileDisk::new(&rt, "");
+    let outcome = top(rt.alloc(), words, &mut shelf, &mut sink, &mut unused);
+    match outcome {
+        ToolOutcome::Done => {}
+        ToolOutcome::WriteFault { .. } => tell(&rt, program, page, outcome, sink.last_fault()),
+        ToolOutcome::ReadFault => tell(&rt, program, page, outcome, shelf.last_fault()),
+        _ => tell::<io::Error>(&rt, program, page, outcome, None),
     }
     outcome
 }

@@ -1,15 +1,18 @@
 ghost use Rattle.std.specs.Prelude.{◌≡◌, ◌⊎◌, true, false, Err, IfErr, IfOk, Some, map, string_bytes};
 ghost use Rattle.rm_types.specs.Counts.{Rose};
 ghost use Rattle.rm_tool.specs.Outcomes.{IsBeforePage};
-ghost use Rattle.rm_tool.specs.Runs.{Checks, Comes, Converts, IsNotRead, IsUnread, Salvages, WereRead};
+ghost use Rattle.rm_tool.specs.Runs.{Checks, Comes, Converts, Follows, IsNotRead, IsReport, IsUnread, IsWritten, Reports, Salvages, WereRead, Writes};
+ghost use Rattle.rm_report.specs.Following.{IsFollowed};
 ghost use Rattle.rm_tool.specs.Words.{asked, mode_of};
 
-use crate::outcomes::{ToolOutcome, after_page, of_fault, of_write};
+use crate::outcomes::{ToolOutcome, after_page, of_fault, of_page, of_report, of_write};
 use crate::pages::{check_page, convert_page, salvage_page};
 use crate::store_files::{STORE_SIZE, bring_to_size};
 use crate::words::{Mode, mode_of};
+use rm_chart::draw;
 use rm_disk::Disk;
 use rm_outside::{Shelf, ShelfError, Sink, write_all};
+use rm_report::{follow, summary};
 use rm_salvage::{
     ConvertError, FixedDisk, Salvaged, check, kept_operations, old_operations, salvage, write_anew,
 };
@@ -17,14 +20,15 @@ use rm_types::{Items, NoMemory};
 use std::alloc::Global;
 
 /// What the tool does by its words: it reads the named file from the shelf, writes the store that was asked for on the new disk, and then its page
-/// to the sink.
+/// to the sink; or what was asked for of a page.
 ///
 /// - `comes`: `Usage` comes exactly where the words are of another form, unless it is `Memory`. A check is `Done` only where the file is a whole
 ///   store, and `Faulty` only where this is its fault: of two areas exactly what the manager refuses to open it for. A conversion is `Done` only where
 ///   the file is a whole store of the old form, and then the new disk holds what is left of its operations. A salvage that is `Done` left the longest
-///   front of operations that are whole and not stray on the new disk.
+///   front of operations that are whole and not stray on the new disk. `NotAnId` comes only where the word is no id and can't be a node's name.
+/// - `writes`: `follow` that is Done wrote exactly what the page tells of the id.
 /// - `read_fault`, `write_fault`, `took_nothing`, `disk_fault`: each comes only where what it tells was counted there.
-#[tactic(auto, using(crate::proofs::Comings::comes_after, crate::proofs::Comings::read_before, crate::proofs::Comings::disk_before, crate::proofs::Comings::fault_before, crate::proofs::Comings::nothing_before))]
+#[tactic(auto, using(crate::proofs::Comings::comes_after, crate::proofs::Comings::read_before, crate::proofs::Comings::disk_before, crate::proofs::Comings::fault_before, crate::proofs::Comings::nothing_before, crate::proofs::Comings::done_before))]
 pub fn top<F: Shelf, K: Sink, D: Disk>(
     alloc: Global,
     words: &[String],
@@ -33,6 +37,7 @@ pub fn top<F: Shelf, K: Sink, D: Disk>(
     new: &mut D,
 ) -> ToolOutcome
     ensures comes { Comes (F.bytes_of shelf.old) (mode_of (map string_bytes words.now)) (D.view new.new) result }
+    ensures writes { result ≡ ToolOutcome.Done → Writes (F.bytes_of shelf.old) (mode_of (map string_bytes words.now)) (K.taken sink.old) (K.taken sink.new) }
     ensures told { F.bytes_of shelf.new ≡ F.bytes_of shelf.old }
     ensures read_fault { result ≡ ToolOutcome.ReadFault → Rose (F.faults shelf.old) (F.faults shelf.new) }
     ensures write_fault { result ≡ ToolOutcome.WriteFault false → Rose (K.faults sink.old) (K.faults sink.new) }
@@ -78,6 +83,7 @@ fn with_page(alloc: Global, page: Result<Vec<u8>, NoMemory>, outcome: ToolOutcom
 /// Does what a mode asks for, up to its page.
 fn make<F: Shelf, D: Disk>(alloc: Global, mode: Mode<'_>, shelf: &mut F, new: &mut D) -> Made
     ensures comes { Comes (F.bytes_of shelf.old) (Some (asked mode.entry)) (D.view new.new) result.outcome }
+    ensures written { result.outcome ≡ ToolOutcome.Done → IsWritten (F.bytes_of shelf.old) (asked mode.entry) result.page.items }
     ensures told { F.bytes_of shelf.new ≡ F.bytes_of shelf.old }
     ensures read_fault { result.outcome ≡ ToolOutcome.ReadFault → Rose (F.faults shelf.old) (F.faults shelf.new) }
     ensures not_written { IsBeforePage result.outcome }
@@ -87,6 +93,9 @@ fn make<F: Shelf, D: Disk>(alloc: Global, mode: Mode<'_>, shelf: &mut F, new: &m
         Mode::Check { file } => check_file(alloc, shelf, file),
         Mode::Convert { old, .. } => convert_file(alloc, shelf, old, new),
         Mode::Salvage { file, .. } => salvage_file(alloc, shelf, file, new),
+        Mode::Summary { page } => summarize_file(alloc, shelf, page),
+        Mode::Follow { page, id } => follow_file(alloc, shelf, page, id),
+        Mode::Draw { page } => draw_file(alloc, shelf, page),
     }
 }
 
@@ -200,5 +209,66 @@ fn salvage_file<F: Shelf, D: Disk>(alloc: Global, shelf: &mut F, file: &str, new
             with_page(alloc, page, ToolOutcome::Done)
         }
         Err(error) => stopped(alloc, of_write(error)),
+    }
+}
+
+/// Tells in short what the page in a file tells.
+fn summarize_file<F: Shelf>(alloc: Global, shelf: &mut F, page: &str) -> Made
+    ensures comes { Reports result.outcome }
+    ensures told { F.bytes_of shelf.new ≡ F.bytes_of shelf.old }
+    ensures read_fault { result.outcome ≡ ToolOutcome.ReadFault → Rose (F.faults shelf.old) (F.faults shelf.new) }
+    ensures not_written { IsBeforePage result.outcome }
+{
+    let bytes = match read(shelf, page) {
+        Ok(bytes) => bytes,
+        Err(outcome) => return stopped(alloc, outcome),
+    };
+    match summary(alloc, &bytes) {
+        Ok(page) => Made {
+            page,
+            outcome: ToolOutcome::Done,
+        },
+        Err(error) => stopped(alloc, of_page(error)),
+    }
+}
+
+/// Tells the lines of the page in a file that name an id.
+fn follow_file<F: Shelf>(alloc: Global, shelf: &mut F, page: &str, id: &str) -> Made
+    ensures comes { Follows id.now result.outcome }
+    ensures written { result.outcome ≡ ToolOutcome.Done → IsReport (F.bytes_of shelf.old page.now) (λ bytes report. IsFollowed bytes id.now report) result.page.items }
+    ensures told { F.bytes_of shelf.new ≡ F.bytes_of shelf.old }
+    ensures read_fault { result.outcome ≡ ToolOutcome.ReadFault → Rose (F.faults shelf.old) (F.faults shelf.new) }
+    ensures not_written { IsBeforePage result.outcome }
+{
+    let bytes = match read(shelf, page) {
+        Ok(bytes) => bytes,
+        Err(outcome) => return stopped(alloc, outcome),
+    };
+    match follow(alloc, &bytes, id) {
+        Ok(page) => Made {
+            page,
+            outcome: ToolOutcome::Done,
+        },
+        Err(error) => stopped(alloc, of_report(error)),
+    }
+}
+
+/// Draws the run whose page is in a file.
+fn draw_file<F: Shelf>(alloc: Global, shelf: &mut F, page: &str) -> Made
+    ensures comes { Reports result.outcome }
+    ensures told { F.bytes_of shelf.new ≡ F.bytes_of shelf.old }
+    ensures read_fault { result.outcome ≡ ToolOutcome.ReadFault → Rose (F.faults shelf.old) (F.faults shelf.new) }
+    ensures not_written { IsBeforePage result.outcome }
+{
+    let bytes = match read(shelf, page) {
+        Ok(bytes) => bytes,
+        Err(outcome) => return stopped(alloc, outcome),
+    };
+    match draw(alloc, &bytes) {
+        Ok(page) => Made {
+            page,
+            outcome: ToolOutcome::Done,
+        },
+        Err(error) => stopped(alloc, of_page(error)),
     }
 }

@@ -16,9 +16,15 @@ pub enum Mode<'a> {
     Convert { old: &'a str, new: &'a str },
     /// Writes what can be read of the store in one file as a new store, in another.
     Salvage { file: &'a str, new: &'a str },
+    /// Tells in short what the page in a file tells.
+    Summary { page: &'a str },
+    /// Tells the lines of a page that name an application, an attempt, a container or a node.
+    Follow { page: &'a str, id: &'a str },
+    /// Draws the run whose page this is.
+    Draw { page: &'a str },
 }
 
-/// What the words ask for: `check FILE`, `convert OLD NEW` or `salvage FILE NEW`, of which none begins with `-`. The answer is `None` exactly
+/// What the words ask for: `check FILE`, `convert OLD NEW`, `salvage FILE NEW`, `summary PAGE`, `follow PAGE ID` or `draw PAGE`, of which none begins with `-`. The answer is `None` exactly
 /// where they are of another form. Want of memory may come on any words but those that begin with `-`.
 pub fn mode_of<'a>(alloc: Global, words: &'a [String]) -> Result<Option<Mode<'a>>, NoMemory>
     ensures some { IfOk result (λ answer. IfSome answer (λ mode. mode_of (map string_bytes words.now) ≡ Some (asked mode))) }
@@ -78,6 +84,10 @@ fn mode_of_two<'a>(mode: &str, file: &'a str) -> Option<Mode<'a>>
 {
     if mode == "check" {
         Some(Mode::Check { file })
+    } else if mode == "summary" {
+        Some(Mode::Summary { page: file })
+    } else if mode == "draw" {
+        Some(Mode::Draw { page: file })
     } else {
         None
     }
@@ -92,6 +102,11 @@ fn mode_of_three<'a>(mode: &str, file: &'a str, new: &'a str) -> Option<Mode<'a>
         Some(Mode::Convert { old: file, new })
     } else if mode == "salvage" {
         Some(Mode::Salvage { file, new })
+    } else if mode == "follow" {
+        Some(Mode::Follow {
+            page: file,
+            id: new,
+        })
     } else {
         None
     }
