@@ -1,6 +1,7 @@
 //! What reports are of pages that were written by hand.
 use crate::helpers::{is_text, wants_in};
 use crate::pages::{LETTERS, RUN};
+use rm_page_reader::PageError;
 use rm_report::{ReportError, follow, summary};
 use std::process::Abort;
 
@@ -76,7 +77,7 @@ fn refuses_what_is_no_id(rt: HostRuntime) {
     wants_in(&rt, "two words", is_so);
     let is_refused = matches!(
         summary(rt.alloc(), LETTERS.as_bytes()),
-        Err(ReportError::NotAPage { line: 1 })
+        Err(PageError::NotAPage { line: 1 })
     );
     wants_in(&rt, "letters of no lines", is_refused);
 }
