@@ -1,9 +1,11 @@
 //! A master allocates.
-ghost use Rattle.std.specs.Prelude.{◌≡◌, ◌+◌, ◌<◌, ◌^◌, List, ◌++◌, Some, not, IfOk, OnOk, OnErr, if◌then◌else◌};
+ghost use Rattle.std.specs.Prelude.{◌≡◌, ◌+◌, ◌<◌, ◌^◌, [], ◌∷◌, ◌++◌, Some, Err, true, false, not, IfOk, OnOk, OnErr, if◌then◌else◌};
 ghost use Rattle.rm_types.specs.declared.messages.MasterAsk.{MasterAsk as Asked};
 ghost use Rattle.rm_types.specs.declared.replies.Reply.{Reply as Told};
 ghost use Rattle.rm_types.specs.Ids.{is_attempt};
 ghost use Rattle.rm_book.specs.Granted.{AllMayBeTold};
+ghost use Rattle.rm_book.specs.ManyAsks.{all_asked};
+ghost use Rattle.rm_master.specs.declared.allocating.AskError.TheVariants.{Memory, TooMany};
 ghost use Rattle.rm_master.specs.Answers.{acquired, after_master, allocated_with, grants_in, ids_granted, release_events, told_by, told_in};
 ghost use Rattle.rm_master.specs.Told.{allocate_told, allocated_told, asks_too_much, closings_told, grants_told, has_too_many, living_row};
 ghost use Rattle.rm_tables.specs.declared.events.SchedEvent.{SchedEvent as Event};
@@ -11,12 +13,13 @@ ghost use Rattle.rm_tables.specs.Leaving.{is_masters_in};
 ghost use Rattle.rm_tables.specs.Rows.{row_of};
 
 use crate::living::living;
-use rm_book::Book;
+use rm_book::{Asks, Book};
 use rm_tables::{AppRow, SchedEvent, Tables, Talk, is_masters};
 use rm_types::{
     Ask, AttemptId, Boxed, Closing, ContainerId, Duplicate, Grant, Items, NoMemory, Queue, Reply,
     Resource,
 };
+use thiserror::Error;
 
 /// How many different asks an attempt may have.
 const MOST_ASKS: usize = 64;
@@ -70,29 +73,86 @@ fn answer(t: &Tables, attempt: AttemptId, id: u32, row: &AppRow) -> Result<Reply
     })
 }
 
-/// A release is to be worked off, if anything is released. `NoMemory` posts nothing.
-fn post_release(
-    sched: &mut Queue<SchedEvent>,
-    attempt: AttemptId,
-    release: &Items<ContainerId>,
-) -> Result<(), NoMemory>
-    ensures ok { OnOk result (sched.new ≡ sched.old ++ release_events attempt release.now) }
-    ensures err { OnErr result (sched.new ≡ sched.old) }
-{
-    if release.is_empty() {
-        return Ok(());
-    }
-    let list = release.copy()?;
-    sched.push(SchedEvent::Release { attempt, list })
+/// Why the asks of an allocation weren't taken.
+#[derive(Clone, Copy, Debug, PartialEq, Eq, Error)]
+enum AskError {
+    /// Its attempt would ask for too many.
+    #[error("the attempt would have too many different asks")]
+    TooMany,
+    /// No memory was found.
+    #[error("out of memory")]
+    Memory,
 }
 
-/// Takes the release back that was posted last.
-fn take_back(sched: &mut Queue<SchedEvent>, attempt: AttemptId, release: &Items<ContainerId>)
-    ensures { (front : List Event) → sched.old ≡ front ++ release_events attempt release.now → sched.new ≡ front }
-{
-    if !release.is_empty() {
-        sched.drop_last();
+impl From<NoMemory> for AskError {
+    ghost from_gives = { λ _ error. error ≡ Memory };
+
+    fn from(_refused: NoMemory) -> AskError {
+        AskError::Memory
     }
+}
+
+/// The asks of an attempt are set, unless it would ask for too many. A refusal changes nothing.
+fn set_asks(asks: &mut Asks, attempt: AttemptId, new: &[Ask]) -> Result<(), AskError>
+    ensures ok { OnOk result ((has_too_many asks.old attempt new.now ≡ false) × (asks.new ≡ all_asked attempt asks.old new.now)) }
+    ensures too_many { result ≡ Err TooMany → has_too_many asks.old attempt new.now ≡ true }
+    ensures err { OnErr result (asks.new ≡ asks.old) }
+{
+    if asks.set_all(attempt, new, MOST_ASKS)? {
+        Ok(())
+    } else {
+        Err(AskError::TooMany)
+    }
+}
+
+/// The asks of an attempt are set, and what it releases is to be worked off, unless it would ask for too many. A refusal changes nothing.
+fn set_and_release(
+    asks: &mut Asks,
+    sched: &mut Queue<SchedEvent>,
+    attempt: AttemptId,
+    new: &[Ask],
+    release: Items<ContainerId>,
+) -> Result<(), AskError>
+    ensures few { OnOk result (has_too_many asks.old attempt new.now ≡ false) }
+    ensures set { OnOk result (asks.new ≡ all_asked attempt asks.old new.now) }
+    ensures posted { OnOk result (sched.new ≡ sched.old ++ Event.Release attempt release ∷ []) }
+    ensures too_many { result ≡ Err TooMany → has_too_many asks.old attempt new.now ≡ true }
+    ensures err { OnErr result ((asks.new ≡ asks.old) × (sched.new ≡ sched.old)) }
+{
+    sched.push_made(
+        asks,
+        |asks: &mut Asks| -> Result<SchedEvent, AskError>
+            ensures event { IfOk result (λ made. made ≡ Event.Release attempt release) }
+            ensures ok { OnOk result ((has_too_many asks.old attempt new.entry.now ≡ false) × (asks.new ≡ all_asked attempt asks.old new.entry.now)) }
+            ensures too_many { result ≡ Err TooMany → has_too_many asks.old attempt new.entry.now ≡ true }
+            ensures err { OnErr result (asks.new ≡ asks.old) }
+        {
+            set_asks(asks, attempt, new)?;
+            Ok(SchedEvent::Release {
+                attempt,
+                list: release,
+            })
+        },
+    )
+}
+
+/// The same where perhaps nothing is released.
+fn take_asks(
+    t: &mut Tables,
+    attempt: AttemptId,
+    new: &[Ask],
+    release: &Items<ContainerId>,
+) -> Result<(), AskError>
+    ensures few { OnOk result (has_too_many t.old.asks attempt new.now ≡ false) }
+    ensures ok { OnOk result (t.new ≡ record t.old { asks = all_asked attempt t.old.asks new.now; sched = t.old.sched ++ release_events attempt release.now }) }
+    ensures too_many { result ≡ Err TooMany → has_too_many t.old.asks attempt new.now ≡ true }
+    ensures err { OnErr result (t.new ≡ t.old) }
+{
+    if release.is_empty() {
+        return set_asks(&mut t.asks, attempt, new);
+    }
+    let list = release.copy()?;
+    set_and_release(&mut t.asks, &mut t.sched, attempt, new, list)
 }
 
 /// What a master was told of is acquired.
@@ -149,20 +209,13 @@ fn take(
 {
     let kept = reply.copy()?;
     let kept = Boxed::new(t.alloc, kept)?;
-    post_release(&mut t.sched, attempt, release)?;
-    match t.asks.set_all(attempt, asks.as_slice(), MOST_ASKS) {
-        Ok(true) => {
+    match take_asks(t, attempt, asks.as_slice(), release) {
+        Ok(()) => {
             tell(t, attempt, id, &reply, kept);
             Ok(reply)
         }
-        Ok(false) => {
-            take_back(&mut t.sched, attempt, release);
-            Ok(Reply::Full)
-        }
-        Err(refused) => {
-            take_back(&mut t.sched, attempt, release);
-            Err(refused)
-        }
+        Err(AskError::TooMany) => Ok(Reply::Full),
+        Err(AskError::Memory) => Err(NoMemory),
     }
 }
 

@@ -30,21 +30,23 @@ fn kept_entry(t: &Tables) -> Result<Entry, NoMemory>
     Ok(Entry::Kept { op })
 }
 
-/// An operation is recorded where it fits what is recorded; a stray one changes nothing.
+/// An operation is recorded, which fits what is recorded.
 fn record(tree: &mut Tree, op: &Op) -> Result<(), NoMemory>
-    ensures ok { fits_records tree.old op.now ≡ true → OnOk result (tree.new ≡ recorded tree.old op.now) }
+    requires { fits_records tree.old op.now ≡ true }
+    ensures ok { OnOk result (tree.new ≡ recorded tree.old op.now) }
     ensures err { OnErr result (tree.new ≡ tree.old) }
 {
     match tree.apply(op) {
         Ok(()) => Ok(()),
-        Err(TreeError::Stray) => Ok(()),
+        Err(TreeError::Stray) => unreachable!(),
         Err(TreeError::Memory) => Err(NoMemory),
     }
 }
 
 /// The first awaiting operation is taken up, where one awaits.
 fn take_up(t: &mut Tables) -> Result<(), NoMemory>
-    ensures ok { (op : Op) (rest : List Op) → t.old.awaiting ≡ op ∷ rest → fits_records t.old.tree op ≡ true → OnOk result (t.new ≡ taken_up op t.old) }
+    requires fits { (op : Op) (rest : List Op) → t.old.awaiting ≡ op ∷ rest → fits_records t.old.tree op ≡ true }
+    ensures ok { (op : Op) (rest : List Op) → t.old.awaiting ≡ op ∷ rest → OnOk result (t.new ≡ taken_up op t.old) }
     ensures err { OnErr result (t.new ≡ t.old) }
 {
     if let Some(op) = t.awaiting.first() {
@@ -57,15 +59,17 @@ fn take_up(t: &mut Tables) -> Result<(), NoMemory>
 
 /// It is taken up, and an event of the main queue is posted.
 fn take_up_with(t: &mut Tables, event: MainEvent) -> Result<(), NoMemory>
-    ensures ok { (op : Op) (rest : List Op) → t.old.awaiting ≡ op ∷ rest → fits_records t.old.tree op ≡ true → OnOk result (t.new ≡ taken_up op (record t.old { main = t.old.main ++ event ∷ [] })) }
+    requires fits { (op : Op) (rest : List Op) → t.old.awaiting ≡ op ∷ rest → fits_records t.old.tree op ≡ true }
+    ensures ok { (op : Op) (rest : List Op) → t.old.awaiting ≡ op ∷ rest → OnOk result (t.new ≡ taken_up op (record t.old { main = t.old.main ++ event ∷ [] })) }
     ensures err { OnErr result (t.new ≡ t.old) }
 {
     let mut main = mem::replace(&mut t.main, Queue::new(t.alloc));
     let taken = main.push_made(
         t,
         |t: &mut Tables| -> Result<MainEvent, NoMemory>
+            requires fits { (op : Op) (rest : List Op) → t.old.awaiting ≡ op ∷ rest → fits_records t.old.tree op ≡ true }
             ensures event { IfOk result (λ made. made ≡ event) }
-            ensures ok { (op : Op) (rest : List Op) → t.old.awaiting ≡ op ∷ rest → fits_records t.old.tree op ≡ true → OnOk result (t.new ≡ taken_up op t.old) }
+            ensures ok { (op : Op) (rest : List Op) → t.old.awaiting ≡ op ∷ rest → OnOk result (t.new ≡ taken_up op t.old) }
             ensures err { OnErr result (t.new ≡ t.old) }
         {
             take_up(t)?;
@@ -78,15 +82,17 @@ fn take_up_with(t: &mut Tables, event: MainEvent) -> Result<(), NoMemory>
 
 /// It is taken up, an event of the main queue is posted, and an attempt is to be removed.
 fn take_up_removing(t: &mut Tables, event: MainEvent, id: AttemptId) -> Result<(), NoMemory>
-    ensures ok { (op : Op) (rest : List Op) → t.old.awaiting ≡ op ∷ rest → fits_records t.old.tree op ≡ true → OnOk result (t.new ≡ taken_up op (record t.old { main = t.old.main ++ event ∷ []; sched = t.old.sched ++ Removal.AttemptRemoved id ∷ [] })) }
+    requires fits { (op : Op) (rest : List Op) → t.old.awaiting ≡ op ∷ rest → fits_records t.old.tree op ≡ true }
+    ensures ok { (op : Op) (rest : List Op) → t.old.awaiting ≡ op ∷ rest → OnOk result (t.new ≡ taken_up op (record t.old { main = t.old.main ++ event ∷ []; sched = t.old.sched ++ Removal.AttemptRemoved id ∷ [] })) }
     ensures err { OnErr result (t.new ≡ t.old) }
 {
     let mut sched = mem::replace(&mut t.sched, Queue::new(t.alloc));
     let taken = sched.push_made(
         t,
         |t: &mut Tables| -> Result<SchedEvent, NoMemory>
+            requires fits { (op : Op) (rest : List Op) → t.old.awaiting ≡ op ∷ rest → fits_records t.old.tree op ≡ true }
             ensures event { IfOk result (λ made. made ≡ Removal.AttemptRemoved id) }
-            ensures ok { (op : Op) (rest : List Op) → t.old.awaiting ≡ op ∷ rest → fits_records t.old.tree op ≡ true → OnOk result (t.new ≡ taken_up op (record t.old { main = t.old.main ++ event ∷ [] })) }
+            ensures ok { (op : Op) (rest : List Op) → t.old.awaiting ≡ op ∷ rest → OnOk result (t.new ≡ taken_up op (record t.old { main = t.old.main ++ event ∷ [] })) }
             ensures err { OnErr result (t.new ≡ t.old) }
         {
             take_up_with(t, event)?;
@@ -188,7 +194,8 @@ fn dropped_attempt(t: &Tables, id: AppId) -> Option<AttemptId>
 
 /// It is taken up as the end of an application, which is to be retired, and whose attempt is to be removed where it was dropped.
 fn take_up_retiring(t: &mut Tables, id: AppId) -> Result<(), NoMemory>
-    ensures ok { (op : Op) (rest : List Op) → t.old.awaiting ≡ op ∷ rest → fits_records t.old.tree op ≡ true → OnOk result (t.new ≡ taken_up op (record t.old { main = t.old.main ++ Told.Retire ∷ []; sched = t.old.sched ++ dropped_by (row_of t.old.rows id) id })) }
+    requires fits { (op : Op) (rest : List Op) → t.old.awaiting ≡ op ∷ rest → fits_records t.old.tree op ≡ true }
+    ensures ok { (op : Op) (rest : List Op) → t.old.awaiting ≡ op ∷ rest → OnOk result (t.new ≡ taken_up op (record t.old { main = t.old.main ++ Told.Retire ∷ []; sched = t.old.sched ++ dropped_by (row_of t.old.rows id) id })) }
     ensures err { OnErr result (t.new ≡ t.old) }
 {
     match dropped_attempt(t, id) {
@@ -199,15 +206,17 @@ fn take_up_retiring(t: &mut Tables, id: AppId) -> Result<(), NoMemory>
 
 /// It is taken up as the end of an application, which joins those that have ended.
 fn take_up_app_end(t: &mut Tables, id: AppId) -> Result<(), NoMemory>
-    ensures ok { (op : Op) (rest : List Op) → t.old.awaiting ≡ op ∷ rest → fits_records t.old.tree op ≡ true → OnOk result (t.new ≡ taken_up op (app_end_posted id t.old)) }
+    requires fits { (op : Op) (rest : List Op) → t.old.awaiting ≡ op ∷ rest → fits_records t.old.tree op ≡ true }
+    ensures ok { (op : Op) (rest : List Op) → t.old.awaiting ≡ op ∷ rest → OnOk result (t.new ≡ taken_up op (app_end_posted id t.old)) }
     ensures err { OnErr result (t.new ≡ t.old) }
 {
     let mut ended = mem::replace(&mut t.ended, Queue::new(t.alloc));
     let taken = ended.push_made(
         t,
         |t: &mut Tables| -> Result<AppId, NoMemory>
+            requires fits { (op : Op) (rest : List Op) → t.old.awaiting ≡ op ∷ rest → fits_records t.old.tree op ≡ true }
             ensures id { IfOk result (λ made. made ≡ id) }
-            ensures ok { (op : Op) (rest : List Op) → t.old.awaiting ≡ op ∷ rest → fits_records t.old.tree op ≡ true → OnOk result (t.new ≡ taken_up op (record t.old { main = t.old.main ++ Told.Retire ∷ []; sched = t.old.sched ++ dropped_by (row_of t.old.rows id) id })) }
+            ensures ok { (op : Op) (rest : List Op) → t.old.awaiting ≡ op ∷ rest → OnOk result (t.new ≡ taken_up op (record t.old { main = t.old.main ++ Told.Retire ∷ []; sched = t.old.sched ++ dropped_by (row_of t.old.rows id) id })) }
             ensures err { OnErr result (t.new ≡ t.old) }
         {
             take_up_retiring(t, id)?;

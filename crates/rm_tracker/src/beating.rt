@@ -132,37 +132,22 @@ fn acquire_all(book: &mut Book, name: &Text, launched: &[ContainerId])
     }
 }
 
-/// A pass is to answer a beat.
-fn post_update(sched: &mut Queue<SchedEvent>, name: &Text) -> Result<(), NoMemory>
-    ensures ok { OnOk result (sched.new ≡ sched.old ++ Event.NodeUpdate name.now ∷ []) }
-    ensures err { OnErr result (sched.new ≡ sched.old) }
-{
-    let node = name.copy()?;
-    sched.push(SchedEvent::NodeUpdate(node))
-}
-
-/// A beat is posted, with what is done. `NoMemory` posts nothing.
-fn post_beat(
-    sched: &mut Queue<SchedEvent>,
+/// What a beat posts: what is done, if anything is, and the pass that answers it.
+fn posts(
+    alloc: Global,
     name: &Text,
     done: &Items<ContainerId>,
-) -> Result<(), NoMemory>
-    ensures ok { OnOk result (sched.new ≡ sched.old ++ beat_events name.now done.now) }
-    ensures err { OnErr result (sched.new ≡ sched.old) }
+) -> Result<Items<SchedEvent>, NoMemory>
+    ensures { IfOk result (λ posts. posts ≡ beat_events name.now done.now) }
 {
-    if done.is_empty() {
-        return post_update(sched, name);
+    let mut posts = Items::new(alloc);
+    if !done.is_empty() {
+        let node = name.copy()?;
+        let list = done.copy()?;
+        posts.push(SchedEvent::NodeDone { node, list })?;
     }
-    let list = done.copy()?;
-    let node = name.copy()?;
-    sched.push(SchedEvent::NodeDone { node, list })?;
-    match post_update(sched, name) {
-        Ok(()) => Ok(()),
-        Err(refused) => {
-            sched.drop_last();
-            Err(refused)
-        }
-    }
+    posts.push(SchedEvent::NodeUpdate(name.copy()?))?;
+    Ok(posts)
 }
 
 /// A new beat of a node, which was answered so. `NoMemory` changes nothing.
@@ -180,7 +165,8 @@ fn take_beat(
 {
     let kept = reply.copy()?;
     let kept = Boxed::new(t.alloc, kept)?;
-    post_beat(&mut t.sched, name, done)?;
+    let posts = posts(t.alloc, name, done)?;
+    t.sched.append(posts)?;
     if let Reply::Beat { launch, .. } = reply {
         acquire_all(&mut t.book, name, launch.as_slice());
     }

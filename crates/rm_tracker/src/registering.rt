@@ -5,7 +5,7 @@ ghost use Rattle.rm_tables.specs.Nodes.{node_of};
 ghost use Rattle.rm_tracker.specs.Answers.{registered_by, registered_first, registered_later};
 ghost use Rattle.rm_tracker.specs.Told.{register_told};
 
-use rm_tables::{NodeRow, Registration, SchedEvent, Tables};
+use rm_tables::{NodeRow, Nodes, Registration, SchedEvent, Tables};
 use rm_types::{Boxed, Duplicate, Held, Items, NoMemory, Queue, Reply, Resource, Text};
 use std::alloc::Global;
 
@@ -53,15 +53,19 @@ fn register_first(
 {
     let (registration, reply) = registration(t.alloc, turn, capability, running, t.epoch)?;
     let row = NodeRow::new(registration, reply, Items::new(t.alloc));
-    let key = name.copy()?;
-    post_added(&mut t.sched, name, turn)?;
-    match t.nodes.add(key, row) {
-        Ok(()) => Ok(()),
-        Err(refused) => {
-            t.sched.drop_last();
-            Err(refused)
-        }
-    }
+    let (key, node) = (name.copy()?, name.copy()?);
+    t.sched.push_made(
+        &mut t.nodes,
+        |nodes: &mut Nodes| -> Result<SchedEvent, NoMemory>
+            requires { node_of nodes.old key ≡ None }
+            ensures event { IfOk result (λ made. made ≡ Event.NodeAdded node turn) }
+            ensures ok { OnOk result (nodes.new ≡ nodes.old ++ (key, row) ∷ []) }
+            ensures err { OnErr result (nodes.new ≡ nodes.old) }
+        {
+            nodes.add(key, row)?;
+            Ok(SchedEvent::NodeAdded { node, turn })
+        },
+    )
 }
 
 /// A node registers that has a row.

@@ -10,6 +10,7 @@ pub mod Order
 pub mod Passes
 pub mod Ranges
 pub mod Records
+pub mod Refusals
 pub mod Resources
 pub mod Rights
 pub mod Texts

@@ -1,6 +1,6 @@
-ghost use Rattle.std.specs.Prelude.{◌≡◌, ◌<◌, List, [], ◌∷◌, ◌++◌, length, IsTrue, ◌↔◌, Ok, Err, IfErr, OnOk, OnErr, ◌⊎◌, Some, slice_get};
+ghost use Rattle.std.specs.Prelude.{◌≡◌, ◌<◌, List, [], ◌∷◌, ◌++◌, length, IsTrue, ◌↔◌, OnOk, OnErr, Some, slice_get};
 ghost use Rattle.rm_types.specs.Lists.{is_nil};
-ghost use Rattle.std.specs.Fn.{CalledAt, FnOnceReturnsAtMut};
+ghost use Rattle.std.specs.Fn.{CalledAt};
 ghost use Rattle.std.specs.List.Retain.{IsFiltered};
 
 use crate::duplicate::{Duplicate, NoMemory};
@@ -86,32 +86,6 @@ impl<T> Items<T> {
         Ok(())
     }
 
-    /// Takes the room for one more item, has it made over a state, and adds it. Where no memory is found the state is as it was;
-    /// where no item is made the list is as it was, and the state as `make` left it.
-    pub fn push_made<S, E: From<NoMemory>, F: FnOnce(&mut S) -> Result<T, E>>(
-        &mut self,
-        state: &mut S,
-        make: F,
-    ) -> Result<(), E>
-    where
-        F: Drop,
-        requires { F.IsAlwaysCallable make }
-        ensures ok { OnOk result ((item : T) × FnOnceReturnsAtMut F.FnOnce make state.old (Ok item) state.new × (self.new ≡ self.old ++ item ∷ [])) }
-        ensures err { OnErr result (self.new ≡ self.old) }
-        ensures err_state { IfErr result (λ error. (state.new ≡ state.old) ⊎ FnOnceReturnsAtMut F.FnOnce make state.old (Err error) state.new) }
-    {
-        if self.list.reserve(1).is_err() {
-            return Err(E::from(NoMemory));
-        }
-        match make(state) {
-            Ok(item) => {
-                self.list.push_reserved(item);
-                Ok(())
-            }
-            Err(error) => Err(error),
-        }
-    }
-
     /// Adds all items of another list, which is left empty, or none where there is no memory for them all: `NoMemory` leaves both
     /// lists as they were.
     pub fn append(&mut self, other: &mut Items<T>) -> Result<(), NoMemory>
@@ -164,14 +138,10 @@ pub fn push_both<S: Drop, T: Drop>(
     ensures second { OnOk result (second.new ≡ second.old ++ other ∷ []) }
     ensures err { OnErr result ((first.new ≡ first.old) × (second.new ≡ second.old)) }
 {
-    first.push(one)?;
-    match second.push(other) {
-        Ok(()) => Ok(()),
-        Err(refused) => {
-            first.drop_last();
-            Err(refused)
-        }
-    }
+    first.list.reserve(1)?;
+    second.push(other)?;
+    first.list.push_reserved(one);
+    Ok(())
 }
 
 impl<T: Duplicate> Clone for Items<T> {

@@ -1,9 +1,10 @@
 ghost use Rattle.std.specs.Prelude.{◌≡◌, List, [], ◌∷◌, ◌++◌, length, IsTrue, ◌↔◌, IfSome, IfNone, drop, Ok, Err, IfErr, OnOk, OnErr, ◌⊎◌, slice_get};
-ghost use Rattle.std.specs.Fn.{FnOnceReturnsAtMut};
+ghost use Rattle.std.specs.Fn.{FnOnceReturnsAtMut, FnOnceTakesAtMut};
 ghost use Rattle.std.specs.Option.{option_copied};
 ghost use Rattle.std.specs.VecDeque.Iter.{deque_iter_rest, deque_iter_steps};
 ghost use Rattle.std.specs.Iterator.Runs.{YieldsRefsInOrder};
 ghost use Rattle.rm_types.specs.Lists.{is_nil};
+ghost use Rattle.rm_types.specs.Refusals.{no_memory};
 
 use crate::duplicate::NoMemory;
 use crate::items::Items;
@@ -102,8 +103,21 @@ impl<T> Queue<T> {
         Ok(())
     }
 
-    /// Takes the room for one more item, has it made over a state, and adds it. Where no memory is found the state is as it was;
-    /// where no item is made the queue is as it was, and the state as `make` left it.
+    /// Adds all items of a list at the end, or none where there is no memory for them all: `NoMemory` leaves the queue as it was;
+    /// the items are then dropped.
+    pub fn append(&mut self, items: Items<T>) -> Result<(), NoMemory>
+    where
+        T: Drop,
+        ensures ok { OnOk result (self.new ≡ self.old ++ items) }
+        ensures err { OnErr result (self.new ≡ self.old) }
+    {
+        let mut more = VecDeque::from(items.into_vec());
+        self.line.append(&mut more)?;
+        Ok(())
+    }
+
+    /// Takes the room for one more item, has it made over a state, and adds it. Where no memory is found the state is as it was, and
+    /// the error is that of `NoMemory`; where no item is made the queue is as it was, and error and state are those of `make`.
     pub fn push_made<S, E: From<NoMemory>, F: FnOnce(&mut S) -> Result<T, E>>(
         &mut self,
         state: &mut S,
@@ -112,10 +126,10 @@ impl<T> Queue<T> {
     where
         T: Drop,
         F: Drop,
-        requires { F.IsAlwaysCallable make }
+        requires { FnOnceTakesAtMut F.FnOnce make state.old }
         ensures ok { OnOk result ((item : T) × FnOnceReturnsAtMut F.FnOnce make state.old (Ok item) state.new × (self.new ≡ self.old ++ item ∷ [])) }
         ensures err { OnErr result (self.new ≡ self.old) }
-        ensures err_state { IfErr result (λ error. (state.new ≡ state.old) ⊎ FnOnceReturnsAtMut F.FnOnce make state.old (Err error) state.new) }
+        ensures err_state { IfErr result (λ error. ((state.new ≡ state.old) × E.from_gives no_memory error) ⊎ FnOnceReturnsAtMut F.FnOnce make state.old (Err error) state.new) }
     {
         if self.line.reserve(1).is_err() {
             return Err(E::from(NoMemory));
@@ -136,14 +150,5 @@ impl<T> Queue<T> {
         ensures rest { self.new ≡ drop 1 self.old }
     {
         self.line.pop_front()
-    }
-
-    /// Takes the last item away, if there is one.
-    pub fn drop_last(&mut self)
-    where
-        T: Drop,
-        ensures { (front : List T) (last : T) → self.old ≡ front ++ last ∷ [] → self.new ≡ front }
-    {
-        let _ = self.line.pop_back();
     }
 }

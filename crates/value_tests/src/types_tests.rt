@@ -206,10 +206,14 @@ fn lists_and_queues_take_items(rt: HostRuntime) {
     for number in 1..4 {
         line.push(number).expect(&rt, "memory");
     }
-    line.drop_last();
     wants(&rt, line.first().copied() == Some(1));
     wants(&rt, line.take_first() == Some(1));
     wants(&rt, line.take_first() == Some(2));
+    let mut more = Items::new(rt.alloc());
+    more.push(4).expect(&rt, "memory");
+    line.append(more).expect(&rt, "memory");
+    wants(&rt, line.take_first() == Some(3));
+    wants(&rt, line.take_first() == Some(4));
     wants(&rt, line.take_first().is_none());
 }
 
