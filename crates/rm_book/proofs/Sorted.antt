@@ -1,8 +1,7 @@
 -- Lists that are kept by numbers.
-use Rattle.std.proofs.Common.{◌≡◌, ℕ, List, [], ◌∷◌, ◌++◌, Bool, true, false, not, ◌==◌, ◌||◌, nat_lt, refl, ◌∙◌, ap, arith}
+use Rattle.std.proofs.Common.{◌≡◌, ℕ, List, [], ◌∷◌, ◌++◌, Bool, true, false, ◌||◌, nat_lt, refl, ◌∙◌, ap}
 use Rattle.std.specs.List.{list_any, list_all}
 use Rattle.std.proofs.lemmas.Bool.{and_from, and_parts}
-use Rattle.std.proofs.lemmas.Bool.Decides.{nat_tests}
 use Rattle.rm_book.specs.AskLines.{put_by, sorted_by}
 
 any_swap : (a b c : Bool) → (b || (a || c)) ≡ (a || (b || c))
@@ -45,43 +44,3 @@ module _ {X : Type 0} (number : X → ℕ) where
   put_behind x (y ∷ ys) all =
       let parts = and_parts (nat_lt (number y) (number x)) (list_all (λ (z : X). nat_lt (number z) (number x)) ys) all in
       rw parts.0 (ap (λ (l : List X). y ∷ l) (put_behind x ys parts.1))
-
-  -- two of different numbers go in either order
-  put_put : (x y : X) (zs : List X) → (number x == number y) ≡ false → put_by number x (put_by number y zs) ≡ put_by number y (put_by number x zs)
-  put_put x y [] apart = by (nat_lt (number y) (number x)) (nat_lt (number x) (number y)) refl refl
-    where
-      by : (b c : Bool) → nat_lt (number y) (number x) ≡ b → nat_lt (number x) (number y) ≡ c
-          → put_by number x (put_by number y []) ≡ put_by number y (put_by number x [])
-      by true true e f = absurd (grind (arith, nat_tests))
-      by true false e f = rw (e, f) refl
-      by false true e f = rw (e, f) refl
-      by false false e f = absurd (grind (arith, nat_tests))
-  put_put x y (z ∷ zs) apart = by (nat_lt (number z) (number y)) (nat_lt (number z) (number x)) refl refl (put_put x y zs apart)
-    where
-      last : (b c : Bool) → nat_lt (number z) (number y) ≡ false → nat_lt (number z) (number x) ≡ false → nat_lt (number y) (number x) ≡ b → nat_lt (number x) (number y) ≡ c
-          → put_by number x (put_by number y (z ∷ zs)) ≡ put_by number y (put_by number x (z ∷ zs))
-      last true true e f g h = absurd (grind (arith, nat_tests))
-      last true false e f g h = simp (e, f, g, h)
-      last false true e f g h = simp (e, f, g, h)
-      last false false e f g h = absurd (grind (arith, nat_tests))
-
-      by : (b c : Bool) → nat_lt (number z) (number y) ≡ b → nat_lt (number z) (number x) ≡ c
-          → put_by number x (put_by number y zs) ≡ put_by number y (put_by number x zs)
-          → put_by number x (put_by number y (z ∷ zs)) ≡ put_by number y (put_by number x (z ∷ zs))
-      by true true e f rest = simp (e, f) (ap (λ (l : List X). z ∷ l) rest)
-      by true false e f rest =
-          let less : nat_lt (number x) (number y) ≡ true = grind (arith, nat_tests) in
-          simp (e, f, less)
-      by false true e f rest =
-          let less : nat_lt (number y) (number x) ≡ true = grind (arith, nat_tests) in
-          simp (e, f, less)
-      by false false e f rest = last _ _ e f refl refl
-
-  -- so one may be put last, where no other has its number
-  pub sorted_around : (front : List X) (one : X) (back : List X) → list_all (λ x. not (number one == number x)) front ≡ true
-      → sorted_by number (front ++ one ∷ back) ≡ put_by number one (sorted_by number (front ++ back))
-  sorted_around [] one back apart = refl
-  sorted_around (x ∷ front) one back apart =
-      let parts = and_parts (not (number one == number x)) (list_all (λ (y : X). not (number one == number y)) front) apart in
-      let other : (number x == number one) ≡ false = grind (arith, nat_tests) in
-      ap (put_by number x) (sorted_around front one back parts.1) ∙ put_put x one (sorted_by number (front ++ back)) other

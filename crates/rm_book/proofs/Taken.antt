@@ -1,10 +1,8 @@
 -- The book after an absorption is a book.
-use Rattle.std.proofs.Common.{zero, suc, ◌≡◌, ℕ, ◌+◌, ◌<◌, Bool, true, false, not, cond, List, [], ◌∷◌, ◌++◌, length, map, filter, take, drop, get_or, set, refl, sym, ◌∙◌, ap, subst, append_assoc, append-nil, arith}
+use Rattle.std.proofs.Common.{◌≡◌, ℕ, ◌+◌, Bool, true, false, not, cond, List, [], ◌∷◌, ◌++◌, length, map, filter, refl, ◌∙◌, subst, append_assoc, append-nil, arith}
 use Rattle.std.specs.List.{list_any, sum_by}
 use Rattle.std.specs.Str.{bytes_eq}
 use Rattle.std.proofs.lemmas.Bool.{or_parts, or_from}
-use Rattle.std.proofs.lemmas.List.{map-append, get_or_default, length-map}
-use Rattle.std.proofs.lemmas.List.Edits.{map_over_more}
 use Rattle.std.proofs.lemmas.List.Folds.{list_any-append}
 use Rattle.rm_types.specs.declared.containers.BookRow.{BookRow}
 use Rattle.rm_types.specs.declared.containers.ContainerState.TheVariants.{Running}
@@ -16,7 +14,7 @@ use Rattle.rm_types.specs.Resources.{Fits}
 use Rattle.rm_types.proofs.IdLemmas.{container_back}
 use Rattle.rm_types.proofs.TestLemmas.{same_text}
 use Rattle.rm_book.specs.Books.{AreApart, AreLiving, AreOnce, is_living, BookOf, IsBook, TellUpTo, capability_or_none, entering, is_held, is_of, row_taken, sizes_on, taken_rows, total_on, with_capability, with_taken}
-use Rattle.rm_book.proofs.Asked.{whole}
+use Rattle.rm_book.specs.Kept.{AreFresh}
 use Rattle.rm_book.proofs.Changes.{book_left}
 use Rattle.rm_book.proofs.Lists.{any_filter}
 use Rattle.rm_book.proofs.Nodes.{AllFit, capability_in-with_capability}
@@ -35,16 +33,9 @@ pub running_stay : (taken : List Held) (added : ℕ) (node : List ℕ) (list : L
 running_stay taken added node [] = refl
 running_stay taken added node (held ∷ list) = rw (same_row (is_held taken held.id) (row_of_held (added + 1) node held) refl, running_stay taken (added + 1) node list) refl
 
--- a step of a loop over rows
-pub changed_rows : (f : BookRow → BookRow) (xs ys zs : List BookRow) (i : ℕ) (y d : BookRow) → i < length xs → length ys ≡ length xs → ys ≡ map f (take i xs) ++ drop i xs
-    → zs ≡ set ys i y → f (get_or ys i d) ≡ y → zs ≡ map f (take (i + 1) xs) ++ drop (i + 1) xs
-changed_rows f xs ys zs i y d within long so_far new is =
-    new ∙ ap (set ys i) (sym is)
-    ∙ map_over_more f xs ys i (get_or ys i d) within so_far (get_or_default ys i d (get_or ys i d) (omega (arith, long)))
-
 -- a row that runs from now on stands as it did
 module _ (taken : List Held) where
-  id_stays : (row : BookRow) → (row_taken taken row).id ≡ row.id
+  pub id_stays : (row : BookRow) → (row_taken taken row).id ≡ row.id
   id_stays row = by (is_held taken row.id)
     where
       by : (b : Bool) → (cond b (record row { state = Running }) row).id ≡ row.id
@@ -84,7 +75,7 @@ module _ (taken : List Held) where
   told_order least added [] h = h
   told_order least added (row ∷ rows) h = (rw (told_stays row) h.0, rw (told_stays row) (told_order row.told added rows h.1))
 
-  sizes_stay : (node : List ℕ) (rows : List BookRow) → sizes_on node (map (row_taken taken) rows) ≡ sizes_on node rows
+  pub sizes_stay : (node : List ℕ) (rows : List BookRow) → sizes_on node (map (row_taken taken) rows) ≡ sizes_on node rows
   sizes_stay node [] = refl
   sizes_stay node (row ∷ rows) = by (bytes_eq row.node node) refl (sizes_stay node rows)
     where
@@ -92,11 +83,6 @@ module _ (taken : List Held) where
           → sizes_on node (map (row_taken taken) (row ∷ rows)) ≡ sizes_on node (row ∷ rows)
       by true e rest = rw (node_stays row, e, size_stays row, rest) refl
       by false e rest = rw (node_stays row, e) rest
-
--- these enter: none has a row, and no two are of one container
-abbrev AreFresh : List BookRow → List Held → Type 0
-AreFresh rows [] = Unit {0}
-AreFresh rows (held ∷ list) = (list_any (is_of held.id) rows ≡ false) × (is_held list held.id ≡ false) × AreFresh rows list
 
 pub held_filter : (test : Held → Bool) (list : List Held) (id : ContainerId) → is_held list id ≡ false → is_held (filter test list) id ≡ false
 held_filter test [] id h = refl
@@ -109,7 +95,7 @@ held_filter test (held ∷ list) id h =
     by false e first rest = rw e rest
 
 -- of what is taken once, that which has no row among more
-fresh_of : (rows more : List BookRow) (list : List Held) → ((id : ContainerId) → list_any (is_of id) rows ≡ false → list_any (is_of id) more ≡ false) → AreOnce list
+pub fresh_of : (rows more : List BookRow) (list : List Held) → ((id : ContainerId) → list_any (is_of id) rows ≡ false → list_any (is_of id) more ≡ false) → AreOnce list
     → AreFresh more (filter (λ held. not (list_any (is_of held.id) rows)) list)
 fresh_of rows more [] less once = tt
 fresh_of rows more (held ∷ list) less once = by (list_any (is_of held.id) rows) refl (fresh_of rows more list less once.1)
@@ -120,7 +106,7 @@ fresh_of rows more (held ∷ list) less once = by (list_any (is_of held.id) rows
     by false e rest = rw e (less held.id e, held_filter (λ one. not (list_any (is_of one.id) rows)) list held.id once.0, rest)
 
 -- those that come after a first one are new where its row stands too
-fresh_after : (rows : List BookRow) (one : BookRow) (held : Held) (list : List Held) → one.id ≡ held.id → is_held list held.id ≡ false → AreFresh rows list → AreFresh (rows ++ one ∷ []) list
+pub fresh_after : (rows : List BookRow) (one : BookRow) (held : Held) (list : List Held) → one.id ≡ held.id → is_held list held.id ≡ false → AreFresh rows list → AreFresh (rows ++ one ∷ []) list
 fresh_after rows one held [] is apart new = tt
 fresh_after rows one held (other ∷ list) is apart new =
     let parts = or_parts (is_container other.id held.id) (is_held list held.id) apart in
@@ -200,29 +186,3 @@ module _ (book : BookOf) (node : List ℕ) (capability : Resource) (taken : List
     told = told_joined (map (row_taken taken) left) book.added node (entering book taken) (told_order taken 0 book.added left left_lawful.told);
     fit = fit_elsewhere fits;
   }
-
--- the rows after a call on all of them, where some left and others entered before it
-pub absorbed_rows : (book : BookOf) (node : List ℕ) (capability : Resource) (taken : List Held) (ended : List ContainerId) (left entered joined run : List BookRow) (n : ℕ)
-    → left ≡ filter (λ row. not (list_any (λ id. is_container id row.id) ended)) book.rows → entered ≡ taken_rows book.added node (entering book taken) → joined ≡ left ++ entered
-    → run ≡ map (row_taken taken) joined → length joined ≡ n → take n (run ++ drop (length run) joined) ≡ (with_taken book node capability taken ended).rows
-absorbed_rows book node capability taken ended left entered joined run n is_left is_entered is_joined is_run long =
-    whole n run joined long (ap length is_run ∙ length-map joined (row_taken taken) ∙ long)
-    ∙ is_run ∙ ap (map (row_taken taken)) is_joined ∙ map-append (row_taken taken) left entered
-    ∙ rw (is_left, is_entered, running_stay taken book.added node (entering book taken)) refl
-
--- a row at a place lives
-living_place : (rows : List BookRow) (i : ℕ) (d : BookRow) → AreLiving rows → i < length rows → is_living (get_or rows i d).state ≡ true
-living_place [] i d h less = absurd (omega (arith, less))
-living_place (row ∷ rows) zero d h less = h.0
-living_place (row ∷ rows) (suc i) d h less = living_place rows i d h.1 (omega (arith, less))
-
--- the row at a place that no step has changed yet lives
-pub living_now : (f : BookRow → BookRow) (xs ys : List BookRow) (i : ℕ) (d : BookRow) → AreLiving xs → i < length xs → ys ≡ map f (take i xs) ++ drop i xs → is_living (get_or ys i d).state ≡ true
-living_now f xs ys i d h less so_far =
-    let now : get_or ys i d ≡ get_or xs i d = ap (λ (l : List BookRow). get_or l i d) so_far ∙ at_drop f xs i d less in
-    rw now (living_place xs i d h less)
-  where
-    at_drop : (f : BookRow → BookRow) (xs : List BookRow) (i : ℕ) (d : BookRow) → i < length xs → get_or (map f (take i xs) ++ drop i xs) i d ≡ get_or xs i d
-    at_drop f [] i d less = absurd (omega (arith, less))
-    at_drop f (x ∷ xs) zero d less = refl
-    at_drop f (x ∷ xs) (suc i) d less = at_drop f xs i d (omega (arith, less))

@@ -1,5 +1,5 @@
 -- Somebody may be told of what an attempt was granted and nobody was told of yet.
-use Rattle.std.proofs.Common.{◌≡◌, Bool, true, false, ◌&&◌, List, [], ◌∷◌, Result, Ok, Err, IfOk, IfSome, filter, find, map, refl, sym, ◌∙◌, subst}
+use Rattle.std.proofs.Common.{◌≡◌, Bool, true, false, ◌&&◌, List, [], ◌∷◌, IfSome, filter, find, refl, ◌∙◌}
 use Rattle.std.specs.List.{list_any}
 use Rattle.std.proofs.lemmas.Bool.{or_parts}
 use Rattle.rm_types.specs.declared.containers.BookRow.{BookRow}
@@ -7,7 +7,7 @@ use Rattle.rm_types.specs.declared.containers.ContainerState.{ContainerState}
 use Rattle.rm_types.specs.declared.containers.ContainerState.TheVariants.{Granted, Acquired, Running, Completed}
 use Rattle.rm_types.specs.declared.containers.Grant.{Grant}
 use Rattle.rm_types.specs.declared.ids.AttemptId.{AttemptId}
-use Rattle.rm_types.specs.Ids.{is_attempt, is_container}
+use Rattle.rm_types.specs.Ids.{is_attempt}
 use Rattle.rm_types.proofs.IdLemmas.{container_back, container_itself}
 use Rattle.rm_book.specs.Books.{AreApart, is_of}
 use Rattle.rm_book.specs.Granted.{AllMayBeTold, grants_to, is_granted, is_granted_to, may_be_told}
@@ -51,9 +51,3 @@ told_filter rows test (grant ∷ grants) told = by (test grant) refl (told_filte
     by : (b : Bool) → test grant ≡ b → AllMayBeTold rows (filter test grants) → AllMayBeTold rows (filter test (grant ∷ grants))
     by true e rest = rw e (told.0, rest)
     by false e rest = rw e rest
-
--- where they were listed
-pub granted_listed : {E : Type 0} (attempt : AttemptId) (rows : List BookRow) → AreApart rows → (r : Result (List Grant) E) → IfOk r (λ grants. grants ≡ grants_to rows attempt)
-    → IfOk r (λ grants. AllMayBeTold rows grants)
-granted_listed attempt rows apart (Ok grants) is = subst (AllMayBeTold rows) (sym is) (granted_to_told attempt rows apart)
-granted_listed attempt rows apart (Err e) is = tt

@@ -9,8 +9,8 @@ use Rattle.rm_types.specs.declared.resources.Resource.{Resource}
 use Rattle.rm_types.specs.Ids.{is_attempt}
 use Rattle.rm_types.specs.Lists.{is_nil}
 use Rattle.rm_types.specs.Passes.{by_priority}
-use Rattle.rm_book.specs.AskTables.{AskNow, AsksOf, asks_of, asks_set, asks_granted, granted_in, is_for, one_less, renewed, some_asks, with_asks_of, without_asks_of}
-use Rattle.rm_book.specs.AskLines.{AttemptAsks, AreLines, IsAskTable, ask_of, asks_in, asks_of_entry, by_order, in_line, is_line_for, lines_in, lines_set, lines_granted, order_of, with_lines}
+use Rattle.rm_book.specs.AskTables.{AskNow, AsksOf, asks_of, asks_set, asks_granted, granted_in, is_for, one_less, renewed, some_asks, waiting_in, with_asks_of, without_asks_of}
+use Rattle.rm_book.specs.AskLines.{AttemptAsks, AreLines, IsAskTable, ask_of, asks_in, asks_of_entry, by_order, in_line, is_line_for, lines_in, lines_set, lines_granted, order_of, put_by, with_lines}
 use Rattle.rm_book.proofs.Entries.{Changed, lawful_lines}
 use Rattle.rm_book.proofs.Lists.{any_view, filter_view, map_view}
 use Rattle.rm_book.proofs.Numbered.{placed_last, by_order_changed, by_order_filter, kept_in_order}
@@ -120,3 +120,25 @@ granted_table priority size attempt entries =
         ∙ ap (λ (asks : List Ask). with_asks_of attempt asks (map asks_of_entry entries))
         (granted_view priority size (lines_in entries attempt) ∙ ap (asks_granted priority size) (sym (view_of entries attempt))))
     by false e v = let f = sym v ∙ e in rw (e, f) refl
+
+-- an attempt asks for something where it has a line
+nil_view : (lines : List AskLine) → is_nil (asks_in lines) ≡ is_nil lines
+nil_view [] = refl
+nil_view (line ∷ lines) = placed line (by_order lines)
+  where
+    placed : (line : AskLine) (lines : List AskLine) → is_nil (map ask_of (put_by order_of line lines)) ≡ false
+    placed line [] = refl
+    placed line (other ∷ lines) = by (nat_lt other.order line.order) refl
+      where
+        by : (b : Bool) → nat_lt other.order line.order ≡ b → is_nil (map ask_of (put_by order_of line (other ∷ lines))) ≡ false
+        by true e = rw e refl
+        by false e = rw e refl
+
+pub waiting_view : (entries : List AttemptAsks) → map (λ entry. entry.attempt) (filter (λ entry. not (is_nil entry.lines)) entries) ≡ waiting_in (map asks_of_entry entries)
+waiting_view [] = refl
+waiting_view (entry ∷ entries) = by (is_nil entry.lines) refl (waiting_view entries)
+  where
+    by : (b : Bool) → is_nil entry.lines ≡ b → map (λ entry. entry.attempt) (filter (λ entry. not (is_nil entry.lines)) entries) ≡ waiting_in (map asks_of_entry entries)
+        → map (λ entry. entry.attempt) (filter (λ entry. not (is_nil entry.lines)) (entry ∷ entries)) ≡ waiting_in (map asks_of_entry (entry ∷ entries))
+    by true e rest = let f = nil_view entry.lines ∙ e in rw (e, f) rest
+    by false e rest = let f = nil_view entry.lines ∙ e in rw (e, f) (ap (λ (more : List AttemptId). entry.attempt ∷ more) rest)

@@ -1,38 +1,36 @@
--- How the lines of attempts are kept: by attempt, in any order, each with the number of its entry, which gives back the order of
--- entering. This project's own.
-use Rattle.std.specs.Prelude.{◌≡◌, ℕ, ◌+◌, ◌==◌, nat_lt, Bool, true, not, ◌&&◌, List, [], ◌∷◌, map}
-use Rattle.std.specs.List.{list_all}
+-- How the lines of attempts are kept: by attempt, in the order of entering, and beside them the attempts that have some. This
+-- project's own.
+use Rattle.std.specs.Prelude.{◌≡◌, Bool, true, false, List, [], ◌∷◌, map, Option, None, Some, unwrap_or}
+use Rattle.std.specs.List.{IsDistinct, list_any}
+use Rattle.std.specs.Map.{keys_of, lookup}
+use Rattle.rm_types.specs.declared.containers.AskLine.{AskLine}
 use Rattle.rm_types.specs.declared.ids.AttemptId.{AttemptId}
 use Rattle.rm_types.specs.Ids.{is_attempt}
-use Rattle.rm_book.specs.AskLines.{AttemptAsks, sorted_by}
-use Rattle.rm_book.specs.declared.attempts.AttemptLines.{AttemptLines}
+use Rattle.rm_book.specs.AskLines.{AttemptAsks}
 
--- an attempt, and its lines with their number
-abbrev pub Slot : Type 0
-Slot = AttemptId × AttemptLines
+-- an attempt, and its lines
+abbrev pub Entry : Type 0
+Entry = AttemptId × List AskLine
 
--- the number of its entry
-abbrev pub number_of : Slot → ℕ
-number_of slot = slot.1.number
+-- the same as contracts see it
+abbrev pub entry_of : Entry → AttemptAsks
+entry_of entry = record { attempt = entry.0; lines = entry.1 }
 
--- an attempt's lines without their number
-abbrev pub entry_of : Slot → AttemptAsks
-entry_of slot = record { attempt = slot.0; lines = slot.1.lines }
+-- the lines of attempts as contracts see them
+abbrev pub entries_in : List Entry → List AttemptAsks
+entries_in entries = map entry_of entries
 
--- the lines of attempts in the order of entering
-abbrev pub entries_in : List Slot → List AttemptAsks
-entries_in slots = map entry_of (sorted_by number_of slots)
+-- the lines of an attempt; none where it has none
+abbrev pub lines_at : List Entry → AttemptId → List AskLine
+lines_at entries attempt = unwrap_or (lookup (is_attempt attempt) entries) []
 
--- two slots have neither their attempt nor their number in common
-abbrev pub are_apart : Slot → Slot → Bool
-are_apart one other = not (is_attempt one.0 other.0) && not (number_of one == number_of other)
+-- an attempt whose lines these are has one at least
+abbrev pub has_some : Option (List AskLine) → Bool
+has_some None = false
+has_some (Some []) = false
+has_some (Some (line ∷ lines)) = true
 
--- each two do
-abbrev pub AreApart : List Slot → Type 0
-AreApart [] = Unit {0}
-AreApart (slot ∷ slots) = (list_all (are_apart slot) slots ≡ true) × AreApart slots
-
--- what holds of the slots where so many entered
-pub record AreSlots (entered : ℕ) (slots : List Slot) : Type 0 where
-  pub apart : AreApart slots
-  pub numbers : list_all (λ slot. nat_lt (number_of slot) (entered + 1)) slots ≡ true
+-- no two entries are of one attempt, and those that wait are the attempts that have a line
+pub record AreKept (entries : List Entry) (waiting : List AttemptId) : Type 0 where
+  pub unique : IsDistinct is_attempt (keys_of entries)
+  pub waits : (one : AttemptId) → list_any (is_attempt one) waiting ≡ has_some (lookup (is_attempt one) entries)

@@ -1,10 +1,11 @@
 -- What attempts were granted and nobody was told of yet. This project's own.
-use Rattle.std.specs.Prelude.{◌≡◌, List, [], ◌∷◌, Bool, true, false, ◌&&◌, IfSome, filter, find, map}
+use Rattle.std.specs.Prelude.{◌≡◌, List, [], ◌∷◌, Bool, true, false, ◌&&◌, IfSome, filter, find, map, Option, None, Some, if◌then◌else◌}
 use Rattle.rm_types.specs.declared.containers.BookRow.{BookRow}
 use Rattle.rm_types.specs.declared.containers.ContainerState.{ContainerState}
 use Rattle.rm_types.specs.declared.containers.ContainerState.TheVariants.{Granted, Acquired, Running, Completed}
 use Rattle.rm_types.specs.declared.containers.Grant.{Grant}
 use Rattle.rm_types.specs.declared.ids.AttemptId.{AttemptId}
+use Rattle.rm_types.specs.declared.ids.ContainerId.{ContainerId}
 use Rattle.rm_types.specs.Ids.{is_attempt}
 use Rattle.rm_book.specs.Books.{is_of}
 
@@ -38,3 +39,12 @@ may_be_told Completed = false
 abbrev pub AllMayBeTold : List BookRow → List Grant → Type 0
 AllMayBeTold rows [] = Unit {0}
 AllMayBeTold rows (grant ∷ grants) = IfSome (find (is_of grant.id) rows) (λ row. may_be_told row.state ≡ true) × AllMayBeTold rows grants
+
+-- the grant of a row, if it is of a container that was granted to this attempt and that nobody was told of yet
+abbrev pub granted_by : AttemptId → Option BookRow → Option Grant
+granted_by attempt None = None
+granted_by attempt (Some row) = if is_granted_to attempt row then Some (grant_of row) else None
+
+-- the same of a container
+abbrev pub granted_in : List BookRow → AttemptId → ContainerId → Option Grant
+granted_in rows attempt id = granted_by attempt (find (is_of id) rows)

@@ -2,7 +2,7 @@ ghost use Rattle.std.specs.Prelude.{◌≡◌, [], OnOk, OnErr, IfOk, length, ma
 ghost use Rattle.std.specs.List.{list_any};
 ghost use Rattle.std.specs.Option.{option_copied};
 ghost use Rattle.rm_types.specs.Passes.{by_priority};
-ghost use Rattle.rm_book.specs.AskTables.{AskNow, asks_of, asks_set, asks_granted, granted_in, is_for, some_asks, with_asks_of, without_asks_of};
+ghost use Rattle.rm_book.specs.AskTables.{AskNow, asks_of, asks_set, asks_granted, granted_in, is_for, some_asks, with_asks_of, without_asks_of, waiting_in, AttemptsAscend};
 ghost use Rattle.rm_book.specs.ManyAsks.{all_asked, asks_after};
 
 use crate::attempts::Attempts;
@@ -93,6 +93,13 @@ impl Asks {
     {
         let lines = self.attempts.of(attempt)?;
         if lines.is_empty() { None } else { Some(lines) }
+    }
+
+    /// The attempts that ask for something, ascending. They are found without a walk over the others.
+    pub fn waiting(&self) -> Result<Items<AttemptId>, NoMemory>
+        ensures { IfOk result (λ ids. AttemptsAscend (waiting_in self.now) ids) }
+    {
+        self.attempts.waiting()
     }
 
     /// Takes all asks of an attempt away.

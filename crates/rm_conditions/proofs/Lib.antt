@@ -1,4 +1,5 @@
 mod Apart
 mod Few
 mod Fronts
+mod Looking
 mod Passable

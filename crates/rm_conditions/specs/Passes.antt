@@ -4,6 +4,8 @@ use Rattle.std.specs.List.{list_all}
 use Rattle.rm_types.specs.declared.ids.AttemptId.{AttemptId}
 use Rattle.rm_types.specs.declared.resources.Resource.{Resource}
 use Rattle.rm_book.specs.AskTables.{asks_of}
+use Rattle.rm_book.specs.Books.{BookOf, capability_of}
+use Rattle.rm_book.specs.declared.plain.NodeCapability.{NodeCapability}
 use Rattle.rm_fit.specs.Conditions.{are_some_sizes, is_past}
 use Rattle.rm_tables.specs.declared.rows.AppRow.{AppRow}
 use Rattle.rm_tables.specs.declared.rows.Current.{Current}
@@ -14,6 +16,11 @@ use Rattle.rm_tables.specs.Passing.{asks_some, turn_in}
 abbrev pub offers_few : Option Resource → Bool
 offers_few None = true
 offers_few (Some capability) = nat_le capability.vcores 256
+
+-- the same of a node of a book, if it is there
+abbrev pub offers_few_at : BookOf → Option NodeCapability → Bool
+offers_few_at book None = true
+offers_few_at book (Some one) = offers_few (capability_of book one.node)
 
 -- an attempt was granted so few containers that the sequence of one more is at most 2^39
 abbrev pub is_early_at : Option Current → Bool

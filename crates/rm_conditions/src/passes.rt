@@ -4,11 +4,10 @@ ghost use Rattle.std.specs.List.{list_all};
 ghost use Rattle.rm_types.specs.declared.ids.AppId.{AppId as App};
 ghost use Rattle.rm_types.specs.declared.records.AppRecord.{AppRecord as Record};
 ghost use Rattle.rm_book.specs.Books.{capability_of};
-ghost use Rattle.rm_fit.specs.Conditions.{is_past};
 ghost use Rattle.rm_model.specs.Attempts.{attempt_at};
 ghost use Rattle.rm_tables.specs.Rows.{row_of};
 ghost use Rattle.rm_sched.specs.CanWork.{AreFew, CanPass};
-ghost use Rattle.rm_conditions.specs.Passes.{is_early, is_new_to, may_have_turn, offers_few};
+ghost use Rattle.rm_conditions.specs.Passes.{is_early, is_new_to, may_have_turn, offers_few, offers_few_at};
 
 use crate::counts::are_few;
 use crate::turns::law_apart;
@@ -16,7 +15,7 @@ use rm_book::Book;
 use rm_fit::has_sizes;
 use rm_sched::{asks_some, attempt_at, granted_to};
 use rm_tables::{Rows, Tables};
-use rm_types::{AppId, AppRecord, AttemptId, BookRow, GREATEST_VCORES, Text};
+use rm_types::{AppId, AppRecord, AttemptId, GREATEST_VCORES, Text};
 
 /// The sequence of an attempt's next container is at most this, so that those of one pass stay in their range.
 const GREATEST_NEXT_SEQUENCE: u64 = 1 << 39;
@@ -31,11 +30,26 @@ fn offers_few(book: &Book, node: &Text) -> bool
     }
 }
 
+/// Whether the node at a place does, if there is one.
+fn offers_few_at(book: &Book, place: usize) -> bool
+    ensures { result ≡ offers_few_at book.now (slice_get book.now.nodes place) }
+{
+    match book.node_at(place) {
+        Some(node) => offers_few(book, node),
+        None => true,
+    }
+}
+
 /// Whether each node does.
 fn have_room(book: &Book) -> bool
     ensures { result ≡ list_all (λ one. offers_few (capability_of book.now one.node)) book.now.nodes }
 {
-    book.nodes().iter().all(|one| offers_few(book, &one.node))
+    'nodes: for place in 0..book.node_count() {
+        if !offers_few_at(book, place) {
+            return false;
+        }
+    }
+    true
 }
 
 /// Whether the sequence of one more container of an application's current attempt is at most the greatest.
@@ -63,22 +77,12 @@ fn are_early(rows: &Rows) -> bool
     true
 }
 
-/// Whether the container of a row is none that an attempt may yet be granted, which was granted so many in the life of an epoch.
-fn is_past(row: &BookRow, epoch: u32, attempt: AttemptId, granted: u64) -> bool
-    ensures { result ≡ is_past epoch (record { attempt = attempt; next_seq = granted + 1 }) row.now }
-{
-    row.id.attempt != attempt || row.id.epoch != epoch || row.id.seq <= granted
-}
-
 /// Whether no container of the book is one that an attempt may yet be granted.
 fn is_new_to(t: &Tables, attempt: AttemptId) -> bool
     ensures { result ≡ is_new_to t.now attempt }
 {
-    let granted = granted_to(&t.rows, attempt);
-    t.book
-        .rows()
-        .iter()
-        .all(|row| is_past(row, t.epoch, attempt, granted))
+    !t.book
+        .has_later(attempt, t.epoch, granted_to(&t.rows, attempt))
 }
 
 /// Whether an attempt may have a turn.

@@ -1,32 +1,26 @@
 -- Lists that a pass goes over, and what it grants.
-use Rattle.std.proofs.Common.{◌≡◌, ◌≤◌, ℕ, ◌+◌, ◌^◌, nat_le, nat_lt, List, [], ◌∷◌, ◌++◌, Bool, true, false, not, Option, None, Some, is_some, is_none, map, filter, option_map, take, slice_get, refl, sym, ◌∙◌, ap, arith, Bor}
-use Rattle.std.specs.Prelude.{find, if◌then◌else◌, IsSomeAnd}
+use Rattle.std.proofs.Common.{◌≡◌, ◌≤◌, ℕ, ◌+◌, ◌^◌, nat_le, nat_lt, List, [], ◌∷◌, Bool, true, false, not, Option, None, Some, is_some, is_none, map, filter, option_map, refl, sym, ◌∙◌, ap, arith, Bor}
+use Rattle.std.specs.Prelude.{find, IsSomeAnd}
 use Rattle.std.specs.Option.{option_copied}
 use Rattle.std.proofs.lemmas.Bool.{false≢true}
 use Rattle.std.proofs.lemmas.Bool.Decides.{nat_tests}
-use Rattle.std.proofs.lemmas.List.{map-append}
-use Rattle.std.proofs.lemmas.List.Elements.{filter-append}
 use Rattle.rm_types.specs.declared.containers.Ask.{Ask}
 use Rattle.rm_types.specs.declared.containers.AskLine.{AskLine}
-use Rattle.rm_types.specs.declared.containers.Grant.{Grant}
-use Rattle.rm_types.specs.declared.containers.Turn.{Turn}
 use Rattle.rm_types.specs.declared.ids.AppId.{AppId}
 use Rattle.rm_types.specs.declared.ids.AttemptId.{AttemptId}
-use Rattle.rm_types.specs.declared.records.AppRecord.{AppRecord}
 use Rattle.rm_types.specs.declared.resources.Resource.{Resource}
 use Rattle.rm_types.specs.Lists.{is_nil}
 use Rattle.rm_types.specs.Passes.{by_priority, put_by_priority}
 use Rattle.rm_types.specs.Resources.{difference_of}
-use Rattle.rm_book.specs.AskTables.{AsksOf, granted_in, some_asks}
+use Rattle.rm_book.specs.AskTables.{some_asks}
 use Rattle.rm_book.specs.Books.{BookOf, capability_of, free_on, total_on}
 use Rattle.rm_fit.specs.Conditions.{are_early}
 use Rattle.rm_model.specs.Attempts.{attempt_at}
 use Rattle.rm_model.specs.Containers.{is_size}
 use Rattle.rm_tables.specs.declared.rows.AppRow.{AppRow}
 use Rattle.rm_tables.specs.declared.tables.Tables.{Tables}
-use Rattle.rm_tables.specs.Passing.{answered, asks_some, granted_by, turn_in, turns_in}
+use Rattle.rm_tables.specs.Passing.{asks_some, granted_by, turn_in, turns_in}
 use Rattle.rm_tables.specs.Rows.{row_of}
-use Rattle.rm_tables.proofs.Placed.{take_got}
 use Rattle.rm_sched.specs.CanWork.{CanPass}
 
 -- asks in the order of a pass are there where asks are
@@ -57,22 +51,6 @@ lines_are lines asks e = by (by_priority asks) e
     by : (found : List Ask) → Some (map (λ (line : AskLine). line.ask) lines) ≡ some_asks found → map (λ (line : AskLine). line.ask) lines ≡ found
     by [] e = cc
     by (ask ∷ more) e = cc
-
--- one more turn, where the attempt of one more record asks for something
-pub turns_more : (rows : List (AppId × Option AppRow)) (asks : List AsksOf) (apps : List AppRecord) (place : ℕ) (app : AppRecord) → slice_get apps place ≡ Some app
-    → map (turn_in rows) (filter (asks_some asks) (map attempt_at (take (place + 1) apps)))
-    ≡ map (turn_in rows) (filter (asks_some asks) (map attempt_at (take place apps))) ++ (if asks_some asks (attempt_at app) then turn_in rows (attempt_at app) ∷ [] else [])
-turns_more rows asks apps place app e =
-    ap (λ (xs : List AppRecord). map (turn_in rows) (filter (asks_some asks) (map attempt_at xs))) (take_got apps place app e)
-    ∙ ap (λ (xs : List AttemptId). map (turn_in rows) (filter (asks_some asks) xs)) (map-append attempt_at (take place apps) (app ∷ []))
-    ∙ ap (map (turn_in rows)) (filter-append (asks_some asks) (map attempt_at (take place apps)) (attempt_at app ∷ []))
-    ∙ map-append (turn_in rows) (filter (asks_some asks) (map attempt_at (take place apps))) (filter (asks_some asks) (attempt_at app ∷ []))
-    ∙ ap (λ (xs : List Turn). map (turn_in rows) (filter (asks_some asks) (map attempt_at (take place apps))) ++ xs) (by (asks_some asks (attempt_at app)) refl)
-  where
-    by : (b : Bool) → asks_some asks (attempt_at app) ≡ b
-        → map (turn_in rows) (filter (asks_some asks) (attempt_at app ∷ [])) ≡ (if asks_some asks (attempt_at app) then turn_in rows (attempt_at app) ∷ [] else [])
-    by true f = rw f refl
-    by false f = rw f refl
 
 -- what a grant answers
 pub found_line : (lines : List AskLine) (size : Resource)

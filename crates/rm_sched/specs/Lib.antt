@@ -1,2 +1,3 @@
 pub mod CanWork
 pub mod ClosingLists
+pub mod Turns

@@ -1,5 +1,5 @@
 //! Passes: what a beat is granted.
-ghost use Rattle.std.specs.Prelude.{◌≡◌, ◌+◌, ◌<◌, ◌^◌, ◌≤◌, [], ◌∷◌, ◌++◌, not, Some, find, fold, option_map, length, count_by, ◌&&◌, if◌then◌else◌, is_some, IfOk, IfSome, OnOk, OnErr};
+ghost use Rattle.std.specs.Prelude.{◌≡◌, ◌+◌, ◌<◌, ◌^◌, ◌≤◌, [], ◌∷◌, ◌++◌, not, Some, filter, find, fold, map, option_map, length, count_by, ◌&&◌, if◌then◌else◌, is_some, IfOk, IfSome, OnOk, OnErr};
 ghost use Rattle.std.specs.Option.{option_copied};
 ghost use Rattle.rm_types.specs.Passes.{by_priority};
 ghost use Rattle.rm_book.specs.AskTables.{asks_of};
@@ -9,6 +9,7 @@ ghost use Rattle.rm_model.specs.Containers.{is_size};
 ghost use Rattle.rm_tables.specs.Nodes.{node_of};
 ghost use Rattle.rm_tables.specs.Passing.{asks_some, fitted_on, granted_by, masters_granted, passed_with, row_granted, still_waits, turn_in, turns_in, updated_by, waits_for_master, without_granted};
 ghost use Rattle.rm_tables.specs.Rows.{row_of};
+ghost use Rattle.rm_sched.specs.Turns.{has_waiting, turns_of};
 ghost use Rattle.rm_sched.specs.CanWork.{AreFew, CanPass, GrantsFit};
 
 use crate::asking::quiet;
@@ -18,8 +19,8 @@ use rm_fit::first_fit;
 use rm_node::NodeState;
 use rm_tables::{AppRow, AttemptChange, MainEvent, RowChange, Rows, Tables};
 use rm_types::{
-    AppRecord, AskLine, AttemptId, AttemptRecord, Boxed, Duplicate, Entry, Grant, Items, NoMemory,
-    Resource, Text, Turn,
+    AppId, AppRecord, AskLine, AttemptId, AttemptRecord, Boxed, Duplicate, Entry, Grant, Items,
+    NoMemory, Resource, Text, Turn,
 };
 use std::alloc::Global;
 
@@ -73,16 +74,45 @@ pub fn asks_some(asks: &Asks, id: AttemptId) -> bool
     asks.of(id).is_some()
 }
 
-/// The turns of a pass.
+/// The applications of the attempts that ask for something, in kept order.
+fn waiting_apps(t: &Tables) -> Result<Items<AppId>, NoMemory>
+    ensures { IfOk result (λ ids. ids ≡ filter (has_waiting t.now.asks) (map (λ app. app.id) t.now.tree.apps)) }
+{
+    let waiting = t.asks.waiting()?;
+    let apps = apps_of(t.alloc, waiting.as_slice())?;
+    t.tree.in_kept_order(apps.as_slice())
+}
+
+/// The applications of these attempts.
+fn apps_of(alloc: Global, attempts: &[AttemptId]) -> Result<Vec<AppId>, NoMemory>
+    ensures { IfOk result (λ apps. apps.items ≡ map (λ attempt. attempt.app) attempts.now) }
+{
+    Ok(attempts.iter().map(|attempt| attempt.app).collect(alloc)?)
+}
+
+/// The turns of a pass. It goes over the applications alone of which an attempt asks for something.
 fn turns(t: &Tables) -> Result<Items<Turn>, NoMemory>
     requires few { AreFew t.now }
     requires pass { CanPass t.now }
     ensures { IfOk result (λ turns. turns ≡ turns_in t.now) }
 {
+    // With its length a tree tells that each application is there once.
+    let _apart = t.tree.len();
+    let kept = waiting_apps(t)?;
+    turns_of(t, kept.as_slice())
+}
+
+/// The turns of these applications.
+fn turns_of(t: &Tables, ids: &[AppId]) -> Result<Items<Turn>, NoMemory>
+    requires few { AreFew t.now }
+    requires pass { CanPass t.now }
+    ensures { IfOk result (λ turns. turns ≡ turns_of t.now ids.now) }
+{
     let mut turns = Items::new(t.alloc);
-    let count = t.tree.len();
-    'records: for place in 0..count {
-        push_turn(&mut turns, t, attempt_at(t.tree.at(place)))?;
+    'records: for id in ids {
+        if let Some(app) = t.tree.find(*id) {
+            push_turn(&mut turns, t, attempt_at(app))?;
+        }
     }
     Ok(turns)
 }
@@ -225,13 +255,6 @@ fn grants_on(t: &Tables, name: &Text, ready: bool) -> Result<Items<Grant>, NoMem
     }
 }
 
-/// The gaps that removed applications left among the records are closed, over which a pass would walk anew at each record.
-fn close_gaps(t: &mut Tables)
-    ensures { t.new ≡ t.old }
-{
-    t.tree.close_gaps();
-}
-
 /// NodeUpdate: a pass answers a beat.
 pub fn updated(t: &mut Tables, name: &Text) -> Result<Entry, NoMemory>
     requires few { AreFew t.old }
@@ -246,7 +269,6 @@ pub fn updated(t: &mut Tables, name: &Text) -> Result<Entry, NoMemory>
     let logged = name.copy()?;
     let node = Boxed::new(t.alloc, logged)?;
     let mut room = Boxed::new(t.alloc, Items::new(t.alloc))?;
-    close_gaps(t);
     let grants = grants_on(t, name, ready)?;
     grant_all(t, name, &grants)?;
     room.set(grants);

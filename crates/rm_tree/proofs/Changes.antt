@@ -1,6 +1,5 @@
 -- What operations on attempts leave of their numbers, and what the end of the last one changes.
-use Rattle.std.proofs.Common.{◌≡◌, ℕ, suc, ◌+◌, ◌-◌, ◌<◌, Bool, true, false, ◌&&◌, List, [], ◌∷◌, ◌++◌, length, map, Option, None, Some, is_none, refl, sym, ap, ◌∙◌, arith}
-use Rattle.std.specs.Option.{option_map}
+use Rattle.std.proofs.Common.{◌≡◌, ℕ, suc, ◌+◌, ◌<◌, Bool, true, false, ◌&&◌, List, [], ◌∷◌, ◌++◌, length, map, Option, None, Some, is_none, refl, ap, ◌∙◌, arith}
 use Rattle.std.proofs.lemmas.Bool.Decides.{nat_tests}
 use Rattle.std.proofs.lemmas.List.{map-append}
 use Rattle.rm_types.specs.declared.ids.AppId.{AppId}
@@ -9,10 +8,10 @@ use Rattle.rm_types.specs.declared.operations.How.{How}
 use Rattle.rm_types.specs.declared.records.AppRecord.{AppRecord}
 use Rattle.rm_types.specs.declared.records.AttemptRecord.{AttemptRecord}
 use Rattle.rm_types.specs.Ids.{is_attempt}
-use Rattle.rm_types.specs.Records.{with_end, last_attempt, is_some_and}
+use Rattle.rm_types.specs.Records.{with_end, last_attempt}
 use Rattle.rm_tree.specs.Changes.{with_attempt, with_ended, with_ending, is_next, is_unended_last}
 use Rattle.rm_tree.specs.Numbers.{AreAttemptsFrom}
-use Rattle.rm_tree.specs.Slots.{IsOwn}
+use Rattle.rm_tree.specs.Entries.{IsRecordOf}
 
 -- one more attempt has the next number
 numbers_end : (id : AppId) (before : ℕ) (attempts : List AttemptRecord) (attempt : AttemptRecord) → AreAttemptsFrom id before attempts
@@ -32,22 +31,18 @@ numbers_ended id before (attempt ∷ attempts) one how text h = (same (is_attemp
     same true e = rw e h.0
     same false e = rw e h.0
 
-pub own_with_attempt : (id : AppId) (attempt : AttemptRecord) (v : Option AppRecord) → attempt.id.app ≡ id → is_some_and (is_next attempt.id.number) v ≡ true
-    → (key : AppId) → key ≡ id → IsOwn key v → IsOwn key (option_map (with_attempt attempt) v)
-own_with_attempt id attempt None a n key k o = tt
-own_with_attempt id attempt (Some app) a n key k o =
+-- a record that is an application's stays its own
+pub own_with_attempt : (attempt : AttemptRecord) (app : AppRecord) → is_next attempt.id.number app ≡ true → IsRecordOf attempt.id.app app → IsRecordOf attempt.id.app (with_attempt attempt app)
+own_with_attempt attempt app n o =
     let number : attempt.id.number ≡ 0 + length app.attempts + 1 = grind (arith, nat_tests) in
-    let app_id : attempt.id.app ≡ key = a ∙ sym k in
-    let whole : attempt.id ≡ record { app = key; number = 0 + length app.attempts + 1 } = (λ i. record { app = app_id i; number = number i }) in
-    record { same = o.same; numbered = numbers_end key 0 app.attempts attempt o.numbered whole }
+    let whole : attempt.id ≡ record { app = attempt.id.app; number = 0 + length app.attempts + 1 } = (λ i. record { app = attempt.id.app; number = number i }) in
+    record { same = o.same; numbered = numbers_end attempt.id.app 0 app.attempts attempt o.numbered whole }
 
-pub own_with_ended : (one : AttemptId) (how : How) (text : List ℕ) (v : Option AppRecord) (key : AppId) → IsOwn key v → IsOwn key (option_map (with_ended one how text) v)
-own_with_ended one how text None key o = tt
-own_with_ended one how text (Some app) key o = record { same = o.same; numbered = numbers_ended key 0 app.attempts one how text o.numbered }
+pub own_with_ended : (one : AttemptId) (how : How) (text : List ℕ) (key : AppId) (app : AppRecord) → IsRecordOf key app → IsRecordOf key (with_ended one how text app)
+own_with_ended one how text key app o = record { same = o.same; numbered = numbers_ended key 0 app.attempts one how text o.numbered }
 
-pub own_with_ending : (how : How) (text : List ℕ) (order : ℕ) (v : Option AppRecord) (key : AppId) → IsOwn key v → IsOwn key (option_map (with_ending how text order) v)
-own_with_ending how text order None key o = tt
-own_with_ending how text order (Some app) key o = record { same = o.same; numbered = o.numbered }
+pub own_with_ending : (how : How) (text : List ℕ) (order : ℕ) (key : AppId) (app : AppRecord) → IsRecordOf key app → IsRecordOf key (with_ending how text order app)
+own_with_ending how text order key app o = record { same = o.same; numbered = o.numbered }
 
 -- the last of so many has a greater number
 last_later : (id : AppId) (before : ℕ) (front : List AttemptRecord) (last : AttemptRecord) → AreAttemptsFrom id before (front ++ last ∷ [])

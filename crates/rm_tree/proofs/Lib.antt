@@ -1,4 +1,3 @@
 pub mod Changes
-pub mod Copying
+pub mod Entries
 pub mod Shows
-pub mod Slots

@@ -1,4 +1,4 @@
 pub mod Changes
+pub mod Entries
 pub mod Numbers
 pub mod Shows
-pub mod Slots

@@ -1,5 +1,5 @@
-ghost use Rattle.std.specs.Prelude.{◌≡◌, ◌&&◌, ◌+◌, ◌==◌, length, is_none, IfSome, IsTrue, OnOk, OnErr};
-ghost use Rattle.std.specs.Option.{option_copied, option_map};
+ghost use Rattle.std.specs.Prelude.{◌≡◌, ◌&&◌, ◌+◌, ◌==◌, length, is_none, IsTrue, OnOk, OnErr};
+ghost use Rattle.std.specs.Option.{option_copied};
 ghost use Rattle.rm_types.specs.Records.{all_ended, last_attempt};
 ghost use Rattle.rm_tree.specs.Changes.{is_unended_last, with_ended};
 ghost use Rattle.rm_tree.specs.Numbers.{AreAttemptsFrom};
@@ -44,34 +44,15 @@ pub fn is_unended_last(app: &AppRecord, id: AttemptId) -> bool
     }
 }
 
-/// Says how a record's last attempt ended, if the record is there. `NoMemory` leaves it as it was.
-pub fn end_in_slot(
-    slot: &mut Option<AppRecord>,
-    id: AttemptId,
-    how: How,
-    text: &Text,
-) -> Result<(), NoMemory>
-    requires numbered { IfSome slot.old (λ app. AreAttemptsFrom app.id 0 app.attempts) }
-    requires last { IfSome slot.old (λ app. IsTrue (is_unended_last id app)) }
-    ensures ok { OnOk result (slot.new ≡ option_map (with_ended id how text.now) slot.old) }
-    ensures err { OnErr result (slot.new ≡ slot.old) }
-{
-    match slot {
-        Some(app) => end_last_attempt(app, id, how, text),
-        None => Ok(()),
-    }
-}
-
-/// Says how an application's last attempt ended. `NoMemory` leaves the record as it was.
-fn end_last_attempt(
+/// Says how an application's last attempt ended, where the attempts are numbered and it is this one, which goes on. `NoMemory` leaves
+/// the record as it was.
+pub fn end_last_attempt(
     app: &mut AppRecord,
     id: AttemptId,
     how: How,
     text: &Text,
 ) -> Result<(), NoMemory>
-    requires numbered { AreAttemptsFrom app.old.id 0 app.old.attempts }
-    requires last { IsTrue (is_unended_last id app.old) }
-    ensures ok { OnOk result (app.new ≡ with_ended id how text.now app.old) }
+    ensures ok { OnOk result (AreAttemptsFrom app.old.id 0 app.old.attempts → IsTrue (is_unended_last id app.old) → app.new ≡ with_ended id how text.now app.old) }
     ensures err { OnErr result (app.new ≡ app.old) }
 {
     let Some(last) = last_attempt(app) else {

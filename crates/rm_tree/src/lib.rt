@@ -5,7 +5,7 @@
 //! operation is refused as stray exactly where it doesn't fit the records; a refusal changes nothing.
 //!
 //! It stands on `rm_types`, whose `Records` defines the records of a list of operations, and on
-//! `indexmap`, in which an application is found by its id without a walk.
+//! `rm_keyed`, in which an application is found by its id without a walk.
 #![tactic(auto)]
 
 mod apps;

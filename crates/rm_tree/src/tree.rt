@@ -1,13 +1,15 @@
-ghost use Rattle.std.specs.Prelude.{◌≡◌, ◌<◌, length, slice_get, Some, Err, true, false, OnOk, OnErr, IfOk, IfErr, IfSome};
+ghost use Rattle.std.specs.Prelude.{◌≡◌, ◌<◌, filter, length, map, slice_get, Some, Err, true, false, OnOk, OnErr, IfOk, IfErr, IfSome};
+ghost use Rattle.std.specs.List.{list_any};
 ghost use Rattle.std.specs.Option.{option_copied};
 ghost use Rattle.rm_tree.specs.declared.tree.TreeError.TheVariants.{Memory, Stray};
 ghost use Rattle.rm_tree.specs.Numbers.{AreAttemptsFrom, AreApart, AreNumbered};
 ghost use Rattle.rm_tree.specs.Shows.{shows};
+ghost use Rattle.rm_types.specs.Ids.{is_app};
 ghost use Rattle.rm_types.specs.Records.{Records as AnyRecords, recorded, record_of, fits_records, no_records};
 
 use crate::apps::Apps;
 use crate::attempts::{has_stopped, is_next_attempt, is_unended_last};
-use rm_types::{AppId, AppRecord, NoMemory, Op};
+use rm_types::{AppId, AppRecord, Items, NoMemory, Op};
 use std::alloc::Global;
 use std::marker::Model;
 use thiserror::Error;
@@ -42,6 +44,7 @@ pub struct Tree {
 }
 
 impl Model for Tree {
+    ghost use Rattle.rm_types.specs.Ids.{is_app};
     ghost use Rattle.rm_types.specs.Records.{Records};
 
     ghost Value = { Records };
@@ -122,6 +125,14 @@ impl Tree {
         ensures numbered { IfSome (option_copied result) (λ app. AreAttemptsFrom app.id 0 app.attempts) }
     {
         self.apps.find(id)
+    }
+
+    /// Those of these applications that have a record, each once, in kept order. What it costs grows with the number of those that are
+    /// given, and not with the number of records and of gaps.
+    pub fn in_kept_order(&self, ids: &[AppId]) -> Result<Items<AppId>, NoMemory>
+        ensures { IfOk result (λ kept. kept ≡ filter (λ id. list_any (λ one. is_app one id) ids.now) (map (λ app. app.id) self.now.apps)) }
+    {
+        self.apps.in_kept_order(ids)
     }
 
     /// Closes the gaps that removals left. Nothing that is seen changes; until the next removal the record at a

@@ -254,6 +254,36 @@ fn an_attempt_ends_once(rt: HostRuntime) {
     );
 }
 
+/// Of these applications those with these numbers are kept, in this order.
+fn kept_of<R: Abort>(rt: &R, alloc: Global, tree: &Tree, ids: &[AppId], wanted: &str) {
+    let mut found = String::new(alloc);
+    for id in tree.in_kept_order(ids).expect(rt, "memory").as_slice() {
+        write!(found, "{} ", id.number).expect(rt, "memory");
+    }
+    wants_words(rt, found.as_str(), wanted);
+}
+
+/// Three jobs, of which the second ends.
+const THREE: [(AppId, Step); 6] = [
+    (OTHER, Step::Submit),
+    (JOB, Step::Submit),
+    (NOBODY, Step::Submit),
+    (JOB, Step::Start(1)),
+    (JOB, Step::Stop(1, How::Finished)),
+    (JOB, Step::End),
+];
+
+#[test]
+fn some_applications_are_put_into_kept_order(rt: HostRuntime) {
+    let alloc = rt.alloc();
+    let mut tree = Tree::new(alloc);
+    are_applied(&rt, alloc, &mut tree, THREE.as_slice());
+    kept_of(&rt, alloc, &tree, &[JOB, OTHER, JOB], "2 1 ");
+    are_applied(&rt, alloc, &mut tree, &[(JOB, Step::Remove)]);
+    kept_of(&rt, alloc, &tree, &[NOBODY, JOB, OTHER], "2 1 ");
+    kept_of(&rt, alloc, &tree, &[], "");
+}
+
 /// The application of this number.
 fn numbered(number: u32) -> AppId {
     AppId { stamp: 7, number }

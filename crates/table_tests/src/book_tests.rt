@@ -334,6 +334,31 @@ fn asks_of_equal_priority_stand_in_the_order_of_asking(rt: HostRuntime) {
     wants(&rt, is_asking(&asks, SECOND));
 }
 
+/// The numbers of the attempts that ask for something are these.
+fn wants_waiting<R: Abort>(rt: &R, alloc: Global, asks: &Asks, wanted: &str) {
+    let mut found = String::new(alloc);
+    for id in asks.waiting().expect(rt, "memory").as_slice() {
+        write!(found, "{} ", id.number).expect(rt, "memory");
+    }
+    wants_words(rt, found.as_str(), wanted);
+}
+
+#[test]
+fn attempts_wait_while_they_ask(rt: HostRuntime) {
+    let alloc = rt.alloc();
+    let mut asks = Asks::new(alloc);
+    wants_waiting(&rt, alloc, &asks, "");
+    set(&rt, &mut asks, SECOND, 1, 1, 1024);
+    set(&rt, &mut asks, FIRST, 1, 1, 1024);
+    wants_waiting(&rt, alloc, &asks, "1 2 ");
+    wants(&rt, asks.granted(SECOND, 1, size(1024, 1)));
+    wants_waiting(&rt, alloc, &asks, "1 ");
+    asks.clear(FIRST);
+    wants_waiting(&rt, alloc, &asks, "");
+    set(&rt, &mut asks, FIRST, 1, 1, 1024);
+    wants_waiting(&rt, alloc, &asks, "1 ");
+}
+
 /// Sets many asks of the first attempt, of which so many may stand; whether they were set.
 fn set_all<R: Abort>(rt: &R, asks: &mut Asks, more: &[Ask], most: usize) -> bool {
     asks.set_all(FIRST, more, most).expect(rt, "memory")

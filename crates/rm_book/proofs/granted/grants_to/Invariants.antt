@@ -1,6 +1,7 @@
 use Rattle.std.proofs.Common.{◌≡◌, take}
-use Rattle.rm_book.specs.Granted.{grants_to}
+use Rattle.std.specs.List.{filter_map}
+use Rattle.rm_book.specs.Granted.{granted_in}
 use Rattle.rm_book.proofs.granted.grants_to.Given as goal
 
-abbrev pub invariant-rows : goal.invariant-rows
-invariant-rows l = l.grants ≡ grants_to (take l.row-index l.rows) l.attempt
+abbrev pub invariant-ids : goal.invariant-ids
+invariant-ids l = l.grants ≡ filter_map (granted_in l.rows l.attempt) (take l.id-index l.id-items)

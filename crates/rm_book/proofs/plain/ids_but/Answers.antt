@@ -1,9 +1,10 @@
-use Rattle.std.proofs.Common.{not, rules}
+use Rattle.std.proofs.Common.{not, filter, ap, ◌∙◌, rules}
 use Rattle.std.proofs.lemmas.Fn.{filter_same}
-use Rattle.rm_book.specs.Books.{is_held}
+use Rattle.indexmap.specs.IndexSet.{contains}
+use Rattle.rm_types.specs.Ids.{is_container}
 use Rattle.rm_book.proofs.plain.ids_but.Goals as goal
 
 pub returns : goal.returns
 returns c =
-    let left = filter_same _ (λ id. not (is_held c.args.taken.now id)) _ (λ x b q t. search rules) _ _ c.retain.ensures.filtered in
-    rw left (search rules)
+    let left = filter_same _ (λ id. not (contains is_container c.in_ok-held.held id)) _ (λ x b q t. search rules) _ _ c.retain.ensures.filtered in
+    left ∙ ap (filter (λ id. not (contains is_container c.in_ok-held.held id))) c.into_vec-ids.ensures ∙ (λ j. filter (λ id. not (c.in_ok-held.ensures id j)) c.args.ids)

@@ -1,8 +1,6 @@
-use Rattle.std.proofs.Common.{◌∙◌, sym}
-use Rattle.rm_sched.proofs.Granting.{turns_more}
+use Rattle.std.proofs.Common.{◌∙◌}
+use Rattle.rm_sched.proofs.Turned.{all_turned}
 use Rattle.rm_sched.proofs.passing.turns.Goals as goal
 
-pub records-preserved : goal.records-preserved
-records-preserved c =
-    let pushed = rw c.attempt_at.ensures at c.in_ok-push_turn.ensures.ok in
-    pushed ∙ rw c.records.invariant (sym (turns_more c.args.t.now.rows c.args.t.now.asks c.args.t.now.tree.apps c.records.place c.at.result.now c.at.ensures))
+pub returns : goal.returns
+returns c = rw (all_turned c.args.t.now c.as_slice.result.now c.len-apart.ensures.apart (c.as_slice.ensures ∙ c.in_ok-kept.ensures)) at c.turns_of.ensures

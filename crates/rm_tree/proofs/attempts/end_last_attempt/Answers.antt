@@ -8,12 +8,12 @@ the_same : {a b : AttemptRecord} → Some a ≡ Some b → a ≡ b
 the_same e = cc
 
 pub returns-clause-ok : goal.returns-clause-ok
-returns-clause-ok c =
-    let found = last_found c.args.id c.args.app.now c.requires.last in
+returns-clause-ok c = λ from_one going_on.
+    let found = last_found c.args.id c.args.app.now going_on in
     let s = split_last c.args.app.now.attempts found.last found.at in
     let new = c.set_last.ensures s.front found.last s.is in
     let value = rw c.in-Some.is at c.last_attempt.ensures in
-    let numbered = rw s.is at c.requires.numbered in
+    let numbered = rw s.is at from_one in
     let whole = last_ended c.args.app.now.id s.front found.last c.args.id c.args.how c.args.text.now numbered found.same in
     let one : Some c.in-Some.last.now ≡ Some found.last = value ∙ found.at in
     let last : c.in_ok-ended.ended ≡ found.last = c.in_ok-ended.ensures ∙ the_same one in

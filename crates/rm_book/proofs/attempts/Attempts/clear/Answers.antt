@@ -1,13 +1,11 @@
 use Rattle.std.proofs.Common.{ap, ◌∙◌}
 use Rattle.rm_book.specs.AskEntries.{entries_in}
-use Rattle.rm_book.proofs.Slots.{leaves}
+use Rattle.rm_book.proofs.AskEntries.{gone, kept_removed}
 use Rattle.rm_book.proofs.attempts.Attempts.clear.Goals as goal
 
 pub invariant_of-self : goal.invariant_of-self
 invariant_of-self c =
-    rw c.swap_remove.ensures.entries (leaves c.self.inside.entered c.args.attempt c.self.inside.map.entries c.self.invariant).lawful
+    kept_removed c.args.attempt c.self.inside.lines c.remove.new.self c.self.inside.waiting.keys c.swap_remove.new.self.keys c.self.invariant c.remove.ensures.rest c.swap_remove.ensures.updates.0
 
 pub returns : goal.returns
-returns c =
-    rw (← c.self.view_is)
-    (ap entries_in c.swap_remove.ensures.entries ∙ (leaves c.self.inside.entered c.args.attempt c.self.inside.map.entries c.self.invariant).entries)
+returns c = rw (← c.self.view_is) (ap entries_in c.remove.ensures.rest ∙ gone c.args.attempt c.self.inside.lines c.remove.ensures.unique)

@@ -1,55 +1,78 @@
-use Rattle.std.proofs.Common.{◌≡◌, ◌+◌, true, not, is_ok, length, refl, ap, rules, arith}
-use Rattle.std.specs.List.{list_any}
-use Rattle.std.proofs.lemmas.Fn.{filter_same}
-use Rattle.rm_types.specs.Ids.{is_container}
-use Rattle.rm_book.specs.Books.{BookOf, entering}
-use Rattle.rm_book.proofs.Rows.{living_filter, living_joined}
-use Rattle.rm_book.proofs.Taken.{absorbed_rows, living_taken, taken_lawful}
+use Rattle.std.proofs.Common.{◌≡◌, ◌+◌, ◌++◌, List, map, cond, length, refl, sym, ap, subst, ◌∙◌, arith}
+use Rattle.std.specs.Str.{bytes_eq}
+use Rattle.rm_types.specs.declared.containers.BookRow.{BookRow}
+use Rattle.rm_types.specs.declared.containers.ContainerState.TheVariants.{Running}
+use Rattle.rm_types.specs.declared.containers.Held.{Held}
+use Rattle.rm_types.specs.declared.ids.ContainerId.{ContainerId}
+use Rattle.rm_types.specs.declared.resources.Resource.{Resource}
+use Rattle.rm_types.specs.Passes.{total_of}
+use Rattle.rm_book.specs.Books.{AreLiving, entering, total_on}
+use Rattle.rm_book.specs.Kept.{entered_rows}
+use Rattle.rm_book.proofs.Absorbed.{absorbed_kept, entering_fits, fresh_entering, gone_of, living_left, ran_after}
+use Rattle.rm_book.proofs.BookSteps.{seen, sums_entered, used_set, within_kept}
+use Rattle.rm_book.proofs.Left.{staying}
 use Rattle.rm_book.proofs.book.Book.absorb.Goals as goal
 
-pub returns-clause-ok : goal.returns-clause-ok
-returns-clause-ok g c =
-    let book : BookOf = record { rows = c.self.inside.rows.items; nodes = c.self.inside.nodes.items; added = c.self.inside.added } in
-    let ok : is_ok c.append.result ≡ true = search rules in
-    let left = filter_same _ (λ row. not (list_any (λ id. is_container id row.id) c.args.ended.now)) _ (λ x b q t. search rules) _ _ c.retain.ensures.filtered in
-    let stayed = rw c.in_ok-reserve.ensures.items at left in
-    let entered = rw c.deref.ensures.value at c.in_ok-entering.ensures in
-    let made = rw (c.deref-2.ensures.value, entered) at c.in_ok-rows.ensures in
-    let joined = rw ok at c.append.ensures.items in
-    let ran = rw c.as_mut_slice.ensures.value at c.run_taken.ensures in
-    let rows = absorbed_rows book c.args.node.now c.args.capability c.args.taken.now c.args.ended.now _ _ _ _ c.append.new.self.len stayed made joined ran (omega (arith, c.append.new.self.ok.0)) in
-    let nodes = rw (c.in_ok-name.ensures.name, c.node_room.ensures.same) at c.put_capability.ensures in
-    let before = rw c.len.ensures at c.in-Some.ensures.1 in
-    let many = ap length entered in
-    let counted : c.in-Some.added ≡ book.added + length (entering book c.args.taken.now) = omega (arith, before, many, c.in_ok-entering.entering.ok.0) in
-    rw (← c.self.view_is) (rw (rows, nodes, counted) refl)
+pub enter_all-requires-clause-new : goal.enter_all-requires-clause-new
+enter_all-requires-clause-new g c = rw (c.deref.ensures.value, c.in_ok-list.ensures) (fresh_entering c.self.inside.nodes.map.entries c.self.inside.rows c.self.inside.added c.self.invariant c.args.node.now c.args.capability c.args.taken.now c.args.ended.now c.requires.once)
+
+pub total_of-requires : goal.total_of-requires
+total_of-requires g c =
+    let fit = rw (← c.self.view_is) at c.requires.fit in
+    rw (c.deref-2.ensures.value, c.in_ok-list.ensures) (entering_fits c.self.inside.nodes.map.entries c.self.inside.rows c.self.inside.added c.self.invariant c.args.node.now c.args.capability c.args.taken.now c.args.ended.now fit)
+
+pub set-requires-clause-within : goal.set-requires-clause-within
+set-requires-clause-within g c = rw (c.in_ok-name.ensures.name, c.room.ensures.same) (within_kept c.self.inside.nodes.map.entries c.self.inside.rows c.self.inside.added c.self.invariant c.args.node.now)
+
+pub end_each-requires : goal.end_each-requires
+end_each-requires g c =
+    let joined : c.enter_all.new.rows ≡ c.self.inside.rows ++ entered_rows Running c.self.inside.added c.args.node.now (entering (seen c.self.inside.nodes.map.entries c.self.inside.rows c.self.inside.added) c.args.taken.now) =
+    c.in_ok-enter_all.ensures.ok ∙ ap (λ l. c.self.inside.rows ++ entered_rows Running c.self.inside.added c.args.node.now l) (c.deref.ensures.value ∙ c.in_ok-list.ensures) in
+    let total : c.total_of.result ≡ total_of (map (λ held. held.size) (entering (seen c.self.inside.nodes.map.entries c.self.inside.rows c.self.inside.added) c.args.taken.now)) = c.total_of.ensures ∙ ap (λ (l : List Held). total_of (map (λ held. held.size) l)) (c.deref-2.ensures.value ∙ c.in_ok-list.ensures) in
+    let loads = rw (c.in_ok-name.ensures.name, c.room.ensures.same) at c.set.ensures.loads in
+    used_set c.self.inside.nodes.map.entries c.self.inside.rows c.self.inside.added c.self.invariant c.set.new.self.map.entries c.enter_all.new.rows c.args.node.now c.total_of.result
+    (λ other.
+    ap (λ (rows : List BookRow). (total_on other rows).memory_mb) joined ∙ sums_entered c.self.inside.rows Running c.self.inside.added c.args.node.now (entering (seen c.self.inside.nodes.map.entries c.self.inside.rows c.self.inside.added) c.args.taken.now) (λ size. size.memory_mb) other
+    ∙ ap (λ (size : Resource). (total_on other c.self.inside.rows).memory_mb + cond (bytes_eq c.args.node.now other) size.memory_mb 0) (sym total))
+    (λ other.
+    ap (λ (rows : List BookRow). (total_on other rows).vcores) joined ∙ sums_entered c.self.inside.rows Running c.self.inside.added c.args.node.now (entering (seen c.self.inside.nodes.map.entries c.self.inside.rows c.self.inside.added) c.args.taken.now) (λ size. size.vcores) other
+    ∙ ap (λ (size : Resource). (total_on other c.self.inside.rows).vcores + cond (bytes_eq c.args.node.now other) size.vcores 0) (sym total))
+    c.args.capability loads
+
+pub run_each-requires : goal.run_each-requires
+run_each-requires g c =
+    let joined : c.enter_all.new.rows ≡ c.self.inside.rows ++ entered_rows Running c.self.inside.added c.args.node.now (entering (seen c.self.inside.nodes.map.entries c.self.inside.rows c.self.inside.added) c.args.taken.now) =
+    c.in_ok-enter_all.ensures.ok ∙ ap (λ l. c.self.inside.rows ++ entered_rows Running c.self.inside.added c.args.node.now l) (c.deref.ensures.value ∙ c.in_ok-list.ensures) in
+    let left : c.end_each.new.rows ≡ staying (gone_of c.self.inside.rows c.args.ended.now) (c.self.inside.rows ++ entered_rows Running c.self.inside.added c.args.node.now (entering (seen c.self.inside.nodes.map.entries c.self.inside.rows c.self.inside.added) c.args.taken.now)) =
+    c.end_each.ensures.rest ∙ ap (λ (ids : List ContainerId). staying ids c.enter_all.new.rows) (c.deref-3.ensures.value ∙ c.in_ok-gone.ensures) ∙ ap (staying (gone_of c.self.inside.rows c.args.ended.now)) joined in
+    subst AreLiving (sym left) (living_left c.self.inside.nodes.map.entries c.self.inside.rows c.self.inside.added c.self.invariant c.args.node.now c.args.capability c.args.taken.now c.args.ended.now)
 
 pub invariant_of-self-2 : goal.invariant_of-self-2
 invariant_of-self-2 g c =
-    let book : BookOf = record { rows = c.self.inside.rows.items; nodes = c.self.inside.nodes.items; added = c.self.inside.added } in
-    let ok : is_ok c.append.result ≡ true = search rules in
-    let left = filter_same _ (λ row. not (list_any (λ id. is_container id row.id) c.args.ended.now)) _ (λ x b q t. search rules) _ _ c.retain.ensures.filtered in
-    let stayed = rw c.in_ok-reserve.ensures.items at left in
-    let entered = rw c.deref.ensures.value at c.in_ok-entering.ensures in
-    let made = rw (c.deref-2.ensures.value, entered) at c.in_ok-rows.ensures in
-    let joined = rw ok at c.append.ensures.items in
-    let ran = rw c.as_mut_slice.ensures.value at c.run_taken.ensures in
-    let rows = absorbed_rows book c.args.node.now c.args.capability c.args.taken.now c.args.ended.now _ _ _ _ c.append.new.self.len stayed made joined ran (omega (arith, c.append.new.self.ok.0)) in
-    let nodes = rw (c.in_ok-name.ensures.name, c.node_room.ensures.same) at c.put_capability.ensures in
+    let fit = rw (← c.self.view_is) at c.requires.fit in
+    let joined : c.enter_all.new.rows ≡ c.self.inside.rows ++ entered_rows Running c.self.inside.added c.args.node.now (entering (seen c.self.inside.nodes.map.entries c.self.inside.rows c.self.inside.added) c.args.taken.now) =
+    c.in_ok-enter_all.ensures.ok ∙ ap (λ l. c.self.inside.rows ++ entered_rows Running c.self.inside.added c.args.node.now l) (c.deref.ensures.value ∙ c.in_ok-list.ensures) in
+    let left : c.end_each.new.rows ≡ staying (gone_of c.self.inside.rows c.args.ended.now) (c.self.inside.rows ++ entered_rows Running c.self.inside.added c.args.node.now (entering (seen c.self.inside.nodes.map.entries c.self.inside.rows c.self.inside.added) c.args.taken.now)) =
+    c.end_each.ensures.rest ∙ ap (λ (ids : List ContainerId). staying ids c.enter_all.new.rows) (c.deref-3.ensures.value ∙ c.in_ok-gone.ensures) ∙ ap (staying (gone_of c.self.inside.rows c.args.ended.now)) joined in
+    let set = rw (c.in_ok-name.ensures.name, c.room.ensures.same) at c.set.ensures.shown in
+    let nodes = c.end_each.ensures.shown ∙ set in
     let before = rw c.len.ensures at c.in-Some.ensures.1 in
-    let many = ap length entered in
-    let counted : c.in-Some.added ≡ book.added + length (entering book c.args.taken.now) = omega (arith, before, many, c.in_ok-entering.entering.ok.0) in
-    rw (rows, nodes, counted)
-    (taken_lawful book c.args.node.now c.args.capability c.args.taken.now c.args.ended.now c.self.invariant c.requires.once (rw (← c.self.view_is) at c.requires.fit))
+    let many = ap length c.in_ok-list.ensures in
+    let counted : c.in-Some.added ≡ c.self.inside.added + length (entering (seen c.self.inside.nodes.map.entries c.self.inside.rows c.self.inside.added) c.args.taken.now) = omega (arith, before, many, c.in_ok-list.list.ok.0) in
+    absorbed_kept c.self.inside.nodes.map.entries c.self.inside.rows c.self.inside.added c.self.invariant c.args.node.now c.args.capability c.args.taken.now c.args.ended.now
+    c.end_each.new.nodes.map.entries c.end_each.new.rows c.run_each.new.rows left c.run_each.ensures c.in-Some.added counted nodes c.end_each.ensures.used c.requires.once fit
 
-pub run_taken-requires : goal.run_taken-requires
-run_taken-requires g c =
-    let book : BookOf = record { rows = c.self.inside.rows.items; nodes = c.self.inside.nodes.items; added = c.self.inside.added } in
-    let ok : is_ok c.append.result ≡ true = search rules in
-    let left = filter_same _ (λ row. not (list_any (λ id. is_container id row.id) c.args.ended.now)) _ (λ x b q t. search rules) _ _ c.retain.ensures.filtered in
-    let stayed = rw c.in_ok-reserve.ensures.items at left in
-    let entered = rw c.deref.ensures.value at c.in_ok-entering.ensures in
-    let made = rw (c.deref-2.ensures.value, entered) at c.in_ok-rows.ensures in
-    let joined = rw ok at c.append.ensures.items in
-    rw (c.as_mut_slice.ensures.value, joined, stayed, made)
-    (living_joined _ _ (living_filter (λ row. not (list_any (λ id. is_container id row.id) c.args.ended.now)) book.rows c.self.invariant.living) (living_taken book.added c.args.node.now (entering book c.args.taken.now)))
+pub returns-clause-ok : goal.returns-clause-ok
+returns-clause-ok g c =
+    let joined : c.enter_all.new.rows ≡ c.self.inside.rows ++ entered_rows Running c.self.inside.added c.args.node.now (entering (seen c.self.inside.nodes.map.entries c.self.inside.rows c.self.inside.added) c.args.taken.now) =
+    c.in_ok-enter_all.ensures.ok ∙ ap (λ l. c.self.inside.rows ++ entered_rows Running c.self.inside.added c.args.node.now l) (c.deref.ensures.value ∙ c.in_ok-list.ensures) in
+    let left : c.end_each.new.rows ≡ staying (gone_of c.self.inside.rows c.args.ended.now) (c.self.inside.rows ++ entered_rows Running c.self.inside.added c.args.node.now (entering (seen c.self.inside.nodes.map.entries c.self.inside.rows c.self.inside.added) c.args.taken.now)) =
+    c.end_each.ensures.rest ∙ ap (λ (ids : List ContainerId). staying ids c.enter_all.new.rows) (c.deref-3.ensures.value ∙ c.in_ok-gone.ensures) ∙ ap (staying (gone_of c.self.inside.rows c.args.ended.now)) joined in
+    let set = rw (c.in_ok-name.ensures.name, c.room.ensures.same) at c.set.ensures.shown in
+    let nodes = c.end_each.ensures.shown ∙ set in
+    let before = rw c.len.ensures at c.in-Some.ensures.1 in
+    let many = ap length c.in_ok-list.ensures in
+    let counted : c.in-Some.added ≡ c.self.inside.added + length (entering (seen c.self.inside.nodes.map.entries c.self.inside.rows c.self.inside.added) c.args.taken.now) = omega (arith, before, many, c.in_ok-list.list.ok.0) in
+    let rows = ran_after c.self.inside.nodes.map.entries c.self.inside.rows c.self.inside.added c.self.invariant c.args.node.now c.args.capability c.args.taken.now c.args.ended.now
+    c.end_each.new.nodes.map.entries c.end_each.new.rows c.run_each.new.rows left c.run_each.ensures in
+    rw (← c.self.view_is) (rw (rows, nodes, counted) refl)

@@ -1,37 +1,12 @@
-use Rattle.std.proofs.Common.{sym, refl}
-use Rattle.rm_types.specs.declared.containers.ContainerState.TheVariants.{Acquired}
-use Rattle.rm_book.specs.Books.{is_of}
-use Rattle.rm_book.proofs.Splits.{missing, map_none}
-use Rattle.rm_book.proofs.Changes.{acquired}
+use Rattle.std.proofs.Common.{List, ap}
+use Rattle.rm_types.specs.declared.containers.BookRow.{BookRow}
+use Rattle.rm_book.proofs.BookSteps.{told_kept, seen}
 use Rattle.rm_book.proofs.book.Book.tell.Goals as goal
 
 pub invariant_of-self : goal.invariant_of-self
-invariant_of-self c =
-    let at = rw c.deref.ensures.value at c.in-Some.ensures in
-    (acquired (record { rows = c.self.inside.rows.items; nodes = c.self.inside.nodes.items; added = c.self.inside.added }) c.args.id c.in-Some.place c.index.result.now
-    c.index_mut.result.now c.next_state-state.result c.self.invariant (sym at) c.index.ensures c.index_mut.ensures.value (rw (← c.self.view_is) at c.requires) c.next_state-state.ensures).lawful
+invariant_of-self c = (told_kept c.self.inside.nodes.map.entries c.self.inside.rows c.step.new.self c.self.inside.added c.args.id c.self.invariant (rw (← c.self.view_is) at c.requires) c.step.ensures.rows).0
 
-pub returns-in-Some-clause-found : goal.returns-in-Some-clause-found
-returns-in-Some-clause-found c =
-    let at = rw c.deref.ensures.value at c.in-Some.ensures in
+pub returns-clause-state : goal.returns-clause-state
+returns-clause-state c =
     rw (← c.self.view_is)
-    (acquired (record { rows = c.self.inside.rows.items; nodes = c.self.inside.nodes.items; added = c.self.inside.added }) c.args.id c.in-Some.place c.index.result.now
-    c.index_mut.result.now c.next_state-state.result c.self.invariant (sym at) c.index.ensures c.index_mut.ensures.value (rw (← c.self.view_is) at c.requires) c.next_state-state.ensures).found
-
-pub returns-in-Some-clause-state : goal.returns-in-Some-clause-state
-returns-in-Some-clause-state c =
-    let at = rw c.deref.ensures.value at c.in-Some.ensures in
-    rw (← c.self.view_is)
-    (acquired (record { rows = c.self.inside.rows.items; nodes = c.self.inside.nodes.items; added = c.self.inside.added }) c.args.id c.in-Some.place c.index.result.now
-    c.index_mut.result.now c.next_state-state.result c.self.invariant (sym at) c.index.ensures c.index_mut.ensures.value (rw (← c.self.view_is) at c.requires) c.next_state-state.ensures).is
-
-pub returns-in-None-clause-found : goal.returns-in-None-clause-found
-returns-in-None-clause-found c =
-    let at = rw c.deref.ensures.value at c.in-None.ensures in
-    rw (← c.self.view_is) (sym (missing (is_of c.args.id) c.self.inside.rows.items (sym at)))
-
-pub returns-in-None-clause-state : goal.returns-in-None-clause-state
-returns-in-None-clause-state c =
-    let at = rw c.deref.ensures.value at c.in-None.ensures in
-    let none = missing (is_of c.args.id) c.self.inside.rows.items (sym at) in
-    rw (← c.self.view_is, map_none (is_of c.args.id) (λ row. record row { state = Acquired }) c.self.inside.rows.items none) refl
+    (ap (λ (rows : List BookRow). seen c.self.inside.nodes.map.entries rows c.self.inside.added) (told_kept c.self.inside.nodes.map.entries c.self.inside.rows c.step.new.self c.self.inside.added c.args.id c.self.invariant (rw (← c.self.view_is) at c.requires) c.step.ensures.rows).1)

@@ -1,0 +1,488 @@
+-- What entries by attempt give of the lists that contracts see, and of the attempts that wait.
+use Rattle.std.proofs.Common.{◌≡◌, Bool, true, false, not, List, [], ◌∷◌, ◌++◌, cond, filter, map, Option, None, Some, Result, Ok, Err, OnOk, OnErr, IfSome, IfNone, is_some, unwrap_or, Bor, refl, sym, ap, subst, ◌∙◌, arith}
+use Rattle.std.specs.Prelude.{IsPermutation}
+use Rattle.std.specs.HashMap.{HashMap}
+use Rattle.std.specs.Option.{option_copied}
+use Rattle.indexmap.specs.Layout.{hash_map}
+use Rattle.std.specs.List.{AllByRecursion, IsDistinct, list_any}
+use Rattle.std.specs.Map.{keys_of, lookup, remove_entry, set_value}
+use Rattle.std.proofs.lemmas.Bool.Decides.{nat_tests}
+use Rattle.std.proofs.lemmas.List.Sorted.{IsPermutation-map}
+use Rattle.std.proofs.lemmas.Map.Keys.{IsDistinct-cons, IsDistinct-head, IsDistinct-tail}
+use Rattle.std.proofs.lemmas.Map.Lookups.{hash_map_IsPermutation_from_get, map_keys}
+use Rattle.std.specs.Cmp.{IsEquivalence}
+use Rattle.indexmap.specs.IndexMap.{insert_entry}
+use Rattle.rm_types.specs.declared.containers.AskLine.{AskLine}
+use Rattle.rm_types.specs.declared.duplicate.NoMemory.{NoMemory}
+use Rattle.rm_types.specs.declared.ids.AttemptId.{AttemptId}
+use Rattle.rm_types.specs.Ids.{is_attempt}
+use Rattle.rm_types.specs.Lists.{is_nil}
+use Rattle.rm_types.proofs.IdLemmas.{attempt_back, attempt_itself, same_attempt}
+use Rattle.rm_book.specs.AskEntries.{AreKept, Entry, entries_in, entry_of, has_some, lines_at}
+use Rattle.rm_book.specs.AskLines.{AttemptAsks, lines_in, with_lines}
+
+-- attempts are the same both ways, and each of two that are the same is like the other
+pub same_ids : IsEquivalence is_attempt
+same_ids = record { refl = attempt_itself; symm = attempt_back; congr = alike }
+  where
+    alike : (x y z : AttemptId) → is_attempt x y ≡ true → is_attempt x z ≡ is_attempt y z
+    alike x y z e = ap (λ (a : AttemptId). is_attempt a z) (same_attempt x y e)
+
+none_either : {A : Type 0} (b : Bool) → ◌≡◌ {A = Option A} None (cond b None None)
+none_either true = refl
+none_either false = refl
+
+module _ (attempt : AttemptId) where
+  -- an attempt's lines
+  pub lines_are : (entries : List Entry) → lines_in (entries_in entries) attempt ≡ lines_at entries attempt
+  lines_are [] = refl
+  lines_are (entry ∷ entries) = by (is_attempt attempt entry.0) refl (lines_are entries)
+    where
+      by : (b : Bool) → is_attempt attempt entry.0 ≡ b → lines_in (entries_in entries) attempt ≡ lines_at entries attempt
+          → lines_in (entries_in (entry ∷ entries)) attempt ≡ lines_at (entry ∷ entries) attempt
+      by true e rest = rw (attempt_back entry.0 attempt, e) refl
+      by false e rest = rw (attempt_back entry.0 attempt, e) rest
+
+  -- whether it has an entry
+  pub known : (entries : List Entry) → list_any (λ entry. is_attempt entry.attempt attempt) (entries_in entries) ≡ is_some (lookup (is_attempt attempt) entries)
+  known [] = refl
+  known (entry ∷ entries) = by (is_attempt attempt entry.0) refl (known entries)
+    where
+      by : (b : Bool) → is_attempt attempt entry.0 ≡ b → list_any (λ entry. is_attempt entry.attempt attempt) (entries_in entries) ≡ is_some (lookup (is_attempt attempt) entries)
+          → list_any (λ entry. is_attempt entry.attempt attempt) (entries_in (entry ∷ entries)) ≡ is_some (lookup (is_attempt attempt) (entry ∷ entries))
+      by true e rest = rw (attempt_back entry.0 attempt, e) refl
+      by false e rest = rw (attempt_back entry.0 attempt, e) rest
+
+  -- other lines of it
+  pub entered : (lines : List AskLine) (entries : List Entry) → entries_in (insert_entry is_attempt entries attempt lines) ≡ with_lines attempt lines (entries_in entries)
+  entered lines [] = refl
+  entered lines (entry ∷ entries) = by (is_attempt attempt entry.0) refl (entered lines entries)
+    where
+      by : (b : Bool) → is_attempt attempt entry.0 ≡ b → entries_in (insert_entry is_attempt entries attempt lines) ≡ with_lines attempt lines (entries_in entries)
+          → entries_in (insert_entry is_attempt (entry ∷ entries) attempt lines) ≡ with_lines attempt lines (entries_in (entry ∷ entries))
+      by true e rest = rw (attempt_back entry.0 attempt, e) refl
+      by false e rest = rw (attempt_back entry.0 attempt, e) (ap (λ (more : List AttemptAsks). entry_of entry ∷ more) rest)
+
+  -- a key that is no other's
+  no_key : (entries : List Entry) (key : AttemptId) → is_attempt attempt key ≡ true → AllByRecursion (λ y. is_attempt key y ≡ false) (keys_of entries)
+      → AllByRecursion (λ y. is_attempt attempt y ≡ false) (keys_of entries)
+  no_key [] key e d = tt
+  no_key (entry ∷ entries) key e d = (same_ids.congr attempt key entry.0 e ∙ d.0, no_key entries key e d.1)
+
+  not_found : (entries : List Entry) → AllByRecursion (λ y. is_attempt attempt y ≡ false) (keys_of entries) → lookup (is_attempt attempt) entries ≡ None
+  not_found [] a = refl
+  not_found (entry ∷ entries) a = rw a.0 (not_found entries a.1)
+
+  all_stay : (entries : List Entry) → AllByRecursion (λ y. is_attempt attempt y ≡ false) (keys_of entries)
+      → filter (λ entry. not (is_attempt entry.attempt attempt)) (entries_in entries) ≡ entries_in entries
+  all_stay [] a = refl
+  all_stay (entry ∷ entries) a = rw (attempt_back entry.0 attempt, a.0) (ap (λ (more : List AttemptAsks). entry_of entry ∷ more) (all_stay entries a.1))
+
+  -- none of it
+  pub gone : (entries : List Entry) → IsDistinct is_attempt (keys_of entries)
+      → entries_in (remove_entry (is_attempt attempt) entries) ≡ filter (λ entry. not (is_attempt entry.attempt attempt)) (entries_in entries)
+  gone [] d = refl
+  gone (entry ∷ entries) d = by (is_attempt attempt entry.0) refl (gone entries (IsDistinct-tail is_attempt entry.0 (keys_of entries) d))
+    where
+      by : (b : Bool) → is_attempt attempt entry.0 ≡ b → entries_in (remove_entry (is_attempt attempt) entries) ≡ filter (λ entry. not (is_attempt entry.attempt attempt)) (entries_in entries)
+          → entries_in (remove_entry (is_attempt attempt) (entry ∷ entries)) ≡ filter (λ entry. not (is_attempt entry.attempt attempt)) (entries_in (entry ∷ entries))
+      by true e rest =
+          rw (attempt_back entry.0 attempt, e) (sym (all_stay entries (no_key entries entry.0 e (IsDistinct-head is_attempt entry.0 (keys_of entries) d))))
+      by false e rest = rw (attempt_back entry.0 attempt, e) (ap (λ (more : List AttemptAsks). entry_of entry ∷ more) rest)
+
+  -- a new entry, and a change of one
+  pub last_entered : (lines : List AskLine) (entries : List Entry) → lookup (is_attempt attempt) entries ≡ None
+      → entries ++ (attempt, lines) ∷ [] ≡ insert_entry is_attempt entries attempt lines
+  last_entered lines [] l = refl
+  last_entered lines (entry ∷ entries) l = by (is_attempt attempt entry.0) refl (last_entered lines entries)
+    where
+      by : (b : Bool) → is_attempt attempt entry.0 ≡ b → (lookup (is_attempt attempt) entries ≡ None → entries ++ (attempt, lines) ∷ [] ≡ insert_entry is_attempt entries attempt lines)
+          → (entry ∷ entries) ++ (attempt, lines) ∷ [] ≡ insert_entry is_attempt (entry ∷ entries) attempt lines
+      by true e rest = absurd (let l' = rw e at l in cc)
+      by false e rest = let l' = rw e at l in rw e (ap (λ (more : List Entry). entry ∷ more) (rest l'))
+
+  pub set_entered : (lines own : List AskLine) (entries : List Entry) → lookup (is_attempt attempt) entries ≡ Some own
+      → set_value (is_attempt attempt) entries lines ≡ insert_entry is_attempt entries attempt lines
+  set_entered lines own [] l = cc
+  set_entered lines own (entry ∷ entries) l = by (is_attempt attempt entry.0) refl (set_entered lines own entries)
+    where
+      by : (b : Bool) → is_attempt attempt entry.0 ≡ b → (lookup (is_attempt attempt) entries ≡ Some own → set_value (is_attempt attempt) entries lines ≡ insert_entry is_attempt entries attempt lines)
+          → set_value (is_attempt attempt) (entry ∷ entries) lines ≡ insert_entry is_attempt (entry ∷ entries) attempt lines
+      by true e rest = rw e refl
+      by false e rest = let l' = rw e at l in rw e (ap (λ (more : List Entry). entry ∷ more) (rest l'))
+
+  pub same_entered : (own : List AskLine) (entries : List Entry) → lookup (is_attempt attempt) entries ≡ Some own → set_value (is_attempt attempt) entries own ≡ entries
+  same_entered own [] l = refl
+  same_entered own (entry ∷ entries) l = by (is_attempt attempt entry.0) refl (same_entered own entries)
+    where
+      by : (b : Bool) → is_attempt attempt entry.0 ≡ b → (lookup (is_attempt attempt) entries ≡ Some own → set_value (is_attempt attempt) entries own ≡ entries)
+          → set_value (is_attempt attempt) (entry ∷ entries) own ≡ entry ∷ entries
+      by true e rest = let is : entry.1 ≡ own = (let l' = rw e at l in cc) in rw e (ap (λ (v : List AskLine). (entry.0, v) ∷ entries) (sym is))
+      by false e rest = let l' = rw e at l in rw e (ap (λ (more : List Entry). entry ∷ more) (rest l'))
+
+  -- what is found then
+  pub found_entered : (lines : List AskLine) (one : AttemptId) (entries : List Entry)
+      → lookup (is_attempt one) (insert_entry is_attempt entries attempt lines) ≡ cond (is_attempt attempt one) (Some lines) (lookup (is_attempt one) entries)
+  found_entered lines one [] = rw (attempt_back attempt one) refl
+  found_entered lines one (entry ∷ entries) = by (is_attempt attempt entry.0) (is_attempt one entry.0) refl refl (found_entered lines one entries)
+    where
+      by : (b c : Bool) → is_attempt attempt entry.0 ≡ b → is_attempt one entry.0 ≡ c
+          → lookup (is_attempt one) (insert_entry is_attempt entries attempt lines) ≡ cond (is_attempt attempt one) (Some lines) (lookup (is_attempt one) entries)
+          → lookup (is_attempt one) (insert_entry is_attempt (entry ∷ entries) attempt lines) ≡ cond (is_attempt attempt one) (Some lines) (lookup (is_attempt one) (entry ∷ entries))
+      by true true e f rest =
+          let same : is_attempt attempt one ≡ true = grind (arith, nat_tests) in
+          rw (e, f, same) refl
+      by true false e f rest =
+          let other : is_attempt attempt one ≡ false = grind (arith, nat_tests) in
+          rw (e, f, other) refl
+      by false true e f rest =
+          let other : is_attempt attempt one ≡ false = grind (arith, nat_tests) in
+          rw (e, f, other) refl
+      by false false e f rest = rw (e, f) rest
+
+  -- no two keys are the same then
+  all_entered : (key : AttemptId) (lines : List AskLine) (entries : List Entry) → is_attempt key attempt ≡ false → AllByRecursion (λ y. is_attempt key y ≡ false) (keys_of entries)
+      → AllByRecursion (λ y. is_attempt key y ≡ false) (keys_of (insert_entry is_attempt entries attempt lines))
+  all_entered key lines [] n a = (n, tt)
+  all_entered key lines (entry ∷ entries) n a = by (is_attempt attempt entry.0) refl (all_entered key lines entries n a.1)
+    where
+      by : (b : Bool) → is_attempt attempt entry.0 ≡ b → AllByRecursion (λ y. is_attempt key y ≡ false) (keys_of (insert_entry is_attempt entries attempt lines))
+          → AllByRecursion (λ y. is_attempt key y ≡ false) (keys_of (insert_entry is_attempt (entry ∷ entries) attempt lines))
+      by true e rest = rw e a
+      by false e rest = rw e (a.0, rest)
+
+  unique_entered : (lines : List AskLine) (entries : List Entry) → IsDistinct is_attempt (keys_of entries) → IsDistinct is_attempt (keys_of (insert_entry is_attempt entries attempt lines))
+  unique_entered lines [] d = IsDistinct-cons is_attempt attempt [] tt d
+  unique_entered lines (entry ∷ entries) d = by (is_attempt attempt entry.0) refl (unique_entered lines entries (IsDistinct-tail is_attempt entry.0 (keys_of entries) d))
+    where
+      by : (b : Bool) → is_attempt attempt entry.0 ≡ b → IsDistinct is_attempt (keys_of (insert_entry is_attempt entries attempt lines))
+          → IsDistinct is_attempt (keys_of (insert_entry is_attempt (entry ∷ entries) attempt lines))
+      by true e rest = rw e d
+      by false e rest =
+          let other : is_attempt entry.0 attempt ≡ false = attempt_back entry.0 attempt ∙ e in
+          rw e
+          (IsDistinct-cons is_attempt entry.0 (keys_of (insert_entry is_attempt entries attempt lines))
+          (all_entered entry.0 lines entries other (IsDistinct-head is_attempt entry.0 (keys_of entries) d)) rest)
+
+  all_removed : (key : AttemptId) (entries : List Entry) → AllByRecursion (λ y. is_attempt key y ≡ false) (keys_of entries)
+      → AllByRecursion (λ y. is_attempt key y ≡ false) (keys_of (remove_entry (is_attempt attempt) entries))
+  all_removed key [] a = tt
+  all_removed key (entry ∷ entries) a = by (is_attempt attempt entry.0) refl (all_removed key entries a.1)
+    where
+      by : (b : Bool) → is_attempt attempt entry.0 ≡ b → AllByRecursion (λ y. is_attempt key y ≡ false) (keys_of (remove_entry (is_attempt attempt) entries))
+          → AllByRecursion (λ y. is_attempt key y ≡ false) (keys_of (remove_entry (is_attempt attempt) (entry ∷ entries)))
+      by true e rest = rw e a.1
+      by false e rest = rw e (a.0, rest)
+
+  unique_removed : (entries : List Entry) → IsDistinct is_attempt (keys_of entries) → IsDistinct is_attempt (keys_of (remove_entry (is_attempt attempt) entries))
+  unique_removed [] d = d
+  unique_removed (entry ∷ entries) d = by (is_attempt attempt entry.0) refl (unique_removed entries (IsDistinct-tail is_attempt entry.0 (keys_of entries) d))
+    where
+      by : (b : Bool) → is_attempt attempt entry.0 ≡ b → IsDistinct is_attempt (keys_of (remove_entry (is_attempt attempt) entries))
+          → IsDistinct is_attempt (keys_of (remove_entry (is_attempt attempt) (entry ∷ entries)))
+      by true e rest = rw e (IsDistinct-tail is_attempt entry.0 (keys_of entries) d)
+      by false e rest =
+          rw e
+          (IsDistinct-cons is_attempt entry.0 (keys_of (remove_entry (is_attempt attempt) entries))
+          (all_removed entry.0 entries (IsDistinct-head is_attempt entry.0 (keys_of entries) d)) rest)
+
+  -- what is found after a removal
+  found_removed : (one : AttemptId) (entries : List Entry) → IsDistinct is_attempt (keys_of entries)
+      → lookup (is_attempt one) (remove_entry (is_attempt attempt) entries) ≡ cond (is_attempt attempt one) None (lookup (is_attempt one) entries)
+  found_removed one [] d = none_either (is_attempt attempt one)
+  found_removed one (entry ∷ entries) d =
+      by (is_attempt attempt entry.0) (is_attempt one entry.0) refl refl (found_removed one entries (IsDistinct-tail is_attempt entry.0 (keys_of entries) d))
+    where
+      by : (b c : Bool) → is_attempt attempt entry.0 ≡ b → is_attempt one entry.0 ≡ c
+          → lookup (is_attempt one) (remove_entry (is_attempt attempt) entries) ≡ cond (is_attempt attempt one) None (lookup (is_attempt one) entries)
+          → lookup (is_attempt one) (remove_entry (is_attempt attempt) (entry ∷ entries)) ≡ cond (is_attempt attempt one) None (lookup (is_attempt one) (entry ∷ entries))
+      by true true e f rest =
+          let same : is_attempt attempt one ≡ true = grind (arith, nat_tests) in
+          let whole = same_attempt attempt one same in
+          rw (e, f, same) (subst (λ (a : AttemptId). lookup (is_attempt a) entries ≡ None) whole (not_found entries (no_key entries entry.0 e (IsDistinct-head is_attempt entry.0 (keys_of entries) d))))
+      by true false e f rest =
+          let other : is_attempt attempt one ≡ false = grind (arith, nat_tests) in
+          rw (e, f, other) refl
+      by false true e f rest =
+          let other : is_attempt attempt one ≡ false = grind (arith, nat_tests) in
+          rw (e, f, other) refl
+      by false false e f rest = rw (e, f) rest
+
+  -- those that wait after a change
+  pub kept_entered : (lines : List AskLine) (entries new : List Entry) (waiting marked : List AttemptId) → AreKept entries waiting → new ≡ insert_entry is_attempt entries attempt lines
+      → ((one : AttemptId) → list_any (is_attempt one) marked ≡ cond (is_attempt attempt one) (has_some (lookup (is_attempt attempt) new)) (list_any (is_attempt one) waiting)) → AreKept new marked
+  kept_entered lines entries new waiting marked k e m = record {
+    unique = subst (λ (es : List Entry). IsDistinct is_attempt (keys_of es)) (sym e) (unique_entered lines entries k.unique);
+    waits = λ one. m one ∙ by one (is_attempt attempt one) refl;
+  }
+    where
+      by : (one : AttemptId) (b : Bool) → is_attempt attempt one ≡ b
+          → cond (is_attempt attempt one) (has_some (lookup (is_attempt attempt) new)) (list_any (is_attempt one) waiting) ≡ has_some (lookup (is_attempt one) new)
+      by one true f = rw f (ap (λ (a : AttemptId). has_some (lookup (is_attempt a) new)) (same_attempt attempt one f))
+      by one false f =
+          let same : lookup (is_attempt one) new ≡ lookup (is_attempt one) entries =
+          ap (λ (es : List Entry). lookup (is_attempt one) es) e ∙ found_entered lines one entries ∙ ap (λ (b : Bool). cond b (Some lines) (lookup (is_attempt one) entries)) f in
+          rw f (k.waits one ∙ ap has_some (sym same))
+
+  pub kept_removed : (entries new : List Entry) (waiting marked : List AttemptId) → AreKept entries waiting → new ≡ remove_entry (is_attempt attempt) entries
+      → ((one : AttemptId) → list_any (is_attempt one) marked ≡ cond (is_attempt attempt one) false (list_any (is_attempt one) waiting)) → AreKept new marked
+  kept_removed entries new waiting marked k e m = record {
+    unique = subst (λ (es : List Entry). IsDistinct is_attempt (keys_of es)) (sym e) (unique_removed entries k.unique);
+    waits = λ one. m one ∙ by one (is_attempt attempt one) refl;
+  }
+    where
+      found : (one : AttemptId) (b : Bool) → is_attempt attempt one ≡ b → lookup (is_attempt one) new ≡ cond b None (lookup (is_attempt one) entries)
+      found one b f = ap (λ (es : List Entry). lookup (is_attempt one) es) e ∙ found_removed one entries k.unique ∙ ap (λ (c : Bool). cond c None (lookup (is_attempt one) entries)) f
+
+      by : (one : AttemptId) (b : Bool) → is_attempt attempt one ≡ b → cond (is_attempt attempt one) false (list_any (is_attempt one) waiting) ≡ has_some (lookup (is_attempt one) new)
+      by one true f = rw f (ap has_some (sym (found one true f)))
+      by one false f = rw f (k.waits one ∙ ap has_some (sym (found one false f)))
+
+  -- an attempt that was not known is known of no change
+  pub kept_unknown : (entries : List Entry) (waiting marked : List AttemptId) → AreKept entries waiting → lookup (is_attempt attempt) entries ≡ None
+      → ((one : AttemptId) → list_any (is_attempt one) marked ≡ cond (is_attempt attempt one) false (list_any (is_attempt one) waiting)) → AreKept entries marked
+  kept_unknown entries waiting marked k l m = record { unique = k.unique; waits = λ one. m one ∙ by one (is_attempt attempt one) refl }
+    where
+      by : (one : AttemptId) (b : Bool) → is_attempt attempt one ≡ b → cond (is_attempt attempt one) false (list_any (is_attempt one) waiting) ≡ has_some (lookup (is_attempt one) entries)
+      by one true f = rw f (ap has_some (sym (subst (λ (a : AttemptId). lookup (is_attempt a) entries ≡ None) (same_attempt attempt one f) l)))
+      by one false f = rw f (k.waits one)
+
+  -- an attempt that waits after a change waited before
+  pub kept_waiting : (lines own : List AskLine) (entries new : List Entry) (waiting : List AttemptId) → AreKept entries waiting → new ≡ insert_entry is_attempt entries attempt lines
+      → lookup (is_attempt attempt) entries ≡ Some own → is_nil own ≡ false → is_nil lines ≡ false → AreKept new waiting
+  kept_waiting lines own entries new waiting k e l was is =
+      kept_entered lines entries new waiting waiting k e (λ one. by one (is_attempt attempt one) refl)
+    where
+      some : (lines : List AskLine) → is_nil lines ≡ false → has_some (Some lines) ≡ true
+      some [] n = cc
+      some (line ∷ lines) n = refl
+
+      now : lookup (is_attempt attempt) new ≡ Some lines
+      now = ap (λ (es : List Entry). lookup (is_attempt attempt) es) e ∙ found_entered lines attempt entries ∙ ap (λ (b : Bool). cond b (Some lines) (lookup (is_attempt attempt) entries)) (attempt_itself attempt)
+
+      by : (one : AttemptId) (b : Bool) → is_attempt attempt one ≡ b
+          → list_any (is_attempt one) waiting ≡ cond (is_attempt attempt one) (has_some (lookup (is_attempt attempt) new)) (list_any (is_attempt one) waiting)
+      by one true f =
+          rw f
+          (k.waits one ∙ ap (λ (a : AttemptId). has_some (lookup (is_attempt a) entries)) (sym (same_attempt attempt one f)) ∙ ap has_some l ∙ some own was
+          ∙ sym (ap has_some now ∙ some lines is))
+      by one false f = rw f refl
+
+-- whether something was found is seen of what was lent of it
+pub lent : {A : Type 0} (o : Option (Bor A)) → is_some (option_copied o) ≡ is_some o
+lent None = refl
+lent (Some a) = refl
+
+pub nothing : {A : Type 0} (o : Option A) → is_some o ≡ false → o ≡ None
+nothing None e = refl
+nothing (Some a) e = cc
+
+-- after a change that was handed on to what keeps the entries
+module _ (attempt : AttemptId) (change : List AskLine → List AskLine) (old new : List Entry) where
+  pub set_tried : (r : Option (Result (Unit {0}) NoMemory)) (done : Result (Unit {0}) NoMemory) (P : List AskLine → Result (Unit {0}) NoMemory → List AskLine → Type 0)
+      → r ≡ Some done
+      → ((own : List AskLine) → lookup (is_attempt attempt) old ≡ Some own → IfSome r (λ done. (x : List AskLine) × P own done x × (new ≡ set_value (is_attempt attempt) old x)))
+      → is_some r ≡ is_some (lookup (is_attempt attempt) old)
+      → ((own x : List AskLine) (done : Result (Unit {0}) NoMemory) → P own done x → OnOk done (x ≡ change own) × OnErr done (x ≡ own))
+      → OnOk done (new ≡ insert_entry is_attempt old attempt (change (lines_at old attempt))) × OnErr done (new ≡ old)
+  set_tried r done P is there some means = by (lookup (is_attempt attempt) old) refl
+    where
+      made : (done : Result (Unit {0}) NoMemory) (own x : List AskLine) → lookup (is_attempt attempt) old ≡ Some own → new ≡ set_value (is_attempt attempt) old x
+          → OnOk done (x ≡ change own) → OnErr done (x ≡ own) → OnOk done (new ≡ insert_entry is_attempt old attempt (change (lines_at old attempt))) × OnErr done (new ≡ old)
+      made (Ok done) own x l e ok err =
+          let at : lines_at old attempt ≡ own = ap (λ (v : Option (List AskLine)). unwrap_or v []) l in
+          (e ∙ ap (set_value (is_attempt attempt) old) (ok ∙ ap change (sym at)) ∙ set_entered attempt (change (lines_at old attempt)) own old l, tt)
+      made (Err refused) own x l e ok err = (tt, e ∙ ap (set_value (is_attempt attempt) old) err ∙ same_entered attempt own old l)
+
+      by : (v : Option (List AskLine)) → lookup (is_attempt attempt) old ≡ v → OnOk done (new ≡ insert_entry is_attempt old attempt (change (lines_at old attempt))) × OnErr done (new ≡ old)
+      by None l = absurd (let s = rw (is, l) at some in cc)
+      by (Some own) l =
+          let t = rw is at (there own l) in
+          let m = means own t.0 done t.1 in
+          made done own t.0 l t.2 m.0 m.1
+
+  pub changed_by : {R : Type 0} (r : Option R) (P : List AskLine → R → List AskLine → Type 0)
+      → ((own : List AskLine) → lookup (is_attempt attempt) old ≡ Some own → IfSome r (λ done. (x : List AskLine) × P own done x × (new ≡ set_value (is_attempt attempt) old x)))
+      → is_some r ≡ is_some (lookup (is_attempt attempt) old) → IfNone r (new ≡ old) → ((own x : List AskLine) (done : R) → P own done x → x ≡ change own)
+      → new ≡ cond (is_some (lookup (is_attempt attempt) old)) (insert_entry is_attempt old attempt (change (lines_at old attempt))) old
+  changed_by {R} r P there some none means = by (lookup (is_attempt attempt) old) r refl some there none
+    where
+      by : (v : Option (List AskLine)) (r : Option R) → lookup (is_attempt attempt) old ≡ v → is_some r ≡ is_some (lookup (is_attempt attempt) old)
+          → ((own : List AskLine) → lookup (is_attempt attempt) old ≡ Some own → IfSome r (λ done. (x : List AskLine) × P own done x × (new ≡ set_value (is_attempt attempt) old x)))
+          → IfNone r (new ≡ old) → new ≡ cond (is_some (lookup (is_attempt attempt) old)) (insert_entry is_attempt old attempt (change (lines_at old attempt))) old
+      by None None l some there none = rw l none
+      by None (Some done) l some there none = absurd (let s = rw l at some in cc)
+      by (Some own) None l some there none = absurd (let s = rw l at some in cc)
+      by (Some own) (Some done) l some there none =
+          let t = there own l in
+          let at : lines_at old attempt ≡ own = ap (λ (v : Option (List AskLine)). unwrap_or v []) l in
+          let is : is_some (lookup (is_attempt attempt) old) ≡ true = ap is_some l in
+          t.2 ∙ ap (set_value (is_attempt attempt) old) (means own t.0 done t.1 ∙ ap change (sym at)) ∙ set_entered attempt (change (lines_at old attempt)) own old l
+          ∙ sym (ap (λ (b : Bool). cond b (insert_entry is_attempt old attempt (change (lines_at old attempt))) old) is)
+
+  -- what was found on the way
+  pub answered_by : (test : List AskLine → Bool) (r : Option Bool) (P : List AskLine → Bool → List AskLine → Type 0)
+      → ((own : List AskLine) → lookup (is_attempt attempt) old ≡ Some own → IfSome r (λ done. (x : List AskLine) × P own done x × (new ≡ set_value (is_attempt attempt) old x)))
+      → is_some r ≡ is_some (lookup (is_attempt attempt) old) → ((own x : List AskLine) (done : Bool) → P own done x → done ≡ test own) → test [] ≡ false
+      → unwrap_or r false ≡ test (lines_at old attempt)
+  answered_by test r P there some means empty = by (lookup (is_attempt attempt) old) r refl some there
+    where
+      by : (v : Option (List AskLine)) (r : Option Bool) → lookup (is_attempt attempt) old ≡ v → is_some r ≡ is_some (lookup (is_attempt attempt) old)
+          → ((own : List AskLine) → lookup (is_attempt attempt) old ≡ Some own → IfSome r (λ done. (x : List AskLine) × P own done x × (new ≡ set_value (is_attempt attempt) old x)))
+          → unwrap_or r false ≡ test (lines_at old attempt)
+      by None None l some there = rw l (sym empty)
+      by None (Some done) l some there = absurd (let s = rw l at some in cc)
+      by (Some own) None l some there = absurd (let s = rw l at some in cc)
+      by (Some own) (Some done) l some there =
+          let t = there own l in
+          let at : lines_at old attempt ≡ own = ap (λ (v : Option (List AskLine)). unwrap_or v []) l in
+          means own t.0 done t.1 ∙ ap test (sym at)
+
+-- what contracts see after a grant
+pub granted_entries : (attempt : AttemptId) (change : List AskLine → List AskLine) (entries new : List Entry)
+    → new ≡ cond (is_some (lookup (is_attempt attempt) entries)) (insert_entry is_attempt entries attempt (change (lines_at entries attempt))) entries
+    → entries_in new ≡ cond (list_any (λ entry. is_attempt entry.attempt attempt) (entries_in entries)) (with_lines attempt (change (lines_in (entries_in entries) attempt)) (entries_in entries)) (entries_in entries)
+granted_entries attempt change entries new e =
+    ap entries_in e ∙ by (is_some (lookup (is_attempt attempt) entries))
+    ∙ ap (λ (b : Bool). cond b (with_lines attempt (change (lines_in (entries_in entries) attempt)) (entries_in entries)) (entries_in entries)) (sym (known attempt entries))
+  where
+    by : (b : Bool) → entries_in (cond b (insert_entry is_attempt entries attempt (change (lines_at entries attempt))) entries)
+        ≡ cond b (with_lines attempt (change (lines_in (entries_in entries) attempt)) (entries_in entries)) (entries_in entries)
+    by true =
+        entered attempt (change (lines_at entries attempt)) entries
+        ∙ ap (λ (lines : List AskLine). with_lines attempt (change lines) (entries_in entries)) (sym (lines_are attempt entries))
+    by false = refl
+
+-- those that wait after a grant, where one that waited may do so no more
+module _ (attempt : AttemptId) (change : List AskLine → List AskLine) (entries new : List Entry) (waiting : List AttemptId) where
+  found_changed : (own : List AskLine) → lookup (is_attempt attempt) entries ≡ Some own
+      → new ≡ cond (is_some (lookup (is_attempt attempt) entries)) (insert_entry is_attempt entries attempt (change (lines_at entries attempt))) entries
+      → new ≡ insert_entry is_attempt entries attempt (change own)
+  found_changed own l e =
+      let at : lines_at entries attempt ≡ own = ap (λ (v : Option (List AskLine)). unwrap_or v []) l in
+      let is : is_some (lookup (is_attempt attempt) entries) ≡ true = ap is_some l in
+      e ∙ ap (λ (b : Bool). cond b (insert_entry is_attempt entries attempt (change (lines_at entries attempt))) entries) is ∙ ap (λ (v : List AskLine). insert_entry is_attempt entries attempt (change v)) at
+
+  not_changed : lookup (is_attempt attempt) entries ≡ None
+      → new ≡ cond (is_some (lookup (is_attempt attempt) entries)) (insert_entry is_attempt entries attempt (change (lines_at entries attempt))) entries → new ≡ entries
+  not_changed l e =
+      let is : is_some (lookup (is_attempt attempt) entries) ≡ false = ap is_some l in
+      e ∙ ap (λ (b : Bool). cond b (insert_entry is_attempt entries attempt (change (lines_at entries attempt))) entries) is
+
+  pub kept_granted : (marked : List AttemptId) → AreKept entries waiting
+      → new ≡ cond (is_some (lookup (is_attempt attempt) entries)) (insert_entry is_attempt entries attempt (change (lines_at entries attempt))) entries → has_some (lookup (is_attempt attempt) new) ≡ false
+      → ((one : AttemptId) → list_any (is_attempt one) marked ≡ cond (is_attempt attempt one) false (list_any (is_attempt one) waiting)) → AreKept new marked
+  kept_granted marked k e none m = by (lookup (is_attempt attempt) entries) refl
+    where
+      by : (v : Option (List AskLine)) → lookup (is_attempt attempt) entries ≡ v → AreKept new marked
+      by None l = subst (λ (es : List Entry). AreKept es marked) (sym (not_changed l e)) (kept_unknown attempt entries waiting marked k l m)
+      by (Some own) l =
+          kept_entered attempt (change own) entries new waiting marked k (found_changed own l e)
+          (λ one. m one ∙ ap (λ (b : Bool). cond (is_attempt attempt one) b (list_any (is_attempt one) waiting)) (sym none))
+
+  pub kept_still : change [] ≡ [] → AreKept entries waiting
+      → new ≡ cond (is_some (lookup (is_attempt attempt) entries)) (insert_entry is_attempt entries attempt (change (lines_at entries attempt))) entries → has_some (lookup (is_attempt attempt) new) ≡ true
+      → AreKept new waiting
+  kept_still empty k e some = by (lookup (is_attempt attempt) entries) refl
+    where
+      some_left : (lines : List AskLine) → has_some (Some lines) ≡ true → is_nil lines ≡ false
+      some_left [] h = cc
+      some_left (line ∷ lines) h = refl
+
+      some_before : (own : List AskLine) → is_nil (change own) ≡ false → is_nil own ≡ false
+      some_before [] h = absurd (let h' = rw empty at h in cc)
+      some_before (line ∷ lines) h = refl
+
+      by : (v : Option (List AskLine)) → lookup (is_attempt attempt) entries ≡ v → AreKept new waiting
+      by None l = subst (λ (es : List Entry). AreKept es waiting) (sym (not_changed l e)) k
+      by (Some own) l =
+          let is = found_changed own l e in
+          let now : lookup (is_attempt attempt) new ≡ Some (change own) =
+          ap (λ (es : List Entry). lookup (is_attempt attempt) es) is ∙ found_entered attempt (change own) attempt entries
+          ∙ ap (λ (b : Bool). cond b (Some (change own)) (lookup (is_attempt attempt) entries)) (attempt_itself attempt) in
+          let left = some_left (change own) (sym (ap has_some now) ∙ some) in
+          kept_waiting attempt (change own) own entries new waiting k is l (some_before own left) left
+
+-- the attempts that wait are those that have lines
+
+-- the attempts of entries that have lines
+abbrev those_with : List Entry → List AttemptId
+those_with [] = []
+those_with (entry ∷ entries) = cond (is_nil entry.1) (those_with entries) (entry.0 ∷ those_with entries)
+
+-- the same as contracts see them
+seen_with : (entries : List Entry) → those_with entries ≡ map (λ entry. entry.attempt) (filter (λ entry. not (is_nil entry.lines)) (entries_in entries))
+seen_with [] = refl
+seen_with (entry ∷ entries) = by (is_nil entry.1) refl (seen_with entries)
+  where
+    by : (b : Bool) → is_nil entry.1 ≡ b → those_with entries ≡ map (λ entry. entry.attempt) (filter (λ entry. not (is_nil entry.lines)) (entries_in entries))
+        → those_with (entry ∷ entries) ≡ map (λ entry. entry.attempt) (filter (λ entry. not (is_nil entry.lines)) (entries_in (entry ∷ entries)))
+    by true e rest = rw e rest
+    by false e rest = rw e (ap (λ (more : List AttemptId). entry.0 ∷ more) rest)
+
+-- keys as entries of nothing
+abbrev pair : AttemptId → AttemptId × Unit {0}
+pair key = (key, tt)
+
+keys_paired : (keys : List AttemptId) → keys_of (map pair keys) ≡ keys
+keys_paired [] = refl
+keys_paired (key ∷ keys) = ap (λ (more : List AttemptId). key ∷ more) (keys_paired keys)
+
+mapped_paired : (keys : List AttemptId) → keys_of (map_keys (λ key. key) (map pair keys)) ≡ keys
+mapped_paired [] = refl
+mapped_paired (key ∷ keys) = ap (λ (more : List AttemptId). key ∷ more) (mapped_paired keys)
+
+found_paired : (one : AttemptId) (keys : List AttemptId) → lookup (is_attempt one) (map pair keys) ≡ cond (list_any (is_attempt one) keys) (Some tt) None
+found_paired one [] = refl
+found_paired one (key ∷ keys) = by (is_attempt one key) refl (found_paired one keys)
+  where
+    by : (b : Bool) → is_attempt one key ≡ b → lookup (is_attempt one) (map pair keys) ≡ cond (list_any (is_attempt one) keys) (Some tt) None
+        → lookup (is_attempt one) (map pair (key ∷ keys)) ≡ cond (list_any (is_attempt one) (key ∷ keys)) (Some tt) None
+    by true e rest = rw e refl
+    by false e rest = rw e rest
+
+all_with : (key : AttemptId) (entries : List Entry) → AllByRecursion (λ y. is_attempt key y ≡ false) (keys_of entries) → AllByRecursion (λ y. is_attempt key y ≡ false) (those_with entries)
+all_with key [] a = tt
+all_with key (entry ∷ entries) a = by (is_nil entry.1) refl (all_with key entries a.1)
+  where
+    by : (b : Bool) → is_nil entry.1 ≡ b → AllByRecursion (λ y. is_attempt key y ≡ false) (those_with entries) → AllByRecursion (λ y. is_attempt key y ≡ false) (those_with (entry ∷ entries))
+    by true e rest = rw e rest
+    by false e rest = rw e (a.0, rest)
+
+unique_with : (entries : List Entry) → IsDistinct is_attempt (keys_of entries) → IsDistinct is_attempt (those_with entries)
+unique_with [] d = d
+unique_with (entry ∷ entries) d = by (is_nil entry.1) refl (unique_with entries (IsDistinct-tail is_attempt entry.0 (keys_of entries) d))
+  where
+    by : (b : Bool) → is_nil entry.1 ≡ b → IsDistinct is_attempt (those_with entries) → IsDistinct is_attempt (those_with (entry ∷ entries))
+    by true e rest = rw e rest
+    by false e rest = rw e (IsDistinct-cons is_attempt entry.0 (those_with entries) (all_with entry.0 entries (IsDistinct-head is_attempt entry.0 (keys_of entries) d)) rest)
+
+none_among : (one : AttemptId) (keys : List AttemptId) → AllByRecursion (λ y. is_attempt one y ≡ false) keys → list_any (is_attempt one) keys ≡ false
+none_among one [] a = refl
+none_among one (key ∷ keys) a = rw a.0 (none_among one keys a.1)
+
+-- one is among them where it has lines
+among_with : (one : AttemptId) (entries : List Entry) → IsDistinct is_attempt (keys_of entries) → list_any (is_attempt one) (those_with entries) ≡ has_some (lookup (is_attempt one) entries)
+among_with one [] d = refl
+among_with one ((key, lines) ∷ entries) d = by (is_attempt one key) lines refl (among_with one entries (IsDistinct-tail is_attempt key (keys_of entries) d))
+  where
+    by : (b : Bool) (lines : List AskLine) → is_attempt one key ≡ b → list_any (is_attempt one) (those_with entries) ≡ has_some (lookup (is_attempt one) entries)
+        → list_any (is_attempt one) (those_with ((key, lines) ∷ entries)) ≡ has_some (lookup (is_attempt one) ((key, lines) ∷ entries))
+    by true [] e rest = rw e (none_among one (those_with entries) (all_with one entries (no_key one entries key e (IsDistinct-head is_attempt key (keys_of entries) d))))
+    by true (line ∷ lines) e rest = rw e refl
+    by false [] e rest = rw e rest
+    by false (line ∷ lines) e rest = rw e rest
+
+pub are_waiting : (entries : List Entry) (waiting : List AttemptId) → AreKept entries waiting → IsDistinct is_attempt waiting
+    → IsPermutation (map (λ entry. entry.attempt) (filter (λ entry. not (is_nil entry.lines)) (entries_in entries))) waiting
+are_waiting entries waiting k d =
+    let with_lines_map : HashMap AttemptId (Unit {0}) (Unit {0}) = hash_map (map pair (those_with entries)) tt 0 in
+    let waiting_map : HashMap AttemptId (Unit {0}) (Unit {0}) = hash_map (map pair waiting) tt 0 in
+    let same : (q : AttemptId) → lookup (is_attempt q) (map pair (those_with entries)) ≡ lookup (is_attempt q) (map pair waiting) = λ q.
+    found_paired q (those_with entries) ∙ ap (λ (b : Bool). cond b (Some tt) None) (among_with q entries k.unique ∙ sym (k.waits q)) ∙ sym (found_paired q waiting) in
+    let moved = hash_map_IsPermutation_from_get same_ids with_lines_map waiting_map (subst (IsDistinct is_attempt) (sym (keys_paired (those_with entries))) (unique_with entries k.unique))
+    (subst (IsDistinct is_attempt) (sym (keys_paired waiting)) d) same (λ (key : AttemptId). key) same_attempt in
+    let keys : IsPermutation (keys_of (map_keys (λ key. key) (map pair (those_with entries)))) (keys_of (map_keys (λ key. key) (map pair waiting))) =
+    IsPermutation-map (λ (e : AttemptId × Unit {0}). e.0) _ _ moved in
+    subst (λ (l : List AttemptId). IsPermutation l waiting) (mapped_paired (those_with entries) ∙ seen_with entries)
+    (subst (λ (l : List AttemptId). IsPermutation (keys_of (map_keys (λ key. key) (map pair (those_with entries)))) l) (mapped_paired waiting) keys)

@@ -1,0 +1,93 @@
+-- The containers of an attempt among those of its application, and what it was granted.
+use Rattle.std.proofs.Common.{◌≡◌, ℕ, ◌+◌, ◌<◌, ◌==◌, Bool, true, false, ◌&&◌, ◌||◌, nat_lt, cond, List, [], ◌∷◌, ◌++◌, length, filter, take, get_or, refl, sym, ap, ◌∙◌}
+use Rattle.std.specs.List.{list_any, filter_map, cons_option}
+use Rattle.std.proofs.lemmas.Bool.{or_parts}
+use Rattle.std.proofs.lemmas.List.{take_more}
+use Rattle.std.proofs.lemmas.List.Elements.{filter_map-append}
+use Rattle.std.proofs.lemmas.List.Folds.{list_any-append}
+use Rattle.rm_types.specs.declared.containers.BookRow.{BookRow}
+use Rattle.rm_types.specs.declared.containers.Held.{Held}
+use Rattle.rm_types.specs.declared.ids.AttemptId.{AttemptId}
+use Rattle.rm_types.specs.declared.ids.ContainerId.{ContainerId}
+use Rattle.rm_types.specs.Ids.{is_app, is_attempt, is_container}
+use Rattle.rm_types.proofs.IdLemmas.{container_back, container_itself}
+use Rattle.rm_book.specs.Books.{AreApart, is_held, is_later, is_of}
+use Rattle.rm_book.specs.Granted.{grant_of, granted_in, grants_to, is_granted_to}
+use Rattle.rm_book.specs.Kept.{ids_where}
+
+or_cond : (a b : Bool) → cond b true a ≡ (a || (b || false))
+or_cond true true = refl
+or_cond true false = refl
+or_cond false true = refl
+or_cond false false = refl
+
+-- one more is held
+pub held_more : (list : List Held) (i : ℕ) (d : Held) (id : ContainerId) → i < length list → cond (is_container (get_or list i d).id id) true (is_held (take i list) id) ≡ is_held (take (i + 1) list) id
+held_more list i d id within =
+    or_cond (is_held (take i list) id) (is_container (get_or list i d).id id)
+    ∙ sym (list_any-append (λ held. is_container held.id id) (take i list) (get_or list i d ∷ []))
+    ∙ ap (λ l. is_held l id) (sym (take_more list i d within))
+
+-- an attempt's containers are its application's
+pub attempt_ids : (attempt : AttemptId) (rows : List BookRow)
+    → filter (λ id. is_attempt id.attempt attempt) (ids_where (λ row. is_app row.id.attempt.app attempt.app) rows) ≡ ids_where (λ row. is_attempt row.id.attempt attempt) rows
+attempt_ids attempt [] = refl
+attempt_ids attempt (row ∷ rows) = by (is_app row.id.attempt.app attempt.app) (row.id.attempt.number == attempt.number) refl refl (attempt_ids attempt rows)
+  where
+    by : (a b : Bool) → is_app row.id.attempt.app attempt.app ≡ a → (row.id.attempt.number == attempt.number) ≡ b
+        → filter (λ id. is_attempt id.attempt attempt) (ids_where (λ row. is_app row.id.attempt.app attempt.app) rows) ≡ ids_where (λ row. is_attempt row.id.attempt attempt) rows
+        → filter (λ id. is_attempt id.attempt attempt) (ids_where (λ row. is_app row.id.attempt.app attempt.app) (row ∷ rows)) ≡ ids_where (λ row. is_attempt row.id.attempt attempt) (row ∷ rows)
+    by true true e f rest = rw (e, f, e) (ap (λ more. row.id ∷ more) rest)
+    by true false e f rest = rw (e, f, e) rest
+    by false b e f rest = rw e rest
+
+module _ (attempt : AttemptId) where
+  -- a row of another container hides none
+  other_rows : (p : BookRow → Bool) (row : BookRow) (all rows : List BookRow) → list_any (is_of row.id) rows ≡ false
+      → filter_map (granted_in (row ∷ all) attempt) (ids_where p rows) ≡ filter_map (granted_in all attempt) (ids_where p rows)
+  other_rows p row all [] none = refl
+  other_rows p row all (one ∷ rows) none =
+      let parts = or_parts (is_of row.id one) (list_any (is_of row.id) rows) none in
+      by (p one) refl (container_back row.id one.id ∙ parts.0) (other_rows p row all rows parts.1)
+    where
+      by : (b : Bool) → p one ≡ b → is_of one.id row ≡ false → filter_map (granted_in (row ∷ all) attempt) (ids_where p rows) ≡ filter_map (granted_in all attempt) (ids_where p rows)
+          → filter_map (granted_in (row ∷ all) attempt) (ids_where p (one ∷ rows)) ≡ filter_map (granted_in all attempt) (ids_where p (one ∷ rows))
+      by true e apart rest = rw (e, apart) (ap (cons_option (granted_in all attempt one.id)) rest)
+      by false e apart rest = rw e rest
+
+  -- what an application's containers are found to be granted is what the attempt was granted
+  pub granted_all : (rows : List BookRow) → AreApart rows
+      → filter_map (granted_in rows attempt) (ids_where (λ row. is_app row.id.attempt.app attempt.app) rows) ≡ grants_to rows attempt
+  granted_all [] apart = refl
+  granted_all (row ∷ rows) apart =
+      by (is_app row.id.attempt.app attempt.app) (is_granted_to attempt row) refl refl (container_itself row.id)
+      (other_rows (λ row. is_app row.id.attempt.app attempt.app) row rows rows apart.0 ∙ granted_all rows apart.1)
+    where
+      by : (a b : Bool) → is_app row.id.attempt.app attempt.app ≡ a → is_granted_to attempt row ≡ b → is_of row.id row ≡ true
+          → filter_map (granted_in (row ∷ rows) attempt) (ids_where (λ row. is_app row.id.attempt.app attempt.app) rows) ≡ grants_to rows attempt
+          → filter_map (granted_in (row ∷ rows) attempt) (ids_where (λ row. is_app row.id.attempt.app attempt.app) (row ∷ rows)) ≡ grants_to (row ∷ rows) attempt
+      by true true e f own rest = rw (f, e, own, f) (ap (λ more. grant_of row ∷ more) rest)
+      by true false e f own rest = rw (f, e, own, f) rest
+      by false true e f own rest = absurd (let f' = rw e at f in cc)
+      by false false e f own rest = rw e rest
+
+-- one more is found
+pub granted_more : (rows : List BookRow) (attempt : AttemptId) (ids : List ContainerId) (i : ℕ) (d : ContainerId) → i < length ids
+    → filter_map (granted_in rows attempt) (take (i + 1) ids) ≡ filter_map (granted_in rows attempt) (take i ids) ++ cons_option (granted_in rows attempt (get_or ids i d)) []
+granted_more rows attempt ids i d within =
+    ap (filter_map (granted_in rows attempt)) (take_more ids i d within) ∙ filter_map-append (granted_in rows attempt) (take i ids) (get_or ids i d ∷ [])
+
+-- a later container of an attempt is one of its application
+pub later_ids : (attempt : AttemptId) (epoch seq : ℕ) (rows : List BookRow)
+    → list_any (λ id. is_attempt id.attempt attempt && ((id.epoch == epoch) && nat_lt seq id.seq)) (ids_where (λ row. is_app row.id.attempt.app attempt.app) rows)
+    ≡ list_any (is_later attempt epoch seq) rows
+later_ids attempt epoch seq [] = refl
+later_ids attempt epoch seq (row ∷ rows) = by (is_app row.id.attempt.app attempt.app) refl (later_ids attempt epoch seq rows)
+  where
+    by : (b : Bool) → is_app row.id.attempt.app attempt.app ≡ b
+        → list_any (λ id. is_attempt id.attempt attempt && ((id.epoch == epoch) && nat_lt seq id.seq)) (ids_where (λ row. is_app row.id.attempt.app attempt.app) rows)
+        ≡ list_any (is_later attempt epoch seq) rows
+        → list_any (λ id. is_attempt id.attempt attempt && ((id.epoch == epoch) && nat_lt seq id.seq)) (ids_where (λ row. is_app row.id.attempt.app attempt.app) (row ∷ rows))
+        ≡ list_any (is_later attempt epoch seq) (row ∷ rows)
+    by true e rest = rw (e, e) (ap (λ b. ((row.id.attempt.number == attempt.number) && ((row.id.epoch == epoch) && nat_lt seq row.id.seq)) || b) rest)
+    by false e rest = rw e rest
