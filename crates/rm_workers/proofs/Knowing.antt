@@ -1,6 +1,6 @@
 -- What a worker knows of its pass after a hold, a split and a join.
-use Rattle.std.proofs.Common.{◌≡◌, Bool, true≢false, ◌||◌, List, Ok, Err, Result, sym, ap, ◌∙◌, refl, subst}
-use Rattle.std.specs.Prelude.{IfErr, IfOk, if◌then◌else◌}
+use Rattle.std.proofs.Common.{◌≡◌, Bool, true≢false, ◌||◌, List, sym, ap, ◌∙◌, refl, subst}
+use Rattle.std.specs.Prelude.{if◌then◌else◌}
 use mathlib.Core.List.{IsPrefix}
 use Rattle.rm_types.specs.declared.entries.Entry.{Entry}
 use Rattle.rm_baton.specs.declared.carries.Known.{Known}
@@ -39,12 +39,3 @@ knows_then Is Then says v knows = record { idle = knows.idle; mark = knows.mark;
 
 pub knows_started : (Is : List Entry → Type 0) (x : HeldView) (u : View) → u ≡ started run_of log_of x → Is (log_of x) → Knows Is u
 knows_started Is x u e fact = subst (Knows Is) (sym e) (record { idle = (refl, refl); mark = refl; fact = fact })
-
--- what is told of a result
-pub if_ok : {A E : Type 0} {P Q : A → Type 0} (r : Result A E) → IfOk r P → ((x : A) → P x → Q x) → IfOk r Q
-if_ok (Ok x) told f = f x told
-if_ok (Err e) told f = tt
-
-pub if_err : {A E : Type 0} {P Q : E → Type 0} (r : Result A E) → IfErr r P → ((e : E) → P e → Q e) → IfErr r Q
-if_err (Ok x) told f = tt
-if_err (Err e) told f = f e told

@@ -6,3 +6,4 @@ pub mod Making
 pub mod Finishing
 pub mod Stays
 pub mod Calling
+pub mod Helping

@@ -1,9 +1,10 @@
 -- What the turns of the workers come to. This project's own.
-use Rattle.std.specs.Prelude.{◌≡◌, ◌≢◌, ◌⊎◌, true, false, List, Option, None, Some}
+use Rattle.std.specs.Prelude.{◌≡◌, ◌≢◌, ◌⊎◌, ℕ, ◌≤◌, true, false, List, [], ◌∷◌, ◌++◌, length, Option, None, Some}
 use Rattle.rm_types.specs.declared.entries.Entry.{Entry}
 use Rattle.rm_types.specs.declared.messages.Lane.{Lane}
 use Rattle.rm_types.specs.declared.messages.Lane.TheVariants.{Client, Master, Node, Clock, Main, Sched, Hand, End as EndLane}
 use Rattle.rm_types.specs.declared.operations.Op.{Op}
+use Rattle.rm_types.specs.Lanes.{lane_of_entry}
 use Rattle.rm_types.specs.Ranges.{IsOperation}
 use Rattle.rm_disk.specs.Disk.{DiskView}
 use Rattle.rm_store.specs.Store.{StoreState}
@@ -47,6 +48,31 @@ abbrev pub Helps : Lane → Helped → HeldView → HeldView → Type 0
 Helps lane Moved old new = (is_ready_at old.desk lane ≡ true) × LaneEffect lane old.desk new.desk × (old.halt ≡ None) × (new.halt ≡ None)
 Helps lane Still old new = (is_ready_at old.desk lane ≡ false) × (new ≡ old)
 Helps lane Over old new = (new.desk ≡ old.desk) × HasEnded new
+
+-- each of these entries is of the lane
+abbrev pub AllOf : Lane → List Entry → Type 0
+AllOf lane [] = Unit {0}
+AllOf lane (e ∷ es) = (lane_of_entry e ≡ lane) × AllOf lane es
+
+-- the new log is the old one, followed by so many entries of the lane
+pub record AddsOf (lane : Lane) (count : ℕ) (old new : List Entry) : Type 0 where
+  pub added : List Entry
+  pub grown : old ++ added ≡ new
+  pub counted : length added ≡ count
+  pub own : AllOf lane added
+
+-- why a helper makes no more moves in a hold: it made as many as it may; its lane isn't ready; or nothing is left to do
+abbrev pub StopsFor : (most : ℕ) → Lane → Helped → (made : ℕ) → HeldView → Type 0
+StopsFor most lane Moved made held = made ≡ most
+StopsFor most lane Still made held = is_ready_at held.desk lane ≡ false
+StopsFor most lane Over made held = HasEnded held
+
+-- what a helper's hold does: its lane moves, so often at most, and stops for such a reason
+pub record HelpsOn (most : ℕ) (lane : Lane) (helped : Helped) (old new : HeldView) : Type 0 where
+  pub made : ℕ
+  pub few : made ≤ most
+  pub adds : AddsOf lane made old.desk.core.log new.desk.core.log
+  pub stops : StopsFor most lane helped made new
 
 -- THE STORE'S WORKER
 

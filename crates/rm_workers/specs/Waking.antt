@@ -1,20 +1,19 @@
--- Whose bell rings after a hold. This project's own.
-use Rattle.std.specs.Prelude.{◌≡◌, Bool, true, false, ◌&&◌, ◌||◌, not, None}
+-- Whose bell rings after a hold, and what a helper does next. This project's own.
+use Rattle.std.specs.Prelude.{◌≡◌, Bool, true, false, ◌||◌, None}
 use Rattle.rm_types.specs.declared.messages.Lane.{Lane}
 use Rattle.rm_types.specs.declared.messages.Lane.TheVariants.{Client, Master, Node, Clock, Main, Sched, Hand, Write, End, Begin}
 use Rattle.rm_core.specs.Words.{stands}
 use Rattle.rm_desk.specs.Lanes.{is_ready_at}
 use Rattle.rm_desk.specs.Runs.{IsScriptOver}
 use Rattle.rm_desk.specs.View.{DeskView}
-use Rattle.rm_workers.specs.declared.ready.Called.{Called}
-use Rattle.rm_workers.specs.declared.ready.Ready.{Ready}
+use Rattle.rm_workers.specs.declared.called.Called.{Called}
+use Rattle.rm_workers.specs.declared.turns.Helped.{Helped}
+use Rattle.rm_workers.specs.declared.turns.Helped.TheVariants.{Moved, Still, Over}
+use Rattle.rm_workers.specs.declared.turns.Next.{Next}
+use Rattle.rm_workers.specs.declared.turns.Next.TheVariants.{GoesOn, GivesWay, Sleeps, Leaves}
 use Rattle.rm_workers.specs.Carried.{HeldView}
 
--- a lane calls its worker where it is ready now, unless whoever held the baton goes on and it was ready before; each does once nothing is left to do
-abbrev pub calls : (over goes_on now before : Bool) → Bool
-calls over goes_on now before = over || (now && not (goes_on && before))
-
--- the worker of a lane is called: one has three lanes
+-- the worker of a lane is called: one has three lanes, and none has that in which a life begins
 abbrev pub is_called : Called → Lane → Bool
 is_called c Client = c.client
 is_called c Master = c.master
@@ -27,34 +26,26 @@ is_called c Write = c.store
 is_called c End = c.store
 is_called c Begin = true
 
--- a lane was seen ready; no worker has that in which a life begins
-abbrev pub was_ready : Ready → Lane → Bool
-was_ready r Client = r.client
-was_ready r Master = r.master
-was_ready r Node = r.node
-was_ready r Clock = r.clock
-was_ready r Main = r.main
-was_ready r Sched = r.sched
-was_ready r Hand = r.hand
-was_ready r Write = r.write
-was_ready r End = r.end
-was_ready r Begin = true
+-- the same, but that the worker of a lane isn't called
+abbrev pub without_worker : Lane → Called → Called
+without_worker Client c = record c { client = false }
+without_worker Master c = record c { master = false }
+without_worker Node c = record c { node = false }
+without_worker Clock c = record c { clock = false }
+without_worker Main c = record c { main = false }
+without_worker Sched c = record c { sched = false }
+without_worker Hand c = record c { store = false }
+without_worker Write c = record c { store = false }
+without_worker End c = record c { store = false }
+without_worker Begin c = c
 
--- each lane of a worker was seen as it is
-pub record IsSeen (r : Ready) (d : DeskView) : Type 0 where
-  pub client : r.client ≡ is_ready_at d Client
-  pub master : r.master ≡ is_ready_at d Master
-  pub node : r.node ≡ is_ready_at d Node
-  pub clock : r.clock ≡ is_ready_at d Clock
-  pub main : r.main ≡ is_ready_at d Main
-  pub sched : r.sched ≡ is_ready_at d Sched
-  pub hand : r.hand ≡ is_ready_at d Hand
-  pub write : r.write ≡ is_ready_at d Write
-  pub end : r.end ≡ is_ready_at d End
+-- some worker is called
+abbrev pub calls_any : Called → Bool
+calls_any c = c.client || (c.master || (c.node || (c.clock || (c.main || (c.sched || c.store)))))
 
--- each worker is called of whom a lane is ready, but where the caller goes on, those alone of whom it wasn't before
-abbrev pub CallsReady : (goes_on : Bool) → Ready → DeskView → Called → Type 0
-CallsReady goes_on before d called = (lane : Lane) → is_ready_at d lane ≡ true → (goes_on ≡ true → was_ready before lane ≡ false) → is_called called lane ≡ true
+-- each worker is called of whom a lane is ready
+abbrev pub CallsReady : DeskView → Called → Type 0
+CallsReady d called = (lane : Lane) → is_ready_at d lane ≡ true → is_called called lane ≡ true
 
 -- each worker is called
 abbrev pub CallsAll : Called → Type 0
@@ -63,3 +54,11 @@ CallsAll called = (lane : Lane) → is_called called lane ≡ true
 -- some worker has something left to do: no halt stands, the life stands, and the run isn't at its end
 abbrev pub IsGoing : HeldView → Type 0
 IsGoing held = (held.halt ≡ None) × (stands held.desk.core ≡ true) × (IsScriptOver held.desk → ⊥)
+
+-- what a helper does next: it sleeps where its lane isn't ready, and leaves where nothing is left to do; where it made all its moves, it gives way
+-- if another worker is called, and goes on at once if none is
+abbrev pub next_of : Helped → (others : Bool) → Next
+next_of Moved true = GivesWay
+next_of Moved false = GoesOn
+next_of Still others = Sleeps
+next_of Over others = Leaves

@@ -1,10 +1,10 @@
-use crate::ready::Called;
+use crate::called::Called;
 use rm_types::Lane;
 use std::sync::Wait;
 use std::thread::Parker;
 use std::time::Duration;
 
-/// How many milliseconds a worker waits at most for a baton that another one has, before it tries again.
+/// How many milliseconds a worker waits at most for a baton that another one has or is to have, before it tries again.
 const TURN: u64 = 1;
 
 /// A bell for each of a life's workers, who sleeps until it rings. One that rings for a worker who is awake rings on, until that
@@ -69,8 +69,8 @@ impl Bells {
         self.of(lane).park(rt);
     }
 
-    /// The lane's worker found the baton with another one. It sleeps until its bell rings, and not for long: who puts the baton back
-    /// and takes it again at once needn't ring.
+    /// The lane's worker found the baton with another one, or lets another one take it first. It sleeps until its bell rings, and not
+    /// for long, so that nobody waits for one who is held up.
     pub(crate) fn nap<R: Wait>(&self, rt: &R, lane: Lane) {
         self.of(lane).park_timeout(rt, Duration::from_millis(TURN));
     }

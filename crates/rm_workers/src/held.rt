@@ -1,4 +1,4 @@
-ghost use Rattle.std.specs.Prelude.{◌≡◌, ◌≢◌, ◌⊎◌, ℕ, List, [], ◌∷◌, ◌++◌, OnOk, OnErr, IsErrOf, IsTrue, None, Some, true, false};
+ghost use Rattle.std.specs.Prelude.{◌≡◌, ◌≢◌, ◌⊎◌, ◌||◌, ℕ, List, [], ◌∷◌, ◌++◌, IfOk, IfErr, OnOk, OnErr, IsErrOf, IsTrue, None, Some, true, false};
 ghost use Rattle.rm_types.specs.declared.entries.Entry.TheVariants.{Kept as WasKept};
 ghost use Rattle.rm_types.specs.declared.messages.Lane.{Lane};
 ghost use Rattle.rm_types.specs.declared.operations.Op.{Op as AnyOp};
@@ -11,21 +11,23 @@ ghost use Rattle.rm_desk.specs.Effects.{Blows, LaneEffect};
 ghost use Rattle.rm_desk.specs.Lanes.{IsStep, is_ready_at};
 ghost use Rattle.rm_desk.specs.Runs.{IsScriptOver};
 ghost use Rattle.rm_workers.specs.Came.{Moves, Went, came};
-ghost use Rattle.rm_workers.specs.Waking.{CallsAll, CallsReady, IsGoing, IsSeen};
+ghost use Rattle.rm_workers.specs.Waking.{CallsAll, CallsReady, IsGoing};
 
-use crate::ready::{Called, Ready};
+use crate::called::Called;
 use crate::since::Since;
 use rm_baton::Carries;
 use rm_core::Refused;
 use rm_desk::Desk;
 use rm_plain::Halt;
 use rm_types::Lane;
+use std::alloc::Global;
 use std::marker::{Model, PhantomData};
 
-/// What the workers hand on: the desk, which goes on from the one with which the life began, and the first halt of a worker.
+/// What the workers hand on: the desk, which goes on from the one with which the life began, and the first halt of a worker. The desk
+/// stays where it is, so that what goes from hand to hand is small.
 #[derive(Drop)]
 pub(crate) struct Held<S: Since> {
-    desk: Desk,
+    desk: Box<Desk>,
     halt: Option<Halt>,
     since: PhantomData<S>,
 }
@@ -36,9 +38,9 @@ impl<S: Since> Model for Held<S> {
 
     ghost Value = { HeldView };
 
-    ghost view = { λ h. record { desk = h.desk; halt = h.halt } };
+    ghost view = { λ h. record { desk = h.desk.value; halt = h.halt } };
 
-    ghost invariant = { λ h. Went S.began.desk h.desk };
+    ghost invariant = { λ h. Went S.began.desk h.desk.value };
 }
 
 impl<S: Since> Carries for Held<S> {
@@ -52,17 +54,21 @@ impl<S: Since> Carries for Held<S> {
 }
 
 impl<S: Since> Held<S> {
-    /// The desk with which a life began.
-    pub(crate) fn new(desk: Desk) -> Held<S>
+    /// The desk with which a life began. It comes back where no memory was found to hold it.
+    pub(crate) fn new(alloc: Global, desk: Desk) -> Result<Held<S>, Desk>
         requires began { desk ≡ S.began.desk }
         requires stands { stands desk.core ≡ true }
-        ensures desk { result.desk ≡ desk }
-        ensures halt { result.halt ≡ None }
+        ensures desk { IfOk result (λ held. held.desk ≡ desk) }
+        ensures halt { IfOk result (λ held. held.halt ≡ None) }
+        ensures back { IfErr result (λ back. back ≡ desk) }
     {
-        Held {
-            desk,
-            halt: None,
-            since: PhantomData,
+        match Box::new(alloc, desk) {
+            Ok(desk) => Ok(Held {
+                desk,
+                halt: None,
+                since: PhantomData,
+            }),
+            Err(failed) => Err(failed.value),
         }
     }
 
@@ -91,7 +97,7 @@ impl<S: Since> Held<S> {
             halt: _,
             since: _,
         } = self;
-        desk
+        Box::into_inner(desk)
     }
 
     /// A worker halts the life. The first halt stays.
@@ -113,34 +119,30 @@ impl<S: Since> Held<S> {
         self.halt.is_some() || self.desk.is_down() || self.desk.is_at_end()
     }
 
-    /// Where something is left to do.
-    pub(crate) fn ready(&self) -> Ready
-        ensures seen { IsSeen result self.now.desk }
-        ensures over { IsGoing self.now ⊎ (result.over ≡ true) }
+    // Whether a lane of the store's worker is ready.
+    fn calls_store(&self) -> bool
+        ensures { result ≡ (is_ready_at self.now.desk Lane.Hand || (is_ready_at self.now.desk Lane.Write || is_ready_at self.now.desk Lane.End)) }
     {
-        let end = self.desk.ready(Lane::End);
-        Ready {
+        self.desk.ready(Lane::Hand) || self.desk.ready(Lane::Write) || self.desk.ready(Lane::End)
+    }
+
+    /// Who has something to do: each worker of whom a lane is ready, and all once none has anything left to do.
+    pub(crate) fn called(&self) -> Called
+        ensures ready { CallsReady self.now.desk result }
+        ensures all { IsGoing self.now ⊎ CallsAll result }
+    {
+        if self.is_over() {
+            return Called::everyone();
+        }
+        Called {
             client: self.desk.ready(Lane::Client),
             master: self.desk.ready(Lane::Master),
             node: self.desk.ready(Lane::Node),
             clock: self.desk.ready(Lane::Clock),
             main: self.desk.ready(Lane::Main),
             sched: self.desk.ready(Lane::Sched),
-            hand: self.desk.ready(Lane::Hand),
-            write: self.desk.ready(Lane::Write),
-            end,
-            rests: end && self.desk.is_idle(),
-            over: self.is_over(),
+            store: self.calls_store(),
         }
-    }
-
-    /// Who is to look, after a worker who goes on or doesn't has held it and it was ready so before: each worker of whom a lane is
-    /// ready, but where the holder goes on, those alone of whom it wasn't before; and all once none has anything left to do.
-    pub(crate) fn called(&self, before: Ready, goes_on: bool) -> Called
-        ensures ready { CallsReady goes_on before self.now.desk result }
-        ensures all { IsGoing self.now ⊎ CallsAll result }
-    {
-        self.ready().called(before, goes_on)
     }
 
     /// One move of a lane, as the desk makes it. A segment closes only at rest, unless the life blew.
@@ -153,9 +155,10 @@ impl<S: Since> Held<S> {
         ensures halt { OnOk result (self.new.halt ≡ self.old.halt) }
         ensures err { OnErr result (self.new ≡ self.old) }
     {
-        self.desk.law();
-        let made = self.desk.step(lane);
-        self.desk.law();
+        let desk = &mut *self.desk;
+        desk.law();
+        let made = desk.step(lane);
+        desk.law();
         made
     }
 
@@ -167,10 +170,11 @@ impl<S: Since> Held<S> {
         ensures halt { OnOk result (self.new.halt ≡ self.old.halt) }
         ensures err { OnErr result (self.new ≡ self.old) }
     {
-        let Some(_) = self.desk.handed() else {
+        let desk = &mut *self.desk;
+        let Some(_) = desk.handed() else {
             return Err(Refused::NotReady);
         };
-        self.desk.kept()
+        desk.kept()
     }
 
     /// The store refused the operation that is with it, after so many calls.
@@ -181,6 +185,7 @@ impl<S: Since> Held<S> {
         ensures halt { OnOk result (self.new.halt ≡ self.old.halt) }
         ensures err { OnErr result (self.new ≡ self.old) }
     {
-        self.desk.blown(passed)
+        let desk = &mut *self.desk;
+        desk.blown(passed)
     }
 }

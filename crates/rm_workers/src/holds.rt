@@ -12,9 +12,9 @@ ghost use Rattle.rm_workers.specs.Work.{Halting, IsHelper, Knows, Refused as Was
 
 use crate::bells::Bells;
 use crate::held::Held;
-use crate::moves::{blow, help, keep, turn};
+use crate::moves::{blow, help_on, keep, turn};
 use crate::since::Since;
-use crate::turns::{End, Helped, Turn};
+use crate::turns::{End, Next, Turn};
 use rm_baton::{Baton, Pass};
 use rm_disk::Disk;
 use rm_plain::Halt;
@@ -29,7 +29,7 @@ pub(crate) fn hold_help<S: Since, R: Wait>(
     bells: &Bells,
     pass: &mut Pass<Held<S>>,
     lane: Lane,
-) -> Option<Helped>
+) -> Option<Next>
     requires of { IsPassOf baton.now pass.old }
     requires helper { IsHelper (view pass.old) }
     requires lane { IsHelpers lane }
@@ -39,12 +39,11 @@ pub(crate) fn hold_help<S: Since, R: Wait>(
     let Some(mut held) = baton.take(rt, pass) else {
         return None;
     };
-    let ready = held.ready();
-    let helped = help(&mut held, lane);
-    let called = held.called(ready, helped.goes_on());
+    let helped = help_on(&mut held, lane);
+    let others = held.called().without(lane);
     baton.put(rt, pass, held);
-    bells.ring(called);
-    Some(helped)
+    bells.ring(others);
+    Some(helped.next(others))
 }
 
 /// A hold in which the store's worker makes a turn.
@@ -64,11 +63,10 @@ pub(crate) fn hold_turn<S: Since, D: Disk, R: Wait>(
     let Some(mut held) = baton.take(rt, pass) else {
         return Turn::Out;
     };
-    let ready = held.ready();
     let turn = turn(&mut held, store);
-    let called = held.called(ready, turn.goes_on());
+    let others = held.called().without(Lane::Hand);
     baton.put(rt, pass, held);
-    bells.ring(called);
+    bells.ring(others);
     turn
 }
 
@@ -110,11 +108,10 @@ pub(crate) fn hold_kept<S: Since, D: Disk, R: Wait>(
     ensures knows { Knows (LearnedFact D.view S.began store.now result.1) (view result.0) }
 {
     let (mut pass, mut held) = wait_for(rt, baton, bells, pass);
-    let ready = held.ready();
     let halt = keep(&mut held, store, op);
-    let called = held.called(ready, halt.is_none());
+    let others = held.called().without(Lane::Hand);
     baton.put(rt, &mut pass, held);
-    bells.ring(called);
+    bells.ring(others);
     (pass, halt)
 }
 
@@ -133,11 +130,10 @@ pub(crate) fn hold_blown<S: Since, D: Disk, R: Wait>(
     ensures knows { Knows (LearnedFact D.view S.began store.now result.1) (view result.0) }
 {
     let (mut pass, mut held) = wait_for(rt, baton, bells, pass);
-    let ready = held.ready();
     let halt = blow(&mut held, store, passed);
-    let called = held.called(ready, halt.is_none());
+    let others = held.called().without(Lane::Hand);
     baton.put(rt, &mut pass, held);
-    bells.ring(called);
+    bells.ring(others);
     (pass, halt)
 }
 
@@ -157,11 +153,10 @@ pub(crate) fn hold_halt<S: Since, D: Disk, R: Wait>(
 {
     let _ = store;
     let (mut pass, mut held) = wait_for(rt, baton, bells, pass);
-    let ready = held.ready();
     held.stop(halt);
-    let called = held.called(ready, false);
+    let others = held.called().without(Lane::Hand);
     baton.put(rt, &mut pass, held);
-    bells.ring(called);
+    bells.ring(others);
     pass
 }
 

@@ -11,13 +11,13 @@
 #![tactic(auto)]
 
 mod bells;
+mod called;
 mod gates;
 mod held;
 mod holds;
 mod keeper;
 mod lives;
 mod moves;
-mod ready;
 mod runs;
 mod signals;
 mod since;

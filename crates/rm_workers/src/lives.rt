@@ -33,16 +33,20 @@ fn start<S: Since, D: Disk>(
     alloc: Global,
     desk: Desk,
     store: &Store<D>,
-) -> Result<(Baton<Held<S>>, Pass<Held<S>>), Held<S>>
+) -> Result<(Baton<Held<S>>, Pass<Held<S>>), Desk>
     requires began { desk ≡ S.began.desk }
     requires stands { stands desk.core ≡ true }
     requires serving { Serving D.view S.began store.now desk.core.log }
     ensures of { IfOk result (λ made. IsPassOf made.0 made.1) }
     ensures knows { IfOk result (λ made. Knows (Serving D.view S.began store.now) (view made.1)) }
-    ensures back { IfErr result (λ held. held.desk ≡ desk) }
+    ensures back { IfErr result (λ back. back ≡ desk) }
 {
     let _ = store;
-    Baton::new(alloc, Held::<S>::new(desk))
+    let held = Held::<S>::new(alloc, desk)?;
+    match Baton::new(alloc, held) {
+        Ok(made) => Ok(made),
+        Err(held) => Err(held.into_desk()),
+    }
 }
 
 // What the life came to, by how the store's worker ended and whether another halted it.
@@ -80,7 +84,7 @@ fn live<S: Since + Send + Sync, D: Disk + Drop + Send, G: Gate + Sync, R: Thread
     ensures ended { Ended D.view S.began result.0 result.1 result.2 }
 {
     match start::<S, D>(alloc, desk, &store) {
-        Err(held) => stopped(held, store),
+        Err(desk) => stopped::<S, D>(desk, store),
         Ok((baton, pass)) => {
             let signals = Signals::new();
             let (pass, store, end) = seven(rt, &baton, gate, &signals, pass, store);
@@ -90,15 +94,17 @@ fn live<S: Since + Send + Sync, D: Disk + Drop + Send, G: Gate + Sync, R: Thread
     }
 }
 
-// No memory was found for the baton.
+// No memory was found for the baton or the desk in it.
 fn stopped<S: Since, D: Disk>(
-    held: Held<S>,
+    desk: Desk,
     store: Store<D>,
 ) -> (Desk, Store<D>, Result<LifeEnd, Halt>)
-    requires serving { Serving D.view S.began store held.desk.core.log }
+    requires began { desk ≡ S.began.desk }
+    requires stands { stands desk.core ≡ true }
+    requires serving { Serving D.view S.began store desk.core.log }
     ensures ended { Ended D.view S.began result.0 result.1 result.2 }
 {
-    (held.into_desk(), store, Err(Halt::Memory))
+    (desk, store, Err(Halt::Memory))
 }
 
 // The store serves the life that begins here.

@@ -9,7 +9,7 @@ ghost use Rattle.rm_baton.specs.Entries.{AddsCommon};
 ghost use Rattle.rm_workers.specs.declared.turns.End.{End};
 ghost use Rattle.rm_workers.specs.declared.turns.Helped.{Helped};
 ghost use Rattle.rm_workers.specs.declared.turns.Turn.{Turn};
-ghost use Rattle.rm_workers.specs.Turns.{Helps, IsHandedTurn, IsHelpers, LearnedFact, EndsWithCause, Makes, TurnFact, TurnOp};
+ghost use Rattle.rm_workers.specs.Turns.{Helps, HelpsOn, IsHandedTurn, IsHelpers, LearnedFact, EndsWithCause, Makes, TurnFact, TurnOp};
 ghost use Rattle.rm_workers.specs.Work.{Halting, Refused as WasRefused, Serving, Wrote};
 
 use crate::held::Held;
@@ -22,9 +22,9 @@ use rm_plain::Halt;
 use rm_store::Store;
 use rm_types::{Close, Duplicate, Lane, NoMemory, Op};
 
-/// A helper's turn: its lane moves, where it is ready. Only common entries are added. Once a halt stands nothing is done. It is
-/// `Over` only where the life is over or a halt stands.
-pub(crate) fn help<S: Since>(held: &mut Held<S>, lane: Lane) -> Helped
+// A helper's move: its lane moves, where it is ready. Only common entries are added. Once a halt stands nothing is done. It is
+// `Over` only where the life is over or a halt stands.
+fn help<S: Since>(held: &mut Held<S>, lane: Lane) -> Helped
     requires lane { IsHelpers lane }
     ensures helps { Helps lane result held.old held.new }
     ensures common { AddsCommon held.old.desk.core.log held.new.desk.core.log }
@@ -41,6 +41,27 @@ pub(crate) fn help<S: Since>(held: &mut Held<S>, lane: Lane) -> Helped
             Helped::Over
         }
     }
+}
+
+/// How many moves a helper makes at most in one hold, so that nobody waits long for the baton.
+const MOST_MOVES: u32 = 64;
+
+/// A helper's moves in one hold: its lane moves again and again while it is ready, but not more than `MOST_MOVES` times. Only
+/// common entries are added, all of the lane. Once a halt stands nothing is done.
+pub(crate) fn help_on<S: Since>(held: &mut Held<S>, lane: Lane) -> Helped
+    requires lane { IsHelpers lane }
+    ensures helps { HelpsOn MOST_MOVES lane result held.old held.new }
+    ensures common { AddsCommon held.old.desk.core.log held.new.desk.core.log }
+    ensures halted { held.old.halt ≢ None → (held.new ≡ held.old) }
+{
+    'moves: for _ in 0..MOST_MOVES {
+        match help(held, lane) {
+            Helped::Moved => {}
+            Helped::Still => return Helped::Still,
+            Helped::Over => return Helped::Over,
+        }
+    }
+    Helped::Moved
 }
 
 // The operation that was handed is to be written.

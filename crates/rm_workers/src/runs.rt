@@ -82,14 +82,36 @@ impl<G: Gate> Gate for CountedOn<'_, G> {
     }
 }
 
-/// How many operations were with the store by this log. Each was written once.
-fn appends(log: &Items<Entry>) -> u64 {
-    let handed = log
-        .as_slice()
-        .iter()
-        .filter(|entry| matches!(entry, Entry::Handed))
-        .count();
-    handed as u64
+/// How many operations were with the store by the first entries of a log. Each was written once.
+#[derive(Clone, Copy)]
+struct Appends {
+    entries: usize,
+    number: u64,
+}
+
+impl Appends {
+    /// None, by no entries.
+    fn none() -> Appends {
+        Appends {
+            entries: 0,
+            number: 0,
+        }
+    }
+
+    /// By all entries of a log that goes on from the one that was looked at. Those are not looked at again.
+    fn through(self, log: &Items<Entry>) -> Appends
+        ensures { result.entries ≡ length log.now }
+    {
+        let more = log.as_slice().get(self.entries..).unwrap_or(&[]);
+        let handed = more
+            .iter()
+            .filter(|entry| matches!(entry, Entry::Handed))
+            .count();
+        Appends {
+            entries: log.len(),
+            number: self.number.saturating_add(handed as u64),
+        }
+    }
 }
 
 /// How lives went: the desk and the disk that they left, and whether they came to their ends.
@@ -125,6 +147,7 @@ fn live<D: Disk + Drop + Send, G: Gate + Sync, R: Threads + Wait + Sync>(
     d: Desk,
     store: Store<D>,
     tree: Tree,
+    before: u64,
 ) -> Lived<D>
     requires ready { is_ready_at d Lane.Begin ≡ true }
     requires over { CanBeginOver tree }
@@ -142,7 +165,7 @@ fn live<D: Disk + Drop + Send, G: Gate + Sync, R: Threads + Wait + Sync>(
         Ok(()) => {
             let gate = CountedOn {
                 gate: workers.gate,
-                before: appends(d.log()),
+                before,
             };
             let (desk, store, ended) = run_life(workers.rt, alloc, &gate, d, store);
             left(desk, store, ended)
@@ -166,7 +189,7 @@ fn first_life<D: Disk + Drop + Send, G: Gate + Sync, R: Threads + Wait + Sync>(
 {
     match open_first(alloc, disk) {
         Ok((store, tree, opening)) => {
-            let Lived { desk, disk, ended } = live(workers, alloc, d, store, tree);
+            let Lived { desk, disk, ended } = live(workers, alloc, d, store, tree, 0);
             First {
                 opening,
                 desk,
@@ -189,6 +212,7 @@ fn next_life<D: Disk + Drop + Send, G: Gate + Sync, R: Threads + Wait + Sync>(
     alloc: Global,
     d: Desk,
     disk: Fuse<D>,
+    before: u64,
 ) -> Lived<D>
     requires ready { is_ready_at d Lane.Begin ≡ true }
     requires some { d.core.log ≢ [] }
@@ -197,7 +221,7 @@ fn next_life<D: Disk + Drop + Send, G: Gate + Sync, R: Threads + Wait + Sync>(
     ensures fewer { OnOk result.ended (length result.desk.place.lives < length d.place.lives) }
 {
     match open_again(alloc, &d, disk) {
-        Ok((store, tree)) => live(workers, alloc, d, store, tree),
+        Ok((store, tree)) => live(workers, alloc, d, store, tree, before),
         Err(Unopened { why, disk }) => Lived {
             desk: d,
             disk,
@@ -221,8 +245,10 @@ fn later_lives<D: Disk + Drop + Send, G: Gate + Sync, R: Threads + Wait + Sync>(
 {
     let mut desk = d;
     let mut disk = disk;
+    let mut appends = Appends::none();
     'lives: while desk.ready(Lane::Begin) {
-        let lived = next_life(workers, alloc, desk, disk);
+        appends = appends.through(desk.log());
+        let lived = next_life(workers, alloc, desk, disk, appends.number);
         desk = lived.desk;
         disk = lived.disk;
         if let Err(stop) = lived.ended {

@@ -1,10 +1,14 @@
+ghost use Rattle.std.specs.Prelude.{◌≡◌};
+ghost use Rattle.rm_workers.specs.Waking.{calls_any, next_of};
+
+use crate::called::Called;
 use rm_plain::Halt;
 use rm_types::{Lane, Op};
 
-/// What a helper's turn came to.
+/// What a helper's move came to, and its hold.
 #[derive(Clone, Copy, Debug, PartialEq, Eq)]
 pub(crate) enum Helped {
-    /// Its lane moved.
+    /// Its lane moved: in a hold, as often as it may.
     Moved,
     /// Its lane wasn't ready.
     Still,
@@ -13,10 +17,30 @@ pub(crate) enum Helped {
 }
 
 impl Helped {
-    /// Whether the worker takes the baton again at once.
-    pub(crate) fn goes_on(self) -> bool {
-        matches!(self, Helped::Moved)
+    /// What the worker does after a hold, where these others are called. One whose lane may be ready still gives way to them.
+    pub(crate) fn next(self, others: Called) -> Next
+        ensures { result ≡ next_of self (calls_any others) }
+    {
+        match self {
+            Helped::Moved if others.is_any() => Next::GivesWay,
+            Helped::Moved => Next::GoesOn,
+            Helped::Still => Next::Sleeps,
+            Helped::Over => Next::Leaves,
+        }
     }
+}
+
+/// What a helper does after a hold.
+#[derive(Clone, Copy, Debug, PartialEq, Eq)]
+pub(crate) enum Next {
+    /// It takes the baton again at once.
+    GoesOn,
+    /// It lets another worker take the baton first.
+    GivesWay,
+    /// It sleeps until its bell rings.
+    Sleeps,
+    /// It makes no more turns.
+    Leaves,
 }
 
 /// How the store's worker ended.
@@ -43,13 +67,6 @@ pub(crate) enum Turn {
     Write(Op),
     /// There are no more turns.
     Ends(End),
-}
-
-impl Turn {
-    /// Whether the store's worker takes the baton again at once.
-    pub(crate) fn goes_on(&self) -> bool {
-        matches!(self, Turn::Moved(_))
-    }
 }
 
 /// What a write came to.

@@ -12,7 +12,7 @@ use crate::holds::hold_help;
 use crate::keeper::keeper;
 use crate::signals::Signals;
 use crate::since::Since;
-use crate::turns::{End, Helped};
+use crate::turns::{End, Next};
 use rm_baton::{Baton, Pass};
 use rm_disk::Disk;
 use rm_store::Store;
@@ -53,14 +53,14 @@ fn help_to_end<S: Since, G: Gate, R: Wait>(
         }
         match hold_help(rt, baton, bells, &mut pass, lane) {
             None => bells.nap(rt, lane),
-            Some(Helped::Still) => {
+            Some(next) => {
                 gate.after_hold(lane);
-                bells.sleep(rt, lane);
-            }
-            Some(Helped::Moved) => gate.after_hold(lane),
-            Some(Helped::Over) => {
-                gate.after_hold(lane);
-                return pass;
+                match next {
+                    Next::GoesOn => {}
+                    Next::GivesWay => bells.nap(rt, lane),
+                    Next::Sleeps => bells.sleep(rt, lane),
+                    Next::Leaves => return pass,
+                }
             }
         }
     }

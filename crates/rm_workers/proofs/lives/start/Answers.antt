@@ -3,12 +3,11 @@ use Rattle.std.proofs.Common.{◌∙◌, ap}
 use Rattle.rm_baton.specs.Views.{view}
 use Rattle.rm_workers.specs.Carried.{HeldView}
 use Rattle.rm_workers.specs.Work.{Serving}
-use Rattle.rm_workers.proofs.Knowing.{if_err, if_ok, knows_started}
+use Rattle.rm_workers.proofs.Knowing.{knows_started}
 use Rattle.rm_workers.proofs.lives.start.Goals as goal
 
-pub returns-clause-knows : goal.returns-clause-knows
-returns-clause-knows g c =
-    if_ok c.new-2.result c.new-2.ensures.pass (λ made is. knows_started (Serving g.D.Disk.view g.S.Since.began c.args.store.now) c.new.result (view made.1) is (rw c.new.ensures.desk c.requires.serving))
+pub returns-in-Ok-clause-knows : goal.returns-in-Ok-clause-knows
+returns-in-Ok-clause-knows g c = knows_started (Serving g.D.Disk.view g.S.Since.began c.args.store.now) c.in_ok-held.held (view c.in-Ok.made.1) c.in-Ok.ensures.pass (rw c.in_ok-held.ensures.desk c.requires.serving)
 
-pub returns-clause-back : goal.returns-clause-back
-returns-clause-back g c = if_err c.new-2.result c.new-2.ensures.back (λ value is. ap (λ (h : HeldView). h.desk) is ∙ c.new.ensures.desk)
+pub returns-in-Err-clause-back : goal.returns-in-Err-clause-back
+returns-in-Err-clause-back g c = c.into_desk.ensures.desk ∙ ap (λ (h : HeldView). h.desk) c.in-Err.ensures.back ∙ c.in_ok-held.ensures.desk

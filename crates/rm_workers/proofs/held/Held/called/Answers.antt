@@ -4,4 +4,4 @@ use Rattle.rm_workers.proofs.Calling.{ready_called}
 use Rattle.rm_workers.proofs.held.Held.called.Goals as goal
 
 pub returns-clause-ready : goal.returns-clause-ready
-returns-clause-ready g c = ready_called c.ready.result.over c.args.goes_on c.ready.result c.args.before c.args.self.now.desk c.called.result c.ready.ensures.seen (search rules)
+returns-clause-ready g c = ready_called c.args.self.now.desk _ (search rules)
