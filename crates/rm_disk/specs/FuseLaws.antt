@@ -6,9 +6,11 @@ use Rattle.rm_disk.specs.Disk.{DiskView}
 use Rattle.rm_disk.specs.Faults.{rose_later}
 use Rattle.rm_disk.specs.Fuse.{Fused, fused_view, FaultedFuse, KeepsFuse}
 
+-- false is not true
 differ : false ≡ true → ⊥
 differ is = cc is
 
+-- A fuse over a disk that may stay as it is may stay as it is.
 pub keeps_fuse_same : {D : Type 0} (view : D → DiskView) (inner : D → D → Type 0) (succeeds : Bool) (fuse : Fused D) → inner fuse.inner fuse.inner → KeepsFuse view inner succeeds fuse fuse
 keeps_fuse_same view inner succeeds fuse same = record {
   inside = same;
@@ -25,6 +27,7 @@ keeps_fuse_same view inner succeeds fuse same = record {
   faults = omega arith;
 }
 
+-- A fuse that goes on, and goes on again, goes on in one.
 pub keeps_fuse_on : {D : Type 0} (view : D → DiskView) (inner : Bool → D → D → Type 0) → ((one two : Bool) (x y z : D) → inner one x y → inner two y z → inner (one && two) x z)
     → (one two : Bool) (x y z : Fused D) → KeepsFuse view (inner one) one x y → KeepsFuse view (inner two) two y z → KeepsFuse view (inner (one && two)) (one && two) x z
 keeps_fuse_on view inner on one two x y z xy yz = record {

@@ -5,6 +5,7 @@ use Rattle.rm_disk.specs.Disk.{DiskView}
 use Rattle.rm_disk.specs.Faults.{rose_later}
 use Rattle.rm_disk.specs.Torn.{Tearing, torn_view, FaultedTorn, KeepsTorn}
 
+-- A torn disk over one that may stay as it is may stay as it is.
 pub keeps_torn_same : {D : Type 0} (view : D → DiskView) (inner : Bool → D → D → Type 0) (succeeds : Bool) (disk : Tearing D) → inner succeeds disk.inner disk.inner → KeepsTorn view inner succeeds disk disk
 keeps_torn_same view inner succeeds disk same = record {
   inside = (succeeds, same, λ is. is);
@@ -16,6 +17,7 @@ keeps_torn_same view inner succeeds disk same = record {
   faults = omega arith;
 }
 
+-- A torn disk that goes on, and goes on again, goes on in one.
 pub keeps_torn_on : {D : Type 0} (view : D → DiskView) (inner : Bool → D → D → Type 0) → ((one two : Bool) (x y z : D) → inner one x y → inner two y z → inner (one && two) x z)
     → (one two : Bool) (x y z : Tearing D) → KeepsTorn view inner one x y → KeepsTorn view inner two y z → KeepsTorn view inner (one && two) x z
 keeps_torn_on view inner on one two x y z xy yz = record {

@@ -52,15 +52,17 @@ abbrev pub jobs_in : Entry → ℕ
 jobs_in (Kept (ops.App id submission)) = 1
 jobs_in entry = 0
 
--- an application is kept as finished, as failed, as killed
+-- an application is kept as finished
 abbrev pub finished_in : Entry → ℕ
 finished_in (Kept (ops.AppEnd id hows.Finished text)) = 1
 finished_in entry = 0
 
+-- an application is kept as failed
 abbrev pub failed_in : Entry → ℕ
 failed_in (Kept (ops.AppEnd id hows.Failed text)) = 1
 failed_in entry = 0
 
+-- an application is kept as killed
 abbrev pub killed_in : Entry → ℕ
 killed_in (Kept (ops.AppEnd id hows.Killed text)) = 1
 killed_in entry = 0
@@ -70,23 +72,27 @@ abbrev pub removed_in : Entry → ℕ
 removed_in (Kept (ops.Remove id)) = 1
 removed_in entry = 0
 
--- the containers that end, by their cause; those that an absorption ends are gone
+-- the containers that end since they are done
 abbrev pub done_in : Entry → ℕ
 done_in (Ended causes.Done list) = length list
 done_in entry = 0
 
+-- the containers that end since they were released
 abbrev pub released_in : Entry → ℕ
 released_in (Ended causes.Released list) = length list
 released_in entry = 0
 
+-- the containers that end since their node was lost
 abbrev pub lost_in : Entry → ℕ
 lost_in (Ended causes.Node list) = length list
 lost_in entry = 0
 
+-- the containers that end with their attempt
 abbrev pub over_in : Entry → ℕ
 over_in (Ended causes.Attempt list) = length list
 over_in entry = 0
 
+-- the containers that are gone: those that a report doesn't name any more, which an absorption ends too
 abbrev pub gone_in : Entry → ℕ
 gone_in (Ended causes.Gone list) = length list
 gone_in (Absorbed node taken ended) = length ended

@@ -31,6 +31,7 @@ end_of (entries.Blown passed ∷ rest) = AtRefusal passed
 end_of (entries.Down ∷ rest) = AtCrash
 end_of (entry ∷ rest) = end_of rest
 
+-- how a life ended, at the end of its line
 abbrev pub end_text : LifeEnd → List ℕ
 end_text AtCrash = codes ", went down\n"
 end_text (AtRefusal passed) = codes ", kept no more after " ++ decimal passed ++ codes " device calls\n"
@@ -117,6 +118,7 @@ abbrev pub denied_by : Reply → Option (List ℕ)
 denied_by (replies.Denied denial) = Some denial.queue
 denied_by reply = None
 
+-- the queue of the right that wasn't there where the entry answers a denial
 abbrev pub denial_in : Entry → Option (List ℕ)
 denial_in (entries.Served sender message reply) = denied_by reply
 denial_in entry = None
@@ -187,10 +189,12 @@ store_text es =
     codes "longest list: " ++ decimal (longest es) ++ codes "\noperations: " ++ decimal (sum_by issued_in es) ++ codes " issued, " ++ decimal (sum_by kept_in es)
     ++ codes " kept of " ++ decimal (sum_by kept_bytes_in es) ++ codes " bytes\n"
 
+-- the summary of a log, told with moves or without
 abbrev pub log_text : List Entry → Bool → List ℕ
 log_text es moves =
     head_text es moves ++ lives_text 0 es ++ jobs_text es ++ replies_text es ++ grants_text es ++ endings_text es ++ store_text es
 
+-- the summary of a soak
 abbrev pub soak_text : SoakLine → List ℕ
 soak_text soak =
     codes "a soak of " ++ decimal soak.apps ++ codes " applications\nlives: " ++ decimal soak.lives ++ codes "\nmessages: " ++ decimal soak.served ++ codes " served\ncontainers: "

@@ -18,24 +18,26 @@ use Rattle.rm_script.specs.Messages.{IsSize, IsHeld, IsAsk}
 abbrev pub HasNoComma : List ℕ → Type 0
 HasNoComma text = lacks 44 text ≡ true
 
--- what a line may say is in the ranges of a page
-
+-- a size that a line may say may stand on a page
 pub shown_size : (size : Resource) → IsSize size → IsInRange size
 shown_size size is = (omega (arith, is.memory.1), omega (arith, is.vcores.1))
 
+-- a container that a line may report may stand on a page
 pub shown_held : (held : Held) → IsHeld held → IsShownHeld held
 shown_held held is = record { id = is.id; size = shown_size held.size is.size }
 
+-- an ask that a line may make may stand on a page
 pub shown_ask : (ask : Ask) → IsAsk ask → IsShownAsk ask
 shown_ask ask is = record { priority = omega (arith, is.priority.1); count = omega (arith, is.count.1); size = shown_size ask.size is.size }
 
--- no comma stands in an item
-
+-- no comma stands in the text of a container's id
 pub container_lacks_comma : (id : ContainerId) → IsContainerId id → HasNoComma (container_text id)
 container_lacks_comma id is = container_lacks 44 id refl is
 
+-- nor in that of a reported container
 pub held_lacks_comma : (held : Held) → IsHeld held → HasNoComma (held_text held)
 held_lacks_comma held is = (held_comes_back held (shown_held held is)).no_comma
 
+-- nor in that of an ask
 pub ask_lacks_comma : (ask : Ask) → IsAsk ask → HasNoComma (ask_text ask)
 ask_lacks_comma ask is = (ask_comes_back ask (shown_ask ask is)).no_comma
