@@ -7,3 +7,4 @@ pub mod Resting
 pub mod Senders
 pub mod Firsts
 pub mod Takes
+pub mod Unbegun
