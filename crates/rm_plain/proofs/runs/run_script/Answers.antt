@@ -1,4 +1,5 @@
-use Rattle.std.proofs.Common.{ℕ, List, subst}
+use Rattle.std.proofs.Common.{◌≡◌, ℕ, List, refl, ◌∙◌, ap, subst}
+use Rattle.rm_model.specs.Place.{Place}
 use Rattle.rm_core.specs.Words.{new_manager}
 use Rattle.rm_plain.specs.Later.{IsDueAt}
 use Rattle.rm_plain.specs.Order.{StopsHere}
@@ -75,3 +76,9 @@ returns-clause-starts g c =
     rw c.into_log-log.ensures.log
     (starts_over g.D.Disk.view c.all_lives-opening.result.opening c.all_lives-opening.new.d.core.log c.args.disk c.all_lives-opening.result.disk (IsDueAt c.all_lives-opening.new.d)
     (StopsHere (by_letters (steps_of c.args.schedule.now)) c.all_lives-opening.new.d) c.all_lives-opening.result.ended (all.stopped (c.in-Ok.ensures.run c.all_lives-opening.result.opening).stands))
+
+pub returns-clause-idle : goal.returns-clause-idle
+returns-clause-idle g c = λ none.
+    let all = subst (λ (w : List ℕ). AllLived (by_letters (steps_of w)) g.D.Disk.view c.all_lives-opening.result.opening c.in-Ok.d c.all_lives-opening.new.d c.args.disk c.all_lives-opening.result.disk c.all_lives-opening.result.ended) c.new-schedule.ensures.whole c.all_lives-opening.ensures.all in
+    let idle = all.idle (ap (λ (p : Place). p.lives) c.in-Ok.ensures.place ∙ none) in
+    (c.into_log-log.ensures.log ∙ idle.0, idle.1, λ used. idle.2 (rw idle.0 (rw used refl)))
