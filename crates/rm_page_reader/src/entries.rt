@@ -4,11 +4,11 @@ ghost use Rattle.rm_types.specs.declared.texts.TextKind.TheVariants.{Node};
 ghost use Rattle.rm_page.specs.Ranges.{IsEntry, IsGrant, MayAnswer};
 
 use crate::errors::LineError;
-use crate::lists::{ByContainer, NO_SIZE, Whole, bracketed, cause};
+use crate::lists::{ByContainer, NO_SIZE, Reading, Whole, bracketed, cause, list_behind};
 use crate::messages::message;
 use crate::operations::operation;
 use crate::replies::reply;
-use crate::words::{Words, long_number, number, text};
+use crate::words::{Words, text};
 use rm_ids::{read_app, read_attempt, read_container};
 use rm_types::{
     Boxed, ClientAsk, ContainerId, Duplicate, Entry, Grant, Held, Items, Message, NoMemory, Reply,
@@ -58,9 +58,9 @@ fn bare(words: Words<'_>, entry: Entry) -> Result<Entry, LineError>
 fn opened(mut words: Words<'_>) -> Result<Entry, LineError>
     ensures { IfOk result IsEntry }
 {
-    let landed = number(words.field(b"landed=")?)?;
-    let epoch = number(words.field(b"epoch=")?)?;
-    let stamp = long_number(words.field(b"stamp=")?)?;
+    let landed = words.number(b"landed=")?;
+    let epoch = words.number(b"epoch=")?;
+    let stamp = words.long_number(b"stamp=")?;
     words.end()?;
     Ok(Entry::Opened {
         landed,
@@ -72,7 +72,7 @@ fn opened(mut words: Words<'_>) -> Result<Entry, LineError>
 fn blown(mut words: Words<'_>) -> Result<Entry, LineError>
     ensures { IfOk result IsEntry }
 {
-    let passed = number(words.field(b"passed=")?)?;
+    let passed = words.number(b"passed=")?;
     words.end()?;
     Ok(Entry::Blown { passed })
 }
@@ -178,24 +178,49 @@ fn queued(mut words: Words<'_>) -> Result<Entry, LineError>
 fn absorbed(alloc: Global, mut words: Words<'_>) -> Result<Entry, LineError>
     ensures { IfOk result IsEntry }
 {
-    let node = text(alloc, words.word()?, TextKind::Node)?;
-    let taken = bracketed::<ByContainer, Held>(alloc, words.field(b"taken=")?)?;
-    let ended = bracketed::<Whole, ContainerId>(alloc, words.field(b"ended=")?)?;
+    let node = boxed_node(alloc, &mut words)?;
+    let taken = boxed_list::<ByContainer, Held>(alloc, &mut words, b"taken=")?;
+    let ended = boxed_list::<Whole, ContainerId>(alloc, &mut words, b"ended=")?;
     words.end()?;
-    Ok(Entry::Absorbed {
-        node: Boxed::new(alloc, node)?,
-        taken: Boxed::new(alloc, taken)?,
-        ended: Boxed::new(alloc, ended)?,
-    })
+    Ok(Entry::Absorbed { node, taken, ended })
+}
+
+/// Takes the next word, a node's name.
+fn boxed_node(alloc: Global, words: &mut Words<'_>) -> Result<Boxed<Text>, LineError>
+    ensures { IfOk result (IsText Node) }
+{
+    let node = text(alloc, words.word()?, TextKind::Node)?;
+    Ok(Boxed::new(alloc, node)?)
+}
+
+/// Takes the next word, and gives the list in brackets that stands in it behind a name.
+fn boxed_list<R: Reading<T>, T: Drop>(
+    alloc: Global,
+    words: &mut Words<'_>,
+    name: &[u8],
+) -> Result<Boxed<Items<T>>, LineError>
+    ensures { IfOk result (All R.is) }
+{
+    let list = list_behind::<R, T>(alloc, words, name)?;
+    Ok(Boxed::new(alloc, list)?)
 }
 
 fn pass(alloc: Global, mut words: Words<'_>) -> Result<Entry, LineError>
     ensures { IfOk result IsEntry }
 {
     let node = text(alloc, words.word()?, TextKind::Node)?;
-    let ids = bracketed::<Whole, ContainerId>(alloc, words.field(b"grants=")?)?;
+    let ids = list_behind::<Whole, ContainerId>(alloc, &mut words, b"grants=")?;
     words.end()?;
     let grants = grants_on(alloc, &node, &ids)?;
+    Ok(pass_of(alloc, node, grants)?)
+}
+
+/// The pass that makes these grants on a node.
+fn pass_of(alloc: Global, node: Text, grants: Items<Grant>) -> Result<Entry, NoMemory>
+    requires node { IsText Node node }
+    requires grants { All IsGrant grants }
+    ensures { IfOk result IsEntry }
+{
     Ok(Entry::Pass {
         node: Boxed::new(alloc, node)?,
         grants: Boxed::new(alloc, grants)?,
@@ -232,11 +257,11 @@ fn ordered(alloc: Global, mut words: Words<'_>) -> Result<Entry, LineError>
     ensures { IfOk result IsEntry }
 {
     let container = read_container(words.word()?)?;
-    let node = text(alloc, words.word()?, TextKind::Node)?;
+    let node = boxed_node(alloc, &mut words)?;
     words.end()?;
     Ok(Entry::Ordered {
         container: Boxed::new(alloc, container)?,
-        node: Boxed::new(alloc, node)?,
+        node,
     })
 }
 

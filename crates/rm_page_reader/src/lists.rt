@@ -4,7 +4,7 @@ ghost use Rattle.rm_types.specs.declared.texts.TextKind.TheVariants.{Queue};
 ghost use Rattle.rm_page.specs.Ranges.{IsHeld, IsGrant, IsClosing};
 
 use crate::errors::LineError;
-use crate::words::{behind, text};
+use crate::words::{Words, behind, text};
 use rm_ids::read_container;
 use rm_types::{Cause, Closing, ContainerId, Grant, Held, Items, Resource, Text, TextKind};
 use std::alloc::Global;
@@ -133,4 +133,15 @@ pub(crate) fn bracketed<R: Reading<T>, T: Drop>(
         return Ok(Items::new(alloc));
     }
     listed::<R, T>(alloc, inside)
+}
+
+/// Takes the next word, and gives the list in brackets that stands in it behind a name.
+pub(crate) fn list_behind<R: Reading<T>, T: Drop>(
+    alloc: Global,
+    words: &mut Words<'_>,
+    name: &[u8],
+) -> Result<Items<T>, LineError>
+    ensures { IfOk result (All R.is) }
+{
+    bracketed::<R, T>(alloc, words.field(name)?)
 }

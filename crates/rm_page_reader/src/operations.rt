@@ -3,7 +3,7 @@ ghost use Rattle.rm_types.specs.Ranges.{IsOperation, IsSubmission, IsText};
 ghost use Rattle.rm_types.specs.declared.texts.TextKind.TheVariants.{Name, AclText};
 
 use crate::errors::LineError;
-use crate::words::{Words, long_number, number_within, text};
+use crate::words::{Words, text};
 use rm_ids::{read_app, read_attempt, read_container};
 use rm_types::{
     EPOCHS, GREATEST_ATTEMPTS, GREATEST_MEMORY_MB, GREATEST_VCORES, How, Op, Resource, STAMPS,
@@ -29,8 +29,8 @@ pub(crate) fn operation(alloc: Global, mut words: Words<'_>) -> Result<Op, LineE
 fn epoch(mut words: Words<'_>) -> Result<Op, LineError>
     ensures { IfOk result IsOperation }
 {
-    let next = number_within(words.field(b"next=")?, 1, EPOCHS)?;
-    let stamp = long_number(words.field(b"stamp=")?)?;
+    let next = words.number_within(b"next=", 1, EPOCHS)?;
+    let stamp = words.long_number(b"stamp=")?;
     words.end()?;
     if stamp == 0 || stamp >= STAMPS {
         return Err(LineError::NotALine);
@@ -42,7 +42,7 @@ fn app(alloc: Global, mut words: Words<'_>) -> Result<Op, LineError>
     ensures { IfOk result IsOperation }
 {
     let id = read_app(words.word()?)?;
-    let user = text(alloc, words.field(b"user=")?, TextKind::Name)?;
+    let user = words.text(alloc, b"user=", TextKind::Name)?;
     let submission = submission(alloc, user, words)?;
     Ok(Op::App { id, submission })
 }
@@ -52,11 +52,11 @@ fn submission(alloc: Global, user: Text, mut words: Words<'_>) -> Result<Submiss
     requires { IsText Name user }
     ensures { IfOk result IsSubmission }
 {
-    let queue = text(alloc, words.field(b"queue=")?, TextKind::Queue)?;
-    let name = text(alloc, words.field(b"name=")?, TextKind::Name)?;
-    let memory_mb = number_within(words.field(b"memory=")?, 1, GREATEST_MEMORY_MB)?;
-    let vcores = number_within(words.field(b"vcores=")?, 1, GREATEST_VCORES)?;
-    let attempts = number_within(words.field(b"attempts=")?, 0, GREATEST_ATTEMPTS)?;
+    let queue = words.text(alloc, b"queue=", TextKind::Queue)?;
+    let name = words.text(alloc, b"name=", TextKind::Name)?;
+    let memory_mb = words.number_within(b"memory=", 1, GREATEST_MEMORY_MB)?;
+    let vcores = words.number_within(b"vcores=", 1, GREATEST_VCORES)?;
+    let attempts = words.number_within(b"attempts=", 0, GREATEST_ATTEMPTS)?;
     let modify = modify(alloc, words)?;
     Ok(Submission {
         user,
@@ -75,7 +75,7 @@ fn modify(alloc: Global, mut words: Words<'_>) -> Result<Text, LineError>
     if words.is_empty() {
         return text(alloc, b"", TextKind::AclText);
     }
-    text(alloc, words.last_field(b"modify=")?, TextKind::AclText)
+    words.last_text(alloc, b"modify=", TextKind::AclText)
 }
 
 fn attempt(alloc: Global, mut words: Words<'_>) -> Result<Op, LineError>
@@ -83,7 +83,7 @@ fn attempt(alloc: Global, mut words: Words<'_>) -> Result<Op, LineError>
 {
     let id = read_attempt(words.word()?)?;
     let master = read_container(words.field(b"master=")?)?;
-    let node = text(alloc, words.field(b"node=")?, TextKind::Node)?;
+    let node = words.text(alloc, b"node=", TextKind::Node)?;
     words.end()?;
     if master.attempt != id {
         return Err(LineError::NotALine);
@@ -96,7 +96,7 @@ fn attempt_end(alloc: Global, mut words: Words<'_>) -> Result<Op, LineError>
 {
     let id = read_attempt(words.word()?)?;
     let how = how(words.word()?)?;
-    let text = text(alloc, words.last_field(b"text=")?, TextKind::Note)?;
+    let text = words.last_text(alloc, b"text=", TextKind::Note)?;
     Ok(Op::AttemptEnd { id, how, text })
 }
 
@@ -105,7 +105,7 @@ fn app_end(alloc: Global, mut words: Words<'_>) -> Result<Op, LineError>
 {
     let id = read_app(words.word()?)?;
     let how = how(words.word()?)?;
-    let text = text(alloc, words.last_field(b"text=")?, TextKind::Note)?;
+    let text = words.last_text(alloc, b"text=", TextKind::Note)?;
     Ok(Op::AppEnd { id, how, text })
 }
 

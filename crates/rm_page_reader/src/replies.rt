@@ -2,8 +2,8 @@ ghost use Rattle.std.specs.Prelude.{IfOk, IfSome};
 ghost use Rattle.rm_page.specs.Ranges.{IsReply, IsDenial, IsReport};
 
 use crate::errors::LineError;
-use crate::lists::{Whole, bracketed, listed};
-use crate::words::{Words, number, text};
+use crate::lists::{Whole, list_behind, listed};
+use crate::words::{Words, text};
 use rm_ids::read_app;
 use rm_types::{
     AclOp, Closing, ContainerId, Denial, Grant, Reply, Report, StateWord, Text, TextKind,
@@ -91,12 +91,12 @@ fn report(alloc: Global, mut words: Words<'_>) -> Result<Report, LineError>
     ensures { IfOk result IsReport }
 {
     let state = state(words.field(b"state=")?)?;
-    let user = text(alloc, words.field(b"user=")?, TextKind::Name)?;
-    let queue = text(alloc, words.field(b"queue=")?, TextKind::Queue)?;
-    let name = text(alloc, words.field(b"name=")?, TextKind::Name)?;
-    let attempts = number(words.field(b"attempts=")?)?;
-    let live = number(words.field(b"live=")?)?;
-    let text = text(alloc, words.last_field(b"text=")?, TextKind::Note)?;
+    let user = words.text(alloc, b"user=", TextKind::Name)?;
+    let queue = words.text(alloc, b"queue=", TextKind::Queue)?;
+    let name = words.text(alloc, b"name=", TextKind::Name)?;
+    let attempts = words.number(b"attempts=")?;
+    let live = words.number(b"live=")?;
+    let text = words.last_text(alloc, b"text=", TextKind::Note)?;
     Ok(Report {
         state,
         user,
@@ -126,9 +126,9 @@ fn state(word: &[u8]) -> Result<StateWord, LineError> {
 fn allocated(alloc: Global, mut words: Words<'_>) -> Result<Reply, LineError>
     ensures { IfOk result IsReply }
 {
-    let id = number(words.field(b"id=")?)?;
-    let grants = bracketed::<Whole, Grant>(alloc, words.field(b"grants=")?)?;
-    let ended = bracketed::<Whole, Closing>(alloc, words.field(b"ended=")?)?;
+    let id = words.number(b"id=")?;
+    let grants = list_behind::<Whole, Grant>(alloc, &mut words, b"grants=")?;
+    let ended = list_behind::<Whole, Closing>(alloc, &mut words, b"ended=")?;
     words.end()?;
     Ok(Reply::Allocated { id, grants, ended })
 }
@@ -136,8 +136,8 @@ fn allocated(alloc: Global, mut words: Words<'_>) -> Result<Reply, LineError>
 fn node_registered(mut words: Words<'_>) -> Result<Reply, LineError>
     ensures { IfOk result IsReply }
 {
-    let turn = number(words.field(b"turn=")?)?;
-    let epoch = number(words.field(b"epoch=")?)?;
+    let turn = words.number(b"turn=")?;
+    let epoch = words.number(b"epoch=")?;
     words.end()?;
     Ok(Reply::NodeRegistered { turn, epoch })
 }
@@ -145,9 +145,9 @@ fn node_registered(mut words: Words<'_>) -> Result<Reply, LineError>
 fn beat(alloc: Global, mut words: Words<'_>) -> Result<Reply, LineError>
     ensures { IfOk result IsReply }
 {
-    let id = number(words.field(b"id=")?)?;
-    let launch = bracketed::<Whole, ContainerId>(alloc, words.field(b"launch=")?)?;
-    let clean = bracketed::<Whole, ContainerId>(alloc, words.field(b"clean=")?)?;
+    let id = words.number(b"id=")?;
+    let launch = list_behind::<Whole, ContainerId>(alloc, &mut words, b"launch=")?;
+    let clean = list_behind::<Whole, ContainerId>(alloc, &mut words, b"clean=")?;
     words.end()?;
     Ok(Reply::Beat { id, launch, clean })
 }

@@ -3,7 +3,7 @@ ghost use Rattle.std.specs.Fmt.{decimal};
 ghost use Rattle.rm_page_reader.specs.Soaks.{soak_text};
 
 use crate::errors::LineError;
-use crate::words::{Words, long_number, number};
+use crate::words::{Words, number};
 use itoa::Buffer;
 use rm_types::NoMemory;
 use std::alloc::Global;
@@ -27,11 +27,11 @@ pub(crate) fn soak_line(line: &[u8]) -> Result<SoakLine, LineError> {
         return Err(LineError::NotALine);
     }
     let apps = number(words.word()?)?;
-    let lives = long_number(words.field(b"lives=")?)?;
-    let served = long_number(words.field(b"served=")?)?;
-    let grants = long_number(words.field(b"grants=")?)?;
-    let finished = long_number(words.field(b"finished=")?)?;
-    let kept = long_number(words.field(b"kept=")?)?;
+    let lives = words.long_number(b"lives=")?;
+    let served = words.long_number(b"served=")?;
+    let grants = words.long_number(b"grants=")?;
+    let finished = words.long_number(b"finished=")?;
+    let kept = words.long_number(b"kept=")?;
     words.end()?;
     Ok(SoakLine {
         apps,

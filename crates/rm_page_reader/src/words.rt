@@ -46,6 +46,52 @@ impl<'a> Words<'a> {
         behind(self.rest()?, name)
     }
 
+    /// Takes the next word, and gives the number that stands in it behind a name.
+    pub(crate) fn number(&mut self, name: &[u8]) -> Result<u32, LineError> {
+        number(self.field(name)?)
+    }
+
+    /// The same of a number from a least to a greatest one.
+    pub(crate) fn number_within(
+        &mut self,
+        name: &[u8],
+        least: u32,
+        greatest: u32,
+    ) -> Result<u32, LineError>
+        ensures { IfOk result (IsWithin least greatest) }
+    {
+        number_within(self.field(name)?, least, greatest)
+    }
+
+    /// The same of a number of 64 bits.
+    pub(crate) fn long_number(&mut self, name: &[u8]) -> Result<u64, LineError> {
+        long_number(self.field(name)?)
+    }
+
+    /// Takes the next word, and gives the text of a kind that stands in it behind a name.
+    pub(crate) fn text(
+        &mut self,
+        alloc: Global,
+        name: &[u8],
+        kind: TextKind,
+    ) -> Result<Text, LineError>
+        ensures { IfOk result (IsText kind) }
+    {
+        text(alloc, self.field(name)?, kind)
+    }
+
+    /// Takes all that is left, and gives the text of a kind that stands in it behind a name.
+    pub(crate) fn last_text(
+        &mut self,
+        alloc: Global,
+        name: &[u8],
+        kind: TextKind,
+    ) -> Result<Text, LineError>
+        ensures { IfOk result (IsText kind) }
+    {
+        text(alloc, self.last_field(name)?, kind)
+    }
+
     /// Whether no word is left.
     pub(crate) fn is_empty(&self) -> bool {
         self.rest.is_none()
