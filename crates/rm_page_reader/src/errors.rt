@@ -28,11 +28,13 @@ impl From<AllocError> for PageError {
 }
 
 /// Why a line wasn't read, or a part of one.
-#[derive(Clone, Copy, Debug)]
+#[derive(Clone, Copy, Debug, Error)]
 pub(crate) enum LineError {
     /// It is no such line.
+    #[error("not such a line")]
     NotALine,
     /// No memory was found.
+    #[error("out of memory")]
     Memory,
 }
 
