@@ -1,3 +1,4 @@
+pub mod Gates
 pub mod Outcomes
 pub mod Reading
 pub mod Runs

@@ -1,3 +1,6 @@
+ghost use Rattle.std.specs.Prelude.{◌≡◌};
+ghost use Rattle.rm_tool.specs.Gates.{gates_walked};
+
 use crate::reports::{JobState, jobs_in};
 use rm_page::store_page;
 use rm_salvage::{Checked, Fault, Form, Stop};
@@ -59,7 +62,8 @@ impl Display for CheckPage<'_> {
         let checked = self.checked;
         let frames = checked.ops.len();
         writeln!(f, "{}", FormText { form: checked.form })?;
-        writeln!(f, "walked frames={frames}")?;
+        let gates = gates_walked(checked.form, frames);
+        writeln!(f, "walked gates={gates} frames={frames}")?;
         write_jobs(f, checked)?;
         write_room(f, checked)?;
         writeln!(
@@ -76,6 +80,17 @@ impl Display for CheckPage<'_> {
                 writeln!(f, "stray operation={number} at={offset}")
             }
         }
+    }
+}
+
+/// How many gates are walked over with so many frames: one before each record, and the one behind the last.
+fn gates_walked(form: Form, frames: usize) -> u128
+    ensures { result ≡ gates_walked form frames }
+{
+    match form {
+        Form::OneJournal => frames as u128 + 1,
+        Form::TwoAreas { .. } => frames as u128 + 2,
+        Form::NoArea => 0,
     }
 }
 
@@ -105,7 +120,7 @@ fn write_room<W: Write>(f: &mut Formatter<W>, checked: &Checked) -> fmt::Result 
     writeln!(f, "fits shipped={shipped} longest={longest}")
 }
 
-/// The page of a check: the form, the frames that were walked, the jobs, the room, the SHA-256 of the store's page, and whether the store
+/// The page of a check: the form, the gates and frames that were walked, the jobs, the room, the SHA-256 of the store's page, and whether the store
 /// is whole.
 pub fn check_page(alloc: Global, checked: &Checked) -> Result<Vec<u8>, NoMemory> {
     let kept = store_page(alloc, &checked.ops)?;

@@ -17,7 +17,7 @@ const APP: &[u8] =
 
 /// What a check tells of it. The sum is that of the two lines of `store`, by `sha256sum`.
 const WHOLE: &str = "form two-areas area=first generation=1
-walked frames=2
+walked gates=4 frames=2
 jobs all=1 submitted=1 accepted=0 finished=0 failed=0 killed=0
 used bytes=89 of=2097152 free=2097063
 fits shipped=13980 longest=1432
