@@ -1,1 +1,2 @@
 pub mod ToldRanges
+pub mod Appended

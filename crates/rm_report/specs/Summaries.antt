@@ -60,15 +60,19 @@ is_same_name (Some name) (Some other) = bytes_eq name other
 abbrev pub counted : List ℕ → ℕ → List ℕ
 counted name count = codes " " ++ decimal count ++ codes " " ++ name
 
+-- how often the name comes among the entries
+unfoldable pub times : (Entry → Option (List ℕ)) → Option (List ℕ) → List Entry → ℕ
+times name_of name es = count_by (λ other. is_same_name name (name_of other)) es
+
 -- what the entry adds to a tally: its name with how often it comes from here on, where it is none of those before, and no more than
 -- so many names
-abbrev pub tally_step : List (List ℕ) → Option (List ℕ) → ℕ → List ℕ
+unfoldable pub tally_step : List (List ℕ) → Option (List ℕ) → ℕ → List ℕ
 tally_step before None count = []
 tally_step before (Some name) count =
     if list_any (λ other. bytes_eq other name) before then [] else if nat_le MOST_NAMES (length before) then [] else counted name count
 
 -- the names that were told, with the entry's
-abbrev pub told_with : List (List ℕ) → Option (List ℕ) → List (List ℕ)
+unfoldable pub told_with : List (List ℕ) → Option (List ℕ) → List (List ℕ)
 told_with before None = before
 told_with before (Some name) =
     if list_any (λ other. bytes_eq other name) before then before else if nat_le MOST_NAMES (length before) then before else before ++ name ∷ []
@@ -77,7 +81,7 @@ told_with before (Some name) =
 abbrev pub tally : (Entry → Option (List ℕ)) → List (List ℕ) → List Entry → List ℕ
 tally name_of before [] = []
 tally name_of before (entry ∷ rest) =
-    tally_step before (name_of entry) (count_by (λ other. is_same_name (name_of entry) (name_of other)) (entry ∷ rest))
+    tally_step before (name_of entry) (times name_of (name_of entry) (entry ∷ rest))
     ++ tally name_of (told_with before (name_of entry)) rest
 
 -- the word with which a reply begins

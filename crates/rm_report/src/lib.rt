@@ -1,8 +1,8 @@
 //! What an operator asks of a page: a summary, and the lines that name an application, an attempt, a container or a node.
 //!
-//! It promises that `follow` tells exactly the lines of the page that name the id, each with its number, and that a summary's numbers are
-//! counts over the lines; in which order these stand is tried by tests alone. Of its `specs/`, `Naming` says which ids a line tells, `Meanings`
-//! what it means, and `Following` what is told of it; `Counting` says what is counted, and `Summaries` how.
+//! It promises that `follow` tells exactly the lines of the page that name the id, each with its number, and that `summary` tells exactly the
+//! page's summary, each number in its place. Of its `specs/`, `Naming` says which ids a line tells, `Meanings` what it means, and `Following`
+//! what is told of it; `Counting` says what is counted, and `Summaries` what is told of that.
 //!
 //! It stands on `rm_types` for the values, on `rm_page_reader`, which reads pages, on `rm_page`, which writes a line again, on
 //! `rm_ids` for the texts of ids, on `rm_frame` for the length of an operation, and on `itoa` for digits.

@@ -1,5 +1,5 @@
-ghost use Rattle.std.specs.Prelude.{◌≡◌};
-ghost use Rattle.rm_report.specs.Summaries.{end_of};
+ghost use Rattle.std.specs.Prelude.{◌≡◌, ◌++◌, OnOk};
+ghost use Rattle.rm_report.specs.Summaries.{end_of, end_text, life_text, lives_text};
 
 use crate::sheet::Sheet;
 use rm_types::{Entry, NoMemory};
@@ -16,7 +16,9 @@ pub(crate) enum LifeEnd {
 }
 
 /// Writes a line for each life.
-pub(crate) fn put_lives(sheet: &mut Sheet, entries: &[Entry]) -> Result<(), NoMemory> {
+pub(crate) fn put_lives(sheet: &mut Sheet, entries: &[Entry]) -> Result<(), NoMemory>
+    ensures { OnOk result (sheet.new ≡ sheet.old ++ lives_text 0 entries.now) }
+{
     let mut number: usize = 0;
     let mut rest = entries;
     'entries: while let [entry, more @ ..] = rest {
@@ -41,7 +43,9 @@ fn put_life(
     epoch: u32,
     stamp: u64,
     end: LifeEnd,
-) -> Result<(), NoMemory> {
+) -> Result<(), NoMemory>
+    ensures { OnOk result (sheet.new ≡ sheet.old ++ life_text number landed epoch stamp end) }
+{
     sheet.number(b"life ", number)?;
     sheet.number(b": epoch ", epoch)?;
     sheet.number(b", stamp ", stamp)?;
@@ -50,7 +54,9 @@ fn put_life(
     Ok(())
 }
 
-fn put_end(sheet: &mut Sheet, end: LifeEnd) -> Result<(), NoMemory> {
+fn put_end(sheet: &mut Sheet, end: LifeEnd) -> Result<(), NoMemory>
+    ensures { OnOk result (sheet.new ≡ sheet.old ++ end_text end) }
+{
     match end {
         LifeEnd::AtCrash => sheet.text(b", went down\n"),
         LifeEnd::AtRefusal(passed) => {

@@ -2,7 +2,7 @@ ghost use Rattle.std.specs.Prelude.{◌≡◌, ◌++◌, All, IfOk, OnOk, sum_by
 ghost use Rattle.rm_page.specs.Ranges.{IsEntry};
 ghost use Rattle.rm_page_reader.specs.Told.{entries_of};
 ghost use Rattle.rm_report.specs.Counting.{kept_bytes_in};
-ghost use Rattle.rm_report.specs.Summaries.{head_text};
+ghost use Rattle.rm_report.specs.Summaries.{IsSummary, summary_text, log_text, head_text, jobs_text, replies_text, grants_text, endings_text, store_text, soak_text};
 
 use crate::counting::{
     Done, Failed, Finished, Gone, Granted, Issued, Jobs, Kept, Killed, Lives, Lost, Over, Passes,
@@ -23,7 +23,9 @@ use std::alloc::Global;
 ///
 /// `NotAPage` names the first line that is none of a page, and `Memory` may come of any bytes.
 #[tactic(auto, using(crate::proofs::ToldRanges::told_ranges))]
-pub fn summary(alloc: Global, page: &[u8]) -> Result<Vec<u8>, PageError> {
+pub fn summary(alloc: Global, page: &[u8]) -> Result<Vec<u8>, PageError>
+    ensures { IfOk result (λ report. IsSummary page.now report.items) }
+{
     let page = read_page(alloc, page)?;
     let mut sheet = Sheet::new(alloc);
     put_summary(alloc, &mut sheet, &page)?;
@@ -32,16 +34,17 @@ pub fn summary(alloc: Global, page: &[u8]) -> Result<Vec<u8>, PageError> {
 
 fn put_summary(alloc: Global, sheet: &mut Sheet, page: &Page) -> Result<(), NoMemory>
     requires { All IsEntry (entries_of page.now) }
+    ensures { OnOk result (sheet.new ≡ sheet.old ++ summary_text page.now) }
 {
     match page {
-        Page::Log { entries, moves } => put_log(alloc, sheet, entries.as_slice(), *moves)?,
-        Page::Soak(soak) => put_soak(sheet, *soak)?,
+        Page::Log { entries, moves } => put_log(alloc, sheet, entries.as_slice(), *moves),
+        Page::Soak(soak) => put_soak(sheet, *soak),
     }
-    Ok(())
 }
 
 fn put_log(alloc: Global, sheet: &mut Sheet, entries: &[Entry], moves: bool) -> Result<(), NoMemory>
     requires { All IsEntry entries.now }
+    ensures { OnOk result (sheet.new ≡ sheet.old ++ log_text entries.now moves) }
 {
     put_head(sheet, entries, moves)?;
     put_lives(sheet, entries)?;
@@ -66,7 +69,9 @@ fn put_head(sheet: &mut Sheet, entries: &[Entry], moves: bool) -> Result<(), NoM
     Ok(())
 }
 
-fn put_jobs(sheet: &mut Sheet, entries: &[Entry]) -> Result<(), NoMemory> {
+fn put_jobs(sheet: &mut Sheet, entries: &[Entry]) -> Result<(), NoMemory>
+    ensures { OnOk result (sheet.new ≡ sheet.old ++ jobs_text entries.now) }
+{
     let kept = total::<Jobs>(entries);
     let finished = total::<Finished>(entries);
     let failed = total::<Failed>(entries);
@@ -85,7 +90,9 @@ fn put_jobs(sheet: &mut Sheet, entries: &[Entry]) -> Result<(), NoMemory> {
     Ok(())
 }
 
-fn put_replies(alloc: Global, sheet: &mut Sheet, entries: &[Entry]) -> Result<(), NoMemory> {
+fn put_replies(alloc: Global, sheet: &mut Sheet, entries: &[Entry]) -> Result<(), NoMemory>
+    ensures { OnOk result (sheet.new ≡ sheet.old ++ replies_text entries.now) }
+{
     sheet.number(b"replies: ", total::<Served>(entries))?;
     sheet.text(b":")?;
     put_tally::<Answers>(alloc, sheet, entries)?;
@@ -95,7 +102,9 @@ fn put_replies(alloc: Global, sheet: &mut Sheet, entries: &[Entry]) -> Result<()
     Ok(())
 }
 
-fn put_grants(sheet: &mut Sheet, entries: &[Entry]) -> Result<(), NoMemory> {
+fn put_grants(sheet: &mut Sheet, entries: &[Entry]) -> Result<(), NoMemory>
+    ensures { OnOk result (sheet.new ≡ sheet.old ++ grants_text entries.now) }
+{
     sheet.number(b"containers: ", total::<Granted>(entries))?;
     sheet.number(b" granted in ", total::<Passes>(entries))?;
     sheet.number(b" passes, ", total::<Taken>(entries))?;
@@ -103,7 +112,9 @@ fn put_grants(sheet: &mut Sheet, entries: &[Entry]) -> Result<(), NoMemory> {
     Ok(())
 }
 
-fn put_endings(sheet: &mut Sheet, entries: &[Entry]) -> Result<(), NoMemory> {
+fn put_endings(sheet: &mut Sheet, entries: &[Entry]) -> Result<(), NoMemory>
+    ensures { OnOk result (sheet.new ≡ sheet.old ++ endings_text entries.now) }
+{
     sheet.number(b"endings: ", total::<Done>(entries))?;
     sheet.number(b" done, ", total::<Released>(entries))?;
     sheet.number(b" released, ", total::<Lost>(entries))?;
@@ -115,6 +126,7 @@ fn put_endings(sheet: &mut Sheet, entries: &[Entry]) -> Result<(), NoMemory> {
 
 fn put_store(alloc: Global, sheet: &mut Sheet, entries: &[Entry]) -> Result<(), NoMemory>
     requires { All IsEntry entries.now }
+    ensures { OnOk result (sheet.new ≡ sheet.old ++ store_text entries.now) }
 {
     sheet.number(b"longest list: ", longest(entries))?;
     sheet.number(b"\noperations: ", total::<Issued>(entries))?;
@@ -148,7 +160,9 @@ fn frame_bytes(encoder: &mut Encoder, entry: &Entry) -> Result<usize, NoMemory>
     }
 }
 
-fn put_soak(sheet: &mut Sheet, soak: SoakLine) -> Result<(), NoMemory> {
+fn put_soak(sheet: &mut Sheet, soak: SoakLine) -> Result<(), NoMemory>
+    ensures { OnOk result (sheet.new ≡ sheet.old ++ soak_text soak) }
+{
     sheet.number(b"a soak of ", soak.apps)?;
     sheet.number(b" applications\nlives: ", soak.lives)?;
     sheet.number(b"\nmessages: ", soak.served)?;

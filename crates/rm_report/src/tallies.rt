@@ -1,9 +1,9 @@
-ghost use Rattle.std.specs.Prelude.{◌≡◌, ◌++◌, ℕ, List, [], Option, OnOk, count_by};
+ghost use Rattle.std.specs.Prelude.{◌≡◌, ◌++◌, ℕ, List, [], Option, OnOk};
 ghost use Rattle.std.specs.List.{list_any};
 ghost use Rattle.std.specs.Option.{option_map};
 ghost use Rattle.std.specs.Str.{bytes_eq};
 ghost use Rattle.rm_types.specs.declared.entries.Entry.{Entry as AnyEntry};
-ghost use Rattle.rm_report.specs.Summaries.{is_same_name, tally_step, told_with, reply_name, answer_in, denial_in, denied_by};
+ghost use Rattle.rm_report.specs.Summaries.{is_same_name, tally, tally_step, times, told_with, reply_name, answer_in, denial_in, denied_by};
 
 use crate::sheet::Sheet;
 use rm_types::{Entry, Items, NoMemory, Reply, Text};
@@ -94,7 +94,9 @@ pub(crate) fn put_tally<N: Naming>(
     alloc: Global,
     sheet: &mut Sheet,
     entries: &[Entry],
-) -> Result<(), NoMemory> {
+) -> Result<(), NoMemory>
+    ensures { OnOk result (sheet.new ≡ sheet.old ++ tally N.name [] entries.now) }
+{
     let mut before = Items::new(alloc);
     let mut rest = entries;
     'entries: while let [entry, more @ ..] = rest {
@@ -105,6 +107,7 @@ pub(crate) fn put_tally<N: Naming>(
 }
 
 /// Writes the name of an entry as `put_name` does, where it has one.
+#[tactic(auto, unfolding(crate::specs::Summaries::tally_step, crate::specs::Summaries::told_with))]
 fn put_entry<N: Naming>(
     alloc: Global,
     sheet: &mut Sheet,
@@ -112,7 +115,7 @@ fn put_entry<N: Naming>(
     entry: &Entry,
     entries: &[Entry],
 ) -> Result<(), NoMemory>
-    ensures written { OnOk result (sheet.new ≡ sheet.old ++ tally_step before.old (N.name entry.now) (count_by (λ other. is_same_name (N.name entry.now) (N.name other)) entries.now)) }
+    ensures written { OnOk result (sheet.new ≡ sheet.old ++ tally_step before.old (N.name entry.now) (times N.name (N.name entry.now) entries.now)) }
     ensures told { OnOk result (before.new ≡ told_with before.old (N.name entry.now)) }
 {
     if let Some(name) = N::name(entry) {
@@ -123,6 +126,7 @@ fn put_entry<N: Naming>(
 
 /// Writes a name with how often it comes in the entries, where it is none of those before and these aren't too many, and adds it to
 /// them.
+#[tactic(auto, unfolding(crate::specs::Summaries::tally_step, crate::specs::Summaries::told_with))]
 fn put_name<N: Naming>(
     alloc: Global,
     sheet: &mut Sheet,
@@ -130,7 +134,7 @@ fn put_name<N: Naming>(
     name: &[u8],
     entries: &[Entry],
 ) -> Result<(), NoMemory>
-    ensures written { OnOk result (sheet.new ≡ sheet.old ++ tally_step before.old (Some name.now) (count_by (λ other. is_same_name (Some name.now) (N.name other)) entries.now)) }
+    ensures written { OnOk result (sheet.new ≡ sheet.old ++ tally_step before.old (Some name.now) (times N.name (Some name.now) entries.now)) }
     ensures told { OnOk result (before.new ≡ told_with before.old (Some name.now)) }
 {
     if contains(before.as_slice(), name) || before.len() >= MOST_NAMES {
@@ -150,8 +154,9 @@ fn contains(names: &[Text], name: &[u8]) -> bool
 }
 
 /// How often the name comes in the entries.
+#[tactic(auto, unfolding(crate::specs::Summaries::times))]
 fn count_of<N: Naming>(name: &[u8], entries: &[Entry]) -> usize
-    ensures { result ≡ count_by (λ other. is_same_name (Some name.now) (N.name other)) entries.now }
+    ensures { result ≡ times N.name (Some name.now) entries.now }
 {
     let mut count = 0;
     'entries: for entry in entries {

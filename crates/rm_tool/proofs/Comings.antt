@@ -11,9 +11,11 @@ use Rattle.rm_salvage.specs.declared.checks.Fault.{Fault}
 use Rattle.rm_salvage.specs.declared.forms.Form.{Form}
 use Rattle.rm_salvage.specs.Checks.{IsFault, IsWhole}
 use Rattle.rm_salvage.specs.Forms.{IsForm}
+use Rattle.rm_page_reader.specs.declared.errors.PageError.{PageError}
+use Rattle.rm_page_reader.specs.declared.errors.PageError.TheVariants as pages
 use Rattle.rm_report.specs.declared.errors.ReportError.{ReportError}
 use Rattle.rm_report.specs.declared.errors.ReportError.TheVariants as reports
-use Rattle.rm_tool.specs.Outcomes.{IsBeforePage, after_page, of_fault, of_report}
+use Rattle.rm_tool.specs.Outcomes.{IsBeforePage, after_page, of_fault, of_page, of_report}
 use Rattle.rm_tool.specs.Runs.{Checks, Comes, IsUnread, Told, WereRead}
 use Rattle.rm_tool.specs.Words.{Asked, Check, Convert, Salvage, Summary, Follow, Draw}
 
@@ -72,6 +74,11 @@ unread_not_done (Full size) unread is = unread
 unread_not_done (NotAPage line) unread is = unread
 unread_not_done NotAnId unread is = unread
 unread_not_done Memory unread is = cc
+
+-- nor is one whose page was not read
+pub page_not_done : (error : PageError) → of_page error ≡ Done → ⊥
+page_not_done (pages.NotAPage line) is = cc
+page_not_done pages.Memory is = cc
 
 -- nor is one whose report was not made
 pub report_not_done : (error : ReportError) → of_report error ≡ Done → ⊥

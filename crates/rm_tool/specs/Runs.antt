@@ -7,6 +7,7 @@ use Rattle.std.specs.Io.KnownBytes.{Appends}
 use Rattle.rm_types.specs.Ranges.{IsText}
 use Rattle.rm_types.specs.declared.texts.TextKind.TheVariants as kinds
 use Rattle.rm_report.specs.Following.{IsFollowed}
+use Rattle.rm_report.specs.Summaries.{IsSummary}
 use Rattle.rm_outside.specs.Shelves.{bytes_read}
 use Rattle.rm_salvage.specs.declared.checks.Fault.{Fault}
 use Rattle.rm_salvage.specs.declared.forms.Form.{Form}
@@ -173,8 +174,9 @@ pub record IsReport (told : Option (List ℕ)) (IsOf : List ℕ → List ℕ →
   pub read : WereRead told bytes
   pub is : IsOf bytes text
 
--- what a call that is Done wrote, by what was asked for: of an id what the page tells of it
+-- what a call that is Done wrote, by what was asked for: the summary of the page, or what the page tells of an id
 abbrev pub IsWritten : Told → Asked → List ℕ → Type 0
+IsWritten told (Summary page) text = IsReport (told page) (λ bytes report. IsSummary bytes report) text
 IsWritten told (Follow page id) text = IsReport (told page) (λ bytes report. IsFollowed bytes id report) text
 IsWritten told _ text = Unit {0}
 

@@ -3,6 +3,7 @@ ghost use Rattle.rm_types.specs.Counts.{Rose};
 ghost use Rattle.rm_tool.specs.Outcomes.{IsBeforePage};
 ghost use Rattle.rm_tool.specs.Runs.{Checks, Comes, Converts, Follows, IsNotRead, IsReport, IsUnread, IsWritten, Reports, Salvages, WereRead, Writes};
 ghost use Rattle.rm_report.specs.Following.{IsFollowed};
+ghost use Rattle.rm_report.specs.Summaries.{IsSummary};
 ghost use Rattle.rm_tool.specs.Words.{asked, mode_of};
 
 use crate::outcomes::{ToolOutcome, after_page, of_fault, of_page, of_report, of_write};
@@ -26,7 +27,7 @@ use std::alloc::Global;
 ///   store, and `Faulty` only where this is its fault: of two areas exactly what the manager refuses to open it for. A conversion is `Done` only where
 ///   the file is a whole store of the old form, and then the new disk holds what is left of its operations. A salvage that is `Done` left the longest
 ///   front of operations that are whole and not stray on the new disk. `NotAnId` comes only where the word is no id and can't be a node's name.
-/// - `writes`: `follow` that is Done wrote exactly what the page tells of the id.
+/// - `writes`: `summary` that is Done wrote exactly the summary of the page, and `follow` exactly what the page tells of the id.
 /// - `read_fault`, `write_fault`, `took_nothing`, `disk_fault`: each comes only where what it tells was counted there.
 #[tactic(auto, using(crate::proofs::Comings::comes_after, crate::proofs::Comings::read_before, crate::proofs::Comings::disk_before, crate::proofs::Comings::fault_before, crate::proofs::Comings::nothing_before, crate::proofs::Comings::done_before))]
 pub fn top<F: Shelf, K: Sink, D: Disk>(
@@ -215,6 +216,7 @@ fn salvage_file<F: Shelf, D: Disk>(alloc: Global, shelf: &mut F, file: &str, new
 /// Tells in short what the page in a file tells.
 fn summarize_file<F: Shelf>(alloc: Global, shelf: &mut F, page: &str) -> Made
     ensures comes { Reports result.outcome }
+    ensures written { result.outcome ≡ ToolOutcome.Done → IsReport (F.bytes_of shelf.old page.now) (λ bytes report. IsSummary bytes report) result.page.items }
     ensures told { F.bytes_of shelf.new ≡ F.bytes_of shelf.old }
     ensures read_fault { result.outcome ≡ ToolOutcome.ReadFault → Rose (F.faults shelf.old) (F.faults shelf.new) }
     ensures not_written { IsBeforePage result.outcome }

@@ -1,0 +1,5 @@
+use Rattle.std.proofs.lemmas.List.{append_assoc}
+use Rattle.rm_report.proofs.summaries.put_soak.Goals as goal
+
+pub returns : goal.returns
+returns c = rw (c.in_ok-text.ensures, c.in_ok-number-6.ensures, c.in_ok-number-5.ensures, c.in_ok-number-4.ensures, c.in_ok-number-3.ensures, c.in_ok-number-2.ensures, c.in_ok-number.ensures) (simp (append_assoc))
