@@ -7,6 +7,8 @@ use Rattle.rm_disk.specs.Disk.{DiskView, AtEachMoment, EachImage, IfTold}
 use Rattle.rm_areas.specs.declared.areas.TheConstants.{GENERATION_RECORD}
 use Rattle.rm_areas.specs.Areas.{HasCurrent}
 use Rattle.rm_store.specs.Content.{HasContent, half_of}
+use Rattle.rm_salvage.specs.declared.errors.WriteError.{WriteError}
+use Rattle.rm_salvage.specs.declared.errors.WriteError.TheVariants.{Damaged, Used, Full}
 
 -- how many bytes an area has up to the gate behind these operations
 abbrev pub bytes_before : List Op → ℕ
@@ -28,3 +30,10 @@ LeavesNoneOrAll old new ops = AtEachMoment old new (λ image. HasContent image [
 pub record HoldsAll (disk : DiskView) (ops : List Op) : Type 0 where
   pub now : IfTold disk (λ bytes. HasContent bytes ops)
   pub images : EachImage disk (λ image. HasContent image ops)
+
+-- the disk is refused: it isn't a new one, or too small
+abbrev pub IsRefusal : WriteError → Type 0
+IsRefusal (Damaged offset) = Unit {0}
+IsRefusal Used = Unit {0}
+IsRefusal (Full size) = Unit {0}
+IsRefusal error = ⊥
