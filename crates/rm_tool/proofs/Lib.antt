@@ -1,3 +1,4 @@
 mod Comings
+mod Moments
 mod Parses
 mod Rows

@@ -2,7 +2,8 @@
 use Rattle.std.specs.Prelude.{◌≡◌, ◌⊎◌, ◌+◌, ◌-◌, ℕ, List, [], ◌++◌, Option, None, Some, IfSome, length, take, replicate}
 use Rattle.rm_types.specs.declared.operations.Op.{Op}
 use Rattle.rm_types.specs.Folded.{folded}
-use Rattle.rm_disk.specs.Disk.{DiskView}
+use Rattle.rm_disk.specs.Disk.{DiskView, AtEachMoment, EachImage, IfTold}
+use Rattle.rm_store.specs.Content.{HasContent}
 use Rattle.std.specs.Io.KnownBytes.{Appends}
 use Rattle.rm_types.specs.Ranges.{IsText}
 use Rattle.rm_types.specs.declared.texts.TextKind.TheVariants as kinds
@@ -143,6 +144,14 @@ Salvages told new (OtherLength many) = ⊥
 Salvages told new (NotAPage line) = ⊥
 Salvages told new NotAnId = ⊥
 Salvages told new _ = Unit {0}
+
+-- bytes are a store that the manager opens: they hold operations of which none is stray
+abbrev pub IsStore : List ℕ → Type 0
+IsStore bytes = (ops : List Op) × HasContent bytes ops
+
+-- where a crash left a store without operations before a call, it leaves a store at each moment of it
+abbrev pub KeepsStore : DiskView → DiskView → Type 0
+KeepsStore old new = IfTold old (λ _. EachImage old (λ image. HasContent image []) → AtEachMoment old new IsStore)
 
 -- what a report of a page comes to
 abbrev pub Reports : ToolOutcome → Type 0

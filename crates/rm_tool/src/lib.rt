@@ -2,10 +2,10 @@
 //! areas, and writes what can be read of a damaged one as a new store; and it sums a page up, tells what it tells of an id, and draws it.
 //!
 //! `top` is the call that does this, over any shelf, sink and new disk: its contract says what each outcome means of the bytes that were read,
-//! and what the new disk holds then. `run_tool` hands it the system's files, the standard output and a draft of the new file, which it gives its
+//! what the new disk holds then, and that a crash at any moment leaves a store there. `run_tool` hands it the system's files, the standard output and a draft of the new file, which it gives its
 //! name once all that was to be written lasts; what no contract says of the system's files is tested.
 //!
-//! It stands on `rm_salvage` for what stands in bytes, on `rm_report` and `rm_chart` for what pages tell, on `rm_outside` and `rm_disk` for the edge, on `clap` for the words, on `rm_page` and
+//! It stands on `rm_salvage` and `rm_store` for what stands in bytes, on `rm_report` and `rm_chart` for what pages tell, on `rm_outside` and `rm_disk` for the edge, on `clap` for the words, on `rm_page` and
 //! `sha2` for the sum of a store's page.
 #![tactic(auto)]
 

@@ -1,7 +1,7 @@
 ghost use Rattle.std.specs.Prelude.{◌≡◌, ◌⊎◌, true, false, Err, IfErr, IfOk, Some, map, string_bytes};
 ghost use Rattle.rm_types.specs.Counts.{Rose};
 ghost use Rattle.rm_tool.specs.Outcomes.{IsBeforePage};
-ghost use Rattle.rm_tool.specs.Runs.{Checks, Comes, Converts, Follows, IsNotRead, IsReport, IsUnread, IsWritten, Reports, Salvages, WereRead, Writes};
+ghost use Rattle.rm_tool.specs.Runs.{Checks, Comes, Converts, Follows, IsNotRead, IsReport, IsUnread, IsWritten, KeepsStore, Reports, Salvages, WereRead, Writes};
 ghost use Rattle.rm_report.specs.Following.{IsFollowed};
 ghost use Rattle.rm_report.specs.Summaries.{IsSummary};
 ghost use Rattle.rm_tool.specs.Words.{asked, mode_of};
@@ -27,9 +27,11 @@ use std::alloc::Global;
 ///   store, and `Faulty` only where this is its fault: of two areas exactly what the manager refuses to open it for. A conversion is `Done` only where
 ///   the file is a whole store of the old form, and then the new disk holds what is left of its operations. A salvage that is `Done` left the longest
 ///   front of operations that are whole and not stray on the new disk. `NotAnId` comes only where the word is no id and can't be a node's name.
+/// - `any_moment`: where a crash left a store without operations on the new disk before, at every moment of the call it leaves a store that the manager
+///   opens.
 /// - `writes`: `summary` that is Done wrote exactly the summary of the page, and `follow` exactly what the page tells of the id.
 /// - `read_fault`, `write_fault`, `took_nothing`, `disk_fault`: each comes only where what it tells was counted there.
-#[tactic(auto, using(crate::proofs::Comings::comes_after, crate::proofs::Comings::read_before, crate::proofs::Comings::disk_before, crate::proofs::Comings::fault_before, crate::proofs::Comings::nothing_before, crate::proofs::Comings::done_before))]
+#[tactic(auto, using(crate::proofs::Comings::comes_after, crate::proofs::Comings::read_before, crate::proofs::Comings::disk_before, crate::proofs::Comings::fault_before, crate::proofs::Comings::nothing_before, crate::proofs::Comings::done_before, crate::proofs::Moments::store_untouched))]
 pub fn top<F: Shelf, K: Sink, D: Disk>(
     alloc: Global,
     words: &[String],
@@ -44,6 +46,7 @@ pub fn top<F: Shelf, K: Sink, D: Disk>(
     ensures write_fault { result ≡ ToolOutcome.WriteFault false → Rose (K.faults sink.old) (K.faults sink.new) }
     ensures took_nothing { result ≡ ToolOutcome.WriteFault true → Rose (K.idle sink.old) (K.idle sink.new) }
     ensures disk_fault { result ≡ ToolOutcome.DiskFault → D.faulted new.old new.new }
+    ensures any_moment { KeepsStore (D.view new.old) (D.view new.new) }
 {
     let mode = match mode_of(alloc, words) {
         Ok(Some(mode)) => mode,
@@ -82,6 +85,7 @@ fn with_page(alloc: Global, page: Result<Vec<u8>, NoMemory>, outcome: ToolOutcom
 }
 
 /// Does what a mode asks for, up to its page.
+#[tactic(auto, using(crate::proofs::Moments::store_untouched, crate::proofs::Moments::store_written))]
 fn make<F: Shelf, D: Disk>(alloc: Global, mode: Mode<'_>, shelf: &mut F, new: &mut D) -> Made
     ensures comes { Comes (F.bytes_of shelf.old) (Some (asked mode.entry)) (D.view new.new) result.outcome }
     ensures written { result.outcome ≡ ToolOutcome.Done → IsWritten (F.bytes_of shelf.old) (asked mode.entry) result.page.items }
@@ -89,6 +93,7 @@ fn make<F: Shelf, D: Disk>(alloc: Global, mode: Mode<'_>, shelf: &mut F, new: &m
     ensures read_fault { result.outcome ≡ ToolOutcome.ReadFault → Rose (F.faults shelf.old) (F.faults shelf.new) }
     ensures not_written { IsBeforePage result.outcome }
     ensures disk_fault { result.outcome ≡ ToolOutcome.DiskFault → D.faulted new.old new.new }
+    ensures any_moment { KeepsStore (D.view new.old) (D.view new.new) }
 {
     match mode {
         Mode::Check { file } => check_file(alloc, shelf, file),
@@ -148,12 +153,14 @@ fn check_file<F: Shelf>(alloc: Global, shelf: &mut F, file: &str) -> Made
 }
 
 /// Writes the store of the old form in a file as one of two areas.
+#[tactic(auto, using(crate::proofs::Moments::store_untouched, crate::proofs::Moments::store_written))]
 fn convert_file<F: Shelf, D: Disk>(alloc: Global, shelf: &mut F, old: &str, new: &mut D) -> Made
     ensures comes { Converts (F.bytes_of shelf.old old.now) (D.view new.new) result.outcome }
     ensures told { F.bytes_of shelf.new ≡ F.bytes_of shelf.old }
     ensures read_fault { result.outcome ≡ ToolOutcome.ReadFault → Rose (F.faults shelf.old) (F.faults shelf.new) }
     ensures not_written { IsBeforePage result.outcome }
     ensures disk_fault { result.outcome ≡ ToolOutcome.DiskFault → D.faulted new.old new.new }
+    ensures any_moment { KeepsStore (D.view new.old) (D.view new.new) }
 {
     let mut disk = match read_store(shelf, old) {
         Ok(disk) => disk,
@@ -174,12 +181,14 @@ fn convert_file<F: Shelf, D: Disk>(alloc: Global, shelf: &mut F, old: &str, new:
 }
 
 /// Writes what can be read of the store in a file as a new store. The bytes of the file are brought to the size of a store first.
+#[tactic(auto, using(crate::proofs::Moments::store_untouched, crate::proofs::Moments::store_written))]
 fn salvage_file<F: Shelf, D: Disk>(alloc: Global, shelf: &mut F, file: &str, new: &mut D) -> Made
     ensures comes { Salvages (F.bytes_of shelf.old file.now) (D.view new.new) result.outcome }
     ensures told { F.bytes_of shelf.new ≡ F.bytes_of shelf.old }
     ensures read_fault { result.outcome ≡ ToolOutcome.ReadFault → Rose (F.faults shelf.old) (F.faults shelf.new) }
     ensures not_written { IsBeforePage result.outcome }
     ensures disk_fault { result.outcome ≡ ToolOutcome.DiskFault → D.faulted new.old new.new }
+    ensures any_moment { KeepsStore (D.view new.old) (D.view new.new) }
 {
     let mut bytes = match read(shelf, file) {
         Ok(bytes) => bytes,

@@ -4,6 +4,7 @@ use Rattle.rm_salvage.specs.Writes.{HoldsAll}
 use Rattle.rm_tool.specs.declared.outcomes.ToolOutcome.TheVariants.{Done}
 use Rattle.rm_tool.specs.Runs.{Salvages}
 use Rattle.rm_tool.proofs.Comings.{either_page}
+use Rattle.rm_tool.proofs.Moments.{store_written}
 use Rattle.rm_tool.proofs.tool.salvage_file.Goals as goal
 
 pub returns-in_default-kept_operations-clause-comes : goal.returns-in_default-kept_operations-clause-comes
@@ -31,3 +32,6 @@ returns-in-Ok-write_anew-clause-comes g c =
       holds = subst (λ (l : List Op). HoldsAll v l) c.in-Ok-kept_operations.ensures.left c.in-Ok-write_anew.ensures.written;
     })
     tt
+
+pub returns-clause-any_moment : goal.returns-clause-any_moment
+returns-clause-any_moment g c = store_written _ (g.D.Disk.view c.args.new.now) (g.D.Disk.view c.write_anew.new.disk) c.write_anew.ensures.any_moment
