@@ -34,7 +34,7 @@ fn end_text(t: &Tables, ending: &Option<(How, Text)>) -> Result<Text, NoMemory>
 {
     match ending {
         Some((_, text)) => Ok(text.copy()?),
-        None => Ok(Text::empty(t.alloc)),
+        None => Ok(Text::empty()),
     }
 }
 

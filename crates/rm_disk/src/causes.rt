@@ -55,8 +55,9 @@ pub enum Subject {
     Folder,
 }
 
-/// A fault, and which file it is of.
-#[derive(Debug, Drop)]
+/// A fault, and which file it is of. Its sentence is the fault's; `FileCause` names the file besides.
+#[derive(Debug, Drop, Error)]
+#[error("{fault}")]
 pub struct Failure {
     pub subject: Subject,
     pub fault: FileFault,

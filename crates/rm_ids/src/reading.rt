@@ -12,9 +12,11 @@ ghost use Rattle.rm_ids.specs.Steps.{AreFields, Refuses, Passes, Stops};
 use crate::parts::Part;
 use crate::steps::{Stop, after_word, end_at, field_at, number_at};
 use rm_types::{AppId, AttemptId, ContainerId};
+use thiserror::Error;
 
 /// Bytes that are no text of an id of the kind that was looked for, in its ranges.
-#[derive(Clone, Copy, Debug, PartialEq, Eq)]
+#[derive(Clone, Copy, Debug, PartialEq, Eq, Error)]
+#[error("no id of its kind: byte {place} is wrong, or the end")]
 pub struct NotAnId {
     /// How far the bytes go along the text of some such id: that many of them are the beginning of one,
     /// and no more are.

@@ -17,7 +17,7 @@ fn modify(alloc: Global, words: &[&[u8]]) -> Result<Text, LineError>
     ensures { Finds result (IsOf (text_word (codes "modify=")) (IsText AclText) (map (λ word. word.now) words.now)) }
 {
     match words {
-        [] => Ok(Text::empty(alloc)),
+        [] => Ok(Text::empty()),
         [word] => some_modify(alloc, word),
         _ => Err(LineError::Refused(LineFault::Form)),
     }

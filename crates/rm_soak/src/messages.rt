@@ -46,7 +46,7 @@ pub fn submission_of(alloc: Global, k: u32) -> Result<Submission, NoMemory>
         name,
         master: CONTAINER_SIZE,
         attempts: 0,
-        modify: Text::empty(alloc),
+        modify: Text::empty(),
     })
 }
 

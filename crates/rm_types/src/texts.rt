@@ -10,6 +10,7 @@ use crate::duplicate::{Duplicate, NoMemory};
 use std::alloc::{AllocError, Global};
 use std::hash::{Hash, Hasher};
 use std::marker::Model;
+use std::sync::ArcSlice;
 use thiserror::Error;
 
 /// What a text is for, which says the bytes that may stand in it and how many.
@@ -39,18 +40,21 @@ pub enum TextError {
     Memory,
 }
 
-/// A short text. Contracts see the list of its bytes.
+/// A short text. Contracts see the list of its bytes. Its copies share them and take no memory, so that a node's name stands once
+/// however many rows and grants name the node.
 #[derive(Debug, Drop)]
 pub struct Text {
-    list: Vec<u8>,
+    shared: Option<ArcSlice<u8, Global>>,
 }
 
 impl Model for Text {
-    ghost use Rattle.std.specs.Prelude.{List, ℕ};
+    ghost use Rattle.std.specs.Prelude.{List, ℕ, []};
+    ghost use Rattle.std.specs.Option.{option_map_or};
+    ghost use Rattle.std.specs.Arc.{arc_slice_items};
 
     ghost Value = { List ℕ };
 
-    ghost view = { λ t. t.list.items };
+    ghost view = { λ t. option_map_or arc_slice_items t.shared [] };
 }
 
 impl Text {
@@ -73,24 +77,30 @@ impl Text {
     pub fn from_bytes(alloc: Global, bytes: &[u8]) -> Result<Text, NoMemory>
         ensures { IfOk result (λ text. text ≡ bytes.now) }
     {
-        let list = Vec::from_slice(alloc, bytes)?;
-        Ok(Text { list })
+        if bytes.is_empty() {
+            return Ok(Text::empty());
+        }
+        let shared = ArcSlice::from_slice(alloc, bytes)?;
+        Ok(Text {
+            shared: Some(shared),
+        })
     }
 
     /// The text of no bytes. It takes no memory.
-    pub fn empty(alloc: Global) -> Text
+    pub fn empty() -> Text
         ensures { result ≡ [] }
     {
-        Text {
-            list: Vec::new(alloc),
-        }
+        Text { shared: None }
     }
 
     /// Its bytes.
     pub fn bytes(&self) -> &[u8]
         ensures { result.now ≡ self.now }
     {
-        self.list.as_slice()
+        match &self.shared {
+            Some(shared) => shared.as_slice(),
+            None => &[],
+        }
     }
 
     /// Whether two texts have the same bytes.
@@ -98,7 +108,7 @@ impl Text {
         ensures same { IsTrue result ↔ (self.now ≡ other.now) }
         ensures bytes { result ≡ bytes_eq self.now other.now }
     {
-        self.list.as_slice() == other.list.as_slice()
+        self.bytes() == other.bytes()
     }
 }
 
@@ -106,9 +116,11 @@ impl Clone for Text {
     ghost is_clone = { λ x y. y ≡ x };
 
     fn clone(&self) -> Result<Text, AllocError> {
-        Ok(Text {
-            list: self.list.clone()?,
-        })
+        let shared = match &self.shared {
+            Some(shared) => Some(shared.clone()?),
+            None => None,
+        };
+        Ok(Text { shared })
     }
 }
 
@@ -123,7 +135,7 @@ impl PartialEq for Text {
     ghost laws = { Prim.search (comparing, rules) };
 
     fn eq(&self, other: &Text) -> bool {
-        self.list == other.list
+        self.bytes() == other.bytes()
     }
 }
 
@@ -137,7 +149,7 @@ impl Hash for Text {
     ghost respects_eq = { Prim.search (hashing, rules) };
 
     fn hash<H: Hasher>(&self, state: &mut H) {
-        self.list.hash(state);
+        self.bytes().hash(state);
     }
 }
 

@@ -36,7 +36,7 @@ fn settings<R: Abort>(rt: &R, alloc: Global) -> Settings {
         max_apps: 10,
         wait_ms: 0,
         acl_enable: false,
-        admin_acl: Text::empty(alloc),
+        admin_acl: Text::empty(),
         greatest: Resource {
             memory_mb: 8192,
             vcores: 8,

@@ -60,7 +60,7 @@ pub fn job<R: Abort>(rt: &R, alloc: Global) -> Submission {
         name,
         master: SIZE,
         attempts: 0,
-        modify: Text::empty(alloc),
+        modify: Text::empty(),
     }
 }
 
@@ -74,7 +74,7 @@ pub fn tables(alloc: Global) -> Tables
         max_apps: 10,
         wait_ms: 0,
         acl_enable: false,
-        admin_acl: Text::empty(alloc),
+        admin_acl: Text::empty(),
         greatest: SIZE,
         groups: Items::new(alloc),
         queues: Items::new(alloc),

@@ -14,7 +14,7 @@ fn settings(alloc: Global) -> Settings {
         max_apps: 10,
         wait_ms: 0,
         acl_enable: false,
-        admin_acl: Text::empty(alloc),
+        admin_acl: Text::empty(),
         greatest: size(8192, 8),
         groups: Items::new(alloc),
         queues: Items::new(alloc),
