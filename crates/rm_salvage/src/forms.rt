@@ -6,8 +6,9 @@ ghost use Rattle.rm_journal.specs.Journal.{region_of};
 ghost use Rattle.rm_salvage.specs.Forms.{HasFirstFrame, IsForm, form_by};
 
 use crate::fixed::FixedDisk;
-use crate::looks::{Found, look, operation_of};
+use crate::looks::{Found, look};
 use rm_disk::Disk;
+use rm_store::operation_of;
 use rm_types::NoMemory;
 use std::alloc::Global;
 

@@ -1,16 +1,14 @@
-ghost use Rattle.std.specs.Prelude.{◌≡◌, ◌+◌, ◌<◌, ◌≤◌, ℕ, length, take, drop, IfOk, IfNone, IfSome, Ok, OnOk};
-ghost use Rattle.rm_types.specs.declared.operations.Op.{Op as AnyOp};
+ghost use Rattle.std.specs.Prelude.{◌≡◌, ◌+◌, ◌<◌, ◌≤◌, ℕ, length, take, drop, IfOk, Ok, OnOk};
 ghost use Rattle.rm_types.specs.Records.{records};
 ghost use Rattle.rm_formats.specs.declared.TheConstants.{RECORD_HEAD};
 ghost use Rattle.rm_journal.specs.Journal.{region_of};
-ghost use Rattle.rm_store.specs.Content.{IsFrameOf};
 ghost use Rattle.rm_salvage.specs.Steps.{IsFound, IsTaken};
 
 use crate::fixed::FixedDisk;
 use rm_disk::Disk;
 use rm_formats::RECORD_HEAD;
-use rm_frame::{FrameError, decode};
 use rm_journal::{JournalError, record_at};
+use rm_store::operation_of;
 use rm_tree::{Tree, TreeError};
 use rm_types::{Items, NoMemory, Op};
 use std::alloc::Global;
@@ -60,23 +58,6 @@ fn fetch(disk: &mut FixedDisk, at: u64, many: usize, bytes: &mut Vec<u8>) -> Res
     match disk.read(at, bytes.as_mut_slice()) {
         Ok(()) => Ok(()),
         Err(_) => unreachable!(),
-    }
-}
-
-/// The operation whose frame a payload is; `None` exactly where it is that of none.
-pub fn operation_of(alloc: Global, payload: &[u8]) -> Result<Option<Op>, NoMemory>
-    ensures some { IfOk result (λ answer. IfSome answer (IsFrameOf payload.now)) }
-    ensures none { IfOk result (λ answer. IfNone answer ((op : AnyOp) → IsFrameOf payload.now op → ⊥)) }
-{
-    match decode(alloc, payload) {
-        Ok((op, count)) => {
-            if count < payload.len() {
-                return Ok(None);
-            }
-            Ok(Some(op))
-        }
-        Err(FrameError::BadFrame { .. }) => Ok(None),
-        Err(FrameError::Memory) => Err(NoMemory),
     }
 }
 

@@ -8,13 +8,9 @@ use Rattle.rm_store.specs.declared.fault.StoreError.TheVariants.{Damaged, Stray,
 abbrev pub WalkedOn : WalkAt → WalkAt → List ℕ → Type 0
 WalkedOn old new bytes = (given : List (List ℕ)) → HasWalked old bytes given → (more : List (List ℕ)) × HasWalked new bytes (given ++ more)
 
--- A payload is not read with one of these.
-abbrev pub IsFrameError : StoreError → Type 0
-IsFrameError (Damaged _) = Unit {0}
-IsFrameError Memory = Unit {0}
-IsFrameError _ = ⊥
-
--- And its operation is not taken in with one of these.
+-- The operation of a payload is not taken in with one of these.
 abbrev pub IsTakeError : StoreError → Type 0
+IsTakeError (Damaged _) = Unit {0}
 IsTakeError (Stray _ _) = Unit {0}
-IsTakeError error = IsFrameError error
+IsTakeError Memory = Unit {0}
+IsTakeError _ = ⊥

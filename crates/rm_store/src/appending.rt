@@ -140,8 +140,9 @@ fn length_of(encoder: &mut Encoder, op: &Op) -> Result<u64, NoMemory>
     Ok(bytes.len() as u64)
 }
 
-/// How many bytes an area has behind a generation's record and the records of these operations.
-fn room_of(encoder: &mut Encoder, half: u64, ops: &Items<Op>) -> Result<u64, NoMemory>
+/// How many bytes an area of this size has behind a generation's record and the records of these operations; 0 where they don't
+/// fit it.
+pub fn room_of(encoder: &mut Encoder, half: u64, ops: &Items<Op>) -> Result<u64, NoMemory>
     requires { All IsOperation ops.now }
     ensures { IfOk result (λ room. room ≡ half - GENERATION_RECORD - sum (map (λ op. length (frame op) + RECORD_HEAD) ops.now)) }
 {

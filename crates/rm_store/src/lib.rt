@@ -17,9 +17,12 @@ mod reading;
 mod store;
 mod writing;
 
+pub use appending::room_of;
+pub use changing::change_area;
 pub use fault::StoreError;
 pub use laws::{
     law_content_of_an_append, law_fresh_may_be_store, law_held_is_faultless, law_holds_alike,
     law_one_list, law_one_record_each, law_stays_own,
 };
+pub use reading::operation_of;
 pub use store::{OpenFail, Store};

@@ -1,4 +1,4 @@
-ghost use Rattle.std.specs.Prelude.{◌≡◌, ◌++◌, ◌∷◌, [], ◌/◌, ℕ, true, false, length, is_ok, OnOk, IfOk, IfErr, IsErrOf, Err};
+ghost use Rattle.std.specs.Prelude.{◌≡◌, ◌++◌, ◌∷◌, [], ◌/◌, ℕ, true, false, length, is_ok, OnOk, IfOk, IfErr, IfNone, IfSome, IsErrOf, Err};
 ghost use Rattle.rm_types.specs.declared.operations.Op.{Op as AnyOp};
 ghost use Rattle.rm_types.specs.Records.{records, fits_records};
 ghost use Rattle.rm_disk.specs.Disk.{IfTold, IsQuiet, IsDurable};
@@ -9,7 +9,7 @@ ghost use Rattle.rm_store.specs.Causes.{IsWhy, IsFaultless};
 ghost use Rattle.rm_store.specs.Content.{IsFrameOf, HasContent};
 ghost use Rattle.rm_store.specs.Errors.{IsOpenError};
 ghost use Rattle.rm_store.specs.Kept.{IsKept};
-ghost use Rattle.rm_store.specs.Reading.{WalkedOn, IsFrameError, IsTakeError};
+ghost use Rattle.rm_store.specs.Reading.{WalkedOn, IsTakeError};
 ghost use Rattle.rm_store.specs.Store.{AreRead};
 
 use crate::fault::StoreError;
@@ -18,7 +18,7 @@ use rm_disk::Disk;
 use rm_frame::{FrameError, decode};
 use rm_journal::JournalError;
 use rm_tree::{Tree, TreeError};
-use rm_types::{Items, Op};
+use rm_types::{Items, NoMemory, Op};
 use std::alloc::Global;
 
 /// What was read of a disk: the areas there, the operations, and what they amount to.
@@ -93,7 +93,9 @@ fn take_in(
     ensures stray { (number offset : ℕ) → result ≡ Err (StoreError.Stray number offset) → (offset ≡ gate) × (number ≡ length ops.old) × ((op : AnyOp) × IsFrameOf payload.now op × (fits_records (records ops.old) op ≡ false)) }
     ensures errors { IfErr result IsTakeError }
 {
-    let op = whole_frame(alloc, payload, gate)?;
+    let Some(op) = operation_of(alloc, payload)? else {
+        return Err(StoreError::Damaged { offset: gate });
+    };
     match tree.apply(&op) {
         Ok(()) => {
             ops.push(op)?;
@@ -107,20 +109,19 @@ fn take_in(
     }
 }
 
-/// The operation whose frame a payload is.
-fn whole_frame(alloc: Global, payload: &[u8], gate: u64) -> Result<Op, StoreError>
-    ensures ok { IfOk result (IsFrameOf payload.now) }
-    ensures damaged { (offset : ℕ) → result ≡ Err (StoreError.Damaged offset) → (offset ≡ gate) × ((op : AnyOp) → IsFrameOf payload.now op → ⊥) }
-    ensures errors { IfErr result IsFrameError }
+/// The operation whose frame a payload is. `None` comes exactly where it is that of none; want of memory may be answered of any.
+pub fn operation_of(alloc: Global, payload: &[u8]) -> Result<Option<Op>, NoMemory>
+    ensures some { IfOk result (λ answer. IfSome answer (IsFrameOf payload.now)) }
+    ensures none { IfOk result (λ answer. IfNone answer ((op : AnyOp) → IsFrameOf payload.now op → ⊥)) }
 {
     match decode(alloc, payload) {
         Ok((op, count)) => {
             if count < payload.len() {
-                return Err(StoreError::Damaged { offset: gate });
+                return Ok(None);
             }
-            Ok(op)
+            Ok(Some(op))
         }
-        Err(FrameError::BadFrame { .. }) => Err(StoreError::Damaged { offset: gate }),
-        Err(FrameError::Memory) => Err(StoreError::Memory),
+        Err(FrameError::BadFrame { .. }) => Ok(None),
+        Err(FrameError::Memory) => Err(NoMemory),
     }
 }

@@ -44,7 +44,7 @@ fn help<S: Since>(held: &mut Held<S>, lane: Lane) -> Helped
 }
 
 /// How many moves a helper makes at most in one hold, so that nobody waits long for the baton.
-const MOST_MOVES: u32 = 64;
+const MOST_MOVES: u32 = 1_024;
 
 /// A helper's moves in one hold: its lane moves again and again while it is ready, but not more than `MOST_MOVES` times. Only
 /// common entries are added, all of the lane. Once a halt stands nothing is done.

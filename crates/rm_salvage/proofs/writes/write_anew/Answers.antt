@@ -44,16 +44,16 @@ returns-in_err-room-clause-kept g c =
 pub returns-then-room-eq0-clause-kept : goal.returns-then-room-eq0-clause-kept
 returns-then-room-eq0-clause-kept g c = g.met.D.Disk.keeps_on true false _ _ _ c.in_ok-areas.ensures.kept (g.met.D.Disk.keeps_same false _)
 
-pub returns-in_err-build-clause-kept : goal.returns-in_err-build-clause-kept
-returns-in_err-build-clause-kept g c =
-    let p = err_from_is_err_and c.from_residual-in_err-build.result c.from_residual-in_err-build.ensures.1 in
-    rw p.1 (g.met.D.Disk.keeps_on true false _ _ _ c.in_ok-areas.ensures.kept c.in_err-build.ensures.kept)
+pub returns-in_err-change_area-clause-kept : goal.returns-in_err-change_area-clause-kept
+returns-in_err-change_area-clause-kept g c =
+    let p = err_from_is_err_and c.from_residual-in_err-change_area.result c.from_residual-in_err-change_area.ensures.1 in
+    rw p.1 (g.met.D.Disk.keeps_on true false _ _ _ c.in_ok-areas.ensures.kept c.in_err-change_area.ensures.kept)
 
 pub returns-clause-kept : goal.returns-clause-kept
-returns-clause-kept g c = g.met.D.Disk.keeps_on true true _ _ _ c.in_ok-areas.ensures.kept c.in_ok-build.ensures.kept
+returns-clause-kept g c = g.met.D.Disk.keeps_on true true _ _ _ c.in_ok-areas.ensures.kept c.in_ok-change_area.ensures.kept
 
-pub build-requires-clause-room : goal.build-requires-clause-room
-build-requires-clause-room g c =
+pub change_area-requires-clause-room : goal.change_area-requires-clause-room
+change_area-requires-clause-room g c =
     let ops = c.args.ops.now in
     let same : c.as_slice.result.now ≡ ops = c.as_slice.ensures in
     let long = area_long ops c.in_ok-areas.areas.generation in
@@ -64,14 +64,14 @@ build-requires-clause-room g c =
     let size = c.half-size.ensures in
     subst (λ (n : ℕ). n < c.in_ok-areas.areas.half) (sym is) (omega (arith, room, some, size))
 
-pub returns-in_err-build-clause-any_moment : goal.returns-in_err-build-clause-any_moment
-returns-in_err-build-clause-any_moment g c = λ bytes told empty.
+pub returns-in_err-change_area-clause-any_moment : goal.returns-in_err-change_area-clause-any_moment
+returns-in_err-change_area-clause-any_moment g c = λ bytes told empty.
     let a = c.in_ok-areas.areas in
     let then = c.open.ensures.quiet.told ∙ told in
     let holds = c.in_ok-areas.ensures.holds bytes then in
     let zero : a.generation ≡ 0 = (let z = c.if-generation-gt0.false in let e = c.generation.ensures in omega (arith, z, e)) in
-    built_leaves (g.D.Disk.view c.args.disk.now) (g.D.Disk.view c.open.new.disk) (g.D.Disk.view c.build.new.disk) a c.args.ops.now bytes holds.0 c.requires.framed c.requires.none_stray c.open.ensures.quiet empty zero holds.1
-    (subst (λ (l : List Op). LeavesEither (g.D.Disk.view c.open.new.disk) (g.D.Disk.view c.build.new.disk) a.half holds.0 (map frame l)) c.as_slice.ensures (c.build.ensures.any_moment bytes then holds.0 holds.1))
+    built_leaves (g.D.Disk.view c.args.disk.now) (g.D.Disk.view c.open.new.disk) (g.D.Disk.view c.change_area.new.disk) a c.args.ops.now bytes holds.0 c.requires.framed c.requires.none_stray c.open.ensures.quiet empty zero holds.1
+    (subst (λ (l : List Op). LeavesEither (g.D.Disk.view c.open.new.disk) (g.D.Disk.view c.change_area.new.disk) a.half holds.0 (map frame l)) c.as_slice.ensures (c.change_area.ensures.any_moment bytes then holds.0 holds.1))
 
 pub returns-clause-any_moment : goal.returns-clause-any_moment
 returns-clause-any_moment g c = λ bytes told empty.
@@ -79,10 +79,10 @@ returns-clause-any_moment g c = λ bytes told empty.
     let then = c.open.ensures.quiet.told ∙ told in
     let holds = c.in_ok-areas.ensures.holds bytes then in
     let zero : a.generation ≡ 0 = (let z = c.if-generation-gt0.false in let e = c.generation.ensures in omega (arith, z, e)) in
-    built_leaves (g.D.Disk.view c.args.disk.now) (g.D.Disk.view c.open.new.disk) (g.D.Disk.view c.build.new.disk) a c.args.ops.now bytes holds.0 c.requires.framed c.requires.none_stray c.open.ensures.quiet empty zero holds.1
-    (subst (λ (l : List Op). LeavesEither (g.D.Disk.view c.open.new.disk) (g.D.Disk.view c.build.new.disk) a.half holds.0 (map frame l)) c.as_slice.ensures (c.build.ensures.any_moment bytes then holds.0 holds.1))
+    built_leaves (g.D.Disk.view c.args.disk.now) (g.D.Disk.view c.open.new.disk) (g.D.Disk.view c.change_area.new.disk) a c.args.ops.now bytes holds.0 c.requires.framed c.requires.none_stray c.open.ensures.quiet empty zero holds.1
+    (subst (λ (l : List Op). LeavesEither (g.D.Disk.view c.open.new.disk) (g.D.Disk.view c.change_area.new.disk) a.half holds.0 (map frame l)) c.as_slice.ensures (c.change_area.ensures.any_moment bytes then holds.0 holds.1))
 
 pub returns-clause-written : goal.returns-clause-written
 returns-clause-written g c =
-    holds_all (g.D.Disk.view c.build.new.disk) c.build.new.areas c.args.ops.now c.requires.framed c.requires.none_stray
-    (subst (λ (l : List Op). IfTold (g.D.Disk.view c.build.new.disk) (AreasHold c.build.new.areas (map frame l)) × EachImage (g.D.Disk.view c.build.new.disk) (AreasHold c.build.new.areas (map frame l))) c.as_slice.ensures c.in_ok-build.ensures.now)
+    holds_all (g.D.Disk.view c.change_area.new.disk) c.change_area.new.areas c.args.ops.now c.requires.framed c.requires.none_stray
+    (subst (λ (l : List Op). IfTold (g.D.Disk.view c.change_area.new.disk) (AreasHold c.change_area.new.areas (map frame l)) × EachImage (g.D.Disk.view c.change_area.new.disk) (AreasHold c.change_area.new.areas (map frame l))) c.as_slice.ensures c.in_ok-change_area.ensures.now)

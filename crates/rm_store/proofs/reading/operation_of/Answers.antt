@@ -3,7 +3,7 @@ use Rattle.rm_types.specs.declared.operations.Op.{Op}
 use Rattle.rm_formats.specs.Frames.{frame}
 use Rattle.rm_types.specs.Ranges.{IsOperation}
 use Rattle.rm_frame.specs.Framed.{IsFramed}
-use Rattle.rm_salvage.proofs.looks.operation_of.Goals as goal
+use Rattle.rm_store.proofs.reading.operation_of.Goals as goal
 
 whole : (payload : List ℕ) (op : Op) → IsOperation op → payload ≡ frame op → IsFramed payload op (length payload)
 whole payload op can e = record { can = can; within = omega arith; is = take_all (length payload) payload (omega arith) ∙ e }
