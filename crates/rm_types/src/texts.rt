@@ -42,9 +42,16 @@ pub enum TextError {
 
 /// A short text. Contracts see the list of its bytes. Its copies share them and take no memory, so that a node's name stands once
 /// however many rows and grants name the node.
-#[derive(Debug, Drop)]
+#[derive(Debug)]
 pub struct Text {
     shared: Option<ArcSlice<u8, Global>>,
+}
+
+/// Letting a text go is one call, whether or not it has bytes: so a proof about what holds texts has no cases for it.
+impl Drop for Text {
+    fn drop(self) {
+        let Text { shared: _shared } = self;
+    }
 }
 
 impl Model for Text {
