@@ -1,5 +1,5 @@
 -- The rows of containers that enter together, as far as they came.
-use Rattle.std.proofs.Common.{◌≡◌, ℕ, ◌+◌, ◌<◌, ◌≤◌, true, false, not, List, [], ◌∷◌, ◌++◌, length, filter, map, take, drop, get_or, refl, sym, ap, subst, ◌∙◌, append_assoc, append-nil, arith}
+use Rattle.std.proofs.Common.{◌≡◌, ℕ, ◌+◌, ◌-◌, ◌<◌, ◌≤◌, true, false, not, List, [], ◌∷◌, ◌++◌, length, filter, map, take, drop, get_or, refl, sym, ap, subst, ◌∙◌, append_assoc, append-nil, arith}
 use Rattle.std.specs.List.{list_any, sum_by}
 use Rattle.std.specs.Str.{bytes_eq}
 use Rattle.std.proofs.lemmas.Bool.{and_parts}
@@ -81,6 +81,14 @@ module _ (state : ContainerState) (node : List ℕ) where
 -- what an index past the end reads
 abbrev pub no_held : Held
 no_held = record { id = record { attempt = record { app = record { stamp = 0; number = 0 }; number = 0 }; epoch = 0; seq = 0 }; size = record { memory_mb = 0; vcores = 0 } }
+
+-- of so many that entered the last goes again
+pub last_undone : (state : ContainerState) (node : List ℕ) (added n : ℕ) (rows now new : List BookRow) (list : List Held) → n ≤ length list → 0 < n → AreFresh rows list
+    → new ≡ filter (λ row. not (is_of (get_or list (n - 1) no_held).id row)) now → now ≡ rows ++ entered_rows state added node (take n list)
+    → new ≡ rows ++ entered_rows state added node (take (n - 1) list)
+last_undone state node added n rows now new list within some fresh gone so_far =
+    let one_less : n ≡ n - 1 + 1 = omega (arith, some) in
+    gone ∙ last_gone state node added (n - 1) rows now list no_held (omega (arith, within, some)) fresh (so_far ∙ ap (λ n. rows ++ entered_rows state added node (take n list)) one_less)
 
 -- a sum so far, and one more, are within the whole
 pub sum_within : (part : Resource → ℕ) (list : List Held) (i : ℕ) (d : Held) → i < length list

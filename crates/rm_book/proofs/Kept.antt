@@ -1,5 +1,5 @@
 -- Rows under their containers' ids, and the containers of those that pass a test, after one row comes, goes or changes.
-use Rattle.std.proofs.Common.{◌≡◌, ℕ, Bool, true, false, cond, not, List, [], ◌∷◌, ◌++◌, filter, map, find, length, Option, None, Some, IfNone, refl, sym, ap, subst, ◌∙◌, is_some, count_by, append-nil}
+use Rattle.std.proofs.Common.{◌≡◌, ℕ, Bool, true, false, ◌&&◌, cond, not, List, [], ◌∷◌, ◌++◌, filter, map, find, length, Option, None, Some, refl, sym, ap, subst, ◌∙◌, is_some, count_by, append-nil}
 use Rattle.std.specs.List.{list_any}
 use Rattle.std.specs.Str.{bytes_eq}
 use Rattle.std.specs.Map.{values_of, lookup, remove_entry, set_value}
@@ -9,12 +9,19 @@ use Rattle.std.proofs.lemmas.List.{length-map, map-append}
 use Rattle.std.proofs.lemmas.List.Sums.{length-filter}
 use Rattle.std.proofs.lemmas.List.Elements.{filter-append}
 use Rattle.rm_types.specs.declared.containers.BookRow.{BookRow}
+use Rattle.rm_types.specs.declared.containers.ContainerState.{ContainerState}
+use Rattle.rm_types.specs.declared.containers.ContainerState.TheVariants.{Granted, Acquired, Running, Completed}
 use Rattle.rm_types.specs.declared.ids.AppId.{AppId}
+use Rattle.rm_types.specs.declared.ids.AttemptId.{AttemptId}
 use Rattle.rm_types.specs.declared.ids.ContainerId.{ContainerId}
-use Rattle.rm_types.specs.Ids.{is_app, is_container}
+use Rattle.rm_types.specs.Ids.{is_app, is_attempt, is_container}
 use Rattle.rm_types.proofs.IdLemmas.{container_back, container_itself, same_container}
 use Rattle.rm_types.proofs.TestLemmas.{found_passes, is_some-find}
+use Rattle.rm_container.specs.Table.{next_state}
+use Rattle.rm_container.specs.declared.states.ContainerEvent.{ContainerEvent}
+use Rattle.rm_container.specs.declared.states.ContainerEvent.TheVariants.{Tell, Run, End}
 use Rattle.rm_book.specs.Books.{AreApart, is_of}
+use Rattle.rm_book.specs.Granted.{is_granted, is_granted_to, is_untold}
 use Rattle.rm_book.specs.Kept.{AreRows, AreWith, AreWithout, AreSame, by_id, ids_under, ids_where}
 use Rattle.rm_book.proofs.Rows.{apart_filter, apart_push}
 use Rattle.rm_book.proofs.Splits.{filter_none, map_none}
@@ -27,16 +34,18 @@ values_back [] = refl
 values_back (row ∷ rows) = ap (λ more. row ∷ more) (values_back rows)
 
 -- what is kept of these rows
-are_rows : (list : List (ContainerId × BookRow)) (rows : List BookRow) (nodes : Groups (List ℕ)) (apps : Groups AppId) → list ≡ map by_id rows → AreApart rows
+are_rows : (list : List (ContainerId × BookRow)) (rows : List BookRow) (nodes : Groups (List ℕ)) (apps : Groups AppId) (untold : Groups AttemptId) → list ≡ map by_id rows → AreApart rows
     → ((node : List ℕ) → ids_under bytes_eq nodes node ≡ ids_where (λ row. bytes_eq row.node node) rows)
-    → ((app : AppId) → ids_under is_app apps app ≡ ids_where (λ row. is_app row.id.attempt.app app) rows) → AreRows list nodes apps
-are_rows list rows nodes apps e apart on of =
+    → ((app : AppId) → ids_under is_app apps app ≡ ids_where (λ row. is_app row.id.attempt.app app) rows)
+    → ((attempt : AttemptId) → ids_under is_attempt untold attempt ≡ ids_where (is_granted_to attempt) rows) → AreRows list nodes apps untold
+are_rows list rows nodes apps untold e apart on of to =
     let v : values_of list ≡ rows = ap values_of e ∙ values_back rows in
     record {
       own = e ∙ ap (map by_id) (sym v);
       apart = subst AreApart (sym v) apart;
       by_node = λ node. on node ∙ ap (ids_where (λ row. bytes_eq row.node node)) (sym v);
       by_app = λ app. of app ∙ ap (ids_where (λ row. is_app row.id.attempt.app app)) (sym v);
+      by_attempt = λ attempt. to attempt ∙ ap (ids_where (is_granted_to attempt)) (sym v);
     }
 
 module _ (id : ContainerId) where
@@ -105,6 +114,19 @@ module _ (id : ContainerId) where
         by false true e rest = rw e (ap (λ more. row.id ∷ more) rest)
         by false false e rest = rw e rest
 
+    -- a row that no more passes is left out, as one that is gone
+    ids_failed : (p : BookRow → Bool) → ((row : BookRow) → p (change row) ≡ false) → (rows : List BookRow) → ids_where p (changed rows) ≡ ids_where p (without rows)
+    ids_failed p fails [] = refl
+    ids_failed p fails (row ∷ rows) = by (is_of id row) refl (ids_failed p fails rows)
+      where
+        on : (t : Bool) → p row ≡ t → ids_where p (changed rows) ≡ ids_where p (without rows) → ids_where p (row ∷ changed rows) ≡ ids_where p (row ∷ without rows)
+        on true f rest = rw f (ap (λ more. row.id ∷ more) rest)
+        on false f rest = rw f rest
+
+        by : (b : Bool) → is_of id row ≡ b → ids_where p (changed rows) ≡ ids_where p (without rows) → ids_where p (changed (row ∷ rows)) ≡ ids_where p (without (row ∷ rows))
+        by true e rest = rw (e, fails row) rest
+        by false e rest = rw e (on (p row) refl rest)
+
   -- no container of these rows where none is of it
   none_where : (p : BookRow → Bool) (rows : List BookRow) → list_any (is_of id) rows ≡ false → list_any (is_container id) (ids_where p rows) ≡ false
   none_where p [] none = refl
@@ -172,8 +194,27 @@ ids_push p rows row = ap (map (λ (row : BookRow). row.id)) (filter-append p row
 pub count_where : (p : BookRow → Bool) (rows : List BookRow) → length (ids_where p rows) ≡ count_by p rows
 count_where p rows = length-map (filter p rows) (λ row. row.id) ∙ length-filter p rows
 
+-- no event leads to Granted, and each leads out of it
+granted_no_more : (state : ContainerState) (event : ContainerEvent) → is_granted (next_state state event) ≡ false
+granted_no_more Granted Tell = refl
+granted_no_more Granted Run = refl
+granted_no_more Granted End = refl
+granted_no_more Acquired Tell = refl
+granted_no_more Acquired Run = refl
+granted_no_more Acquired End = refl
+granted_no_more Running Tell = refl
+granted_no_more Running Run = refl
+granted_no_more Running End = refl
+granted_no_more Completed Tell = refl
+granted_no_more Completed Run = refl
+granted_no_more Completed End = refl
+
+and_false : (a b : Bool) → b ≡ false → (a && b) ≡ false
+and_false true b e = e
+and_false false b e = refl
+
 -- rows as they are kept
-module _ (list : List (ContainerId × BookRow)) (nodes : Groups (List ℕ)) (apps : Groups AppId) (kept : AreRows list nodes apps) where
+module _ {list : List (ContainerId × BookRow)} {nodes : Groups (List ℕ)} {apps : Groups AppId} {untold : Groups AttemptId} (kept : AreRows list nodes apps untold) where
   abbrev rows : List BookRow
   rows = values_of list
 
@@ -199,31 +240,48 @@ module _ (list : List (ContainerId × BookRow)) (nodes : Groups (List ℕ)) (app
   pub new_of : (id : ContainerId) (app : AppId) → list_any (is_of id) rows ≡ false → list_any (is_container id) (ids_under is_app apps app) ≡ false
   new_of id app none = ap (list_any (is_container id)) (kept.by_app app) ∙ none_where id (λ row. is_app row.id.attempt.app app) rows none
 
-  module _ (nodes' : Groups (List ℕ)) (apps' : Groups AppId) where
-    pub same_kept : AreSame bytes_eq nodes nodes' → AreSame is_app apps apps' → AreRows list nodes' apps'
-    same_kept on of = record {
+  pub new_to : (id : ContainerId) (attempt : AttemptId) → list_any (is_of id) rows ≡ false → list_any (is_container id) (ids_under is_attempt untold attempt) ≡ false
+  new_to id attempt none = ap (list_any (is_container id)) (kept.by_attempt attempt) ∙ none_where id (is_granted_to attempt) rows none
+
+  -- those of an attempt that nobody was told of, where a container was taken away from among them
+  to_left : (id : ContainerId) (gone : BookRow) → find (is_of id) rows ≡ Some gone → (attempt : AttemptId) {ids : List ContainerId}
+      → ids ≡ cond (is_untold id gone.state attempt) (remove_key (is_container id) (ids_under is_attempt untold attempt)) (ids_under is_attempt untold attempt)
+      → ids ≡ cond (is_granted_to attempt gone) (remove_key (is_container id) (ids_where (is_granted_to attempt) rows)) (ids_where (is_granted_to attempt) rows)
+  to_left id gone there attempt to =
+      let own : gone.id ≡ id = same_container gone.id id (found_passes (is_of id) rows gone there) in
+      to ∙ ap (λ ids. cond (is_untold id gone.state attempt) (remove_key (is_container id) ids) ids) (kept.by_attempt attempt)
+      ∙ ap (λ one. cond (is_untold one gone.state attempt) (remove_key (is_container id) (ids_where (is_granted_to attempt) rows)) (ids_where (is_granted_to attempt) rows)) (sym own)
+
+  module _ {nodes' : Groups (List ℕ)} {apps' : Groups AppId} {untold' : Groups AttemptId} where
+    pub same_kept : AreSame bytes_eq nodes nodes' → AreSame is_app apps apps' → AreSame is_attempt untold untold' → AreRows list nodes' apps' untold'
+    same_kept on of to = record {
       own = kept.own;
       apart = kept.apart;
       by_node = λ node. on node ∙ kept.by_node node;
       by_app = λ app. of app ∙ kept.by_app app;
+      by_attempt = λ attempt. to attempt ∙ kept.by_attempt attempt;
     }
 
     pub added_kept : (row : BookRow) (list' : List (ContainerId × BookRow)) → list_any (is_of row.id) rows ≡ false → list' ≡ list ++ (row.id, row) ∷ []
-        → AreWith bytes_eq row.node row.id nodes nodes' → AreWith is_app row.id.attempt.app row.id apps apps' → AreRows list' nodes' apps'
-    added_kept row list' none is on of =
-        are_rows list' (rows ++ row ∷ []) nodes' apps'
+        → AreWith bytes_eq (bytes_eq row.node) row.id nodes nodes' → AreWith is_app (is_app row.id.attempt.app) row.id apps apps'
+        → AreWith is_attempt (is_untold row.id row.state) row.id untold untold' → AreRows list' nodes' apps' untold'
+    added_kept row list' none is on of to =
+        are_rows list' (rows ++ row ∷ []) nodes' apps' untold'
         (is ∙ ap (λ l. l ++ (row.id, row) ∷ []) kept.own ∙ sym (map-append by_id rows (row ∷ [])))
         (apart_push rows row kept.apart none)
         (λ node. on node ∙ ap (λ ids. cond (bytes_eq row.node node) (ids ++ row.id ∷ []) ids) (kept.by_node node) ∙ sym (ids_push (λ row. bytes_eq row.node node) rows row))
         (λ app. of app ∙ ap (λ ids. cond (is_app row.id.attempt.app app) (ids ++ row.id ∷ []) ids) (kept.by_app app)
         ∙ sym (ids_push (λ row. is_app row.id.attempt.app app) rows row))
+        (λ attempt. to attempt ∙ ap (λ ids. cond (is_untold row.id row.state attempt) (ids ++ row.id ∷ []) ids) (kept.by_attempt attempt)
+        ∙ sym (ids_push (is_granted_to attempt) rows row))
 
     pub removed_kept : (id : ContainerId) (gone : BookRow) (list' : List (ContainerId × BookRow)) → Some gone ≡ lookup (is_container id) list → list' ≡ remove_entry (is_container id) list
-        → AreWithout bytes_eq gone.node id nodes nodes' → AreWithout is_app id.attempt.app id apps apps' → AreRows list' nodes' apps'
-    removed_kept id gone list' at is on of =
+        → AreWithout bytes_eq (bytes_eq gone.node) id nodes nodes' → AreWithout is_app (is_app id.attempt.app) id apps apps'
+        → AreWithout is_attempt (is_untold id gone.state) id untold untold' → AreRows list' nodes' apps' untold'
+    removed_kept id gone list' at is on of to =
         let there : find (is_of id) rows ≡ Some gone = sym (found_kept id) ∙ sym at in
         let own : gone.id ≡ id = same_container gone.id id (found_passes (is_of id) rows gone there) in
-        are_rows list' (without id rows) nodes' apps'
+        are_rows list' (without id rows) nodes' apps' untold'
         (is ∙ ap (remove_entry (is_container id)) kept.own ∙ removed_in id rows kept.apart)
         (apart_filter (λ row. not (is_of id row)) rows kept.apart)
         (λ node. on node ∙ ap (λ ids. cond (bytes_eq gone.node node) (remove_key (is_container id) ids) ids) (kept.by_node node)
@@ -231,60 +289,73 @@ module _ (list : List (ContainerId × BookRow)) (nodes : Groups (List ℕ)) (app
         (λ app. of app ∙ ap (λ ids. cond (is_app id.attempt.app app) (remove_key (is_container id) ids) ids) (kept.by_app app)
         ∙ ap (λ one. cond (is_app one.attempt.app app) (remove_key (is_container id) (ids_where (λ row. is_app row.id.attempt.app app) rows)) (ids_where (λ row. is_app row.id.attempt.app app) rows)) (sym own)
         ∙ sym (ids_without id (λ row. is_app row.id.attempt.app app) rows gone kept.apart there))
+        (λ attempt. to_left id gone there attempt (to attempt) ∙ sym (ids_without id (is_granted_to attempt) rows gone kept.apart there))
 
-  module _ (id : ContainerId) (change : BookRow → BookRow) (keeps : (row : BookRow) → (change row).id ≡ row.id) (stays : (row : BookRow) → (change row).node ≡ row.node) where
-    pub changed_kept : (old : BookRow) (list' : List (ContainerId × BookRow)) → lookup (is_container id) list ≡ Some old → list' ≡ set_value (is_container id) list (change old)
-        → AreRows list' nodes apps × (values_of list' ≡ changed id change keeps rows)
-    changed_kept old list' at is =
-        let e : list' ≡ map by_id (changed id change keeps rows) =
-        is ∙ ap (λ l. set_value (is_container id) l (change old)) kept.own
-        ∙ changed_in id change keeps rows old kept.apart (sym (ap (lookup (is_container id)) kept.own) ∙ at) in (
-          are_rows list' (changed id change keeps rows) nodes apps e (apart_changed id change keeps rows kept.apart)
-              (λ node. kept.by_node node ∙ sym (ids_changed id change keeps (λ row. bytes_eq row.node node) (λ row. ap (λ n. bytes_eq n node) (stays row)) rows))
-              (λ app. kept.by_app app ∙ sym (ids_changed id change keeps (λ row. is_app row.id.attempt.app app) (λ row. ap (λ one. is_app one.attempt.app app) (keeps row)) rows)),
-          ap values_of e ∙ values_back (changed id change keeps rows),
+  module _ (id : ContainerId) (event : ContainerEvent) where
+    abbrev stepped : BookRow → BookRow
+    stepped row = record row { state = next_state row.state event }
+
+    abbrev pub rows_stepped : List BookRow
+    rows_stepped = changed id stepped (λ row. refl) rows
+
+    -- where a container has a row
+    step_of : (old : BookRow) {list' : List (ContainerId × BookRow)} {untold' : Groups AttemptId} → lookup (is_container id) list ≡ Some old
+        → list' ≡ set_value (is_container id) list (stepped old) → AreWithout is_attempt (is_untold id old.state) id untold untold'
+        → AreRows list' nodes apps untold' × (values_of list' ≡ rows_stepped)
+    step_of old {list'} {untold'} at is to =
+        let there : find (is_of id) rows ≡ Some old = sym (found_kept id) ∙ at in
+        let e : list' ≡ map by_id rows_stepped =
+        is ∙ ap (λ l. set_value (is_container id) l (stepped old)) kept.own
+        ∙ changed_in id stepped (λ row. refl) rows old kept.apart (sym (ap (lookup (is_container id)) kept.own) ∙ at) in (
+          are_rows list' rows_stepped nodes apps untold' e (apart_changed id stepped (λ row. refl) rows kept.apart)
+              (λ node. kept.by_node node ∙ sym (ids_changed id stepped (λ row. refl) (λ row. bytes_eq row.node node) (λ row. refl) rows))
+              (λ app. kept.by_app app ∙ sym (ids_changed id stepped (λ row. refl) (λ row. is_app row.id.attempt.app app) (λ row. refl) rows))
+              (λ attempt. to_left id old there attempt (to attempt)
+              ∙ sym (ids_failed id stepped (λ row. refl) (is_granted_to attempt)
+              (λ row. and_false (is_attempt row.id.attempt attempt) (is_granted (next_state row.state event)) (granted_no_more row.state event)) rows
+              ∙ ids_without id (is_granted_to attempt) rows old kept.apart there)),
+          ap values_of e ∙ values_back rows_stepped,
         )
 
-    pub unchanged_view : lookup (is_container id) list ≡ None → changed id change keeps rows ≡ rows
-    unchanged_view none = map_none (is_of id) change rows (sym (has_kept id) ∙ ap is_some none)
-
-    -- where a container's row is changed, if there is one
-    pub tried_kept : {R : Type 0} (list' : List (ContainerId × BookRow)) (r : Option R)
-        → ((old : BookRow) → lookup (is_container id) list ≡ Some old → list' ≡ set_value (is_container id) list (change old))
-        → is_some r ≡ is_some (lookup (is_container id) list) → IfNone r (list' ≡ list) → AreRows list' nodes apps × (values_of list' ≡ changed id change keeps rows)
-    tried_kept {R} list' r set some none = by (lookup (is_container id) list) refl
+    pub stepped_kept : {list' : List (ContainerId × BookRow)} {untold' : Groups AttemptId} {former : ContainerState} → true ≡ is_some (lookup (is_container id) list)
+        → ((old : BookRow) → lookup (is_container id) list ≡ Some old → (former ≡ old.state) × (list' ≡ set_value (is_container id) list (stepped old)))
+        → AreWithout is_attempt (is_untold id former) id untold untold' → AreRows list' nodes apps untold' × (values_of list' ≡ rows_stepped)
+    stepped_kept {list'} {untold'} {former} some wrote to = by (lookup (is_container id) list) refl
       where
-        is_none : (r : Option R) → is_some r ≡ false → IfNone r (list' ≡ list) → list' ≡ list
-        is_none None e same = same
-        is_none (Some x) e same = cc
+        by : (o : Option BookRow) → lookup (is_container id) list ≡ o → AreRows list' nodes apps untold' × (values_of list' ≡ rows_stepped)
+        by (Some old) at = step_of old at (wrote old at).1 (subst (λ state. AreWithout is_attempt (is_untold id state) id untold untold') (wrote old at).0 to)
+        by None at = let some' : true ≡ false = some ∙ ap is_some at in cc
 
-        by : (o : Option BookRow) → lookup (is_container id) list ≡ o → AreRows list' nodes apps × (values_of list' ≡ changed id change keeps rows)
-        by (Some old) at = changed_kept old list' at (set old at)
-        by None at =
-            let same : list' ≡ list = is_none r (some ∙ ap is_some at) none in
-            (subst (λ l. AreRows l nodes apps) (sym same) kept, ap values_of same ∙ sym (unchanged_view at))
+    -- where it has none
+    pub unstepped_view : false ≡ is_some (lookup (is_container id) list) → rows_stepped ≡ rows
+    unstepped_view none = map_none (is_of id) stepped rows (sym (none ∙ has_kept id))
 
--- a container that was added under a key, and taken away again
-pub added_undone : {K : Type 0} (eq : K → K → Bool) → ((a b : K) → eq a b ≡ true → a ≡ b) → (key : K) (id : ContainerId) (old mid new : Groups K)
-    → list_any (is_container id) (ids_under eq old key) ≡ false → AreWith eq key id old mid → AreWithout eq key id mid new → AreSame eq old new
-added_undone {K} eq same key id old mid new none on off other = by (eq key other) refl
+-- nothing of a container stands under a key that equals one under which nothing stands
+pub none_under : {K : Type 0} (eq : K → K → Bool) → ((a b : K) → eq a b ≡ true → a ≡ b) → (key : K) (id : ContainerId) (groups : Groups K)
+    → list_any (is_container id) (ids_under eq groups key) ≡ false → (other : K) → eq key other ≡ true → list_any (is_container id) (ids_under eq groups other) ≡ false
+none_under {K} eq same key id groups none other e = subst (λ (k : K). list_any (is_container id) (ids_under eq groups k) ≡ false) (same key other e) none
+
+-- a container that was added under some keys, and taken away again
+pub added_undone : {K : Type 0} (eq : K → K → Bool) (test : K → Bool) (id : ContainerId) (old mid new : Groups K)
+    → ((key : K) → test key ≡ true → list_any (is_container id) (ids_under eq old key) ≡ false) → AreWith eq test id old mid → AreWithout eq test id mid new → AreSame eq old new
+added_undone {K} eq test id old mid new none on off key = by (test key) refl
   where
-    by : (b : Bool) → eq key other ≡ b → ids_under eq new other ≡ ids_under eq old other
+    by : (b : Bool) → test key ≡ b → ids_under eq new key ≡ ids_under eq old key
     by true e =
-        let added : ids_under eq mid other ≡ ids_under eq old other ++ id ∷ [] = on other ∙ rw e refl in
-        let here : list_any (is_container id) (ids_under eq old other) ≡ false = subst (λ (k : K). list_any (is_container id) (ids_under eq old k) ≡ false) (same key other e) none in
-        off other ∙ rw (e, added) (undone id (ids_under eq old other) here)
-    by false e = off other ∙ rw e (on other ∙ rw e refl)
+        let added : ids_under eq mid key ≡ ids_under eq old key ++ id ∷ [] = on key ∙ rw e refl in
+        off key ∙ rw (e, added) (undone id (ids_under eq old key) (none key e))
+    by false e = off key ∙ rw e (on key ∙ rw e refl)
 
 -- no row yet
-pub none_kept_yet : (list : List (ContainerId × BookRow)) (nodes : Groups (List ℕ)) (apps : Groups AppId) → list ≡ [] → ((node : List ℕ) → ids_under bytes_eq nodes node ≡ [])
-    → ((app : AppId) → ids_under is_app apps app ≡ []) → AreRows list nodes apps
-none_kept_yet list nodes apps e on of = are_rows list [] nodes apps e tt on of
+pub none_kept_yet : {list : List (ContainerId × BookRow)} {nodes : Groups (List ℕ)} {apps : Groups AppId} {untold : Groups AttemptId} → list ≡ []
+    → ((node : List ℕ) → ids_under bytes_eq nodes node ≡ []) → ((app : AppId) → ids_under is_app apps app ≡ []) → ((attempt : AttemptId) → ids_under is_attempt untold attempt ≡ [])
+    → AreRows list nodes apps untold
+none_kept_yet {list} {nodes} {apps} {untold} e on of to = are_rows list [] nodes apps untold e tt on of to
 
 -- where a container has no row, none is taken away
-pub removed_none : (list : List (ContainerId × BookRow)) (nodes : Groups (List ℕ)) (apps : Groups AppId) → AreRows list nodes apps → (id : ContainerId) (list' : List (ContainerId × BookRow))
-    → lookup (is_container id) list ≡ None → list' ≡ remove_entry (is_container id) list → AreRows list' nodes apps
-removed_none list nodes apps kept id list' none is = subst (λ l. AreRows l nodes apps) (sym (is ∙ nothing list none)) kept
+pub removed_none : {list : List (ContainerId × BookRow)} {nodes : Groups (List ℕ)} {apps : Groups AppId} {untold : Groups AttemptId} → AreRows list nodes apps untold
+    → (id : ContainerId) {list' : List (ContainerId × BookRow)} → lookup (is_container id) list ≡ None → list' ≡ remove_entry (is_container id) list → AreRows list' nodes apps untold
+removed_none {list} {nodes} {apps} {untold} kept id none is = subst (λ l. AreRows l nodes apps untold) (sym (is ∙ nothing list none)) kept
   where
     nothing : (es : List (ContainerId × BookRow)) → lookup (is_container id) es ≡ None → remove_entry (is_container id) es ≡ es
     nothing [] none = refl

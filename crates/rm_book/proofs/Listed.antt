@@ -12,7 +12,7 @@ use Rattle.rm_types.specs.declared.ids.ContainerId.{ContainerId}
 use Rattle.rm_types.specs.Ids.{is_app, is_attempt, is_container}
 use Rattle.rm_types.proofs.IdLemmas.{container_back, container_itself}
 use Rattle.rm_book.specs.Books.{AreApart, is_held, is_later, is_of}
-use Rattle.rm_book.specs.Granted.{grant_of, granted_in, grants_to, is_granted_to}
+use Rattle.rm_book.specs.Granted.{grant_in, grant_of, grants_to, is_granted_to}
 use Rattle.rm_book.specs.Kept.{ids_where}
 
 or_cond : (a b : Bool) → cond b true a ≡ (a || (b || false))
@@ -41,41 +41,35 @@ attempt_ids attempt (row ∷ rows) = by (is_app row.id.attempt.app attempt.app) 
     by true false e f rest = rw (e, f, e) rest
     by false b e f rest = rw e rest
 
-module _ (attempt : AttemptId) where
-  -- a row of another container hides none
-  other_rows : (p : BookRow → Bool) (row : BookRow) (all rows : List BookRow) → list_any (is_of row.id) rows ≡ false
-      → filter_map (granted_in (row ∷ all) attempt) (ids_where p rows) ≡ filter_map (granted_in all attempt) (ids_where p rows)
-  other_rows p row all [] none = refl
-  other_rows p row all (one ∷ rows) none =
-      let parts = or_parts (is_of row.id one) (list_any (is_of row.id) rows) none in
-      by (p one) refl (container_back row.id one.id ∙ parts.0) (other_rows p row all rows parts.1)
-    where
-      by : (b : Bool) → p one ≡ b → is_of one.id row ≡ false → filter_map (granted_in (row ∷ all) attempt) (ids_where p rows) ≡ filter_map (granted_in all attempt) (ids_where p rows)
-          → filter_map (granted_in (row ∷ all) attempt) (ids_where p (one ∷ rows)) ≡ filter_map (granted_in all attempt) (ids_where p (one ∷ rows))
-      by true e apart rest = rw (e, apart) (ap (cons_option (granted_in all attempt one.id)) rest)
-      by false e apart rest = rw e rest
+-- a row of another container hides none
+other_rows : (p : BookRow → Bool) (row : BookRow) (all rows : List BookRow) → list_any (is_of row.id) rows ≡ false
+    → filter_map (grant_in (row ∷ all)) (ids_where p rows) ≡ filter_map (grant_in all) (ids_where p rows)
+other_rows p row all [] none = refl
+other_rows p row all (one ∷ rows) none =
+    let parts = or_parts (is_of row.id one) (list_any (is_of row.id) rows) none in
+    by (p one) refl (container_back row.id one.id ∙ parts.0) (other_rows p row all rows parts.1)
+  where
+    by : (b : Bool) → p one ≡ b → is_of one.id row ≡ false → filter_map (grant_in (row ∷ all)) (ids_where p rows) ≡ filter_map (grant_in all) (ids_where p rows)
+        → filter_map (grant_in (row ∷ all)) (ids_where p (one ∷ rows)) ≡ filter_map (grant_in all) (ids_where p (one ∷ rows))
+    by true e apart rest = rw (e, apart) (ap (cons_option (grant_in all one.id)) rest)
+    by false e apart rest = rw e rest
 
-  -- what an application's containers are found to be granted is what the attempt was granted
-  pub granted_all : (rows : List BookRow) → AreApart rows
-      → filter_map (granted_in rows attempt) (ids_where (λ row. is_app row.id.attempt.app attempt.app) rows) ≡ grants_to rows attempt
-  granted_all [] apart = refl
-  granted_all (row ∷ rows) apart =
-      by (is_app row.id.attempt.app attempt.app) (is_granted_to attempt row) refl refl (container_itself row.id)
-      (other_rows (λ row. is_app row.id.attempt.app attempt.app) row rows rows apart.0 ∙ granted_all rows apart.1)
-    where
-      by : (a b : Bool) → is_app row.id.attempt.app attempt.app ≡ a → is_granted_to attempt row ≡ b → is_of row.id row ≡ true
-          → filter_map (granted_in (row ∷ rows) attempt) (ids_where (λ row. is_app row.id.attempt.app attempt.app) rows) ≡ grants_to rows attempt
-          → filter_map (granted_in (row ∷ rows) attempt) (ids_where (λ row. is_app row.id.attempt.app attempt.app) (row ∷ rows)) ≡ grants_to (row ∷ rows) attempt
-      by true true e f own rest = rw (f, e, own, f) (ap (λ more. grant_of row ∷ more) rest)
-      by true false e f own rest = rw (f, e, own, f) rest
-      by false true e f own rest = absurd (let f' = rw e at f in cc)
-      by false false e f own rest = rw e rest
+-- the grants of the containers that an attempt was granted are what it was granted
+pub granted_all : (attempt : AttemptId) (rows : List BookRow) → AreApart rows → filter_map (grant_in rows) (ids_where (is_granted_to attempt) rows) ≡ grants_to rows attempt
+granted_all attempt [] apart = refl
+granted_all attempt (row ∷ rows) apart =
+    by (is_granted_to attempt row) refl (container_itself row.id) (other_rows (is_granted_to attempt) row rows rows apart.0 ∙ granted_all attempt rows apart.1)
+  where
+    by : (b : Bool) → is_granted_to attempt row ≡ b → is_of row.id row ≡ true → filter_map (grant_in (row ∷ rows)) (ids_where (is_granted_to attempt) rows) ≡ grants_to rows attempt
+        → filter_map (grant_in (row ∷ rows)) (ids_where (is_granted_to attempt) (row ∷ rows)) ≡ grants_to (row ∷ rows) attempt
+    by true e own rest = rw (e, own) (ap (λ more. grant_of row ∷ more) rest)
+    by false e own rest = rw e rest
 
 -- one more is found
-pub granted_more : (rows : List BookRow) (attempt : AttemptId) (ids : List ContainerId) (i : ℕ) (d : ContainerId) → i < length ids
-    → filter_map (granted_in rows attempt) (take (i + 1) ids) ≡ filter_map (granted_in rows attempt) (take i ids) ++ cons_option (granted_in rows attempt (get_or ids i d)) []
-granted_more rows attempt ids i d within =
-    ap (filter_map (granted_in rows attempt)) (take_more ids i d within) ∙ filter_map-append (granted_in rows attempt) (take i ids) (get_or ids i d ∷ [])
+pub granted_more : (rows : List BookRow) (ids : List ContainerId) (i : ℕ) (d : ContainerId) → i < length ids
+    → filter_map (grant_in rows) (take (i + 1) ids) ≡ filter_map (grant_in rows) (take i ids) ++ cons_option (grant_in rows (get_or ids i d)) []
+granted_more rows ids i d within =
+    ap (filter_map (grant_in rows)) (take_more ids i d within) ∙ filter_map-append (grant_in rows) (take i ids) (get_or ids i d ∷ [])
 
 -- a later container of an attempt is one of its application
 pub later_ids : (attempt : AttemptId) (epoch seq : ℕ) (rows : List BookRow)

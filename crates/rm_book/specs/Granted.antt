@@ -1,5 +1,5 @@
 -- What attempts were granted and nobody was told of yet. This project's own.
-use Rattle.std.specs.Prelude.{◌≡◌, List, [], ◌∷◌, Bool, true, false, ◌&&◌, IfSome, filter, find, map, Option, None, Some, if◌then◌else◌}
+use Rattle.std.specs.Prelude.{◌≡◌, List, [], ◌∷◌, Bool, true, false, ◌&&◌, IfSome, filter, find, map, Option, option_map}
 use Rattle.rm_types.specs.declared.containers.BookRow.{BookRow}
 use Rattle.rm_types.specs.declared.containers.ContainerState.{ContainerState}
 use Rattle.rm_types.specs.declared.containers.ContainerState.TheVariants.{Granted, Acquired, Running, Completed}
@@ -40,11 +40,10 @@ abbrev pub AllMayBeTold : List BookRow → List Grant → Type 0
 AllMayBeTold rows [] = Unit {0}
 AllMayBeTold rows (grant ∷ grants) = IfSome (find (is_of grant.id) rows) (λ row. may_be_told row.state ≡ true) × AllMayBeTold rows grants
 
--- the grant of a row, if it is of a container that was granted to this attempt and that nobody was told of yet
-abbrev pub granted_by : AttemptId → Option BookRow → Option Grant
-granted_by attempt None = None
-granted_by attempt (Some row) = if is_granted_to attempt row then Some (grant_of row) else None
+-- the grant of a container, if it has a row
+abbrev pub grant_in : List BookRow → ContainerId → Option Grant
+grant_in rows id = option_map grant_of (find (is_of id) rows)
 
--- the same of a container
-abbrev pub granted_in : List BookRow → AttemptId → ContainerId → Option Grant
-granted_in rows attempt id = granted_by attempt (find (is_of id) rows)
+-- a container in this state was granted to this attempt, and nobody was told of it yet
+abbrev pub is_untold : ContainerId → ContainerState → AttemptId → Bool
+is_untold id state attempt = is_attempt id.attempt attempt && is_granted state

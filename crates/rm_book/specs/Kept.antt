@@ -1,13 +1,14 @@
--- How a book is kept: its rows under their containers' ids, the containers of each node and of each application, and what
--- stands on each node. This project's own.
+-- How a book is kept: its rows under their containers' ids, the containers of each node and of each application, those of each
+-- attempt that nobody was told of, and what stands on each node. This project's own.
 use Rattle.std.specs.Prelude.{◌≡◌, ℕ, ◌+◌, ◌-◌, ◌≤◌, Bool, false, List, [], ◌∷◌, ◌++◌, map, filter, Option, None, Some, IfSome, if◌then◌else◌}
 use Rattle.std.specs.List.{list_any}
 use Rattle.std.specs.Str.{bytes_eq}
 use Rattle.std.specs.Map.{keys_of, values_of, lookup}
 use Rattle.rm_types.specs.declared.containers.BookRow.{BookRow}
 use Rattle.rm_types.specs.declared.ids.AppId.{AppId}
+use Rattle.rm_types.specs.declared.ids.AttemptId.{AttemptId}
 use Rattle.rm_types.specs.declared.ids.ContainerId.{ContainerId}
-use Rattle.rm_types.specs.Ids.{is_app, is_container}
+use Rattle.rm_types.specs.Ids.{is_app, is_attempt, is_container}
 use Rattle.indexmap.specs.IndexSet.{remove_key}
 use Rattle.rm_types.specs.declared.resources.Resource.{Resource}
 use Rattle.rm_types.specs.declared.containers.ContainerState.{ContainerState}
@@ -17,6 +18,7 @@ use Rattle.rm_book.specs.declared.node_table.NodeLoad.{NodeLoad}
 use Rattle.rm_book.specs.declared.node_table.SizeSum.{SizeSum}
 use Rattle.rm_book.specs.declared.plain.NodeCapability.{NodeCapability}
 use Rattle.rm_book.specs.Books.{AreApart, IsBook, is_held, is_of, total_on}
+use Rattle.rm_book.specs.Granted.{is_granted_to}
 
 -- the containers of a group, if there is one
 abbrev pub ids_in : Option (List (ContainerId × Unit {0})) → List ContainerId
@@ -36,20 +38,22 @@ abbrev pub ids_where : (BookRow → Bool) → List BookRow → List ContainerId
 ids_where test rows = map (λ row. row.id) (filter test rows)
 
 -- each row stands under its container's id, no two are of one container, and the containers of a node and of an application are
--- those of its rows, in order
-pub record AreRows (list : List (ContainerId × BookRow)) (nodes : List (List ℕ × List (ContainerId × Unit {0}))) (apps : List (AppId × List (ContainerId × Unit {0}))) : Type 0 where
+-- those of its rows, in order; so are the containers that were granted to an attempt and nobody was told of yet
+pub record AreRows (list : List (ContainerId × BookRow)) (nodes : List (List ℕ × List (ContainerId × Unit {0}))) (apps : List (AppId × List (ContainerId × Unit {0})))
+    (untold : List (AttemptId × List (ContainerId × Unit {0}))) : Type 0 where
   pub own : list ≡ map by_id (values_of list)
   pub apart : AreApart (values_of list)
   pub by_node : (node : List ℕ) → ids_under bytes_eq nodes node ≡ ids_where (λ row. bytes_eq row.node node) (values_of list)
   pub by_app : (app : AppId) → ids_under is_app apps app ≡ ids_where (λ row. is_app row.id.attempt.app app) (values_of list)
+  pub by_attempt : (attempt : AttemptId) → ids_under is_attempt untold attempt ≡ ids_where (is_granted_to attempt) (values_of list)
 
--- the containers under each key are those that were there, with one more under this one
-abbrev pub AreWith : {K : Type 0} → (K → K → Bool) → K → ContainerId → List (K × List (ContainerId × Unit {0})) → List (K × List (ContainerId × Unit {0})) → Type 0
-AreWith {K} eq key id old new = (other : K) → ids_under eq new other ≡ (if eq key other then ids_under eq old other ++ id ∷ [] else ids_under eq old other)
+-- the containers under each key are those that were there, with one more under each key that passes a test
+abbrev pub AreWith : {K : Type 0} → (K → K → Bool) → (K → Bool) → ContainerId → List (K × List (ContainerId × Unit {0})) → List (K × List (ContainerId × Unit {0})) → Type 0
+AreWith {K} eq test id old new = (key : K) → ids_under eq new key ≡ (if test key then ids_under eq old key ++ id ∷ [] else ids_under eq old key)
 
 -- the same without one
-abbrev pub AreWithout : {K : Type 0} → (K → K → Bool) → K → ContainerId → List (K × List (ContainerId × Unit {0})) → List (K × List (ContainerId × Unit {0})) → Type 0
-AreWithout {K} eq key id old new = (other : K) → ids_under eq new other ≡ (if eq key other then remove_key (is_container id) (ids_under eq old other) else ids_under eq old other)
+abbrev pub AreWithout : {K : Type 0} → (K → K → Bool) → (K → Bool) → ContainerId → List (K × List (ContainerId × Unit {0})) → List (K × List (ContainerId × Unit {0})) → Type 0
+AreWithout {K} eq test id old new = (key : K) → ids_under eq new key ≡ (if test key then remove_key (is_container id) (ids_under eq old key) else ids_under eq old key)
 
 -- the same as they were
 abbrev pub AreSame : {K : Type 0} → (K → K → Bool) → List (K × List (ContainerId × Unit {0})) → List (K × List (ContainerId × Unit {0})) → Type 0

@@ -1,17 +1,17 @@
 //! What attempts were granted and nobody was told of yet.
 ghost use Rattle.std.specs.Prelude.{◌≡◌, IfOk};
-ghost use Rattle.rm_book.specs.Granted.{AllMayBeTold, grant_of, granted_in, grants_to, is_granted_to};
+ghost use Rattle.rm_book.specs.Granted.{AllMayBeTold, grant_in, grant_of, grants_to, is_granted};
 
 use crate::row_table::RowTable;
 use rm_types::{
     AttemptId, BookRow, ContainerId, ContainerState, Duplicate, Grant, Items, NoMemory,
 };
 
-/// Whether a row is of a container that was granted to this attempt, and that nobody was told of yet.
-fn is_granted_to(row: &BookRow, attempt: AttemptId) -> bool
-    ensures { result ≡ is_granted_to attempt row.now }
+/// Whether a container in this state was granted, and nobody was told of it yet.
+pub fn is_granted(state: ContainerState) -> bool
+    ensures { result ≡ is_granted state }
 {
-    row.id.attempt == attempt && row.state == ContainerState::Granted
+    state == ContainerState::Granted
 }
 
 /// The grant of a row's container.
@@ -31,22 +31,22 @@ pub fn grants_to(rows: &RowTable, attempt: AttemptId) -> Result<Items<Grant>, No
     ensures grants { IfOk result (λ grants. grants ≡ grants_to rows.now attempt) }
     ensures told { IfOk result (λ grants. AllMayBeTold rows.now grants) }
 {
-    let ids = rows.ids_of(attempt.app)?;
+    let ids = rows.untold_of(attempt)?;
     let mut grants = Items::new(rows.allocator());
     'ids: for id in ids.as_slice() {
-        if let Some(grant) = granted(rows, *id, attempt)? {
+        if let Some(grant) = grant_in(rows, *id)? {
             grants.push(grant)?;
         }
     }
     Ok(grants)
 }
 
-/// The grant of a container, if it was granted to this attempt and nobody was told of it yet.
-fn granted(rows: &RowTable, id: ContainerId, attempt: AttemptId) -> Result<Option<Grant>, NoMemory>
-    ensures { IfOk result (λ grant. grant ≡ granted_in rows.now attempt id) }
+/// The grant of a container, if it has a row.
+fn grant_in(rows: &RowTable, id: ContainerId) -> Result<Option<Grant>, NoMemory>
+    ensures { IfOk result (λ grant. grant ≡ grant_in rows.now id) }
 {
     match rows.get(id) {
-        Some(row) if is_granted_to(row, attempt) => Ok(Some(grant_of(row)?)),
-        _ => Ok(None),
+        Some(row) => Ok(Some(grant_of(row)?)),
+        None => Ok(None),
     }
 }

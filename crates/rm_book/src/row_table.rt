@@ -1,13 +1,17 @@
-//! The rows of a book: each found by its container, and those of a node and of an application found without a walk over others.
-ghost use Rattle.std.specs.Prelude.{◌≡◌, ◌↔◌, [], ◌∷◌, ◌++◌, false, filter, find, length, map, not, count_by, IfOk, IsTrue, OnOk, OnErr, if◌then◌else◌};
+//! The rows of a book: each found by its container, and those of a node, of an application and, where nobody was told of them yet, of
+//! an attempt found without a walk over others.
+ghost use Rattle.std.specs.Prelude.{◌≡◌, ◌↔◌, [], ◌∷◌, ◌++◌, None, false, filter, find, length, map, not, count_by, IfOk, IsTrue, OnOk, OnErr, if◌then◌else◌};
 ghost use Rattle.std.specs.List.{list_any};
 ghost use Rattle.std.specs.Option.{option_copied};
+ghost use Rattle.std.specs.Map.{lookup};
 ghost use Rattle.std.specs.Str.{bytes_eq};
-ghost use Rattle.rm_types.specs.Ids.{is_app, is_container};
+ghost use Rattle.rm_types.specs.Ids.{is_app, is_attempt, is_container};
 ghost use Rattle.rm_container.specs.Table.{next_state};
 ghost use Rattle.rm_book.specs.Books.{AreApart, is_later, is_of};
+ghost use Rattle.rm_book.specs.Granted.{is_granted_to, is_untold};
 ghost use Rattle.rm_book.specs.Kept.{AreSame, AreWith, AreWithout, ids_under, ids_where};
 
+use crate::granted::is_granted;
 use crate::groups::Groups;
 use crate::plain::next_state;
 use rm_container::ContainerEvent;
@@ -25,6 +29,7 @@ pub struct RowTable {
     list: Keyed<ContainerId, BookRow>,
     by_node: Groups<Text>,
     by_app: Groups<AppId>,
+    untold: Groups<AttemptId>,
 }
 
 impl Model for RowTable {
@@ -37,7 +42,7 @@ impl Model for RowTable {
 
     ghost view = { λ r. values_of r.list };
 
-    ghost invariant = { λ r. AreRows r.list r.by_node.map.entries r.by_app.map.entries };
+    ghost invariant = { λ r. AreRows r.list r.by_node.map.entries r.by_app.map.entries r.untold.map.entries };
 }
 
 impl RowTable {
@@ -49,6 +54,7 @@ impl RowTable {
             list: Keyed::new(alloc),
             by_node: Groups::new(alloc),
             by_app: Groups::new(alloc),
+            untold: Groups::new(alloc),
         }
     }
 
@@ -100,7 +106,7 @@ impl RowTable {
             told,
         };
         join(&mut self.by_node, &mut self.by_app, node, id)?;
-        if self.list.insert(id, row).is_err() {
+        if enter(&mut self.list, &mut self.untold, row).is_err() {
             leave(&mut self.by_node, &mut self.by_app, node, id);
             return Err(NoMemory);
         }
@@ -115,6 +121,7 @@ impl RowTable {
     {
         let row = self.list.remove(&id)?;
         leave(&mut self.by_node, &mut self.by_app, &row.node, id);
+        leave_untold(&mut self.untold, id, row.state);
         Some(row)
     }
 
@@ -123,16 +130,22 @@ impl RowTable {
         ensures found { result ≡ list_any (is_of id) self.old }
         ensures rows { self.new ≡ map (λ row. if is_of id row then record row { state = next_state row.state event } else row) self.old }
     {
-        self.list
-            .update(
-                &id,
-                |row: &mut BookRow|
-                    ensures { row.new ≡ record row.old { state = next_state row.old.state event } }
-                {
-                    row.state = next_state(row.state, event);
-                },
-            )
-            .is_some()
+        let former = self.list.update(
+            &id,
+            |row: &mut BookRow| -> ContainerState
+                ensures { (result ≡ row.old.state) × (row.new ≡ record row.old { state = next_state row.old.state event }) }
+            {
+                let state = row.state;
+                row.state = next_state(state, event);
+                state
+            },
+        );
+        let Some(former) = former else {
+            return false;
+        };
+        // Each event leads out of Granted, and none leads there.
+        leave_untold(&mut self.untold, id, former);
+        true
     }
 
     /// The containers on a node, in the order of entering.
@@ -148,6 +161,14 @@ impl RowTable {
         ensures apart { AreApart self.now }
     {
         self.by_app.ids(&app)
+    }
+
+    /// The containers that were granted to an attempt and nobody was told of yet, in the order of entering.
+    pub fn untold_of(&self, attempt: AttemptId) -> Result<Items<ContainerId>, NoMemory>
+        ensures ids { IfOk result (λ ids. ids ≡ ids_where (is_granted_to attempt) self.now) }
+        ensures apart { AreApart self.now }
+    {
+        self.untold.ids(&attempt)
     }
 
     /// Whether an attempt has a container of this epoch with a sequence above this one.
@@ -176,8 +197,8 @@ fn join(
 ) -> Result<(), NoMemory>
     requires new_on { list_any (is_container id) (ids_under bytes_eq nodes.old.map.entries node.now) ≡ false }
     requires new_of { list_any (is_container id) (ids_under is_app apps.old.map.entries id.attempt.app) ≡ false }
-    ensures nodes { OnOk result (AreWith bytes_eq node.now id nodes.old.map.entries nodes.new.map.entries) }
-    ensures apps { OnOk result (AreWith is_app id.attempt.app id apps.old.map.entries apps.new.map.entries) }
+    ensures nodes { OnOk result (AreWith bytes_eq (bytes_eq node.now) id nodes.old.map.entries nodes.new.map.entries) }
+    ensures apps { OnOk result (AreWith is_app (is_app id.attempt.app) id apps.old.map.entries apps.new.map.entries) }
     ensures same_nodes { OnErr result (AreSame bytes_eq nodes.old.map.entries nodes.new.map.entries) }
     ensures same_apps { OnErr result (AreSame is_app apps.old.map.entries apps.new.map.entries) }
 {
@@ -192,10 +213,60 @@ fn join(
 
 /// Takes a container away from those of its node and of its application.
 fn leave(nodes: &mut Groups<Text>, apps: &mut Groups<AppId>, node: &Text, id: ContainerId)
-    ensures nodes { AreWithout bytes_eq node.now id nodes.old.map.entries nodes.new.map.entries }
-    ensures apps { AreWithout is_app id.attempt.app id apps.old.map.entries apps.new.map.entries }
+    ensures nodes { AreWithout bytes_eq (bytes_eq node.now) id nodes.old.map.entries nodes.new.map.entries }
+    ensures apps { AreWithout is_app (is_app id.attempt.app) id apps.old.map.entries apps.new.map.entries }
 {
     nodes.remove(node, id);
     let app = id.attempt.app;
     apps.remove(&app, id);
+}
+
+/// A row enters, and its container joins those of its attempt that nobody was told of, where it was granted. `NoMemory` changes neither.
+fn enter(
+    list: &mut Keyed<ContainerId, BookRow>,
+    untold: &mut Groups<AttemptId>,
+    row: BookRow,
+) -> Result<(), NoMemory>
+    requires none { lookup (is_container row.id) list.old ≡ None }
+    requires new { list_any (is_container row.id) (ids_under is_attempt untold.old.map.entries row.id.attempt) ≡ false }
+    ensures list { OnOk result (list.new ≡ list.old ++ (row.id, row) ∷ []) }
+    ensures untold { OnOk result (AreWith is_attempt (is_untold row.id row.state) row.id untold.old.map.entries untold.new.map.entries) }
+    ensures same_list { OnErr result (list.new ≡ list.old) }
+    ensures same_untold { OnErr result (AreSame is_attempt untold.old.map.entries untold.new.map.entries) }
+{
+    let id = row.id;
+    let state = row.state;
+    join_untold(untold, id, state)?;
+    if list.insert(id, row).is_err() {
+        leave_untold(untold, id, state);
+        return Err(NoMemory);
+    }
+    Ok(())
+}
+
+/// Adds a container to those of its attempt that nobody was told of, where it was granted. `NoMemory` changes nothing.
+fn join_untold(
+    untold: &mut Groups<AttemptId>,
+    id: ContainerId,
+    state: ContainerState,
+) -> Result<(), NoMemory>
+    requires { list_any (is_container id) (ids_under is_attempt untold.old.map.entries id.attempt) ≡ false }
+    ensures ok { OnOk result (AreWith is_attempt (is_untold id state) id untold.old.map.entries untold.new.map.entries) }
+    ensures err { OnErr result (AreSame is_attempt untold.old.map.entries untold.new.map.entries) }
+{
+    if !is_granted(state) {
+        return Ok(());
+    }
+    let attempt = id.attempt;
+    untold.add(&attempt, id)
+}
+
+/// Takes a container away from those of its attempt that nobody was told of, where it was among them: in this state.
+fn leave_untold(untold: &mut Groups<AttemptId>, id: ContainerId, state: ContainerState)
+    ensures { AreWithout is_attempt (is_untold id state) id untold.old.map.entries untold.new.map.entries }
+{
+    if is_granted(state) {
+        let attempt = id.attempt;
+        untold.remove(&attempt, id);
+    }
 }

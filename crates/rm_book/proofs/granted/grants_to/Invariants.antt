@@ -1,7 +1,7 @@
 use Rattle.std.proofs.Common.{◌≡◌, take}
 use Rattle.std.specs.List.{filter_map}
-use Rattle.rm_book.specs.Granted.{granted_in}
+use Rattle.rm_book.specs.Granted.{grant_in}
 use Rattle.rm_book.proofs.granted.grants_to.Given as goal
 
 abbrev pub invariant-ids : goal.invariant-ids
-invariant-ids l = l.grants ≡ filter_map (granted_in l.rows l.attempt) (take l.id-index l.id-items)
+invariant-ids l = l.grants ≡ filter_map (grant_in l.rows) (take l.id-index l.id-items)

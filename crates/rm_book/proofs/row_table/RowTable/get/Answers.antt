@@ -4,7 +4,7 @@ use Rattle.rm_book.proofs.row_table.RowTable.get.Goals as goal
 
 pub returns-clause-row : goal.returns-clause-row
 returns-clause-row c =
-    rw (← c.self.view_is) (c.get.ensures.value ∙ found_kept c.self.inside.list c.self.inside.by_node.map.entries c.self.inside.by_app.map.entries c.self.invariant c.args.id)
+    rw (← c.self.view_is) (c.get.ensures.value ∙ found_kept c.self.invariant c.args.id)
 
 pub returns-clause-apart : goal.returns-clause-apart
 returns-clause-apart c = rw (← c.self.view_is) c.self.invariant.apart

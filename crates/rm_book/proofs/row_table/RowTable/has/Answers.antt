@@ -5,4 +5,4 @@ use Rattle.rm_book.proofs.row_table.RowTable.has.Goals as goal
 
 pub returns : goal.returns
 returns c =
-    rw (← c.self.view_is) (c.is_some.ensures ∙ some_copied c.get.result ∙ ap is_some c.get.ensures.value ∙ has_kept c.self.inside.list c.self.inside.by_node.map.entries c.self.inside.by_app.map.entries c.self.invariant c.args.id)
+    rw (← c.self.view_is) (c.is_some.ensures ∙ some_copied c.get.result ∙ ap is_some c.get.ensures.value ∙ has_kept c.self.invariant c.args.id)
