@@ -1,4 +1,4 @@
-mod Faulting
-mod Forming
-mod Fronting
-mod Writing
+mod FaultLemmas
+mod FormLemmas
+mod FrontLemmas
+mod WriteLemmas

@@ -119,11 +119,18 @@ impl<S: Since> Held<S> {
         self.halt.is_some() || self.desk.is_down() || self.desk.is_at_end()
     }
 
+    /// Whether an operation is with the store.
+    pub(crate) fn has_handed(&self) -> bool
+        ensures { result ≡ is_ready_at self.now.desk Lane.Write }
+    {
+        self.desk.ready(Lane::Write)
+    }
+
     // Whether a lane of the store's worker is ready.
     fn calls_store(&self) -> bool
         ensures { result ≡ (is_ready_at self.now.desk Lane.Hand || (is_ready_at self.now.desk Lane.Write || is_ready_at self.now.desk Lane.End)) }
     {
-        self.desk.ready(Lane::Hand) || self.desk.ready(Lane::Write) || self.desk.ready(Lane::End)
+        self.desk.ready(Lane::Hand) || self.has_handed() || self.desk.ready(Lane::End)
     }
 
     /// Who has something to do: each worker of whom a lane is ready, and all once none has anything left to do.
@@ -162,8 +169,9 @@ impl<S: Since> Held<S> {
         made
     }
 
-    /// The operation that is with the store is kept.
+    /// The operation that is with the store is kept. `NotReady` comes only where none is.
     pub(crate) fn kept(&mut self) -> Result<(), Refused>
+        ensures not_ready { IsErrOf result Refused.NotReady → is_ready_at self.old.desk Lane.Write ≡ false }
         ensures does { OnOk result (LaneEffect Lane.Write self.old.desk self.new.desk) }
         ensures went { OnOk result (Went S.began.desk self.old.desk × Went S.began.desk self.new.desk) }
         ensures kept { OnOk result ((opening : List AnyOp) → StandsFor opening self.old.desk.core → (op : AnyOp) × IsToBeKept opening self.old.desk.core op × (self.new.desk.core.log ≡ self.old.desk.core.log ++ WasKept op ∷ [])) }
@@ -177,9 +185,10 @@ impl<S: Since> Held<S> {
         desk.kept()
     }
 
-    /// The store refused the operation that is with it, after so many calls.
+    /// The store refused the operation that is with it, after so many calls. `NotReady` comes only where none is.
     pub(crate) fn blown(&mut self, passed: u32) -> Result<(), Refused>
         requires closes { (image : ℕ) × (close_left (came S.began.desk self.old.desk.core.log).place.segments ≡ Some (Close.Crash passed image)) }
+        ensures not_ready { IsErrOf result Refused.NotReady → is_ready_at self.old.desk Lane.Write ≡ false }
         ensures does { OnOk result (Blows passed self.old.desk self.new.desk) }
         ensures went { OnOk result (Went S.began.desk self.old.desk × Went S.began.desk self.new.desk) }
         ensures halt { OnOk result (self.new.halt ≡ self.old.halt) }

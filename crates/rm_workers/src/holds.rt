@@ -107,12 +107,21 @@ pub(crate) fn hold_kept<S: Since, D: Disk, R: Wait>(
     ensures of { IsPassOf baton.now result.0 }
     ensures knows { Knows (LearnedFact D.view S.began store.now result.1) (view result.0) }
 {
-    let (mut pass, mut held) = wait_for(rt, baton, bells, pass);
-    let halt = keep(&mut held, store, op);
-    let others = held.called().without(Lane::Hand);
-    baton.put(rt, &mut pass, held);
-    bells.ring(others);
-    (pass, halt)
+    let mut mine = pass;
+    'holds: for _ in rt.forever() {
+        let (mut next, mut held) = wait_for(rt, baton, bells, mine);
+        if held.has_handed() {
+            let halt = keep(&mut held, store, op);
+            let others = held.called().without(Lane::Hand);
+            baton.put(rt, &mut next, held);
+            bells.ring(others);
+            return (next, halt);
+        }
+        // What was handed stays with the store until its worker says what became of it.
+        baton.put(rt, &mut next, held);
+        mine = next;
+    }
+    unreachable!()
 }
 
 /// The hold after a write that the fuse refused: the manager learns of it, or the life is halted.
@@ -129,12 +138,21 @@ pub(crate) fn hold_blown<S: Since, D: Disk, R: Wait>(
     ensures of { IsPassOf baton.now result.0 }
     ensures knows { Knows (LearnedFact D.view S.began store.now result.1) (view result.0) }
 {
-    let (mut pass, mut held) = wait_for(rt, baton, bells, pass);
-    let halt = blow(&mut held, store, passed);
-    let others = held.called().without(Lane::Hand);
-    baton.put(rt, &mut pass, held);
-    bells.ring(others);
-    (pass, halt)
+    let mut mine = pass;
+    'holds: for _ in rt.forever() {
+        let (mut next, mut held) = wait_for(rt, baton, bells, mine);
+        if held.has_handed() {
+            let halt = blow(&mut held, store, passed);
+            let others = held.called().without(Lane::Hand);
+            baton.put(rt, &mut next, held);
+            bells.ring(others);
+            return (next, halt);
+        }
+        // What was handed stays with the store until its worker says what became of it.
+        baton.put(rt, &mut next, held);
+        mine = next;
+    }
+    unreachable!()
 }
 
 /// The hold after a write that failed: the other workers learn of the halt.

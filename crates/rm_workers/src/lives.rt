@@ -17,7 +17,7 @@ use crate::holds::hold_last;
 use crate::signals::Signals;
 use crate::since::Since;
 use crate::turns::End;
-use crate::workers::seven;
+use crate::workers::run_workers;
 use rm_baton::{Baton, Pass};
 use rm_desk::Desk;
 use rm_disk::Disk;
@@ -87,7 +87,7 @@ fn live<S: Since + Send + Sync, D: Disk + Drop + Send, G: Gate + Sync, R: Thread
         Err(desk) => stopped::<S, D>(desk, store),
         Ok((baton, pass)) => {
             let signals = Signals::new();
-            let (pass, store, end) = seven(rt, &baton, gate, &signals, pass, store);
+            let (pass, store, end) = run_workers(rt, &baton, gate, &signals, pass, store);
             let held = hold_last(rt, &baton, &signals.bells, pass, &store, end);
             finish(held, store, end)
         }

@@ -5,6 +5,7 @@ ghost use Rattle.rm_types.specs.declared.messages.Lane.{Lane};
 ghost use Rattle.rm_types.specs.declared.scripts.Close.{Close};
 ghost use Rattle.rm_model.specs.Place.{close_left};
 ghost use Rattle.rm_core.specs.Words.{has_rest, is_blown, stands};
+ghost use Rattle.rm_desk.specs.Lanes.{is_ready_at};
 ghost use Rattle.rm_baton.specs.Entries.{AddsCommon};
 ghost use Rattle.rm_workers.specs.declared.turns.End.{End};
 ghost use Rattle.rm_workers.specs.declared.turns.Helped.{Helped};
@@ -181,6 +182,7 @@ pub(crate) fn turn<S: Since, D: Disk>(held: &mut Held<S>, store: &mut Store<D>) 
 /// Says that the operation which was written is kept. Want of memory for that halts the life.
 pub(crate) fn keep<S: Since, D: Disk>(held: &mut Held<S>, store: &Store<D>, op: &Op) -> Option<Halt>
     requires wrote { Wrote D.view S.began store.now op.now held.old.desk.core.log }
+    requires handed { is_ready_at held.old.desk Lane.Write ≡ true }
     ensures learned { LearnedFact D.view S.began store.now result held.new.desk.core.log }
     ensures longer { IsPrefix held.old.desk.core.log held.new.desk.core.log }
 {
@@ -188,7 +190,8 @@ pub(crate) fn keep<S: Since, D: Disk>(held: &mut Held<S>, store: &Store<D>, op: 
     let _ = op;
     match held.kept() {
         Ok(()) => None,
-        Err(_) => {
+        Err(Refused::NotReady) => unreachable!(),
+        Err(Refused::Memory) => {
             held.stop(Halt::Memory);
             Some(Halt::Memory)
         }
@@ -202,13 +205,15 @@ pub(crate) fn blow<S: Since, D: Disk>(
     passed: u32,
 ) -> Option<Halt>
     requires refused { WasRefused D.view S.began store.now passed held.old.desk.core.log }
+    requires handed { is_ready_at held.old.desk Lane.Write ≡ true }
     ensures learned { LearnedFact D.view S.began store.now result held.new.desk.core.log }
     ensures longer { IsPrefix held.old.desk.core.log held.new.desk.core.log }
 {
     let _ = store;
     match held.blown(passed) {
         Ok(()) => None,
-        Err(_) => {
+        Err(Refused::NotReady) => unreachable!(),
+        Err(Refused::Memory) => {
             held.stop(Halt::Memory);
             Some(Halt::Memory)
         }

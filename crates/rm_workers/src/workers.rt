@@ -97,7 +97,7 @@ pub(crate) struct LanePass<S: Since> {
 }
 
 // Two workers side by side. The pass of the one takes up that of the other.
-fn pair<S: Since + Send + Sync, G: Gate + Sync, R: Threads + Wait + Sync>(
+fn run_two<S: Since + Send + Sync, G: Gate + Sync, R: Threads + Wait + Sync>(
     rt: &R,
     baton: &Baton<Held<S>>,
     gate: &G,
@@ -143,7 +143,7 @@ pub(crate) struct HelperPasses<S: Since> {
 }
 
 // The workers of the four services.
-fn services<S: Since + Send + Sync, G: Gate + Sync, R: Threads + Wait + Sync>(
+fn run_services<S: Since + Send + Sync, G: Gate + Sync, R: Threads + Wait + Sync>(
     rt: &R,
     baton: &Baton<Held<S>>,
     gate: &G,
@@ -177,7 +177,7 @@ fn services<S: Since + Send + Sync, G: Gate + Sync, R: Threads + Wait + Sync>(
                 pass: master,
                 lane: Lane::Master,
             };
-            pair(rt, baton, gate, signals, one, other)
+            run_two(rt, baton, gate, signals, one, other)
         },
         move ||
             requires { IsHelperOf baton.now node × IsHelperOf baton.now clock }
@@ -191,7 +191,7 @@ fn services<S: Since + Send + Sync, G: Gate + Sync, R: Threads + Wait + Sync>(
                 pass: clock,
                 lane: Lane::Clock,
             };
-            pair(rt, baton, gate, signals, one, other)
+            run_two(rt, baton, gate, signals, one, other)
         },
     );
     baton.join(&mut mine, theirs);
@@ -199,7 +199,7 @@ fn services<S: Since + Send + Sync, G: Gate + Sync, R: Threads + Wait + Sync>(
 }
 
 // The six workers that don't touch the store.
-fn six<S: Since + Send + Sync, G: Gate + Sync, R: Threads + Wait + Sync>(
+fn run_helpers<S: Since + Send + Sync, G: Gate + Sync, R: Threads + Wait + Sync>(
     rt: &R,
     baton: &Baton<Held<S>>,
     gate: &G,
@@ -225,7 +225,7 @@ fn six<S: Since + Send + Sync, G: Gate + Sync, R: Threads + Wait + Sync>(
         move ||
             requires { IsHelperOf baton.now passes.client × IsHelperOf baton.now passes.master × IsHelperOf baton.now passes.node × IsHelperOf baton.now passes.clock }
             ensures { IsHelperOf baton.entry.now result }
-        { services(rt, baton, gate, signals, passes) },
+        { run_services(rt, baton, gate, signals, passes) },
         move ||
             requires { IsHelperOf baton.now main × IsHelperOf baton.now sched }
             ensures { IsHelperOf baton.entry.now result }
@@ -238,7 +238,7 @@ fn six<S: Since + Send + Sync, G: Gate + Sync, R: Threads + Wait + Sync>(
                 pass: sched,
                 lane: Lane::Sched,
             };
-            pair(rt, baton, gate, signals, one, other)
+            run_two(rt, baton, gate, signals, one, other)
         },
     );
     baton.join(&mut mine, theirs);
@@ -246,7 +246,7 @@ fn six<S: Since + Send + Sync, G: Gate + Sync, R: Threads + Wait + Sync>(
 }
 
 // The store's worker beside the six others, until the life is over or a halt stands.
-fn beside<S: Since + Send + Sync, D: Disk + Drop + Send, G: Gate + Sync, R: Threads + Wait + Sync>(
+fn run_with_store<S: Since + Send + Sync, D: Disk + Drop + Send, G: Gate + Sync, R: Threads + Wait + Sync>(
     rt: &R,
     baton: &Baton<Held<S>>,
     gate: &G,
@@ -275,7 +275,7 @@ fn beside<S: Since + Send + Sync, D: Disk + Drop + Send, G: Gate + Sync, R: Thre
         move ||
             requires { (IsHelperOf baton.now passes.services.client × IsHelperOf baton.now passes.services.master × IsHelperOf baton.now passes.services.node × IsHelperOf baton.now passes.services.clock) × IsHelperOf baton.now passes.main × IsHelperOf baton.now passes.sched }
             ensures { IsHelperOf baton.entry.now result }
-        { six(rt, baton, gate, signals, passes) },
+        { run_helpers(rt, baton, gate, signals, passes) },
     );
     baton.join(&mut pass, rest);
     (pass, store, end)
@@ -298,7 +298,7 @@ fn assist<S: Since, D: Disk>(
 }
 
 /// All seven workers, each in a thread of its own, until the life is over or a halt stands.
-pub(crate) fn seven<
+pub(crate) fn run_workers<
     S: Since + Send + Sync,
     D: Disk + Drop + Send,
     G: Gate + Sync,
@@ -329,5 +329,5 @@ pub(crate) fn seven<
         main,
         sched,
     };
-    beside(rt, baton, gate, signals, pass, store, passes)
+    run_with_store(rt, baton, gate, signals, pass, store, passes)
 }

@@ -2,7 +2,7 @@ use Rattle.std.proofs.Common.{◌≡◌, ℕ, Option, List, length, sym, ◌∙�
 use Rattle.std.specs.Prelude.{IfNone, IfSome}
 use Rattle.rm_salvage.specs.declared.checks.Fault.{Fault}
 use Rattle.rm_salvage.specs.Checks.{HasOldContent, IsOldFault, fault_of}
-use Rattle.rm_salvage.proofs.Faulting.{fault_by, whole_by}
+use Rattle.rm_salvage.proofs.FaultLemmas.{fault_by, whole_by}
 use Rattle.rm_salvage.proofs.checks.journal_fault.Goals as goal
 
 pub returns-clause-whole : goal.returns-clause-whole

@@ -4,7 +4,7 @@ use Rattle.rm_areas.specs.Areas.{area_of}
 use Rattle.rm_store.specs.Content.{half_of}
 use Rattle.rm_salvage.specs.declared.forms.Form.{Form}
 use Rattle.rm_salvage.specs.Forms.{HasFirstFrame, IsForm}
-use Rattle.rm_salvage.proofs.Forming.{IsKnown, form_is, known}
+use Rattle.rm_salvage.proofs.FormLemmas.{IsKnown, form_is, known}
 use Rattle.rm_salvage.proofs.forms.form_of.Goals as goal
 
 first_area : (bytes : List ℕ) (half : ℕ) → half ≡ half_of bytes → region_of 0 half bytes ≡ area_of (half_of bytes) false bytes

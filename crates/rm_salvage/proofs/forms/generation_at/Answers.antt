@@ -2,7 +2,7 @@ use Rattle.std.proofs.Common.{◌≡◌, ℕ, Option, Some, None, List, sym, ◌
 use Rattle.std.specs.Prelude.{IfNone}
 use Rattle.std.specs.Int.{w64, to_be_bytes}
 use Rattle.rm_journal.specs.Journal.{region_of}
-use Rattle.rm_salvage.proofs.Forming.{broken_never, other_never}
+use Rattle.rm_salvage.proofs.FormLemmas.{broken_never, other_never}
 use Rattle.rm_salvage.proofs.forms.generation_at.Goals as goal
 
 none_so : {P Q : Type 0} (o : Option ℕ) → (P → Q) → IfNone o P → IfNone o Q

@@ -1,7 +1,7 @@
 use Rattle.std.proofs.Common.{◌≡◌, List, ℕ, sym, subst}
 use Rattle.rm_store.specs.Content.{IsFrameOf}
 use Rattle.rm_salvage.specs.Forms.{HasFirst}
-use Rattle.rm_salvage.proofs.Forming.{other_no_frame, whole_region}
+use Rattle.rm_salvage.proofs.FormLemmas.{other_no_frame, whole_region}
 use Rattle.rm_salvage.proofs.forms.has_first_frame.Goals as goal
 
 pub returns-in-Record-clause-has : goal.returns-in-Record-clause-has

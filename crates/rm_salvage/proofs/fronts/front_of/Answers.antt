@@ -13,8 +13,8 @@ use Rattle.rm_salvage.specs.declared.fronts.Stop.{Stop}
 use Rattle.rm_salvage.specs.Forms.{IsForm}
 use Rattle.rm_salvage.specs.Fronts.{BeginsFront, IsFront, IsLongest, IsStop, StopsAt}
 use Rattle.rm_salvage.specs.Steps.{ReadsTo}
-use Rattle.rm_salvage.proofs.Forming.{area_is, begin_area, begin_journal, room_there, whole_region}
-use Rattle.rm_salvage.proofs.Fronting.{front_framed, longest}
+use Rattle.rm_salvage.proofs.FormLemmas.{area_is, begin_area, begin_journal, room_there, whole_region}
+use Rattle.rm_salvage.proofs.FrontLemmas.{front_framed, longest}
 use Rattle.rm_salvage.proofs.fronts.front_of.Goals as goal
 
 -- ---- one journal

@@ -4,7 +4,7 @@ use Rattle.rm_journal.specs.Journal.{region_of}
 use Rattle.rm_salvage.specs.declared.fronts.Stop.{Stop}
 use Rattle.rm_salvage.specs.Fronts.{BeginsFront, StopsAt, StopsBehind}
 use Rattle.rm_salvage.specs.Steps.{WentOn}
-use Rattle.rm_salvage.proofs.Fronting.{front_to, reads_on, stop_at}
+use Rattle.rm_salvage.proofs.FrontLemmas.{front_to, reads_on, stop_at}
 use Rattle.rm_salvage.proofs.fronts.read_front.Goals as goal
 
 none_is : (o : Option Stop) → ((stop : Stop) → o ≡ Some stop → ⊥) → o ≡ None

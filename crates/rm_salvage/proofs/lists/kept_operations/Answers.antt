@@ -6,7 +6,7 @@ use Rattle.rm_types.specs.Ranges.{IsOperation}
 use Rattle.rm_types.specs.Records.{stray}
 use Rattle.rm_folding.proofs.Folded.{folded_none_stray}
 use Rattle.rm_store.proofs.Contents.{framed_left}
-use Rattle.rm_salvage.proofs.Fronting.{front_framed, front_none_stray}
+use Rattle.rm_salvage.proofs.FrontLemmas.{front_framed, front_none_stray}
 use Rattle.rm_salvage.proofs.lists.kept_operations.Goals as goal
 
 pub returns-in-OneJournal-clause-framed : goal.returns-in-OneJournal-clause-framed

@@ -12,7 +12,7 @@ use Rattle.rm_store.specs.Content.{half_of}
 use Rattle.rm_salvage.specs.declared.errors.WriteError
 use Rattle.rm_salvage.specs.Errors.{of_journal}
 use Rattle.rm_salvage.specs.Writes.{HoldsAll, LeavesNoneOrAll, bytes_before}
-use Rattle.rm_salvage.proofs.Writing.{area_long, built_leaves, holds_all}
+use Rattle.rm_salvage.proofs.WriteLemmas.{area_long, built_leaves, holds_all}
 use Rattle.rm_salvage.proofs.writes.write_anew.Goals as goal
 
 damaged_there : (error : JournalError.JournalError) (offset : ℕ) → of_journal error ≡ WriteError.TheVariants.Damaged offset → error ≡ JournalError.TheVariants.Damaged offset

@@ -7,7 +7,7 @@ pub returns-in-Ok-clause-ok : goal.returns-in-Ok-clause-ok
 returns-in-Ok-clause-ok c =
     let op = c.in-Some.op in
     let tree = rw c.requires at c.in-Ok.ensures.ok in
-    let framed = rw c.in-Some.is at c.in_ok-operation_of.ensures.some in
+    let framed = rw c.in-Some.is at c.in_ok-op.ensures.some in
     (op, framed, fits (fits_records (records c.args.ops.now) op) refl, c.in_ok-push-in-Ok.ensures.ok, tree ∙ sym (records_push c.args.ops.now op))
   where
     fits : (b : Bool) → fits_records (records c.args.ops.now) c.in-Some.op ≡ b → fits_records (records c.args.ops.now) c.in-Some.op ≡ true
@@ -17,7 +17,7 @@ returns-in-Ok-clause-ok c =
 pub returns-in-Err-Stray-clause-stray : goal.returns-in-Err-Stray-clause-stray
 returns-in-Err-Stray-clause-stray c = λ number offset e.
     let op = c.in-Some.op in
-    let framed = rw c.in-Some.is at c.in_ok-operation_of.ensures.some in
+    let framed = rw c.in-Some.is at c.in_ok-op.ensures.some in
     let same : c.apply.new.self ≡ records c.args.ops.now = c.in-Err-Stray.ensures.err ∙ c.requires in
     let told : c.applied.result ≡ length c.args.ops.now = c.applied.ensures ∙ ap (λ r. r.applied) same ∙ told_count c.args.ops.now in
     let n : number ≡ c.applied.result = cc in

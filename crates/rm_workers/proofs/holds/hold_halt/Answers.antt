@@ -1,9 +1,9 @@
 -- The halt stands, and the log is what it was.
 use Rattle.rm_baton.specs.Views.{view}
 use Rattle.rm_workers.specs.Work.{Halting}
-use Rattle.rm_workers.proofs.Knowing.{knows_put, puts_any, still}
-use Rattle.rm_workers.proofs.Lasting.{halting_lasts}
-use Rattle.rm_workers.proofs.Making.{same_longer}
+use Rattle.rm_workers.proofs.PassLemmas.{knows_put, puts_any, still}
+use Rattle.rm_workers.proofs.FactLemmas.{halting_lasts}
+use Rattle.rm_workers.proofs.EffectLemmas.{same_longer}
 use Rattle.rm_workers.proofs.holds.hold_halt.Goals as goal
 
 pub put-requires-clause-may : goal.put-requires-clause-may

@@ -2,9 +2,9 @@
 use Rattle.std.proofs.Common.{refl}
 use Rattle.rm_baton.specs.Views.{view}
 use Rattle.rm_workers.specs.Turns.{EndFact}
-use Rattle.rm_workers.proofs.Knowing.{knows_put, puts_any, still}
-use Rattle.rm_workers.proofs.Lasting.{end_lasts}
-use Rattle.rm_workers.proofs.Making.{same_longer}
+use Rattle.rm_workers.proofs.PassLemmas.{knows_put, puts_any, still}
+use Rattle.rm_workers.proofs.FactLemmas.{end_lasts}
+use Rattle.rm_workers.proofs.EffectLemmas.{same_longer}
 use Rattle.rm_workers.proofs.holds.hold_last.Goals as goal
 
 pub returns-then-is_over-clause-ended : goal.returns-then-is_over-clause-ended

@@ -1,9 +1,9 @@
 -- The store still serves the life, through what others added.
 use Rattle.rm_baton.specs.Views.{view}
 use Rattle.rm_workers.specs.Work.{Serving}
-use Rattle.rm_workers.proofs.Knowing.{puts_any, still}
-use Rattle.rm_workers.proofs.Lasting.{serving_lasts}
-use Rattle.rm_workers.proofs.Making.{makes_longer}
+use Rattle.rm_workers.proofs.PassLemmas.{puts_any, still}
+use Rattle.rm_workers.proofs.FactLemmas.{serving_lasts}
+use Rattle.rm_workers.proofs.EffectLemmas.{makes_longer}
 use Rattle.rm_workers.proofs.holds.hold_turn.Goals as goal
 
 pub turn-turn-requires : goal.turn-turn-requires

@@ -2,8 +2,8 @@
 use Rattle.rm_baton.specs.Views.{view}
 use Rattle.rm_plain.specs.declared.halts.Halt.TheVariants.{Memory}
 use Rattle.rm_workers.specs.Work.{Halting, Serving}
-use Rattle.rm_workers.proofs.Knowing.{knows_then}
-use Rattle.rm_workers.proofs.Turning.{serving_halts}
+use Rattle.rm_workers.proofs.PassLemmas.{knows_then}
+use Rattle.rm_workers.proofs.TurnLemmas.{serving_halts}
 use Rattle.rm_workers.proofs.holds.hold_unstarted.Goals as goal
 
 pub hold_halt-requires-clause-knows : goal.hold_halt-requires-clause-knows

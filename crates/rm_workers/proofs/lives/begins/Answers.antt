@@ -1,5 +1,5 @@
 -- What is known of the desk is known of the log.
-use Rattle.rm_workers.proofs.Finishing.{begins_serving}
+use Rattle.rm_workers.proofs.LifeEndLemmas.{begins_serving}
 use Rattle.rm_workers.proofs.lives.begins.Goals as goal
 
 pub returns : goal.returns

@@ -2,7 +2,7 @@
 use Rattle.std.proofs.Common.{sym, ◌∙◌, ap, Option}
 use Rattle.std.specs.Prelude.{is_some}
 use Rattle.rm_plain.specs.declared.halts.Halt.{Halt}
-use Rattle.rm_workers.proofs.Finishing.{finish_down, finish_halted, finish_rested, finish_stopped, none_of}
+use Rattle.rm_workers.proofs.LifeEndLemmas.{finish_down, finish_halted, finish_rested, finish_stopped, none_of}
 use Rattle.rm_workers.proofs.lives.finish.Goals as goal
 
 pub returns-in-Down : goal.returns-in-Down

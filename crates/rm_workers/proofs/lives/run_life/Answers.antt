@@ -1,5 +1,5 @@
 -- The life ends as a life on one thread does.
-use Rattle.rm_workers.proofs.Finishing.{ended_ends, ended_fuse, ended_halts}
+use Rattle.rm_workers.proofs.LifeEndLemmas.{ended_ends, ended_fuse, ended_halts}
 use Rattle.rm_workers.proofs.lives.run_life.Goals as goal
 
 pub returns-clause-ends : goal.returns-clause-ends

@@ -3,7 +3,7 @@ use Rattle.std.proofs.Common.{◌∙◌, ap}
 use Rattle.rm_baton.specs.Views.{view}
 use Rattle.rm_workers.specs.Carried.{HeldView}
 use Rattle.rm_workers.specs.Work.{Serving}
-use Rattle.rm_workers.proofs.Knowing.{knows_started}
+use Rattle.rm_workers.proofs.PassLemmas.{knows_started}
 use Rattle.rm_workers.proofs.lives.start.Goals as goal
 
 pub returns-in-Ok-clause-knows : goal.returns-in-Ok-clause-knows

@@ -2,8 +2,8 @@
 use Rattle.std.proofs.Common.{subst}
 use Rattle.rm_desk.specs.View.{DeskView}
 use Rattle.rm_workers.specs.Came.{Went}
-use Rattle.rm_workers.proofs.Coming.{went_same}
-use Rattle.rm_workers.proofs.Finishing.{stopped_ended}
+use Rattle.rm_workers.proofs.MoveLemmas.{went_same}
+use Rattle.rm_workers.proofs.LifeEndLemmas.{stopped_ended}
 use Rattle.rm_workers.proofs.lives.stopped.Goals as goal
 
 pub returns : goal.returns

@@ -1,5 +1,5 @@
 -- The manager learned that the fuse refused the operation, or found no memory for that.
-use Rattle.rm_workers.proofs.Turning.{refused_closes, refused_on, tried_halts}
+use Rattle.rm_workers.proofs.TurnLemmas.{refused_closes, refused_on, tried_halts}
 use Rattle.rm_workers.proofs.moves.blow.Goals as goal
 
 pub blown-requires : goal.blown-requires

@@ -1,6 +1,6 @@
 -- The life went down at rest, or blown.
 use Rattle.std.proofs.Common.{◌∙◌}
-use Rattle.rm_workers.proofs.Turning.{sunk_on}
+use Rattle.rm_workers.proofs.TurnLemmas.{sunk_on}
 use Rattle.rm_workers.proofs.moves.go_down.Goals as goal
 
 pub returns-in-Ok-clause-turn : goal.returns-in-Ok-clause-turn

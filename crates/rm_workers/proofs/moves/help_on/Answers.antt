@@ -2,7 +2,7 @@
 use Rattle.std.proofs.Common.{arith, refl}
 use Rattle.rm_baton.proofs.Growing.{adds_more, adds_none}
 use Rattle.rm_workers.specs.declared.moves.TheConstants.{MOST_MOVES}
-use Rattle.rm_workers.proofs.Helping.{halted_still, moved_more, of_none, over_stops, still_stops}
+use Rattle.rm_workers.proofs.HoldLemmas.{halted_still, moved_more, of_none, over_stops, still_stops}
 use Rattle.rm_workers.proofs.moves.help_on.Goals as goal
 
 pub moves-init : goal.moves-init

@@ -1,5 +1,5 @@
 -- The manager learned that the operation is kept, or found no memory for that.
-use Rattle.rm_workers.proofs.Turning.{tried_halts, wrote_on}
+use Rattle.rm_workers.proofs.TurnLemmas.{tried_halts, wrote_on}
 use Rattle.rm_workers.proofs.moves.keep.Goals as goal
 
 pub returns-in-Ok-clause-learned : goal.returns-in-Ok-clause-learned

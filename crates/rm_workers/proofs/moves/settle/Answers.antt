@@ -3,7 +3,7 @@ use Rattle.std.proofs.Common.{ap, ◌∙◌}
 use Rattle.rm_model.specs.Place.{close_left}
 use Rattle.rm_plain.specs.Keeping.{armed_by}
 use Rattle.rm_desk.specs.View.{DeskView}
-use Rattle.rm_workers.proofs.Turning.{arms_unarmed, arms_unblown, settled_halts, settled_on}
+use Rattle.rm_workers.proofs.TurnLemmas.{arms_unarmed, arms_unblown, settled_halts, settled_on}
 use Rattle.rm_workers.proofs.moves.settle.Goals as goal
 
 pub arm-requires-clause-unarmed : goal.arm-requires-clause-unarmed

@@ -1,6 +1,6 @@
 -- The first operation that awaits was handed.
-use Rattle.rm_workers.proofs.Making.{handed_makes}
-use Rattle.rm_workers.proofs.Turning.{handed_on}
+use Rattle.rm_workers.proofs.EffectLemmas.{handed_makes}
+use Rattle.rm_workers.proofs.TurnLemmas.{handed_on}
 use Rattle.rm_workers.proofs.moves.turn.Goals as goal
 
 pub write_next-requires : goal.write_next-requires

@@ -1,5 +1,5 @@
 -- The operation that the desk tells of is with the store.
-use Rattle.rm_workers.proofs.Turning.{owing_by}
+use Rattle.rm_workers.proofs.TurnLemmas.{owing_by}
 use Rattle.rm_workers.proofs.moves.write_next.Goals as goal
 
 pub returns-in-Ok-clause-turn : goal.returns-in-Ok-clause-turn

@@ -18,7 +18,7 @@ use Rattle.rm_plain.specs.Starts.{LivesTo, Leaves}
 use Rattle.rm_plain.proofs.Finishing.{none_stands, some_left}
 use Rattle.rm_plain.proofs.Starting.{lived, unbegun}
 use Rattle.rm_workers.specs.AnyOrder.{any_order}
-use Rattle.rm_workers.proofs.Coming.{may_any}
+use Rattle.rm_workers.proofs.MoveLemmas.{may_any}
 use Rattle.rm_workers.proofs.runs.live.Goals as goal
 
 pub begin_life-requires-clause-may : goal.begin_life-requires-clause-may

@@ -2,7 +2,7 @@
 use Rattle.std.proofs.Common.{true, false, Err, refl, sym, ◌∙◌, ap}
 use Rattle.rm_store.specs.declared.fault.StoreError.{StoreError}
 use Rattle.rm_store.specs.Store.{StoreState}
-use Rattle.rm_workers.proofs.Turning.{failed_after, refused_after, wrote_after}
+use Rattle.rm_workers.proofs.TurnLemmas.{failed_after, refused_after, wrote_after}
 use Rattle.rm_workers.proofs.storing.write.Goals as goal
 
 pub returns-in-Ok : goal.returns-in-Ok

@@ -3,7 +3,7 @@ use Rattle.std.proofs.Common.{sym, subst}
 use Rattle.std.specs.Prelude.{OnOk}
 use Rattle.rm_desk.specs.View.{DeskView}
 use Rattle.rm_workers.specs.Came.{Went}
-use Rattle.rm_workers.proofs.Coming.{closes_at, refused_both, refused_went}
+use Rattle.rm_workers.proofs.MoveLemmas.{closes_at, refused_both, refused_went}
 use Rattle.rm_workers.proofs.held.Held.blown.Goals as goal
 
 pub blown-requires : goal.blown-requires

@@ -1,6 +1,6 @@
 -- By what is ready.
 use Rattle.std.proofs.Common.{rules}
-use Rattle.rm_workers.proofs.Calling.{ready_called}
+use Rattle.rm_workers.proofs.CallLemmas.{ready_called}
 use Rattle.rm_workers.proofs.held.Held.called.Goals as goal
 
 pub returns-clause-ready : goal.returns-clause-ready

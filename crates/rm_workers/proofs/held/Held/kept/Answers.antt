@@ -6,7 +6,7 @@ use Rattle.rm_types.specs.declared.operations.Op.{Op}
 use Rattle.rm_core.specs.Seen.{IsToBeKept, StandsFor}
 use Rattle.rm_desk.specs.View.{DeskView}
 use Rattle.rm_workers.specs.Came.{Went}
-use Rattle.rm_workers.proofs.Coming.{learned_both, learned_says, learned_went}
+use Rattle.rm_workers.proofs.MoveLemmas.{learned_both, learned_says, learned_went}
 use Rattle.rm_workers.proofs.held.Held.kept.Goals as goal
 
 pub invariant_of-self : goal.invariant_of-self

@@ -2,7 +2,7 @@
 use Rattle.std.proofs.Common.{sym, subst}
 use Rattle.rm_desk.specs.View.{DeskView}
 use Rattle.rm_workers.specs.Came.{Went}
-use Rattle.rm_workers.proofs.Coming.{went_same}
+use Rattle.rm_workers.proofs.MoveLemmas.{went_same}
 use Rattle.rm_workers.proofs.held.Held.new.Goals as goal
 
 pub invariant_of-result : goal.invariant_of-result

@@ -5,7 +5,7 @@ use Rattle.rm_types.specs.declared.messages.Lane.TheVariants.{End}
 use Rattle.rm_core.specs.Words.{has_rest, is_blown}
 use Rattle.rm_desk.specs.View.{DeskView}
 use Rattle.rm_workers.specs.Came.{Moves, Went}
-use Rattle.rm_workers.proofs.Coming.{stepped_moves, stepped_went}
+use Rattle.rm_workers.proofs.MoveLemmas.{stepped_moves, stepped_went}
 use Rattle.rm_workers.proofs.held.Held.step.Goals as goal
 
 pub invariant_of-self : goal.invariant_of-self

@@ -15,7 +15,7 @@ use Rattle.rm_store.specs.Content.{IsFrameOf, half_of}
 use Rattle.rm_salvage.specs.Forms.{HasFirst, HasFirstFrame, IsForm, form_by}
 use Rattle.rm_salvage.specs.Fronts.{IsClosedGate, IsOpenToNothing}
 use Rattle.rm_salvage.specs.Steps.{ReadsTo}
-use Rattle.rm_salvage.proofs.Fronting.{behind_record, one_record}
+use Rattle.rm_salvage.proofs.FrontLemmas.{behind_record, one_record}
 
 -- the region of all bytes
 pub whole_region : (bytes : List ℕ) (size : ℕ) → size ≡ length bytes → region_of 0 size bytes ≡ bytes

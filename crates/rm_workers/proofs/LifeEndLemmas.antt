@@ -28,8 +28,8 @@ use Rattle.rm_workers.specs.Came.{Went}
 use Rattle.rm_workers.specs.Ends.{Ended, Halted, Rested, WentDown}
 use Rattle.rm_workers.specs.Turns.{EndFact}
 use Rattle.rm_workers.specs.Work.{Halting, IsWhy, Serving, Stays, Sunk}
-use Rattle.rm_workers.proofs.Coming.{went_same}
-use Rattle.rm_workers.proofs.Turning.{alive_at, serves_at}
+use Rattle.rm_workers.proofs.MoveLemmas.{went_same}
+use Rattle.rm_workers.proofs.TurnLemmas.{alive_at, serves_at}
 
 -- a life that stands begins, and its store serves it
 pub begins_serving : {D : Type 0} (view : D → DiskView) (d : DeskView) (store : StoreState D) → stands d.core ≡ true → Serves view d store → Serving view (began_with view d store.disk) store d.core.log

@@ -16,7 +16,7 @@ use Rattle.rm_desk.specs.Effects.{HasHanded, IsHanded}
 use Rattle.rm_desk.specs.View.{DeskView}
 use Rattle.rm_baton.specs.Entries.{AddsCommon, AllCommon, IsCommon}
 use Rattle.rm_workers.specs.Still.{SameLife, Still}
-use Rattle.rm_workers.proofs.Stays.{close_still, state_still}
+use Rattle.rm_workers.proofs.CommonEntryLemmas.{close_still, state_still}
 use Rattle.rm_plain.specs.declared.halts.Halt.{Halt}
 use Rattle.rm_plain.specs.declared.halts.Halt.TheVariants.{DiskFault, Full, Schedule, Memory}
 use Rattle.rm_plain.specs.Keeping.{IsFull, KeepsOn, LeavesOn, armed_by, blown_in, has_blown}
@@ -28,7 +28,7 @@ use Rattle.rm_workers.specs.Began.{Began, seen_then}
 use Rattle.rm_workers.specs.Came.{Came, blown_on, came, come_on, falls_on, stands_on}
 use Rattle.rm_workers.specs.Turns.{EndFact}
 use Rattle.rm_workers.specs.Work.{Awaits, Halting, IsWhy, IsWithStore, Owing, Refused, Serving, ContinuesLife, Sunk, Tried, Wrote}
-use Rattle.rm_workers.proofs.Coming.{came_more}
+use Rattle.rm_workers.proofs.MoveLemmas.{came_more}
 
 -- HOW FAR THE LIFE HAS COME
 

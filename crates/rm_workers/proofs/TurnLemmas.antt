@@ -40,7 +40,7 @@ use Rattle.rm_workers.specs.AnyOrder.{any_order}
 use Rattle.rm_workers.specs.Began.{Began, seen_then}
 use Rattle.rm_workers.specs.Came.{Moves, Went, came}
 use Rattle.rm_workers.specs.Work.{Halting, IsWhy, IsWithStore, Owing, Refused, Serving, ContinuesLife, Stays, Sunk, Tried, Wrote}
-use Rattle.rm_workers.proofs.Coming.{down_falls, may_any, rest_idle}
+use Rattle.rm_workers.proofs.MoveLemmas.{down_falls, may_any, rest_idle}
 
 -- a life of which an operation is with the store, and none was refused
 unblown_life : (s : Manager) → HasHanded s.life → has_blown s ≡ false → HasBlown false s.life
