@@ -1,3 +1,6 @@
+ghost use Rattle.std.specs.Prelude.{◌≡◌, ℕ, Err};
+ghost use Rattle.rm_page_reader.specs.Told.{IsNoPage};
+
 use crate::bars::Line;
 use crate::jobs::{Job, Phase};
 use crate::legend::draw_legend;
@@ -42,8 +45,10 @@ pub(crate) const SMALL: &[u8] =
 /// columns, and each crash is a line across. Below one another are the states of the first twelve jobs, the operations of the store,
 /// and each node with a bar for each container; of more than sixty containers, it shows how many there are on each node.
 ///
-/// `NotAPage` names the first line that is none of a page, and `Memory` may come of any bytes.
-pub fn draw(alloc: Global, page: &[u8]) -> Result<Vec<u8>, PageError> {
+/// `NotAPage` comes only where the bytes are no page, and names the first line that is none of one; `Memory` may come of any bytes.
+pub fn draw(alloc: Global, page: &[u8]) -> Result<Vec<u8>, PageError>
+    ensures { (line : ℕ) → result ≡ Err (PageError.NotAPage line) → IsNoPage page.now }
+{
     let page = read_page(alloc, page)?;
     let scene = Scene::of(alloc, page.entries())?;
     let svg = draw_scene(alloc, &scene)?;

@@ -1,6 +1,7 @@
-ghost use Rattle.std.specs.Prelude.{◌≡◌, ◌++◌, IfOk, OnOk, Err, count_by};
+ghost use Rattle.std.specs.Prelude.{◌≡◌, ◌++◌, ℕ, IfOk, OnOk, Err, count_by};
 ghost use Rattle.rm_types.specs.Ranges.{IsText};
 ghost use Rattle.rm_types.specs.declared.texts.TextKind.TheVariants as kinds;
+ghost use Rattle.rm_page_reader.specs.Told.{IsNoPage};
 ghost use Rattle.rm_report.specs.Naming.{names};
 ghost use Rattle.rm_report.specs.Following.{marks_life, told, rows, subject_text, follow_text, explained, row, mark, IsFollowed};
 
@@ -16,11 +17,12 @@ use std::alloc::Global;
 /// an application's attempts and containers and an attempt's containers are followed too. Between them stand, without numbers, the
 /// lines at which a life begins or ends.
 ///
-/// `NotAnId` comes only where the text is no id and can't be a node's name; `NotAPage` names the first line that is none of a
-/// page, and `Memory` may come of any bytes.
+/// `NotAnId` comes only where the text is no id and can't be a node's name; `NotAPage` comes only where the bytes are no
+/// page, and names the first line that is none of one; `Memory` may come of any bytes.
 pub fn follow(alloc: Global, page: &[u8], id: &str) -> Result<Vec<u8>, ReportError>
     ensures told { IfOk result (λ report. IsFollowed page.now id.now report.items) }
     ensures not_an_id { result ≡ Err ReportError.NotAnId → IsText kinds.Node id.now → ⊥ }
+    ensures not_a_page { (line : ℕ) → result ≡ Err (ReportError.NotAPage line) → IsNoPage page.now }
 {
     let subject = Subject::read(alloc, id.as_bytes())?;
     let page = read_page(alloc, page)?;

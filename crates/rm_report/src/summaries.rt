@@ -1,6 +1,6 @@
-ghost use Rattle.std.specs.Prelude.{◌≡◌, ◌++◌, All, IfOk, OnOk, sum_by};
+ghost use Rattle.std.specs.Prelude.{◌≡◌, ◌++◌, ℕ, All, Err, IfOk, OnOk, sum_by};
 ghost use Rattle.rm_page.specs.Ranges.{IsEntry};
-ghost use Rattle.rm_page_reader.specs.Told.{entries_of};
+ghost use Rattle.rm_page_reader.specs.Told.{IsNoPage, entries_of};
 ghost use Rattle.rm_report.specs.Counting.{kept_bytes_in};
 ghost use Rattle.rm_report.specs.Summaries.{IsSummary, summary_text, log_text, head_text, jobs_text, replies_text, grants_text, endings_text, store_text, soak_text};
 
@@ -21,10 +21,11 @@ use std::alloc::Global;
 /// replies by their word, and denials by queue, each with no more than forty names; containers that were granted, taken in again and
 /// ended, by cause; the longest list; and the operations with the bytes of their frames. Of a soak's line it tells the numbers.
 ///
-/// `NotAPage` names the first line that is none of a page, and `Memory` may come of any bytes.
+/// `NotAPage` comes only where the bytes are no page, and names the first line that is none of one; `Memory` may come of any bytes.
 #[tactic(auto, using(crate::proofs::ToldRanges::told_ranges))]
 pub fn summary(alloc: Global, page: &[u8]) -> Result<Vec<u8>, PageError>
-    ensures { IfOk result (λ report. IsSummary page.now report.items) }
+    ensures told { IfOk result (λ report. IsSummary page.now report.items) }
+    ensures not_a_page { (line : ℕ) → result ≡ Err (PageError.NotAPage line) → IsNoPage page.now }
 {
     let page = read_page(alloc, page)?;
     let mut sheet = Sheet::new(alloc);

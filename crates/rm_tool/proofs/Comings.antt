@@ -16,7 +16,10 @@ use Rattle.rm_page_reader.specs.declared.errors.PageError.TheVariants as pages
 use Rattle.rm_report.specs.declared.errors.ReportError.{ReportError}
 use Rattle.rm_report.specs.declared.errors.ReportError.TheVariants as reports
 use Rattle.rm_tool.specs.Outcomes.{IsBeforePage, after_page, of_fault, of_page, of_report}
-use Rattle.rm_tool.specs.Runs.{Checks, Comes, IsUnread, Told, WereRead}
+use Rattle.rm_types.specs.Ranges.{IsText}
+use Rattle.rm_types.specs.declared.texts.TextKind.TheVariants as kinds
+use Rattle.rm_page_reader.specs.Told.{IsNoPage}
+use Rattle.rm_tool.specs.Runs.{Checks, Comes, Follows, IsUnread, Reports, Told, WereRead}
 use Rattle.rm_tool.specs.Words.{Asked, Check, Convert, Salvage, Summary, Follow, Draw}
 
 pub comes_after : (told : Told) (asked : Asked) (new : DiskView) (outcome : ToolOutcome) (w : Written) → Comes told (Some asked) new outcome → Comes told (Some asked) new (after_page outcome w)
@@ -85,6 +88,34 @@ pub report_not_done : (error : ReportError) → of_report error ≡ Done → ⊥
 report_not_done (reports.NotAPage line) is = cc
 report_not_done reports.NotAnId is = cc
 report_not_done reports.Memory is = cc
+
+-- a page that was not read comes to what a report may, where it is refused only as no page
+pub page_refused : (told : Option (List ℕ)) (bytes : List ℕ) (error : PageError) → WereRead told bytes → ((line : ℕ) → error ≡ pages.NotAPage line → IsNoPage bytes) → Reports told (of_page error)
+page_refused told bytes (pages.NotAPage line) read cause = record { bytes = bytes; read = read; none = cause line refl }
+page_refused told bytes pages.Memory read cause = tt
+
+-- and so does a report that was not made
+pub report_refused : (told : Option (List ℕ)) (id bytes : List ℕ) (error : ReportError) → WereRead told bytes → (error ≡ reports.NotAnId → IsText kinds.Node id → ⊥) → ((line : ℕ) → error ≡ reports.NotAPage line → IsNoPage bytes)
+    → Follows told id (of_report error)
+report_refused told id bytes (reports.NotAPage line) read no_id cause = record { bytes = bytes; read = read; none = cause line refl }
+report_refused told id bytes reports.NotAnId read no_id cause = no_id refl
+report_refused told id bytes reports.Memory read no_id cause = tt
+
+-- a file that was not read comes to what a report may
+pub unread_reports : (told : Option (List ℕ)) (outcome : ToolOutcome) → IsUnread outcome → Reports told outcome
+unread_reports told ReadFault unread = tt
+unread_reports told Memory unread = tt
+unread_reports told Done unread = absurd unread
+unread_reports told Usage unread = absurd unread
+unread_reports told (WriteFault took_nothing) unread = absurd unread
+unread_reports told (OtherLength many) unread = absurd unread
+unread_reports told OtherForm unread = absurd unread
+unread_reports told (Faulty fault) unread = absurd unread
+unread_reports told DiskFault unread = absurd unread
+unread_reports told NotNew unread = absurd unread
+unread_reports told (Full size) unread = absurd unread
+unread_reports told (NotAPage line) unread = absurd unread
+unread_reports told NotAnId unread = absurd unread
 
 -- before its page no outcome is a fault of the output
 no_write : (outcome : ToolOutcome) (took_nothing : Bool) → IsBeforePage outcome → outcome ≡ WriteFault took_nothing → ⊥

@@ -7,6 +7,7 @@ use Rattle.rm_store.specs.Content.{HasContent}
 use Rattle.std.specs.Io.KnownBytes.{Appends}
 use Rattle.rm_types.specs.Ranges.{IsText}
 use Rattle.rm_types.specs.declared.texts.TextKind.TheVariants as kinds
+use Rattle.rm_page_reader.specs.Told.{IsNoPage}
 use Rattle.rm_report.specs.Following.{IsFollowed}
 use Rattle.rm_report.specs.Summaries.{IsSummary}
 use Rattle.rm_outside.specs.Shelves.{bytes_read}
@@ -153,19 +154,25 @@ IsStore bytes = (ops : List Op) × HasContent bytes ops
 abbrev pub KeepsStore : DiskView → DiskView → Type 0
 KeepsStore old new = IfTold old (λ _. EachImage old (λ image. HasContent image []) → AtEachMoment old new IsStore)
 
--- what a report of a page comes to
-abbrev pub Reports : ToolOutcome → Type 0
-Reports Done = Unit {0}
-Reports ReadFault = Unit {0}
-Reports (WriteFault took_nothing) = Unit {0}
-Reports (NotAPage line) = Unit {0}
-Reports Memory = Unit {0}
-Reports _ = ⊥
+-- the file is no page
+pub record IsNoPageFile (told : Option (List ℕ)) : Type 0 where
+  pub bytes : List ℕ
+  pub read : WereRead told bytes
+  pub none : IsNoPage bytes
+
+-- what a report of the page in a file comes to
+abbrev pub Reports : Option (List ℕ) → ToolOutcome → Type 0
+Reports told Done = Unit {0}
+Reports told ReadFault = Unit {0}
+Reports told (WriteFault took_nothing) = Unit {0}
+Reports told (NotAPage line) = IsNoPageFile told
+Reports told Memory = Unit {0}
+Reports told _ = ⊥
 
 -- the same where it is of an id: it is refused only where it is no id and can't be a node's name
-abbrev pub Follows : List ℕ → ToolOutcome → Type 0
-Follows id NotAnId = IsText kinds.Node id → ⊥
-Follows id outcome = Reports outcome
+abbrev pub Follows : Option (List ℕ) → List ℕ → ToolOutcome → Type 0
+Follows told id NotAnId = IsText kinds.Node id → ⊥
+Follows told id outcome = Reports told outcome
 
 -- what a call comes to, by what was asked for
 abbrev pub Comes : Told → Option Asked → DiskView → ToolOutcome → Type 0
@@ -173,9 +180,9 @@ Comes told None new outcome = (outcome ≡ Usage) ⊎ (outcome ≡ Memory)
 Comes told (Some (Check file)) new outcome = Checks (told file) outcome
 Comes told (Some (Convert old target)) new outcome = Converts (told old) new outcome
 Comes told (Some (Salvage file target)) new outcome = Salvages (told file) new outcome
-Comes told (Some (Summary page)) new outcome = Reports outcome
-Comes told (Some (Follow page id)) new outcome = Follows id outcome
-Comes told (Some (Draw page)) new outcome = Reports outcome
+Comes told (Some (Summary page)) new outcome = Reports (told page) outcome
+Comes told (Some (Follow page id)) new outcome = Follows (told page) id outcome
+Comes told (Some (Draw page)) new outcome = Reports (told page) outcome
 
 -- a text is a report of the page that was read of a file
 pub record IsReport (told : Option (List ℕ)) (IsOf : List ℕ → List ℕ → Type 0) (text : List ℕ) : Type 0 where

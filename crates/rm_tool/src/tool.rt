@@ -26,7 +26,8 @@ use std::alloc::Global;
 /// - `comes`: `Usage` comes exactly where the words are of another form, unless it is `Memory`. A check is `Done` only where the file is a whole
 ///   store, and `Faulty` only where this is its fault: of two areas exactly what the manager refuses to open it for. A conversion is `Done` only where
 ///   the file is a whole store of the old form, and then the new disk holds what is left of its operations. A salvage that is `Done` left the longest
-///   front of operations that are whole and not stray on the new disk. `NotAnId` comes only where the word is no id and can't be a node's name.
+///   front of operations that are whole and not stray on the new disk. `NotAnId` comes only where the word is no id and can't be a node's name, and
+///   `NotAPage` only where the file is no page.
 /// - `any_moment`: where a crash left a store without operations on the new disk before, at every moment of the call it leaves a store that the manager
 ///   opens.
 /// - `writes`: `summary` that is Done wrote exactly the summary of the page, and `follow` exactly what the page tells of the id.
@@ -224,7 +225,7 @@ fn salvage_file<F: Shelf, D: Disk>(alloc: Global, shelf: &mut F, file: &str, new
 
 /// Tells in short what the page in a file tells.
 fn summarize_file<F: Shelf>(alloc: Global, shelf: &mut F, page: &str) -> Made
-    ensures comes { Reports result.outcome }
+    ensures comes { Reports (F.bytes_of shelf.old page.now) result.outcome }
     ensures written { result.outcome ≡ ToolOutcome.Done → IsReport (F.bytes_of shelf.old page.now) (λ bytes report. IsSummary bytes report) result.page.items }
     ensures told { F.bytes_of shelf.new ≡ F.bytes_of shelf.old }
     ensures read_fault { result.outcome ≡ ToolOutcome.ReadFault → Rose (F.faults shelf.old) (F.faults shelf.new) }
@@ -245,7 +246,7 @@ fn summarize_file<F: Shelf>(alloc: Global, shelf: &mut F, page: &str) -> Made
 
 /// Tells the lines of the page in a file that name an id.
 fn follow_file<F: Shelf>(alloc: Global, shelf: &mut F, page: &str, id: &str) -> Made
-    ensures comes { Follows id.now result.outcome }
+    ensures comes { Follows (F.bytes_of shelf.old page.now) id.now result.outcome }
     ensures written { result.outcome ≡ ToolOutcome.Done → IsReport (F.bytes_of shelf.old page.now) (λ bytes report. IsFollowed bytes id.now report) result.page.items }
     ensures told { F.bytes_of shelf.new ≡ F.bytes_of shelf.old }
     ensures read_fault { result.outcome ≡ ToolOutcome.ReadFault → Rose (F.faults shelf.old) (F.faults shelf.new) }
@@ -266,7 +267,7 @@ fn follow_file<F: Shelf>(alloc: Global, shelf: &mut F, page: &str, id: &str) -> 
 
 /// Draws the run whose page is in a file.
 fn draw_file<F: Shelf>(alloc: Global, shelf: &mut F, page: &str) -> Made
-    ensures comes { Reports result.outcome }
+    ensures comes { Reports (F.bytes_of shelf.old page.now) result.outcome }
     ensures told { F.bytes_of shelf.new ≡ F.bytes_of shelf.old }
     ensures read_fault { result.outcome ≡ ToolOutcome.ReadFault → Rose (F.faults shelf.old) (F.faults shelf.new) }
     ensures not_written { IsBeforePage result.outcome }
