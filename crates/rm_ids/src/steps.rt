@@ -6,10 +6,12 @@ ghost use Rattle.rm_ids.specs.Steps.{AreFields, Refuses, LeavesWord, Passes, Sto
 
 use crate::numbers::longest_front;
 use crate::parts::Part;
+use thiserror::Error;
 
 /// Bytes that are no text of an id, with how many of them are left behind the longest front with which one
 /// begins.
-#[derive(Clone, Copy, Debug, PartialEq, Eq)]
+#[derive(Clone, Copy, Debug, PartialEq, Eq, Error)]
+#[error("no text of an id: {left} bytes are left behind its front")]
 pub(crate) struct Stop {
     pub left: usize,
 }
