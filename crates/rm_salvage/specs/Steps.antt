@@ -2,6 +2,7 @@
 use Rattle.std.specs.Prelude.{◌≡◌, ◌+◌, ◌<◌, ℕ, true, false, None, List, [], ◌∷◌, ◌++◌, All, length}
 use Rattle.rm_types.specs.declared.operations.Op.{Op}
 use Rattle.rm_types.specs.Records.{Records, records, fits_records, stray}
+use Rattle.rm_formats.specs.declared.TheConstants.{RECORD_HEAD}
 use Rattle.rm_formats.specs.Device.{IsPayload, journal_records}
 use Rattle.rm_journal.specs.Journal.{region_of}
 use Rattle.rm_store.specs.Content.{IsFrameOf, ReadsAs}
@@ -52,5 +53,5 @@ pub record WentOn (bytes : List ℕ) (end old_gate new_gate : ℕ) (old new : Li
   pub payload : List ℕ
   pub first : HasFirst (region_of old_gate end bytes) payload
   pub took : TookIn payload old new tree
-  pub gate : new_gate ≡ old_gate + (length payload + 5)
+  pub gate : new_gate ≡ old_gate + (length payload + RECORD_HEAD)
   pub room : new_gate < end
