@@ -1,12 +1,11 @@
 -- What entries by attempt give of the lists that contracts see, and of the attempts that wait.
-use Rattle.std.proofs.Common.{◌≡◌, Bool, true, false, not, List, [], ◌∷◌, ◌++◌, cond, filter, map, Option, None, Some, Result, Ok, Err, OnOk, OnErr, IfSome, IfNone, is_some, unwrap_or, Bor, refl, sym, ap, subst, ◌∙◌, arith}
+use Rattle.std.proofs.Common.{◌≡◌, Bool, true, false, not, List, [], ◌∷◌, ◌++◌, cond, filter, map, Option, None, Some, Result, Ok, Err, OnOk, OnErr, IfSome, IfNone, is_some, unwrap_or, Bor, refl, sym, ap, subst, ◌∙◌}
 use Rattle.std.specs.Prelude.{IsPermutation}
 use Rattle.std.specs.HashMap.{HashMap}
 use Rattle.std.specs.Option.{option_copied}
 use Rattle.indexmap.specs.Layout.{hash_map}
 use Rattle.std.specs.List.{AllByRecursion, IsDistinct, list_any}
 use Rattle.std.specs.Map.{keys_of, lookup, remove_entry, set_value}
-use Rattle.std.proofs.lemmas.Bool.Decides.{nat_tests}
 use Rattle.std.proofs.lemmas.List.Sorted.{IsPermutation-map}
 use Rattle.std.proofs.lemmas.Map.Keys.{IsDistinct-cons, IsDistinct-head, IsDistinct-tail}
 use Rattle.std.proofs.lemmas.Map.Lookups.{hash_map_IsPermutation_from_get, map_keys}
@@ -27,6 +26,13 @@ same_ids = record { refl = attempt_itself; symm = attempt_back; congr = alike }
   where
     alike : (x y z : AttemptId) → is_attempt x y ≡ true → is_attempt x z ≡ is_attempt y z
     alike x y z e = ap (λ (a : AttemptId). is_attempt a z) (same_attempt x y e)
+
+-- two attempts beside a third, where the first or the second is that one
+same_beside : (attempt one third : AttemptId) → is_attempt attempt third ≡ true → is_attempt attempt one ≡ is_attempt one third
+same_beside attempt one third e = ap (λ (a : AttemptId). is_attempt a one) (same_attempt attempt third e) ∙ attempt_back third one
+
+apart_beside : (attempt one third : AttemptId) → is_attempt attempt third ≡ false → is_attempt one third ≡ true → is_attempt attempt one ≡ false
+apart_beside attempt one third e f = ap (is_attempt attempt) (same_attempt one third f) ∙ e
 
 none_either : {A : Type 0} (b : Bool) → ◌≡◌ {A = Option A} None (cond b None None)
 none_either true = refl
@@ -130,13 +136,13 @@ module _ (attempt : AttemptId) where
           → lookup (is_attempt one) (insert_entry is_attempt entries attempt lines) ≡ cond (is_attempt attempt one) (Some lines) (lookup (is_attempt one) entries)
           → lookup (is_attempt one) (insert_entry is_attempt (entry ∷ entries) attempt lines) ≡ cond (is_attempt attempt one) (Some lines) (lookup (is_attempt one) (entry ∷ entries))
       by true true e f rest =
-          let same : is_attempt attempt one ≡ true = grind (arith, nat_tests) in
+          let same : is_attempt attempt one ≡ true = same_beside attempt one entry.0 e ∙ f in
           rw (e, f, same) refl
       by true false e f rest =
-          let other : is_attempt attempt one ≡ false = grind (arith, nat_tests) in
+          let other : is_attempt attempt one ≡ false = same_beside attempt one entry.0 e ∙ f in
           rw (e, f, other) refl
       by false true e f rest =
-          let other : is_attempt attempt one ≡ false = grind (arith, nat_tests) in
+          let other : is_attempt attempt one ≡ false = apart_beside attempt one entry.0 e f in
           rw (e, f, other) refl
       by false false e f rest = rw (e, f) rest
 
@@ -197,14 +203,14 @@ module _ (attempt : AttemptId) where
           → lookup (is_attempt one) (remove_entry (is_attempt attempt) entries) ≡ cond (is_attempt attempt one) None (lookup (is_attempt one) entries)
           → lookup (is_attempt one) (remove_entry (is_attempt attempt) (entry ∷ entries)) ≡ cond (is_attempt attempt one) None (lookup (is_attempt one) (entry ∷ entries))
       by true true e f rest =
-          let same : is_attempt attempt one ≡ true = grind (arith, nat_tests) in
+          let same : is_attempt attempt one ≡ true = same_beside attempt one entry.0 e ∙ f in
           let whole = same_attempt attempt one same in
           rw (e, f, same) (subst (λ (a : AttemptId). lookup (is_attempt a) entries ≡ None) whole (not_found entries (no_key entries entry.0 e (IsDistinct-head is_attempt entry.0 (keys_of entries) d))))
       by true false e f rest =
-          let other : is_attempt attempt one ≡ false = grind (arith, nat_tests) in
+          let other : is_attempt attempt one ≡ false = same_beside attempt one entry.0 e ∙ f in
           rw (e, f, other) refl
       by false true e f rest =
-          let other : is_attempt attempt one ≡ false = grind (arith, nat_tests) in
+          let other : is_attempt attempt one ≡ false = apart_beside attempt one entry.0 e f in
           rw (e, f, other) refl
       by false false e f rest = rw (e, f) rest
 

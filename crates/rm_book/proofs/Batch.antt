@@ -18,7 +18,7 @@ use Rattle.rm_types.proofs.TestLemmas.{same_text}
 use Rattle.rm_book.specs.Books.{AreNew, are_on, granted_rows, is_held, is_of, sizes_on, taken_rows}
 use Rattle.rm_book.specs.Kept.{AreFresh, entered_rows, held_of}
 use Rattle.rm_book.proofs.Splits.{filter_split}
-use Rattle.rm_book.proofs.Taken.{fresh_after}
+use Rattle.rm_book.proofs.TakenRows.{fresh_after}
 
 module _ (state : ContainerState) (node : List ℕ) where
   abbrev row_of_held : ℕ → Held → BookRow

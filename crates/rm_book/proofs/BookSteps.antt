@@ -23,7 +23,7 @@ use Rattle.rm_book.specs.Kept.{AreUsed, IsKept, IsSum, IsWithin, entered_rows, h
 use Rattle.rm_book.proofs.Batch.{entered_elsewhere, entered_sizes}
 use Rattle.rm_book.proofs.Changes.{acquires, book_left, fits_known}
 use Rattle.rm_book.proofs.Kept.{apart_changed}
-use Rattle.rm_book.proofs.Left.{stepped}
+use Rattle.rm_book.proofs.LeavingSteps.{stepped}
 use Rattle.rm_book.proofs.Loads.{capability_shown}
 use Rattle.rm_book.proofs.Rows.{sum_joined}
 use Rattle.rm_book.proofs.Splits.{map_none}

@@ -11,9 +11,9 @@ use Rattle.rm_types.specs.Ids.{is_attempt}
 use Rattle.rm_book.specs.AskLines.{AreLines, AttemptAsks, IsAskTable, ask_of, asks_in, asks_of_entry, by_order, lines_in, lines_set, order_of, put_by, with_lines}
 use Rattle.rm_book.specs.AskTables.{AsksOf, asks_of, asks_set, with_asks_of}
 use Rattle.rm_book.specs.ManyAsks.{all_asked, asks_after, lines_after}
-use Rattle.rm_book.proofs.Asked.{set_lawful}
+use Rattle.rm_book.proofs.LineSteps.{set_lawful}
 use Rattle.rm_book.proofs.Entries.{Changed, changed, lawful_lines, lists_later}
-use Rattle.rm_book.proofs.Viewed.{lines_view, set_view, view_of}
+use Rattle.rm_book.proofs.AskViews.{lines_view, set_view, view_of}
 
 -- a step of the loop that sets one ask more
 pub step : (asks : List Ask) (place : ℕ) (none : Ask) (order : ℕ) (lines new : List AskLine) (all : List AskLine) → place < length asks

@@ -23,7 +23,7 @@ use Rattle.rm_types.proofs.IdLemmas.{attempt_back, same_container, attempt_itsel
 use Rattle.rm_book.specs.AskTables.{some_asks}
 use Rattle.rm_book.specs.Books.{AreNew, are_on, is_of, sizes_of}
 use Rattle.rm_book.proofs.Lists.{all_more}
-use Rattle.rm_book.proofs.Numbered.{all_by_priority}
+use Rattle.rm_book.proofs.LineOrders.{all_by_priority}
 use Rattle.rm_fit.specs.Conditions.{AreApart, has_turn, is_past, are_past, is_some_size, are_some_sizes}
 use Rattle.rm_fit.specs.Turns.{Spot, granted, granted_from, left_after, turn_left, turn_grants}
 use Rattle.rm_fit.proofs.Counting.{fitting_fits}

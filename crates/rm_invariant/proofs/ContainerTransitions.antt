@@ -39,7 +39,7 @@ use Rattle.rm_container.specs.declared.states.ContainerAction.TheVariants.{Nothi
 use Rattle.rm_container.specs.Table.{Row as ContainerTableRow}
 use Rattle.rm_book.specs.Books.{AreLiving, BookOf, IsBook, entering, granted_rows, is_held, is_living, is_of, row_of, row_taken, taken_rows, with_grants, with_taken, without_rows}
 use Rattle.rm_book.specs.Granted.{AllMayBeTold, grants_to, may_be_told}
-use Rattle.rm_book.proofs.Untold.{granted_to_told, told_filter}
+use Rattle.rm_book.proofs.UntoldGrants.{granted_to_told, told_filter}
 use Rattle.rm_model.specs.Containers.{is_granted, once}
 use Rattle.rm_model.specs.Facts.{has_container}
 use Rattle.rm_model.specs.NodeReplies.{reported}

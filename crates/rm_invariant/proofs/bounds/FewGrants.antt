@@ -11,7 +11,7 @@ use Rattle.rm_types.specs.Passes.{PassNode, by_priority, pass_list, total_of}
 use Rattle.rm_types.specs.Resources.{difference_of}
 use Rattle.rm_book.specs.AskTables.{asks_of}
 use Rattle.rm_book.specs.Books.{capability_of, sizes_on}
-use Rattle.rm_book.proofs.Numbered.{all_by_priority}
+use Rattle.rm_book.proofs.LineOrders.{all_by_priority}
 use Rattle.rm_fit.specs.Conditions.{are_some_sizes, have_sizes, is_some_size}
 use Rattle.rm_fit.specs.Turns.{Spot, turn_grants, turn_left}
 use Rattle.rm_fit.proofs.Passing.{pass_grants, pass_whole, turn_within}

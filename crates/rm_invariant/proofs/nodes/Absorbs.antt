@@ -12,7 +12,7 @@ use Rattle.rm_types.specs.Ids.{is_container}
 use Rattle.rm_types.proofs.TestLemmas.{and_first}
 use Rattle.rm_types.proofs.IdLemmas.{container_itself, same_container}
 use Rattle.rm_book.specs.Books.{AreOnce}
-use Rattle.rm_book.proofs.Taken.{held_filter}
+use Rattle.rm_book.proofs.TakenRows.{held_filter}
 use Rattle.rm_model.specs.Absorbing.{absorbed, as_booked, as_counted, as_reported, is_held, may_take, row_absorbed, row_taken, taken_of, with_counted, with_taken}
 use Rattle.rm_model.specs.Attempts.{attempt_was_first}
 use Rattle.rm_model.specs.Containers.{is_living, leave, lives_on, row_of, without_launches}

@@ -2,8 +2,8 @@ use Rattle.std.proofs.Common.{append-nil, ◌≡◌, ◌∷◌, [], ◌++◌, ta
 use Rattle.std.specs.List.{filter_map, cons_option}
 use Rattle.std.proofs.lemmas.List.{take_all}
 use Rattle.rm_book.specs.Granted.{AllMayBeTold, grant_in, grants_to}
-use Rattle.rm_book.proofs.Listed.{granted_all, granted_more}
-use Rattle.rm_book.proofs.Untold.{granted_to_told}
+use Rattle.rm_book.proofs.IdLists.{granted_all, granted_more}
+use Rattle.rm_book.proofs.UntoldGrants.{granted_to_told}
 use Rattle.rm_book.proofs.granted.grants_to.Goals.{in-Some+in_ok-push, in_default}
 use Rattle.rm_book.proofs.granted.grants_to.Goals as goal
 

@@ -1,5 +1,5 @@
 use Rattle.std.proofs.Common.{refl, ◌∙◌}
-use Rattle.rm_book.proofs.Left.{left_more, none_left}
+use Rattle.rm_book.proofs.LeavingSteps.{left_more, none_left}
 use Rattle.rm_book.proofs.leaving.end_each.Goals as goal
 
 pub ids-preserved : goal.ids-preserved

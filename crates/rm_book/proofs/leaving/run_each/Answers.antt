@@ -1,5 +1,5 @@
 use Rattle.std.proofs.Common.{◌∙◌}
-use Rattle.rm_book.proofs.Left.{none_ran, ran_more}
+use Rattle.rm_book.proofs.LeavingSteps.{none_ran, ran_more}
 use Rattle.rm_book.proofs.leaving.run_each.Goals as goal
 
 pub taken-preserved : goal.taken-preserved

@@ -3,7 +3,7 @@ use Rattle.rm_types.specs.Passes.{by_priority}
 use Rattle.rm_book.specs.AskTables.{asks_of}
 use Rattle.rm_fit.specs.Conditions.{is_some_size}
 use Rattle.rm_fit.specs.Turns.{asks_by}
-use Rattle.rm_book.proofs.Numbered.{all_by_priority}
+use Rattle.rm_book.proofs.LineOrders.{all_by_priority}
 use Rattle.rm_fit.proofs.Fitting.{found_asks, found_sizes}
 use Rattle.rm_fit.proofs.Passing.{turn_within}
 use Rattle.rm_fit.proofs.passes.grant_attempt.Goals as goal

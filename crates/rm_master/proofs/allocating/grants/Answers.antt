@@ -1,6 +1,6 @@
 use Rattle.std.proofs.Common.{not, refl, rules}
 use Rattle.std.proofs.lemmas.Fn.{filter_same}
-use Rattle.rm_book.proofs.Untold.{told_filter}
+use Rattle.rm_book.proofs.UntoldGrants.{told_filter}
 use Rattle.rm_tables.specs.Leaving.{is_masters_in}
 use Rattle.rm_master.proofs.allocating.grants.Goals as goal
 

@@ -1,6 +1,6 @@
 use Rattle.std.proofs.Common.{refl, []}
 use Rattle.rm_book.proofs.Entries.{cleared}
-use Rattle.rm_book.proofs.Viewed.{changed_view, without_view}
+use Rattle.rm_book.proofs.AskViews.{changed_view, without_view}
 use Rattle.rm_book.proofs.asks.Asks.clear.Goals as goal
 
 pub invariant_of-self : goal.invariant_of-self

@@ -3,7 +3,7 @@ use Rattle.std.specs.List.{list_any}
 use Rattle.rm_book.specs.AskLines.{asks_of_entry, lines_in}
 use Rattle.rm_book.specs.AskTables.{asks_granted, is_for}
 use Rattle.rm_book.proofs.Entries.{granted_leaves}
-use Rattle.rm_book.proofs.Viewed.{any_same, changed_view, granted_table, granted_view, view_of}
+use Rattle.rm_book.proofs.AskViews.{any_same, changed_view, granted_table, granted_view, view_of}
 use Rattle.rm_book.proofs.asks.Asks.granted.Goals as goal
 
 pub invariant_of-self : goal.invariant_of-self

@@ -1,5 +1,5 @@
 use Rattle.std.proofs.Common.{sym, ◌∙◌}
-use Rattle.rm_book.proofs.Viewed.{none_view, some_view}
+use Rattle.rm_book.proofs.AskViews.{none_view, some_view}
 use Rattle.rm_book.proofs.asks.Asks.of.Goals as goal
 
 pub returns-in_err-lines : goal.returns-in_err-lines

@@ -2,7 +2,7 @@ use Rattle.std.proofs.Common.{◌∙◌, ap, map}
 use Rattle.rm_book.specs.AskLines.{asks_of_entry, lines_in}
 use Rattle.rm_book.specs.AskTables.{asks_set}
 use Rattle.rm_book.proofs.Entries.{set_leaves, lawful_lines}
-use Rattle.rm_book.proofs.Viewed.{changed_view, set_table, set_view}
+use Rattle.rm_book.proofs.AskViews.{changed_view, set_table, set_view}
 use Rattle.rm_book.proofs.asks.Asks.set.Goals as goal
 
 pub invariant_of-self-2 : goal.invariant_of-self-2

@@ -1,4 +1,4 @@
-use Rattle.rm_book.proofs.Viewed.{waiting_view}
+use Rattle.rm_book.proofs.AskViews.{waiting_view}
 use Rattle.rm_book.proofs.asks.Asks.waiting.Goals as goal
 
 pub returns : goal.returns

@@ -3,14 +3,13 @@ use Rattle.std.specs.Str.{bytes_eq}
 use Rattle.rm_types.specs.declared.containers.BookRow.{BookRow}
 use Rattle.rm_types.specs.declared.containers.ContainerState.TheVariants.{Running}
 use Rattle.rm_types.specs.declared.containers.Held.{Held}
-use Rattle.rm_types.specs.declared.ids.ContainerId.{ContainerId}
 use Rattle.rm_types.specs.declared.resources.Resource.{Resource}
 use Rattle.rm_types.specs.Passes.{total_of}
-use Rattle.rm_book.specs.Books.{AreLiving, entering, total_on}
-use Rattle.rm_book.specs.Kept.{entered_rows}
-use Rattle.rm_book.proofs.Absorbed.{absorbed_kept, entering_fits, fresh_entering, gone_of, living_left, ran_after}
+use Rattle.rm_book.specs.Books.{AreLiving, entering, total_on, with_capability}
+use Rattle.rm_book.specs.Kept.{entered_rows, shown}
+use Rattle.rm_book.proofs.AbsorbSteps.{absorbed_kept, entering_fits, fresh_entering, gone_of, left_after, living_left, ran_after}
 use Rattle.rm_book.proofs.BookSteps.{seen, sums_entered, used_set, within_kept}
-use Rattle.rm_book.proofs.Left.{staying}
+use Rattle.rm_book.proofs.LeavingSteps.{staying}
 use Rattle.rm_book.proofs.book.Book.absorb.Goals as goal
 
 pub enter_all-requires-clause-new : goal.enter_all-requires-clause-new
@@ -39,40 +38,40 @@ end_each-requires g c =
     ∙ ap (λ (size : Resource). (total_on other c.self.inside.rows).vcores + cond (bytes_eq c.args.node.now other) size.vcores 0) (sym total))
     c.args.capability loads
 
+-- what is left of the rows with those that entered
+left : (g : _) (c : goal.After-drop-list-2 g) → c.end_each.new.rows
+    ≡ staying (gone_of c.self.inside.rows c.args.ended.now) (c.self.inside.rows ++ entered_rows Running c.self.inside.added c.args.node.now (entering (seen c.self.inside.nodes.map.entries c.self.inside.rows c.self.inside.added) c.args.taken.now))
+left g c =
+    left_after c.self.inside.nodes.map.entries c.self.inside.rows c.self.inside.added c.self.invariant c.args.node.now c.args.capability c.args.taken.now c.args.ended.now
+    c.in_ok-enter_all.ensures.ok (c.deref.ensures.value ∙ c.in_ok-list.ensures) c.end_each.ensures.rest (c.deref-3.ensures.value ∙ c.in_ok-gone.ensures)
+
+-- the capabilities after it
+nodes : (g : _) (c : goal.After-drop-list-2 g) → shown c.end_each.new.nodes.map.entries ≡ with_capability c.args.node.now c.args.capability (shown c.self.inside.nodes.map.entries)
+nodes g c =
+    let set = rw (c.in_ok-name.ensures.name, c.room.ensures.same) at c.set.ensures.shown in
+    c.end_each.ensures.shown ∙ set
+
+-- how many rows were ever added after it
+counted : (g : _) (c : goal.After-drop-list-2 g) → c.in-Some.added ≡ c.self.inside.added + length (entering (seen c.self.inside.nodes.map.entries c.self.inside.rows c.self.inside.added) c.args.taken.now)
+counted g c =
+    let before = rw c.len.ensures at c.in-Some.ensures.1 in
+    let many = ap length c.in_ok-list.ensures in
+    omega (arith, before, many, c.in_ok-list.list.ok.0)
+
 pub run_each-requires : goal.run_each-requires
 run_each-requires g c =
-    let joined : c.enter_all.new.rows ≡ c.self.inside.rows ++ entered_rows Running c.self.inside.added c.args.node.now (entering (seen c.self.inside.nodes.map.entries c.self.inside.rows c.self.inside.added) c.args.taken.now) =
-    c.in_ok-enter_all.ensures.ok ∙ ap (λ l. c.self.inside.rows ++ entered_rows Running c.self.inside.added c.args.node.now l) (c.deref.ensures.value ∙ c.in_ok-list.ensures) in
-    let left : c.end_each.new.rows ≡ staying (gone_of c.self.inside.rows c.args.ended.now) (c.self.inside.rows ++ entered_rows Running c.self.inside.added c.args.node.now (entering (seen c.self.inside.nodes.map.entries c.self.inside.rows c.self.inside.added) c.args.taken.now)) =
-    c.end_each.ensures.rest ∙ ap (λ (ids : List ContainerId). staying ids c.enter_all.new.rows) (c.deref-3.ensures.value ∙ c.in_ok-gone.ensures) ∙ ap (staying (gone_of c.self.inside.rows c.args.ended.now)) joined in
+    let left = left_after c.self.inside.nodes.map.entries c.self.inside.rows c.self.inside.added c.self.invariant c.args.node.now c.args.capability c.args.taken.now c.args.ended.now
+    c.in_ok-enter_all.ensures.ok (c.deref.ensures.value ∙ c.in_ok-list.ensures) c.end_each.ensures.rest (c.deref-3.ensures.value ∙ c.in_ok-gone.ensures) in
     subst AreLiving (sym left) (living_left c.self.inside.nodes.map.entries c.self.inside.rows c.self.inside.added c.self.invariant c.args.node.now c.args.capability c.args.taken.now c.args.ended.now)
 
 pub invariant_of-self-2 : goal.invariant_of-self-2
 invariant_of-self-2 g c =
     let fit = rw (← c.self.view_is) at c.requires.fit in
-    let joined : c.enter_all.new.rows ≡ c.self.inside.rows ++ entered_rows Running c.self.inside.added c.args.node.now (entering (seen c.self.inside.nodes.map.entries c.self.inside.rows c.self.inside.added) c.args.taken.now) =
-    c.in_ok-enter_all.ensures.ok ∙ ap (λ l. c.self.inside.rows ++ entered_rows Running c.self.inside.added c.args.node.now l) (c.deref.ensures.value ∙ c.in_ok-list.ensures) in
-    let left : c.end_each.new.rows ≡ staying (gone_of c.self.inside.rows c.args.ended.now) (c.self.inside.rows ++ entered_rows Running c.self.inside.added c.args.node.now (entering (seen c.self.inside.nodes.map.entries c.self.inside.rows c.self.inside.added) c.args.taken.now)) =
-    c.end_each.ensures.rest ∙ ap (λ (ids : List ContainerId). staying ids c.enter_all.new.rows) (c.deref-3.ensures.value ∙ c.in_ok-gone.ensures) ∙ ap (staying (gone_of c.self.inside.rows c.args.ended.now)) joined in
-    let set = rw (c.in_ok-name.ensures.name, c.room.ensures.same) at c.set.ensures.shown in
-    let nodes = c.end_each.ensures.shown ∙ set in
-    let before = rw c.len.ensures at c.in-Some.ensures.1 in
-    let many = ap length c.in_ok-list.ensures in
-    let counted : c.in-Some.added ≡ c.self.inside.added + length (entering (seen c.self.inside.nodes.map.entries c.self.inside.rows c.self.inside.added) c.args.taken.now) = omega (arith, before, many, c.in_ok-list.list.ok.0) in
     absorbed_kept c.self.inside.nodes.map.entries c.self.inside.rows c.self.inside.added c.self.invariant c.args.node.now c.args.capability c.args.taken.now c.args.ended.now
-    c.end_each.new.nodes.map.entries c.end_each.new.rows c.run_each.new.rows left c.run_each.ensures c.in-Some.added counted nodes c.end_each.ensures.used c.requires.once fit
+    c.end_each.new.nodes.map.entries c.end_each.new.rows c.run_each.new.rows (left g c) c.run_each.ensures c.in-Some.added (counted g c) (nodes g c) c.end_each.ensures.used c.requires.once fit
 
 pub returns-clause-ok : goal.returns-clause-ok
 returns-clause-ok g c =
-    let joined : c.enter_all.new.rows ≡ c.self.inside.rows ++ entered_rows Running c.self.inside.added c.args.node.now (entering (seen c.self.inside.nodes.map.entries c.self.inside.rows c.self.inside.added) c.args.taken.now) =
-    c.in_ok-enter_all.ensures.ok ∙ ap (λ l. c.self.inside.rows ++ entered_rows Running c.self.inside.added c.args.node.now l) (c.deref.ensures.value ∙ c.in_ok-list.ensures) in
-    let left : c.end_each.new.rows ≡ staying (gone_of c.self.inside.rows c.args.ended.now) (c.self.inside.rows ++ entered_rows Running c.self.inside.added c.args.node.now (entering (seen c.self.inside.nodes.map.entries c.self.inside.rows c.self.inside.added) c.args.taken.now)) =
-    c.end_each.ensures.rest ∙ ap (λ (ids : List ContainerId). staying ids c.enter_all.new.rows) (c.deref-3.ensures.value ∙ c.in_ok-gone.ensures) ∙ ap (staying (gone_of c.self.inside.rows c.args.ended.now)) joined in
-    let set = rw (c.in_ok-name.ensures.name, c.room.ensures.same) at c.set.ensures.shown in
-    let nodes = c.end_each.ensures.shown ∙ set in
-    let before = rw c.len.ensures at c.in-Some.ensures.1 in
-    let many = ap length c.in_ok-list.ensures in
-    let counted : c.in-Some.added ≡ c.self.inside.added + length (entering (seen c.self.inside.nodes.map.entries c.self.inside.rows c.self.inside.added) c.args.taken.now) = omega (arith, before, many, c.in_ok-list.list.ok.0) in
     let rows = ran_after c.self.inside.nodes.map.entries c.self.inside.rows c.self.inside.added c.self.invariant c.args.node.now c.args.capability c.args.taken.now c.args.ended.now
-    c.end_each.new.nodes.map.entries c.end_each.new.rows c.run_each.new.rows left c.run_each.ensures in
-    rw (← c.self.view_is) (rw (rows, nodes, counted) refl)
+    c.end_each.new.nodes.map.entries c.end_each.new.rows c.run_each.new.rows (left g c) c.run_each.ensures in
+    rw (← c.self.view_is) (rw (rows, nodes g c, counted g c) refl)

@@ -4,7 +4,7 @@ use Rattle.indexmap.proofs.CallerLemmas.{keys-shift_remove_entry}
 use Rattle.indexmap.specs.IndexSet.{remove_key}
 use Rattle.rm_types.specs.Ids.{is_container}
 use Rattle.rm_book.specs.Kept.{ids_in, ids_under}
-use Rattle.rm_book.proofs.Grouped.{changed_group, no_group, there}
+use Rattle.rm_book.proofs.GroupSteps.{changed_group, no_group, there}
 use Rattle.rm_book.proofs.groups.Groups.leave.Goals as goal
 
 pub returns-in-Some-clause-ids : goal.returns-in-Some-clause-ids

@@ -3,7 +3,7 @@ use Rattle.std.specs.Str.{bytes_eq}
 use Rattle.indexmap.proofs.CallerLemmas.{insert_entry-new}
 use Rattle.rm_book.specs.declared.node_table.NodeLoad.{NodeLoad}
 use Rattle.rm_book.specs.Kept.{shown}
-use Rattle.rm_book.proofs.Grouped.{at_ok}
+use Rattle.rm_book.proofs.GroupSteps.{at_ok}
 use Rattle.rm_book.proofs.Loads.{shown_enter}
 use Rattle.rm_book.proofs.node_table.NodeTable.enter.Goals as goal
 

@@ -4,7 +4,7 @@ use Rattle.std.specs.Map.{values_of}
 use Rattle.rm_types.specs.declared.ids.ContainerId.{ContainerId}
 use Rattle.rm_types.specs.Ids.{is_attempt}
 use Rattle.std.proofs.Common.{Bool}
-use Rattle.rm_book.proofs.Listed.{later_ids}
+use Rattle.rm_book.proofs.IdLists.{later_ids}
 use Rattle.rm_book.proofs.row_table.RowTable.has_later.Goals as goal
 
 pub returns : goal.returns

@@ -20,9 +20,9 @@ use Rattle.rm_book.specs.Books.{AreLiving, AreOnce, BookOf, entering, is_of, row
 use Rattle.rm_book.specs.Kept.{AreFresh, AreUsed, IsKept, entered_rows, shown}
 use Rattle.rm_book.proofs.Batch.{entered_sizes, entered_taken}
 use Rattle.rm_book.proofs.BookSteps.{seen, used_same}
-use Rattle.rm_book.proofs.Left.{staying}
+use Rattle.rm_book.proofs.LeavingSteps.{staying}
 use Rattle.rm_book.proofs.Rows.{living_filter, living_joined, sum_joined}
-use Rattle.rm_book.proofs.Taken.{fresh_of, living_taken, running_stay, sizes_stay, taken_lawful}
+use Rattle.rm_book.proofs.TakenRows.{fresh_of, living_taken, running_stay, sizes_stay, taken_lawful}
 
 module _ (all : List BookRow) (ended : List ContainerId) where
   -- those that ended and have rows
@@ -91,6 +91,12 @@ module _ (loads : List (List ℕ × NodeLoad)) (rows : List BookRow) (added : �
   left_rows =
       filter-append (λ row. not (list_any (λ id. is_container id row.id) gone)) rows new_rows
       ∙ ap (λ l. l ++ staying gone new_rows) (stay_known rows ended rows (λ id none. none)) ∙ ap (λ l. staying ended rows ++ l) (stay_new rows ended node added taken)
+
+  -- what is left where these rows entered and then those went
+  pub left_after : {in_rows left : List BookRow} {held : List Held} {ids : List ContainerId} → in_rows ≡ rows ++ entered_rows Running added node held → held ≡ list
+      → left ≡ staying ids in_rows → ids ≡ gone → left ≡ staying gone joined
+  left_after {in_rows} {left} {held} {ids} entered is_list is_left is_gone =
+      is_left ∙ ap (λ (ids : List ContainerId). staying ids in_rows) is_gone ∙ ap (staying gone) (entered ∙ ap (λ (l : List Held). rows ++ entered_rows Running added node l) is_list)
 
   rows_after : map (row_taken taken) (staying gone joined) ≡ after.rows
   rows_after =

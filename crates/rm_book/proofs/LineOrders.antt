@@ -8,7 +8,7 @@ use Rattle.rm_types.specs.declared.containers.AskLine.{AskLine}
 use Rattle.rm_types.specs.Passes.{put_by_priority, by_priority}
 use Rattle.rm_book.specs.AskLines.{AreInOrder, ask_of, asks_in, by_order, in_line, is_before, order_of, placed, put_by}
 use Rattle.rm_book.proofs.Lists.{all_filter, all_map, all_more}
-use Rattle.rm_book.proofs.Sorted.{all_put, all_sorted, put_behind}
+use Rattle.rm_book.proofs.NumberedLists.{all_put, all_sorted, put_behind}
 
 -- a new line, which has the greatest number, is the last, wherever it is placed
 

@@ -13,8 +13,8 @@ use Rattle.rm_book.specs.AskTables.{AskNow, AsksOf, asks_of, asks_set, asks_gran
 use Rattle.rm_book.specs.AskLines.{AttemptAsks, AreLines, IsAskTable, ask_of, asks_in, asks_of_entry, by_order, in_line, is_line_for, lines_in, lines_set, lines_granted, order_of, put_by, with_lines}
 use Rattle.rm_book.proofs.Entries.{Changed, lawful_lines}
 use Rattle.rm_book.proofs.Lists.{any_view, filter_view, map_view}
-use Rattle.rm_book.proofs.Numbered.{placed_last, by_order_changed, by_order_filter, kept_in_order}
-use Rattle.rm_book.proofs.Sorted.{any_sorted}
+use Rattle.rm_book.proofs.LineOrders.{placed_last, by_order_changed, by_order_filter, kept_in_order}
+use Rattle.rm_book.proofs.NumberedLists.{any_sorted}
 
 -- an ask of a priority and size is one of a line of them
 pub any_same : (priority : ℕ) (size : Resource) (lines : List AskLine) → list_any (is_line_for priority size) lines ≡ list_any (is_for priority size) (asks_in lines)
