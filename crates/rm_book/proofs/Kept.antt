@@ -68,7 +68,7 @@ module _ (id : ContainerId) where
       by false e rest = rw (container_back row.id id, e) (ap (λ more. by_id row ∷ more) rest)
 
   module _ (change : BookRow → BookRow) (keeps : (row : BookRow) → (change row).id ≡ row.id) where
-    abbrev pub changed : List BookRow → List BookRow
+    abbrev changed : List BookRow → List BookRow
     changed rows = map (λ row. cond (is_of id row) (change row) row) rows
 
     changed_in : (rows : List BookRow) (old : BookRow) → AreApart rows → lookup (is_container id) (map by_id rows) ≡ Some old
@@ -146,7 +146,7 @@ module _ (id : ContainerId) where
       rw parts.0 (ap (λ more. one ∷ more) (not_there ids parts.1))
 
   -- a container that was added goes again
-  pub undone : (ids : List ContainerId) → list_any (is_container id) ids ≡ false → remove_key (is_container id) (ids ++ id ∷ []) ≡ ids
+  undone : (ids : List ContainerId) → list_any (is_container id) ids ≡ false → remove_key (is_container id) (ids ++ id ∷ []) ≡ ids
   undone [] none = rw (container_itself id) refl
   undone (one ∷ ids) none =
       let parts = or_parts (is_container id one) (list_any (is_container id) ids) none in
@@ -298,7 +298,7 @@ module _ {list : List (ContainerId × BookRow)} {nodes : Groups (List ℕ)} {app
     abbrev pub rows_stepped : List BookRow
     rows_stepped = changed id stepped (λ row. refl) rows
 
-    -- where a container has a row
+    -- an event comes to a container that has this row
     step_of : (old : BookRow) {list' : List (ContainerId × BookRow)} {untold' : Groups AttemptId} → lookup (is_container id) list ≡ Some old
         → list' ≡ set_value (is_container id) list (stepped old) → AreWithout is_attempt (is_untold id old.state) id untold untold'
         → AreRows list' nodes apps untold' × (values_of list' ≡ rows_stepped)
@@ -317,6 +317,7 @@ module _ {list : List (ContainerId × BookRow)} {nodes : Groups (List ℕ)} {app
           ap values_of e ∙ values_back rows_stepped,
         )
 
+    -- and to one that has some row
     pub stepped_kept : {list' : List (ContainerId × BookRow)} {untold' : Groups AttemptId} {former : ContainerState} → true ≡ is_some (lookup (is_container id) list)
         → ((old : BookRow) → lookup (is_container id) list ≡ Some old → (former ≡ old.state) × (list' ≡ set_value (is_container id) list (stepped old)))
         → AreWithout is_attempt (is_untold id former) id untold untold' → AreRows list' nodes apps untold' × (values_of list' ≡ rows_stepped)
@@ -326,7 +327,7 @@ module _ {list : List (ContainerId × BookRow)} {nodes : Groups (List ℕ)} {app
         by (Some old) at = step_of old at (wrote old at).1 (subst (λ state. AreWithout is_attempt (is_untold id state) id untold untold') (wrote old at).0 to)
         by None at = let some' : true ≡ false = some ∙ ap is_some at in cc
 
-    -- where it has none
+    -- where it has none, nothing changes
     pub unstepped_view : false ≡ is_some (lookup (is_container id) list) → rows_stepped ≡ rows
     unstepped_view none = map_none (is_of id) stepped rows (sym (none ∙ has_kept id))
 

@@ -261,7 +261,7 @@ fn join_untold(
     untold.add(&attempt, id)
 }
 
-/// Takes a container away from those of its attempt that nobody was told of, where it was among them: in this state.
+/// Takes a container in this state away from those of its attempt that nobody was told of, where it is among them.
 fn leave_untold(untold: &mut Groups<AttemptId>, id: ContainerId, state: ContainerState)
     ensures { AreWithout is_attempt (is_untold id state) id untold.old.map.entries untold.new.map.entries }
 {
