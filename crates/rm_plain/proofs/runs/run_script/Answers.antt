@@ -82,3 +82,9 @@ returns-clause-idle g c = λ none.
     let all = subst (λ (w : List ℕ). AllLived (by_letters (steps_of w)) g.D.Disk.view c.all_lives-opening.result.opening c.in-Ok.d c.all_lives-opening.new.d c.args.disk c.all_lives-opening.result.disk c.all_lives-opening.result.ended) c.new-schedule.ensures.whole c.all_lives-opening.ensures.all in
     let idle = all.idle (ap (λ (p : Place). p.lives) c.in-Ok.ensures.place ∙ none) in
     (c.into_log-log.ensures.log ∙ idle.0, idle.1, λ used. idle.2 (rw idle.0 (rw used refl)))
+
+pub returns-clause-begun : goal.returns-clause-begun
+returns-clause-begun g c = λ some. rw c.into_log-log.ensures.log (c.all_lives-opening.ensures.all.begun (rw c.in-Ok.ensures.place some))
+
+pub returns-clause-opening : goal.returns-clause-opening
+returns-clause-opening g c = λ some. c.all_lives-opening.ensures.all.opened (λ none. some (c.into_log-log.ensures.log ∙ none))
