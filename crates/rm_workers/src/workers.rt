@@ -246,7 +246,12 @@ fn run_helpers<S: Since + Send + Sync, G: Gate + Sync, R: Threads + Wait + Sync>
 }
 
 // The store's worker beside the six others, until the life is over or a halt stands.
-fn run_with_store<S: Since + Send + Sync, D: Disk + Drop + Send, G: Gate + Sync, R: Threads + Wait + Sync>(
+fn run_with_store<
+    S: Since + Send + Sync,
+    D: Disk + Drop + Send,
+    G: Gate + Sync,
+    R: Threads + Wait + Sync,
+>(
     rt: &R,
     baton: &Baton<Held<S>>,
     gate: &G,
