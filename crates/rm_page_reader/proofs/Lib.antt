@@ -1,2 +1,17 @@
 pub mod MessageRanges
 pub mod Fronts
+pub mod Halves
+pub mod Found
+pub mod Listing
+pub mod Scripting
+pub mod Moving
+pub mod Paging
+pub mod Lines
+pub mod Arrows
+pub mod EntryLines
+pub mod EntryParts
+pub mod Soaking
+pub mod Joined
+pub mod OpParts
+pub mod ReplyParts
+pub mod Modify

@@ -1,5 +1,5 @@
 -- What a script's line may say is in the ranges of a page.
-use Rattle.std.proofs.Common.{◌≡◌, ℕ, List, All, arith, subst, sym}
+use Rattle.std.proofs.Common.{ℕ, List, All, arith, subst, sym}
 use Rattle.std.proofs.lemmas.List.Elements.{All-weaker}
 use Rattle.rm_types.specs.declared.containers.Ask.{Ask}
 use Rattle.rm_types.specs.declared.containers.Held.{Held}

@@ -1,62 +1,114 @@
-ghost use Rattle.std.specs.Prelude.{All, IfOk, IsTrue, length, ◌+◌, ◌≤◌};
+ghost use Rattle.std.specs.Prelude.{◌≡◌, ◌↔◌, ◌∷◌, ◌++◌, ◌&&◌, ◌≢◌, [], None, true, false, Ok, All, IfOk, IfErr, IfSome, IsTrue, List, ℕ, length, drop, map, codes};
+ghost use Rattle.rm_types.specs.declared.entries.Entry.{Entry as AnyEntry};
+ghost use Rattle.rm_types.specs.declared.messages.Message.{Message as AnyMessage};
+ghost use Rattle.rm_types.specs.declared.replies.Reply.{Reply as AnyReply};
+ghost use Rattle.rm_types.specs.Lanes.{sender_of};
 ghost use Rattle.rm_types.specs.Ranges.{IsContainerId, IsText};
 ghost use Rattle.rm_types.specs.declared.texts.TextKind.TheVariants.{Node};
-ghost use Rattle.rm_page.specs.Ranges.{IsEntry, IsGrant, MayAnswer};
+ghost use Rattle.rm_formats.specs.Page.{line_of};
+ghost use Rattle.rm_formats.specs.Wording.{bracketed, message_text, reply_text};
+ghost use Rattle.rm_page.specs.Ranges.{IsEntry, IsGrant, IsServed, MayAnswer};
+ghost use Rattle.rm_page.proofs.Bytes.{cut, lacks};
+ghost use Rattle.rm_page_reader.specs.Answers.{GivesLine, IsPlain, IsTold, frees, is_free, served_entry, served_text};
+ghost use Rattle.rm_page_reader.specs.Pieces.{entry_pieces};
+ghost use Rattle.rm_page_reader.specs.Results.{IsOf, Finds, Takes, IsLastCut};
+ghost use Rattle.rm_page_reader.specs.Told.{IsOfScript, IsManagerEntry};
+ghost use Rattle.rm_types.specs.declared.entries.Entry.TheVariants.{Pass};
 
 use crate::errors::LineError;
 use crate::lists::{ByContainer, NO_SIZE, Reading, Whole, bracketed, cause, list_behind};
 use crate::messages::message;
 use crate::operations::operation;
 use crate::replies::reply;
-use crate::words::{Words, text};
-use rm_ids::{read_app, read_attempt, read_container};
+use crate::words::{Words, before, behind, halves};
 use rm_types::{
     Boxed, ClientAsk, ContainerId, Duplicate, Entry, Grant, Held, Items, Message, NoMemory, Reply,
     Sender, Text, TextKind,
 };
 use std::alloc::Global;
 
-/// What stands between a message and its reply.
-const ARROW: &[u8] = b" -> ";
-
 /// The entry that a line tells, by the line without its line feed. No line tells a silent one.
 pub(crate) fn entry(alloc: Global, line: &[u8]) -> Result<Entry, LineError>
-    ensures { IfOk result IsEntry }
+    ensures told { IfOk result IsTold }
+    ensures only { (entry : AnyEntry) → IsManagerEntry entry → line_of entry ≡ line.now ++ codes "\n" → GivesLine result entry }
 {
     let mut words = Words::of(line);
-    match words.word()? {
-        b"opened" => opened(words),
-        b"issued" => Ok(Entry::Issued {
-            op: Boxed::new(alloc, operation(alloc, words)?)?,
-        }),
-        b"kept" => Ok(Entry::Kept {
-            op: Boxed::new(alloc, operation(alloc, words)?)?,
-        }),
-        b"blown" => blown(words),
-        b"served" => served(alloc, words.rest()?),
-        b"accepted" => accepted(words),
-        b"queued" => queued(words),
-        b"absorbed" => absorbed(alloc, words),
-        b"pass" => pass(alloc, words),
-        b"ordered" => ordered(alloc, words),
-        b"ended" => ended(alloc, words),
-        b"settled" => bare(words, Entry::Settled),
-        b"down" => bare(words, Entry::Down),
-        _ => Err(LineError::NotALine),
+    let word = words.word()?;
+    if word == "served".as_bytes() {
+        served(alloc, words.rest()?)
+    } else {
+        plain(alloc, word, words)
     }
 }
 
-/// The entry whose line is one word, where no other follows.
-fn bare(words: Words<'_>, entry: Entry) -> Result<Entry, LineError>
-    requires { IsEntry entry }
-    ensures { IfOk result IsEntry }
+/// An entry that says of no message that it was answered, by the first word of its line and the others.
+#[tactic(auto, using(crate::proofs::Found::at_word, crate::proofs::EntryParts::no_entry))]
+fn plain(alloc: Global, word: &[u8], words: Words<'_>) -> Result<Entry, LineError>
+    ensures { Finds result (IsOf entry_pieces IsPlain (word.now ∷ words.entry)) }
+{
+    if word == "opened".as_bytes() {
+        opened(words)
+    } else if word == "issued".as_bytes() {
+        issued(alloc, words)
+    } else if word == "kept".as_bytes() {
+        kept(alloc, words)
+    } else if word == "blown".as_bytes() {
+        blown(words)
+    } else if word == "accepted".as_bytes() {
+        accepted(words)
+    } else if word == "queued".as_bytes() {
+        queued(words)
+    } else if word == "absorbed".as_bytes() {
+        absorbed(alloc, words)
+    } else if word == "pass".as_bytes() {
+        pass(alloc, words)
+    } else if word == "ordered".as_bytes() {
+        ordered(alloc, words)
+    } else if word == "ended".as_bytes() {
+        ended(alloc, words)
+    } else if word == "settled".as_bytes() {
+        settled(words)
+    } else if word == "down".as_bytes() {
+        down(words)
+    } else {
+        Err(LineError::NotALine)
+    }
+}
+
+fn settled(words: Words<'_>) -> Result<Entry, LineError>
+    ensures { Finds result (IsOf entry_pieces IsPlain (codes "settled" ∷ words.entry)) }
 {
     words.end()?;
-    Ok(entry)
+    Ok(Entry::Settled)
+}
+
+fn down(words: Words<'_>) -> Result<Entry, LineError>
+    ensures { Finds result (IsOf entry_pieces IsPlain (codes "down" ∷ words.entry)) }
+{
+    words.end()?;
+    Ok(Entry::Down)
+}
+
+fn issued(alloc: Global, words: Words<'_>) -> Result<Entry, LineError>
+    ensures { Finds result (IsOf entry_pieces IsPlain (codes "issued" ∷ words.entry)) }
+{
+    let op = operation(alloc, words)?;
+    Ok(Entry::Issued {
+        op: Boxed::new(alloc, op)?,
+    })
+}
+
+fn kept(alloc: Global, words: Words<'_>) -> Result<Entry, LineError>
+    ensures { Finds result (IsOf entry_pieces IsPlain (codes "kept" ∷ words.entry)) }
+{
+    let op = operation(alloc, words)?;
+    Ok(Entry::Kept {
+        op: Boxed::new(alloc, op)?,
+    })
 }
 
 fn opened(mut words: Words<'_>) -> Result<Entry, LineError>
-    ensures { IfOk result IsEntry }
+    ensures { Finds result (IsOf entry_pieces IsPlain (codes "opened" ∷ words.entry)) }
 {
     let landed = words.number(b"landed=")?;
     let epoch = words.number(b"epoch=")?;
@@ -70,28 +122,31 @@ fn opened(mut words: Words<'_>) -> Result<Entry, LineError>
 }
 
 fn blown(mut words: Words<'_>) -> Result<Entry, LineError>
-    ensures { IfOk result IsEntry }
+    ensures { Finds result (IsOf entry_pieces IsPlain (codes "blown" ∷ words.entry)) }
 {
     let passed = words.number(b"passed=")?;
     words.end()?;
     Ok(Entry::Blown { passed })
 }
 
-/// An answered message: what stands before the arrow, and its reply behind it. Where spaces may stand in the message, an
-/// arrow may too, and none in the reply; so the last arrow counts there, and else the first.
+/// An answered message: what stands before the arrow, and its reply behind it.
 fn served(alloc: Global, text: &[u8]) -> Result<Entry, LineError>
-    ensures { IfOk result IsEntry }
+    ensures told { IfOk result IsTold }
+    ensures only { (message : AnyMessage) (reply : AnyReply) → IsOfScript message → IsServed message reply → text.now ≡ served_text message reply → GivesLine result (served_entry message reply) }
 {
-    let place = if may_have_spaces(text)? {
-        last_arrow(text)?
-    } else {
-        first_arrow(text)?
-    };
-    let message = message(alloc, &text[..place])?;
-    let reply = reply(alloc, &text[place + ARROW.len()..])?;
+    let (asked, answered) = around_arrow(text)?;
+    let message = message(alloc, asked)?;
+    let reply = reply(alloc, answered)?;
     if !may_answer(&message, &reply) {
         return Err(LineError::NotALine);
     }
+    Ok(served_of(alloc, message, reply)?)
+}
+
+/// The entry that says that the message was answered so.
+fn served_of(alloc: Global, message: Message, reply: Reply) -> Result<Entry, NoMemory>
+    ensures { IfOk result (λ entry. entry ≡ served_entry message reply) }
+{
     Ok(Entry::Served {
         sender: sender_of(&message),
         message: Boxed::new(alloc, message)?,
@@ -99,50 +154,72 @@ fn served(alloc: Global, text: &[u8]) -> Result<Entry, LineError>
     })
 }
 
+/// What stands before the arrow, and what behind it. Where spaces may stand in the message, an arrow may too, and none in the
+/// reply; so the last `>` is the arrow's there, and else the first.
+fn around_arrow(text: &[u8]) -> Result<(&[u8], &[u8]), LineError>
+    ensures halves { (message : AnyMessage) (reply : AnyReply) → IsServed message reply → text.now ≡ served_text message reply → IfOk result (λ halves. (halves.0.now ≡ message_text message) × (halves.1.now ≡ reply_text reply)) }
+    ensures some { (message : AnyMessage) (reply : AnyReply) → IsServed message reply → text.now ≡ served_text message reply → IfErr result (λ error. ⊥) }
+{
+    let (front, back) = at_arrow(text)?;
+    Ok((before(front, b" -")?, behind(back, b" ")?))
+}
+
+/// What stands before the arrow's `>`, and what behind it.
+fn at_arrow(text: &[u8]) -> Result<(&[u8], &[u8]), LineError>
+    ensures halves { (message : AnyMessage) (reply : AnyReply) → IsServed message reply → text.now ≡ served_text message reply → IfOk result (λ halves. (halves.0.now ≡ message_text message ++ codes " -") × (halves.1.now ≡ codes " " ++ reply_text reply)) }
+    ensures some { (message : AnyMessage) (reply : AnyReply) → IsServed message reply → text.now ≡ served_text message reply → IfErr result (λ error. ⊥) }
+{
+    if may_have_spaces(text)? {
+        match last_halves(text, b'>') {
+            Some((front, back)) => Ok((front, back)),
+            None => Err(LineError::NotALine),
+        }
+    } else {
+        match halves(text, b'>') {
+            Some((front, back)) => Ok((front, back)),
+            None => Err(LineError::NotALine),
+        }
+    }
+}
+
 /// Whether the message with which the text begins is one in whose last text spaces may stand.
-fn may_have_spaces(text: &[u8]) -> Result<bool, LineError> {
+fn may_have_spaces(text: &[u8]) -> Result<bool, LineError>
+    ensures { (sender name verb : List ℕ) (more : List (List ℕ)) → cut 32 text.now ≡ sender ∷ name ∷ verb ∷ more → result ≡ Ok (is_free sender verb) }
+{
     let mut words = Words::of(text);
     let sender = words.word()?;
     let _name = words.word()?;
     let verb = words.word()?;
-    Ok(matches!(
-        (sender, verb),
-        (b"client", b"submit") | (b"master", b"finish")
-    ))
+    Ok(is_free(sender, verb))
 }
 
-/// Where the first arrow stands.
-fn first_arrow(text: &[u8]) -> Result<usize, LineError>
-    ensures { IfOk result (λ place. place + 4 ≤ length text.now) }
+/// The same by the sender and the word that says what it asks.
+fn is_free(sender: &[u8], verb: &[u8]) -> bool
+    ensures { result ≡ is_free sender.now verb.now }
 {
-    let mut place = 0;
-    'places: while text.len() - place >= ARROW.len() {
-        if text[place..].starts_with(ARROW) {
-            return Ok(place);
-        }
-        place += 1;
-    }
-    Err(LineError::NotALine)
+    (sender == "client".as_bytes() && verb == "submit".as_bytes())
+        || (sender == "master".as_bytes() && verb == "finish".as_bytes())
 }
 
-/// Where the last arrow stands.
-fn last_arrow(text: &[u8]) -> Result<usize, LineError>
-    ensures { IfOk result (λ place. place + 4 ≤ length text.now) }
+/// What stands before the last such byte, and what behind it.
+fn last_halves(text: &[u8], byte: u8) -> Option<(&[u8], &[u8])>
+    ensures halves { IfSome result (λ halves. IsLastCut byte text.now halves.0.now halves.1.now) }
+    ensures none { result ≡ None → lacks byte text.now ≡ true }
 {
     let mut end = text.len();
-    'places: while end >= ARROW.len() {
-        let place = end - ARROW.len();
-        if text[place..].starts_with(ARROW) {
-            return Ok(place);
+    'places: while end > 0 {
+        let place = end - 1;
+        if text[place] == byte {
+            return Some((&text[..place], &text[end..]));
         }
-        end -= 1;
+        end = place;
     }
-    Err(LineError::NotALine)
+    None
 }
 
 /// Whether the reply may answer the message: a report answers only who asked for one.
 fn may_answer(message: &Message, reply: &Reply) -> bool
-    ensures { IsTrue result → MayAnswer message.now reply.now }
+    ensures { IsTrue result ↔ MayAnswer message.now reply.now }
 {
     match reply {
         Reply::Report(_) => matches!(message, Message::Client(_, ClientAsk::Report(_))),
@@ -150,7 +227,9 @@ fn may_answer(message: &Message, reply: &Reply) -> bool
     }
 }
 
-fn sender_of(message: &Message) -> Sender {
+fn sender_of(message: &Message) -> Sender
+    ensures { result ≡ sender_of message.now }
+{
     match message {
         Message::Client(..) => Sender::Client,
         Message::Master(..) => Sender::Master,
@@ -160,23 +239,23 @@ fn sender_of(message: &Message) -> Sender {
 }
 
 fn accepted(mut words: Words<'_>) -> Result<Entry, LineError>
-    ensures { IfOk result IsEntry }
+    ensures { Finds result (IsOf entry_pieces IsPlain (codes "accepted" ∷ words.entry)) }
 {
-    let app = read_app(words.word()?)?;
+    let app = words.app_id()?;
     words.end()?;
     Ok(Entry::Accepted { app })
 }
 
 fn queued(mut words: Words<'_>) -> Result<Entry, LineError>
-    ensures { IfOk result IsEntry }
+    ensures { Finds result (IsOf entry_pieces IsPlain (codes "queued" ∷ words.entry)) }
 {
-    let attempt = read_attempt(words.word()?)?;
+    let attempt = words.attempt_id()?;
     words.end()?;
     Ok(Entry::Queued { attempt })
 }
 
 fn absorbed(alloc: Global, mut words: Words<'_>) -> Result<Entry, LineError>
-    ensures { IfOk result IsEntry }
+    ensures { Finds result (IsOf entry_pieces IsPlain (codes "absorbed" ∷ words.entry)) }
 {
     let node = boxed_node(alloc, &mut words)?;
     let taken = boxed_list::<ByContainer, Held>(alloc, &mut words, b"taken=")?;
@@ -187,9 +266,9 @@ fn absorbed(alloc: Global, mut words: Words<'_>) -> Result<Entry, LineError>
 
 /// Takes the next word, a node's name.
 fn boxed_node(alloc: Global, words: &mut Words<'_>) -> Result<Boxed<Text>, LineError>
-    ensures { IfOk result (IsText Node) }
+    ensures { Takes result (λ node. node) (IsText Node) words.old words.new }
 {
-    let node = text(alloc, words.word()?, TextKind::Node)?;
+    let node = words.name(alloc, TextKind::Node)?;
     Ok(Boxed::new(alloc, node)?)
 }
 
@@ -199,16 +278,16 @@ fn boxed_list<R: Reading<T>, T: Drop>(
     words: &mut Words<'_>,
     name: &[u8],
 ) -> Result<Boxed<Items<T>>, LineError>
-    ensures { IfOk result (All R.is) }
+    ensures { Takes result (λ items. name.now ++ bracketed (map R.text items)) (All R.is) words.old words.new }
 {
     let list = list_behind::<R, T>(alloc, words, name)?;
     Ok(Boxed::new(alloc, list)?)
 }
 
 fn pass(alloc: Global, mut words: Words<'_>) -> Result<Entry, LineError>
-    ensures { IfOk result IsEntry }
+    ensures { Finds result (IsOf entry_pieces IsPlain (codes "pass" ∷ words.entry)) }
 {
-    let node = text(alloc, words.word()?, TextKind::Node)?;
+    let node = words.name(alloc, TextKind::Node)?;
     let ids = list_behind::<Whole, ContainerId>(alloc, &mut words, b"grants=")?;
     words.end()?;
     let grants = grants_on(alloc, &node, &ids)?;
@@ -217,9 +296,7 @@ fn pass(alloc: Global, mut words: Words<'_>) -> Result<Entry, LineError>
 
 /// The pass that makes these grants on a node.
 fn pass_of(alloc: Global, node: Text, grants: Items<Grant>) -> Result<Entry, NoMemory>
-    requires node { IsText Node node }
-    requires grants { All IsGrant grants }
-    ensures { IfOk result IsEntry }
+    ensures { IfOk result (λ entry. entry ≡ Pass node grants) }
 {
     Ok(Entry::Pass {
         node: Boxed::new(alloc, node)?,
@@ -231,7 +308,7 @@ fn pass_of(alloc: Global, node: Text, grants: Items<Grant>) -> Result<Entry, NoM
 fn grants_on(alloc: Global, node: &Text, ids: &Items<ContainerId>) -> Result<Items<Grant>, NoMemory>
     requires node { IsText Node node.now }
     requires ids { All IsContainerId ids.now }
-    ensures { IfOk result (All IsGrant) }
+    ensures { IfOk result (λ grants. All IsGrant grants × (map (λ grant. grant.id) grants ≡ ids.now)) }
 {
     let mut grants = Items::new(alloc);
     'ids: for id in ids.as_slice() {
@@ -244,7 +321,7 @@ fn grants_on(alloc: Global, node: &Text, ids: &Items<ContainerId>) -> Result<Ite
 fn grant_on(node: &Text, id: ContainerId) -> Result<Grant, NoMemory>
     requires node { IsText Node node.now }
     requires id { IsContainerId id }
-    ensures { IfOk result IsGrant }
+    ensures { IfOk result (λ grant. IsGrant grant × (grant.id ≡ id)) }
 {
     Ok(Grant {
         id,
@@ -254,9 +331,9 @@ fn grant_on(node: &Text, id: ContainerId) -> Result<Grant, NoMemory>
 }
 
 fn ordered(alloc: Global, mut words: Words<'_>) -> Result<Entry, LineError>
-    ensures { IfOk result IsEntry }
+    ensures { Finds result (IsOf entry_pieces IsPlain (codes "ordered" ∷ words.entry)) }
 {
-    let container = read_container(words.word()?)?;
+    let container = words.container_id()?;
     let node = boxed_node(alloc, &mut words)?;
     words.end()?;
     Ok(Entry::Ordered {
@@ -266,7 +343,7 @@ fn ordered(alloc: Global, mut words: Words<'_>) -> Result<Entry, LineError>
 }
 
 fn ended(alloc: Global, mut words: Words<'_>) -> Result<Entry, LineError>
-    ensures { IfOk result IsEntry }
+    ensures { Finds result (IsOf entry_pieces IsPlain (codes "ended" ∷ words.entry)) }
 {
     let cause = cause(words.word()?)?;
     let list = bracketed::<Whole, ContainerId>(alloc, words.word()?)?;

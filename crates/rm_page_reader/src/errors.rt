@@ -1,6 +1,9 @@
-use rm_ids::NotAnId;
-use rm_script::ScriptError;
-use rm_types::{NoMemory, TextError};
+ghost use Rattle.std.specs.Prelude.{◌≡◌};
+ghost use Rattle.rm_page_reader.specs.declared.errors.LineError.TheVariants.{Memory};
+ghost use Rattle.rm_page_reader.specs.declared.errors.PageError.TheVariants as pages;
+ghost use Rattle.rm_page_reader.specs.Results.{at_line};
+
+use rm_types::NoMemory;
 use std::alloc::{AllocError, AllocFailed};
 use thiserror::Error;
 
@@ -16,12 +19,16 @@ pub enum PageError {
 }
 
 impl From<NoMemory> for PageError {
+    ghost from_gives = { λ _ error. error ≡ pages.Memory };
+
     fn from(_error: NoMemory) -> PageError {
         PageError::Memory
     }
 }
 
 impl From<AllocError> for PageError {
+    ghost from_gives = { λ _ error. error ≡ pages.Memory };
+
     fn from(_error: AllocError) -> PageError {
         PageError::Memory
     }
@@ -40,7 +47,9 @@ pub(crate) enum LineError {
 
 impl LineError {
     /// The same of the page whose line this is.
-    pub(crate) fn at(self, line: u32) -> PageError {
+    pub(crate) fn at(self, line: u32) -> PageError
+        ensures { result ≡ at_line self line }
+    {
         match self {
             LineError::NotALine => PageError::NotAPage { line },
             LineError::Memory => PageError::Memory,
@@ -49,43 +58,25 @@ impl LineError {
 }
 
 impl From<NoMemory> for LineError {
+    ghost from_gives = { λ _ error. error ≡ Memory };
+
     fn from(_error: NoMemory) -> LineError {
         LineError::Memory
     }
 }
 
 impl From<AllocError> for LineError {
+    ghost from_gives = { λ _ error. error ≡ Memory };
+
     fn from(_error: AllocError) -> LineError {
         LineError::Memory
     }
 }
 
 impl<T: Drop> From<AllocFailed<T>> for LineError {
+    ghost from_gives = { λ _ error. error ≡ Memory };
+
     fn from(_failed: AllocFailed<T>) -> LineError {
         LineError::Memory
-    }
-}
-
-impl From<NotAnId> for LineError {
-    fn from(_error: NotAnId) -> LineError {
-        LineError::NotALine
-    }
-}
-
-impl From<TextError> for LineError {
-    fn from(error: TextError) -> LineError {
-        match error {
-            TextError::NotText { .. } => LineError::NotALine,
-            TextError::Memory => LineError::Memory,
-        }
-    }
-}
-
-impl From<ScriptError> for LineError {
-    fn from(error: ScriptError) -> LineError {
-        match error {
-            ScriptError::Refused { .. } => LineError::NotALine,
-            ScriptError::Memory => LineError::Memory,
-        }
     }
 }

@@ -1,20 +1,23 @@
-ghost use Rattle.std.specs.Prelude.{◌≡◌, not, All, IfOk};
-ghost use Rattle.std.specs.Vec.Iter.{into_iter_items};
+ghost use Rattle.std.specs.Prelude.{◌≡◌, ◌∷◌, ◌++◌, [], ℕ, List, not, true, false, All, IfOk, IfErr, IfSome, None, IsTrue, drop, length, ◌+◌, codes};
+ghost use Rattle.rm_types.specs.Lanes.{lane_of_entry};
+ghost use Rattle.rm_formats.specs.Page.{lane_letter, letters};
 ghost use Rattle.rm_page.specs.Ranges.{IsEntry};
 ghost use Rattle.rm_page.specs.Shown.{is_silent};
+ghost use Rattle.rm_page_reader.specs.Answers.{Fit, IsLogOf, IsSilentLetter, IsTold};
 
 use crate::errors::LineError;
-use crate::words::behind;
 use rm_page::page;
 use rm_types::{Entry, Items, Lane};
 use std::alloc::Global;
-use std::vec::IntoIter;
 
 /// How the last line of a page with moves begins.
 const MOVES: &[u8] = b"moves ";
 
 /// The letters of a line of moves, if it is one.
-pub(crate) fn letters_in(line: &[u8]) -> Option<&[u8]> {
+pub(crate) fn letters_in(line: &[u8]) -> Option<&[u8]>
+    ensures moves { IfSome result (λ letters. line.now ≡ codes "moves " ++ letters.now) }
+    ensures none { result ≡ None → (letters : List ℕ) → line.now ≡ codes "moves " ++ letters → ⊥ }
+{
     line.strip_prefix(MOVES)
 }
 
@@ -25,53 +28,55 @@ pub(crate) fn letters_in(line: &[u8]) -> Option<&[u8]> {
 pub(crate) fn with_moves(
     alloc: Global,
     heard: Items<Entry>,
-    letters: &[u8],
+    moves: &[u8],
 ) -> Result<Items<Entry>, LineError>
-    requires { All IsEntry heard }
-    ensures { IfOk result (All IsEntry) }
+    requires { All IsTold heard }
+    ensures log { IfOk result (IsLogOf heard moves.now) }
+    ensures only { IfErr result (λ error. Fit moves.now (letters heard) → error ≡ LineError.Memory) }
 {
-    let own = page(alloc, &heard, true)?;
-    let own = letters_at_end(own.as_slice(), heard.len());
+    let text = page(alloc, &heard, true)?;
+    let own = letters_at_end(text.as_slice(), heard.len());
     let mut log = Items::new(alloc);
     let mut place = 0;
-    let mut heard = heard.into_vec().into_iter();
-    'letters: for letter in letters {
-        let is_heard = own.get(place) == Some(letter);
-        log.push(next_entry(&mut heard, is_heard, *letter)?)?;
-        place += usize::from(is_heard);
+    let mut left = heard.into_vec().into_iter();
+    'letters: for letter in moves {
+        if is_at(own, place, *letter) {
+            log.push(left.next().ok_or(LineError::NotALine)?)?;
+            place += 1;
+        } else {
+            log.push(silent(*letter)?)?;
+        }
     }
-    match heard.next() {
+    match left.next() {
         Some(_) => Err(LineError::NotALine),
         None => Ok(log),
     }
 }
 
-/// The next entry that has a line, or the silent one with a letter.
-fn next_entry(heard: &mut IntoIter<Entry>, is_heard: bool, letter: u8) -> Result<Entry, LineError>
-    requires { All IsEntry (into_iter_items heard.old) }
-    ensures entry { IfOk result IsEntry }
-    ensures rest { All IsEntry (into_iter_items heard.new) }
+/// The last letters of a page with moves, as many as there are.
+fn letters_at_end(page: &[u8], count: usize) -> &[u8]
+    ensures none { page.now ≡ [] → result.now ≡ [] }
+    ensures own { (front own : List ℕ) → page.now ≡ front ++ (own ++ codes "\n") → count ≡ length own → result.now ≡ own }
 {
-    if is_heard {
-        heard.next().ok_or(LineError::NotALine)
+    if count < page.len() {
+        &page[page.len() - 1 - count..page.len() - 1]
     } else {
-        silent(letter)
+        &[]
     }
 }
 
-/// The last letters of a page with moves, as many as there are.
-fn letters_at_end(page: &[u8], count: usize) -> &[u8] {
-    let letters = page.strip_suffix(b"\n").unwrap_or(page);
-    if count < letters.len() {
-        &letters[letters.len() - count..]
-    } else {
-        letters
-    }
+/// Whether the letter stands at the place.
+fn is_at(letters: &[u8], place: usize, letter: u8) -> bool
+    ensures there { result ≡ true → drop place letters.now ≡ letter ∷ drop (place + 1) letters.now }
+    ensures not_there { result ≡ false → (rest : List ℕ) → drop place letters.now ≡ letter ∷ rest → ⊥ }
+{
+    place < letters.len() && letters[place] == letter
 }
 
 /// The silent entry with a letter: an operation is handed, or an event of a dispatcher had nothing to do.
 fn silent(letter: u8) -> Result<Entry, LineError>
-    ensures { IfOk result IsEntry }
+    ensures entry { IfOk result (λ entry. IsEntry entry × (is_silent entry ≡ true) × (lane_letter (lane_of_entry entry) ≡ letter ∷ [])) }
+    ensures only { IfErr result (λ error. IsSilentLetter letter → ⊥) }
 {
     match letter {
         b'h' => Ok(Entry::Handed),

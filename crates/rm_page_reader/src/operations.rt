@@ -1,10 +1,13 @@
-ghost use Rattle.std.specs.Prelude.{IfOk};
+ghost use Rattle.std.specs.Prelude.{◌≡◌, ◌∷◌, codes};
 ghost use Rattle.rm_types.specs.Ranges.{IsOperation, IsSubmission, IsText};
 ghost use Rattle.rm_types.specs.declared.texts.TextKind.TheVariants.{Name, AclText};
+ghost use Rattle.rm_formats.specs.Wording.{how_text};
+ghost use Rattle.rm_page.proofs.ReadOperations.{last_pieces, submission_pieces};
+ghost use Rattle.rm_page_reader.specs.Pieces.{op_pieces};
+ghost use Rattle.rm_page_reader.specs.Results.{IsOf, Finds};
 
 use crate::errors::LineError;
-use crate::words::{Words, text};
-use rm_ids::{read_app, read_attempt, read_container};
+use crate::words::{Words, container_id, text};
 use rm_types::{
     EPOCHS, GREATEST_ATTEMPTS, GREATEST_MEMORY_MB, GREATEST_VCORES, How, Op, Resource, STAMPS,
     Submission, Text, TextKind,
@@ -13,35 +16,47 @@ use std::alloc::Global;
 
 /// A store operation, by its words.
 pub(crate) fn operation(alloc: Global, mut words: Words<'_>) -> Result<Op, LineError>
-    ensures { IfOk result IsOperation }
+    ensures { Finds result (IsOf op_pieces IsOperation words.entry) }
 {
-    match words.word()? {
-        b"epoch" => epoch(words),
-        b"app" => app(alloc, words),
-        b"attempt" => attempt(alloc, words),
-        b"attempt-end" => attempt_end(alloc, words),
-        b"app-end" => app_end(alloc, words),
-        b"remove" => remove(words),
-        _ => Err(LineError::NotALine),
+    let word = words.word()?;
+    by_word(alloc, word, words)
+}
+
+/// The same by the first word and the others.
+#[tactic(auto, using(crate::proofs::Found::at_word, crate::proofs::OpParts::no_op))]
+fn by_word(alloc: Global, word: &[u8], words: Words<'_>) -> Result<Op, LineError>
+    ensures { Finds result (IsOf op_pieces IsOperation (word.now ∷ words.entry)) }
+{
+    if word == "epoch".as_bytes() {
+        epoch(words)
+    } else if word == "app".as_bytes() {
+        app(alloc, words)
+    } else if word == "attempt".as_bytes() {
+        attempt(alloc, words)
+    } else if word == "attempt-end".as_bytes() {
+        attempt_end(alloc, words)
+    } else if word == "app-end".as_bytes() {
+        app_end(alloc, words)
+    } else if word == "remove".as_bytes() {
+        remove(words)
+    } else {
+        Err(LineError::NotALine)
     }
 }
 
 fn epoch(mut words: Words<'_>) -> Result<Op, LineError>
-    ensures { IfOk result IsOperation }
+    ensures { Finds result (IsOf op_pieces IsOperation (codes "epoch" ∷ words.entry)) }
 {
     let next = words.number_within(b"next=", 1, EPOCHS)?;
-    let stamp = words.long_number(b"stamp=")?;
+    let stamp = words.long_number_within(b"stamp=", 1, STAMPS - 1)?;
     words.end()?;
-    if stamp == 0 || stamp >= STAMPS {
-        return Err(LineError::NotALine);
-    }
     Ok(Op::Epoch { next, stamp })
 }
 
 fn app(alloc: Global, mut words: Words<'_>) -> Result<Op, LineError>
-    ensures { IfOk result IsOperation }
+    ensures { Finds result (IsOf op_pieces IsOperation (codes "app" ∷ words.entry)) }
 {
-    let id = read_app(words.word()?)?;
+    let id = words.app_id()?;
     let user = words.text(alloc, b"user=", TextKind::Name)?;
     let submission = submission(alloc, user, words)?;
     Ok(Op::App { id, submission })
@@ -50,7 +65,7 @@ fn app(alloc: Global, mut words: Words<'_>) -> Result<Op, LineError>
 /// What the user submits, by the words behind its name or its application.
 fn submission(alloc: Global, user: Text, mut words: Words<'_>) -> Result<Submission, LineError>
     requires { IsText Name user }
-    ensures { IfOk result IsSubmission }
+    ensures { Finds result (λ submission. IsOf submission_pieces IsSubmission words.entry submission × (submission.user ≡ user)) }
 {
     let queue = words.text(alloc, b"queue=", TextKind::Queue)?;
     let name = words.text(alloc, b"name=", TextKind::Name)?;
@@ -68,21 +83,26 @@ fn submission(alloc: Global, user: Text, mut words: Words<'_>) -> Result<Submiss
     })
 }
 
-/// Who else may modify an application: nobody, where no word is left.
+/// Who else may modify an application: nobody, where no word is left. A word that names nobody is none.
 fn modify(alloc: Global, mut words: Words<'_>) -> Result<Text, LineError>
-    ensures { IfOk result (IsText AclText) }
+    ensures { Finds result (IsOf (last_pieces (codes "modify=")) (IsText AclText) words.entry) }
 {
     if words.is_empty() {
         return text(alloc, b"", TextKind::AclText);
     }
-    words.last_text(alloc, b"modify=", TextKind::AclText)
+    let text = words.last_text(alloc, b"modify=", TextKind::AclText)?;
+    if text.bytes().is_empty() {
+        Err(LineError::NotALine)
+    } else {
+        Ok(text)
+    }
 }
 
 fn attempt(alloc: Global, mut words: Words<'_>) -> Result<Op, LineError>
-    ensures { IfOk result IsOperation }
+    ensures { Finds result (IsOf op_pieces IsOperation (codes "attempt" ∷ words.entry)) }
 {
-    let id = read_attempt(words.word()?)?;
-    let master = read_container(words.field(b"master=")?)?;
+    let id = words.attempt_id()?;
+    let master = container_id(words.field(b"master=")?)?;
     let node = words.text(alloc, b"node=", TextKind::Node)?;
     words.end()?;
     if master.attempt != id {
@@ -92,33 +112,35 @@ fn attempt(alloc: Global, mut words: Words<'_>) -> Result<Op, LineError>
 }
 
 fn attempt_end(alloc: Global, mut words: Words<'_>) -> Result<Op, LineError>
-    ensures { IfOk result IsOperation }
+    ensures { Finds result (IsOf op_pieces IsOperation (codes "attempt-end" ∷ words.entry)) }
 {
-    let id = read_attempt(words.word()?)?;
+    let id = words.attempt_id()?;
     let how = how(words.word()?)?;
     let text = words.last_text(alloc, b"text=", TextKind::Note)?;
     Ok(Op::AttemptEnd { id, how, text })
 }
 
 fn app_end(alloc: Global, mut words: Words<'_>) -> Result<Op, LineError>
-    ensures { IfOk result IsOperation }
+    ensures { Finds result (IsOf op_pieces IsOperation (codes "app-end" ∷ words.entry)) }
 {
-    let id = read_app(words.word()?)?;
+    let id = words.app_id()?;
     let how = how(words.word()?)?;
     let text = words.last_text(alloc, b"text=", TextKind::Note)?;
     Ok(Op::AppEnd { id, how, text })
 }
 
 fn remove(mut words: Words<'_>) -> Result<Op, LineError>
-    ensures { IfOk result IsOperation }
+    ensures { Finds result (IsOf op_pieces IsOperation (codes "remove" ∷ words.entry)) }
 {
-    let id = read_app(words.word()?)?;
+    let id = words.app_id()?;
     words.end()?;
     Ok(Op::Remove { id })
 }
 
 /// How an attempt or an application ended, by its word.
-fn how(word: &[u8]) -> Result<How, LineError> {
+fn how(word: &[u8]) -> Result<How, LineError>
+    ensures { Finds result (λ how. word.now ≡ how_text how) }
+{
     match word {
         b"FINISHED" => Ok(How::Finished),
         b"FAILED" => Ok(How::Failed),

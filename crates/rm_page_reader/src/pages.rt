@@ -1,12 +1,20 @@
-ghost use Rattle.std.specs.Prelude.{◌≡◌, ◌<◌, All, IfOk, OnOk, length};
+ghost use Rattle.std.specs.Prelude.{◌≡◌, ◌⊎◌, ◌≤◌, ◌<◌, ◌∷◌, ◌++◌, ◌-◌, [], ℕ, List, Bool, true, false, Err, All, IfOk, IfErr, OnOk, IsTrue, length, codes};
+ghost use Rattle.std.specs.Option.{option_copied};
+ghost use Rattle.rm_types.specs.declared.entries.Entry.{Entry as AnyEntry};
 ghost use Rattle.rm_page.specs.Ranges.{IsEntry};
+ghost use Rattle.rm_page.proofs.Bytes.{lacks};
 ghost use Rattle.rm_formats.specs.Page.{page};
-ghost use Rattle.rm_page_reader.specs.Told.{Tells, heard};
+ghost use Rattle.rm_page_reader.specs.declared.soaks.SoakLine.{SoakLine as AnySoak};
+ghost use Rattle.rm_page_reader.specs.Answers.{AreHeard, AreLetters, IsFirstLine, IsTold, IsWant};
+ghost use Rattle.rm_page_reader.specs.Soaks.{IsSoak, soak_text};
+ghost use Rattle.rm_page_reader.specs.Results.{IsFirstCut};
+ghost use Rattle.rm_page_reader.specs.Told.{IsManagerEntry, IsNoPage, Tells, heard};
 
 use crate::entries::entry;
 use crate::errors::PageError;
 use crate::moves::{is_heard, letters_in, with_moves};
 use crate::soaks::{SoakLine, soak_line, soak_page};
+use crate::words::halves;
 use rm_page::page;
 use rm_types::{Entry, Items};
 use std::alloc::Global;
@@ -35,22 +43,32 @@ impl Page {
     }
 }
 
-/// Reads a page: what its bytes tell. The empty page is that of the empty log. `NotAPage` names the first line that is none of
-/// a page; where the letters of the moves don't fit the lines above them, that is theirs. `Memory` may come of any bytes. Time
-/// and memory are linear in their number.
+/// Reads a page: what its bytes tell. The empty page is that of the empty log. `NotAPage` comes only where the bytes are no
+/// page; it names the first line that is none of one, and where the letters of the moves don't fit the lines above them, that
+/// is theirs. `Memory` may come of any bytes. Time and memory are linear in their number.
 pub fn read_page(alloc: Global, bytes: &[u8]) -> Result<Page, PageError>
-    ensures { IfOk result (Tells bytes.now) }
+    ensures told { IfOk result (Tells bytes.now) }
+    ensures not_a_page { (line : ℕ) → result ≡ Err (PageError.NotAPage line) → IsNoPage bytes.now }
 {
-    if bytes.starts_with(b"soak ") {
+    if is_soak(bytes) {
         read_soak(alloc, bytes)
     } else {
         read_log(alloc, bytes)
     }
 }
 
+/// Whether the bytes begin as the line of a soak.
+fn is_soak(bytes: &[u8]) -> bool
+    ensures soak { IsTrue result → (more : List ℕ) × (bytes.now ≡ codes "soak " ++ more) }
+    ensures none { result ≡ false → (more : List ℕ) → bytes.now ≡ codes "soak " ++ more → ⊥ }
+{
+    bytes.starts_with(b"soak ")
+}
+
 /// Reads the page of a soak.
 fn read_soak(alloc: Global, bytes: &[u8]) -> Result<Page, PageError>
-    ensures { IfOk result (Tells bytes.now) }
+    ensures told { IfOk result (Tells bytes.now) }
+    ensures only { IfErr result (λ error. (soak : AnySoak) → IsSoak soak → bytes.now ≡ soak_text soak → IsWant error) }
 {
     let (line, _rest) = cut_line(bytes);
     let soak = match soak_line(line) {
@@ -67,9 +85,10 @@ fn read_soak(alloc: Global, bytes: &[u8]) -> Result<Page, PageError>
 
 /// Reads the page of a log.
 fn read_log(alloc: Global, bytes: &[u8]) -> Result<Page, PageError>
-    ensures { IfOk result (Tells bytes.now) }
+    ensures told { IfOk result (Tells bytes.now) }
+    ensures only { IfErr result (λ error. (log : List AnyEntry) (moves : Bool) → All IsManagerEntry log → bytes.now ≡ page log moves → IsWant error) }
 {
-    let (log, moves) = read_lines(alloc, bytes)?;
+    let (log, moves) = logged(alloc, bytes)?;
     see_page(alloc, &log, moves, bytes)?;
     Ok(Page::Log {
         entries: heard_of(log),
@@ -79,7 +98,8 @@ fn read_log(alloc: Global, bytes: &[u8]) -> Result<Page, PageError>
 
 /// Sees that the bytes are the page of this log.
 fn see_page(alloc: Global, log: &Items<Entry>, moves: bool, bytes: &[u8]) -> Result<(), PageError>
-    ensures { OnOk result (bytes.now ≡ page log.now moves) }
+    ensures page { OnOk result (bytes.now ≡ page log.now moves) }
+    ensures only { IfErr result (λ error. bytes.now ≡ page log.now moves → IsWant error) }
 {
     let text = page(alloc, log, moves)?;
     if text.as_slice() == bytes {
@@ -99,37 +119,70 @@ fn heard_of(log: Items<Entry>) -> Items<Entry>
 }
 
 /// The log that the lines tell, and whether the last line is that of the moves.
-fn read_lines(alloc: Global, bytes: &[u8]) -> Result<(Items<Entry>, bool), PageError>
-    ensures { IfOk result (λ read. All IsEntry read.0) }
+fn logged(alloc: Global, bytes: &[u8]) -> Result<(Items<Entry>, bool), PageError>
+    ensures ranges { IfOk result (λ read. All IsEntry read.0) }
+    ensures page { (log : List AnyEntry) (moves : Bool) → All IsManagerEntry log → bytes.now ≡ page log moves → IfOk result (λ read. bytes.now ≡ page read.0 read.1) }
+    ensures want { (log : List AnyEntry) (moves : Bool) → All IsManagerEntry log → bytes.now ≡ page log moves → IfErr result IsWant }
 {
-    let mut log = Items::new(alloc);
+    let lines = read_lines(alloc, bytes)?;
+    let Some(letters) = lines.letters else {
+        return Ok((lines.heard, false));
+    };
+    match with_moves(alloc, lines.heard, letters) {
+        Ok(log) => Ok((log, true)),
+        Err(error) => Err(error.at(lines.count)),
+    }
+}
+
+/// The lines of a page: the entries that they tell, the letters of the moves, where there is a line of them, and the number of
+/// the last line.
+#[derive(Drop)]
+struct Lines<'a> {
+    heard: Items<Entry>,
+    letters: Option<&'a [u8]>,
+    count: u32,
+}
+
+/// The lines of the bytes, up to that of the moves.
+fn read_lines(alloc: Global, bytes: &[u8]) -> Result<Lines<'_>, PageError>
+    ensures told { IfOk result (λ lines. All IsTold lines.heard) }
+    ensures heard { (log : List AnyEntry) (moves : Bool) → All IsManagerEntry log → bytes.now ≡ page log moves → IfOk result (λ lines. AreHeard log lines.heard × AreLetters (option_copied lines.letters) log moves) }
+    ensures want { (log : List AnyEntry) (moves : Bool) → All IsManagerEntry log → bytes.now ≡ page log moves → IfErr result IsWant }
+{
+    let mut heard = Items::new(alloc);
     let mut rest = bytes;
     let mut count: u32 = 0;
     'lines: while !rest.is_empty() {
         let (line, after) = cut_line(rest);
         count = count.saturating_add(1);
         if let Some(letters) = letters_in(line) {
-            return match with_moves(alloc, log, letters) {
-                Ok(log) => Ok((log, true)),
-                Err(error) => Err(error.at(count)),
-            };
+            return Ok(Lines {
+                heard,
+                letters: Some(letters),
+                count,
+            });
         }
         match entry(alloc, line) {
-            Ok(entry) => log.push(entry)?,
+            Ok(entry) => heard.push(entry)?,
             Err(error) => return Err(error.at(count)),
         }
         rest = after;
     }
-    Ok((log, false))
+    Ok(Lines {
+        heard,
+        letters: None,
+        count,
+    })
 }
 
 /// The first line without its line feed, and what stands behind it.
 fn cut_line(bytes: &[u8]) -> (&[u8], &[u8])
-    ensures { 0 < length bytes.now → length result.1.now < length bytes.now }
+    ensures cut { IsFirstLine bytes.now result.0.now result.1.now }
+    ensures shorter { 0 < length bytes.now → length result.1.now < length bytes.now }
 {
-    match bytes.iter().position(|byte| *byte == b'\n') {
-        Some(place) => (&bytes[..place], &bytes[place + 1..]),
-        None => (bytes, &bytes[bytes.len()..]),
+    match halves(bytes, b'\n') {
+        Some(halves) => halves,
+        None => (bytes, &[]),
     }
 }
 

@@ -1,75 +1,131 @@
-ghost use Rattle.std.specs.Prelude.{IfOk, IfSome};
+ghost use Rattle.std.specs.Prelude.{◌≡◌, ◌≢◌, ◌∷◌, [], codes};
+ghost use Rattle.rm_formats.specs.Wording.{acl_op_text, state_text, denial_words};
 ghost use Rattle.rm_page.specs.Ranges.{IsReply, IsDenial, IsReport};
+ghost use Rattle.rm_page.proofs.Bytes.{cut};
+ghost use Rattle.rm_page_reader.specs.Pieces.{IsBare, IsServiceWord, report_pieces, reply_pieces};
+ghost use Rattle.rm_page_reader.specs.Results.{IsOf, Finds};
 
 use crate::errors::LineError;
 use crate::lists::{Whole, list_behind, listed};
-use crate::words::{Words, text};
-use rm_ids::read_app;
+use crate::words::Words;
 use rm_types::{
     AclOp, Closing, ContainerId, Denial, Grant, Reply, Report, StateWord, Text, TextKind,
 };
 use std::alloc::Global;
 
-/// A reply by its words.
+/// A reply by its text.
 pub(crate) fn reply(alloc: Global, text: &[u8]) -> Result<Reply, LineError>
-    ensures { IfOk result IsReply }
+    ensures { Finds result (IsOf reply_pieces IsReply (cut 32 text.now)) }
 {
-    if let Some(reply) = bare_reply(text) {
-        return Ok(reply);
-    }
     let mut words = Words::of(text);
-    match words.word()? {
-        b"new" => new(words),
-        b"DENIED" => Ok(Reply::Denied(denial(alloc, words)?)),
-        b"report" => Ok(Reply::Report(report(alloc, words)?)),
-        b"allocated" => allocated(alloc, words),
-        b"registered" => node_registered(words),
-        b"beat" => beat(alloc, words),
-        _ => Err(LineError::NotALine),
+    let word = words.word()?;
+    if words.is_empty() {
+        bare_reply(word)
+    } else {
+        long_reply(alloc, word, words)
     }
 }
 
-/// The reply that is this word alone, where there is one.
-fn bare_reply(word: &[u8]) -> Option<Reply>
-    ensures { IfSome result IsReply }
+/// The reply that is this word alone.
+#[tactic(auto, using(crate::proofs::ReplyParts::to_service))]
+fn bare_reply(word: &[u8]) -> Result<Reply, LineError>
+    ensures { Finds result (IsBare word.now) }
 {
-    match word {
-        b"NOTOPEN" => Some(Reply::NotOpen),
-        b"submitted" => Some(Reply::Submitted),
-        b"BADID" => Some(Reply::BadId),
-        b"RETIRED" => Some(Reply::Retired),
-        b"NOQUEUE" => Some(Reply::NoQueue),
-        b"TOOLARGE" => Some(Reply::TooLarge),
-        b"FULL" => Some(Reply::Full),
-        b"UNKNOWN" => Some(Reply::Unknown),
-        b"killing" => Some(Reply::Killing),
-        b"ended" => Some(Reply::AppEnded),
-        b"registered" => Some(Reply::MasterRegistered),
-        b"ALREADY" => Some(Reply::Already),
-        b"GONE" => Some(Reply::Gone),
-        b"RESYNC" => Some(Reply::Resync),
-        b"WRONGID" => Some(Reply::WrongId),
-        b"NOTREGISTERED" => Some(Reply::NotRegistered),
-        b"finishing" => Some(Reply::Finishing),
-        b"finished" => Some(Reply::Finished),
-        b"ok" => Some(Reply::Ok),
-        _ => None,
+    if word == "NOTOPEN".as_bytes() {
+        Ok(Reply::NotOpen)
+    } else if word == "submitted".as_bytes() {
+        Ok(Reply::Submitted)
+    } else if word == "BADID".as_bytes() {
+        Ok(Reply::BadId)
+    } else if word == "RETIRED".as_bytes() {
+        Ok(Reply::Retired)
+    } else if word == "NOQUEUE".as_bytes() {
+        Ok(Reply::NoQueue)
+    } else if word == "TOOLARGE".as_bytes() {
+        Ok(Reply::TooLarge)
+    } else if word == "FULL".as_bytes() {
+        Ok(Reply::Full)
+    } else if word == "UNKNOWN".as_bytes() {
+        Ok(Reply::Unknown)
+    } else if word == "killing".as_bytes() {
+        Ok(Reply::Killing)
+    } else if word == "ended".as_bytes() {
+        Ok(Reply::AppEnded)
+    } else {
+        service_reply(word)
+    }
+}
+
+/// The same of the replies to masters and nodes.
+#[tactic(auto, using(crate::proofs::ReplyParts::no_service))]
+fn service_reply(word: &[u8]) -> Result<Reply, LineError>
+    ensures { Finds result (IsServiceWord word.now) }
+{
+    if word == "registered".as_bytes() {
+        Ok(Reply::MasterRegistered)
+    } else if word == "ALREADY".as_bytes() {
+        Ok(Reply::Already)
+    } else if word == "GONE".as_bytes() {
+        Ok(Reply::Gone)
+    } else if word == "RESYNC".as_bytes() {
+        Ok(Reply::Resync)
+    } else if word == "WRONGID".as_bytes() {
+        Ok(Reply::WrongId)
+    } else if word == "NOTREGISTERED".as_bytes() {
+        Ok(Reply::NotRegistered)
+    } else if word == "finishing".as_bytes() {
+        Ok(Reply::Finishing)
+    } else if word == "finished".as_bytes() {
+        Ok(Reply::Finished)
+    } else if word == "ok".as_bytes() {
+        Ok(Reply::Ok)
+    } else {
+        Err(LineError::NotALine)
+    }
+}
+
+/// A reply of more words, by the first and the others.
+#[tactic(auto, using(crate::proofs::Found::at_word, crate::proofs::ReplyParts::no_reply))]
+fn long_reply(alloc: Global, word: &[u8], words: Words<'_>) -> Result<Reply, LineError>
+    requires { words ≢ [] }
+    ensures { Finds result (IsOf reply_pieces IsReply (word.now ∷ words.entry)) }
+{
+    if word == "new".as_bytes() {
+        new(words)
+    } else if word == "DENIED".as_bytes() {
+        denied(alloc, words)
+    } else if word == "report".as_bytes() {
+        told(alloc, words)
+    } else if word == "allocated".as_bytes() {
+        allocated(alloc, words)
+    } else if word == "registered".as_bytes() {
+        node_registered(words)
+    } else if word == "beat".as_bytes() {
+        beat(alloc, words)
+    } else {
+        Err(LineError::NotALine)
     }
 }
 
 fn new(mut words: Words<'_>) -> Result<Reply, LineError>
-    ensures { IfOk result IsReply }
+    ensures { Finds result (IsOf reply_pieces IsReply (codes "new" ∷ words.entry)) }
 {
-    let id = read_app(words.word()?)?;
+    let id = words.app_id()?;
     words.end()?;
     Ok(Reply::New(id))
 }
 
+fn denied(alloc: Global, words: Words<'_>) -> Result<Reply, LineError>
+    ensures { Finds result (IsOf reply_pieces IsReply (codes "DENIED" ∷ words.entry)) }
+{
+    Ok(Reply::Denied(denial(alloc, words)?))
+}
+
 fn denial(alloc: Global, mut words: Words<'_>) -> Result<Denial, LineError>
-    ensures { IfOk result IsDenial }
+    ensures { Finds result (IsOf denial_words IsDenial (codes "DENIED" ∷ words.entry)) }
 {
     let op = acl_op(words.word()?)?;
-    let queue = text(alloc, words.word()?, TextKind::Queue)?;
+    let queue = words.name(alloc, TextKind::Queue)?;
     if !matches!(words.word()?, b"by") {
         return Err(LineError::NotALine);
     }
@@ -79,7 +135,9 @@ fn denial(alloc: Global, mut words: Words<'_>) -> Result<Denial, LineError>
 }
 
 /// What a right was asked for, by its word.
-fn acl_op(word: &[u8]) -> Result<AclOp, LineError> {
+fn acl_op(word: &[u8]) -> Result<AclOp, LineError>
+    ensures { Finds result (λ op. word.now ≡ acl_op_text op) }
+{
     match word {
         b"submit" => Ok(AclOp::Submit),
         b"kill" => Ok(AclOp::Kill),
@@ -87,8 +145,14 @@ fn acl_op(word: &[u8]) -> Result<AclOp, LineError> {
     }
 }
 
+fn told(alloc: Global, words: Words<'_>) -> Result<Reply, LineError>
+    ensures { Finds result (IsOf reply_pieces IsReply (codes "report" ∷ words.entry)) }
+{
+    Ok(Reply::Report(report(alloc, words)?))
+}
+
 fn report(alloc: Global, mut words: Words<'_>) -> Result<Report, LineError>
-    ensures { IfOk result IsReport }
+    ensures { Finds result (IsOf report_pieces IsReport words.entry) }
 {
     let state = state(words.field(b"state=")?)?;
     let user = words.text(alloc, b"user=", TextKind::Name)?;
@@ -109,7 +173,9 @@ fn report(alloc: Global, mut words: Words<'_>) -> Result<Report, LineError>
 }
 
 /// The state of an application, by its word.
-fn state(word: &[u8]) -> Result<StateWord, LineError> {
+fn state(word: &[u8]) -> Result<StateWord, LineError>
+    ensures { Finds result (λ state. word.now ≡ state_text state) }
+{
     match word {
         b"NEW" => Ok(StateWord::New),
         b"NEW_SAVING" => Ok(StateWord::NewSaving),
@@ -124,7 +190,7 @@ fn state(word: &[u8]) -> Result<StateWord, LineError> {
 }
 
 fn allocated(alloc: Global, mut words: Words<'_>) -> Result<Reply, LineError>
-    ensures { IfOk result IsReply }
+    ensures { Finds result (IsOf reply_pieces IsReply (codes "allocated" ∷ words.entry)) }
 {
     let id = words.number(b"id=")?;
     let grants = list_behind::<Whole, Grant>(alloc, &mut words, b"grants=")?;
@@ -134,7 +200,8 @@ fn allocated(alloc: Global, mut words: Words<'_>) -> Result<Reply, LineError>
 }
 
 fn node_registered(mut words: Words<'_>) -> Result<Reply, LineError>
-    ensures { IfOk result IsReply }
+    requires { words ≢ [] }
+    ensures { Finds result (IsOf reply_pieces IsReply (codes "registered" ∷ words.entry)) }
 {
     let turn = words.number(b"turn=")?;
     let epoch = words.number(b"epoch=")?;
@@ -143,7 +210,7 @@ fn node_registered(mut words: Words<'_>) -> Result<Reply, LineError>
 }
 
 fn beat(alloc: Global, mut words: Words<'_>) -> Result<Reply, LineError>
-    ensures { IfOk result IsReply }
+    ensures { Finds result (IsOf reply_pieces IsReply (codes "beat" ∷ words.entry)) }
 {
     let id = words.number(b"id=")?;
     let launch = list_behind::<Whole, ContainerId>(alloc, &mut words, b"launch=")?;

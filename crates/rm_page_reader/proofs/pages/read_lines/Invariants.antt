@@ -1,9 +1,17 @@
-use Rattle.std.specs.Prelude.{All, length}
-use Rattle.rm_page.specs.Ranges.{IsEntry}
+use Rattle.std.specs.Prelude.{◌≡◌, List, Bool, All, length}
+use Rattle.rm_types.specs.declared.entries.Entry.{Entry}
+use Rattle.rm_formats.specs.Page.{page}
+use Rattle.rm_page_reader.specs.Answers.{IsTold}
+use Rattle.rm_page_reader.specs.Told.{IsManagerEntry}
+use Rattle.rm_page_reader.proofs.Paging.{IsLeft}
 use Rattle.rm_page_reader.proofs.pages.read_lines.Given as goal
 
+-- of whichever log the bytes are the page, the first lines were read, and the others are left
 abbrev pub invariant-lines : goal.invariant-lines
-invariant-lines l = All IsEntry l.log
+invariant-lines l = record {
+  told : All IsTold l.heard;
+  only : (log : List Entry) (moves : Bool) → All IsManagerEntry log → l.bytes ≡ page log moves → IsLeft log moves l.heard l.rest;
+}
 
 abbrev pub decreases-lines : goal.decreases-lines
 decreases-lines l = length l.rest
