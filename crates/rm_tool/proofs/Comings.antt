@@ -117,6 +117,22 @@ unread_reports told (Full size) unread = absurd unread
 unread_reports told (NotAPage line) unread = absurd unread
 unread_reports told NotAnId unread = absurd unread
 
+-- and to what a report of an id may
+pub unread_follows : (told : Option (List ℕ)) (id : List ℕ) (outcome : ToolOutcome) → IsUnread outcome → Follows told id outcome
+unread_follows told id ReadFault unread = tt
+unread_follows told id Memory unread = tt
+unread_follows told id Done unread = absurd unread
+unread_follows told id Usage unread = absurd unread
+unread_follows told id (WriteFault took_nothing) unread = absurd unread
+unread_follows told id (OtherLength many) unread = absurd unread
+unread_follows told id OtherForm unread = absurd unread
+unread_follows told id (Faulty fault) unread = absurd unread
+unread_follows told id DiskFault unread = absurd unread
+unread_follows told id NotNew unread = absurd unread
+unread_follows told id (Full size) unread = absurd unread
+unread_follows told id (NotAPage line) unread = absurd unread
+unread_follows told id NotAnId unread = absurd unread
+
 -- before its page no outcome is a fault of the output
 no_write : (outcome : ToolOutcome) (took_nothing : Bool) → IsBeforePage outcome → outcome ≡ WriteFault took_nothing → ⊥
 no_write (WriteFault took) took_nothing before is = before
