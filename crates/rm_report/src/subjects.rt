@@ -1,4 +1,4 @@
-ghost use Rattle.std.specs.Prelude.{◌≡◌, IfOk, Err};
+ghost use Rattle.std.specs.Prelude.{◌≡◌, ℕ, IfOk, Err};
 ghost use Rattle.std.specs.List.{list_any};
 ghost use Rattle.rm_types.specs.Ids as ids;
 ghost use Rattle.rm_types.specs.Ranges.{IsText};
@@ -27,6 +27,7 @@ impl Subject {
     pub fn read(alloc: Global, text: &[u8]) -> Result<Subject, ReportError>
         ensures read { IfOk result (IsTextOf text.now) }
         ensures not_an_id { result ≡ Err ReportError.NotAnId → IsText kinds.Node text.now → ⊥ }
+        ensures no_page { (line : ℕ) → result ≡ Err (ReportError.NotAPage line) → ⊥ }
     {
         if let Ok(id) = read_app(text) {
             return Ok(Subject::App(id));
