@@ -7,7 +7,7 @@ use std::fmt::Display;
 use std::process::Abort;
 
 const DEFAULTS: &str =
-    "Settings { max_attempts: 2, max_completed: 1000, max_apps: 10000, wait_ms: 10000, acl_enable: false, admin_acl: Text { list: [42] }, greatest: Resource { memory_mb: 8192, vcores: 8 }, groups: Items { list: [] }, queues: Items { list: [QueueSpec { name: Text { list: [114, 111, 111, 116] }, submit: None, admin: None }, QueueSpec { name: Text { list: [114, 111, 111, 116, 46, 100, 101, 102, 97, 117, 108, 116] }, submit: None, admin: None }] } }";
+    "Settings { max_attempts: 2, max_completed: 1000, max_apps: 10000, wait_ms: 10000, acl_enable: false, admin_acl: Text { shared: Some([42]) }, greatest: Resource { memory_mb: 8192, vcores: 8 }, groups: Items { list: [] }, queues: Items { list: [QueueSpec { name: Text { shared: Some([114, 111, 111, 116]) }, submit: None, admin: None }, QueueSpec { name: Text { shared: Some([114, 111, 111, 116, 46, 100, 101, 102, 97, 117, 108, 116]) }, submit: None, admin: None }] } }";
 
 /// The place at which the file is refused, or none where it is read; `u32::MAX` where there is no memory.
 fn place_of(alloc: Global, file: &[u8]) -> Option<u32> {
@@ -187,7 +187,7 @@ fn each_key_sets_its_own_part(rt: HostRuntime) {
     shows(
         &rt,
         &settings.groups,
-        "Items { list: [UserGroups { user: Text { list: [97, 110, 110] }, groups: Items { list: [Text { list: [115, 116, 97, 102, 102] }, Text { list: [111, 112, 115, 45, 49] }, Text { list: [115, 116, 97, 102, 102] }] } }, UserGroups { user: Text { list: [98, 111, 98] }, groups: Items { list: [] } }] }",
+        "Items { list: [UserGroups { user: Text { shared: Some([97, 110, 110]) }, groups: Items { list: [Text { shared: Some([115, 116, 97, 102, 102]) }, Text { shared: Some([111, 112, 115, 45, 49]) }, Text { shared: Some([115, 116, 97, 102, 102]) }] } }, UserGroups { user: Text { shared: Some([98, 111, 98]) }, groups: Items { list: [] } }] }",
     );
 }
 
@@ -214,7 +214,7 @@ fn queues_have_their_lists(rt: HostRuntime) {
     shows(
         &rt,
         &settings.queues,
-        "Items { list: [QueueSpec { name: Text { list: [114, 111, 111, 116] }, submit: Some(Text { list: [100, 97, 118, 101] }), admin: Some(Text { list: [32] }) }, QueueSpec { name: Text { list: [114, 111, 111, 116, 46, 98] }, submit: None, admin: Some(Text { list: [42] }) }] }",
+        "Items { list: [QueueSpec { name: Text { shared: Some([114, 111, 111, 116]) }, submit: Some(Text { shared: Some([100, 97, 118, 101]) }), admin: Some(Text { shared: Some([32]) }) }, QueueSpec { name: Text { shared: Some([114, 111, 111, 116, 46, 98]) }, submit: None, admin: Some(Text { shared: Some([42]) }) }] }",
     );
     let alloc = rt.alloc();
     wants(&rt, place_of(alloc, &chain(&rt, 8)).is_none());

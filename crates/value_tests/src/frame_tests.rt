@@ -31,19 +31,19 @@ const FRAMES: [(&[u8], &str); 6] = [
     (EPOCH, "Epoch { next: 258, stamp: 72623859790382856 }"),
     (
         APP,
-        "App { id: AppId { stamp: 72623859790382856, number: 168496141 }, submission: Submission { user: Text { list: [117] }, queue: Text { list: [113] }, name: Text { list: [110, 45] }, master: Resource { memory_mb: 512, vcores: 3 }, attempts: 4, modify: Text { list: [42] } } }",
+        "App { id: AppId { stamp: 72623859790382856, number: 168496141 }, submission: Submission { user: Text { shared: Some([117]) }, queue: Text { shared: Some([113]) }, name: Text { shared: Some([110, 45]) }, master: Resource { memory_mb: 512, vcores: 3 }, attempts: 4, modify: Text { shared: Some([42]) } } }",
     ),
     (
         ATTEMPT,
-        "Attempt { id: AttemptId { app: AppId { stamp: 72623859790382856, number: 168496141 }, number: 5 }, master: ContainerId { attempt: AttemptId { app: AppId { stamp: 72623859790382856, number: 168496141 }, number: 5 }, epoch: 6, seq: 263 }, node: Text { list: [110, 58, 49] } }",
+        "Attempt { id: AttemptId { app: AppId { stamp: 72623859790382856, number: 168496141 }, number: 5 }, master: ContainerId { attempt: AttemptId { app: AppId { stamp: 72623859790382856, number: 168496141 }, number: 5 }, epoch: 6, seq: 263 }, node: Text { shared: Some([110, 58, 49]) } }",
     ),
     (
         ATTEMPT_END,
-        "AttemptEnd { id: AttemptId { app: AppId { stamp: 72623859790382856, number: 168496141 }, number: 5 }, how: Failed, text: Text { list: [111, 107] } }",
+        "AttemptEnd { id: AttemptId { app: AppId { stamp: 72623859790382856, number: 168496141 }, number: 5 }, how: Failed, text: Text { shared: Some([111, 107]) } }",
     ),
     (
         APP_END,
-        "AppEnd { id: AppId { stamp: 72623859790382856, number: 168496141 }, how: Killed, text: Text { list: [] } }",
+        "AppEnd { id: AppId { stamp: 72623859790382856, number: 168496141 }, how: Killed, text: Text { shared: Some([]) } }",
     ),
     (
         REMOVE,
