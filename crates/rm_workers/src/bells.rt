@@ -4,8 +4,11 @@ use std::sync::Wait;
 use std::thread::Parker;
 use std::time::Duration;
 
-/// How many milliseconds a worker waits at most for a baton that another one has or is to have, before it tries again.
-const TURN: u64 = 1;
+/// How many milliseconds a worker that gives way, or whom the store's next move waits for, sleeps at most before it tries again.
+const BATON_TURN: u64 = 1;
+
+/// How many milliseconds a worker waits at most for those that haven't come yet, before it looks again.
+const START_TURN: u64 = 10;
 
 /// A bell for each of a life's workers, who sleeps until it rings. One that rings for a worker who is awake rings on, until that
 /// worker sleeps the next time.
@@ -51,6 +54,11 @@ impl Bells {
         }
     }
 
+    /// Rings for the store's worker.
+    pub(crate) fn ring_for_store(&self) {
+        self.store.unpark();
+    }
+
     /// The bell of a lane's worker.
     fn of(&self, lane: Lane) -> &Parker {
         match lane {
@@ -64,14 +72,21 @@ impl Bells {
         }
     }
 
-    /// The lane's worker found nothing to do. It sleeps until its bell rings.
+    /// The lane's worker found nothing to do, or the baton with another one. It sleeps until its bell rings: who has the baton rings
+    /// for each who can move, once it is back.
     pub(crate) fn sleep<R: Wait>(&self, rt: &R, lane: Lane) {
         self.of(lane).park(rt);
     }
 
-    /// The lane's worker found the baton with another one, or lets another one take it first. It sleeps until its bell rings, and not
-    /// for long, so that nobody waits for one who is held up.
+    /// The lane's worker lets another one take the baton first, or waits for one that it has to have. It sleeps until its bell rings,
+    /// and not for long, so that nobody waits for one who is held up.
     pub(crate) fn nap<R: Wait>(&self, rt: &R, lane: Lane) {
-        self.of(lane).park_timeout(rt, Duration::from_millis(TURN));
+        self.of(lane).park_timeout(rt, Duration::from_millis(BATON_TURN));
+    }
+
+    /// The lane's worker waits for those that haven't come yet. It sleeps until its bell rings, and not for long.
+    pub(crate) fn await_start<R: Wait>(&self, rt: &R, lane: Lane) {
+        self.of(lane)
+            .park_timeout(rt, Duration::from_millis(START_TURN));
     }
 }

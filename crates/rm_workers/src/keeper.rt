@@ -69,7 +69,7 @@ fn keep_to_end<S: Since, D: Disk, G: Gate, R: Wait>(
     let mut number: u64 = 0;
     'turns: for _ in rt.forever() {
         match hold_turn(rt, baton, bells, &mut pass, &mut store) {
-            Turn::Out => bells.nap(rt, Lane::Hand),
+            Turn::Out => bells.sleep(rt, Lane::Hand),
             Turn::Wait => {
                 gate.after_hold(Lane::Hand);
                 bells.sleep(rt, Lane::Hand);
@@ -114,7 +114,7 @@ pub(crate) fn keeper<S: Since, D: Disk, G: Gate, R: Wait>(
     ensures knows { Knows (EndFact D.view S.began result.1 result.2) (view result.0) }
 {
     gate.before_start(Lane::Hand);
-    if signals.start.all_come(rt) {
+    if signals.start.all_come(rt, &signals.bells, Lane::Hand) {
         return keep_to_end(rt, baton, gate, &signals.bells, pass, store);
     }
     let (pass, halt) = hold_unstarted(rt, baton, &signals.bells, pass, &store);

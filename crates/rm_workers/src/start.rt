@@ -2,14 +2,12 @@ ghost use Rattle.std.specs.Prelude.{◌≡◌, IsSome};
 ghost use Rattle.rm_workers.specs.declared.start.Arrivals.{Arrivals};
 ghost use Rattle.rm_workers.specs.Start.{all_workers, decision, given_up, with_one_more};
 
-use std::sync::{Condvar, Mutex, Wait};
-use std::time::Duration;
+use crate::bells::Bells;
+use rm_types::Lane;
+use std::sync::{Mutex, Wait};
 
 /// How many workers a life has.
 const WORKERS: u32 = 7;
-
-/// How many milliseconds a turn of waiting lasts at most.
-const TURN: u64 = 10;
 
 /// After so many turns, five seconds, a worker gives up on those that are missing. Turns are counted and not the time: they
 /// last longer where the processors have much else to do, and a process that was stopped goes on where it was.
@@ -75,7 +73,6 @@ impl Arrivals {
 #[derive(Drop)]
 pub(crate) struct StartBarrier {
     arrivals: Mutex<Arrivals>,
-    changed: Condvar,
 }
 
 impl StartBarrier {
@@ -83,40 +80,38 @@ impl StartBarrier {
     pub(crate) fn new() -> StartBarrier {
         StartBarrier {
             arrivals: Mutex::new(Arrivals::none()),
-            changed: Condvar::new(),
         }
     }
 
-    /// Comes, and waits for the others. Whether all came: whoever runs out of turns before gives up for all, and all get
-    /// the same answer.
-    pub(crate) fn all_come<R: Wait>(&self, rt: &R) -> bool {
-        self.arrive(rt);
+    /// The worker of a lane comes, and waits for the others. Whether all came: whoever runs out of turns before gives up for all,
+    /// and all get the same answer. The last one rings for the store's worker alone, which makes the first move or
+    /// calls who can; the others sleep on until they are called, or look again after a turn.
+    pub(crate) fn all_come<R: Wait>(&self, rt: &R, bells: &Bells, lane: Lane) -> bool {
+        if self.arrive(rt).is_some() {
+            bells.ring_for_store();
+        }
         for _ in 0..MOST_TURNS {
-            let seen = self.changed.notifications();
-            if let Some(all) = self.now(rt).decision() {
+            if let Some(all) = self.decision(rt) {
                 return all;
             }
-            self.changed.sleep(rt, seen, Duration::from_millis(TURN));
+            bells.await_start(rt, lane);
         }
         self.give_up(rt)
     }
 
-    fn now<R: Wait>(&self, rt: &R) -> Arrivals {
-        *self.arrivals.lock(rt)
+    fn decision<R: Wait>(&self, rt: &R) -> Option<bool> {
+        self.arrivals.lock(rt).decision()
     }
 
-    fn arrive<R: Wait>(&self, rt: &R) {
+    fn arrive<R: Wait>(&self, rt: &R) -> Option<bool> {
         let mut arrivals = self.arrivals.lock(rt);
         *arrivals = arrivals.with_one_more();
-        if arrivals.decision().is_some() {
-            self.changed.notify_all();
-        }
+        arrivals.decision()
     }
 
     fn give_up<R: Wait>(&self, rt: &R) -> bool {
         let mut arrivals = self.arrivals.lock(rt);
         *arrivals = arrivals.given_up();
-        self.changed.notify_all();
         *arrivals == Arrivals::Complete
     }
 }

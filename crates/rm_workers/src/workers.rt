@@ -52,7 +52,7 @@ fn help_to_end<S: Since, G: Gate, R: Wait>(
             gate.before_serve(sender);
         }
         match hold_help(rt, baton, bells, &mut pass, lane) {
-            None => bells.nap(rt, lane),
+            None => bells.sleep(rt, lane),
             Some(next) => {
                 gate.after_hold(lane);
                 match next {
@@ -83,7 +83,7 @@ fn helper<S: Since, G: Gate, R: Wait>(
     ensures helper { IsHelper (view result) }
 {
     gate.before_start(lane);
-    if !signals.start.all_come(rt) {
+    if !signals.start.all_come(rt, &signals.bells, lane) {
         return pass;
     }
     help_to_end(rt, baton, gate, &signals.bells, pass, lane)
