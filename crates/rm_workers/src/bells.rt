@@ -81,7 +81,8 @@ impl Bells {
     /// The lane's worker lets another one take the baton first, or waits for one that it has to have. It sleeps until its bell rings,
     /// and not for long, so that nobody waits for one who is held up.
     pub(crate) fn nap<R: Wait>(&self, rt: &R, lane: Lane) {
-        self.of(lane).park_timeout(rt, Duration::from_millis(BATON_TURN));
+        self.of(lane)
+            .park_timeout(rt, Duration::from_millis(BATON_TURN));
     }
 
     /// The lane's worker waits for those that haven't come yet. It sleeps until its bell rings, and not for long.
