@@ -151,7 +151,8 @@ fn soak_inputs(alloc: Global, number: u32) -> Result<Inputs, NoMemory>
     })
 }
 
-/// Makes the run of a soak of so many applications, and writes its line.
+/// Makes the run of a soak of so many applications, and writes its line. Its frame isn't there while files are read.
+#[inline(never)]
 fn soak<K: Sink, D: Disk>(alloc: Global, number: u32, sink: &mut K, disk: Fuse<D>) -> Ended<D>
     requires some { 1 ≤ number }
     requires few { number ≤ most_soaked }

@@ -130,7 +130,8 @@ fn usage_where(
 /// The same, with the device read ahead, so that an opening makes few calls of it. It tells on standard error how far a run has come, where
 /// that is a terminal; that the device's store was made new, whatever the outcome, for whoever meant another folder has to know; of a store in
 /// a file how much is used, where it is listed or nearly full; and what stopped the call. Messages have the program's path and the device's
-/// name.
+/// name. Its frame is its own, and not one with that of a device in memory: files are read above it, as deep as they are nested.
+#[inline(never)]
 fn run_over<R: Threads + Wait + Sync, D: Disk + Described + Drop + Send>(
     threads: &R,
     rt: HostRuntime,
@@ -164,7 +165,8 @@ fn new_device(alloc: Global) -> Result<MemDisk, NoMemory>
     MemDisk::new(alloc, DEVICE_SIZE, Items::new(alloc))
 }
 
-/// What the program does by these words over a new device in memory.
+/// What the program does by these words over a new device in memory. Its frame is its own, as that over a file is.
+#[inline(never)]
 fn run_in_memory<R: Threads + Wait + Sync>(
     threads: &R,
     rt: HostRuntime,

@@ -25,7 +25,9 @@ use std::alloc::Global;
 use std::sync::Wait;
 use std::thread::Threads;
 
-/// Makes a run of these inputs by workers in threads, and writes its page, with its moves or without.
+/// Makes a run of these inputs by workers in threads, and writes its page, with its moves or without. Its frame isn't there while
+/// they are read.
+#[inline(never)]
 fn run_by_workers<R: Threads + Wait + Sync, G: Gate + Sync, K: Sink, D: Disk + Drop + Send>(
     workers: &Workers<'_, R, G>,
     alloc: Global,
