@@ -43,7 +43,7 @@ const FRAMES: [(&[u8], &str); 6] = [
     ),
     (
         APP_END,
-        "AppEnd { id: AppId { stamp: 72623859790382856, number: 168496141 }, how: Killed, text: Text { shared: Some([]) } }",
+        "AppEnd { id: AppId { stamp: 72623859790382856, number: 168496141 }, how: Killed, text: Text { shared: None } }",
     ),
     (
         REMOVE,
