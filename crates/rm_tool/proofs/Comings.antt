@@ -1,12 +1,12 @@
 -- What a call comes to behind its page.
 use Rattle.std.proofs.Common.{◌≡◌, ◌⊎◌, inl, inr, ℕ, Bool, true, false, Option, None, Some, List, refl, sym, subst}
-use Rattle.std.specs.Prelude.{IfNone, IfSome}
+use Rattle.std.specs.Prelude.{◌<◌, IfNone, IfSome, length}
 use Rattle.rm_types.specs.declared.operations.Op.{Op}
 use Rattle.rm_disk.specs.Disk.{DiskView}
 use Rattle.rm_outside.specs.declared.writes.Written.{Written}
 use Rattle.rm_outside.specs.declared.writes.Written.TheVariants as written
 use Rattle.rm_tool.specs.declared.outcomes.ToolOutcome.{ToolOutcome}
-use Rattle.rm_tool.specs.declared.outcomes.ToolOutcome.TheVariants.{Done, Usage, ReadFault, WriteFault, OtherLength, OtherForm, Faulty, DiskFault, NotNew, Full, NotAPage, NotAnId, Memory}
+use Rattle.rm_tool.specs.declared.outcomes.ToolOutcome.TheVariants.{Done, Usage, ReadFault, WriteFault, OtherLength, TooLong, OtherForm, Faulty, DiskFault, NotNew, Full, NotAPage, NotAnId, Memory}
 use Rattle.rm_salvage.specs.declared.checks.Fault.{Fault}
 use Rattle.rm_salvage.specs.declared.forms.Form.{Form}
 use Rattle.rm_salvage.specs.Checks.{IsFault, IsWhole}
@@ -19,7 +19,8 @@ use Rattle.rm_tool.specs.Outcomes.{IsBeforePage, after_page, of_fault, of_page, 
 use Rattle.rm_types.specs.Ranges.{IsText}
 use Rattle.rm_types.specs.declared.texts.TextKind.TheVariants as kinds
 use Rattle.rm_page_reader.specs.Told.{IsNoPage}
-use Rattle.rm_tool.specs.Runs.{Checks, Comes, Follows, IsUnread, Reports, Told, WereRead}
+use Rattle.rm_outside.specs.declared.shelves.TheConstants.{MOST_READ}
+use Rattle.rm_tool.specs.Runs.{Checks, Comes, Follows, IsNotReadWhole, Reports, Told, WereRead}
 use Rattle.rm_tool.specs.Words.{Asked, Check, Convert, Salvage, Summary, Follow, Draw}
 
 pub comes_after : (told : Told) (asked : Asked) (new : DiskView) (outcome : ToolOutcome) (w : Written) → Comes told (Some asked) new outcome → Comes told (Some asked) new (after_page outcome w)
@@ -62,21 +63,22 @@ done_before outcome written.Fault is = cc
 done_before outcome written.Nothing is = cc
 done_before outcome written.Memory is = cc
 
--- a call whose file was not read is not Done
-pub unread_not_done : (outcome : ToolOutcome) → IsUnread outcome → outcome ≡ Done → ⊥
-unread_not_done Done unread is = unread
-unread_not_done Usage unread is = unread
-unread_not_done ReadFault unread is = cc
-unread_not_done (WriteFault took_nothing) unread is = unread
-unread_not_done (OtherLength many) unread is = unread
-unread_not_done OtherForm unread is = unread
-unread_not_done (Faulty fault) unread is = unread
-unread_not_done DiskFault unread is = unread
-unread_not_done NotNew unread is = unread
-unread_not_done (Full size) unread is = unread
-unread_not_done (NotAPage line) unread is = unread
-unread_not_done NotAnId unread is = unread
-unread_not_done Memory unread is = cc
+-- a call whose file was not read whole is not Done
+pub unread_not_done : (told : Option (List ℕ)) (outcome : ToolOutcome) → IsNotReadWhole told outcome → outcome ≡ Done → ⊥
+unread_not_done told Done unread is = unread
+unread_not_done told Usage unread is = unread
+unread_not_done told ReadFault unread is = cc
+unread_not_done told (WriteFault took_nothing) unread is = unread
+unread_not_done told (OtherLength many) unread is = unread
+unread_not_done told TooLong unread is = cc
+unread_not_done told OtherForm unread is = unread
+unread_not_done told (Faulty fault) unread is = unread
+unread_not_done told DiskFault unread is = unread
+unread_not_done told NotNew unread is = unread
+unread_not_done told (Full size) unread is = unread
+unread_not_done told (NotAPage line) unread is = unread
+unread_not_done told NotAnId unread is = unread
+unread_not_done told Memory unread is = cc
 
 -- nor is one whose page was not read
 pub page_not_done : (error : PageError) → of_page error ≡ Done → ⊥
@@ -90,25 +92,26 @@ report_not_done reports.NotAnId is = cc
 report_not_done reports.Memory is = cc
 
 -- a page that was not read comes to what a report may, where it is refused only as no page
-pub page_refused : (told : Option (List ℕ)) (bytes : List ℕ) (error : PageError) → WereRead told bytes → ((line : ℕ) → error ≡ pages.NotAPage line → IsNoPage bytes) → Reports told (of_page error)
-page_refused told bytes (pages.NotAPage line) read cause = record { bytes = bytes; read = read; none = cause line refl }
-page_refused told bytes pages.Memory read cause = tt
+pub page_refused : (told : Option (List ℕ)) (bytes : List ℕ) (error : PageError) → WereRead told bytes → length bytes < MOST_READ → ((line : ℕ) → error ≡ pages.NotAPage line → IsNoPage bytes) → Reports told (of_page error)
+page_refused told bytes (pages.NotAPage line) read whole cause = record { bytes = bytes; read = read; whole = whole; none = cause line refl }
+page_refused told bytes pages.Memory read whole cause = tt
 
 -- and so does a report that was not made
-pub report_refused : (told : Option (List ℕ)) (id bytes : List ℕ) (error : ReportError) → WereRead told bytes → (error ≡ reports.NotAnId → IsText kinds.Node id → ⊥) → ((line : ℕ) → error ≡ reports.NotAPage line → IsNoPage bytes)
+pub report_refused : (told : Option (List ℕ)) (id bytes : List ℕ) (error : ReportError) → WereRead told bytes → length bytes < MOST_READ → (error ≡ reports.NotAnId → IsText kinds.Node id → ⊥) → ((line : ℕ) → error ≡ reports.NotAPage line → IsNoPage bytes)
     → Follows told id (of_report error)
-report_refused told id bytes (reports.NotAPage line) read no_id cause = record { bytes = bytes; read = read; none = cause line refl }
-report_refused told id bytes reports.NotAnId read no_id cause = no_id refl
-report_refused told id bytes reports.Memory read no_id cause = tt
+report_refused told id bytes (reports.NotAPage line) read whole no_id cause = record { bytes = bytes; read = read; whole = whole; none = cause line refl }
+report_refused told id bytes reports.NotAnId read whole no_id cause = no_id refl
+report_refused told id bytes reports.Memory read whole no_id cause = tt
 
--- a file that was not read comes to what a report may
-pub unread_reports : (told : Option (List ℕ)) (outcome : ToolOutcome) → IsUnread outcome → Reports told outcome
+-- a file that was not read whole comes to what a report may
+pub unread_reports : (told : Option (List ℕ)) (outcome : ToolOutcome) → IsNotReadWhole told outcome → Reports told outcome
 unread_reports told ReadFault unread = tt
 unread_reports told Memory unread = tt
 unread_reports told Done unread = absurd unread
 unread_reports told Usage unread = absurd unread
 unread_reports told (WriteFault took_nothing) unread = absurd unread
 unread_reports told (OtherLength many) unread = absurd unread
+unread_reports told TooLong unread = unread
 unread_reports told OtherForm unread = absurd unread
 unread_reports told (Faulty fault) unread = absurd unread
 unread_reports told DiskFault unread = absurd unread
@@ -118,13 +121,14 @@ unread_reports told (NotAPage line) unread = absurd unread
 unread_reports told NotAnId unread = absurd unread
 
 -- and to what a report of an id may
-pub unread_follows : (told : Option (List ℕ)) (id : List ℕ) (outcome : ToolOutcome) → IsUnread outcome → Follows told id outcome
+pub unread_follows : (told : Option (List ℕ)) (id : List ℕ) (outcome : ToolOutcome) → IsNotReadWhole told outcome → Follows told id outcome
 unread_follows told id ReadFault unread = tt
 unread_follows told id Memory unread = tt
 unread_follows told id Done unread = absurd unread
 unread_follows told id Usage unread = absurd unread
 unread_follows told id (WriteFault took_nothing) unread = absurd unread
 unread_follows told id (OtherLength many) unread = absurd unread
+unread_follows told id TooLong unread = unread
 unread_follows told id OtherForm unread = absurd unread
 unread_follows told id (Faulty fault) unread = absurd unread
 unread_follows told id DiskFault unread = absurd unread
@@ -140,6 +144,7 @@ no_write Done took_nothing before is = cc
 no_write Usage took_nothing before is = cc
 no_write ReadFault took_nothing before is = cc
 no_write (OtherLength many) took_nothing before is = cc
+no_write TooLong took_nothing before is = cc
 no_write OtherForm took_nothing before is = cc
 no_write (Faulty fault) took_nothing before is = cc
 no_write DiskFault took_nothing before is = cc

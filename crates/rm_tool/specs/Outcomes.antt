@@ -10,7 +10,7 @@ use Rattle.rm_page_reader.specs.declared.errors.PageError.TheVariants as pages
 use Rattle.rm_report.specs.declared.errors.ReportError.{ReportError}
 use Rattle.rm_report.specs.declared.errors.ReportError.TheVariants as reports
 use Rattle.rm_tool.specs.declared.outcomes.ToolOutcome.{ToolOutcome}
-use Rattle.rm_tool.specs.declared.outcomes.ToolOutcome.TheVariants.{Done, Usage, ReadFault, WriteFault, OtherLength, OtherForm, Faulty, DiskFault, NotNew, Full, NotAPage, NotAnId, Memory}
+use Rattle.rm_tool.specs.declared.outcomes.ToolOutcome.TheVariants.{Done, Usage, ReadFault, WriteFault, OtherLength, TooLong, OtherForm, Faulty, DiskFault, NotNew, Full, NotAPage, NotAnId, Memory}
 
 -- the status with which the tool ends
 abbrev pub status_of : ToolOutcome → ℕ
@@ -19,6 +19,7 @@ status_of Usage = 1
 status_of ReadFault = 2
 status_of (WriteFault took_nothing) = 3
 status_of (OtherLength length) = 8
+status_of TooLong = 5
 status_of OtherForm = 8
 status_of (Faulty fault) = 8
 status_of DiskFault = 7

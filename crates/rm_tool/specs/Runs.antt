@@ -1,5 +1,5 @@
 -- What a call of the tool comes to, by what it was asked for. This project's own.
-use Rattle.std.specs.Prelude.{◌≡◌, ◌⊎◌, ◌+◌, ◌-◌, ℕ, List, [], ◌++◌, Option, None, Some, IfSome, length, take, replicate}
+use Rattle.std.specs.Prelude.{◌≡◌, ◌⊎◌, ◌-◌, ◌≤◌, ◌<◌, ℕ, List, [], ◌++◌, Option, None, Some, IfSome, length, take, replicate}
 use Rattle.rm_types.specs.declared.operations.Op.{Op}
 use Rattle.rm_types.specs.Folded.{folded}
 use Rattle.rm_disk.specs.Disk.{DiskView, AtEachMoment, EachImage, IfTold}
@@ -11,6 +11,7 @@ use Rattle.rm_page_reader.specs.Told.{IsNoPage}
 use Rattle.rm_report.specs.Following.{IsFollowed}
 use Rattle.rm_report.specs.Summaries.{IsSummary}
 use Rattle.rm_outside.specs.Shelves.{bytes_read}
+use Rattle.rm_outside.specs.declared.shelves.TheConstants.{MOST_READ}
 use Rattle.rm_salvage.specs.declared.checks.Fault.{Fault}
 use Rattle.rm_salvage.specs.declared.forms.Form.{Form}
 use Rattle.rm_salvage.specs.declared.fronts.Stop.{Stop}
@@ -18,9 +19,9 @@ use Rattle.rm_salvage.specs.Checks.{HasOldContent, IsFault, IsOldFault, IsWhole}
 use Rattle.rm_salvage.specs.Forms.{HasFirstFrame, IsForm}
 use Rattle.rm_salvage.specs.Fronts.{IsFront, IsLongest, IsStop}
 use Rattle.rm_salvage.specs.Lists.{left_by}
-use Rattle.rm_salvage.specs.Writes.{HoldsAll, LeavesNoneOrAll}
+use Rattle.rm_salvage.specs.Writes.{HoldsAll}
 use Rattle.rm_tool.specs.declared.outcomes.ToolOutcome.{ToolOutcome}
-use Rattle.rm_tool.specs.declared.outcomes.ToolOutcome.TheVariants.{Done, Usage, ReadFault, WriteFault, OtherLength, OtherForm, Faulty, DiskFault, NotNew, Full, NotAPage, NotAnId, Memory}
+use Rattle.rm_tool.specs.declared.outcomes.ToolOutcome.TheVariants.{Done, Usage, ReadFault, WriteFault, OtherLength, TooLong, OtherForm, Faulty, DiskFault, NotNew, Full, NotAPage, NotAnId, Memory}
 use Rattle.rm_tool.specs.declared.store_files.TheConstants.{STORE_SIZE}
 use Rattle.rm_tool.specs.Words.{Asked, Check, Convert, Salvage, Summary, Follow, Draw}
 
@@ -48,6 +49,19 @@ abbrev pub IsUnread : ToolOutcome → Type 0
 IsUnread ReadFault = Unit {0}
 IsUnread Memory = Unit {0}
 IsUnread _ = ⊥
+
+-- the file is longer than what is read of a page whole
+pub record IsLongFile (told : Option (List ℕ)) : Type 0 where
+  pub bytes : List ℕ
+  pub read : WereRead told bytes
+  pub long : MOST_READ ≤ length bytes
+
+-- the file of a page was not read, or is too long, with one of these
+abbrev pub IsNotReadWhole : Option (List ℕ) → ToolOutcome → Type 0
+IsNotReadWhole told ReadFault = Unit {0}
+IsNotReadWhole told Memory = Unit {0}
+IsNotReadWhole told TooLong = IsLongFile told
+IsNotReadWhole told _ = ⊥
 
 -- the file of a store was not read with one of these
 abbrev pub IsNotRead : Option (List ℕ) → ToolOutcome → Type 0
@@ -82,6 +96,7 @@ Checks told ReadFault = Unit {0}
 Checks told (WriteFault took_nothing) = Unit {0}
 Checks told Memory = Unit {0}
 Checks told Usage = ⊥
+Checks told TooLong = ⊥
 Checks told OtherForm = ⊥
 Checks told DiskFault = ⊥
 Checks told NotNew = ⊥
@@ -116,6 +131,7 @@ Converts told new OtherForm = IsOtherForm told
 Converts told new (Faulty fault) = IsFaultyOld told fault
 Converts told new (OtherLength many) = HasOtherLength told many
 Converts told new Usage = ⊥
+Converts told new TooLong = ⊥
 Converts told new (NotAPage line) = ⊥
 Converts told new NotAnId = ⊥
 Converts told new _ = Unit {0}
@@ -139,6 +155,7 @@ pub record IsSalvaged (told : Option (List ℕ)) (new : DiskView) : Type 0 where
 abbrev pub Salvages : Option (List ℕ) → DiskView → ToolOutcome → Type 0
 Salvages told new Done = IsSalvaged told new
 Salvages told new Usage = ⊥
+Salvages told new TooLong = ⊥
 Salvages told new OtherForm = ⊥
 Salvages told new (Faulty fault) = ⊥
 Salvages told new (OtherLength many) = ⊥
@@ -154,10 +171,11 @@ IsStore bytes = (ops : List Op) × HasContent bytes ops
 abbrev pub KeepsStore : DiskView → DiskView → Type 0
 KeepsStore old new = IfTold old (λ _. EachImage old (λ image. HasContent image []) → AtEachMoment old new IsStore)
 
--- the file is no page
+-- the file is no page, all of it
 pub record IsNoPageFile (told : Option (List ℕ)) : Type 0 where
   pub bytes : List ℕ
   pub read : WereRead told bytes
+  pub whole : length bytes < MOST_READ
   pub none : IsNoPage bytes
 
 -- what a report of the page in a file comes to
@@ -166,6 +184,7 @@ Reports told Done = Unit {0}
 Reports told ReadFault = Unit {0}
 Reports told (WriteFault took_nothing) = Unit {0}
 Reports told (NotAPage line) = IsNoPageFile told
+Reports told TooLong = IsLongFile told
 Reports told Memory = Unit {0}
 Reports told _ = ⊥
 
@@ -184,10 +203,11 @@ Comes told (Some (Summary page)) new outcome = Reports (told page) outcome
 Comes told (Some (Follow page id)) new outcome = Follows (told page) id outcome
 Comes told (Some (Draw page)) new outcome = Reports (told page) outcome
 
--- a text is a report of the page that was read of a file
+-- a text is a report of the page in a file, of all its bytes
 pub record IsReport (told : Option (List ℕ)) (IsOf : List ℕ → List ℕ → Type 0) (text : List ℕ) : Type 0 where
   pub bytes : List ℕ
   pub read : WereRead told bytes
+  pub whole : length bytes < MOST_READ
   pub is : IsOf bytes text
 
 -- what a call that is Done wrote, by what was asked for: the summary of the page, or what the page tells of an id

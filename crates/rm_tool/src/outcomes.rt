@@ -25,6 +25,9 @@ pub enum ToolOutcome {
     /// The file has so many bytes, and not those of a store.
     #[error("the file has {length} bytes, and a store has 4194304")]
     OtherLength { length: u64 },
+    /// The page's file has more than 16,777,216 bytes, and isn't read whole.
+    #[error("the file has more than 16777216 bytes")]
+    TooLong,
     /// The file holds no store of the old form, or an empty one.
     #[error("the file is no store of the old form, or an empty one")]
     OtherForm,
@@ -62,6 +65,7 @@ pub fn status_of(outcome: ToolOutcome) -> u8
         ToolOutcome::ReadFault => 2,
         ToolOutcome::WriteFault { .. } => 3,
         ToolOutcome::NotAPage { .. } => 5,
+        ToolOutcome::TooLong => 5,
         ToolOutcome::DiskFault => 7,
         ToolOutcome::NotNew => 7,
         ToolOutcome::OtherLength { .. } => 8,

@@ -1,7 +1,7 @@
-ghost use Rattle.std.specs.Prelude.{◌≡◌, ◌⊎◌, true, false, Err, IfErr, IfOk, Some, map, string_bytes};
+ghost use Rattle.std.specs.Prelude.{◌≡◌, ◌⊎◌, ◌<◌, true, false, Err, IfErr, IfOk, Some, length, map, string_bytes};
 ghost use Rattle.rm_types.specs.Counts.{Rose};
 ghost use Rattle.rm_tool.specs.Outcomes.{IsBeforePage};
-ghost use Rattle.rm_tool.specs.Runs.{Checks, Comes, Converts, Follows, IsNotRead, IsReport, IsUnread, IsWritten, KeepsStore, Reports, Salvages, WereRead, Writes};
+ghost use Rattle.rm_tool.specs.Runs.{Checks, Comes, Converts, Follows, IsNotRead, IsNotReadWhole, IsReport, IsUnread, IsWritten, KeepsStore, Reports, Salvages, WereRead, Writes};
 ghost use Rattle.rm_report.specs.Following.{IsFollowed};
 ghost use Rattle.rm_report.specs.Summaries.{IsSummary};
 ghost use Rattle.rm_tool.specs.Words.{asked, mode_of};
@@ -12,7 +12,7 @@ use crate::store_files::{STORE_SIZE, bring_to_size};
 use crate::words::{Mode, mode_of};
 use rm_chart::draw;
 use rm_disk::Disk;
-use rm_outside::{Shelf, ShelfError, Sink, write_all};
+use rm_outside::{MOST_READ, Shelf, ShelfError, Sink, write_all};
 use rm_report::{follow, summary};
 use rm_salvage::{
     ConvertError, FixedDisk, Salvaged, check, kept_operations, old_operations, salvage, write_anew,
@@ -27,7 +27,7 @@ use std::alloc::Global;
 ///   store, and `Faulty` only where this is its fault: of two areas exactly what the manager refuses to open it for. A conversion is `Done` only where
 ///   the file is a whole store of the old form, and then the new disk holds what is left of its operations. A salvage that is `Done` left the longest
 ///   front of operations that are whole and not stray on the new disk. `NotAnId` comes only where the word is no id and can't be a node's name, and
-///   `NotAPage` only where the file is no page.
+///   `NotAPage` only where the file is no page, all of it; of a longer file than is read whole `TooLong` comes.
 /// - `any_moment`: where a crash left a store without operations on the new disk before, at every moment of the call it leaves a store that the manager
 ///   opens.
 /// - `writes`: `summary` that is Done wrote exactly the summary of the page, and `follow` exactly what the page tells of the id.
@@ -135,6 +135,22 @@ fn read_store<F: Shelf>(shelf: &mut F, name: &str) -> Result<FixedDisk, ToolOutc
     Ok(FixedDisk::new(Items::from_vec(bytes)))
 }
 
+/// Reads the file of a page, all of it.
+fn read_page_file<F: Shelf>(shelf: &mut F, name: &str) -> Result<Vec<u8>, ToolOutcome>
+    ensures bytes { IfOk result (λ bytes. WereRead (F.bytes_of shelf.old name.now) bytes.items) }
+    ensures whole { IfOk result (λ bytes. length bytes.items < MOST_READ) }
+    ensures told { F.bytes_of shelf.new ≡ F.bytes_of shelf.old }
+    ensures errors { IfErr result (IsNotReadWhole (F.bytes_of shelf.old name.now)) }
+    ensures failed { result ≡ Err ToolOutcome.ReadFault → Rose (F.faults shelf.old) (F.faults shelf.new) }
+{
+    let bytes = read(shelf, name)?;
+    if bytes.len() < MOST_READ {
+        Ok(bytes)
+    } else {
+        Err(ToolOutcome::TooLong)
+    }
+}
+
 /// Says whether the store in a file is whole.
 fn check_file<F: Shelf>(alloc: Global, shelf: &mut F, file: &str) -> Made
     ensures comes { Checks (F.bytes_of shelf.old file.now) result.outcome }
@@ -231,7 +247,7 @@ fn summarize_file<F: Shelf>(alloc: Global, shelf: &mut F, page: &str) -> Made
     ensures read_fault { result.outcome ≡ ToolOutcome.ReadFault → Rose (F.faults shelf.old) (F.faults shelf.new) }
     ensures not_written { IsBeforePage result.outcome }
 {
-    let bytes = match read(shelf, page) {
+    let bytes = match read_page_file(shelf, page) {
         Ok(bytes) => bytes,
         Err(outcome) => return stopped(alloc, outcome),
     };
@@ -252,7 +268,7 @@ fn follow_file<F: Shelf>(alloc: Global, shelf: &mut F, page: &str, id: &str) -> 
     ensures read_fault { result.outcome ≡ ToolOutcome.ReadFault → Rose (F.faults shelf.old) (F.faults shelf.new) }
     ensures not_written { IsBeforePage result.outcome }
 {
-    let bytes = match read(shelf, page) {
+    let bytes = match read_page_file(shelf, page) {
         Ok(bytes) => bytes,
         Err(outcome) => return stopped(alloc, outcome),
     };
@@ -272,7 +288,7 @@ fn draw_file<F: Shelf>(alloc: Global, shelf: &mut F, page: &str) -> Made
     ensures read_fault { result.outcome ≡ ToolOutcome.ReadFault → Rose (F.faults shelf.old) (F.faults shelf.new) }
     ensures not_written { IsBeforePage result.outcome }
 {
-    let bytes = match read(shelf, page) {
+    let bytes = match read_page_file(shelf, page) {
         Ok(bytes) => bytes,
         Err(outcome) => return stopped(alloc, outcome),
     };

@@ -3,7 +3,7 @@ ghost use Rattle.std.specs.Prelude.{◌≡◌, length};
 
 use rm_disk::{Disk, MemDisk};
 use rm_outside::{MemShelf, MemSink, NamedFile};
-use rm_tool::{STORE_SIZE, status_of, top};
+use rm_tool::{STORE_SIZE, ToolOutcome, status_of, top};
 use rm_types::{Items, Text};
 use std::process::Abort;
 
@@ -191,6 +191,22 @@ fn other_files_are_refused(rt: HostRuntime) {
     tells(&rt, &["check", "no.store"], none, &mut disk, 2, "");
     let long = bytes_of(&rt, &[GENERATION, EPOCH, APP], STORE_SIZE * 4);
     tells(&rt, &["check", "old.store"], long, &mut disk, 8, "");
+}
+
+#[test]
+fn a_page_of_more_bytes_than_are_read_is_too_long(rt: HostRuntime) {
+    let words = words_of(&rt, &["summary", "old.store"]);
+    let mut shelf = shelf_of(&rt, bytes_of(&rt, &[], STORE_SIZE * 4 + 1));
+    let mut sink = MemSink::new(rt.alloc(), Items::new(rt.alloc()), 4096);
+    let mut disk = new_disk(&rt);
+    let outcome = top(
+        rt.alloc(),
+        words.as_slice(),
+        &mut shelf,
+        &mut sink,
+        &mut disk,
+    );
+    assert!(rt; matches!(outcome, ToolOutcome::TooLong));
 }
 
 #[test]
