@@ -1,14 +1,14 @@
-ghost use Rattle.rm_app.specs.Laws.{RowsAreOne, EndsAreKept, RunsAreAccepted, AcceptancesAreKept, KillsEnd, StoreIsToldTwice};
+ghost use Rattle.rm_app.specs.Laws.{AppRowsAreOne, AppTableKeepsEnds, RunsAreAccepted, AcceptancesAreKept, KillsEnd, StoreIsToldTwice};
 
 /// A state and an event have at most one row.
 pub fn one_row_answers_each_pair()
-    ensures { RowsAreOne }
+    ensures { AppRowsAreOne }
 {}
 
 /// An application comes to a final state only from its end's save, by the word that this end is kept, and
 /// it retires then and at no other time.
 pub fn an_end_is_kept_before_it_is_told()
-    ensures { EndsAreKept }
+    ensures { AppTableKeepsEnds }
 {}
 
 /// An application comes to run only from being accepted, when a master registers.

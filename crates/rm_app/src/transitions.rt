@@ -1,5 +1,5 @@
 ghost use Rattle.std.specs.Prelude.{◌≡◌, ◌↔◌, ◌⊎◌, IsTrue, Some, IfSome};
-ghost use Rattle.rm_app.specs.Table.{Row, IsFinal, state_of};
+ghost use Rattle.rm_app.specs.Table.{AppTransition, IsFinalApp, end_state};
 
 use crate::states::{AppAction, AppEvent, AppState};
 use rm_types::How;
@@ -7,8 +7,8 @@ use rm_types::How;
 /// What follows when an event meets an application in a state: its next state, and what is then to be done.
 /// `None` comes exactly where the table has no row for the two: the event is then ignored.
 pub fn step(state: AppState, event: AppEvent) -> Option<(AppState, AppAction)>
-    ensures row { IfSome result (λ answer. Row state event answer.0 answer.1) }
-    ensures answered { (next : AppState) (action : AppAction) → Row state event next action → result ≡ Some (next, action) }
+    ensures row { IfSome result (λ answer. AppTransition state event answer.0 answer.1) }
+    ensures answered { (next : AppState) (action : AppAction) → AppTransition state event next action → result ≡ Some (next, action) }
 {
     let row = match (state, event) {
         (AppState::New, AppEvent::Start) => (AppState::NewSaving, AppAction::IssueApp),
@@ -33,7 +33,7 @@ pub fn step(state: AppState, event: AppEvent) -> Option<(AppState, AppAction)>
 
 /// The state of an application whose end is kept.
 fn ended_state(how: How) -> AppState
-    ensures { result ≡ state_of how }
+    ensures { result ≡ end_state how }
 {
     match how {
         How::Finished => AppState::Finished,
@@ -44,7 +44,7 @@ fn ended_state(how: How) -> AppState
 
 /// Whether an application in this state is over, with its end kept: nothing follows any more.
 pub fn is_final(state: AppState) -> bool
-    ensures none_follows { IsTrue result ↔ IsFinal state }
+    ensures none_follows { IsTrue result ↔ IsFinalApp state }
     ensures which { IsTrue result ↔ ((state ≡ AppState.Finished) ⊎ (state ≡ AppState.Failed) ⊎ (state ≡ AppState.Killed)) }
 {
     matches!(

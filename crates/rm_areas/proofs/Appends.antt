@@ -6,7 +6,7 @@ use Rattle.rm_disk.specs.Disk.{DiskView, EachImage, IfTold, AtEachMoment, AnyIn,
 use Rattle.rm_disk.proofs.Views.{told_before}
 use Rattle.rm_formats.specs.Device.{HasPayloads}
 use Rattle.rm_journal.specs.Fault.{IsAppendError, IsRefusal}
-use Rattle.rm_journal.specs.Journal.{Place, JournalInvariant, RegionHas, StaysInRegion, LeavesEither, AppendsPayload, broken_after, region_of}
+use Rattle.rm_journal.specs.Journal.{JournalPlace, JournalInvariant, RegionHas, StaysInRegion, LeavesEither, AppendsPayload, broken_after, region_of}
 use Rattle.rm_journal.specs.declared.fault.JournalError.{JournalError}
 use Rattle.rm_journal.specs.declared.fault.JournalError.TheVariants.{DiskFault, Damaged, Full, NeedsReopen, Memory}
 use Rattle.rm_areas.specs.Areas.{AreasAt, AreasInvariant, AreasHold, HasLayout, IsOlder, OtherIs, HoldsPayloads, area_of, area_from, area_end, head_of}
@@ -91,7 +91,7 @@ module _ (v0 v1 : DiskView) (a : AreasAt) (stands : AreasInvariant v0 a) (sound 
   other_kept : EachImage v1 (λ image. OtherIs a.other_live (area_of a.half (not a.second) image) a.generation)
   other_kept image is = let any = wrote.images image is in subst (λ (l : List ℕ). OtherIs a.other_live l a.generation) (sym (other_same any.0 image any.2)) (stands.other sound any.0 any.1)
 
-  pub append_stands : (r : Result (Unit {0}) JournalError) (j : Place) → JournalInvariant v1 j → StaysInRegion a.journal j → (broken_after r false ≡ false → j.is_broken ≡ false) → a.build ≡ None
+  pub append_stands : (r : Result (Unit {0}) JournalError) (j : JournalPlace) → JournalInvariant v1 j → StaysInRegion a.journal j → (broken_after r false ≡ false → j.is_broken ≡ false) → a.build ≡ None
       → ((bytes : List ℕ) → v1.told ≡ Some bytes → v1.images bytes) → OnOk r (AppendsPayload v0 v1 a.journal payload) → IfErr r (λ e. IsRefusal e → ((payloads : List (List ℕ)) → EachImage v0 (AreasHold a payloads) → EachImage v1 (AreasHold a payloads))) → IfErr r IsAppendError
       → AreasInvariant v1 (record a { journal = j; is_broken = broken_after r false })
   append_stands r j on region unbroken none reads1 added refused errors = record {

@@ -3,7 +3,7 @@ use Rattle.std.proofs.Common.{◌≡◌, ◌⊎◌, ℕ, ◌+◌, ◌≤◌, Lis
 use Rattle.rm_disk.specs.Disk.{DiskView, EachImage, AtEachMoment, AnyIn, SameElsewhere, MayWrite, IsQuiet}
 use Rattle.rm_disk.proofs.Views.{told_before, leaves_same, leaves_trans, leaves_of}
 use Rattle.rm_formats.specs.Device.{HasPayloads}
-use Rattle.rm_journal.specs.Journal.{Place, RegionHas, JournalInvariant, region_of}
+use Rattle.rm_journal.specs.Journal.{JournalPlace, RegionHas, JournalInvariant, region_of}
 use Rattle.rm_areas.proofs.Bytes.{outside}
 
 pub some_same : (a b : List ℕ) (o : Option (List ℕ)) → o ≡ Some a → o ≡ Some b → b ≡ a
@@ -29,7 +29,7 @@ pub moment_of : (P Q : List ℕ → Type 0) (a b : DiskView) → ((image : List 
 moment_of P Q a b weaken ab = record { so_far = leaves_of a b P Q weaken ab.so_far; now = λ image is. weaken image (ab.now image is) }
 
 -- a journal stands on where only bytes outside its region change
-module _ (v w : DiskView) (j : Place) (at many : ℕ) (apart : (j.end ≤ at) ⊎ (at + many ≤ j.from)) (wrote : MayWrite at many v w) (stands : JournalInvariant v j) where
+module _ (v w : DiskView) (j : JournalPlace) (at many : ℕ) (apart : (j.end ≤ at) ⊎ (at + many ≤ j.from)) (wrote : MayWrite at many v w) (stands : JournalInvariant v j) where
   same_in : (x y : List ℕ) → SameElsewhere at many x y → region_of j.from j.end y ≡ region_of j.from j.end x
   same_in x y same = outside at many j.from j.end x y (omega (arith, stands.first, stands.last)) same apart
 

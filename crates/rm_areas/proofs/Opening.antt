@@ -5,7 +5,7 @@ use Rattle.std.proofs.lemmas.Bool.{true≢false, cases_eq}
 use Rattle.std.proofs.lemmas.Bool.Decides.{nat_tests}
 use Rattle.rm_disk.specs.Disk.{DiskView, IfTold, IsDurable}
 use Rattle.rm_formats.specs.Device.{IsPayload, journal_record, journal_records, HasPayloads, IsDamagedAt}
-use Rattle.rm_journal.specs.Journal.{Place, IsOpened, HasRead, region_of}
+use Rattle.rm_journal.specs.Journal.{JournalPlace, IsOpened, HasRead, region_of}
 use Rattle.rm_journal.proofs.Payloads.{empty_none, shut_none, open_first, unique, length-journal_record}
 use Rattle.rm_areas.proofs.Bytes.{area_inside}
 use Rattle.rm_areas.proofs.Steps.{from_inside}
@@ -68,8 +68,8 @@ picked_one v half one two false first last high1 high2 room1 room2 apart alive n
 }
 
 module _ (v : DiskView) (half : ℕ) (second : Bool) (g o : ℕ) (p : IsPicked v half second g o) (half_is : half ≡ v.size / 2) (inside : half + half ≤ v.size) (durable : IsDurable v) (reads : (bytes : List ℕ) → v.told ≡ Some bytes → v.images bytes) (sizes : (image : List ℕ) → v.images image → length image ≡ v.size)
-    (j : Place) (opened : IsOpened v (area_from half second) half j) (live : Bool) (alive : live ≡ true → o ≢ 0) (dead : live ≡ false → o ≡ 0) (head : ℕ) (none : g ≡ 0 → head ≡ 0) (some : g ≢ 0 → head ≡ 13) where
-  abbrev placed : Place
+    (j : JournalPlace) (opened : IsOpened v (area_from half second) half j) (live : Bool) (alive : live ≡ true → o ≢ 0) (dead : live ≡ false → o ≡ 0) (head : ℕ) (none : g ≡ 0 → head ≡ 0) (some : g ≢ 0 → head ≡ 13) where
+  abbrev placed : JournalPlace
   placed = record j { cursor = area_from half second + head }
 
   abbrev areas : AreasAt
@@ -161,7 +161,7 @@ head_same (h ∷ head) one two is = head_same head one two (ap (λ (l : List (Li
 
 -- areas that were read whole
 module _ (v : DiskView) (r : ReadingAt) (is : IsReading v r) (done : r.walk.is_done ≡ true) (reads : (bytes : List ℕ) → v.told ≡ Some bytes → v.images bytes) (sizes : (image : List ℕ) → v.images image → length image ≡ v.size)
-    (j : Place) (opened : IsOpened v r.walk.from (r.walk.end - r.walk.from) j) (head : ℕ) (none : r.generation ≡ 0 → head ≡ 0) (some : r.generation ≢ 0 → head ≡ 13) where
+    (j : JournalPlace) (opened : IsOpened v r.walk.from (r.walk.end - r.walk.from) j) (head : ℕ) (none : r.generation ≡ 0 → head ≡ 0) (some : r.generation ≢ 0 → head ≡ 13) where
   long_enough : r.walk.end - r.walk.from ≡ r.half
   long_enough = let a = is.from in let b = is.end in omega (arith, a, b)
 

@@ -10,7 +10,7 @@ use Rattle.rm_disk.specs.Disk.{DiskView, EachImage, IfTold, AtEachMoment, SameEl
 use Rattle.rm_disk.proofs.Puts.{get_or-put, put_elsewhere}
 use Rattle.rm_disk.proofs.Views.{told_before}
 use Rattle.rm_formats.specs.Device.{IsPayload, sized, journal_record, journal_records, HasPayloads, records}
-use Rattle.rm_journal.specs.Journal.{Place, JournalInvariant, region_of}
+use Rattle.rm_journal.specs.Journal.{JournalPlace, JournalInvariant, region_of}
 use Rattle.rm_journal.proofs.Payloads.{unique, records_push, length-records_push, length-journal_record}
 use Rattle.rm_journal.proofs.Nexts.{stands_quiet}
 use Rattle.rm_areas.specs.Areas.{AreasAt, area_from, area_end, area_of, head_of, IsShut, IsBefore, IsOlder, shut, OtherIs, HasLayout, AreasHold, IsBuilt, AreasInvariant, ClosesGate, other_from, other_end}
@@ -422,7 +422,7 @@ module _ (v0 : DiskView) (a : AreasAt) (stands : AreasInvariant v0 a) (sound : a
       }
 
 -- areas of which the next payload was read
-pub stands_read : (v w : DiskView) (a : AreasAt) (j : Place) → AreasInvariant v a → IsQuiet v w → JournalInvariant w j → j.from ≡ a.journal.from → j.end ≡ a.journal.end → j.is_broken ≡ a.journal.is_broken → AreasInvariant w (record a { journal = j })
+pub stands_read : (v w : DiskView) (a : AreasAt) (j : JournalPlace) → AreasInvariant v a → IsQuiet v w → JournalInvariant w j → j.from ≡ a.journal.from → j.end ≡ a.journal.end → j.is_broken ≡ a.journal.is_broken → AreasInvariant w (record a { journal = j })
 stands_read v w a j stands quiet on from end broken = record {
   half = stands.half ∙ ap (λ (n : ℕ). n / 2) (sym quiet.goes_on.size);
   inside = omega (arith, stands.inside, quiet.goes_on.size);

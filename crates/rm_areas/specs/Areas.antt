@@ -4,7 +4,7 @@ use Rattle.std.specs.Prelude.{◌≡◌, ◌≢◌, ◌⊎◌, ◌+◌, ◌-◌,
 use Rattle.std.specs.Int.{w64, to_be_bytes}
 use Rattle.rm_formats.specs.Device.{IsPayload, journal_record, journal_records, HasPayloads, IsDamagedAt}
 use Rattle.rm_disk.specs.Disk.{DiskView, IfTold, EachImage, AtEachMoment, IsDurable, IsQuiet, MayWrite, put}
-use Rattle.rm_journal.specs.Journal.{Place, JournalInvariant, region_of}
+use Rattle.rm_journal.specs.Journal.{JournalPlace, JournalInvariant, region_of}
 
 -- where an area begins: the first at 0, the second in the middle
 abbrev pub area_from : ℕ → Bool → ℕ
@@ -73,7 +73,7 @@ pub record AreasAt : Type 0 where
   pub half : ℕ
   pub second : Bool
   pub generation : ℕ
-  pub journal : Place
+  pub journal : JournalPlace
   pub other_live : Bool
   pub build : Option ℕ
   pub is_broken : Bool
@@ -120,8 +120,8 @@ abbrev pub LeavesPayloads : DiskView → DiskView → ℕ → List (List ℕ) �
 LeavesPayloads old new half payloads = AtEachMoment old new (HasLayout half payloads)
 
 -- at each moment a crash leaves these payloads, or those
-abbrev pub LeavesEither : DiskView → DiskView → ℕ → List (List ℕ) → List (List ℕ) → Type 0
-LeavesEither old new half payloads others = AtEachMoment old new (λ image. HasLayout half payloads image ⊎ HasLayout half others image)
+abbrev pub LeavesEitherLayout : DiskView → DiskView → ℕ → List (List ℕ) → List (List ℕ) → Type 0
+LeavesEitherLayout old new half payloads others = AtEachMoment old new (λ image. HasLayout half payloads image ⊎ HasLayout half others image)
 
 -- a disk has these payloads: each image has, and so has what it tells
 pub record HoldsPayloads (disk : DiskView) (half : ℕ) (payloads : List (List ℕ)) : Type 0 where

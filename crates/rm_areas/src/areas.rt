@@ -9,7 +9,7 @@ ghost use Rattle.rm_journal.specs.Fault.{IsAppendError, IsLookError, IsRefusal, 
 ghost use Rattle.rm_journal.specs.Journal.{broken_after, region_of, HasRead, GivesNext};
 ghost use Rattle.rm_journal.specs.Walk.{HasWalked, GivesWalked};
 ghost use Rattle.rm_areas.specs.Reading.{IsReading};
-ghost use Rattle.rm_areas.specs.Areas.{AreasAt, AreasInvariant, AreasHold, IsBuilt, HasLayout, LeavesPayloads, LeavesEither, HoldsPayloads, other_from, other_end, head_of, area_from, ClosesGate, IsGeneration, HasBadHead, IsDamagedLayout};
+ghost use Rattle.rm_areas.specs.Areas.{AreasAt, AreasInvariant, AreasHold, IsBuilt, HasLayout, LeavesPayloads, LeavesEitherLayout, HoldsPayloads, other_from, other_end, head_of, area_from, ClosesGate, IsGeneration, HasBadHead, IsDamagedLayout};
 
 use rm_disk::Disk;
 use rm_formats::{MOST_PAYLOAD, RECORD_FRAME, RECORD_HEAD};
@@ -145,7 +145,7 @@ impl Areas {
         ensures broken { self.new.is_broken ≡ broken_after result self.old.is_broken }
         ensures generation { self.new.generation ≡ self.old.generation }
         ensures no_build { self.new.build ≡ None }
-        ensures any_moment { self.old.is_broken ≡ false → IfTold (D.view disk.old) (λ bytes. (payloads : List (List ℕ)) → AreasHold self.old payloads bytes → LeavesEither (D.view disk.old) (D.view disk.new) self.old.half payloads (payloads ++ payload.now ∷ [])) }
+        ensures any_moment { self.old.is_broken ≡ false → IfTold (D.view disk.old) (λ bytes. (payloads : List (List ℕ)) → AreasHold self.old payloads bytes → LeavesEitherLayout (D.view disk.old) (D.view disk.new) self.old.half payloads (payloads ++ payload.now ∷ [])) }
         ensures added { OnOk result (IfTold (D.view disk.old) (λ bytes. (payloads : List (List ℕ)) → AreasHold self.old payloads bytes → HoldsPayloads (D.view disk.new) self.old.half (payloads ++ payload.now ∷ []))) }
 
         // It writes no more than the closed gate, what it puts behind that, and the next gate.
@@ -276,7 +276,7 @@ impl Areas {
         ensures generation { OnOk result (self.new.generation ≡ self.old.generation + 1) }
         ensures moved { OnOk result ((gate : ℕ) → self.old.build ≡ Some gate → (self.new.journal.gate ≡ gate) × (self.new.journal.end ≡ other_end self.old)) }
         ensures no_build { OnOk result (self.new.build ≡ None) }
-        ensures any_moment { self.old.is_broken ≡ false → IfTold (D.view disk.old) (λ bytes. (payloads added : List (List ℕ)) → AreasHold self.old payloads bytes → IsBuilt (D.view disk.old) self.old added → LeavesEither (D.view disk.old) (D.view disk.new) self.old.half payloads added) }
+        ensures any_moment { self.old.is_broken ≡ false → IfTold (D.view disk.old) (λ bytes. (payloads added : List (List ℕ)) → AreasHold self.old payloads bytes → IsBuilt (D.view disk.old) self.old added → LeavesEitherLayout (D.view disk.old) (D.view disk.new) self.old.half payloads added) }
         ensures added { OnOk result ((added : List (List ℕ)) → IsBuilt (D.view disk.old) self.old added → IfTold (D.view disk.new) (AreasHold self.new added) × EachImage (D.view disk.new) (AreasHold self.new added)) }
 
         // It writes no more than the other area's first gate.

@@ -1,8 +1,8 @@
-ghost use Rattle.rm_attempt.specs.Laws.{RowsAreOne, RegisteredWereLive, LiveWereKept, EndsAreKept, DroppedWereUnsaved};
+ghost use Rattle.rm_attempt.specs.Laws.{AttemptRowsAreOne, RegisteredWereLive, LiveWereKept, AttemptTableKeepsEnds, DroppedWereUnsaved};
 
 /// A state and an event have at most one row.
 pub fn one_row_answers_each_pair()
-    ensures { RowsAreOne }
+    ensures { AttemptRowsAreOne }
 {}
 
 /// A master registers only with an attempt that is live.
@@ -18,7 +18,7 @@ pub fn an_attempt_is_kept_before_it_is_live()
 
 /// An attempt's end is issued to the store first, and told once it is kept and at no other time.
 pub fn an_end_is_kept_before_it_is_told()
-    ensures { EndsAreKept }
+    ensures { AttemptTableKeepsEnds }
 {}
 
 /// An attempt is dropped only before it is issued to the store. From then on it never waits for a container

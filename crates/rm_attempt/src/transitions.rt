@@ -1,13 +1,13 @@
 ghost use Rattle.std.specs.Prelude.{◌≡◌, ◌↔◌, ◌⊎◌, IsTrue, Some, IfSome};
-ghost use Rattle.rm_attempt.specs.Table.{Row, IsFinal};
+ghost use Rattle.rm_attempt.specs.Table.{AttemptTransition, IsFinalAttempt};
 
 use crate::states::{AttemptAction as Action, AttemptEvent as Event, AttemptState as State};
 
 /// What follows when an event meets an attempt in a state: its next state, and what is then to be done.
 /// `None` comes exactly where the table has no row for the two: the event is then ignored.
 pub fn step(state: State, event: Event) -> Option<(State, Action)>
-    ensures row { IfSome result (λ answer. Row state event answer.0 answer.1) }
-    ensures answered { (next : State) (action : Action) → Row state event next action → result ≡ Some (next, action) }
+    ensures row { IfSome result (λ answer. AttemptTransition state event answer.0 answer.1) }
+    ensures answered { (next : State) (action : Action) → AttemptTransition state event next action → result ≡ Some (next, action) }
 {
     let row = match (state, event) {
         (State::Scheduled, Event::Grant) => (State::Granted, Action::PostGranted),
@@ -29,7 +29,7 @@ pub fn step(state: State, event: Event) -> Option<(State, Action)>
 
 /// Whether an attempt in this state is over, with its end kept, or dropped: nothing follows any more.
 pub fn is_final(state: State) -> bool
-    ensures none_follows { IsTrue result ↔ IsFinal state }
+    ensures none_follows { IsTrue result ↔ IsFinalAttempt state }
     ensures which { IsTrue result ↔ ((state ≡ State.Ended) ⊎ (state ≡ State.Dropped)) }
 {
     matches!(state, State::Ended | State::Dropped)

@@ -16,8 +16,8 @@ use Rattle.rm_types.specs.Resources.{Fits}
 use Rattle.rm_types.proofs.IdLemmas.{container_itself, same_container}
 use Rattle.rm_types.proofs.TestLemmas.{text_itself}
 use Rattle.rm_book.specs.declared.node_table.NodeLoad.{NodeLoad}
-use Rattle.rm_book.specs.Books.{AreLiving, AreOnce, BookOf, entering, is_of, row_taken, sizes_on, taken_rows, total_on, with_capability, with_taken}
-use Rattle.rm_book.specs.Kept.{AreFresh, AreUsed, IsKept, entered_rows, shown}
+use Rattle.rm_book.specs.Books.{AreLiving, AreOnce, BookOf, entering, is_of, book_row_taken, sizes_on, taken_rows, total_on, with_capability, book_with_taken}
+use Rattle.rm_book.specs.Kept.{AreFresh, AreUsed, ShowsBook, entered_rows, nodes_shown}
 use Rattle.rm_book.proofs.Batch.{entered_sizes, entered_taken}
 use Rattle.rm_book.proofs.BookSteps.{seen, used_same}
 use Rattle.rm_book.proofs.LeavingSteps.{staying}
@@ -66,13 +66,13 @@ module _ (all : List BookRow) (ended : List ContainerId) where
           let out = gone_where held.id false has in
           rw (has, out) (ap (λ more. record { id = held.id; node = node; size = held.size; state = Running; told = added + 1 } ∷ more) (rest (added + 1)))
 
-module _ (loads : List (List ℕ × NodeLoad)) (rows : List BookRow) (added : ℕ) (kept : IsKept loads rows added)
+module _ (loads : List (List ℕ × NodeLoad)) (rows : List BookRow) (added : ℕ) (kept : ShowsBook loads rows added)
     (node : List ℕ) (capability : Resource) (taken : List Held) (ended : List ContainerId) where
   abbrev book : BookOf
   book = seen loads rows added
 
   abbrev after : BookOf
-  after = with_taken book node capability taken ended
+  after = book_with_taken book node capability taken ended
 
   abbrev list : List Held
   list = entering book taken
@@ -98,11 +98,11 @@ module _ (loads : List (List ℕ × NodeLoad)) (rows : List BookRow) (added : �
   left_after {in_rows} {left} {held} {ids} entered is_list is_left is_gone =
       is_left ∙ ap (λ (ids : List ContainerId). staying ids in_rows) is_gone ∙ ap (staying gone) (entered ∙ ap (λ (l : List Held). rows ++ entered_rows Running added node l) is_list)
 
-  rows_after : map (row_taken taken) (staying gone joined) ≡ after.rows
+  rows_after : map (book_row_taken taken) (staying gone joined) ≡ after.rows
   rows_after =
-      ap (map (row_taken taken)) left_rows ∙ map-append (row_taken taken) (staying ended rows) new_rows
-      ∙ ap (λ l. map (row_taken taken) (staying ended rows) ++ map (row_taken taken) l) (entered_taken added node list)
-      ∙ ap (λ l. map (row_taken taken) (staying ended rows) ++ l) (running_stay taken added node list)
+      ap (map (book_row_taken taken)) left_rows ∙ map-append (book_row_taken taken) (staying ended rows) new_rows
+      ∙ ap (λ l. map (book_row_taken taken) (staying ended rows) ++ map (book_row_taken taken) l) (entered_taken added node list)
+      ∙ ap (λ l. map (book_row_taken taken) (staying ended rows) ++ l) (running_stay taken added node list)
 
   pub fresh_entering : AreOnce taken → AreFresh rows list
   fresh_entering once = fresh_of rows rows taken (λ id none. none) once
@@ -114,7 +114,7 @@ module _ (loads : List (List ℕ × NodeLoad)) (rows : List BookRow) (added : �
 
   part_within : (part : Resource → ℕ) → sum_by part (map (λ held. held.size) list) ≤ sum_by part (sizes_on node after.rows)
   part_within part =
-      let parts = sum_joined part node (map (row_taken taken) (staying ended rows)) (taken_rows added node list) in
+      let parts = sum_joined part node (map (book_row_taken taken) (staying ended rows)) (taken_rows added node list) in
       let own : sizes_on node (taken_rows added node list) ≡ map (λ held. held.size) list =
       ap (sizes_on node) (sym (entered_taken added node list)) ∙ entered_sizes Running added node node list (text_itself node) in
       let sums = ap (sum_by part) own in
@@ -124,12 +124,12 @@ module _ (loads : List (List ℕ × NodeLoad)) (rows : List BookRow) (added : �
   pub entering_fits : Fits (total_on node after.rows) capability → Fits (total_of (map (λ held. held.size) list)) capability
   entering_fits fits = (omega (arith, fits.0, part_within (λ size. size.memory_mb)), omega (arith, fits.1, part_within (λ size. size.vcores)))
 
-  module _ (new : List (List ℕ × NodeLoad)) (left ran : List BookRow) (is_left : left ≡ staying gone joined) (is_ran : ran ≡ map (row_taken taken) left) where
+  module _ (new : List (List ℕ × NodeLoad)) (left ran : List BookRow) (is_left : left ≡ staying gone joined) (is_ran : ran ≡ map (book_row_taken taken) left) where
     pub ran_after : ran ≡ after.rows
-    ran_after = is_ran ∙ ap (map (row_taken taken)) is_left ∙ rows_after
+    ran_after = is_ran ∙ ap (map (book_row_taken taken)) is_left ∙ rows_after
 
-    pub absorbed_kept : (count : ℕ) → count ≡ added + length list → shown new ≡ with_capability node capability (shown loads) → AreUsed new left → AreOnce taken
-        → Fits (total_on node after.rows) capability → IsKept new ran count
+    pub absorbed_kept : (count : ℕ) → count ≡ added + length list → nodes_shown new ≡ with_capability node capability (nodes_shown loads) → AreUsed new left → AreOnce taken
+        → Fits (total_on node after.rows) capability → ShowsBook new ran count
     absorbed_kept count counted seen_new used once fits = record {
       book = rw (ran_after, seen_new, counted) (taken_lawful book node capability taken ended kept.book once fits);
       used = used_same new left ran used (λ other. ap (sizes_on other) is_ran ∙ sizes_stay taken other left);

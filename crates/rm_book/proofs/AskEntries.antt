@@ -17,7 +17,7 @@ use Rattle.rm_types.specs.declared.ids.AttemptId.{AttemptId}
 use Rattle.rm_types.specs.Ids.{is_attempt}
 use Rattle.rm_types.specs.Lists.{is_nil}
 use Rattle.rm_types.proofs.IdLemmas.{attempt_back, attempt_itself, same_attempt}
-use Rattle.rm_book.specs.AskEntries.{AreKept, Entry, entries_in, entry_of, has_some, lines_at}
+use Rattle.rm_book.specs.AskEntries.{AreKept, AskEntry, entries_in, entry_of, has_some, lines_at}
 use Rattle.rm_book.specs.AskLines.{AttemptAsks, lines_in, with_lines}
 
 -- attempts are the same both ways, and each of two that are the same is like the other
@@ -40,7 +40,7 @@ none_either false = refl
 
 module _ (attempt : AttemptId) where
   -- an attempt's lines
-  pub lines_are : (entries : List Entry) → lines_in (entries_in entries) attempt ≡ lines_at entries attempt
+  pub lines_are : (entries : List AskEntry) → lines_in (entries_in entries) attempt ≡ lines_at entries attempt
   lines_are [] = refl
   lines_are (entry ∷ entries) = by (is_attempt attempt entry.0) refl (lines_are entries)
     where
@@ -50,7 +50,7 @@ module _ (attempt : AttemptId) where
       by false e rest = rw (attempt_back entry.0 attempt, e) rest
 
   -- whether it has an entry
-  pub known : (entries : List Entry) → list_any (λ entry. is_attempt entry.attempt attempt) (entries_in entries) ≡ is_some (lookup (is_attempt attempt) entries)
+  pub known : (entries : List AskEntry) → list_any (λ entry. is_attempt entry.attempt attempt) (entries_in entries) ≡ is_some (lookup (is_attempt attempt) entries)
   known [] = refl
   known (entry ∷ entries) = by (is_attempt attempt entry.0) refl (known entries)
     where
@@ -60,7 +60,7 @@ module _ (attempt : AttemptId) where
       by false e rest = rw (attempt_back entry.0 attempt, e) rest
 
   -- other lines of it
-  pub entered : (lines : List AskLine) (entries : List Entry) → entries_in (insert_entry is_attempt entries attempt lines) ≡ with_lines attempt lines (entries_in entries)
+  pub entered : (lines : List AskLine) (entries : List AskEntry) → entries_in (insert_entry is_attempt entries attempt lines) ≡ with_lines attempt lines (entries_in entries)
   entered lines [] = refl
   entered lines (entry ∷ entries) = by (is_attempt attempt entry.0) refl (entered lines entries)
     where
@@ -70,22 +70,22 @@ module _ (attempt : AttemptId) where
       by false e rest = rw (attempt_back entry.0 attempt, e) (ap (λ (more : List AttemptAsks). entry_of entry ∷ more) rest)
 
   -- a key that is no other's
-  no_key : (entries : List Entry) (key : AttemptId) → is_attempt attempt key ≡ true → AllByRecursion (λ y. is_attempt key y ≡ false) (keys_of entries)
+  no_key : (entries : List AskEntry) (key : AttemptId) → is_attempt attempt key ≡ true → AllByRecursion (λ y. is_attempt key y ≡ false) (keys_of entries)
       → AllByRecursion (λ y. is_attempt attempt y ≡ false) (keys_of entries)
   no_key [] key e d = tt
   no_key (entry ∷ entries) key e d = (same_ids.congr attempt key entry.0 e ∙ d.0, no_key entries key e d.1)
 
-  not_found : (entries : List Entry) → AllByRecursion (λ y. is_attempt attempt y ≡ false) (keys_of entries) → lookup (is_attempt attempt) entries ≡ None
+  not_found : (entries : List AskEntry) → AllByRecursion (λ y. is_attempt attempt y ≡ false) (keys_of entries) → lookup (is_attempt attempt) entries ≡ None
   not_found [] a = refl
   not_found (entry ∷ entries) a = rw a.0 (not_found entries a.1)
 
-  all_stay : (entries : List Entry) → AllByRecursion (λ y. is_attempt attempt y ≡ false) (keys_of entries)
+  all_stay : (entries : List AskEntry) → AllByRecursion (λ y. is_attempt attempt y ≡ false) (keys_of entries)
       → filter (λ entry. not (is_attempt entry.attempt attempt)) (entries_in entries) ≡ entries_in entries
   all_stay [] a = refl
   all_stay (entry ∷ entries) a = rw (attempt_back entry.0 attempt, a.0) (ap (λ (more : List AttemptAsks). entry_of entry ∷ more) (all_stay entries a.1))
 
   -- none of it
-  pub gone : (entries : List Entry) → IsDistinct is_attempt (keys_of entries)
+  pub gone : (entries : List AskEntry) → IsDistinct is_attempt (keys_of entries)
       → entries_in (remove_entry (is_attempt attempt) entries) ≡ filter (λ entry. not (is_attempt entry.attempt attempt)) (entries_in entries)
   gone [] d = refl
   gone (entry ∷ entries) d = by (is_attempt attempt entry.0) refl (gone entries (IsDistinct-tail is_attempt entry.0 (keys_of entries) d))
@@ -97,7 +97,7 @@ module _ (attempt : AttemptId) where
       by false e rest = rw (attempt_back entry.0 attempt, e) (ap (λ (more : List AttemptAsks). entry_of entry ∷ more) rest)
 
   -- a new entry, and a change of one
-  pub last_entered : (lines : List AskLine) (entries : List Entry) → lookup (is_attempt attempt) entries ≡ None
+  pub last_entered : (lines : List AskLine) (entries : List AskEntry) → lookup (is_attempt attempt) entries ≡ None
       → entries ++ (attempt, lines) ∷ [] ≡ insert_entry is_attempt entries attempt lines
   last_entered lines [] l = refl
   last_entered lines (entry ∷ entries) l = by (is_attempt attempt entry.0) refl (last_entered lines entries)
@@ -105,9 +105,9 @@ module _ (attempt : AttemptId) where
       by : (b : Bool) → is_attempt attempt entry.0 ≡ b → (lookup (is_attempt attempt) entries ≡ None → entries ++ (attempt, lines) ∷ [] ≡ insert_entry is_attempt entries attempt lines)
           → (entry ∷ entries) ++ (attempt, lines) ∷ [] ≡ insert_entry is_attempt (entry ∷ entries) attempt lines
       by true e rest = absurd (let l' = rw e at l in cc)
-      by false e rest = let l' = rw e at l in rw e (ap (λ (more : List Entry). entry ∷ more) (rest l'))
+      by false e rest = let l' = rw e at l in rw e (ap (λ (more : List AskEntry). entry ∷ more) (rest l'))
 
-  pub set_entered : (lines own : List AskLine) (entries : List Entry) → lookup (is_attempt attempt) entries ≡ Some own
+  pub set_entered : (lines own : List AskLine) (entries : List AskEntry) → lookup (is_attempt attempt) entries ≡ Some own
       → set_value (is_attempt attempt) entries lines ≡ insert_entry is_attempt entries attempt lines
   set_entered lines own [] l = cc
   set_entered lines own (entry ∷ entries) l = by (is_attempt attempt entry.0) refl (set_entered lines own entries)
@@ -115,19 +115,19 @@ module _ (attempt : AttemptId) where
       by : (b : Bool) → is_attempt attempt entry.0 ≡ b → (lookup (is_attempt attempt) entries ≡ Some own → set_value (is_attempt attempt) entries lines ≡ insert_entry is_attempt entries attempt lines)
           → set_value (is_attempt attempt) (entry ∷ entries) lines ≡ insert_entry is_attempt (entry ∷ entries) attempt lines
       by true e rest = rw e refl
-      by false e rest = let l' = rw e at l in rw e (ap (λ (more : List Entry). entry ∷ more) (rest l'))
+      by false e rest = let l' = rw e at l in rw e (ap (λ (more : List AskEntry). entry ∷ more) (rest l'))
 
-  pub same_entered : (own : List AskLine) (entries : List Entry) → lookup (is_attempt attempt) entries ≡ Some own → set_value (is_attempt attempt) entries own ≡ entries
+  pub same_entered : (own : List AskLine) (entries : List AskEntry) → lookup (is_attempt attempt) entries ≡ Some own → set_value (is_attempt attempt) entries own ≡ entries
   same_entered own [] l = refl
   same_entered own (entry ∷ entries) l = by (is_attempt attempt entry.0) refl (same_entered own entries)
     where
       by : (b : Bool) → is_attempt attempt entry.0 ≡ b → (lookup (is_attempt attempt) entries ≡ Some own → set_value (is_attempt attempt) entries own ≡ entries)
           → set_value (is_attempt attempt) (entry ∷ entries) own ≡ entry ∷ entries
       by true e rest = let is : entry.1 ≡ own = (let l' = rw e at l in cc) in rw e (ap (λ (v : List AskLine). (entry.0, v) ∷ entries) (sym is))
-      by false e rest = let l' = rw e at l in rw e (ap (λ (more : List Entry). entry ∷ more) (rest l'))
+      by false e rest = let l' = rw e at l in rw e (ap (λ (more : List AskEntry). entry ∷ more) (rest l'))
 
   -- what is found then
-  pub found_entered : (lines : List AskLine) (one : AttemptId) (entries : List Entry)
+  pub found_entered : (lines : List AskLine) (one : AttemptId) (entries : List AskEntry)
       → lookup (is_attempt one) (insert_entry is_attempt entries attempt lines) ≡ cond (is_attempt attempt one) (Some lines) (lookup (is_attempt one) entries)
   found_entered lines one [] = rw (attempt_back attempt one) refl
   found_entered lines one (entry ∷ entries) = by (is_attempt attempt entry.0) (is_attempt one entry.0) refl refl (found_entered lines one entries)
@@ -147,7 +147,7 @@ module _ (attempt : AttemptId) where
       by false false e f rest = rw (e, f) rest
 
   -- no two keys are the same then
-  all_entered : (key : AttemptId) (lines : List AskLine) (entries : List Entry) → is_attempt key attempt ≡ false → AllByRecursion (λ y. is_attempt key y ≡ false) (keys_of entries)
+  all_entered : (key : AttemptId) (lines : List AskLine) (entries : List AskEntry) → is_attempt key attempt ≡ false → AllByRecursion (λ y. is_attempt key y ≡ false) (keys_of entries)
       → AllByRecursion (λ y. is_attempt key y ≡ false) (keys_of (insert_entry is_attempt entries attempt lines))
   all_entered key lines [] n a = (n, tt)
   all_entered key lines (entry ∷ entries) n a = by (is_attempt attempt entry.0) refl (all_entered key lines entries n a.1)
@@ -157,7 +157,7 @@ module _ (attempt : AttemptId) where
       by true e rest = rw e a
       by false e rest = rw e (a.0, rest)
 
-  unique_entered : (lines : List AskLine) (entries : List Entry) → IsDistinct is_attempt (keys_of entries) → IsDistinct is_attempt (keys_of (insert_entry is_attempt entries attempt lines))
+  unique_entered : (lines : List AskLine) (entries : List AskEntry) → IsDistinct is_attempt (keys_of entries) → IsDistinct is_attempt (keys_of (insert_entry is_attempt entries attempt lines))
   unique_entered lines [] d = IsDistinct-cons is_attempt attempt [] tt d
   unique_entered lines (entry ∷ entries) d = by (is_attempt attempt entry.0) refl (unique_entered lines entries (IsDistinct-tail is_attempt entry.0 (keys_of entries) d))
     where
@@ -170,7 +170,7 @@ module _ (attempt : AttemptId) where
           (IsDistinct-cons is_attempt entry.0 (keys_of (insert_entry is_attempt entries attempt lines))
           (all_entered entry.0 lines entries other (IsDistinct-head is_attempt entry.0 (keys_of entries) d)) rest)
 
-  all_removed : (key : AttemptId) (entries : List Entry) → AllByRecursion (λ y. is_attempt key y ≡ false) (keys_of entries)
+  all_removed : (key : AttemptId) (entries : List AskEntry) → AllByRecursion (λ y. is_attempt key y ≡ false) (keys_of entries)
       → AllByRecursion (λ y. is_attempt key y ≡ false) (keys_of (remove_entry (is_attempt attempt) entries))
   all_removed key [] a = tt
   all_removed key (entry ∷ entries) a = by (is_attempt attempt entry.0) refl (all_removed key entries a.1)
@@ -180,7 +180,7 @@ module _ (attempt : AttemptId) where
       by true e rest = rw e a.1
       by false e rest = rw e (a.0, rest)
 
-  unique_removed : (entries : List Entry) → IsDistinct is_attempt (keys_of entries) → IsDistinct is_attempt (keys_of (remove_entry (is_attempt attempt) entries))
+  unique_removed : (entries : List AskEntry) → IsDistinct is_attempt (keys_of entries) → IsDistinct is_attempt (keys_of (remove_entry (is_attempt attempt) entries))
   unique_removed [] d = d
   unique_removed (entry ∷ entries) d = by (is_attempt attempt entry.0) refl (unique_removed entries (IsDistinct-tail is_attempt entry.0 (keys_of entries) d))
     where
@@ -193,7 +193,7 @@ module _ (attempt : AttemptId) where
           (all_removed entry.0 entries (IsDistinct-head is_attempt entry.0 (keys_of entries) d)) rest)
 
   -- what is found after a removal
-  found_removed : (one : AttemptId) (entries : List Entry) → IsDistinct is_attempt (keys_of entries)
+  found_removed : (one : AttemptId) (entries : List AskEntry) → IsDistinct is_attempt (keys_of entries)
       → lookup (is_attempt one) (remove_entry (is_attempt attempt) entries) ≡ cond (is_attempt attempt one) None (lookup (is_attempt one) entries)
   found_removed one [] d = none_either (is_attempt attempt one)
   found_removed one (entry ∷ entries) d =
@@ -215,10 +215,10 @@ module _ (attempt : AttemptId) where
       by false false e f rest = rw (e, f) rest
 
   -- those that wait after a change
-  pub kept_entered : (lines : List AskLine) (entries new : List Entry) (waiting marked : List AttemptId) → AreKept entries waiting → new ≡ insert_entry is_attempt entries attempt lines
+  pub kept_entered : (lines : List AskLine) (entries new : List AskEntry) (waiting marked : List AttemptId) → AreKept entries waiting → new ≡ insert_entry is_attempt entries attempt lines
       → ((one : AttemptId) → list_any (is_attempt one) marked ≡ cond (is_attempt attempt one) (has_some (lookup (is_attempt attempt) new)) (list_any (is_attempt one) waiting)) → AreKept new marked
   kept_entered lines entries new waiting marked k e m = record {
-    unique = subst (λ (es : List Entry). IsDistinct is_attempt (keys_of es)) (sym e) (unique_entered lines entries k.unique);
+    unique = subst (λ (es : List AskEntry). IsDistinct is_attempt (keys_of es)) (sym e) (unique_entered lines entries k.unique);
     waits = λ one. m one ∙ by one (is_attempt attempt one) refl;
   }
     where
@@ -227,25 +227,25 @@ module _ (attempt : AttemptId) where
       by one true f = rw f (ap (λ (a : AttemptId). has_some (lookup (is_attempt a) new)) (same_attempt attempt one f))
       by one false f =
           let same : lookup (is_attempt one) new ≡ lookup (is_attempt one) entries =
-          ap (λ (es : List Entry). lookup (is_attempt one) es) e ∙ found_entered lines one entries ∙ ap (λ (b : Bool). cond b (Some lines) (lookup (is_attempt one) entries)) f in
+          ap (λ (es : List AskEntry). lookup (is_attempt one) es) e ∙ found_entered lines one entries ∙ ap (λ (b : Bool). cond b (Some lines) (lookup (is_attempt one) entries)) f in
           rw f (k.waits one ∙ ap has_some (sym same))
 
-  pub kept_removed : (entries new : List Entry) (waiting marked : List AttemptId) → AreKept entries waiting → new ≡ remove_entry (is_attempt attempt) entries
+  pub kept_removed : (entries new : List AskEntry) (waiting marked : List AttemptId) → AreKept entries waiting → new ≡ remove_entry (is_attempt attempt) entries
       → ((one : AttemptId) → list_any (is_attempt one) marked ≡ cond (is_attempt attempt one) false (list_any (is_attempt one) waiting)) → AreKept new marked
   kept_removed entries new waiting marked k e m = record {
-    unique = subst (λ (es : List Entry). IsDistinct is_attempt (keys_of es)) (sym e) (unique_removed entries k.unique);
+    unique = subst (λ (es : List AskEntry). IsDistinct is_attempt (keys_of es)) (sym e) (unique_removed entries k.unique);
     waits = λ one. m one ∙ by one (is_attempt attempt one) refl;
   }
     where
       found : (one : AttemptId) (b : Bool) → is_attempt attempt one ≡ b → lookup (is_attempt one) new ≡ cond b None (lookup (is_attempt one) entries)
-      found one b f = ap (λ (es : List Entry). lookup (is_attempt one) es) e ∙ found_removed one entries k.unique ∙ ap (λ (c : Bool). cond c None (lookup (is_attempt one) entries)) f
+      found one b f = ap (λ (es : List AskEntry). lookup (is_attempt one) es) e ∙ found_removed one entries k.unique ∙ ap (λ (c : Bool). cond c None (lookup (is_attempt one) entries)) f
 
       by : (one : AttemptId) (b : Bool) → is_attempt attempt one ≡ b → cond (is_attempt attempt one) false (list_any (is_attempt one) waiting) ≡ has_some (lookup (is_attempt one) new)
       by one true f = rw f (ap has_some (sym (found one true f)))
       by one false f = rw f (k.waits one ∙ ap has_some (sym (found one false f)))
 
   -- an attempt that was not known is known of no change
-  pub kept_unknown : (entries : List Entry) (waiting marked : List AttemptId) → AreKept entries waiting → lookup (is_attempt attempt) entries ≡ None
+  pub kept_unknown : (entries : List AskEntry) (waiting marked : List AttemptId) → AreKept entries waiting → lookup (is_attempt attempt) entries ≡ None
       → ((one : AttemptId) → list_any (is_attempt one) marked ≡ cond (is_attempt attempt one) false (list_any (is_attempt one) waiting)) → AreKept entries marked
   kept_unknown entries waiting marked k l m = record { unique = k.unique; waits = λ one. m one ∙ by one (is_attempt attempt one) refl }
     where
@@ -254,7 +254,7 @@ module _ (attempt : AttemptId) where
       by one false f = rw f (k.waits one)
 
   -- an attempt that waits after a change waited before
-  pub kept_waiting : (lines own : List AskLine) (entries new : List Entry) (waiting : List AttemptId) → AreKept entries waiting → new ≡ insert_entry is_attempt entries attempt lines
+  pub kept_waiting : (lines own : List AskLine) (entries new : List AskEntry) (waiting : List AttemptId) → AreKept entries waiting → new ≡ insert_entry is_attempt entries attempt lines
       → lookup (is_attempt attempt) entries ≡ Some own → is_nil own ≡ false → is_nil lines ≡ false → AreKept new waiting
   kept_waiting lines own entries new waiting k e l was is =
       kept_entered lines entries new waiting waiting k e (λ one. by one (is_attempt attempt one) refl)
@@ -264,7 +264,7 @@ module _ (attempt : AttemptId) where
       some (line ∷ lines) n = refl
 
       now : lookup (is_attempt attempt) new ≡ Some lines
-      now = ap (λ (es : List Entry). lookup (is_attempt attempt) es) e ∙ found_entered lines attempt entries ∙ ap (λ (b : Bool). cond b (Some lines) (lookup (is_attempt attempt) entries)) (attempt_itself attempt)
+      now = ap (λ (es : List AskEntry). lookup (is_attempt attempt) es) e ∙ found_entered lines attempt entries ∙ ap (λ (b : Bool). cond b (Some lines) (lookup (is_attempt attempt) entries)) (attempt_itself attempt)
 
       by : (one : AttemptId) (b : Bool) → is_attempt attempt one ≡ b
           → list_any (is_attempt one) waiting ≡ cond (is_attempt attempt one) (has_some (lookup (is_attempt attempt) new)) (list_any (is_attempt one) waiting)
@@ -284,7 +284,7 @@ nothing None e = refl
 nothing (Some a) e = cc
 
 -- after a change that was handed on to what keeps the entries
-module _ (attempt : AttemptId) (change : List AskLine → List AskLine) (old new : List Entry) where
+module _ (attempt : AttemptId) (change : List AskLine → List AskLine) (old new : List AskEntry) where
   pub set_tried : (r : Option (Result (Unit {0}) NoMemory)) (done : Result (Unit {0}) NoMemory) (P : List AskLine → Result (Unit {0}) NoMemory → List AskLine → Type 0)
       → r ≡ Some done
       → ((own : List AskLine) → lookup (is_attempt attempt) old ≡ Some own → IfSome r (λ done. (x : List AskLine) × P own done x × (new ≡ set_value (is_attempt attempt) old x)))
@@ -345,7 +345,7 @@ module _ (attempt : AttemptId) (change : List AskLine → List AskLine) (old new
           means own t.0 done t.1 ∙ ap test (sym at)
 
 -- what contracts see after a grant
-pub granted_entries : (attempt : AttemptId) (change : List AskLine → List AskLine) (entries new : List Entry)
+pub granted_entries : (attempt : AttemptId) (change : List AskLine → List AskLine) (entries new : List AskEntry)
     → new ≡ cond (is_some (lookup (is_attempt attempt) entries)) (insert_entry is_attempt entries attempt (change (lines_at entries attempt))) entries
     → entries_in new ≡ cond (list_any (λ entry. is_attempt entry.attempt attempt) (entries_in entries)) (with_lines attempt (change (lines_in (entries_in entries) attempt)) (entries_in entries)) (entries_in entries)
 granted_entries attempt change entries new e =
@@ -360,7 +360,7 @@ granted_entries attempt change entries new e =
     by false = refl
 
 -- those that wait after a grant, where one that waited may do so no more
-module _ (attempt : AttemptId) (change : List AskLine → List AskLine) (entries new : List Entry) (waiting : List AttemptId) where
+module _ (attempt : AttemptId) (change : List AskLine → List AskLine) (entries new : List AskEntry) (waiting : List AttemptId) where
   found_changed : (own : List AskLine) → lookup (is_attempt attempt) entries ≡ Some own
       → new ≡ cond (is_some (lookup (is_attempt attempt) entries)) (insert_entry is_attempt entries attempt (change (lines_at entries attempt))) entries
       → new ≡ insert_entry is_attempt entries attempt (change own)
@@ -381,7 +381,7 @@ module _ (attempt : AttemptId) (change : List AskLine → List AskLine) (entries
   kept_granted marked k e none m = by (lookup (is_attempt attempt) entries) refl
     where
       by : (v : Option (List AskLine)) → lookup (is_attempt attempt) entries ≡ v → AreKept new marked
-      by None l = subst (λ (es : List Entry). AreKept es marked) (sym (not_changed l e)) (kept_unknown attempt entries waiting marked k l m)
+      by None l = subst (λ (es : List AskEntry). AreKept es marked) (sym (not_changed l e)) (kept_unknown attempt entries waiting marked k l m)
       by (Some own) l =
           kept_entered attempt (change own) entries new waiting marked k (found_changed own l e)
           (λ one. m one ∙ ap (λ (b : Bool). cond (is_attempt attempt one) b (list_any (is_attempt one) waiting)) (sym none))
@@ -400,11 +400,11 @@ module _ (attempt : AttemptId) (change : List AskLine → List AskLine) (entries
       some_before (line ∷ lines) h = refl
 
       by : (v : Option (List AskLine)) → lookup (is_attempt attempt) entries ≡ v → AreKept new waiting
-      by None l = subst (λ (es : List Entry). AreKept es waiting) (sym (not_changed l e)) k
+      by None l = subst (λ (es : List AskEntry). AreKept es waiting) (sym (not_changed l e)) k
       by (Some own) l =
           let is = found_changed own l e in
           let now : lookup (is_attempt attempt) new ≡ Some (change own) =
-          ap (λ (es : List Entry). lookup (is_attempt attempt) es) is ∙ found_entered attempt (change own) attempt entries
+          ap (λ (es : List AskEntry). lookup (is_attempt attempt) es) is ∙ found_entered attempt (change own) attempt entries
           ∙ ap (λ (b : Bool). cond b (Some (change own)) (lookup (is_attempt attempt) entries)) (attempt_itself attempt) in
           let left = some_left (change own) (sym (ap has_some now) ∙ some) in
           kept_waiting attempt (change own) own entries new waiting k is l (some_before own left) left
@@ -412,12 +412,12 @@ module _ (attempt : AttemptId) (change : List AskLine → List AskLine) (entries
 -- the attempts that wait are those that have lines
 
 -- the attempts of entries that have lines
-abbrev those_with : List Entry → List AttemptId
+abbrev those_with : List AskEntry → List AttemptId
 those_with [] = []
 those_with (entry ∷ entries) = cond (is_nil entry.1) (those_with entries) (entry.0 ∷ those_with entries)
 
 -- the same as contracts see them
-seen_with : (entries : List Entry) → those_with entries ≡ map (λ entry. entry.attempt) (filter (λ entry. not (is_nil entry.lines)) (entries_in entries))
+seen_with : (entries : List AskEntry) → those_with entries ≡ map (λ entry. entry.attempt) (filter (λ entry. not (is_nil entry.lines)) (entries_in entries))
 seen_with [] = refl
 seen_with (entry ∷ entries) = by (is_nil entry.1) refl (seen_with entries)
   where
@@ -447,7 +447,7 @@ found_paired one (key ∷ keys) = by (is_attempt one key) refl (found_paired one
     by true e rest = rw e refl
     by false e rest = rw e rest
 
-all_with : (key : AttemptId) (entries : List Entry) → AllByRecursion (λ y. is_attempt key y ≡ false) (keys_of entries) → AllByRecursion (λ y. is_attempt key y ≡ false) (those_with entries)
+all_with : (key : AttemptId) (entries : List AskEntry) → AllByRecursion (λ y. is_attempt key y ≡ false) (keys_of entries) → AllByRecursion (λ y. is_attempt key y ≡ false) (those_with entries)
 all_with key [] a = tt
 all_with key (entry ∷ entries) a = by (is_nil entry.1) refl (all_with key entries a.1)
   where
@@ -455,7 +455,7 @@ all_with key (entry ∷ entries) a = by (is_nil entry.1) refl (all_with key entr
     by true e rest = rw e rest
     by false e rest = rw e (a.0, rest)
 
-unique_with : (entries : List Entry) → IsDistinct is_attempt (keys_of entries) → IsDistinct is_attempt (those_with entries)
+unique_with : (entries : List AskEntry) → IsDistinct is_attempt (keys_of entries) → IsDistinct is_attempt (those_with entries)
 unique_with [] d = d
 unique_with (entry ∷ entries) d = by (is_nil entry.1) refl (unique_with entries (IsDistinct-tail is_attempt entry.0 (keys_of entries) d))
   where
@@ -468,7 +468,7 @@ none_among one [] a = refl
 none_among one (key ∷ keys) a = rw a.0 (none_among one keys a.1)
 
 -- one is among them where it has lines
-among_with : (one : AttemptId) (entries : List Entry) → IsDistinct is_attempt (keys_of entries) → list_any (is_attempt one) (those_with entries) ≡ has_some (lookup (is_attempt one) entries)
+among_with : (one : AttemptId) (entries : List AskEntry) → IsDistinct is_attempt (keys_of entries) → list_any (is_attempt one) (those_with entries) ≡ has_some (lookup (is_attempt one) entries)
 among_with one [] d = refl
 among_with one ((key, lines) ∷ entries) d = by (is_attempt one key) lines refl (among_with one entries (IsDistinct-tail is_attempt key (keys_of entries) d))
   where
@@ -479,7 +479,7 @@ among_with one ((key, lines) ∷ entries) d = by (is_attempt one key) lines refl
     by false [] e rest = rw e rest
     by false (line ∷ lines) e rest = rw e rest
 
-pub are_waiting : (entries : List Entry) (waiting : List AttemptId) → AreKept entries waiting → IsDistinct is_attempt waiting
+pub are_waiting : (entries : List AskEntry) (waiting : List AttemptId) → AreKept entries waiting → IsDistinct is_attempt waiting
     → IsPermutation (map (λ entry. entry.attempt) (filter (λ entry. not (is_nil entry.lines)) (entries_in entries))) waiting
 are_waiting entries waiting k d =
     let with_lines_map : HashMap AttemptId (Unit {0}) (Unit {0}) = hash_map (map pair (those_with entries)) tt 0 in

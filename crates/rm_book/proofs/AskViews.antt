@@ -9,8 +9,8 @@ use Rattle.rm_types.specs.declared.resources.Resource.{Resource}
 use Rattle.rm_types.specs.Ids.{is_attempt}
 use Rattle.rm_types.specs.Lists.{is_nil}
 use Rattle.rm_types.specs.Passes.{by_priority}
-use Rattle.rm_book.specs.AskTables.{AskNow, AsksOf, asks_of, asks_set, asks_granted, granted_in, is_for, one_less, renewed, some_asks, waiting_in, with_asks_of, without_asks_of}
-use Rattle.rm_book.specs.AskLines.{AttemptAsks, AreLines, IsAskTable, ask_of, asks_in, asks_of_entry, by_order, in_line, is_line_for, lines_in, lines_set, lines_granted, order_of, put_by, with_lines}
+use Rattle.rm_book.specs.AskTables.{AskNow, AsksOf, attempt_asks, asks_set, asks_granted, table_granted, is_for, one_less, renewed_ask, some_asks, waiting_in, with_asks_of, without_asks_of}
+use Rattle.rm_book.specs.AskLines.{AttemptAsks, AreLines, IsAskTable, ask_of, asks_in, asks_of_entry, by_order, in_line, is_line_for, lines_in, lines_set, lines_granted, asking_order, put_by, with_lines}
 use Rattle.rm_book.proofs.Entries.{Changed, lawful_lines}
 use Rattle.rm_book.proofs.Lists.{any_view, filter_view, map_view}
 use Rattle.rm_book.proofs.LineOrders.{placed_last, by_order_changed, by_order_filter, kept_in_order}
@@ -18,7 +18,7 @@ use Rattle.rm_book.proofs.NumberedLists.{any_sorted}
 
 -- an ask of a priority and size is one of a line of them
 pub any_same : (priority : ℕ) (size : Resource) (lines : List AskLine) → list_any (is_line_for priority size) lines ≡ list_any (is_for priority size) (asks_in lines)
-any_same priority size lines = sym (any_sorted order_of (is_line_for priority size) lines) ∙ any_view ask_of (is_for priority size) (by_order lines)
+any_same priority size lines = sym (any_sorted asking_order (is_line_for priority size) lines) ∙ any_view ask_of (is_for priority size) (by_order lines)
 
 -- asks that go, and asks that change
 asks_filter : (p : Ask → Bool) (lines : List AskLine) → asks_in (filter (λ line. p line.ask) lines) ≡ filter p (asks_in lines)
@@ -35,7 +35,7 @@ set_view asked ask lines h = by (ask.count == 0) (list_any (is_line_for ask.prio
     by true c e f = rw e (asks_filter (λ one. not (is_for ask.priority ask.size one)) lines)
     by false true e f =
         let g : list_any (is_for ask.priority ask.size) (asks_in lines) ≡ true = sym (any_same ask.priority ask.size lines) ∙ f in
-        rw (e, f, g) (asks_changed (renewed ask) lines)
+        rw (e, f, g) (asks_changed (renewed_ask ask) lines)
     by false false e f =
         let g : list_any (is_for ask.priority ask.size) (asks_in lines) ≡ false = sym (any_same ask.priority ask.size lines) ∙ f in
         let line : AskLine = record { ask = ask; order = asked + 1 } in
@@ -48,29 +48,29 @@ granted_view priority size lines =
     ∙ ap (filter (λ (ask : Ask). nat_lt 0 ask.count)) (asks_changed (one_less priority size) lines)
 
 -- what each attempt asks for
-pub view_of : (entries : List AttemptAsks) (attempt : AttemptId) → asks_of (map asks_of_entry entries) attempt ≡ asks_in (lines_in entries attempt)
+pub view_of : (entries : List AttemptAsks) (attempt : AttemptId) → attempt_asks (map asks_of_entry entries) attempt ≡ asks_in (lines_in entries attempt)
 view_of [] attempt = refl
 view_of (entry ∷ entries) attempt = by (is_attempt entry.attempt attempt) refl (view_of entries attempt)
   where
-    by : (b : Bool) → is_attempt entry.attempt attempt ≡ b → asks_of (map asks_of_entry entries) attempt ≡ asks_in (lines_in entries attempt)
-        → asks_of (map asks_of_entry (entry ∷ entries)) attempt ≡ asks_in (lines_in (entry ∷ entries) attempt)
+    by : (b : Bool) → is_attempt entry.attempt attempt ≡ b → attempt_asks (map asks_of_entry entries) attempt ≡ asks_in (lines_in entries attempt)
+        → attempt_asks (map asks_of_entry (entry ∷ entries)) attempt ≡ asks_in (lines_in (entry ∷ entries) attempt)
     by true e rest = rw e refl
     by false e rest = rw e rest
 
 pub changed_view : (asked : ℕ) (old new : List AttemptAsks) (attempt : AttemptId) (lines : List AskLine) (change : List Ask → List Ask) → Changed asked old new attempt lines
-    → asks_in lines ≡ change (asks_in (lines_in old attempt)) → AskNow (map asks_of_entry old) (map asks_of_entry new) attempt (change (asks_of (map asks_of_entry old) attempt))
+    → asks_in lines ≡ change (asks_in (lines_in old attempt)) → AskNow (map asks_of_entry old) (map asks_of_entry new) attempt (change (attempt_asks (map asks_of_entry old) attempt))
 changed_view asked old new attempt lines change c same = record {
   at = view_of new attempt ∙ ap asks_in c.at ∙ same ∙ ap change (sym (view_of old attempt));
   others = λ other apart. view_of new other ∙ ap asks_in (c.others other apart) ∙ sym (view_of old other);
 }
 
 -- an attempt without lines asks for nothing
-pub none_view : (entries : List AttemptAsks) (attempt : AttemptId) → lines_in entries attempt ≡ [] → None ≡ some_asks (by_priority (asks_of (map asks_of_entry entries) attempt))
+pub none_view : (entries : List AttemptAsks) (attempt : AttemptId) → lines_in entries attempt ≡ [] → None ≡ some_asks (by_priority (attempt_asks (map asks_of_entry entries) attempt))
 none_view entries attempt none = rw (view_of entries attempt, none) refl
 
 -- the lines of another are what a pass goes over
 pub some_view : (asked : ℕ) (entries : List AttemptAsks) (attempt : AttemptId) (lines : List AskLine) → IsAskTable asked entries → lines_in entries attempt ≡ lines
-    → is_nil lines ≡ false → Some (map ask_of lines) ≡ some_asks (by_priority (asks_of (map asks_of_entry entries) attempt))
+    → is_nil lines ≡ false → Some (map ask_of lines) ≡ some_asks (by_priority (attempt_asks (map asks_of_entry entries) attempt))
 some_view asked entries attempt lines h is some =
     let kept : by_priority (asks_in lines) ≡ map ask_of lines = kept_in_order lines (rw is at (lawful_lines asked entries attempt h)).order in
     rw (view_of entries attempt, is, kept) (not_nil lines some)
@@ -97,7 +97,7 @@ without_view attempt entries = filter_view asks_of_entry (λ one. not (is_attemp
 -- the table after an ask was set, and after one was granted
 pub set_table : (asked : ℕ) (ask : Ask) (attempt : AttemptId) (entries : List AttemptAsks) → IsAskTable asked entries
     → map asks_of_entry (with_lines attempt (lines_set ask (asked + 1) (lines_in entries attempt)) entries)
-    ≡ with_asks_of attempt (asks_set ask (asks_of (map asks_of_entry entries) attempt)) (map asks_of_entry entries)
+    ≡ with_asks_of attempt (asks_set ask (attempt_asks (map asks_of_entry entries) attempt)) (map asks_of_entry entries)
 set_table asked ask attempt entries h =
     lines_view attempt (lines_set ask (asked + 1) (lines_in entries attempt)) entries
     ∙ ap (λ (asks : List Ask). with_asks_of attempt asks (map asks_of_entry entries))
@@ -105,14 +105,14 @@ set_table asked ask attempt entries h =
 
 pub granted_table : (priority : ℕ) (size : Resource) (attempt : AttemptId) (entries : List AttemptAsks)
     → map asks_of_entry (if list_any (λ entry. is_attempt entry.attempt attempt) entries then with_lines attempt (lines_granted priority size (lines_in entries attempt)) entries else entries)
-    ≡ granted_in attempt priority size (map asks_of_entry entries)
+    ≡ table_granted attempt priority size (map asks_of_entry entries)
 granted_table priority size attempt entries =
     by (list_any (λ entry. is_attempt entry.attempt attempt) entries) refl (any_view asks_of_entry (λ one. is_attempt one.attempt attempt) entries)
   where
     by : (b : Bool) → list_any (λ entry. is_attempt entry.attempt attempt) entries ≡ b
         → list_any (λ entry. is_attempt entry.attempt attempt) entries ≡ list_any (λ one. is_attempt one.attempt attempt) (map asks_of_entry entries)
         → map asks_of_entry (if list_any (λ entry. is_attempt entry.attempt attempt) entries then with_lines attempt (lines_granted priority size (lines_in entries attempt)) entries else entries)
-        ≡ granted_in attempt priority size (map asks_of_entry entries)
+        ≡ table_granted attempt priority size (map asks_of_entry entries)
     by true e v =
         let f = sym v ∙ e in
         rw (e, f)
@@ -126,11 +126,11 @@ nil_view : (lines : List AskLine) → is_nil (asks_in lines) ≡ is_nil lines
 nil_view [] = refl
 nil_view (line ∷ lines) = placed line (by_order lines)
   where
-    placed : (line : AskLine) (lines : List AskLine) → is_nil (map ask_of (put_by order_of line lines)) ≡ false
+    placed : (line : AskLine) (lines : List AskLine) → is_nil (map ask_of (put_by asking_order line lines)) ≡ false
     placed line [] = refl
     placed line (other ∷ lines) = by (nat_lt other.order line.order) refl
       where
-        by : (b : Bool) → nat_lt other.order line.order ≡ b → is_nil (map ask_of (put_by order_of line (other ∷ lines))) ≡ false
+        by : (b : Bool) → nat_lt other.order line.order ≡ b → is_nil (map ask_of (put_by asking_order line (other ∷ lines))) ≡ false
         by true e = rw e refl
         by false e = rw e refl
 

@@ -15,7 +15,8 @@ use Rattle.rm_types.specs.declared.resources.Resource.{Resource}
 use Rattle.rm_types.specs.Ids.{is_container}
 use Rattle.rm_types.proofs.IdLemmas.{container_itself}
 use Rattle.rm_types.proofs.TestLemmas.{same_text}
-use Rattle.rm_book.specs.Books.{AreNew, are_on, granted_rows, is_held, is_of, sizes_on, taken_rows}
+use Rattle.rm_book.specs.Books.{AreNew, are_grants_on, granted_rows, is_of, sizes_on, taken_rows}
+use Rattle.rm_types.specs.Containers.{is_held}
 use Rattle.rm_book.specs.Kept.{AreFresh, entered_rows, held_of}
 use Rattle.rm_book.proofs.Splits.{filter_split}
 use Rattle.rm_book.proofs.TakenRows.{fresh_after}
@@ -115,10 +116,10 @@ pub entered_taken : (added : ℕ) (node : List ℕ) (list : List Held) → enter
 entered_taken added node [] = refl
 entered_taken added node (held ∷ list) = ap (λ more. row_of_held Running node (added + 1) held ∷ more) (entered_taken (added + 1) node list)
 
-pub entered_granted : (added : ℕ) (node : List ℕ) (grants : List Grant) → are_on node grants ≡ true → entered_rows Granted added node (map held_of grants) ≡ granted_rows added grants
+pub entered_granted : (added : ℕ) (node : List ℕ) (grants : List Grant) → are_grants_on node grants ≡ true → entered_rows Granted added node (map held_of grants) ≡ granted_rows added grants
 entered_granted added node [] on = refl
 entered_granted added node (grant ∷ grants) on =
-    let parts = and_parts (bytes_eq grant.node node) (are_on node grants) on in
+    let parts = and_parts (bytes_eq grant.node node) (are_grants_on node grants) on in
     ap (λ (name : List ℕ). row_of_held Granted name (added + 1) (held_of grant) ∷ entered_rows Granted (added + 1) node (map held_of grants)) (sym (same_text grant.node node parts.0))
     ∙ ap (λ more. row_of_held Granted grant.node (added + 1) (held_of grant) ∷ more) (entered_granted (added + 1) node grants parts.1)
 

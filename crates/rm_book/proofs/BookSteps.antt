@@ -15,11 +15,11 @@ use Rattle.rm_types.specs.Passes.{total_of}
 use Rattle.rm_types.specs.Resources.{Fits, difference_of}
 use Rattle.rm_types.proofs.IdLemmas.{same_container}
 use Rattle.rm_container.specs.declared.states.ContainerEvent.TheVariants.{Run, Tell}
-use Rattle.rm_container.specs.Table.{next_state}
+use Rattle.rm_container.specs.Table.{next_container_state}
 use Rattle.rm_book.specs.declared.node_table.NodeLoad.{NodeLoad}
-use Rattle.rm_book.specs.Books.{AreApart, AreLiving, BookOf, TellUpTo, capability_in, capability_or_none, free_on, is_living, is_of, sizes_of, sizes_on, total_on}
+use Rattle.rm_book.specs.Books.{BookRowsAreApart, AreLiving, BookOf, TellUpTo, capability_in, capability_or_none, free_on, is_living_state, is_of, sizes_of, sizes_on, total_on}
 use Rattle.rm_book.specs.Granted.{may_be_told}
-use Rattle.rm_book.specs.Kept.{AreUsed, IsKept, IsSum, IsWithin, entered_rows, held_of, shown, sum_with, used_in}
+use Rattle.rm_book.specs.Kept.{AreUsed, ShowsBook, IsSum, FitsCapability, entered_rows, held_of, nodes_shown, sum_with, used_in}
 use Rattle.rm_book.proofs.Batch.{entered_elsewhere, entered_sizes}
 use Rattle.rm_book.proofs.Changes.{acquires, book_left, fits_known}
 use Rattle.rm_book.proofs.Kept.{apart_changed}
@@ -34,32 +34,32 @@ Loads = List (List ℕ × NodeLoad)
 
 -- the book that is seen
 abbrev pub seen : Loads → List BookRow → ℕ → BookOf
-seen loads rows added = record { rows = rows; nodes = shown loads; added = added }
+seen loads rows added = record { rows = rows; nodes = nodes_shown loads; added = added }
 
 resource_of_parts : (a b : Resource) → a.memory_mb ≡ b.memory_mb → a.vcores ≡ b.vcores → a ≡ b
 resource_of_parts a b p q =
     let make : ℕ → ℕ → Resource = λ memory_mb vcores. record { memory_mb = memory_mb; vcores = vcores } in
     ap (λ (m : ℕ). make m a.vcores) p ∙ ap (make b.memory_mb) q
 
-module _ (loads : Loads) (rows : List BookRow) (added : ℕ) (kept : IsKept loads rows added) where
-  known : (node : List ℕ) (load : NodeLoad) → lookup (bytes_eq node) loads ≡ Some load → capability_in (shown loads) node ≡ Some load.capability
+module _ (loads : Loads) (rows : List BookRow) (added : ℕ) (kept : ShowsBook loads rows added) where
+  known : (node : List ℕ) (load : NodeLoad) → lookup (bytes_eq node) loads ≡ Some load → capability_in (nodes_shown loads) node ≡ Some load.capability
   known node load at = capability_shown node loads ∙ ap (option_map (λ one. one.capability)) at
 
-  load_within : (node : List ℕ) (load : NodeLoad) → lookup (bytes_eq node) loads ≡ Some load → IsWithin load
+  load_within : (node : List ℕ) (load : NodeLoad) → lookup (bytes_eq node) loads ≡ Some load → FitsCapability load
   load_within node load at =
       let u : IsSum load.used (total_on node rows) = rw at at (kept.used node) in
       let fits = fits_known (seen loads rows added) node load.capability kept.book (known node load at) in
       (omega (arith, u.0, fits.0), omega (arith, u.1, fits.1))
 
   -- what stands on a node fits it
-  pub within_kept : (node : List ℕ) → IfSome (lookup (bytes_eq node) loads) IsWithin
+  pub within_kept : (node : List ℕ) → IfSome (lookup (bytes_eq node) loads) FitsCapability
   within_kept node = by (lookup (bytes_eq node) loads) refl
     where
-      by : (o : Option NodeLoad) → lookup (bytes_eq node) loads ≡ o → IfSome (lookup (bytes_eq node) loads) IsWithin
+      by : (o : Option NodeLoad) → lookup (bytes_eq node) loads ≡ o → IfSome (lookup (bytes_eq node) loads) FitsCapability
       by None e = rw e tt
       by (Some load) e = rw e (load_within node load e)
 
-  pub load_kept : (node : List ℕ) (load : NodeLoad) → Some load ≡ lookup (bytes_eq node) loads → IsWithin load
+  pub load_kept : (node : List ℕ) (load : NodeLoad) → Some load ≡ lookup (bytes_eq node) loads → FitsCapability load
   load_kept node load at = load_within node load (sym at)
 
   -- what is left of it
@@ -156,8 +156,8 @@ pub used_same : (loads : Loads) (rows same : List BookRow) → AreUsed loads row
 used_same loads rows same used sizes node = subst (λ (l : List Resource). IfSome (lookup (bytes_eq node) loads) (λ load. IsSum load.used (total_of l))) (sym (sizes node)) (used node)
 
 -- after rows left
-pub left_kept : (loads new : Loads) (rows : List BookRow) (added : ℕ) (test : BookRow → Bool) (left : List BookRow) → IsKept loads rows added → shown new ≡ shown loads
-    → left ≡ filter test rows → AreUsed new left → IsKept new left added
+pub left_kept : (loads new : Loads) (rows : List BookRow) (added : ℕ) (test : BookRow → Bool) (left : List BookRow) → ShowsBook loads rows added → nodes_shown new ≡ nodes_shown loads
+    → left ≡ filter test rows → AreUsed new left → ShowsBook new left added
 left_kept loads new rows added test left kept same is used = record {
   book = rw (same, is) (book_left (seen loads rows added) test kept.book);
   used = used;
@@ -168,11 +168,11 @@ module _ (id : ContainerId) (state : ContainerState) where
   abbrev pub in_state : List BookRow → List BookRow
   in_state rows = map (λ row. cond (is_of id row) (record row { state = state }) row) rows
 
-  living_in : is_living state ≡ true → (rows : List BookRow) → AreLiving rows → AreLiving (in_state rows)
+  living_in : is_living_state state ≡ true → (rows : List BookRow) → AreLiving rows → AreLiving (in_state rows)
   living_in lives [] living = tt
   living_in lives (row ∷ rows) living = (by (is_of id row), living_in lives rows living.1)
     where
-      by : (b : Bool) → is_living (cond b (record row { state = state }) row).state ≡ true
+      by : (b : Bool) → is_living_state (cond b (record row { state = state }) row).state ≡ true
       by true = lives
       by false = living.0
 
@@ -195,13 +195,13 @@ module _ (id : ContainerId) (state : ContainerState) where
       by false true e rest = rw e (ap (λ more. row.size ∷ more) rest)
       by false false e rest = rw e rest
 
-  state_kept : (loads : Loads) (rows : List BookRow) (added : ℕ) → is_living state ≡ true → IsKept loads rows added → IsKept loads (in_state rows) added
+  state_kept : (loads : Loads) (rows : List BookRow) (added : ℕ) → is_living_state state ≡ true → ShowsBook loads rows added → ShowsBook loads (in_state rows) added
   state_kept loads rows added lives kept = record {
     book = record {
       apart = apart_changed id (λ row. record row { state = state }) (λ row. refl) rows kept.book.apart;
       living = living_in lives rows kept.book.living;
       told = told_in 0 added rows kept.book.told;
-      fit = λ node. subst (λ (l : List Resource). Fits (total_of l) (capability_or_none (shown loads) node)) (sym (sizes_in node rows)) (kept.book.fit node);
+      fit = λ node. subst (λ (l : List Resource). Fits (total_of l) (capability_or_none (nodes_shown loads) node)) (sym (sizes_in node rows)) (kept.book.fit node);
     };
     used = used_same loads rows (in_state rows) kept.used (λ node. sizes_in node rows);
   }
@@ -211,15 +211,15 @@ ran_rows id [] living = refl
 ran_rows id (row ∷ rows) living = by (is_of id row) (ran_rows id rows living.1)
   where
     by : (b : Bool) → stepped id rows ≡ in_state id Running rows
-        → cond b (record row { state = next_state row.state Run }) row ∷ stepped id rows ≡ cond b (record row { state = Running }) row ∷ in_state id Running rows
+        → cond b (record row { state = next_container_state row.state Run }) row ∷ stepped id rows ≡ cond b (record row { state = Running }) row ∷ in_state id Running rows
     by true rest = rw (runs row.state living.0) (ap (λ more. record row { state = Running } ∷ more) rest)
     by false rest = ap (λ more. row ∷ more) rest
 
 -- the rows after somebody is told of a container
 abbrev pub told_of : ContainerId → List BookRow → List BookRow
-told_of id rows = map (λ row. cond (is_of id row) (record row { state = next_state row.state Tell }) row) rows
+told_of id rows = map (λ row. cond (is_of id row) (record row { state = next_container_state row.state Tell }) row) rows
 
-told_rows : (id : ContainerId) (rows : List BookRow) → AreApart rows → IfSome (find (is_of id) rows) (λ row. may_be_told row.state ≡ true) → told_of id rows ≡ in_state id Acquired rows
+told_rows : (id : ContainerId) (rows : List BookRow) → BookRowsAreApart rows → IfSome (find (is_of id) rows) (λ row. may_be_told row.state ≡ true) → told_of id rows ≡ in_state id Acquired rows
 told_rows id [] apart may = refl
 told_rows id (row ∷ rows) apart may = by (is_of id row) refl (told_rows id rows apart.1)
   where
@@ -231,19 +231,19 @@ told_rows id (row ∷ rows) apart may = by (is_of id row) refl (told_rows id row
         rw (
           e,
           acquires row.state may',
-          map_none (is_of id) (λ row. record row { state = next_state row.state Tell }) rows none,
+          map_none (is_of id) (λ row. record row { state = next_container_state row.state Tell }) rows none,
           map_none (is_of id) (λ row. record row { state = Acquired }) rows none,
         ) refl
     by false e rest = rw e (ap (λ more. row ∷ more) (rest (rw e at may)))
 
 -- after a container runs, and after somebody is told of it
-pub ran_kept : (loads : Loads) (rows new : List BookRow) (added : ℕ) (id : ContainerId) → IsKept loads rows added → new ≡ stepped id rows → IsKept loads new added × (new ≡ in_state id Running rows)
+pub ran_kept : (loads : Loads) (rows new : List BookRow) (added : ℕ) (id : ContainerId) → ShowsBook loads rows added → new ≡ stepped id rows → ShowsBook loads new added × (new ≡ in_state id Running rows)
 ran_kept loads rows new added id kept is =
     let e : new ≡ in_state id Running rows = is ∙ ran_rows id rows kept.book.living in
-    (subst (λ l. IsKept loads l added) (sym e) (state_kept id Running loads rows added refl kept), e)
+    (subst (λ l. ShowsBook loads l added) (sym e) (state_kept id Running loads rows added refl kept), e)
 
-pub told_kept : (loads : Loads) (rows new : List BookRow) (added : ℕ) (id : ContainerId) → IsKept loads rows added → IfSome (find (is_of id) rows) (λ row. may_be_told row.state ≡ true)
-    → new ≡ told_of id rows → IsKept loads new added × (new ≡ in_state id Acquired rows)
+pub told_kept : (loads : Loads) (rows new : List BookRow) (added : ℕ) (id : ContainerId) → ShowsBook loads rows added → IfSome (find (is_of id) rows) (λ row. may_be_told row.state ≡ true)
+    → new ≡ told_of id rows → ShowsBook loads new added × (new ≡ in_state id Acquired rows)
 told_kept loads rows new added id kept may is =
     let e : new ≡ in_state id Acquired rows = is ∙ told_rows id rows kept.book.apart may in
-    (subst (λ l. IsKept loads l added) (sym e) (state_kept id Acquired loads rows added refl kept), e)
+    (subst (λ l. ShowsBook loads l added) (sym e) (state_kept id Acquired loads rows added refl kept), e)

@@ -11,8 +11,9 @@ use Rattle.rm_types.specs.declared.ids.AttemptId.{AttemptId}
 use Rattle.rm_types.specs.declared.ids.ContainerId.{ContainerId}
 use Rattle.rm_types.specs.Ids.{is_app, is_attempt, is_container}
 use Rattle.rm_types.proofs.IdLemmas.{container_back, container_itself}
-use Rattle.rm_book.specs.Books.{AreApart, is_held, is_later, is_of}
-use Rattle.rm_book.specs.Granted.{grant_in, grant_of, grants_to, is_granted_to}
+use Rattle.rm_book.specs.Books.{BookRowsAreApart, is_later, is_of}
+use Rattle.rm_types.specs.Containers.{is_held}
+use Rattle.rm_book.specs.Granted.{grant_in, row_grant, grants_to, is_granted_to}
 use Rattle.rm_book.specs.Kept.{ids_where}
 
 or_cond : (a b : Bool) → cond b true a ≡ (a || (b || false))
@@ -55,14 +56,14 @@ other_rows p row all (one ∷ rows) none =
     by false e apart rest = rw e rest
 
 -- the grants of the containers that an attempt was granted are what it was granted
-pub granted_all : (attempt : AttemptId) (rows : List BookRow) → AreApart rows → filter_map (grant_in rows) (ids_where (is_granted_to attempt) rows) ≡ grants_to rows attempt
+pub granted_all : (attempt : AttemptId) (rows : List BookRow) → BookRowsAreApart rows → filter_map (grant_in rows) (ids_where (is_granted_to attempt) rows) ≡ grants_to rows attempt
 granted_all attempt [] apart = refl
 granted_all attempt (row ∷ rows) apart =
     by (is_granted_to attempt row) refl (container_itself row.id) (other_rows (is_granted_to attempt) row rows rows apart.0 ∙ granted_all attempt rows apart.1)
   where
     by : (b : Bool) → is_granted_to attempt row ≡ b → is_of row.id row ≡ true → filter_map (grant_in (row ∷ rows)) (ids_where (is_granted_to attempt) rows) ≡ grants_to rows attempt
         → filter_map (grant_in (row ∷ rows)) (ids_where (is_granted_to attempt) (row ∷ rows)) ≡ grants_to (row ∷ rows) attempt
-    by true e own rest = rw (e, own) (ap (λ more. grant_of row ∷ more) rest)
+    by true e own rest = rw (e, own) (ap (λ more. row_grant row ∷ more) rest)
     by false e own rest = rw e rest
 
 -- one more is found

@@ -17,12 +17,13 @@ use Rattle.rm_types.specs.declared.ids.ContainerId.{ContainerId}
 use Rattle.rm_types.specs.Ids.{is_app, is_attempt, is_container}
 use Rattle.rm_types.proofs.IdLemmas.{container_back, container_itself, same_container}
 use Rattle.rm_types.proofs.TestLemmas.{found_passes, is_some-find}
-use Rattle.rm_container.specs.Table.{next_state}
+use Rattle.rm_container.specs.Table.{next_container_state}
 use Rattle.rm_container.specs.declared.states.ContainerEvent.{ContainerEvent}
 use Rattle.rm_container.specs.declared.states.ContainerEvent.TheVariants.{Tell, Run, End}
-use Rattle.rm_book.specs.Books.{AreApart, is_of}
-use Rattle.rm_book.specs.Granted.{is_granted, is_granted_to, is_untold}
-use Rattle.rm_book.specs.Kept.{AreRows, AreWith, AreWithout, AreSame, by_id, ids_under, ids_where}
+use Rattle.rm_book.specs.Books.{BookRowsAreApart, is_of}
+use Rattle.rm_book.specs.Granted.{is_granted_to, is_untold_to_attempt}
+use Rattle.rm_types.specs.Containers.{is_granted}
+use Rattle.rm_book.specs.Kept.{RowsAreIndexed, AreWith, AreWithout, AreSame, by_id, ids_under, ids_where}
 use Rattle.rm_book.proofs.Rows.{apart_filter, apart_push}
 use Rattle.rm_book.proofs.Splits.{filter_none, map_none}
 
@@ -34,15 +35,15 @@ values_back [] = refl
 values_back (row ∷ rows) = ap (λ more. row ∷ more) (values_back rows)
 
 -- what is kept of these rows
-are_rows : (list : List (ContainerId × BookRow)) (rows : List BookRow) (nodes : Groups (List ℕ)) (apps : Groups AppId) (untold : Groups AttemptId) → list ≡ map by_id rows → AreApart rows
+are_rows : (list : List (ContainerId × BookRow)) (rows : List BookRow) (nodes : Groups (List ℕ)) (apps : Groups AppId) (untold : Groups AttemptId) → list ≡ map by_id rows → BookRowsAreApart rows
     → ((node : List ℕ) → ids_under bytes_eq nodes node ≡ ids_where (λ row. bytes_eq row.node node) rows)
     → ((app : AppId) → ids_under is_app apps app ≡ ids_where (λ row. is_app row.id.attempt.app app) rows)
-    → ((attempt : AttemptId) → ids_under is_attempt untold attempt ≡ ids_where (is_granted_to attempt) rows) → AreRows list nodes apps untold
+    → ((attempt : AttemptId) → ids_under is_attempt untold attempt ≡ ids_where (is_granted_to attempt) rows) → RowsAreIndexed list nodes apps untold
 are_rows list rows nodes apps untold e apart on of to =
     let v : values_of list ≡ rows = ap values_of e ∙ values_back rows in
     record {
       own = e ∙ ap (map by_id) (sym v);
-      apart = subst AreApart (sym v) apart;
+      apart = subst BookRowsAreApart (sym v) apart;
       by_node = λ node. on node ∙ ap (ids_where (λ row. bytes_eq row.node node)) (sym v);
       by_app = λ app. of app ∙ ap (ids_where (λ row. is_app row.id.attempt.app app)) (sym v);
       by_attempt = λ attempt. to attempt ∙ ap (ids_where (is_granted_to attempt)) (sym v);
@@ -56,7 +57,7 @@ module _ (id : ContainerId) where
   found_in [] = refl
   found_in (row ∷ rows) = rw (container_back row.id id, found_in rows) refl
 
-  removed_in : (rows : List BookRow) → AreApart rows → remove_entry (is_container id) (map by_id rows) ≡ map by_id (without rows)
+  removed_in : (rows : List BookRow) → BookRowsAreApart rows → remove_entry (is_container id) (map by_id rows) ≡ map by_id (without rows)
   removed_in [] apart = refl
   removed_in (row ∷ rows) apart = by (is_container id row.id) refl (removed_in rows apart.1)
     where
@@ -71,7 +72,7 @@ module _ (id : ContainerId) where
     abbrev changed : List BookRow → List BookRow
     changed rows = map (λ row. cond (is_of id row) (change row) row) rows
 
-    changed_in : (rows : List BookRow) (old : BookRow) → AreApart rows → lookup (is_container id) (map by_id rows) ≡ Some old
+    changed_in : (rows : List BookRow) (old : BookRow) → BookRowsAreApart rows → lookup (is_container id) (map by_id rows) ≡ Some old
         → set_value (is_container id) (map by_id rows) (change old) ≡ map by_id (changed rows)
     changed_in [] old apart at = cc
     changed_in (row ∷ rows) old apart at = by (is_container id row.id) refl (changed_in rows old apart.1)
@@ -100,7 +101,7 @@ module _ (id : ContainerId) where
     id_changed row true = keeps row
     id_changed row false = refl
 
-    pub apart_changed : (rows : List BookRow) → AreApart rows → AreApart (changed rows)
+    pub apart_changed : (rows : List BookRow) → BookRowsAreApart rows → BookRowsAreApart (changed rows)
     apart_changed [] apart = tt
     apart_changed (row ∷ rows) apart = (rw (id_changed row (is_of id row), any_changed row.id rows) apart.0, apart_changed rows apart.1)
 
@@ -153,7 +154,7 @@ module _ (id : ContainerId) where
       rw parts.0 (ap (λ more. one ∷ more) (undone ids parts.1))
 
   -- the containers of rows without one
-  ids_without : (p : BookRow → Bool) (rows : List BookRow) (gone : BookRow) → AreApart rows → find (is_of id) rows ≡ Some gone
+  ids_without : (p : BookRow → Bool) (rows : List BookRow) (gone : BookRow) → BookRowsAreApart rows → find (is_of id) rows ≡ Some gone
       → ids_where p (without rows) ≡ cond (p gone) (remove_key (is_container id) (ids_where p rows)) (ids_where p rows)
   ids_without p [] gone apart at = cc
   ids_without p (row ∷ rows) gone apart at = by (is_of id row) (p row) refl refl (ids_without p rows gone apart.1)
@@ -195,7 +196,7 @@ pub count_where : (p : BookRow → Bool) (rows : List BookRow) → length (ids_w
 count_where p rows = length-map (filter p rows) (λ row. row.id) ∙ length-filter p rows
 
 -- no event leads to Granted, and each leads out of it
-granted_no_more : (state : ContainerState) (event : ContainerEvent) → is_granted (next_state state event) ≡ false
+granted_no_more : (state : ContainerState) (event : ContainerEvent) → is_granted (next_container_state state event) ≡ false
 granted_no_more Granted Tell = refl
 granted_no_more Granted Run = refl
 granted_no_more Granted End = refl
@@ -214,7 +215,7 @@ and_false true b e = e
 and_false false b e = refl
 
 -- rows as they are kept
-module _ {list : List (ContainerId × BookRow)} {nodes : Groups (List ℕ)} {apps : Groups AppId} {untold : Groups AttemptId} (kept : AreRows list nodes apps untold) where
+module _ {list : List (ContainerId × BookRow)} {nodes : Groups (List ℕ)} {apps : Groups AppId} {untold : Groups AttemptId} (kept : RowsAreIndexed list nodes apps untold) where
   abbrev rows : List BookRow
   rows = values_of list
 
@@ -245,15 +246,15 @@ module _ {list : List (ContainerId × BookRow)} {nodes : Groups (List ℕ)} {app
 
   -- those of an attempt that nobody was told of, where a container was taken away from among them
   to_left : (id : ContainerId) (gone : BookRow) → find (is_of id) rows ≡ Some gone → (attempt : AttemptId) {ids : List ContainerId}
-      → ids ≡ cond (is_untold id gone.state attempt) (remove_key (is_container id) (ids_under is_attempt untold attempt)) (ids_under is_attempt untold attempt)
+      → ids ≡ cond (is_untold_to_attempt id gone.state attempt) (remove_key (is_container id) (ids_under is_attempt untold attempt)) (ids_under is_attempt untold attempt)
       → ids ≡ cond (is_granted_to attempt gone) (remove_key (is_container id) (ids_where (is_granted_to attempt) rows)) (ids_where (is_granted_to attempt) rows)
   to_left id gone there attempt to =
       let own : gone.id ≡ id = same_container gone.id id (found_passes (is_of id) rows gone there) in
-      to ∙ ap (λ ids. cond (is_untold id gone.state attempt) (remove_key (is_container id) ids) ids) (kept.by_attempt attempt)
-      ∙ ap (λ one. cond (is_untold one gone.state attempt) (remove_key (is_container id) (ids_where (is_granted_to attempt) rows)) (ids_where (is_granted_to attempt) rows)) (sym own)
+      to ∙ ap (λ ids. cond (is_untold_to_attempt id gone.state attempt) (remove_key (is_container id) ids) ids) (kept.by_attempt attempt)
+      ∙ ap (λ one. cond (is_untold_to_attempt one gone.state attempt) (remove_key (is_container id) (ids_where (is_granted_to attempt) rows)) (ids_where (is_granted_to attempt) rows)) (sym own)
 
   module _ {nodes' : Groups (List ℕ)} {apps' : Groups AppId} {untold' : Groups AttemptId} where
-    pub same_kept : AreSame bytes_eq nodes nodes' → AreSame is_app apps apps' → AreSame is_attempt untold untold' → AreRows list nodes' apps' untold'
+    pub same_kept : AreSame bytes_eq nodes nodes' → AreSame is_app apps apps' → AreSame is_attempt untold untold' → RowsAreIndexed list nodes' apps' untold'
     same_kept on of to = record {
       own = kept.own;
       apart = kept.apart;
@@ -264,7 +265,7 @@ module _ {list : List (ContainerId × BookRow)} {nodes : Groups (List ℕ)} {app
 
     pub added_kept : (row : BookRow) (list' : List (ContainerId × BookRow)) → list_any (is_of row.id) rows ≡ false → list' ≡ list ++ (row.id, row) ∷ []
         → AreWith bytes_eq (bytes_eq row.node) row.id nodes nodes' → AreWith is_app (is_app row.id.attempt.app) row.id apps apps'
-        → AreWith is_attempt (is_untold row.id row.state) row.id untold untold' → AreRows list' nodes' apps' untold'
+        → AreWith is_attempt (is_untold_to_attempt row.id row.state) row.id untold untold' → RowsAreIndexed list' nodes' apps' untold'
     added_kept row list' none is on of to =
         are_rows list' (rows ++ row ∷ []) nodes' apps' untold'
         (is ∙ ap (λ l. l ++ (row.id, row) ∷ []) kept.own ∙ sym (map-append by_id rows (row ∷ [])))
@@ -272,12 +273,12 @@ module _ {list : List (ContainerId × BookRow)} {nodes : Groups (List ℕ)} {app
         (λ node. on node ∙ ap (λ ids. cond (bytes_eq row.node node) (ids ++ row.id ∷ []) ids) (kept.by_node node) ∙ sym (ids_push (λ row. bytes_eq row.node node) rows row))
         (λ app. of app ∙ ap (λ ids. cond (is_app row.id.attempt.app app) (ids ++ row.id ∷ []) ids) (kept.by_app app)
         ∙ sym (ids_push (λ row. is_app row.id.attempt.app app) rows row))
-        (λ attempt. to attempt ∙ ap (λ ids. cond (is_untold row.id row.state attempt) (ids ++ row.id ∷ []) ids) (kept.by_attempt attempt)
+        (λ attempt. to attempt ∙ ap (λ ids. cond (is_untold_to_attempt row.id row.state attempt) (ids ++ row.id ∷ []) ids) (kept.by_attempt attempt)
         ∙ sym (ids_push (is_granted_to attempt) rows row))
 
     pub removed_kept : (id : ContainerId) (gone : BookRow) (list' : List (ContainerId × BookRow)) → Some gone ≡ lookup (is_container id) list → list' ≡ remove_entry (is_container id) list
         → AreWithout bytes_eq (bytes_eq gone.node) id nodes nodes' → AreWithout is_app (is_app id.attempt.app) id apps apps'
-        → AreWithout is_attempt (is_untold id gone.state) id untold untold' → AreRows list' nodes' apps' untold'
+        → AreWithout is_attempt (is_untold_to_attempt id gone.state) id untold untold' → RowsAreIndexed list' nodes' apps' untold'
     removed_kept id gone list' at is on of to =
         let there : find (is_of id) rows ≡ Some gone = sym (found_kept id) ∙ sym at in
         let own : gone.id ≡ id = same_container gone.id id (found_passes (is_of id) rows gone there) in
@@ -293,15 +294,15 @@ module _ {list : List (ContainerId × BookRow)} {nodes : Groups (List ℕ)} {app
 
   module _ (id : ContainerId) (event : ContainerEvent) where
     abbrev stepped : BookRow → BookRow
-    stepped row = record row { state = next_state row.state event }
+    stepped row = record row { state = next_container_state row.state event }
 
     abbrev pub rows_stepped : List BookRow
     rows_stepped = changed id stepped (λ row. refl) rows
 
     -- an event comes to a container that has this row
     step_of : (old : BookRow) {list' : List (ContainerId × BookRow)} {untold' : Groups AttemptId} → lookup (is_container id) list ≡ Some old
-        → list' ≡ set_value (is_container id) list (stepped old) → AreWithout is_attempt (is_untold id old.state) id untold untold'
-        → AreRows list' nodes apps untold' × (values_of list' ≡ rows_stepped)
+        → list' ≡ set_value (is_container id) list (stepped old) → AreWithout is_attempt (is_untold_to_attempt id old.state) id untold untold'
+        → RowsAreIndexed list' nodes apps untold' × (values_of list' ≡ rows_stepped)
     step_of old {list'} {untold'} at is to =
         let there : find (is_of id) rows ≡ Some old = sym (found_kept id) ∙ at in
         let e : list' ≡ map by_id rows_stepped =
@@ -312,7 +313,7 @@ module _ {list : List (ContainerId × BookRow)} {nodes : Groups (List ℕ)} {app
               (λ app. kept.by_app app ∙ sym (ids_changed id stepped (λ row. refl) (λ row. is_app row.id.attempt.app app) (λ row. refl) rows))
               (λ attempt. to_left id old there attempt (to attempt)
               ∙ sym (ids_failed id stepped (λ row. refl) (is_granted_to attempt)
-              (λ row. and_false (is_attempt row.id.attempt attempt) (is_granted (next_state row.state event)) (granted_no_more row.state event)) rows
+              (λ row. and_false (is_attempt row.id.attempt attempt) (is_granted (next_container_state row.state event)) (granted_no_more row.state event)) rows
               ∙ ids_without id (is_granted_to attempt) rows old kept.apart there)),
           ap values_of e ∙ values_back rows_stepped,
         )
@@ -320,11 +321,11 @@ module _ {list : List (ContainerId × BookRow)} {nodes : Groups (List ℕ)} {app
     -- and to one that has some row
     pub stepped_kept : {list' : List (ContainerId × BookRow)} {untold' : Groups AttemptId} {former : ContainerState} → true ≡ is_some (lookup (is_container id) list)
         → ((old : BookRow) → lookup (is_container id) list ≡ Some old → (former ≡ old.state) × (list' ≡ set_value (is_container id) list (stepped old)))
-        → AreWithout is_attempt (is_untold id former) id untold untold' → AreRows list' nodes apps untold' × (values_of list' ≡ rows_stepped)
+        → AreWithout is_attempt (is_untold_to_attempt id former) id untold untold' → RowsAreIndexed list' nodes apps untold' × (values_of list' ≡ rows_stepped)
     stepped_kept {list'} {untold'} {former} some wrote to = by (lookup (is_container id) list) refl
       where
-        by : (o : Option BookRow) → lookup (is_container id) list ≡ o → AreRows list' nodes apps untold' × (values_of list' ≡ rows_stepped)
-        by (Some old) at = step_of old at (wrote old at).1 (subst (λ state. AreWithout is_attempt (is_untold id state) id untold untold') (wrote old at).0 to)
+        by : (o : Option BookRow) → lookup (is_container id) list ≡ o → RowsAreIndexed list' nodes apps untold' × (values_of list' ≡ rows_stepped)
+        by (Some old) at = step_of old at (wrote old at).1 (subst (λ state. AreWithout is_attempt (is_untold_to_attempt id state) id untold untold') (wrote old at).0 to)
         by None at = let some' : true ≡ false = some ∙ ap is_some at in cc
 
     -- where it has none, nothing changes
@@ -350,13 +351,13 @@ added_undone {K} eq test id old mid new none on off key = by (test key) refl
 -- no row yet
 pub none_kept_yet : {list : List (ContainerId × BookRow)} {nodes : Groups (List ℕ)} {apps : Groups AppId} {untold : Groups AttemptId} → list ≡ []
     → ((node : List ℕ) → ids_under bytes_eq nodes node ≡ []) → ((app : AppId) → ids_under is_app apps app ≡ []) → ((attempt : AttemptId) → ids_under is_attempt untold attempt ≡ [])
-    → AreRows list nodes apps untold
+    → RowsAreIndexed list nodes apps untold
 none_kept_yet {list} {nodes} {apps} {untold} e on of to = are_rows list [] nodes apps untold e tt on of to
 
 -- where a container has no row, none is taken away
-pub removed_none : {list : List (ContainerId × BookRow)} {nodes : Groups (List ℕ)} {apps : Groups AppId} {untold : Groups AttemptId} → AreRows list nodes apps untold
-    → (id : ContainerId) {list' : List (ContainerId × BookRow)} → lookup (is_container id) list ≡ None → list' ≡ remove_entry (is_container id) list → AreRows list' nodes apps untold
-removed_none {list} {nodes} {apps} {untold} kept id none is = subst (λ l. AreRows l nodes apps untold) (sym (is ∙ nothing list none)) kept
+pub removed_none : {list : List (ContainerId × BookRow)} {nodes : Groups (List ℕ)} {apps : Groups AppId} {untold : Groups AttemptId} → RowsAreIndexed list nodes apps untold
+    → (id : ContainerId) {list' : List (ContainerId × BookRow)} → lookup (is_container id) list ≡ None → list' ≡ remove_entry (is_container id) list → RowsAreIndexed list' nodes apps untold
+removed_none {list} {nodes} {apps} {untold} kept id none is = subst (λ l. RowsAreIndexed l nodes apps untold) (sym (is ∙ nothing list none)) kept
   where
     nothing : (es : List (ContainerId × BookRow)) → lookup (is_container id) es ≡ None → remove_entry (is_container id) es ≡ es
     nothing [] none = refl

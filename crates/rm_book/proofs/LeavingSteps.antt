@@ -15,9 +15,10 @@ use Rattle.rm_types.specs.Ids.{is_container}
 use Rattle.rm_types.proofs.IdLemmas.{container_back, same_container}
 use Rattle.rm_types.proofs.TestLemmas.{is_some-find, text_itself}
 use Rattle.rm_container.specs.declared.states.ContainerEvent.TheVariants.{Run}
-use Rattle.rm_container.specs.Table.{next_state}
+use Rattle.rm_container.specs.Table.{next_container_state}
 use Rattle.rm_book.specs.declared.node_table.NodeLoad.{NodeLoad}
-use Rattle.rm_book.specs.Books.{AreApart, AreLiving, is_held, is_of, row_taken, sizes_on, total_on}
+use Rattle.rm_book.specs.Books.{BookRowsAreApart, AreLiving, is_of, book_row_taken, sizes_on, total_on}
+use Rattle.rm_types.specs.Containers.{is_held}
 use Rattle.rm_book.specs.Kept.{AreUsed, Holds, IsSum, sum_without}
 use Rattle.rm_book.proofs.Changes.{runs}
 use Rattle.rm_book.proofs.Kept.{without}
@@ -28,7 +29,7 @@ abbrev Loads : Type 0
 Loads = List (List ℕ × NodeLoad)
 
 -- the sum with one row and without it
-pub sum_without_row : (part : Resource → ℕ) (node : List ℕ) (id : ContainerId) (rows : List BookRow) (gone : BookRow) → AreApart rows → find (is_of id) rows ≡ Some gone
+pub sum_without_row : (part : Resource → ℕ) (node : List ℕ) (id : ContainerId) (rows : List BookRow) (gone : BookRow) → BookRowsAreApart rows → find (is_of id) rows ≡ Some gone
     → sum_by part (sizes_on node rows) ≡ share part node gone + sum_by part (sizes_on node (without id rows))
 sum_without_row part node id [] gone apart at = cc
 sum_without_row part node id (row ∷ rows) gone apart at = by (is_of id row) refl (sum_without_row part node id rows gone apart.1)
@@ -47,7 +48,7 @@ sum_without_row part node id (row ∷ rows) gone apart at = by (is_of id row) re
         rw e (omega (arith, whole, rest at', sum-sizes_on-cons part node row (without id rows) _ refl))
 
 -- so much stands on a row's node
-pub holds_row : (loads : Loads) (rows : List BookRow) (id : ContainerId) (row : BookRow) → AreUsed loads rows → AreApart rows → find (is_of id) rows ≡ Some row
+pub holds_row : (loads : Loads) (rows : List BookRow) (id : ContainerId) (row : BookRow) → AreUsed loads rows → BookRowsAreApart rows → find (is_of id) rows ≡ Some row
     → IfSome (lookup (bytes_eq row.node) loads) (λ load. Holds load.used row.size)
 holds_row loads rows id row used apart at = by (lookup (bytes_eq row.node) loads) refl
   where
@@ -61,7 +62,7 @@ holds_row loads rows id row used apart at = by (lookup (bytes_eq row.node) loads
         rw e (omega (arith, u.0, own (λ size. size.memory_mb)), omega (arith, u.1, own (λ size. size.vcores)))
 
 -- and less when it went
-pub used_lowered : (loads new : Loads) (rows : List BookRow) (id : ContainerId) (row : BookRow) → AreUsed loads rows → AreApart rows → find (is_of id) rows ≡ Some row
+pub used_lowered : (loads new : Loads) (rows : List BookRow) (id : ContainerId) (row : BookRow) → AreUsed loads rows → BookRowsAreApart rows → find (is_of id) rows ≡ Some row
     → ((other : List ℕ) → lookup (bytes_eq other) new ≡ option_map (λ load. cond (bytes_eq row.node other) (record load { used = sum_without load.used row.size }) load) (lookup (bytes_eq other) loads))
     → AreUsed new (without id rows)
 used_lowered loads new rows id row used apart at set other = by (lookup (bytes_eq other) loads) refl
@@ -119,9 +120,9 @@ left_more ids i d rows now within so_far =
 
 -- what runs when one more runs
 abbrev pub stepped : ContainerId → List BookRow → List BookRow
-stepped id rows = map (λ row. cond (is_of id row) (record row { state = next_state row.state Run }) row) rows
+stepped id rows = map (λ row. cond (is_of id row) (record row { state = next_container_state row.state Run }) row) rows
 
-pub one_ran : (list : List Held) (held : Held) (rows : List BookRow) → AreLiving rows → stepped held.id (map (row_taken list) rows) ≡ map (row_taken (list ++ held ∷ [])) rows
+pub one_ran : (list : List Held) (held : Held) (rows : List BookRow) → AreLiving rows → stepped held.id (map (book_row_taken list) rows) ≡ map (book_row_taken (list ++ held ∷ [])) rows
 one_ran list held [] living = refl
 one_ran list held (row ∷ rows) living =
     by (is_held list row.id) (is_container held.id row.id) refl refl (list_any-append (λ one. is_container one.id row.id) list (held ∷ [])) (one_ran list held rows living.1)
@@ -130,18 +131,18 @@ one_ran list held (row ∷ rows) living =
     back = container_back row.id held.id
 
     by : (a b : Bool) → is_held list row.id ≡ a → is_container held.id row.id ≡ b → is_held (list ++ held ∷ []) row.id ≡ (is_held list row.id || (is_container held.id row.id || false))
-        → stepped held.id (map (row_taken list) rows) ≡ map (row_taken (list ++ held ∷ [])) rows
-        → stepped held.id (map (row_taken list) (row ∷ rows)) ≡ map (row_taken (list ++ held ∷ [])) (row ∷ rows)
+        → stepped held.id (map (book_row_taken list) rows) ≡ map (book_row_taken (list ++ held ∷ [])) rows
+        → stepped held.id (map (book_row_taken list) (row ∷ rows)) ≡ map (book_row_taken (list ++ held ∷ [])) (row ∷ rows)
     by true true e f all rest = let all' = rw e at all in rw (e, all', back, f) (ap (λ more. record row { state = Running } ∷ more) rest)
     by true false e f all rest = let all' = rw e at all in rw (e, all', back, f) (ap (λ more. record row { state = Running } ∷ more) rest)
     by false true e f all rest = let all' = rw (e, f) at all in rw (e, all', back, f, runs row.state living.0) (ap (λ more. record row { state = Running } ∷ more) rest)
     by false false e f all rest = let all' = rw (e, f) at all in rw (e, all', back, f) (ap (λ more. row ∷ more) rest)
 
-pub none_ran : (rows : List BookRow) → rows ≡ map (row_taken []) rows
+pub none_ran : (rows : List BookRow) → rows ≡ map (book_row_taken []) rows
 none_ran [] = refl
 none_ran (row ∷ rows) = ap (λ more. row ∷ more) (none_ran rows)
 
-pub ran_more : (list : List Held) (i : ℕ) (d : Held) (rows now : List BookRow) → i < length list → AreLiving rows → now ≡ map (row_taken (take i list)) rows
-    → stepped (get_or list i d).id now ≡ map (row_taken (take (i + 1) list)) rows
+pub ran_more : (list : List Held) (i : ℕ) (d : Held) (rows now : List BookRow) → i < length list → AreLiving rows → now ≡ map (book_row_taken (take i list)) rows
+    → stepped (get_or list i d).id now ≡ map (book_row_taken (take (i + 1) list)) rows
 ran_more list i d rows now within living so_far =
-    ap (stepped (get_or list i d).id) so_far ∙ one_ran (take i list) (get_or list i d) rows living ∙ ap (λ l. map (row_taken l) rows) (sym (take_more list i d within))
+    ap (stepped (get_or list i d).id) so_far ∙ one_ran (take i list) (get_or list i d) rows living ∙ ap (λ l. map (book_row_taken l) rows) (sym (take_more list i d within))

@@ -7,7 +7,7 @@ use Rattle.std.proofs.lemmas.Cmp.{nat_list_eq_equiv}
 use Rattle.rm_types.specs.declared.resources.Resource.{Resource}
 use Rattle.rm_book.specs.declared.node_table.NodeLoad.{NodeLoad}
 use Rattle.rm_book.specs.Books.{capability_in, with_capability}
-use Rattle.rm_book.specs.Kept.{shown}
+use Rattle.rm_book.specs.Kept.{nodes_shown}
 
 abbrev Loads : Type 0
 Loads = List (List ℕ × NodeLoad)
@@ -17,50 +17,50 @@ back a b = nat_list_eq_equiv.symm a b
 
 -- what is set in the place of a load of the same capability isn't seen
 pub shown_set : (node : List ℕ) (loads : Loads) (old new : NodeLoad) → lookup (bytes_eq node) loads ≡ Some old → new.capability ≡ old.capability
-    → shown (set_value (bytes_eq node) loads new) ≡ shown loads
+    → nodes_shown (set_value (bytes_eq node) loads new) ≡ nodes_shown loads
 shown_set node [] old new at same = refl
 shown_set node (load ∷ loads) old new at same = by (bytes_eq node load.0) refl (shown_set node loads old new)
   where
-    by : (b : Bool) → bytes_eq node load.0 ≡ b → (lookup (bytes_eq node) loads ≡ Some old → new.capability ≡ old.capability → shown (set_value (bytes_eq node) loads new) ≡ shown loads)
-        → shown (set_value (bytes_eq node) (load ∷ loads) new) ≡ shown (load ∷ loads)
+    by : (b : Bool) → bytes_eq node load.0 ≡ b → (lookup (bytes_eq node) loads ≡ Some old → new.capability ≡ old.capability → nodes_shown (set_value (bytes_eq node) loads new) ≡ nodes_shown loads)
+        → nodes_shown (set_value (bytes_eq node) (load ∷ loads) new) ≡ nodes_shown (load ∷ loads)
     by true e rest =
         let is : load.1 ≡ old = let at' = rw e at at in cc in
-        rw e (ap (λ (c : Resource). record { node = load.0; capability = c } ∷ shown loads) (same ∙ ap (λ (l : NodeLoad). l.capability) (sym is)))
+        rw e (ap (λ (c : Resource). record { node = load.0; capability = c } ∷ nodes_shown loads) (same ∙ ap (λ (l : NodeLoad). l.capability) (sym is)))
     by false e rest =
         let at' = rw e at at in
         rw e (ap (λ more. record { node = load.0; capability = load.1.capability } ∷ more) (rest at' same))
 
 -- what is set in another capability's place is
 pub shown_offer : (node : List ℕ) (loads : Loads) (old new : NodeLoad) → lookup (bytes_eq node) loads ≡ Some old
-    → shown (set_value (bytes_eq node) loads new) ≡ with_capability node new.capability (shown loads)
+    → nodes_shown (set_value (bytes_eq node) loads new) ≡ with_capability node new.capability (nodes_shown loads)
 shown_offer node [] old new at = cc
 shown_offer node (load ∷ loads) old new at = by (bytes_eq node load.0) refl (shown_offer node loads old new)
   where
-    by : (b : Bool) → bytes_eq node load.0 ≡ b → (lookup (bytes_eq node) loads ≡ Some old → shown (set_value (bytes_eq node) loads new) ≡ with_capability node new.capability (shown loads))
-        → shown (set_value (bytes_eq node) (load ∷ loads) new) ≡ with_capability node new.capability (shown (load ∷ loads))
+    by : (b : Bool) → bytes_eq node load.0 ≡ b → (lookup (bytes_eq node) loads ≡ Some old → nodes_shown (set_value (bytes_eq node) loads new) ≡ with_capability node new.capability (nodes_shown loads))
+        → nodes_shown (set_value (bytes_eq node) (load ∷ loads) new) ≡ with_capability node new.capability (nodes_shown (load ∷ loads))
     by true e rest = rw (back load.0 node, e) refl
     by false e rest =
         let at' = rw e at at in
         rw (back load.0 node, e) (ap (λ more. record { node = load.0; capability = load.1.capability } ∷ more) (rest at'))
 
 pub shown_enter : (node : List ℕ) (loads : Loads) (new : NodeLoad) → lookup (bytes_eq node) loads ≡ None
-    → shown (loads ++ (node, new) ∷ []) ≡ with_capability node new.capability (shown loads)
+    → nodes_shown (loads ++ (node, new) ∷ []) ≡ with_capability node new.capability (nodes_shown loads)
 shown_enter node [] new none = refl
 shown_enter node (load ∷ loads) new none = by (bytes_eq node load.0) refl (shown_enter node loads new)
   where
-    by : (b : Bool) → bytes_eq node load.0 ≡ b → (lookup (bytes_eq node) loads ≡ None → shown (loads ++ (node, new) ∷ []) ≡ with_capability node new.capability (shown loads))
-        → shown ((load ∷ loads) ++ (node, new) ∷ []) ≡ with_capability node new.capability (shown (load ∷ loads))
+    by : (b : Bool) → bytes_eq node load.0 ≡ b → (lookup (bytes_eq node) loads ≡ None → nodes_shown (loads ++ (node, new) ∷ []) ≡ with_capability node new.capability (nodes_shown loads))
+        → nodes_shown ((load ∷ loads) ++ (node, new) ∷ []) ≡ with_capability node new.capability (nodes_shown (load ∷ loads))
     by true e rest = let none' = rw e at none in cc
     by false e rest =
         let none' = rw e at none in
         rw (back load.0 node, e) (ap (λ more. record { node = load.0; capability = load.1.capability } ∷ more) (rest none'))
 
 -- the capability that a book shows is the load's
-pub capability_shown : (node : List ℕ) (loads : Loads) → capability_in (shown loads) node ≡ option_map (λ load. load.capability) (lookup (bytes_eq node) loads)
+pub capability_shown : (node : List ℕ) (loads : Loads) → capability_in (nodes_shown loads) node ≡ option_map (λ load. load.capability) (lookup (bytes_eq node) loads)
 capability_shown node [] = refl
 capability_shown node (load ∷ loads) = by (bytes_eq node load.0) refl (capability_shown node loads)
   where
-    by : (b : Bool) → bytes_eq node load.0 ≡ b → capability_in (shown loads) node ≡ option_map (λ load. load.capability) (lookup (bytes_eq node) loads)
-        → capability_in (shown (load ∷ loads)) node ≡ option_map (λ load. load.capability) (lookup (bytes_eq node) (load ∷ loads))
+    by : (b : Bool) → bytes_eq node load.0 ≡ b → capability_in (nodes_shown loads) node ≡ option_map (λ load. load.capability) (lookup (bytes_eq node) loads)
+        → capability_in (nodes_shown (load ∷ loads)) node ≡ option_map (λ load. load.capability) (lookup (bytes_eq node) (load ∷ loads))
     by true e rest = rw (back load.0 node, e) refl
     by false e rest = rw (back load.0 node, e) rest

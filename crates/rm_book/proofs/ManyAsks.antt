@@ -8,8 +8,8 @@ use Rattle.rm_types.specs.declared.containers.Ask.{Ask}
 use Rattle.rm_types.specs.declared.containers.AskLine.{AskLine}
 use Rattle.rm_types.specs.declared.ids.AttemptId.{AttemptId}
 use Rattle.rm_types.specs.Ids.{is_attempt}
-use Rattle.rm_book.specs.AskLines.{AreLines, AttemptAsks, IsAskTable, ask_of, asks_in, asks_of_entry, by_order, lines_in, lines_set, order_of, put_by, with_lines}
-use Rattle.rm_book.specs.AskTables.{AsksOf, asks_of, asks_set, with_asks_of}
+use Rattle.rm_book.specs.AskLines.{AreLines, AttemptAsks, IsAskTable, ask_of, asks_in, asks_of_entry, by_order, lines_in, lines_set, asking_order, put_by, with_lines}
+use Rattle.rm_book.specs.AskTables.{AsksOf, attempt_asks, asks_set, with_asks_of}
 use Rattle.rm_book.specs.ManyAsks.{all_asked, asks_after, lines_after}
 use Rattle.rm_book.proofs.LineSteps.{set_lawful}
 use Rattle.rm_book.proofs.Entries.{Changed, changed, lawful_lines, lists_later}
@@ -40,11 +40,11 @@ after_view (ask ∷ more) asked lines h =
     ∙ ap (λ (so_far : List Ask). asks_after so_far more) (set_view asked ask lines h)
 
 -- as many asks are seen as there are lines
-length_put : (line : AskLine) (lines : List AskLine) → length (put_by order_of line lines) ≡ suc (length lines)
+length_put : (line : AskLine) (lines : List AskLine) → length (put_by asking_order line lines) ≡ suc (length lines)
 length_put line [] = refl
 length_put line (other ∷ lines) = by (nat_lt other.order line.order) (length_put line lines)
   where
-    by : (b : Bool) → length (put_by order_of line lines) ≡ suc (length lines) → length (if b then other ∷ put_by order_of line lines else line ∷ other ∷ lines) ≡ suc (suc (length lines))
+    by : (b : Bool) → length (put_by asking_order line lines) ≡ suc (length lines) → length (if b then other ∷ put_by asking_order line lines else line ∷ other ∷ lines) ≡ suc (suc (length lines))
     by true e = ap suc e
     by false e = refl
 
@@ -68,11 +68,11 @@ after_leaves asked entries new attempt asks is lawful =
     (after_lawful asks asked (lines_in entries attempt) (lawful_lines asked entries attempt lawful))
 
 -- what an attempt asks for in a table that it was set in, and one that it was set in twice
-asks_set_so : (attempt : AttemptId) (asks : List Ask) (table : List AsksOf) → is_attempt attempt attempt ≡ true → asks_of (with_asks_of attempt asks table) attempt ≡ asks
+asks_set_so : (attempt : AttemptId) (asks : List Ask) (table : List AsksOf) → is_attempt attempt attempt ≡ true → attempt_asks (with_asks_of attempt asks table) attempt ≡ asks
 asks_set_so attempt asks [] own = rw own refl
 asks_set_so attempt asks (one ∷ table) own = by (is_attempt one.attempt attempt) refl (asks_set_so attempt asks table own)
   where
-    by : (b : Bool) → is_attempt one.attempt attempt ≡ b → asks_of (with_asks_of attempt asks table) attempt ≡ asks → asks_of (with_asks_of attempt asks (one ∷ table)) attempt ≡ asks
+    by : (b : Bool) → is_attempt one.attempt attempt ≡ b → attempt_asks (with_asks_of attempt asks table) attempt ≡ asks → attempt_asks (with_asks_of attempt asks (one ∷ table)) attempt ≡ asks
     by true e rest = rw (e, e) refl
     by false e rest = rw (e, e) rest
 
@@ -88,10 +88,10 @@ set_twice attempt asks later (one ∷ table) own = by (is_attempt one.attempt at
 
 -- the table after many asks, of which there are some
 all_at_once : (attempt : AttemptId) (ask : Ask) (more : List Ask) (table : List AsksOf) → is_attempt attempt attempt ≡ true
-    → with_asks_of attempt (asks_after (asks_of table attempt) (ask ∷ more)) table ≡ all_asked attempt table (ask ∷ more)
+    → with_asks_of attempt (asks_after (attempt_asks table attempt) (ask ∷ more)) table ≡ all_asked attempt table (ask ∷ more)
 all_at_once attempt ask [] table own = refl
 all_at_once attempt ask (next ∷ more) table own =
-    let set : List Ask = asks_set ask (asks_of table attempt) in
+    let set : List Ask = asks_set ask (attempt_asks table attempt) in
     sym (set_twice attempt set (asks_after set (next ∷ more)) table own)
     ∙ ap (λ (asks : List Ask). with_asks_of attempt (asks_after asks (next ∷ more)) (with_asks_of attempt set table)) (sym (asks_set_so attempt set table own))
     ∙ all_at_once attempt next more (with_asks_of attempt set table) own
@@ -112,7 +112,7 @@ all_view asked attempt (ask ∷ more) entries lawful some =
 
 -- so many asks there are after them
 pub count_after : (asked : ℕ) (attempt : AttemptId) (asks : List Ask) (entries : List AttemptAsks) → IsAskTable asked entries
-    → length (lines_after asks asked (lines_in entries attempt)) ≡ length (asks_after (asks_of (map asks_of_entry entries) attempt) asks)
+    → length (lines_after asks asked (lines_in entries attempt)) ≡ length (asks_after (attempt_asks (map asks_of_entry entries) attempt) asks)
 count_after asked attempt asks entries lawful =
     sym (length_view (lines_after asks asked (lines_in entries attempt)))
     ∙ ap (length {A = Ask})

@@ -13,7 +13,8 @@ use Rattle.rm_types.specs.Ids.{is_container}
 use Rattle.rm_types.specs.Resources.{Fits}
 use Rattle.rm_types.proofs.IdLemmas.{container_back}
 use Rattle.rm_types.proofs.TestLemmas.{same_text}
-use Rattle.rm_book.specs.Books.{AreApart, AreLiving, AreOnce, is_living, BookOf, IsBook, TellUpTo, capability_or_none, entering, is_held, is_of, row_taken, sizes_on, taken_rows, total_on, with_capability, with_taken}
+use Rattle.rm_book.specs.Books.{BookRowsAreApart, AreLiving, AreOnce, is_living_state, BookOf, IsBook, TellUpTo, capability_or_none, entering, is_of, book_row_taken, sizes_on, taken_rows, total_on, with_capability, book_with_taken}
+use Rattle.rm_types.specs.Containers.{is_held}
 use Rattle.rm_book.specs.Kept.{AreFresh}
 use Rattle.rm_book.proofs.Changes.{book_left}
 use Rattle.rm_book.proofs.Lists.{any_filter}
@@ -29,58 +30,58 @@ same_row : (b : Bool) (row : BookRow) → row.state ≡ Running → cond b (reco
 same_row true row e = rw e refl
 same_row false row e = refl
 
-pub running_stay : (taken : List Held) (added : ℕ) (node : List ℕ) (list : List Held) → map (row_taken taken) (taken_rows added node list) ≡ taken_rows added node list
+pub running_stay : (taken : List Held) (added : ℕ) (node : List ℕ) (list : List Held) → map (book_row_taken taken) (taken_rows added node list) ≡ taken_rows added node list
 running_stay taken added node [] = refl
 running_stay taken added node (held ∷ list) = rw (same_row (is_held taken held.id) (row_of_held (added + 1) node held) refl, running_stay taken (added + 1) node list) refl
 
 -- a row that runs from now on stands as it did
 module _ (taken : List Held) where
-  pub id_stays : (row : BookRow) → (row_taken taken row).id ≡ row.id
+  pub id_stays : (row : BookRow) → (book_row_taken taken row).id ≡ row.id
   id_stays row = by (is_held taken row.id)
     where
       by : (b : Bool) → (cond b (record row { state = Running }) row).id ≡ row.id
       by true = refl
       by false = refl
 
-  told_stays : (row : BookRow) → (row_taken taken row).told ≡ row.told
+  told_stays : (row : BookRow) → (book_row_taken taken row).told ≡ row.told
   told_stays row = by (is_held taken row.id)
     where
       by : (b : Bool) → (cond b (record row { state = Running }) row).told ≡ row.told
       by true = refl
       by false = refl
 
-  node_stays : (row : BookRow) → (row_taken taken row).node ≡ row.node
+  node_stays : (row : BookRow) → (book_row_taken taken row).node ≡ row.node
   node_stays row = by (is_held taken row.id)
     where
       by : (b : Bool) → (cond b (record row { state = Running }) row).node ≡ row.node
       by true = refl
       by false = refl
 
-  size_stays : (row : BookRow) → (row_taken taken row).size ≡ row.size
+  size_stays : (row : BookRow) → (book_row_taken taken row).size ≡ row.size
   size_stays row = by (is_held taken row.id)
     where
       by : (b : Bool) → (cond b (record row { state = Running }) row).size ≡ row.size
       by true = refl
       by false = refl
 
-  any_stays : (id : ContainerId) (rows : List BookRow) → list_any (is_of id) (map (row_taken taken) rows) ≡ list_any (is_of id) rows
+  any_stays : (id : ContainerId) (rows : List BookRow) → list_any (is_of id) (map (book_row_taken taken) rows) ≡ list_any (is_of id) rows
   any_stays id [] = refl
   any_stays id (row ∷ rows) = rw (id_stays row, any_stays id rows) refl
 
-  apart_stays : (rows : List BookRow) → AreApart rows → AreApart (map (row_taken taken) rows)
+  apart_stays : (rows : List BookRow) → BookRowsAreApart rows → BookRowsAreApart (map (book_row_taken taken) rows)
   apart_stays [] h = tt
   apart_stays (row ∷ rows) h = (rw (id_stays row, any_stays row.id rows) h.0, apart_stays rows h.1)
 
-  told_order : (least added : ℕ) (rows : List BookRow) → TellUpTo least added rows → TellUpTo least added (map (row_taken taken) rows)
+  told_order : (least added : ℕ) (rows : List BookRow) → TellUpTo least added rows → TellUpTo least added (map (book_row_taken taken) rows)
   told_order least added [] h = h
   told_order least added (row ∷ rows) h = (rw (told_stays row) h.0, rw (told_stays row) (told_order row.told added rows h.1))
 
-  pub sizes_stay : (node : List ℕ) (rows : List BookRow) → sizes_on node (map (row_taken taken) rows) ≡ sizes_on node rows
+  pub sizes_stay : (node : List ℕ) (rows : List BookRow) → sizes_on node (map (book_row_taken taken) rows) ≡ sizes_on node rows
   sizes_stay node [] = refl
   sizes_stay node (row ∷ rows) = by (bytes_eq row.node node) refl (sizes_stay node rows)
     where
-      by : (b : Bool) → bytes_eq row.node node ≡ b → sizes_on node (map (row_taken taken) rows) ≡ sizes_on node rows
-          → sizes_on node (map (row_taken taken) (row ∷ rows)) ≡ sizes_on node (row ∷ rows)
+      by : (b : Bool) → bytes_eq row.node node ≡ b → sizes_on node (map (book_row_taken taken) rows) ≡ sizes_on node rows
+          → sizes_on node (map (book_row_taken taken) (row ∷ rows)) ≡ sizes_on node (row ∷ rows)
       by true e rest = rw (node_stays row, e, size_stays row, rest) refl
       by false e rest = rw (node_stays row, e) rest
 
@@ -116,7 +117,7 @@ fresh_after rows one held (other ∷ list) is apart new =
       fresh_after rows one held list is parts.1 new.2,
     )
 
-apart_joined : (rows : List BookRow) (added : ℕ) (node : List ℕ) (list : List Held) → AreApart rows → AreFresh rows list → AreApart (rows ++ taken_rows added node list)
+apart_joined : (rows : List BookRow) (added : ℕ) (node : List ℕ) (list : List Held) → BookRowsAreApart rows → AreFresh rows list → BookRowsAreApart (rows ++ taken_rows added node list)
 apart_joined rows added node [] apart new = rw (append-nil rows) apart
 apart_joined rows added node (held ∷ list) apart new =
     let one : BookRow = row_of_held (added + 1) node held in
@@ -136,11 +137,11 @@ none_elsewhere other node added [] apart = refl
 none_elsewhere other node added (held ∷ list) apart = rw apart (none_elsewhere other node (added + 1) list apart)
 
 -- what runs lives, and so does what enters
-pub living_run : (taken : List Held) (rows : List BookRow) → AreLiving rows → AreLiving (map (row_taken taken) rows)
+pub living_run : (taken : List Held) (rows : List BookRow) → AreLiving rows → AreLiving (map (book_row_taken taken) rows)
 living_run taken [] h = tt
 living_run taken (row ∷ rows) h = (by (is_held taken row.id), living_run taken rows h.1)
   where
-    by : (b : Bool) → is_living (cond b (record row { state = Running }) row).state ≡ true
+    by : (b : Bool) → is_living_state (cond b (record row { state = Running }) row).state ≡ true
     by true = refl
     by false = h.0
 
@@ -151,7 +152,7 @@ living_taken added node (held ∷ list) = (refl, living_taken (added + 1) node l
 -- what stands on another node is no more than before
 module _ (book : BookOf) (node : List ℕ) (capability : Resource) (taken : List Held) (ended : List ContainerId) (lawful : IsBook book) (once : AreOnce taken) where
   abbrev after : BookOf
-  after = with_taken book node capability taken ended
+  after = book_with_taken book node capability taken ended
 
   abbrev left : List BookRow
   left = filter (λ row. not (list_any (λ id. is_container id row.id) ended)) book.rows
@@ -161,7 +162,7 @@ module _ (book : BookOf) (node : List ℕ) (capability : Resource) (taken : List
 
   part_elsewhere : (part : Resource → ℕ) (other : List ℕ) → bytes_eq node other ≡ false → sum_by part (sizes_on other after.rows) ≡ sum_by part (sizes_on other left)
   part_elsewhere part other apart =
-      sum_joined part other (map (row_taken taken) left) (taken_rows book.added node (entering book taken))
+      sum_joined part other (map (book_row_taken taken) left) (taken_rows book.added node (entering book taken))
       ∙ rw (sizes_stay taken other left, none_elsewhere other node book.added (entering book taken) apart) (omega arith)
 
   fit_elsewhere : Fits (total_on node after.rows) capability → AllFit after.rows after.nodes
@@ -175,14 +176,14 @@ module _ (book : BookOf) (node : List ℕ) (capability : Resource) (taken : List
           let h = left_lawful.fit other in
           rw (capability_in-with_capability node other capability book.nodes, e) (omega (arith, m, h.0), omega (arith, c, h.1))
 
-  fewer : (id : ContainerId) → list_any (is_of id) book.rows ≡ false → list_any (is_of id) (map (row_taken taken) left) ≡ false
+  fewer : (id : ContainerId) → list_any (is_of id) book.rows ≡ false → list_any (is_of id) (map (book_row_taken taken) left) ≡ false
   fewer id none =
       any_stays taken id left ∙ any_filter (is_of id) (λ row. not (list_any (λ one. is_container one row.id) ended)) book.rows none
 
   pub taken_lawful : Fits (total_on node after.rows) capability → IsBook after
   taken_lawful fits = record {
-    apart = apart_joined (map (row_taken taken) left) book.added node (entering book taken) (apart_stays taken left left_lawful.apart) (fresh_of book.rows (map (row_taken taken) left) taken fewer once);
-    living = living_joined (map (row_taken taken) left) (taken_rows book.added node (entering book taken)) (living_run taken left left_lawful.living) (living_taken book.added node (entering book taken));
-    told = told_joined (map (row_taken taken) left) book.added node (entering book taken) (told_order taken 0 book.added left left_lawful.told);
+    apart = apart_joined (map (book_row_taken taken) left) book.added node (entering book taken) (apart_stays taken left left_lawful.apart) (fresh_of book.rows (map (book_row_taken taken) left) taken fewer once);
+    living = living_joined (map (book_row_taken taken) left) (taken_rows book.added node (entering book taken)) (living_run taken left left_lawful.living) (living_taken book.added node (entering book taken));
+    told = told_joined (map (book_row_taken taken) left) book.added node (entering book taken) (told_order taken 0 book.added left left_lawful.told);
     fit = fit_elsewhere fits;
   }

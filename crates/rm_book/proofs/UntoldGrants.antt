@@ -9,8 +9,9 @@ use Rattle.rm_types.specs.declared.containers.Grant.{Grant}
 use Rattle.rm_types.specs.declared.ids.AttemptId.{AttemptId}
 use Rattle.rm_types.specs.Ids.{is_attempt}
 use Rattle.rm_types.proofs.IdLemmas.{container_back, container_itself}
-use Rattle.rm_book.specs.Books.{AreApart, is_of}
-use Rattle.rm_book.specs.Granted.{AllMayBeTold, grants_to, is_granted, is_granted_to, may_be_told}
+use Rattle.rm_book.specs.Books.{BookRowsAreApart, is_of}
+use Rattle.rm_book.specs.Granted.{AllMayBeTold, grants_to, is_granted_to, may_be_told}
+use Rattle.rm_types.specs.Containers.{is_granted}
 
 granted_told : (a : Bool) (s : ContainerState) → (a && is_granted s) ≡ true → may_be_told s ≡ true
 granted_told true Granted e = refl
@@ -33,7 +34,7 @@ module _ (attempt : AttemptId) where
           rw (e, apart) (parts.0, more parts.1)
       by false e apart more = rw e (more (rw e at told))
 
-  pub granted_to_told : (rows : List BookRow) → AreApart rows → AllMayBeTold rows (grants_to rows attempt)
+  pub granted_to_told : (rows : List BookRow) → BookRowsAreApart rows → AllMayBeTold rows (grants_to rows attempt)
   granted_to_told [] apart = tt
   granted_to_told (row ∷ rows) apart = by (is_granted_to attempt row) refl (more_told row rows rows apart.0 (granted_to_told rows apart.1))
     where

@@ -7,7 +7,7 @@ use Rattle.rm_types.specs.declared.containers.AskLine.{AskLine}
 use Rattle.rm_types.specs.declared.ids.AttemptId.{AttemptId}
 use Rattle.rm_types.specs.declared.resources.Resource.{Resource}
 use Rattle.rm_types.specs.Ids.{is_attempt}
-use Rattle.rm_book.specs.AskTables.{AsksOf, is_for, renewed, one_less}
+use Rattle.rm_book.specs.AskTables.{AsksOf, is_for, renewed_ask, one_less}
 
 -- an attempt, and the lines of its asks
 pub record AttemptAsks : Type 0 where
@@ -38,19 +38,19 @@ abbrev pub is_line_for : ℕ → Resource → AskLine → Bool
 is_line_for priority size line = is_for priority size line.ask
 
 -- a line comes before another in a pass: its priority is less, or the same and it was asked first
-abbrev pub is_before : AskLine → AskLine → Bool
-is_before line other = nat_lt line.ask.priority other.ask.priority || ((line.ask.priority == other.ask.priority) && nat_lt line.order other.order)
+abbrev pub is_asked_before : AskLine → AskLine → Bool
+is_asked_before line other = nat_lt line.ask.priority other.ask.priority || ((line.ask.priority == other.ask.priority) && nat_lt line.order other.order)
 
 -- lines in the order of a pass with one more at its place
 abbrev pub placed : AskLine → List AskLine → List AskLine
 placed line [] = line ∷ []
-placed line (other ∷ lines) = if is_before other line then other ∷ placed line lines else line ∷ other ∷ lines
+placed line (other ∷ lines) = if is_asked_before other line then other ∷ placed line lines else line ∷ other ∷ lines
 
 -- the lines after an ask, whose number is this: as the asks, but that a new line stands at its place in the order of a pass
 abbrev pub lines_set : Ask → ℕ → List AskLine → List AskLine
 lines_set ask order lines =
     if ask.count == 0 then filter (λ line. not (is_line_for ask.priority ask.size line)) lines else
-    (if list_any (is_line_for ask.priority ask.size) lines then map (in_line (renewed ask)) lines else placed (record { ask = ask; order = order }) lines)
+    (if list_any (is_line_for ask.priority ask.size) lines then map (in_line (renewed_ask ask)) lines else placed (record { ask = ask; order = order }) lines)
 
 -- the lines after a grant: a line that falls to 0 goes
 abbrev pub lines_granted : ℕ → Resource → List AskLine → List AskLine
@@ -68,12 +68,12 @@ module _ {X : Type 0} (number : X → ℕ) where
   sorted_by (x ∷ xs) = put_by x (sorted_by xs)
 
 -- the number of a line's first asking
-abbrev pub order_of : AskLine → ℕ
-order_of line = line.order
+abbrev pub asking_order : AskLine → ℕ
+asking_order line = line.order
 
 -- lines by their numbers
 abbrev pub by_order : List AskLine → List AskLine
-by_order lines = sorted_by order_of lines
+by_order lines = sorted_by asking_order lines
 
 -- what lines ask for, in the order of first asking
 abbrev pub asks_in : List AskLine → List Ask
@@ -86,7 +86,7 @@ asks_of_entry entry = record { attempt = entry.attempt; asks = asks_in entry.lin
 -- the lines are in the order of a pass
 abbrev pub AreInOrder : List AskLine → Type 0
 AreInOrder [] = Unit {0}
-AreInOrder (line ∷ lines) = (list_all (is_before line) lines ≡ true) × AreInOrder lines
+AreInOrder (line ∷ lines) = (list_all (is_asked_before line) lines ≡ true) × AreInOrder lines
 
 -- what holds of an attempt's lines, where so many asks were set: they are in the order of a pass, the order of each is the
 -- number of an ask, and of each something is outstanding

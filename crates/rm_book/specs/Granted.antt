@@ -8,25 +8,19 @@ use Rattle.rm_types.specs.declared.ids.AttemptId.{AttemptId}
 use Rattle.rm_types.specs.declared.ids.ContainerId.{ContainerId}
 use Rattle.rm_types.specs.Ids.{is_attempt}
 use Rattle.rm_book.specs.Books.{is_of}
-
--- a container was granted, and nobody was told of it yet
-abbrev pub is_granted : ContainerState → Bool
-is_granted Granted = true
-is_granted Acquired = false
-is_granted Running = false
-is_granted Completed = false
+use Rattle.rm_types.specs.Containers.{is_granted}
 
 -- a row is of a container that was granted to this attempt, and that nobody was told of yet
 abbrev pub is_granted_to : AttemptId → BookRow → Bool
 is_granted_to attempt row = is_attempt row.id.attempt attempt && is_granted row.state
 
 -- the grant of a row's container
-abbrev pub grant_of : BookRow → Grant
-grant_of row = record { id = row.id; node = row.node; size = row.size }
+abbrev pub row_grant : BookRow → Grant
+row_grant row = record { id = row.id; node = row.node; size = row.size }
 
 -- what an attempt was granted and nobody was told of yet, in the order of entering
 abbrev pub grants_to : List BookRow → AttemptId → List Grant
-grants_to rows attempt = map grant_of (filter (is_granted_to attempt) rows)
+grants_to rows attempt = map row_grant (filter (is_granted_to attempt) rows)
 
 -- somebody may be told of a container in this state: it was granted, or they were told of it already
 abbrev pub may_be_told : ContainerState → Bool
@@ -42,8 +36,8 @@ AllMayBeTold rows (grant ∷ grants) = IfSome (find (is_of grant.id) rows) (λ r
 
 -- the grant of a container, if it has a row
 abbrev pub grant_in : List BookRow → ContainerId → Option Grant
-grant_in rows id = option_map grant_of (find (is_of id) rows)
+grant_in rows id = option_map row_grant (find (is_of id) rows)
 
 -- a container in this state was granted to this attempt, and nobody was told of it yet
-abbrev pub is_untold : ContainerId → ContainerState → AttemptId → Bool
-is_untold id state attempt = is_attempt id.attempt attempt && is_granted state
+abbrev pub is_untold_to_attempt : ContainerId → ContainerState → AttemptId → Bool
+is_untold_to_attempt id state attempt = is_attempt id.attempt attempt && is_granted state

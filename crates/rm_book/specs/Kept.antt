@@ -17,7 +17,8 @@ use Rattle.rm_types.specs.declared.containers.Held.{Held}
 use Rattle.rm_book.specs.declared.node_table.NodeLoad.{NodeLoad}
 use Rattle.rm_book.specs.declared.node_table.SizeSum.{SizeSum}
 use Rattle.rm_book.specs.declared.plain.NodeCapability.{NodeCapability}
-use Rattle.rm_book.specs.Books.{AreApart, IsBook, is_held, is_of, total_on}
+use Rattle.rm_book.specs.Books.{BookRowsAreApart, IsBook, is_of, total_on}
+use Rattle.rm_types.specs.Containers.{is_held}
 use Rattle.rm_book.specs.Granted.{is_granted_to}
 
 -- the containers of a group, if there is one
@@ -39,10 +40,10 @@ ids_where test rows = map (λ row. row.id) (filter test rows)
 
 -- each row stands under its container's id, no two are of one container, and the containers of a node and of an application are
 -- those of its rows, in order; so are the containers that were granted to an attempt and nobody was told of yet
-pub record AreRows (list : List (ContainerId × BookRow)) (nodes : List (List ℕ × List (ContainerId × Unit {0}))) (apps : List (AppId × List (ContainerId × Unit {0})))
+pub record RowsAreIndexed (list : List (ContainerId × BookRow)) (nodes : List (List ℕ × List (ContainerId × Unit {0}))) (apps : List (AppId × List (ContainerId × Unit {0})))
     (untold : List (AttemptId × List (ContainerId × Unit {0}))) : Type 0 where
   pub own : list ≡ map by_id (values_of list)
-  pub apart : AreApart (values_of list)
+  pub apart : BookRowsAreApart (values_of list)
   pub by_node : (node : List ℕ) → ids_under bytes_eq nodes node ≡ ids_where (λ row. bytes_eq row.node node) (values_of list)
   pub by_app : (app : AppId) → ids_under is_app apps app ≡ ids_where (λ row. is_app row.id.attempt.app app) (values_of list)
   pub by_attempt : (attempt : AttemptId) → ids_under is_attempt untold attempt ≡ ids_where (is_granted_to attempt) (values_of list)
@@ -60,12 +61,12 @@ abbrev pub AreSame : {K : Type 0} → (K → K → Bool) → List (K × List (Co
 AreSame {K} eq old new = (other : K) → ids_under eq new other ≡ ids_under eq old other
 
 -- the nodes that have a capability, in order, as a book shows them
-abbrev pub shown : List (List ℕ × NodeLoad) → List NodeCapability
-shown loads = map (λ load. record { node = load.0; capability = load.1.capability }) loads
+abbrev pub nodes_shown : List (List ℕ × NodeLoad) → List NodeCapability
+nodes_shown loads = map (λ load. record { node = load.0; capability = load.1.capability }) loads
 
 -- what stands on a node fits it
-abbrev pub IsWithin : NodeLoad → Type 0
-IsWithin load = (load.used.memory_mb ≤ load.capability.memory_mb) × (load.used.vcores ≤ load.capability.vcores)
+abbrev pub FitsCapability : NodeLoad → Type 0
+FitsCapability load = (load.used.memory_mb ≤ load.capability.memory_mb) × (load.used.vcores ≤ load.capability.vcores)
 
 -- a sum with one more size
 abbrev pub sum_with : SizeSum → Resource → SizeSum
@@ -93,8 +94,8 @@ abbrev pub AreUsed : List (List ℕ × NodeLoad) → List BookRow → Type 0
 AreUsed loads rows = (node : List ℕ) → IfSome (lookup (bytes_eq node) loads) (λ load. IsSum load.used (total_on node rows))
 
 -- what holds of the fields of a book: they show a book, and what is said to stand on each node stands there
-pub record IsKept (loads : List (List ℕ × NodeLoad)) (rows : List BookRow) (added : ℕ) : Type 0 where
-  pub book : IsBook (record { rows = rows; nodes = shown loads; added = added })
+pub record ShowsBook (loads : List (List ℕ × NodeLoad)) (rows : List BookRow) (added : ℕ) : Type 0 where
+  pub book : IsBook (record { rows = rows; nodes = nodes_shown loads; added = added })
   pub used : AreUsed loads rows
 
 -- the rows of containers that enter on a node in a state, numbered from behind so many that were added before

@@ -2,7 +2,7 @@ ghost use Rattle.std.specs.Prelude.{◌≡◌, [], OnOk, OnErr, IfOk, length, ma
 ghost use Rattle.std.specs.List.{list_any};
 ghost use Rattle.std.specs.Option.{option_copied};
 ghost use Rattle.rm_types.specs.Passes.{by_priority};
-ghost use Rattle.rm_book.specs.AskTables.{AskNow, asks_of, asks_set, asks_granted, granted_in, is_for, some_asks, with_asks_of, without_asks_of, waiting_in, AttemptsAscend};
+ghost use Rattle.rm_book.specs.AskTables.{AskNow, attempt_asks, asks_set, asks_granted, table_granted, is_for, some_asks, with_asks_of, without_asks_of, waiting_in, AttemptsAscend};
 ghost use Rattle.rm_book.specs.ManyAsks.{all_asked, asks_after};
 
 use crate::attempts::Attempts;
@@ -45,8 +45,8 @@ impl Asks {
     /// Sets the number outstanding of a priority and size; 0 takes the ask away. A new ask stands last in its
     /// priority. `NoMemory`, which also comes where no number is left to order asks by, changes nothing.
     pub fn set(&mut self, attempt: AttemptId, ask: Ask) -> Result<(), NoMemory>
-        ensures ok { OnOk result (AskNow self.old self.new attempt (asks_set ask (asks_of self.old attempt))) }
-        ensures table { OnOk result (self.new ≡ with_asks_of attempt (asks_set ask (asks_of self.old attempt)) self.old) }
+        ensures ok { OnOk result (AskNow self.old self.new attempt (asks_set ask (attempt_asks self.old attempt))) }
+        ensures table { OnOk result (self.new ≡ with_asks_of attempt (asks_set ask (attempt_asks self.old attempt)) self.old) }
         ensures err { OnErr result (self.new ≡ self.old) }
     {
         let Some(order) = self.asked.checked_add(1) else {
@@ -66,7 +66,7 @@ impl Asks {
         asks: &[Ask],
         most: usize,
     ) -> Result<bool, NoMemory>
-        ensures few { IfOk result (λ set. set ≡ not (nat_lt most (length (asks_after (asks_of self.old attempt) asks.now)))) }
+        ensures few { IfOk result (λ set. set ≡ not (nat_lt most (length (asks_after (attempt_asks self.old attempt) asks.now)))) }
         ensures ok { IfOk result (λ set. self.new ≡ (if set then all_asked attempt self.old asks.now else self.old)) }
         ensures err { OnErr result (self.new ≡ self.old) }
     {
@@ -89,7 +89,7 @@ impl Asks {
     /// Lines of what an attempt asks for, by priority and then as first asked. `None` comes exactly where it
     /// asks for nothing.
     pub fn of(&self, attempt: AttemptId) -> Option<&Items<AskLine>>
-        ensures { option_map (map (λ line. line.ask)) (option_copied result) ≡ some_asks (by_priority (asks_of self.now attempt)) }
+        ensures { option_map (map (λ line. line.ask)) (option_copied result) ≡ some_asks (by_priority (attempt_asks self.now attempt)) }
     {
         let lines = self.attempts.of(attempt)?;
         if lines.is_empty() { None } else { Some(lines) }
@@ -113,9 +113,9 @@ impl Asks {
     /// One of an ask was granted: its number outstanding falls by one, and at 0 it goes. `false` comes exactly
     /// where the attempt has no ask of this priority and size. It takes no memory.
     pub fn granted(&mut self, attempt: AttemptId, priority: u32, size: Resource) -> bool
-        ensures found { result ≡ list_any (is_for priority size) (asks_of self.old attempt) }
-        ensures asks { AskNow self.old self.new attempt (asks_granted priority size (asks_of self.old attempt)) }
-        ensures table { self.new ≡ granted_in attempt priority size self.old }
+        ensures found { result ≡ list_any (is_for priority size) (attempt_asks self.old attempt) }
+        ensures asks { AskNow self.old self.new attempt (asks_granted priority size (attempt_asks self.old attempt)) }
+        ensures table { self.new ≡ table_granted attempt priority size self.old }
     {
         self.attempts.grant(attempt, priority, size)
     }

@@ -1,6 +1,7 @@
 //! What attempts were granted and nobody was told of yet.
 ghost use Rattle.std.specs.Prelude.{◌≡◌, IfOk};
-ghost use Rattle.rm_book.specs.Granted.{AllMayBeTold, grant_in, grant_of, grants_to, is_granted};
+ghost use Rattle.rm_book.specs.Granted.{AllMayBeTold, grant_in, row_grant, grants_to};
+ghost use Rattle.rm_types.specs.Containers.{is_granted};
 
 use crate::row_table::RowTable;
 use rm_types::{
@@ -16,7 +17,7 @@ pub fn is_granted(state: ContainerState) -> bool
 
 /// The grant of a row's container.
 fn grant_of(row: &BookRow) -> Result<Grant, NoMemory>
-    ensures { IfOk result (λ grant. grant ≡ grant_of row.now) }
+    ensures { IfOk result (λ grant. grant ≡ row_grant row.now) }
 {
     let node = row.node.copy()?;
     Ok(Grant {

@@ -2,8 +2,8 @@
 ghost use Rattle.std.specs.Prelude.{◌≡◌, IfOk, filter, find, map, not};
 ghost use Rattle.std.specs.List.{list_any};
 ghost use Rattle.rm_types.specs.Ids.{is_container};
-ghost use Rattle.rm_book.specs.Books.{AreLiving, is_of, row_taken};
-ghost use Rattle.rm_book.specs.Kept.{AreUsed, shown};
+ghost use Rattle.rm_book.specs.Books.{AreLiving, is_of, book_row_taken};
+ghost use Rattle.rm_book.specs.Kept.{AreUsed, nodes_shown};
 
 use crate::node_table::NodeTable;
 use crate::row_table::RowTable;
@@ -16,7 +16,7 @@ pub fn end_row(rows: &mut RowTable, nodes: &mut NodeTable, id: ContainerId) -> O
     requires { AreUsed nodes.old.map.entries rows.old }
     ensures row { result ≡ find (is_of id) rows.old }
     ensures rest { rows.new ≡ filter (λ row. not (is_of id row)) rows.old }
-    ensures shown { shown nodes.new.map.entries ≡ shown nodes.old.map.entries }
+    ensures nodes_shown { nodes_shown nodes.new.map.entries ≡ nodes_shown nodes.old.map.entries }
     ensures used { AreUsed nodes.new.map.entries rows.new }
 {
     let row = rows.remove(id)?;
@@ -28,7 +28,7 @@ pub fn end_row(rows: &mut RowTable, nodes: &mut NodeTable, id: ContainerId) -> O
 pub fn end_each(rows: &mut RowTable, nodes: &mut NodeTable, ids: &[ContainerId])
     requires { AreUsed nodes.old.map.entries rows.old }
     ensures rest { rows.new ≡ filter (λ row. not (list_any (λ id. is_container id row.id) ids.now)) rows.old }
-    ensures shown { shown nodes.new.map.entries ≡ shown nodes.old.map.entries }
+    ensures nodes_shown { nodes_shown nodes.new.map.entries ≡ nodes_shown nodes.old.map.entries }
     ensures used { AreUsed nodes.new.map.entries rows.new }
 {
     'ids: for id in ids {
@@ -56,7 +56,7 @@ pub fn those_there(
 /// What was taken runs.
 pub fn run_each(rows: &mut RowTable, taken: &[Held])
     requires { AreLiving rows.old }
-    ensures { rows.new ≡ map (row_taken taken.now) rows.old }
+    ensures { rows.new ≡ map (book_row_taken taken.now) rows.old }
 {
     'taken: for held in taken {
         rows.step(held.id, ContainerEvent::Run);

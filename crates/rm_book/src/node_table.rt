@@ -5,7 +5,7 @@ ghost use Rattle.std.specs.Option.{option_copied, option_map};
 ghost use Rattle.std.specs.Str.{bytes_eq};
 ghost use Rattle.indexmap.specs.IndexMap.{spare};
 ghost use Rattle.rm_book.specs.Books.{with_capability};
-ghost use Rattle.rm_book.specs.Kept.{Holds, IsWithin, shown, sum_with, sum_without, used_in};
+ghost use Rattle.rm_book.specs.Kept.{Holds, FitsCapability, nodes_shown, sum_with, sum_without, used_in};
 
 use indexmap::IndexMap;
 use rm_types::{Duplicate, NoMemory, Resource, Text};
@@ -28,7 +28,7 @@ pub struct NodeLoad {
 impl NodeLoad {
     /// What is left of the node, where what stands there fits it.
     pub fn free(self) -> Resource
-        requires { IsWithin self }
+        requires { FitsCapability self }
         ensures memory { result.memory_mb ≡ self.capability.memory_mb - self.used.memory_mb }
         ensures cores { result.vcores ≡ self.capability.vcores - self.used.vcores }
     {
@@ -64,14 +64,14 @@ impl NodeTable {
 
     /// How many nodes there are.
     pub fn len(&self) -> usize
-        ensures { result ≡ length (shown self.now.map.entries) }
+        ensures { result ≡ length (nodes_shown self.now.map.entries) }
     {
         self.map.len()
     }
 
     /// The node at a place, if it is below the length.
     pub fn at(&self, place: usize) -> Option<&Text>
-        ensures { option_copied result ≡ option_map (λ one. one.node) (slice_get (shown self.now.map.entries) place) }
+        ensures { option_copied result ≡ option_map (λ one. one.node) (slice_get (nodes_shown self.now.map.entries) place) }
     {
         let (node, _load) = self.map.get_index(place)?;
         Some(node)
@@ -92,8 +92,8 @@ impl NodeTable {
     /// last. It takes no memory.
     pub fn set(&mut self, node: Text, capability: Resource, more: Resource)
         requires room { 0 < spare self.old.map }
-        requires within { IfSome (lookup (bytes_eq node) self.old.map.entries) IsWithin }
-        ensures shown { shown self.new.map.entries ≡ with_capability node capability (shown self.old.map.entries) }
+        requires within { IfSome (lookup (bytes_eq node) self.old.map.entries) FitsCapability }
+        ensures nodes_shown { nodes_shown self.new.map.entries ≡ with_capability node capability (nodes_shown self.old.map.entries) }
         ensures loads { (other : List ℕ) → lookup (bytes_eq other) self.new.map.entries ≡ (if bytes_eq node other then Some (record { capability = capability; used = sum_with (used_in (lookup (bytes_eq other) self.old.map.entries)) more }) else lookup (bytes_eq other) self.old.map.entries) }
     {
         match self.map.get_mut(&node) {
@@ -109,7 +109,7 @@ impl NodeTable {
     fn enter(&mut self, node: Text, capability: Resource, used: Resource)
         requires room { 0 < spare self.old.map }
         requires none { lookup (bytes_eq node) self.old.map.entries ≡ None }
-        ensures shown { shown self.new.map.entries ≡ with_capability node capability (shown self.old.map.entries) }
+        ensures nodes_shown { nodes_shown self.new.map.entries ≡ with_capability node capability (nodes_shown self.old.map.entries) }
         ensures loads { (other : List ℕ) → lookup (bytes_eq other) self.new.map.entries ≡ (if bytes_eq node other then Some (record { capability = capability; used = sum_with (used_in (lookup (bytes_eq other) self.old.map.entries)) used }) else lookup (bytes_eq other) self.old.map.entries) }
     {
         let used = SizeSum {
@@ -124,8 +124,8 @@ impl NodeTable {
 
     /// More stands on a node, where it has a capability, which what stood there fits.
     pub fn raise(&mut self, node: &Text, size: Resource)
-        requires { IfSome (lookup (bytes_eq node.now) self.old.map.entries) IsWithin }
-        ensures shown { shown self.new.map.entries ≡ shown self.old.map.entries }
+        requires { IfSome (lookup (bytes_eq node.now) self.old.map.entries) FitsCapability }
+        ensures nodes_shown { nodes_shown self.new.map.entries ≡ nodes_shown self.old.map.entries }
         ensures loads { (other : List ℕ) → lookup (bytes_eq other) self.new.map.entries ≡ option_map (λ load. if bytes_eq node.now other then record load { used = sum_with load.used size } else load) (lookup (bytes_eq other) self.old.map.entries) }
     {
         if let Some(load) = self.map.get_mut(node) {
@@ -136,7 +136,7 @@ impl NodeTable {
     /// Less stands on a node, where it has a capability; so much must stand there.
     pub fn lower(&mut self, node: &Text, size: Resource)
         requires { IfSome (lookup (bytes_eq node.now) self.old.map.entries) (λ load. Holds load.used size) }
-        ensures shown { shown self.new.map.entries ≡ shown self.old.map.entries }
+        ensures nodes_shown { nodes_shown self.new.map.entries ≡ nodes_shown self.old.map.entries }
         ensures loads { (other : List ℕ) → lookup (bytes_eq other) self.new.map.entries ≡ option_map (λ load. if bytes_eq node.now other then record load { used = sum_without load.used size } else load) (lookup (bytes_eq other) self.old.map.entries) }
     {
         if let Some(load) = self.map.get_mut(node) {
@@ -147,7 +147,7 @@ impl NodeTable {
 
 /// Adds a size to what stands on a node, which fits it.
 fn raise_load(load: &mut NodeLoad, size: Resource)
-    requires { IsWithin load.old }
+    requires { FitsCapability load.old }
     ensures { load.new ≡ record load.old { used = sum_with load.old.used size } }
 {
     let before = *load;

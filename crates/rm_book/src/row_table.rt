@@ -6,9 +6,9 @@ ghost use Rattle.std.specs.Option.{option_copied};
 ghost use Rattle.std.specs.Map.{lookup};
 ghost use Rattle.std.specs.Str.{bytes_eq};
 ghost use Rattle.rm_types.specs.Ids.{is_app, is_attempt, is_container};
-ghost use Rattle.rm_container.specs.Table.{next_state};
-ghost use Rattle.rm_book.specs.Books.{AreApart, is_later, is_of};
-ghost use Rattle.rm_book.specs.Granted.{is_granted_to, is_untold};
+ghost use Rattle.rm_container.specs.Table.{next_container_state};
+ghost use Rattle.rm_book.specs.Books.{BookRowsAreApart, is_later, is_of};
+ghost use Rattle.rm_book.specs.Granted.{is_granted_to, is_untold_to_attempt};
 ghost use Rattle.rm_book.specs.Kept.{AreSame, AreWith, AreWithout, ids_under, ids_where};
 
 use crate::granted::is_granted;
@@ -36,13 +36,13 @@ impl Model for RowTable {
     ghost use Rattle.std.specs.Prelude.{List};
     ghost use Rattle.std.specs.Map.{values_of};
     ghost use Rattle.rm_types.specs.declared.containers.BookRow.{BookRow};
-    ghost use Rattle.rm_book.specs.Kept.{AreRows};
+    ghost use Rattle.rm_book.specs.Kept.{RowsAreIndexed};
 
     ghost Value = { List BookRow };
 
     ghost view = { λ r. values_of r.list };
 
-    ghost invariant = { λ r. AreRows r.list r.by_node.map.entries r.by_app.map.entries r.untold.map.entries };
+    ghost invariant = { λ r. RowsAreIndexed r.list r.by_node.map.entries r.by_app.map.entries r.untold.map.entries };
 }
 
 impl RowTable {
@@ -73,7 +73,7 @@ impl RowTable {
     /// A container's row. `None` comes exactly where it has none.
     pub fn get(&self, id: ContainerId) -> Option<&BookRow>
         ensures row { option_copied result ≡ find (is_of id) self.now }
-        ensures apart { AreApart self.now }
+        ensures apart { BookRowsAreApart self.now }
     {
         self.list.get(&id)
     }
@@ -117,7 +117,7 @@ impl RowTable {
     pub fn remove(&mut self, id: ContainerId) -> Option<BookRow>
         ensures row { result ≡ find (is_of id) self.old }
         ensures rest { self.new ≡ filter (λ row. not (is_of id row)) self.old }
-        ensures apart { AreApart self.old }
+        ensures apart { BookRowsAreApart self.old }
     {
         let row = self.list.remove(&id)?;
         leave(&mut self.by_node, &mut self.by_app, &row.node, id);
@@ -128,12 +128,12 @@ impl RowTable {
     /// An event comes to a container, whose state follows its table. `false` comes exactly where it has no row; then nothing changes.
     pub fn step(&mut self, id: ContainerId, event: ContainerEvent) -> bool
         ensures found { result ≡ list_any (is_of id) self.old }
-        ensures rows { self.new ≡ map (λ row. if is_of id row then record row { state = next_state row.state event } else row) self.old }
+        ensures rows { self.new ≡ map (λ row. if is_of id row then record row { state = next_container_state row.state event } else row) self.old }
     {
         let former = self.list.update(
             &id,
             |row: &mut BookRow| -> ContainerState
-                ensures { (result ≡ row.old.state) × (row.new ≡ record row.old { state = next_state row.old.state event }) }
+                ensures { (result ≡ row.old.state) × (row.new ≡ record row.old { state = next_container_state row.old.state event }) }
             {
                 let state = row.state;
                 row.state = next_state(state, event);
@@ -158,7 +158,7 @@ impl RowTable {
     /// The containers of an application, in the order of entering.
     pub fn ids_of(&self, app: AppId) -> Result<Items<ContainerId>, NoMemory>
         ensures ids { IfOk result (λ ids. ids ≡ ids_where (λ row. is_app row.id.attempt.app app) self.now) }
-        ensures apart { AreApart self.now }
+        ensures apart { BookRowsAreApart self.now }
     {
         self.by_app.ids(&app)
     }
@@ -166,7 +166,7 @@ impl RowTable {
     /// The containers that were granted to an attempt and nobody was told of yet, in the order of entering.
     pub fn untold_of(&self, attempt: AttemptId) -> Result<Items<ContainerId>, NoMemory>
         ensures ids { IfOk result (λ ids. ids ≡ ids_where (is_granted_to attempt) self.now) }
-        ensures apart { AreApart self.now }
+        ensures apart { BookRowsAreApart self.now }
     {
         self.untold.ids(&attempt)
     }
@@ -230,7 +230,7 @@ fn enter(
     requires none { lookup (is_container row.id) list.old ≡ None }
     requires new { list_any (is_container row.id) (ids_under is_attempt untold.old.map.entries row.id.attempt) ≡ false }
     ensures list { OnOk result (list.new ≡ list.old ++ (row.id, row) ∷ []) }
-    ensures untold { OnOk result (AreWith is_attempt (is_untold row.id row.state) row.id untold.old.map.entries untold.new.map.entries) }
+    ensures untold { OnOk result (AreWith is_attempt (is_untold_to_attempt row.id row.state) row.id untold.old.map.entries untold.new.map.entries) }
     ensures same_list { OnErr result (list.new ≡ list.old) }
     ensures same_untold { OnErr result (AreSame is_attempt untold.old.map.entries untold.new.map.entries) }
 {
@@ -251,7 +251,7 @@ fn join_untold(
     state: ContainerState,
 ) -> Result<(), NoMemory>
     requires { list_any (is_container id) (ids_under is_attempt untold.old.map.entries id.attempt) ≡ false }
-    ensures ok { OnOk result (AreWith is_attempt (is_untold id state) id untold.old.map.entries untold.new.map.entries) }
+    ensures ok { OnOk result (AreWith is_attempt (is_untold_to_attempt id state) id untold.old.map.entries untold.new.map.entries) }
     ensures err { OnErr result (AreSame is_attempt untold.old.map.entries untold.new.map.entries) }
 {
     if !is_granted(state) {
@@ -263,7 +263,7 @@ fn join_untold(
 
 /// Takes a container in this state away from those of its attempt that nobody was told of, where it is among them.
 fn leave_untold(untold: &mut Groups<AttemptId>, id: ContainerId, state: ContainerState)
-    ensures { AreWithout is_attempt (is_untold id state) id untold.old.map.entries untold.new.map.entries }
+    ensures { AreWithout is_attempt (is_untold_to_attempt id state) id untold.old.map.entries untold.new.map.entries }
 {
     if is_granted(state) {
         let attempt = id.attempt;

@@ -20,9 +20,9 @@ use Rattle.rm_tables.specs.declared.rows.Current.{Current}
 use Rattle.rm_tables.specs.declared.tables.Tables.{Tables}
 use Rattle.rm_tables.specs.Changes.{changed, current_after}
 use Rattle.rm_tables.specs.Rows.{is_retired, row_of, with_row}
-use Rattle.rm_refinement.specs.Clients.{NoRowRefines, RefinesAt, RefinesForClients, RowRefines, has_registered, last_failed}
+use Rattle.rm_refinement.specs.Clients.{NoRowRefines, RefinesAt, RefinesForClients, RowRefines, current_registered, last_failed}
 use Rattle.rm_refinement.proofs.AppRows.{other_put, own_put, retired_changed, retired_put, row_either}
-use Rattle.rm_client.specs.Answers.{after_client, joined, new_row, taken_by, wished_by}
+use Rattle.rm_client.specs.Answers.{after_client, with_submission, submitted_row, taken_by, wished_by}
 use Rattle.rm_client.proofs.Submitted.{one_of, other_submitted, other_waiting, own_submitted, own_waiting}
 
 -- what the tables are to show after a message
@@ -71,7 +71,7 @@ module _ (m : Scene) (t : Tables) (shows : RefinesForClients m t) where
     pub fresh : is_retired t.rows id ≡ false
     fresh = sym (shows.retired id) ∙ unretired
 
-    new_at : RowRefines joined_scene id (new_row s)
+    new_at : RowRefines joined_scene id (submitted_row s)
     new_at =
         let new : NoRowRefines m id = subst (RefinesAt m id) none (shows.at id) in
         let unkept = new.unkept in
@@ -97,13 +97,13 @@ module _ (m : Scene) (t : Tables) (shows : RefinesForClients m t) where
           saving = is.saving;
         }
 
-    joined_at : (q : AppId) (b : Bool) → is_app id q ≡ b → RefinesAt joined_scene q (row_of (joined id s t).rows q)
+    joined_at : (q : AppId) (b : Bool) → is_app id q ≡ b → RefinesAt joined_scene q (row_of (with_submission id s t).rows q)
     joined_at q true e =
-        subst (λ (z : AppId). RefinesAt joined_scene z (row_of (joined id s t).rows z)) (same_app id q e)
-        (subst (RefinesAt joined_scene id) (sym (own_put id (new_row s) t.rows none fresh)) new_at)
-    joined_at q false e = subst (RefinesAt joined_scene q) (sym (other_put id q (new_row s) t.rows e)) (other_at q e (row_of t.rows q) (shows.at q))
+        subst (λ (z : AppId). RefinesAt joined_scene z (row_of (with_submission id s t).rows z)) (same_app id q e)
+        (subst (RefinesAt joined_scene id) (sym (own_put id (submitted_row s) t.rows none fresh)) new_at)
+    joined_at q false e = subst (RefinesAt joined_scene q) (sym (other_put id q (submitted_row s) t.rows e)) (other_at q e (row_of t.rows q) (shows.at q))
 
-    joins : RefinesForClients joined_scene (joined id s t)
+    joins : RefinesForClients joined_scene (with_submission id s t)
     joins =
         record {
           records = shows.records;
@@ -111,7 +111,7 @@ module _ (m : Scene) (t : Tables) (shows : RefinesForClients m t) where
           given = shows.given;
           going = let before = shows.going in let more = length-append m.life.apps.submitted (one_of id s ∷ []) in omega (arith, before, more);
           live = shows.live;
-          retired = λ q. shows.retired q ∙ sym (retired_put id q (new_row s) t.rows none fresh);
+          retired = λ q. shows.retired q ∙ sym (retired_put id q (submitted_row s) t.rows none fresh);
           at = λ q. joined_at q (is_app id q) refl;
         }
 
@@ -124,7 +124,7 @@ module _ (m : Scene) (t : Tables) (shows : RefinesForClients m t) where
         → RefinesForClients (taken_scene (is_known m id) id s) (taken_by o id s t)
     taken id s None none is =
         let new : NoRowRefines m id = subst (RefinesAt m id) none (shows.at id) in
-        subst (λ (b : Bool). RefinesForClients (taken_scene b id s) (joined id s t)) (sym new.unknown) (joins id s none (not_retired (is_given m id) (has_app m.life.apps.retired id) _ is))
+        subst (λ (b : Bool). RefinesForClients (taken_scene b id s) (with_submission id s t)) (sym new.unknown) (joins id s none (not_retired (is_given m id) (has_app m.life.apps.retired id) _ is))
     taken id s (Some row) found is =
         let old : RowRefines m id row = subst (RefinesAt m id) found (shows.at id) in
         subst (λ (b : Bool). RefinesForClients (taken_scene b id s) t) (sym old.known) shows
@@ -150,7 +150,7 @@ module _ (m : Scene) (t : Tables) (shows : RefinesForClients m t) where
         record {
           known = is.known;
           waits = is.waits;
-          running = is.running ∙ ap (λ (c : Option Current). has_registered c && not (last_failed (kept_record m q))) same;
+          running = is.running ∙ ap (λ (c : Option Current). current_registered c && not (last_failed (kept_record m q))) same;
           accepted = is.accepted ∙ ap (λ (c : Option Current). is_some c) same;
           saving = is.saving;
         }

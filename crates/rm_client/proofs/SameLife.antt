@@ -27,7 +27,7 @@ use Rattle.rm_refinement.specs.Agreement.{AttemptAgrees, ClosingsAgree, NumberAg
 use Rattle.rm_refinement.specs.Clients.{NoRowRefines, RefinesAt, RefinesForClients, RowRefines}
 use Rattle.rm_refinement.specs.Services.{RefinesLife, finishes_by, finishes_with, lives_by, lives_with}
 use Rattle.rm_refinement.proofs.AppRows.{other_put, own_put, row_either}
-use Rattle.rm_client.specs.Answers.{after_client, joined, new_row, taken_by, wished_by}
+use Rattle.rm_client.specs.Answers.{after_client, with_submission, submitted_row, taken_by, wished_by}
 use Rattle.rm_client.proofs.Same.{fresh, not_retired, same_current}
 use Rattle.rm_client.proofs.Submitted.{one_of}
 
@@ -86,38 +86,38 @@ module _ (m : Scene) (t : Tables) (shows : RefinesForClients m t) (life : Refine
     abbrev joined_scene : Scene
     joined_scene = record m { life = record m.life { apps = record m.life.apps { submitted = m.life.apps.submitted ++ one_of id s ∷ [] } } }
 
-    own : row_of (joined id s t).rows id ≡ Some (new_row s)
-    own = own_put id (new_row s) t.rows none (fresh m t shows id s none unretired)
+    own : row_of (with_submission id s t).rows id ≡ Some (submitted_row s)
+    own = own_put id (submitted_row s) t.rows none (fresh m t shows id s none unretired)
 
-    other : (q : AppId) → is_app id q ≡ false → row_of (joined id s t).rows q ≡ row_of t.rows q
-    other q apart = other_put id q (new_row s) t.rows apart
+    other : (q : AppId) → is_app id q ≡ false → row_of (with_submission id s t).rows q ≡ row_of t.rows q
+    other q apart = other_put id q (submitted_row s) t.rows apart
 
-    closings_of : (q : AppId) (b : Bool) → is_app id q ≡ b → ClosingsAgree m.life.endings.outbox q (has_app m.life.apps.retired q) (row_of (joined id s t).rows q)
+    closings_of : (q : AppId) (b : Bool) → is_app id q ≡ b → ClosingsAgree m.life.endings.outbox q (has_app m.life.apps.retired q) (row_of (with_submission id s t).rows q)
     closings_of q false e = subst (ClosingsAgree m.life.endings.outbox q (has_app m.life.apps.retired q)) (sym (other q e)) (life.closings q)
     closings_of q true e =
         let before : ClosingsAgree m.life.endings.outbox id (has_app m.life.apps.retired id) None = subst (ClosingsAgree m.life.endings.outbox id (has_app m.life.apps.retired id)) none (life.closings id) in
-        subst (λ (z : AppId). ClosingsAgree m.life.endings.outbox z (has_app m.life.apps.retired z) (row_of (joined id s t).rows z)) (same_app id q e)
+        subst (λ (z : AppId). ClosingsAgree m.life.endings.outbox z (has_app m.life.apps.retired z) (row_of (with_submission id s t).rows z)) (same_app id q e)
         (subst (ClosingsAgree m.life.endings.outbox id (has_app m.life.apps.retired id)) (sym own) (sym (before unretired)))
 
-    masters_of : (q : AttemptId) (b : Bool) → is_app id q.app ≡ b → RowAgrees m.life.masters.registered m.life.granted (has_app m.life.apps.retired q.app) q (row_of (joined id s t).rows q.app)
+    masters_of : (q : AttemptId) (b : Bool) → is_app id q.app ≡ b → RowAgrees m.life.masters.registered m.life.granted (has_app m.life.apps.retired q.app) q (row_of (with_submission id s t).rows q.app)
     masters_of q false e = subst (RowAgrees m.life.masters.registered m.life.granted (has_app m.life.apps.retired q.app) q) (sym (other q.app e)) (life.masters q)
     masters_of q true e =
         let same = same_app id q.app e in
         let known : RowAgrees m.life.masters.registered m.life.granted (has_app m.life.apps.retired id) q (row_of t.rows id) =
         subst (λ (z : AppId). RowAgrees m.life.masters.registered m.life.granted (has_app m.life.apps.retired z) q (row_of t.rows z)) (sym same) (life.masters q) in
         let before : RowAgrees m.life.masters.registered m.life.granted (has_app m.life.apps.retired id) q None = subst (RowAgrees m.life.masters.registered m.life.granted (has_app m.life.apps.retired id) q) none known in
-        subst (λ (z : AppId). RowAgrees m.life.masters.registered m.life.granted (has_app m.life.apps.retired z) q (row_of (joined id s t).rows z)) same
+        subst (λ (z : AppId). RowAgrees m.life.masters.registered m.life.granted (has_app m.life.apps.retired z) q (row_of (with_submission id s t).rows z)) same
         (subst (RowAgrees m.life.masters.registered m.life.granted (has_app m.life.apps.retired id) q) (sym own) (before unretired, refl))
 
-    lives_of : (q : AttemptId) (b : Bool) → is_app id q.app ≡ b → lives_by q (row_of t.rows q.app) ≡ lives_by q (row_of (joined id s t).rows q.app)
+    lives_of : (q : AttemptId) (b : Bool) → is_app id q.app ≡ b → lives_by q (row_of t.rows q.app) ≡ lives_by q (row_of (with_submission id s t).rows q.app)
     lives_of q false e = ap (lives_by q) (sym (other q.app e))
-    lives_of q true e = subst (λ (z : AppId). lives_by q (row_of t.rows z) ≡ lives_by q (row_of (joined id s t).rows z)) (same_app id q.app e) (ap (lives_by q) none ∙ sym (ap (lives_by q) own))
+    lives_of q true e = subst (λ (z : AppId). lives_by q (row_of t.rows z) ≡ lives_by q (row_of (with_submission id s t).rows z)) (same_app id q.app e) (ap (lives_by q) none ∙ sym (ap (lives_by q) own))
 
-    ends_of : (q : AttemptId) (b : Bool) → is_app id q.app ≡ b → finishes_by q (row_of t.rows q.app) ≡ finishes_by q (row_of (joined id s t).rows q.app)
+    ends_of : (q : AttemptId) (b : Bool) → is_app id q.app ≡ b → finishes_by q (row_of t.rows q.app) ≡ finishes_by q (row_of (with_submission id s t).rows q.app)
     ends_of q false e = ap (finishes_by q) (sym (other q.app e))
-    ends_of q true e = subst (λ (z : AppId). finishes_by q (row_of t.rows z) ≡ finishes_by q (row_of (joined id s t).rows z)) (same_app id q.app e) (ap (finishes_by q) none ∙ sym (ap (finishes_by q) own))
+    ends_of q true e = subst (λ (z : AppId). finishes_by q (row_of t.rows z) ≡ finishes_by q (row_of (with_submission id s t).rows z)) (same_app id q.app e) (ap (finishes_by q) none ∙ sym (ap (finishes_by q) own))
 
-    joins : RefinesLife joined_scene (joined id s t)
+    joins : RefinesLife joined_scene (with_submission id s t)
     joins =
         record {
           records = life.records;
@@ -140,7 +140,7 @@ module _ (m : Scene) (t : Tables) (shows : RefinesForClients m t) (life : Refine
         → RefinesLife (taken_scene (is_known m id) id s) (taken_by o id s t)
     taken id s None none is =
         let new : NoRowRefines m id = subst (RefinesAt m id) none (shows.at id) in
-        subst (λ (b : Bool). RefinesLife (taken_scene b id s) (joined id s t)) (sym new.unknown) (joins id s none (not_retired (is_given m id) (has_app m.life.apps.retired id) _ is))
+        subst (λ (b : Bool). RefinesLife (taken_scene b id s) (with_submission id s t)) (sym new.unknown) (joins id s none (not_retired (is_given m id) (has_app m.life.apps.retired id) _ is))
     taken id s (Some row) found is =
         let old : RowRefines m id row = subst (RefinesAt m id) found (shows.at id) in
         subst (λ (b : Bool). RefinesLife (taken_scene b id s) t) (sym old.known) life

@@ -22,18 +22,18 @@ report_with state submission attempts live text =
     record { state = state; user = submission.user; queue = submission.queue; name = submission.name; attempts = attempts; live = live; text = text }
 
 -- the row of an application that was submitted just now
-abbrev pub new_row : Submission → AppRow
-new_row submission =
+abbrev pub submitted_row : Submission → AppRow
+submitted_row submission =
     record { state = apps.New; wish = false; pending = Some submission; current = None; first = 0; dialogue = None; closings = [] }
 
 -- a submission joins: its application has a row, goes on, and is to be issued
-abbrev pub joined : AppId → Submission → Tables → Tables
-joined id submission t =
-    record t { rows = t.rows ++ (id, Some (new_row submission)) ∷ []; going = t.going + 1; main = t.main ++ mains.AppStart id ∷ [] }
+abbrev pub with_submission : AppId → Submission → Tables → Tables
+with_submission id submission t =
+    record t { rows = t.rows ++ (id, Some (submitted_row submission)) ∷ []; going = t.going + 1; main = t.main ++ mains.AppStart id ∷ [] }
 
 -- a submission that is taken joins, where its application isn't known
 abbrev pub taken_by : Option AppRow → AppId → Submission → Tables → Tables
-taken_by None id submission t = joined id submission t
+taken_by None id submission t = with_submission id submission t
 taken_by (Some row) id submission t = t
 
 -- the first wish of a life to kill an application is noted, and is to be followed

@@ -5,7 +5,7 @@ ghost use Rattle.rm_model.specs.Facts.{has_app, is_known};
 ghost use Rattle.rm_model.specs.ClientReplies.{going, is_given, submit_reply};
 ghost use Rattle.rm_tables.specs.declared.events.MainEvent.{MainEvent as Event};
 ghost use Rattle.rm_tables.specs.Rows.{slot_of};
-ghost use Rattle.rm_client.specs.Answers.{after_client, joined};
+ghost use Rattle.rm_client.specs.Answers.{after_client, with_submission};
 ghost use Rattle.rm_refinement.specs.Clients.{RefinesForClients};
 
 use rm_app::AppState;
@@ -50,7 +50,7 @@ fn answer_new(queues: &QueueTree, t: &Tables, submission: &Submission) -> Result
 fn join(t: &mut Tables, id: AppId, submission: &Submission) -> Result<(), NoMemory>
     requires new { slot_of t.old.rows id ≡ None }
     requires few { t.old.going + 1 < 2 ^ 64 }
-    ensures ok { OnOk result (t.new ≡ joined id submission.now t.old) }
+    ensures ok { OnOk result (t.new ≡ with_submission id submission.now t.old) }
     ensures err { OnErr result (t.new ≡ t.old) }
 {
     let pending = submission.copy()?;

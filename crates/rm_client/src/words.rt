@@ -5,7 +5,7 @@ ghost use Rattle.rm_model.specs.State.{Scene};
 ghost use Rattle.rm_model.specs.Attempts.{has_failed, is_failed};
 ghost use Rattle.rm_model.specs.Facts.{kept_record};
 ghost use Rattle.rm_model.specs.ClientReplies.{end_word, going_word};
-ghost use Rattle.rm_refinement.specs.Clients.{RowRefines, has_registered, is_saving, last_failed, runs};
+ghost use Rattle.rm_refinement.specs.Clients.{RowRefines, current_registered, is_saving_app, last_failed, runs};
 
 use rm_app::AppState;
 use rm_tables::{AppRow, Current, last_attempt};
@@ -24,14 +24,14 @@ pub fn end_word(how: How) -> StateWord
 
 /// Whether an application's App was issued and isn't kept.
 fn is_saving(state: AppState) -> bool
-    ensures { result ≡ is_saving state }
+    ensures { result ≡ is_saving_app state }
 {
     matches!(state, AppState::NewSaving)
 }
 
 /// Whether the current attempt's master registered in this life.
 fn has_registered(current: Option<Current>) -> bool
-    ensures { result ≡ has_registered current }
+    ensures { result ≡ current_registered current }
 {
     match current {
         Some(current) => current.registered,

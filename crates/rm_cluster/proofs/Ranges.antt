@@ -16,10 +16,10 @@ use Rattle.rm_types.specs.declared.texts.TextKind.{TextKind}
 use Rattle.rm_types.specs.declared.texts.TextKind.TheVariants.{Name, AclText, Queue}
 use Rattle.rm_types.specs.Limits.{greatest_attempts, greatest_memory_mb, greatest_vcores}
 use Rattle.rm_cluster.specs.Limits.{longest_wait_ms, most_apps, most_completed, most_queues}
-use Rattle.rm_cluster.specs.Readings.{number_within, text_of, string_of, names_of, name_list_of, user_of, users_of, user_groups_of}
+use Rattle.rm_cluster.specs.Readings.{number_within, text_of, string_of, names_of, name_list_of, user_of, users_read, user_groups_of}
 use Rattle.rm_cluster.specs.Rules.{max_attempts_of, max_completed_of, max_apps_of, wait_ms_of, admin_acl_of, max_memory_of, max_vcores_of, groups_of, queues_of, bare_queue, default_queues, IsSettingsOf}
 use Rattle.rm_cluster.specs.Queues.{has_queue_keys, is_tree, list_at, name_of, queue_list_of, queue_of, queue_tree_of, queue_with, some_list_of}
-use Rattle.rm_cluster.specs.Ranges.{AreQueues, HasNames, HasTexts, IsInRange, IsList}
+use Rattle.rm_cluster.specs.Ranges.{AreQueues, HasNames, HasTexts, SettingsInRange, IsAclList}
 
 -- what holds of each value that a reading gives, and of the value for an absent key, holds of what stands at the key
 kept_at_key : {A : Type 0} (P : A → Type 0) (reading : Data → Option A) (absent : A) (found : Option Data) (a : A)
@@ -100,13 +100,13 @@ user_is key value user e =
     let parts = of_user (text_of Name key) (name_list_of value) user e in
     record { user = text_is Name key user.user parts.0; groups = name_list_is value user.groups parts.1 }
 
-users_are : (members : Members) (users : List UserGroups) → users_of members ≡ Some users → All HasNames users
+users_are : (members : Members) (users : List UserGroups) → users_read members ≡ Some users → All HasNames users
 users_are no_members users e = let same : [] ≡ users = cc in subst (All HasNames) same (All-nil HasNames)
 users_are (member key value members) users e =
-    let parts = of_cons (user_of key value) (users_of members) users e in
+    let parts = of_cons (user_of key value) (users_read members) users e in
     subst (All HasNames) parts.4 (All-cons HasNames parts.0 parts.1 (user_is key value parts.0 parts.2) (users_are members parts.1 parts.3))
 
-groups_found : (found : Option Members) (users : List UserGroups) → option_and_then users_of found ≡ Some users → All HasNames users
+groups_found : (found : Option Members) (users : List UserGroups) → option_and_then users_read found ≡ Some users → All HasNames users
 groups_found None users e = absurd cc
 groups_found (Some members) users e = users_are members users e
 
@@ -116,17 +116,17 @@ groups_are value users e = groups_found (as_object value) users e
 
 -- ---- queues
 
-list_found : (found : Option (List ℕ)) (list : Option (List ℕ)) → ((text : List ℕ) → found ≡ Some text → IsText AclText text) → option_map (λ text. Some text) found ≡ Some list → IsList list
+list_found : (found : Option (List ℕ)) (list : Option (List ℕ)) → ((text : List ℕ) → found ≡ Some text → IsText AclText text) → option_map (λ text. Some text) found ≡ Some list → IsAclList list
 list_found None list is e = absurd cc
-list_found (Some text) list is e = let same : Some text ≡ list = cc in subst IsList same (is text refl)
+list_found (Some text) list is e = let same : Some text ≡ list = cc in subst IsAclList same (is text refl)
 
-list_is : (value : Data) (list : Option (List ℕ)) → some_list_of value ≡ Some list → IsList list
+list_is : (value : Data) (list : Option (List ℕ)) → some_list_of value ≡ Some list → IsAclList list
 unfolding some_list_of
 list_is value list e = list_found (string_of AclText value) list (string_is AclText value) e
 
-list_at_is : (key : List ℕ) (value : Data) (list : Option (List ℕ)) → list_at key value ≡ Some list → IsList list
+list_at_is : (key : List ℕ) (value : Data) (list : Option (List ℕ)) → list_at key value ≡ Some list → IsAclList list
 unfolding list_at
-list_at_is key value list e = kept_at_key IsList _ _ _ _ list_is tt e
+list_at_is key value list e = kept_at_key IsAclList _ _ _ _ list_is tt e
 
 of_queue : (name : Option (List ℕ)) (submit admin : Option (Option (List ℕ))) (queue : QueueSpec) → option_and_then (λ one. queue_with one submit admin) name ≡ Some queue
     → (name ≡ Some queue.name) × (submit ≡ Some queue.submit) × (admin ≡ Some queue.admin)
@@ -199,7 +199,7 @@ default_are = record {
 
 -- ---- the settings
 
-pub in_range : (file : Data) (settings : Settings) → IsSettingsOf file settings → IsInRange settings
+pub in_range : (file : Data) (settings : Settings) → IsSettingsOf file settings → SettingsInRange settings
 unfolding max_attempts_of max_completed_of max_apps_of wait_ms_of admin_acl_of max_memory_of max_vcores_of groups_of queues_of
 in_range file settings kept = record {
   max_attempts = kept_at_key (IsWithin 1 greatest_attempts) _ _ _ _ (within 1 greatest_attempts) (lit≤ tt, lit≤ tt) kept.max_attempts;

@@ -9,18 +9,18 @@ use Rattle.rm_cluster.specs.declared.clusters.ClusterError.{ClusterError}
 use Rattle.rm_cluster.specs.declared.clusters.ClusterError.TheVariants.{Refused, Memory}
 
 -- the greatest length of a cluster file, in bytes
-abbrev pub greatest_length : ℕ
-greatest_length = GREATEST_LENGTH
+abbrev pub greatest_cluster_length : ℕ
+greatest_cluster_length = GREATEST_LENGTH
 
 -- the bytes are few enough, are UTF-8, and are read as this value
 pub record FileHolds (bytes : List ℕ) (file : Data) : Type 0 where
-  pub short : length bytes ≤ greatest_length
+  pub short : length bytes ≤ greatest_cluster_length
   pub utf8 : IsUtf8 bytes
   pub value : read bytes ≡ Some file
 
 -- the first rule breaks: the bytes are too many, are not UTF-8, or are read as no value
 abbrev pub HoldsNone : List ℕ → Type 0
-HoldsNone bytes = length bytes ≤ greatest_length → IsUtf8 bytes → read bytes ≡ None
+HoldsNone bytes = length bytes ≤ greatest_cluster_length → IsUtf8 bytes → read bytes ≡ None
 
 -- the settings of the bytes: they hold a value that breaks no rule, and these are its settings
 pub record IsCluster (bytes : List ℕ) (settings : Settings) : Type 0 where

@@ -15,15 +15,15 @@ pub record HasNames (member : UserGroups) : Type 0 where
   pub groups : All (IsText Name) member.groups
 
 -- a list that may be absent is an access control list
-abbrev pub IsList : Option (List ℕ) → Type 0
-IsList None = Unit {0}
-IsList (Some text) = IsText AclText text
+abbrev pub IsAclList : Option (List ℕ) → Type 0
+IsAclList None = Unit {0}
+IsAclList (Some text) = IsText AclText text
 
 -- the name of a queue and its lists are texts of their kinds
 pub record HasTexts (queue : QueueSpec) : Type 0 where
   pub name : IsText Queue queue.name
-  pub submit : IsList queue.submit
-  pub admin : IsList queue.admin
+  pub submit : IsAclList queue.submit
+  pub admin : IsAclList queue.admin
 
 -- the queues are not too many, have their texts, and are a tree
 pub record AreQueues (queues : List QueueSpec) : Type 0 where
@@ -32,7 +32,7 @@ pub record AreQueues (queues : List QueueSpec) : Type 0 where
   pub tree : is_tree queues ≡ true
 
 -- each of the settings is in its range
-pub record IsInRange (settings : Settings) : Type 0 where
+pub record SettingsInRange (settings : Settings) : Type 0 where
   pub max_attempts : IsWithin 1 greatest_attempts settings.max_attempts
   pub max_completed : IsWithin 0 most_completed settings.max_completed
   pub max_apps : IsWithin 1 most_apps settings.max_apps

@@ -41,13 +41,13 @@ unfoldable pub user_of : List ℕ → Data → Option UserGroups
 user_of key value = option_and_then (λ user. option_map (λ groups. record { user = user; groups = groups }) (name_list_of value)) (text_of Name key)
 
 -- a user for each key, in the object's order, where each member is one
-abbrev pub users_of : Members → Option (List UserGroups)
-users_of no_members = Some []
-users_of (member key value members) = option_and_then (λ user. option_map (λ users. user ∷ users) (users_of members)) (user_of key value)
+abbrev pub users_read : Members → Option (List UserGroups)
+users_read no_members = Some []
+users_read (member key value members) = option_and_then (λ user. option_map (λ users. user ∷ users) (users_read members)) (user_of key value)
 
 -- the groups of users: an object in which each key is a name and each value a list of names
 unfoldable pub user_groups_of : Data → Option (List UserGroups)
-user_groups_of value = option_and_then users_of (as_object value)
+user_groups_of value = option_and_then users_read (as_object value)
 
 -- the keys of an object
 abbrev pub keys_of : Members → List (List ℕ)

@@ -1,7 +1,7 @@
 ghost use Rattle.std.specs.Prelude.{◌≡◌, IfOk, IfErr};
 ghost use Rattle.serde_json.specs.View.{view};
 ghost use Rattle.rm_cluster.specs.Clusters.{IsCluster, IsNoCluster, IsBrokenBy};
-ghost use Rattle.rm_cluster.specs.Ranges.{IsInRange};
+ghost use Rattle.rm_cluster.specs.Ranges.{SettingsInRange};
 ghost use Rattle.rm_cluster.specs.Rules.{IsSettingsOf};
 
 use crate::limits::GREATEST_LENGTH;
@@ -44,7 +44,7 @@ impl From<NoMemory> for ClusterError {
 pub fn read_cluster(alloc: Global, bytes: &[u8]) -> Result<Settings, ClusterError>
     ensures read { IfOk result (λ settings. IsCluster bytes.now settings) }
     ensures refused { IfErr result (IsNoCluster bytes.now) }
-    ensures in_range { IfOk result IsInRange }
+    ensures in_range { IfOk result SettingsInRange }
 {
     if bytes.len() > GREATEST_LENGTH {
         return Err(refused(1));
@@ -66,7 +66,7 @@ fn refused(place: u32) -> ClusterError
 fn settings_of(alloc: Global, file: &Value) -> Result<Settings, ClusterError>
     ensures read { IfOk result (IsSettingsOf (view file.now)) }
     ensures refused { IfErr result (IsBrokenBy (view file.now)) }
-    ensures in_range { IfOk result IsInRange }
+    ensures in_range { IfOk result SettingsInRange }
 {
     if !has_known_keys(file) {
         return Err(refused(2));

@@ -1,6 +1,6 @@
 ghost use Rattle.std.specs.Prelude.{◌≡◌, IfOk, string_bytes};
 ghost use Rattle.serde_json.specs.View.{view, items_view, members_view};
-ghost use Rattle.rm_cluster.specs.Readings.{names_of, name_list_of, user_of, users_of, user_groups_of};
+ghost use Rattle.rm_cluster.specs.Readings.{names_of, name_list_of, user_of, users_read, user_groups_of};
 
 use crate::readings::{string_of, text_of};
 use rm_types::{Items, NoMemory, Text, TextKind, UserGroups};
@@ -26,7 +26,7 @@ fn users_of(
     alloc: Global,
     members: &Map<String, Value>,
 ) -> Result<Option<Items<UserGroups>>, NoMemory>
-    ensures { IfOk result (λ users. users ≡ users_of (members_view members.now.entries)) }
+    ensures { IfOk result (λ users. users ≡ users_read (members_view members.now.entries)) }
 {
     let mut users = Items::new(alloc);
     for (key, value) in members {

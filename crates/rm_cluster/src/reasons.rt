@@ -1,5 +1,5 @@
 ghost use Rattle.std.specs.Prelude.{◌≡◌, ◌<◌, ◌↔◌, IfOk, length};
-ghost use Rattle.rm_cluster.specs.Clusters.{HoldsNone, greatest_length};
+ghost use Rattle.rm_cluster.specs.Clusters.{HoldsNone, greatest_cluster_length};
 ghost use Rattle.rm_cluster.specs.Faults.{IsJson, IsOfValue};
 
 use crate::faults::{ClusterFault, Excerpt, GroupsFault, Key, QueueList, QueuesFault};
@@ -317,7 +317,7 @@ fn value_fault(alloc: Global, file: &Value, place: u32) -> Result<Option<Cluster
 /// Why the bytes are refused at this place, as `read_cluster` tells it. For that the file is read once more; where no memory is found,
 /// and of bytes and a place that no reading refused, the rule of the place is told.
 pub fn why(alloc: Global, bytes: &[u8], place: u32) -> ClusterFault
-    ensures long { (result ≡ ClusterFault.TooLong) ↔ (greatest_length < length bytes.now) }
+    ensures long { (result ≡ ClusterFault.TooLong) ↔ (greatest_cluster_length < length bytes.now) }
     ensures json { IsJson result → HoldsNone bytes.now }
 {
     if bytes.len() > GREATEST_LENGTH {

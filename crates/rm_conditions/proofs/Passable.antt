@@ -13,18 +13,18 @@ use Rattle.rm_types.specs.Ids.{is_app}
 use Rattle.rm_types.specs.Lists.{is_nil}
 use Rattle.rm_types.proofs.IdLemmas.{same_app}
 use Rattle.rm_types.proofs.TestLemmas.{nil_is, number_itself, same_text}
-use Rattle.rm_book.specs.AskTables.{asks_of}
+use Rattle.rm_book.specs.AskTables.{attempt_asks}
 use Rattle.rm_book.specs.Books.{BookOf, capability_in, capability_of, is_node}
 use Rattle.rm_book.specs.declared.plain.NodeCapability.{NodeCapability}
-use Rattle.rm_fit.specs.Conditions.{AreApart, are_past, are_some_sizes, have_sizes}
+use Rattle.rm_fit.specs.Conditions.{TurnsAreApart, are_past, are_some_sizes, have_sizes}
 use Rattle.rm_model.specs.Attempts.{attempt_at}
 use Rattle.rm_tables.specs.declared.rows.AppRow.{AppRow}
 use Rattle.rm_tables.specs.declared.rows.Current.{Current}
 use Rattle.rm_tables.specs.declared.tables.Tables.{Tables}
-use Rattle.rm_tables.specs.Passing.{asks_some, granted_by, granted_to, turn_in, turns_in}
+use Rattle.rm_tables.specs.Passing.{asks_some, granted_number, granted_to, turn_in, turns_in}
 use Rattle.rm_tables.specs.Rows.{row_of, slot_of}
 use Rattle.rm_sched.specs.CanWork.{CanPass}
-use Rattle.rm_conditions.specs.Passes.{is_early, is_early_at, is_new_to, may_have_turn, offers_few}
+use Rattle.rm_conditions.specs.Passes.{is_early, is_early_at, has_only_past_ids, may_have_turn, offers_few}
 
 -- ROOM
 
@@ -68,7 +68,7 @@ EachEarly rows slots = (place : ℕ) (id : AppId) → option_map (λ slot. slot.
 
 -- the sequence of the next container of each attempt is in range
 abbrev pub AllEarly : List (AppId × Option AppRow) → Type 0
-AllEarly rows = (id : AttemptId) → granted_by id.number (row_of rows id.app) + 1 ≤ 2 ^ 39
+AllEarly rows = (id : AttemptId) → granted_number id.number (row_of rows id.app) + 1 ≤ 2 ^ 39
 
 early_current : (o : Option Current) (number : ℕ) → is_early_at o ≡ true → granted_to number o + 1 ≤ 2 ^ 39
 early_current None number early = omega arith
@@ -78,7 +78,7 @@ early_current (Some current) number early = by (current.number == number)
     by true = grind (arith, nat_tests)
     by false = omega arith
 
-early_row : (o : Option AppRow) (number : ℕ) → is_early o ≡ true → granted_by number o + 1 ≤ 2 ^ 39
+early_row : (o : Option AppRow) (number : ℕ) → is_early o ≡ true → granted_number number o + 1 ≤ 2 ^ 39
 early_row None number early = omega arith
 early_row (Some row) number early = early_current row.current number early
 
@@ -105,7 +105,7 @@ current_early (Some current) all =
     let less : current.granted + 1 ≤ 2 ^ 39 = rw (number_itself current.number) at own in
     grind (arith, nat_tests)
 
-row_early : (o : Option AppRow) → ((number : ℕ) → granted_by number o + 1 ≤ 2 ^ 39) → is_early o ≡ true
+row_early : (o : Option AppRow) → ((number : ℕ) → granted_number number o + 1 ≤ 2 ^ 39) → is_early o ≡ true
 row_early None all = refl
 row_early (Some row) all = current_early row.current all
 
@@ -147,28 +147,28 @@ module _ (t : Tables) where
 
   -- what a pass needs of the turns of these attempts
   record AreReady (ids : List AttemptId) : Type 0 where
-    sizes : have_sizes (asks_of t.asks) (turns_of ids) ≡ true
+    sizes : have_sizes (attempt_asks t.asks) (turns_of ids) ≡ true
     past : are_past t.epoch (turns_of ids) t.book.rows ≡ true
 
   all_ready : (ids : List AttemptId) → list_all (may_have_turn t) ids ≡ true → AreReady ids
   all_ready [] may = record { sizes = refl; past = refl }
   all_ready (id ∷ ids) may =
       let parts = and_parts (may_have_turn t id) (list_all (may_have_turn t) ids) may in
-      let own = and_parts (are_some_sizes (asks_of t.asks id)) (not (asks_some t.asks id) || is_new_to t id) parts.0 in
+      let own = and_parts (are_some_sizes (attempt_asks t.asks id)) (not (asks_some t.asks id) || has_only_past_ids t id) parts.0 in
       by (asks_some t.asks id) refl own.0 own.1 (all_ready ids parts.1)
     where
-      by : (b : Bool) → asks_some t.asks id ≡ b → are_some_sizes (asks_of t.asks id) ≡ true → (not (asks_some t.asks id) || is_new_to t id) ≡ true → AreReady ids → AreReady (id ∷ ids)
+      by : (b : Bool) → asks_some t.asks id ≡ b → are_some_sizes (attempt_asks t.asks id) ≡ true → (not (asks_some t.asks id) || has_only_past_ids t id) ≡ true → AreReady ids → AreReady (id ∷ ids)
       by true e size new rest =
-          let past : is_new_to t id ≡ true = rw e at new in
-          record { sizes = rw e (and_from (are_some_sizes (asks_of t.asks id)) _ size rest.sizes); past = rw e (and_from (is_new_to t id) _ past rest.past) }
+          let past : has_only_past_ids t id ≡ true = rw e at new in
+          record { sizes = rw e (and_from (are_some_sizes (attempt_asks t.asks id)) _ size rest.sizes); past = rw e (and_from (has_only_past_ids t id) _ past rest.past) }
       by false e size new rest = record { sizes = rw e rest.sizes; past = rw e rest.past }
 
   may_all : (ids : List AttemptId) → AreReady ids → list_all (may_have_turn t) ids ≡ true
   may_all [] ready = refl
   may_all (id ∷ ids) ready = by (asks_some t.asks id) refl (may_all ids)
     where
-      none_asked : not (is_nil (asks_of t.asks id)) ≡ false → is_nil (asks_of t.asks id) ≡ true
-      none_asked e = turned (is_nil (asks_of t.asks id)) e
+      none_asked : not (is_nil (attempt_asks t.asks id)) ≡ false → is_nil (attempt_asks t.asks id) ≡ true
+      none_asked e = turned (is_nil (attempt_asks t.asks id)) e
         where
           turned : (b : Bool) → not b ≡ false → b ≡ true
           turned true f = refl
@@ -176,13 +176,13 @@ module _ (t : Tables) where
 
       by : (b : Bool) → asks_some t.asks id ≡ b → (AreReady ids → list_all (may_have_turn t) ids ≡ true) → list_all (may_have_turn t) (id ∷ ids) ≡ true
       by true e rest =
-          let all_sizes : (are_some_sizes (asks_of t.asks id) && have_sizes (asks_of t.asks) (turns_of ids)) ≡ true = rw e at ready.sizes in
-          let all_past : (is_new_to t id && are_past t.epoch (turns_of ids) t.book.rows) ≡ true = rw e at ready.past in
-          let sizes = and_parts (are_some_sizes (asks_of t.asks id)) (have_sizes (asks_of t.asks) (turns_of ids)) all_sizes in
-          let past = and_parts (is_new_to t id) (are_past t.epoch (turns_of ids) t.book.rows) all_past in
+          let all_sizes : (are_some_sizes (attempt_asks t.asks id) && have_sizes (attempt_asks t.asks) (turns_of ids)) ≡ true = rw e at ready.sizes in
+          let all_past : (has_only_past_ids t id && are_past t.epoch (turns_of ids) t.book.rows) ≡ true = rw e at ready.past in
+          let sizes = and_parts (are_some_sizes (attempt_asks t.asks id)) (have_sizes (attempt_asks t.asks) (turns_of ids)) all_sizes in
+          let past = and_parts (has_only_past_ids t id) (are_past t.epoch (turns_of ids) t.book.rows) all_past in
           rw (e, sizes.0, past.0) (rest (record { sizes = sizes.1; past = past.1 }))
       by false e rest =
-          let none : asks_of t.asks id ≡ [] = nil_is (asks_of t.asks id) (none_asked e) in
+          let none : attempt_asks t.asks id ≡ [] = nil_is (attempt_asks t.asks id) (none_asked e) in
           rw (e, none) (rest (record { sizes = rw e at ready.sizes; past = rw e at ready.past }))
 
   placed_all : (apps : List AppRecord) → EachMay t apps → list_all (may_have_turn t) (map attempt_at apps) ≡ true
@@ -201,7 +201,7 @@ module _ (t : Tables) where
 
   -- ALL OF IT
 
-  pub passable : AreApart (turns_in t) → list_all (λ one. offers_few (capability_of t.book one.node)) t.book.nodes ≡ true → EachEarly t.rows t.rows → EachMay t t.tree.apps → CanPass t
+  pub passable : TurnsAreApart (turns_in t) → list_all (λ one. offers_few (capability_of t.book one.node)) t.book.nodes ≡ true → EachEarly t.rows t.rows → EachMay t t.tree.apps → CanPass t
   passable apart room early each =
       let ready = all_ready (map attempt_at t.tree.apps) (placed_all t.tree.apps each) in
       record { room = few_offered t.book room; apart = apart; early = all_early t.rows early; sizes = ready.sizes; past = ready.past }

@@ -3,7 +3,7 @@ use Rattle.std.specs.Prelude.{◌^◌, nat_le, nat_lt, Bool, true, not, ◌&&◌
 use Rattle.std.specs.List.{list_all}
 use Rattle.rm_types.specs.declared.ids.AttemptId.{AttemptId}
 use Rattle.rm_types.specs.declared.resources.Resource.{Resource}
-use Rattle.rm_book.specs.AskTables.{asks_of}
+use Rattle.rm_book.specs.AskTables.{attempt_asks}
 use Rattle.rm_book.specs.Books.{BookOf, capability_of}
 use Rattle.rm_book.specs.declared.plain.NodeCapability.{NodeCapability}
 use Rattle.rm_fit.specs.Conditions.{are_some_sizes, is_past}
@@ -33,10 +33,10 @@ is_early None = true
 is_early (Some row) = is_early_at row.current
 
 -- no container of the book is one that an attempt may yet be granted
-abbrev pub is_new_to : Tables → AttemptId → Bool
-is_new_to t attempt = list_all (is_past t.epoch (turn_in t.rows attempt)) t.book.rows
+abbrev pub has_only_past_ids : Tables → AttemptId → Bool
+has_only_past_ids t attempt = list_all (is_past t.epoch (turn_in t.rows attempt)) t.book.rows
 
 -- an attempt may have a turn: what it asks for has sizes and, where it asks for something, no container of the book is one that it may
 -- yet be granted
 abbrev pub may_have_turn : Tables → AttemptId → Bool
-may_have_turn t attempt = are_some_sizes (asks_of t.asks attempt) && (not (asks_some t.asks attempt) || is_new_to t attempt)
+may_have_turn t attempt = are_some_sizes (attempt_asks t.asks attempt) && (not (asks_some t.asks attempt) || has_only_past_ids t attempt)

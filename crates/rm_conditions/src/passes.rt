@@ -7,7 +7,7 @@ ghost use Rattle.rm_book.specs.Books.{capability_of};
 ghost use Rattle.rm_model.specs.Attempts.{attempt_at};
 ghost use Rattle.rm_tables.specs.Rows.{row_of};
 ghost use Rattle.rm_sched.specs.CanWork.{AreFew, CanPass};
-ghost use Rattle.rm_conditions.specs.Passes.{is_early, is_new_to, may_have_turn, offers_few, offers_few_at};
+ghost use Rattle.rm_conditions.specs.Passes.{is_early, has_only_past_ids, may_have_turn, offers_few, offers_few_at};
 
 use crate::counts::are_few;
 use crate::turns::law_apart;
@@ -79,7 +79,7 @@ fn are_early(rows: &Rows) -> bool
 
 /// Whether no container of the book is one that an attempt may yet be granted.
 fn is_new_to(t: &Tables, attempt: AttemptId) -> bool
-    ensures { result ≡ is_new_to t.now attempt }
+    ensures { result ≡ has_only_past_ids t.now attempt }
 {
     !t.book
         .has_later(attempt, t.epoch, granted_to(&t.rows, attempt))

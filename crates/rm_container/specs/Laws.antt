@@ -6,30 +6,30 @@ use Rattle.rm_container.specs.declared.states.ContainerEvent.{ContainerEvent}
 use Rattle.rm_container.specs.declared.states.ContainerEvent.TheVariants.{Run, End}
 use Rattle.rm_container.specs.declared.states.ContainerAction.{ContainerAction}
 use Rattle.rm_container.specs.declared.states.ContainerAction.TheVariants.{Nothing}
-use Rattle.rm_container.specs.Table.{Row}
+use Rattle.rm_container.specs.Table.{ContainerTransition}
 
 -- a state and an event have at most one row
-abbrev pub RowsAreOne : Type 0
-RowsAreOne = (state : ContainerState) (event : ContainerEvent) (next other : ContainerState) (action another : ContainerAction)
-    → Row state event next action → Row state event other another → (next ≡ other) × (action ≡ another)
+abbrev pub ContainerRowsAreOne : Type 0
+ContainerRowsAreOne = (state : ContainerState) (event : ContainerEvent) (next other : ContainerState) (action another : ContainerAction)
+    → ContainerTransition state event next action → ContainerTransition state event other another → (next ≡ other) × (action ≡ another)
 
 -- how far a state is
-abbrev pub place_of : ContainerState → ℕ
-place_of Granted = 0
-place_of Acquired = 1
-place_of Running = 2
-place_of Completed = 3
+abbrev pub state_rank : ContainerState → ℕ
+state_rank Granted = 0
+state_rank Acquired = 1
+state_rank Running = 2
+state_rank Completed = 3
 
 -- each row leads to a later state: granted, told, running and ended come in this order, and none comes twice
 abbrev pub RowsGoForward : Type 0
 RowsGoForward = (state : ContainerState) (event : ContainerEvent) (next : ContainerState) (action : ContainerAction)
-    → Row state event next action → place_of state < place_of next
+    → ContainerTransition state event next action → state_rank state < state_rank next
 
 -- a row to where a container runs begins where it is granted or told, and comes by its node's report; a row to where it
 -- ended comes by its end, which has a row wherever the container hasn't ended
 pub record RunsAndEnds : Type 0 where
   pub running : (state : ContainerState) (event : ContainerEvent) (action : ContainerAction)
-      → Row state event Running action → ((state ≡ Granted) ⊎ (state ≡ Acquired)) × (event ≡ Run)
+      → ContainerTransition state event Running action → ((state ≡ Granted) ⊎ (state ≡ Acquired)) × (event ≡ Run)
   pub completed : (state : ContainerState) (event : ContainerEvent) (action : ContainerAction)
-      → Row state event Completed action → event ≡ End
-  pub ends : (state : ContainerState) → ¬ (state ≡ Completed) → Row state End Completed Nothing
+      → ContainerTransition state event Completed action → event ≡ End
+  pub ends : (state : ContainerState) → ¬ (state ≡ Completed) → ContainerTransition state End Completed Nothing

@@ -8,34 +8,34 @@ use Rattle.rm_container.specs.declared.states.ContainerAction.{ContainerAction}
 use Rattle.rm_container.specs.declared.states.ContainerAction.TheVariants.{Nothing}
 
 -- a row of the table: in a state, at an event, the next state and what is then to be done; what has no row is ignored
-pub data Row : ContainerState → ContainerEvent → ContainerState → ContainerAction → Type 0 where
-  tell : Row Granted Tell Acquired Nothing
-  run_granted : Row Granted Run Running Nothing
-  run_acquired : Row Acquired Run Running Nothing
-  end_granted : Row Granted End Completed Nothing
-  end_acquired : Row Acquired End Completed Nothing
-  end_running : Row Running End Completed Nothing
+pub data ContainerTransition : ContainerState → ContainerEvent → ContainerState → ContainerAction → Type 0 where
+  tell : ContainerTransition Granted Tell Acquired Nothing
+  run_granted : ContainerTransition Granted Run Running Nothing
+  run_acquired : ContainerTransition Acquired Run Running Nothing
+  end_granted : ContainerTransition Granted End Completed Nothing
+  end_acquired : ContainerTransition Acquired End Completed Nothing
+  end_running : ContainerTransition Running End Completed Nothing
 
 -- no row leads from the state
-abbrev pub IsFinal : ContainerState → Type 0
-IsFinal state = (event : ContainerEvent) (next : ContainerState) (action : ContainerAction) → ¬ Row state event next action
+abbrev pub IsFinalContainer : ContainerState → Type 0
+IsFinalContainer state = (event : ContainerEvent) (next : ContainerState) (action : ContainerAction) → ¬ ContainerTransition state event next action
 
 -- the transition that the table has for a state and an event, if it has one: the next state, and what is then to be done
-abbrev pub transition : ContainerState → ContainerEvent → Option (ContainerState × ContainerAction)
-transition Granted Tell = Some (Acquired, Nothing)
-transition Granted Run = Some (Running, Nothing)
-transition Acquired Run = Some (Running, Nothing)
-transition Granted End = Some (Completed, Nothing)
-transition Acquired End = Some (Completed, Nothing)
-transition Running End = Some (Completed, Nothing)
-transition _ _ = None
+abbrev pub container_transition : ContainerState → ContainerEvent → Option (ContainerState × ContainerAction)
+container_transition Granted Tell = Some (Acquired, Nothing)
+container_transition Granted Run = Some (Running, Nothing)
+container_transition Acquired Run = Some (Running, Nothing)
+container_transition Granted End = Some (Completed, Nothing)
+container_transition Acquired End = Some (Completed, Nothing)
+container_transition Running End = Some (Completed, Nothing)
+container_transition _ _ = None
 
 -- the state that a transition leads to, and the one before where there is none
-abbrev pub target_of : ContainerState → Option (ContainerState × ContainerAction) → ContainerState
-target_of state None = state
-target_of state (Some row) = row.0
+abbrev pub container_target : ContainerState → Option (ContainerState × ContainerAction) → ContainerState
+container_target state None = state
+container_target state (Some row) = row.0
 
 -- the state after an event: where the transition of the two leads, if the table has one, and else the same, since an event that
 -- has no row is ignored
-abbrev pub next_state : ContainerState → ContainerEvent → ContainerState
-next_state state event = target_of state (transition state event)
+abbrev pub next_container_state : ContainerState → ContainerEvent → ContainerState
+next_container_state state event = container_target state (container_transition state event)

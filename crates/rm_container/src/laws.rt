@@ -1,8 +1,8 @@
-ghost use Rattle.rm_container.specs.Laws.{RowsAreOne, RowsGoForward, RunsAndEnds};
+ghost use Rattle.rm_container.specs.Laws.{ContainerRowsAreOne, RowsGoForward, RunsAndEnds};
 
 /// A state and an event have at most one row.
 pub fn one_row_answers_each_pair()
-    ensures { RowsAreOne }
+    ensures { ContainerRowsAreOne }
 {}
 
 /// A container only goes forward: it is granted, told, running and ended in this order, and never comes back

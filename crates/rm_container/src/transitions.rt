@@ -1,5 +1,5 @@
 ghost use Rattle.std.specs.Prelude.{◌≡◌, ◌↔◌, IsTrue, Some, IfSome};
-ghost use Rattle.rm_container.specs.Table.{Row, IsFinal};
+ghost use Rattle.rm_container.specs.Table.{ContainerTransition, IsFinalContainer};
 
 use crate::states::{ContainerAction, ContainerEvent};
 use rm_types::ContainerState;
@@ -10,8 +10,8 @@ pub fn step(
     state: ContainerState,
     event: ContainerEvent,
 ) -> Option<(ContainerState, ContainerAction)>
-    ensures row { IfSome result (λ answer. Row state event answer.0 answer.1) }
-    ensures answered { (next : ContainerState) (action : ContainerAction) → Row state event next action → result ≡ Some (next, action) }
+    ensures row { IfSome result (λ answer. ContainerTransition state event answer.0 answer.1) }
+    ensures answered { (next : ContainerState) (action : ContainerAction) → ContainerTransition state event next action → result ≡ Some (next, action) }
 {
     let next = match (state, event) {
         (ContainerState::Granted, ContainerEvent::Tell) => ContainerState::Acquired,
@@ -27,7 +27,7 @@ pub fn step(
 
 /// Whether a container in this state has ended: nothing follows any more.
 pub fn is_final(state: ContainerState) -> bool
-    ensures none_follows { IsTrue result ↔ IsFinal state }
+    ensures none_follows { IsTrue result ↔ IsFinalContainer state }
     ensures which { IsTrue result ↔ (state ≡ ContainerState.Completed) }
 {
     matches!(state, ContainerState::Completed)

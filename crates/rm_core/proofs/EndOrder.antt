@@ -9,7 +9,7 @@ use Rattle.std.proofs.lemmas.List.Sorted.{All-permutation}
 use Rattle.std.proofs.lemmas.List.Elements.{All-contains, All-cons, All-nil, All-weaker, Contains-append_right}
 use Rattle.rm_types.specs.declared.ids.AppId.{AppId}
 use Rattle.rm_types.specs.declared.records.AppRecord.{AppRecord}
-use Rattle.rm_types.specs.Alike.{bare, end_number, ends_before}
+use Rattle.rm_types.specs.Alike.{without_end_order, end_number, ends_before}
 use Rattle.rm_types.specs.Ids.{is_app}
 use Rattle.rm_types.specs.Records.{record_of}
 use Rattle.rm_types.proofs.IdLemmas.{app_itself, same_app}
@@ -111,7 +111,7 @@ contains_rest app other rest end has = by (is_some app.ending) refl
     by true e = rw e (Contains-append_right (record { one = app.end_order; other = other.end_order } ∷ []) rest end has)
     by false e = rw e has
 
-module _ (app other : AppRecord) (apps others : List AppRecord) (same : bare app ≡ bare other) where
+module _ (app other : AppRecord) (apps others : List AppRecord) (same : without_end_order app ≡ without_end_order other) where
   same_id : app.id ≡ other.id
   same_id = ap (λ (a : AppRecord). a.id) same
 
@@ -158,16 +158,16 @@ module _ (app other : AppRecord) (apps others : List AppRecord) (same : bare app
       let also : is_app other.id app.id ≡ true = ap (λ (a : AppId). is_app a app.id) (sym same_id) ∙ itself in
       record { id = app.id; is = record { one = rw (itself, e) refl; other = rw (also, sym (ap (λ (x : _). is_some x) same_ending) ∙ e) refl } }
 
-found : (apps others : List AppRecord) → map bare apps ≡ map bare others → (id : AppId) → Found apps others id
+found : (apps others : List AppRecord) → map without_end_order apps ≡ map without_end_order others → (id : AppId) → Found apps others id
 found [] [] same id = unended refl refl
 found [] (other ∷ others) same id = cc
 found (app ∷ apps) [] same id = cc
 found (app ∷ apps) (other ∷ others) same id = by (is_app app.id id) refl (found apps others tails id)
   where
-    heads : bare app ≡ bare other
+    heads : without_end_order app ≡ without_end_order other
     heads = cc
 
-    tails : map bare apps ≡ map bare others
+    tails : map without_end_order apps ≡ map without_end_order others
     tails = cc
 
     by : (t : Bool) → is_app app.id id ≡ t → Found apps others id → Found (app ∷ apps) (other ∷ others) id
@@ -175,22 +175,22 @@ found (app ∷ apps) (other ∷ others) same id = by (is_app app.id id) refl (fo
     by false e rest = found_there app other apps others heads id e rest
 
 -- each pair of numbers is of an end
-each : (apps others : List AppRecord) → AreApart apps → map bare apps ≡ map bare others → All (HasEnd apps others) (paired_ends apps others)
+each : (apps others : List AppRecord) → AreApart apps → map without_end_order apps ≡ map without_end_order others → All (HasEnd apps others) (paired_ends apps others)
 each [] others apart same = All-nil (HasEnd [] others)
 each (app ∷ apps) [] apart same = All-nil (HasEnd (app ∷ apps) [])
 each (app ∷ apps) (other ∷ others) apart same = by (is_some app.ending) refl (All-weaker (HasEnd apps others) (HasEnd (app ∷ apps) (other ∷ others)) (end_there app other apps others heads apart.0) (paired_ends apps others) (each apps others apart.1 tails))
   where
-    heads : bare app ≡ bare other
+    heads : without_end_order app ≡ without_end_order other
     heads = cc
 
-    tails : map bare apps ≡ map bare others
+    tails : map without_end_order apps ≡ map without_end_order others
     tails = cc
 
     by : (t : Bool) → is_some app.ending ≡ t → All (HasEnd (app ∷ apps) (other ∷ others)) (paired_ends apps others) → All (HasEnd (app ∷ apps) (other ∷ others)) (front app other (paired_ends apps others))
     by true e rest = rw e (All-cons (HasEnd (app ∷ apps) (other ∷ others)) (record { one = app.end_order; other = other.end_order }) (paired_ends apps others) (end_here app other apps others heads e) rest)
     by false e rest = rw e rest
 
-module _ (apps others : List AppRecord) (apart : AreApart apps) (same : map bare apps ≡ map bare others) where
+module _ (apps others : List AppRecord) (apart : AreApart apps) (same : map without_end_order apps ≡ map without_end_order others) where
   pub together_of : AreInStep (paired_ends apps others) → EndTogether apps others
   together_of step first next = by (found apps others same first) (found apps others same next)
     where

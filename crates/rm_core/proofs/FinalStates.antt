@@ -3,13 +3,13 @@ use Rattle.std.proofs.Common.{◌≡◌, ◌⊎◌, inl, inr, true, Some, sym, �
 use Rattle.rm_types.specs.declared.ids.AppId.{AppId}
 use Rattle.rm_types.specs.declared.operations.How.{How}
 use Rattle.rm_app.specs.declared.states.AppState.TheVariants.{FinalSaving}
-use Rattle.rm_app.specs.Table.{state_of}
+use Rattle.rm_app.specs.Table.{end_state}
 use Rattle.rm_app.proofs.Rows.{ends_are_kept}
 use Rattle.rm_attempt.specs.declared.states.AttemptState.{AttemptState}
 use Rattle.rm_attempt.specs.declared.states.AttemptState.TheVariants.{Ending, Ended}
 use Rattle.rm_attempt.specs.declared.states.AttemptEvent.{AttemptEvent}
 use Rattle.rm_attempt.specs.declared.states.AttemptAction.{AttemptAction}
-use Rattle.rm_attempt.specs.Table.{Row as AttemptTableRow}
+use Rattle.rm_attempt.specs.Table.{AttemptTransition as AttemptTableRow}
 use Rattle.rm_tables.specs.declared.rows.AppRow.{AppRow}
 use Rattle.rm_tables.specs.declared.rows.Current.{Current}
 use Rattle.rm_tables.specs.declared.tables.Tables.{Tables}
@@ -64,7 +64,7 @@ final_attempts_stay next old new id before now was is_now c same final = by (sam
 pub app_ends_are_kept : AppEndsAreKept
 app_ends_are_kept next old new id before now c final = by (row_follows next old new id before now c).state
   where
-    by : AppFollowsTable before.state now.state → (now.state ≡ before.state) ⊎ ((before.state ≡ FinalSaving) × ((how : How) × (now.state ≡ state_of how)))
+    by : AppFollowsTable before.state now.state → (now.state ≡ before.state) ⊎ ((before.state ≡ FinalSaving) × ((how : How) × (now.state ≡ end_state how)))
     by (inl same) = inl same
     by (inr row) =
         let kept = (ends_are_kept.into before.state row.0 now.state row.1 row.2 final) in

@@ -24,7 +24,7 @@ use Rattle.rm_types.specs.Alike.{IsAlike}
 use Rattle.rm_core.specs.Stores.{IsOfStore}
 use Rattle.rm_core.specs.Queues.{landed_in, own_tree, tables_after, tables_moved, tree_landed, unopened}
 use Rattle.rm_invariant.specs.messages.Ranges.{KeepsLimits}
-use Rattle.rm_invariant.specs.Phases.{NoLife, Phase, none, running, saving, shut, starting}
+use Rattle.rm_invariant.specs.Phases.{NoLife, LifePhase, none, running, saving, shut, starting}
 use Rattle.rm_invariant.proofs.opening.Whole.{begin_starts, stands}
 use Rattle.rm_core.specs.Invariant.{HasPhase, LogInvariant}
 use Rattle.rm_core.proofs.Alike.{like_on, like_same, shows_like}
@@ -45,7 +45,7 @@ new_keeps opening alloc settings =
     record { allowed = tt; history = initial_history opening; same = refl; recorded = λ some. absurd (some refl); phase = none (none_yet (initial_history opening) alloc settings); fresh = λ none. refl; told_by = λ some. absurd (some refl) }
 
 -- between lives
-pub none_stands : (h : History) (t : Tables) → Phase h t → t.alive ≡ false → NoLife h t
+pub none_stands : (h : History) (t : Tables) → LifePhase h t → t.alive ≡ false → NoLife h t
 none_stands h t (none n) dead = n
 none_stands h t (starting b) dead = absurd (let x = sym (stands h t b.begins) ∙ dead in cc)
 none_stands h t (saving b) dead = absurd (let x = sym (stands h t b.begins) ∙ dead in cc)
@@ -174,7 +174,7 @@ module _ (opening : List Op) (log : List Entry) (t : Tables) (k : LogInvariant o
 
 -- a life begins under a stamp that is above the recorded one
 module _ (t : Tables) (tree own : Records) (stamp : ℕ) (limits : KeepsLimits t.settings) (over : CanBeginOver own) (low : own.stamp < stamp) (high : stamp < 2 ^ 63) where
-  begin_phase : (kept : List Op) → records kept ≡ own → Phase (initial_history kept) (begun own stamp t)
+  begin_phase : (kept : List Op) → records kept ≡ own → LifePhase (initial_history kept) (begun own stamp t)
   begin_phase kept is = starting (begin_starts t own stamp kept is (stored own over) (stored_ranges own over) limits over.epoch low high)
 
   pub begin_sound : HasPhase (begun own stamp t)

@@ -28,9 +28,9 @@ use Rattle.rm_tables.specs.declared.events.Refused.{Refused}
 use Rattle.rm_tables.specs.declared.tables.Tables.{Tables}
 use Rattle.rm_tables.specs.Actions.{found_in, main_worked, sched_worked}
 use Rattle.rm_tables.specs.KeptOps.{kept}
-use Rattle.rm_tables.specs.Lives.{begun, gone_down, handed_out, is_ready, may_go_down, refused as refused_by}
+use Rattle.rm_tables.specs.Lives.{begun, tables_gone_down, handed_out, is_ready_lane, may_go_down, refused as refused_by}
 use Rattle.rm_tables.specs.MainEvents.{main_step}
-use Rattle.rm_tables.specs.SchedEvents.{EndsBy, sched_step}
+use Rattle.rm_tables.specs.SchedEvents.{EndsByEvent, sched_step}
 use Rattle.rm_refinement.specs.History.{History}
 use Rattle.rm_invariant.specs.messages.Ranges.{IsMessage, KeepsLimits}
 use Rattle.rm_invariant.proofs.measure.Lives.{begin_weighs, blow_lighter, down_weighs}
@@ -47,7 +47,7 @@ use Rattle.rm_core.specs.declared.manager.Move.{Move}
 use Rattle.rm_core.specs.declared.manager.Move.TheVariants.{Begin, Blown, Down, Hand, Kept, Main, Sched, Serve, Settle}
 use Rattle.rm_core.specs.Moves.{CanBeginOver, MoveEffect, LifeAround, StatesFollowTables}
 use Rattle.rm_core.specs.Invariant.{HasPhase, IsSoundCore, LogInvariant}
-use Rattle.rm_core.specs.Queues.{answered, answered_where, landed_in, own_tree, served_moved}
+use Rattle.rm_core.specs.Queues.{after_answer, answered_where, landed_in, own_tree, served_moved}
 use Rattle.rm_core.specs.Seen.{IsToBeKept, Seen, handed_op}
 use Rattle.rm_core.specs.Serving.{IsReply, IsReplyWhere, IsServed}
 use Rattle.rm_core.specs.Words.{new_manager}
@@ -114,7 +114,7 @@ module _ (t : Tables) (log : List Entry) (s : HasPhase t) where
       }
 
   -- where its lane is ready, the epoch and the attempts of each application leave room for one more
-  pub main_room : is_ready t MainLane ≡ true → (t.epoch + 1 < 2 ^ 32) × ((id : AppId) → length (attempts_in (found_in t id)) + 1 < 2 ^ 32)
+  pub main_room : is_ready_lane t MainLane ≡ true → (t.epoch + 1 < 2 ^ 32) × ((id : AppId) → length (attempts_in (found_in t id)) + 1 < 2 ^ 32)
   main_room ready = by t.main refl
     where
       by : (main : List MainEvent) → t.main ≡ main → (t.epoch + 1 < 2 ^ 32) × ((id : AppId) → length (attempts_in (found_in t id)) + 1 < 2 ^ 32)
@@ -132,7 +132,7 @@ module _ (t : Tables) (log : List Entry) (s : HasPhase t) where
       by (event ∷ rest) front = let is = ok event rest front in rw (is.0, is.1) (main_made event rest front x)
 
   -- the first event of the scheduler's queue
-  sched_made : IsBook t.book → (event : SchedEvent) (list : List ContainerId) (rest : List SchedEvent) → t.sched ≡ event ∷ rest → EndsBy event t list → (x : Unit {0}) → Done Sched t (sched_worked (sched_step event list t)).1 log (log ++ (sched_worked (sched_step event list t)).0 ∷ []) (Ok x)
+  sched_made : IsBook t.book → (event : SchedEvent) (list : List ContainerId) (rest : List SchedEvent) → t.sched ≡ event ∷ rest → EndsByEvent event t list → (x : Unit {0}) → Done Sched t (sched_worked (sched_step event list t)).1 log (log ++ (sched_worked (sched_step event list t)).0 ∷ []) (Ok x)
   sched_made lawful event list rest front ends x =
       let own = sched_leads s.history t event list rest s.phase front ends in
       let told = sched_told t rest event front list in
@@ -156,7 +156,7 @@ module _ (t : Tables) (log : List Entry) (s : HasPhase t) where
       }
 
   pub sched_done : IsBook t.book → (next : Tables) (longer : List Entry) (r : Result (Unit {0}) Refused)
-      → OnOk r ((event : SchedEvent) (rest : List SchedEvent) → t.sched ≡ event ∷ rest → (list : List ContainerId) × EndsBy event t list × (next ≡ (sched_worked (sched_step event list t)).1) × (longer ≡ log ++ (sched_worked (sched_step event list t)).0 ∷ []))
+      → OnOk r ((event : SchedEvent) (rest : List SchedEvent) → t.sched ≡ event ∷ rest → (list : List ContainerId) × EndsByEvent event t list × (next ≡ (sched_worked (sched_step event list t)).1) × (longer ≡ log ++ (sched_worked (sched_step event list t)).0 ∷ []))
       → OnOk r (t.sched ≢ []) → OnErr r ((next ≡ t) × (longer ≡ log)) → Done Sched t next log longer r
   sched_done lawful next longer (Err e) ok some err = refused Sched t next log longer e s err.0
   sched_done lawful next longer (Ok x) ok some err = by t.sched refl
@@ -166,7 +166,7 @@ module _ (t : Tables) (log : List Entry) (s : HasPhase t) where
       by (event ∷ rest) front = let is = ok event rest front in rw (is.2, is.3) (sched_made lawful event is.0 rest front is.1 x)
 
   -- the first awaiting operation is handed
-  pub hand_done : (next : Tables) (longer : List Entry) (r : Result (Unit {0}) Refused) → OnOk r ((next ≡ handed_out t) × (longer ≡ log ++ Handed ∷ [])) → OnOk r (is_ready t HandLane ≡ true)
+  pub hand_done : (next : Tables) (longer : List Entry) (r : Result (Unit {0}) Refused) → OnOk r ((next ≡ handed_out t) × (longer ≡ log ++ Handed ∷ [])) → OnOk r (is_ready_lane t HandLane ≡ true)
       → OnErr r ((next ≡ t) × (longer ≡ log)) → Done Hand t next log longer r
   hand_done next longer (Err e) ok ready err = refused Hand t next log longer e s err.0
   hand_done next longer (Ok x) ok ready err =
@@ -221,7 +221,7 @@ module _ (t : Tables) (log : List Entry) (s : HasPhase t) where
       }
 
   pub keep_done : (next : Tables) (longer : List Entry) (r : Result (Unit {0}) Refused)
-      → OnOk r ((op : Op) (rest : List Op) → t.awaiting ≡ op ∷ rest → (next ≡ kept op t) × (longer ≡ log ++ KeptEntry op ∷ [])) → OnOk r (is_ready t Write ≡ true)
+      → OnOk r ((op : Op) (rest : List Op) → t.awaiting ≡ op ∷ rest → (next ≡ kept op t) × (longer ≡ log ++ KeptEntry op ∷ [])) → OnOk r (is_ready_lane t Write ≡ true)
       → OnErr r ((next ≡ t) × (longer ≡ log)) → Done Kept t next log longer r
   keep_done next longer (Err e) ok ready err = refused Kept t next log longer e s err.0
   keep_done next longer (Ok x) ok ready err = by t.awaiting refl
@@ -231,7 +231,7 @@ module _ (t : Tables) (log : List Entry) (s : HasPhase t) where
       by (op ∷ rest) front = let lives = and_parts t.alive t.handed ready in let is = ok op rest front in rw (is.0, is.1) (keep_made op rest front lives.0 lives.1 x)
 
   -- or refused
-  pub blow_done : (passed : ℕ) (next : Tables) (longer : List Entry) (r : Result (Unit {0}) Refused) → OnOk r ((next ≡ refused_by t) × (longer ≡ log ++ BlownEntry passed ∷ [])) → OnOk r (is_ready t Write ≡ true)
+  pub blow_done : (passed : ℕ) (next : Tables) (longer : List Entry) (r : Result (Unit {0}) Refused) → OnOk r ((next ≡ refused_by t) × (longer ≡ log ++ BlownEntry passed ∷ [])) → OnOk r (is_ready_lane t Write ≡ true)
       → OnErr r ((next ≡ t) × (longer ≡ log)) → Done (Blown passed) t next log longer r
   blow_done passed next longer (Err e) ok ready err = refused (Blown passed) t next log longer e s err.0
   blow_done passed next longer (Ok x) ok ready err =
@@ -256,14 +256,14 @@ module _ (t : Tables) (log : List Entry) (s : HasPhase t) where
       })
 
   -- what awaits while an operation is with the store, and that it fits
-  pub write_awaits : is_ready t Write ≡ true → t.awaiting ≢ []
+  pub write_awaits : is_ready_lane t Write ≡ true → t.awaiting ≢ []
   write_awaits ready = let lives = and_parts t.alive t.handed ready in handed_awaits s.history t s.phase lives.0 lives.1
 
-  pub write_fits : is_ready t Write ≡ true → (op : Op) (rest : List Op) → t.awaiting ≡ op ∷ rest → fits_records t.tree op ≡ true
+  pub write_fits : is_ready_lane t Write ≡ true → (op : Op) (rest : List Op) → t.awaiting ≡ op ∷ rest → fits_records t.tree op ≡ true
   write_fits ready op rest front = let lives = and_parts t.alive t.handed ready in fits_in s.history t op rest s.phase lives.0 lives.1 front
 
   -- the segment settles
-  pub settle_done : (longer : List Entry) (r : Result (Unit {0}) Refused) → OnOk r (longer ≡ log ++ Settled ∷ []) → OnOk r (is_ready t End ≡ true) → OnErr r (longer ≡ log) → Done Settle t t log longer r
+  pub settle_done : (longer : List Entry) (r : Result (Unit {0}) Refused) → OnOk r (longer ≡ log ++ Settled ∷ []) → OnOk r (is_ready_lane t End ≡ true) → OnErr r (longer ≡ log) → Done Settle t t log longer r
   settle_done longer (Err e) ok ready err = refused Settle t t log longer e s refl
   settle_done longer (Ok x) ok ready err =
       let first = and_parts t.alive (is_nil t.main && (is_nil t.sched && is_nil t.awaiting)) ready in
@@ -291,7 +291,7 @@ module _ (t : Tables) (log : List Entry) (s : HasPhase t) where
       })
 
   -- the life goes down
-  pub down_done : (next : Tables) (longer : List Entry) (r : Result (Unit {0}) Refused) → OnOk r ((next ≡ gone_down t) × (longer ≡ log ++ DownEntry ∷ [])) → OnOk r (may_go_down t ≡ true)
+  pub down_done : (next : Tables) (longer : List Entry) (r : Result (Unit {0}) Refused) → OnOk r ((next ≡ tables_gone_down t) × (longer ≡ log ++ DownEntry ∷ [])) → OnOk r (may_go_down t ≡ true)
       → OnErr r ((next ≡ t) × (longer ≡ log)) → Done Down t next log longer r
   down_done next longer (Err e) ok ready err = refused Down t next log longer e s err.0
   down_done next longer (Ok x) ok ready err =
@@ -299,11 +299,11 @@ module _ (t : Tables) (log : List Entry) (s : HasPhase t) where
       let free = not-true t.handed lives.1 in
       let leads = down_leads s.history t s.phase lives.0 free in
       rw (ok.0, ok.1) (record {
-        sound = sound_after t s DownEntry (gone_down t) leads lives.0 (λ h x. refl) s.framed;
+        sound = sound_after t s DownEntry (tables_gone_down t) leads lives.0 (λ h x. refl) s.framed;
         settings = refl;
         does = record {
           added = record { entry = DownEntry; of_move = refl; added = refl };
-          lawful = λ opening k from. keeps_more opening log t (gone_down t) DownEntry k lives.0 (record { leads = down_leads k.history t k.phase lives.0 free; own = refl });
+          lawful = λ opening k from. keeps_more opening log t (tables_gone_down t) DownEntry k lives.0 (record { leads = down_leads k.history t k.phase lives.0 free; own = refl });
           ready = ready;
           weighs = down_weighs t free;
           stands = (lives.0, refl);
@@ -346,14 +346,14 @@ module _ (t : Tables) (log : List Entry) (s : HasPhase t) where
       })
 
   -- the lanes of all senders are ready alike
-  feed_ready : (message : Message) → is_ready t (feed_lane (sender_of message)) ≡ is_ready t Client
+  feed_ready : (message : Message) → is_ready_lane t (feed_lane (sender_of message)) ≡ is_ready_lane t Client
   feed_ready (messages.Client user ask) = refl
   feed_ready (messages.Master attempt ask) = refl
   feed_ready (messages.Node name ask) = refl
   feed_ready (messages.Clock ask) = refl
 
   -- a life that is open
-  pub serving_runs : is_ready t Client ≡ true → t.is_open ≡ true → LifeInvariant s.history t
+  pub serving_runs : is_ready_lane t Client ≡ true → t.is_open ≡ true → LifeInvariant s.history t
   serving_runs ready open_ = serving_open s.history t s.phase (and_parts t.alive (t.is_open || t.blown) ready).0 open_
 
   -- what a message of an open life does to the rows
@@ -362,14 +362,14 @@ module _ (t : Tables) (log : List Entry) (s : HasPhase t) where
       subst (λ (b : Bool). RowsFollowTables t.rows (answered_where b message reply t).rows × NodesFollowTable t.nodes (answered_where b message reply t).nodes × BookFollowsTable t.book (answered_where b message reply t).book) (sym open_)
       (by message (subst (λ (b : Bool). IsReplyWhere b t message reply) open_ answers))
     where
-      by : (message : Message) → IsReplyWhere true t message reply → RowsFollowTables t.rows (answered message reply t).rows × NodesFollowTable t.nodes (answered message reply t).nodes × BookFollowsTable t.book (answered message reply t).book
+      by : (message : Message) → IsReplyWhere true t message reply → RowsFollowTables t.rows (after_answer message reply t).rows × NodesFollowTable t.nodes (after_answer message reply t).nodes × BookFollowsTable t.book (after_answer message reply t).book
       by (messages.Client user ask) answers = (client_goes t ask reply, client_nodes t ask reply, client_containers t lawful ask reply)
       by (messages.Master attempt ask) answers = (master_goes t attempt ask reply, master_nodes t attempt ask reply, served_containers s.history t r lawful attempt ask reply answers)
       by (messages.Node name ask) answers = (node_goes t name ask reply, node_nodes t name ask reply, node_containers t lawful name ask reply)
       by (messages.Clock ask) answers = (clock_goes t ask reply, clock_nodes t ask reply, clock_containers t lawful ask reply)
 
   -- a message of an open life is answered
-  open_made : IsBook t.book → (message : Message) → IsMessage message → t.served < most_served → is_ready t Client ≡ true → t.is_open ≡ true → (reply : Reply) → IsReply t message reply → (x : Unit {0})
+  open_made : IsBook t.book → (message : Message) → IsMessage message → t.served < most_served → is_ready_lane t Client ≡ true → t.is_open ≡ true → (reply : Reply) → IsReply t message reply → (x : Unit {0})
       → Done (Serve message) t (served_moved message reply t) log (log ++ Served (sender_of message) message reply ∷ []) (Ok x)
   open_made lawful message in_range few ready open_ reply answers x =
       let lives = and_parts t.alive (t.is_open || t.blown) ready in
@@ -398,7 +398,7 @@ module _ (t : Tables) (log : List Entry) (s : HasPhase t) where
       }
 
   -- one of a life that blew before it was open
-  shut_made : (message : Message) → is_ready t Client ≡ true → t.is_open ≡ false → (x : Unit {0})
+  shut_made : (message : Message) → is_ready_lane t Client ≡ true → t.is_open ≡ false → (x : Unit {0})
       → Done (Serve message) t (record t { served = t.served + 1 }) log (log ++ Served (sender_of message) message NotOpen ∷ []) (Ok x)
   shut_made message ready closed x =
       let lives = and_parts t.alive (t.is_open || t.blown) ready in
@@ -425,7 +425,7 @@ module _ (t : Tables) (log : List Entry) (s : HasPhase t) where
       }
 
   -- a message is answered
-  serve_made : IsBook t.book → (message : Message) → IsMessage message → t.served < most_served → is_ready t Client ≡ true → (b : Bool) → t.is_open ≡ b → (reply : Reply) → IsReply t message reply → (x : Unit {0})
+  serve_made : IsBook t.book → (message : Message) → IsMessage message → t.served < most_served → is_ready_lane t Client ≡ true → (b : Bool) → t.is_open ≡ b → (reply : Reply) → IsReply t message reply → (x : Unit {0})
       → Done (Serve message) t (served_moved message reply t) log (log ++ Served (sender_of message) message reply ∷ []) (Ok x)
   serve_made lawful message in_range few ready true open_ reply answers x = open_made lawful message in_range few ready open_ reply answers x
   serve_made lawful message in_range few ready false closed reply answers x =
@@ -435,12 +435,12 @@ module _ (t : Tables) (log : List Entry) (s : HasPhase t) where
       (subst (λ (r : Reply). Done (Serve message) t (record t { served = t.served + 1 }) log (log ++ Served (sender_of message) message r ∷ []) (Ok x)) (sym is) (shut_made message ready closed x))
 
   pub serve_done : IsBook t.book → (message : Message) → IsMessage message → t.served < most_served → (next : Tables) (longer : List Entry) (r : Result (Unit {0}) Refused)
-      → OnOk r (IsServed t next log longer message) → OnOk r (is_ready t Client ≡ true) → OnErr r ((next ≡ t) × (longer ≡ log)) → Done (Serve message) t next log longer r
+      → OnOk r (IsServed t next log longer message) → OnOk r (is_ready_lane t Client ≡ true) → OnErr r ((next ≡ t) × (longer ≡ log)) → Done (Serve message) t next log longer r
   serve_done lawful message in_range few next longer (Err e) ok ready err = refused (Serve message) t next log longer e s err.0
   serve_done lawful message in_range few next longer (Ok x) ok ready err = rw (ok.2, ok.3) (serve_made lawful message in_range few ready t.is_open refl ok.0 ok.1 x)
 
   -- a message is refused where its lane isn't ready
-  pub serve_unready : (message : Message) → is_ready t Client ≡ false → is_ready t (feed_lane (sender_of message)) ≡ false
+  pub serve_unready : (message : Message) → is_ready_lane t Client ≡ false → is_ready_lane t (feed_lane (sender_of message)) ≡ false
   serve_unready message unready = feed_ready message ∙ unready
 
 -- what is with the store is the first awaiting operation of a life that stands
@@ -467,11 +467,11 @@ handed_next t op h opening log k =
     }
 
 -- no store's lane is ready where nothing is with the store
-pub none_handed : (t : Tables) → HasPhase t → (a h : Bool) → t.alive ≡ a → t.handed ≡ h → handed_op t ≡ None → is_ready t Write ≡ false
+pub none_handed : (t : Tables) → HasPhase t → (a h : Bool) → t.alive ≡ a → t.handed ≡ h → handed_op t ≡ None → is_ready_lane t Write ≡ false
 none_handed t s true false a h n = rw (a, h) refl
 none_handed t s false h a e n = rw a refl
 none_handed t s true true a h n = by t.awaiting refl
   where
-    by : (ops : List Op) → t.awaiting ≡ ops → is_ready t Write ≡ false
+    by : (ops : List Op) → t.awaiting ≡ ops → is_ready_lane t Write ≡ false
     by [] w = absurd (handed_awaits s.history t s.phase a h w)
     by (op ∷ rest) w = absurd (let x = rw (a, h, w) at n in cc)

@@ -9,7 +9,7 @@ use Rattle.rm_types.specs.declared.messages.Lane.TheVariants.{Main as MainLane, 
 use Rattle.rm_types.specs.Lanes.{lane_of_entry}
 use Rattle.rm_attempt.specs.declared.states.AttemptState.{AttemptState}
 use Rattle.rm_attempt.specs.declared.states.AttemptState.TheVariants as attempts
-use Rattle.rm_book.specs.Books.{row_of as book_row_of}
+use Rattle.rm_book.specs.Books.{book_row as book_row_of}
 use Rattle.rm_model.specs.Containers.{once}
 use Rattle.rm_tables.specs.declared.events.MainEvent.{MainEvent}
 use Rattle.rm_tables.specs.declared.events.MainEvent.TheVariants as mains
@@ -23,7 +23,7 @@ use Rattle.rm_tables.specs.Absorbing.{absorbed_by, absorbed_if}
 use Rattle.rm_tables.specs.Actions.{main_worked, sched_popped, sched_quiet, sched_worked}
 use Rattle.rm_tables.specs.Leaving.{ended_by}
 use Rattle.rm_tables.specs.MainEvents.{main_step}
-use Rattle.rm_tables.specs.Nodes.{is_waiting, node_of}
+use Rattle.rm_tables.specs.Nodes.{is_waiting_row, node_row}
 use Rattle.rm_tables.specs.Passing.{updated_by}
 use Rattle.rm_tables.specs.Rows.{row_of}
 use Rattle.rm_tables.specs.SchedEvents.{is_on, is_released, queued_at, queued_by, queued_with, sched_step}
@@ -123,7 +123,7 @@ module _ (t : Tables) (rest : List SchedEvent) where
 
   -- a report is absorbed
   module _ (name : List ℕ) (turn : ℕ) (front : t.sched ≡ scheds.NodeAdded name turn ∷ rest) (list : List ContainerId) where
-    absorbed_test : (row : NodeRow) → node_of t.nodes name ≡ Some row → (b : Bool) → (is_waiting row.state && (row.turn == turn)) ≡ b → SchedTold t (absorbed_if b name row list t)
+    absorbed_test : (row : NodeRow) → node_row t.nodes name ≡ Some row → (b : Bool) → (is_waiting_row row.state && (row.turn == turn)) ≡ b → SchedTold t (absorbed_if b name row list t)
     absorbed_test row found true test =
         record {
           own =
@@ -134,12 +134,12 @@ module _ (t : Tables) (rest : List SchedEvent) where
     absorbed_test row found false test =
         idle (scheds.NodeAdded name turn) front (ap (λ (o : Option NodeRow). absorbed_by o name turn [] t) found ∙ ap (λ (b : Bool). absorbed_if b name row [] t) test)
 
-    absorbed_told : (o : Option NodeRow) → node_of t.nodes name ≡ o → SchedTold t (absorbed_by o name turn list t)
+    absorbed_told : (o : Option NodeRow) → node_row t.nodes name ≡ o → SchedTold t (absorbed_by o name turn list t)
     absorbed_told None found = idle (scheds.NodeAdded name turn) front (ap (λ (o : Option NodeRow). absorbed_by o name turn [] t) found)
-    absorbed_told (Some row) found = absorbed_test row found (is_waiting row.state && (row.turn == turn)) refl
+    absorbed_told (Some row) found = absorbed_test row found (is_waiting_row row.state && (row.turn == turn)) refl
 
   -- a pass
-  updated_told : (name : List ℕ) → t.sched ≡ scheds.NodeUpdate name ∷ rest → (o : Option NodeRow) → node_of t.nodes name ≡ o → SchedTold t (updated_by o name t)
+  updated_told : (name : List ℕ) → t.sched ≡ scheds.NodeUpdate name ∷ rest → (o : Option NodeRow) → node_row t.nodes name ≡ o → SchedTold t (updated_by o name t)
   updated_told name front None found = idle (scheds.NodeUpdate name) front (ap (λ (o : Option NodeRow). updated_by o name t) found)
   updated_told name front (Some row) found = record { own = reads (scheds.NodeUpdate name) front [] (updated_by (Some row) name t) (ap (λ (o : Option NodeRow). updated_by o name t) found) refl; lane = refl }
 
@@ -149,7 +149,7 @@ module _ (t : Tables) (rest : List SchedEvent) where
   sched_told (scheds.AttemptAdded id) front list = queued_told id front (row_of t.rows id.app) refl
   sched_told (scheds.AttemptRemoved id) front list = ending (scheds.AttemptRemoved id) front causes.Attempt list refl
   sched_told (scheds.Release attempt released) front list = ending (scheds.Release attempt released) front causes.Released (once (filter (is_released attempt t) released)) refl
-  sched_told (scheds.NodeAdded node turn) front list = absorbed_told node turn front list (node_of t.nodes node) refl
+  sched_told (scheds.NodeAdded node turn) front list = absorbed_told node turn front list (node_row t.nodes node) refl
   sched_told (scheds.NodeDone node done) front list = ending (scheds.NodeDone node done) front causes.Done (once (filter (λ id. is_on node (book_row_of t.book id)) done)) refl
-  sched_told (scheds.NodeUpdate node) front list = updated_told node front (node_of t.nodes node) refl
+  sched_told (scheds.NodeUpdate node) front list = updated_told node front (node_row t.nodes node) refl
   sched_told (scheds.NodeLost node) front list = ending (scheds.NodeLost node) front causes.Node list refl

@@ -12,7 +12,7 @@ use Rattle.rm_types.proofs.TestLemmas.{is_some-find}
 use Rattle.rm_types.proofs.IdLemmas.{same_app}
 use Rattle.rm_core.specs.Moves.{CanBeginOver}
 use Rattle.rm_invariant.proofs.apps.Counts.{fails_never}
-use Rattle.rm_invariant.specs.apps.Completed.{order_in, order_of}
+use Rattle.rm_invariant.specs.apps.Completed.{order_in, completion_order}
 use Rattle.rm_invariant.specs.apps.View.{changed_if, gone_if}
 use Rattle.rm_invariant.proofs.apps.Completing.{order_new}
 use Rattle.rm_invariant.proofs.apps.Found.{found_gone}
@@ -122,10 +122,10 @@ each_once tree over =
 
 -- no end was kept after what is recorded
 abbrev AllEarly : Records → Type 0
-AllEarly r = (q : AppId) → order_of r.apps q ≤ r.applied
+AllEarly r = (q : AppId) → completion_order r.apps q ≤ r.applied
 
 -- a change that keeps when an application ended
-order_stays : (change : AppRecord → AppRecord) → KeepsIds change → ((app : AppRecord) → (change app).end_order ≡ app.end_order) → (id q : AppId) (apps : List AppRecord) → order_of (with_record change id apps) q ≡ order_of apps q
+order_stays : (change : AppRecord → AppRecord) → KeepsIds change → ((app : AppRecord) → (change app).end_order ≡ app.end_order) → (id q : AppId) (apps : List AppRecord) → completion_order (with_record change id apps) q ≡ completion_order apps q
 order_stays change keeps ends id q apps = ap order_in (record_changed change keeps id q apps) ∙ by (is_app id q) (record_of apps q)
   where
     by : (b : Bool) (o : Option AppRecord) → order_in (changed_if b change o) ≡ order_in o

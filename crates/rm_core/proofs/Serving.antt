@@ -15,7 +15,7 @@ use Rattle.rm_invariant.proofs.measure.Messages.{client_weighs, clock_weighs, ma
 use Rattle.rm_invariant.specs.Preserves.{PreservesLife}
 use Rattle.rm_invariant.specs.Invariant.{LifeInvariant}
 use Rattle.rm_invariant.proofs.MessagesPreserve.{client_runs, client_shown, clock_runs, life_shown, master_runs, node_runs}
-use Rattle.rm_core.specs.Queues.{answered, answered_where, served_moved}
+use Rattle.rm_core.specs.Queues.{after_answer, answered_where, served_moved}
 use Rattle.rm_core.specs.Serving.{IsOpenReply, IsReply, IsReplyWhere}
 
 -- the tables show clients the scene of an open life
@@ -24,7 +24,7 @@ shows h t r = let c = client_shown h t r in record { records = c.records; stamp 
 
 -- the life goes on
 open_goes : (h : History) (t : Tables) → LifeInvariant h t → t.served < most_served → (message : Message) (reply : Reply) → IsMessage message → IsOpenReply t message reply
-    → PreservesLife h t (Served (sender_of message) message reply) (record (answered message reply t) { served = t.served + 1 })
+    → PreservesLife h t (Served (sender_of message) message reply) (record (after_answer message reply t) { served = t.served + 1 })
 open_goes h t r few (messages.Client user ask) reply in_range answers = client_runs h t r few user ask reply in_range (answers (abstract_scene h t) (shows h t r))
 open_goes h t r few (messages.Master attempt ask) reply in_range answers = master_runs h t r few attempt ask reply in_range (answers (abstract_scene h t) (life_shown h t r))
 open_goes h t r few (messages.Node name ask) reply in_range answers = node_runs h t r few name ask reply in_range.0 in_range.1 (answers (abstract_scene h t) (life_shown h t r))
@@ -37,7 +37,7 @@ serve_goes h t r few message reply in_range answers =
     subst (λ (b : Bool). PreservesLife h t (Served (sender_of message) message reply) (record (answered_where b message reply t) { served = t.served + 1 })) (sym open_) (open_goes h t r few message reply in_range open_answers)
 
 -- with little more to do
-open_weighs : (h : History) (t : Tables) → LifeInvariant h t → (message : Message) (reply : Reply) → IsMessage message → measure (record (answered message reply t) { served = t.served + 1 }) ≤ measure t + message_measure
+open_weighs : (h : History) (t : Tables) → LifeInvariant h t → (message : Message) (reply : Reply) → IsMessage message → measure (record (after_answer message reply t) { served = t.served + 1 }) ≤ measure t + message_measure
 open_weighs h t r (messages.Client user ask) reply in_range = client_weighs t r.limits ask reply (t.served + 1)
 open_weighs h t r (messages.Master attempt ask) reply in_range = master_weighs t r.limits attempt ask reply (t.served + 1)
 open_weighs h t r (messages.Node name ask) reply in_range = node_weighs t r.limits name ask reply (t.served + 1)

@@ -6,7 +6,7 @@ use Rattle.rm_model.specs.State.{Manager}
 use Rattle.rm_model.specs.Lawful.{IsAtRest, state_after}
 use Rattle.rm_tables.specs.declared.tables.Tables.{Tables}
 use Rattle.rm_refinement.specs.History.{History, live_state}
-use Rattle.rm_invariant.specs.Phases.{Phase, none, running, saving, shut, starting}
+use Rattle.rm_invariant.specs.Phases.{LifePhase, none, running, saving, shut, starting}
 use Rattle.rm_invariant.specs.Invariant.{LifeInvariant}
 use Rattle.rm_invariant.proofs.opening.Whole.{stands, told_standing}
 use Rattle.rm_invariant.proofs.Settling.{open_at_rest, owes_none}
@@ -38,7 +38,7 @@ module _ (t : Tables) (log : List Entry) where
   rests_where s m n w false a = record { is_open = λ h. cc; none_handed = λ h. cc; at_rest = λ opening k. between_rests opening k a }
 
   -- between lives the queues are empty
-  none_queued : (h : History) → Phase h t → t.alive ≡ false → (t.main ≡ []) × (t.sched ≡ [])
+  none_queued : (h : History) → LifePhase h t → t.alive ≡ false → (t.main ≡ []) × (t.sched ≡ [])
   none_queued h (none n) dead = (n.main, n.sched)
   none_queued h (starting b) dead = absurd (let x = sym (stands h t b.begins) ∙ dead in cc)
   none_queued h (saving b) dead = absurd (let x = sym (stands h t b.begins) ∙ dead in cc)

@@ -18,7 +18,7 @@ use Rattle.rm_model.specs.Place.{IsNext, Place, is_from, moved, without_first}
 use Rattle.rm_model.specs.Rules.{AllowedWhere}
 use Rattle.rm_model.specs.State.{LifeState, Manager, opening_state, scene}
 use Rattle.rm_model.proofs.Served.{of_issued, of_served}
-use Rattle.rm_core.specs.Spelled.{first_in, lives_in, more_in, spelled}
+use Rattle.rm_core.specs.Spelled.{first_segment, spelled_lives, more_in, spelled}
 
 -- after how many calls the life is blown, where it is; a life that begins isn't
 abbrev blown_after : Option ℕ → Entry → Option ℕ
@@ -33,9 +33,9 @@ closed_at (Some passed) close = Crash passed 0
 
 -- the place where this is left of the log, by the life that stands, if one does, and by after how many calls it is blown
 abbrev place_at : Option LifeState → Option ℕ → List Entry → Place
-place_at None blown log = record { lives = lives_in log; segments = [] }
+place_at None blown log = record { lives = spelled_lives log; segments = [] }
 place_at (Some life) blown log =
-    record { lives = lives_in log; segments = record (first_in log) { close = closed_at blown (first_in log).close } ∷ more_in log }
+    record { lives = spelled_lives log; segments = record (first_segment log) { close = closed_at blown (first_segment log).close } ∷ more_in log }
 
 -- what holds of a life, by what awaits, whether an operation is with the store, and whether the life is blown: what is with the store
 -- awaits; and in a blown life something awaits while nothing is with the store, so that no more is kept and no segment settles
@@ -91,7 +91,7 @@ module _ (settings : Settings) where
   step (Opened landed epoch stamp) log s None blown h may rest =
       let rises = may.rises in
       let stamped : stamp ≡ max stamp ((records (kept_after_landing s landed)).stamp + 1) = omega (arith, rises) in
-      (record { life = record { stamp = stamp; segments = first_in log ∷ more_in log }; more = lives_in log; next = refl; at_end = refl; stamped = stamped }, rest)
+      (record { life = record { stamp = stamp; segments = first_segment log ∷ more_in log }; more = spelled_lives log; next = refl; at_end = refl; stamped = stamped }, rest)
   step _ log s None blown h may rest = absurd may
   step (Opened landed epoch stamp) log s (Some life) blown h may rest = absurd may
   step (Served sender message reply) log s (Some life) blown h may rest =

@@ -13,7 +13,7 @@ use Rattle.rm_model.specs.Changes.{after}
 use Rattle.rm_model.specs.State.{Manager}
 use Rattle.rm_tables.specs.declared.tables.Tables.{Tables}
 use Rattle.rm_refinement.specs.History.{History, live_state}
-use Rattle.rm_invariant.specs.Phases.{Simulates, Phase}
+use Rattle.rm_invariant.specs.Phases.{Simulates, LifePhase}
 use Rattle.rm_invariant.proofs.opening.Whole.{told_standing}
 use Rattle.rm_invariant.proofs.Phases.{recorded_of}
 use Rattle.rm_core.specs.Stores.{IsOfStore}
@@ -80,13 +80,13 @@ sched_none entries.Down l = cc
 sched_none (entries.Quiet lane) l = λ h t. refl
 
 -- and one that keeps an operation
-pub tree_with : (h : History) (t : Tables) (op : Op) (next : Tables) (phase : Phase h t) (l : Simulates h t (entries.Kept op) next) → t.alive ≡ true → next.tree ≡ recorded t.tree op
+pub tree_with : (h : History) (t : Tables) (op : Op) (next : Tables) (phase : LifePhase h t) (l : Simulates h t (entries.Kept op) next) → t.alive ≡ true → next.tree ≡ recorded t.tree op
 tree_with h t op next phase l alive =
     let kept : l.history.kept ≡ h.kept ++ op ∷ [] = sym (ap (λ (m : Manager). m.kept) l.same) ∙ ap (λ (m : Manager). (after m (entries.Kept op)).kept) (told_standing h t alive) in
     sym l.recorded ∙ ap records kept ∙ fold_push recorded no_records h.kept op ∙ ap (λ (r : Records). recorded r op) (recorded_of h t phase alive)
 
 -- then the same is recorded after it
-pub tree_stays : (h : History) (t : Tables) (e : Entry) (next : Tables) (phase : Phase h t) (l : Simulates h t e next) → t.alive ≡ true → IsOfNone e → next.tree ≡ t.tree
+pub tree_stays : (h : History) (t : Tables) (e : Entry) (next : Tables) (phase : LifePhase h t) (l : Simulates h t e next) → t.alive ≡ true → IsOfNone e → next.tree ≡ t.tree
 tree_stays h t e next phase l alive none =
     let kept : l.history.kept ≡ h.kept = sym (ap (λ (m : Manager). m.kept) l.same) ∙ ap (λ (m : Manager). (after m e).kept) (told_standing h t alive) ∙ none h t in
     sym l.recorded ∙ ap records kept ∙ recorded_of h t phase alive

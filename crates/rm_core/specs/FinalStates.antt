@@ -4,9 +4,9 @@ use Rattle.std.specs.Prelude.{◌≡◌, ◌⊎◌, Bool, true, false, Some}
 use Rattle.rm_types.specs.declared.ids.AppId.{AppId}
 use Rattle.rm_types.specs.declared.operations.How.{How}
 use Rattle.rm_app.specs.declared.states.AppState.TheVariants.{FinalSaving}
-use Rattle.rm_app.specs.Table.{IsFinal as IsFinalOfApp, state_of}
+use Rattle.rm_app.specs.Table.{IsFinalApp as IsFinalOfApp, end_state}
 use Rattle.rm_attempt.specs.declared.states.AttemptState.TheVariants.{Ending, Ended}
-use Rattle.rm_attempt.specs.Table.{IsFinal as IsFinalOfAttempt}
+use Rattle.rm_attempt.specs.Table.{IsFinalAttempt as IsFinalOfAttempt}
 use Rattle.rm_tables.specs.declared.rows.AppRow.{AppRow}
 use Rattle.rm_tables.specs.declared.rows.Current.{Current}
 use Rattle.rm_tables.specs.Rows.{row_of}
@@ -47,7 +47,7 @@ FinalAttemptsStay = (next : Move) (old new : Seen) (id : AppId) (before now : Ap
 -- an application comes to a final state only from where its end is being saved, and to the state of that end
 abbrev pub AppEndsAreKept : Type 0
 AppEndsAreKept = (next : Move) (old new : Seen) (id : AppId) (before now : AppRow) → ChangesRow next old new id before now
-    → IsFinalOfApp now.state → (now.state ≡ before.state) ⊎ ((before.state ≡ FinalSaving) × ((how : How) × (now.state ≡ state_of how)))
+    → IsFinalOfApp now.state → (now.state ≡ before.state) ⊎ ((before.state ≡ FinalSaving) × ((how : How) × (now.state ≡ end_state how)))
 
 -- an attempt has ended only once its end was being saved
 abbrev pub AttemptEndsAreKept : Type 0

@@ -12,7 +12,7 @@ use Rattle.rm_tables.specs.declared.tables.Tables.{Tables}
 use Rattle.rm_tables.specs.Lives.{no_life}
 use Rattle.rm_refinement.specs.History.{History, abstract_state}
 use Rattle.rm_invariant.specs.messages.Ranges.{KeepsLimits}
-use Rattle.rm_invariant.specs.Phases.{Phase}
+use Rattle.rm_invariant.specs.Phases.{LifePhase}
 use Rattle.rm_core.specs.Queues.{tables_after}
 use Rattle.rm_core.specs.Stores.{IsOfStore}
 
@@ -23,7 +23,7 @@ IsRefusedFramed t = t.blown ≡ true → (op : Op) (rest : List Op) → t.awaiti
 -- what holds of the tables by themselves: with some history a phase of the life is reached, and what is recorded is of a store
 pub record HasPhase (t : Tables) : Type 0 where
   pub history : History
-  pub phase : Phase history t
+  pub phase : LifePhase history t
   pub stored : IsOfStore t.tree
   pub framed : IsRefusedFramed t
 
@@ -46,6 +46,6 @@ pub record LogInvariant (opening : List Op) (log : List Entry) (t : Tables) : Ty
   pub history : History
   pub same : state_after opening log ≡ abstract_state history t
   pub recorded : log ≢ [] → records history.kept ≡ t.tree
-  pub phase : Phase history t
+  pub phase : LifePhase history t
   pub fresh : log ≡ [] → t ≡ no_life t.alloc t.settings
   pub told_by : log ≢ [] → t ≡ tables_after t.alloc t.settings opening log

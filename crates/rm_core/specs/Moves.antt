@@ -19,7 +19,7 @@ use Rattle.rm_core.specs.Queues.{landed_in, own_tree}
 use Rattle.rm_core.specs.Stores.{IsOfStore}
 use Rattle.rm_core.specs.Words.{as_new}
 use Rattle.rm_tables.specs.declared.tables.Tables.{Tables}
-use Rattle.rm_tables.specs.Lives.{is_ready, may_go_down}
+use Rattle.rm_tables.specs.Lives.{is_ready_lane, may_go_down}
 use Rattle.rm_invariant.specs.messages.Ranges.{IsMessage}
 use Rattle.rm_invariant.specs.measure.Measure.{begin_measure, message_measure, measure}
 use Rattle.rm_invariant.specs.Transitions.{BookFollowsTable, NodesFollowTable, RowsFollowTables}
@@ -58,24 +58,24 @@ lane_of (Begin tree handed) = BeginLane
 -- a move may be made: its lane is ready; a life may go down before all is worked off
 abbrev pub may_make : Tables → Move → Bool
 may_make t Down = may_go_down t
-may_make t next = is_ready t (lane_of next)
+may_make t next = is_ready_lane t (lane_of next)
 
 -- the entry that a move adds to a log
-abbrev pub IsOf : Move → Tables → Entry → Type 0
-IsOf (Begin tree handed) t e = e ≡ Opened (landed_in t tree) tree.next_epoch (max handed (tree.stamp + 1))
-IsOf Main t e = lane_of_entry e ≡ MainLane
-IsOf (Serve message) t e = (reply : Reply) × (e ≡ Served (sender_of message) message reply)
-IsOf Sched t e = lane_of_entry e ≡ SchedLane
-IsOf Hand t e = e ≡ Handed
-IsOf Kept t e = (op : Op) × (handed_op t ≡ Some op) × (e ≡ KeptEntry op)
-IsOf (Blown passed) t e = e ≡ BlownEntry passed
-IsOf Settle t e = e ≡ Settled
-IsOf Down t e = e ≡ DownEntry
+abbrev pub IsEntryOfMove : Move → Tables → Entry → Type 0
+IsEntryOfMove (Begin tree handed) t e = e ≡ Opened (landed_in t tree) tree.next_epoch (max handed (tree.stamp + 1))
+IsEntryOfMove Main t e = lane_of_entry e ≡ MainLane
+IsEntryOfMove (Serve message) t e = (reply : Reply) × (e ≡ Served (sender_of message) message reply)
+IsEntryOfMove Sched t e = lane_of_entry e ≡ SchedLane
+IsEntryOfMove Hand t e = e ≡ Handed
+IsEntryOfMove Kept t e = (op : Op) × (handed_op t ≡ Some op) × (e ≡ KeptEntry op)
+IsEntryOfMove (Blown passed) t e = e ≡ BlownEntry passed
+IsEntryOfMove Settle t e = e ≡ Settled
+IsEntryOfMove Down t e = e ≡ DownEntry
 
 -- a move adds one entry, which is of its kind
 pub record AddsEntry (next : Move) (t : Tables) (log longer : List Entry) : Type 0 where
   pub entry : Entry
-  pub of_move : IsOf next t entry
+  pub of_move : IsEntryOfMove next t entry
   pub added : longer ≡ log ++ entry ∷ []
 
 -- the last life blew, and the tree is what is kept and the first operation that awaits amount to, but for the numbers of ends

@@ -19,7 +19,7 @@ use Rattle.rm_tables.specs.declared.events.SchedEvent.{SchedEvent}
 use Rattle.rm_tables.specs.declared.tables.Tables.{Tables}
 use Rattle.rm_tables.specs.Actions.{main_worked, sched_worked}
 use Rattle.rm_tables.specs.KeptOps.{kept}
-use Rattle.rm_tables.specs.Lives.{begun, gone_down, handed_out, no_life, refused}
+use Rattle.rm_tables.specs.Lives.{begun, tables_gone_down, handed_out, no_life, refused}
 use Rattle.rm_tables.specs.MainEvents.{main_step}
 use Rattle.rm_tables.specs.SchedEvents.{sched_step}
 use Rattle.rm_client.specs.Answers.{after_client}
@@ -47,15 +47,15 @@ quiet_moved Sched t = sched_moved t.sched [] t
 quiet_moved _ t = t
 
 -- the tables after a message was answered
-abbrev pub answered : Message → Reply → Tables → Tables
-answered (messages.Client user ask) reply t = after_client ask reply t
-answered (messages.Master attempt ask) reply t = after_master attempt ask reply t
-answered (messages.Node name ask) reply t = after_node name ask reply t
-answered (messages.Clock ask) reply t = after_clock ask reply t
+abbrev pub after_answer : Message → Reply → Tables → Tables
+after_answer (messages.Client user ask) reply t = after_client ask reply t
+after_answer (messages.Master attempt ask) reply t = after_master attempt ask reply t
+after_answer (messages.Node name ask) reply t = after_node name ask reply t
+after_answer (messages.Clock ask) reply t = after_clock ask reply t
 
 -- before the life is open nothing of them does
 abbrev pub answered_where : Bool → Message → Reply → Tables → Tables
-answered_where true message reply t = answered message reply t
+answered_where true message reply t = after_answer message reply t
 answered_where false message reply t = t
 
 -- and it is counted
@@ -100,7 +100,7 @@ tables_moved t (Pass node grants) = sched_moved t.sched [] t
 tables_moved t (Ordered container node) = main_moved t.main t
 tables_moved t (Ended cause list) = sched_moved t.sched list t
 tables_moved t Settled = t
-tables_moved t Down = gone_down t
+tables_moved t Down = tables_gone_down t
 tables_moved t (Quiet lane) = quiet_moved lane t
 
 -- the tables after a log over a store that held the opening list

@@ -7,7 +7,7 @@ use Rattle.rm_types.specs.declared.messages.Message.{Message}
 use Rattle.rm_types.specs.declared.operations.Op.{Op}
 use Rattle.rm_types.specs.declared.settings.Settings.{Settings}
 use Rattle.rm_types.specs.Records.{Records, records}
-use Rattle.rm_tables.specs.Lives.{is_ready, may_go_down, no_life}
+use Rattle.rm_tables.specs.Lives.{is_ready_lane, may_go_down, no_life}
 use Rattle.rm_invariant.specs.messages.Ranges.{IsMessage}
 use Rattle.rm_invariant.specs.measure.Measure.{message_measure as weight_added, measure}
 use Rattle.rm_core.specs.Queues.{landed_in, own_tree, tables_moved}
@@ -43,7 +43,7 @@ IsServable message = IsMessage message
 
 -- the manager has something to do in this lane
 abbrev pub ready_at : Seen → Lane → Bool
-ready_at seen lane = is_ready seen.tables lane
+ready_at seen lane = is_ready_lane seen.tables lane
 
 -- the life that stands may go down
 abbrev pub can_go_down : Seen → Bool
@@ -58,8 +58,8 @@ abbrev pub measure_of : Seen → ℕ
 measure_of seen = measure seen.tables
 
 -- a message that is served adds so much to it at most
-abbrev pub message_measure : ℕ
-message_measure = weight_added
+abbrev pub measure_added : ℕ
+measure_added = weight_added
 
 -- the operation that is with the store, where one is
 abbrev pub handed_of : Seen → Option Op

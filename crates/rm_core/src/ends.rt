@@ -1,6 +1,6 @@
 ghost use Rattle.std.specs.Prelude.{◌≡◌, ◌↔◌, IfOk, IsTrue, length, map, nat_lt};
 ghost use Rattle.std.specs.List.Sorted.{IsNonDecreasingBy, IsPermutation};
-ghost use Rattle.rm_types.specs.Alike.{bare};
+ghost use Rattle.rm_types.specs.Alike.{without_end_order};
 ghost use Rattle.rm_core.specs.Ends.{AreInStep, EndTogether, IsUp, paired_ends};
 
 use rm_tree::Tree;
@@ -17,7 +17,7 @@ pub struct EndNumbers {
 /// Whether the applications of two trees ended in the same order, where these are the same but for the numbers of their ends.
 /// `NoMemory` where no memory was found for the numbers.
 pub fn end_together(alloc: Global, tree: &Tree, other: &Tree) -> Result<bool, NoMemory>
-    requires { map bare tree.now.apps ≡ map bare other.now.apps }
+    requires { map without_end_order tree.now.apps ≡ map without_end_order other.now.apps }
     ensures { IfOk result (λ together. IsTrue together ↔ EndTogether tree.now.apps other.now.apps) }
 {
     // With its length a tree tells that each application is there once.

@@ -1,5 +1,5 @@
 ghost use Rattle.std.specs.Prelude.{◌≡◌, ◌↔◌, IfOk, IsTrue, map};
-ghost use Rattle.rm_types.specs.Alike.{IsAlike, bare};
+ghost use Rattle.rm_types.specs.Alike.{IsAlike, without_end_order};
 
 use crate::ends::end_together;
 use rm_tree::Tree;
@@ -52,7 +52,7 @@ fn are_same_attempts(some: &[AttemptRecord], others: &[AttemptRecord]) -> bool
 
 /// Whether two records are the same but for the numbers of their ends.
 fn is_like_app(one: &AppRecord, other: &AppRecord) -> bool
-    ensures { IsTrue result ↔ (bare one.now ≡ bare other.now) }
+    ensures { IsTrue result ↔ (without_end_order one.now ≡ without_end_order other.now) }
 {
     one.id == other.id
         && is_same_submission(&one.submission, &other.submission)
@@ -61,7 +61,7 @@ fn is_like_app(one: &AppRecord, other: &AppRecord) -> bool
 }
 
 fn are_like_apps(tree: &Tree, other: &Tree) -> bool
-    ensures { IsTrue result ↔ (map bare tree.now.apps ≡ map bare other.now.apps) }
+    ensures { IsTrue result ↔ (map without_end_order tree.now.apps ≡ map without_end_order other.now.apps) }
 {
     if tree.len() != other.len() {
         return false;

@@ -10,7 +10,7 @@ ghost use Rattle.rm_types.specs.Records.{no_records};
 ghost use Rattle.rm_queues.specs.Rules.{KeepsRules};
 ghost use Rattle.rm_model.specs.State.{opening_state};
 ghost use Rattle.rm_model.specs.Lawful.{AllAllowed, state_after};
-ghost use Rattle.rm_tables.specs.Lives.{is_ready, may_go_down, no_life};
+ghost use Rattle.rm_tables.specs.Lives.{is_ready_lane, may_go_down, no_life};
 ghost use Rattle.rm_core.specs.Moves.{CanBeginOver, CanMake, MoveEffect, IsLeft, IsOwn, may_make};
 ghost use Rattle.rm_core.specs.Invariant.{QueuesAre};
 ghost use Rattle.rm_core.specs.Seen.{IsToBeKept, Rests, StandsFor, handed_op, is_kept_entry};
@@ -114,7 +114,7 @@ impl Core {
     /// be framed, and fits what is kept.
     pub fn handed(&self) -> Option<&Op>
         ensures op { option_copied result ≡ handed_op self.now.tables }
-        ensures none { IfNone result (is_ready self.now.tables Lane.Write ≡ false) }
+        ensures none { IfNone result (is_ready_lane self.now.tables Lane.Write ≡ false) }
         ensures framed { IfSome result (λ op. IsOperation op.now) }
         ensures next { IfSome result (λ op. (opening : List AnyOp) → StandsFor opening self.now → IsToBeKept opening self.now op.now) }
         ensures unblown { IfSome result (λ _. self.now.tables.blown ≡ false) }
@@ -135,7 +135,7 @@ impl Core {
 
     /// Whether a lane has something to do, as far as the manager itself can tell.
     pub fn is_ready(&self, lane: Lane) -> bool
-        ensures { result ≡ is_ready self.now.tables lane }
+        ensures { result ≡ is_ready_lane self.now.tables lane }
     {
         self.tables.is_ready(lane)
     }
@@ -196,7 +196,7 @@ impl Core {
         requires low { 1 ≤ handed }
         requires high { handed ≤ greatest_stamp }
         ensures does { OnOk result (MoveEffect (Move.Begin tree handed) self.old self.new) }
-        ensures not_ready { IsErrOf result Refused.NotReady ↔ (is_ready self.old.tables Lane.Begin ≡ false) }
+        ensures not_ready { IsErrOf result Refused.NotReady ↔ (is_ready_lane self.old.tables Lane.Begin ≡ false) }
         ensures err { OnErr result (self.new ≡ self.old) }
     {
         if self.tables.alive {
@@ -211,7 +211,7 @@ impl Core {
 
     fn main(&mut self) -> Result<(), Refused>
         ensures does { OnOk result (MoveEffect Move.Main self.old self.new) }
-        ensures not_ready { IsErrOf result Refused.NotReady ↔ (is_ready self.old.tables Lane.Main ≡ false) }
+        ensures not_ready { IsErrOf result Refused.NotReady ↔ (is_ready_lane self.old.tables Lane.Main ≡ false) }
         ensures err { OnErr result (self.new ≡ self.old) }
     {
         moves::main(&mut self.tables, &mut self.log)
@@ -219,7 +219,7 @@ impl Core {
 
     fn sched(&mut self) -> Result<(), Refused>
         ensures does { OnOk result (MoveEffect Move.Sched self.old self.new) }
-        ensures not_ready { IsErrOf result Refused.NotReady ↔ (is_ready self.old.tables Lane.Sched ≡ false) }
+        ensures not_ready { IsErrOf result Refused.NotReady ↔ (is_ready_lane self.old.tables Lane.Sched ≡ false) }
         ensures err { OnErr result (self.new ≡ self.old) }
     {
         // With its length a book tells that its containers live, each in one row.
@@ -229,7 +229,7 @@ impl Core {
 
     fn hand(&mut self) -> Result<(), Refused>
         ensures does { OnOk result (MoveEffect Move.Hand self.old self.new) }
-        ensures not_ready { IsErrOf result Refused.NotReady ↔ (is_ready self.old.tables Lane.Hand ≡ false) }
+        ensures not_ready { IsErrOf result Refused.NotReady ↔ (is_ready_lane self.old.tables Lane.Hand ≡ false) }
         ensures err { OnErr result (self.new ≡ self.old) }
     {
         moves::hand(&mut self.tables, &mut self.log)
@@ -237,7 +237,7 @@ impl Core {
 
     fn keep(&mut self) -> Result<(), Refused>
         ensures does { OnOk result (MoveEffect Move.Kept self.old self.new) }
-        ensures not_ready { IsErrOf result Refused.NotReady ↔ (is_ready self.old.tables Lane.Write ≡ false) }
+        ensures not_ready { IsErrOf result Refused.NotReady ↔ (is_ready_lane self.old.tables Lane.Write ≡ false) }
         ensures err { OnErr result (self.new ≡ self.old) }
     {
         moves::keep(&mut self.tables, &mut self.log)
@@ -245,7 +245,7 @@ impl Core {
 
     fn blow(&mut self, passed: u32) -> Result<(), Refused>
         ensures does { OnOk result (MoveEffect (Move.Blown passed) self.old self.new) }
-        ensures not_ready { IsErrOf result Refused.NotReady ↔ (is_ready self.old.tables Lane.Write ≡ false) }
+        ensures not_ready { IsErrOf result Refused.NotReady ↔ (is_ready_lane self.old.tables Lane.Write ≡ false) }
         ensures err { OnErr result (self.new ≡ self.old) }
     {
         moves::blow(&mut self.tables, &mut self.log, passed)
@@ -267,7 +267,7 @@ impl Core {
 
     fn settle(&mut self) -> Result<(), Refused>
         ensures does { OnOk result (MoveEffect Move.Settle self.old self.new) }
-        ensures not_ready { IsErrOf result Refused.NotReady ↔ (is_ready self.old.tables Lane.End ≡ false) }
+        ensures not_ready { IsErrOf result Refused.NotReady ↔ (is_ready_lane self.old.tables Lane.End ≡ false) }
         ensures err { OnErr result (self.new ≡ self.old) }
     {
         moves::settle(&self.tables, &mut self.log)

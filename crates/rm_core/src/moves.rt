@@ -12,13 +12,13 @@ ghost use Rattle.rm_tables.specs.declared.events.MainEvent.{MainEvent};
 ghost use Rattle.rm_tables.specs.declared.events.SchedEvent.{SchedEvent};
 ghost use Rattle.rm_tables.specs.Actions.{found_in, main_worked, sched_worked};
 ghost use Rattle.rm_tables.specs.KeptOps.{kept};
-ghost use Rattle.rm_tables.specs.Lives.{begun, gone_down, handed_out, is_ready, may_go_down, refused};
+ghost use Rattle.rm_tables.specs.Lives.{begun, tables_gone_down, handed_out, is_ready_lane, may_go_down, refused};
 ghost use Rattle.rm_tables.specs.MainEvents.{main_step};
-ghost use Rattle.rm_tables.specs.SchedEvents.{EndsBy, sched_step};
+ghost use Rattle.rm_tables.specs.SchedEvents.{EndsByEvent, sched_step};
 ghost use Rattle.rm_sched.specs.CanWork.{AreFew, CanPass};
 ghost use Rattle.rm_invariant.specs.messages.Ranges.{IsMessage};
 ghost use Rattle.rm_invariant.specs.bounds.InBounds.{InBounds};
-ghost use Rattle.rm_core.specs.Queues.{answered, landed_in, own_tree, served_moved, tree_landed};
+ghost use Rattle.rm_core.specs.Queues.{after_answer, landed_in, own_tree, served_moved, tree_landed};
 ghost use Rattle.rm_core.specs.Serving.{IsOpenReply, IsReply, IsServed};
 
 use rm_queues::QueueTree;
@@ -158,11 +158,11 @@ pub fn begin(
 
 /// The first event of the main queue is worked off.
 pub fn main(t: &mut Tables, log: &mut Items<Entry>) -> Result<(), Refused>
-    requires epoch { is_ready t.old Lane.Main ≡ true → t.old.epoch + 1 < 2 ^ 32 }
-    requires few { is_ready t.old Lane.Main ≡ true → (id : AppId) → length (attempts_in (found_in t.old id)) + 1 < 2 ^ 32 }
+    requires epoch { is_ready_lane t.old Lane.Main ≡ true → t.old.epoch + 1 < 2 ^ 32 }
+    requires few { is_ready_lane t.old Lane.Main ≡ true → (id : AppId) → length (attempts_in (found_in t.old id)) + 1 < 2 ^ 32 }
     ensures ok { OnOk result ((event : MainEvent) (rest : List MainEvent) → t.old.main ≡ event ∷ rest → (t.new ≡ (main_worked (main_step event t.old)).1) × (log.new ≡ log.old ++ (main_worked (main_step event t.old)).0 ∷ [])) }
     ensures some { OnOk result (t.old.main ≢ []) }
-    ensures not_ready { IsErrOf result Refused.NotReady ↔ (is_ready t.old Lane.Main ≡ false) }
+    ensures not_ready { IsErrOf result Refused.NotReady ↔ (is_ready_lane t.old Lane.Main ≡ false) }
     ensures err { OnErr result ((t.new ≡ t.old) × (log.new ≡ log.old)) }
 {
     if !t.is_ready(Lane::Main) {
@@ -184,9 +184,9 @@ pub fn main(t: &mut Tables, log: &mut Items<Entry>) -> Result<(), Refused>
 /// The first event of the scheduler's queue is worked off.
 pub fn sched(t: &mut Tables, log: &mut Items<Entry>) -> Result<(), Refused>
     requires pass { (name : List ℕ) (rest : List SchedEvent) → t.old.sched ≡ SchedEvent.NodeUpdate name ∷ rest → AreFew t.old × CanPass t.old }
-    ensures ok { OnOk result ((event : SchedEvent) (rest : List SchedEvent) → t.old.sched ≡ event ∷ rest → (list : List ContainerId) × EndsBy event t.old list × (t.new ≡ (sched_worked (sched_step event list t.old)).1) × (log.new ≡ log.old ++ (sched_worked (sched_step event list t.old)).0 ∷ [])) }
+    ensures ok { OnOk result ((event : SchedEvent) (rest : List SchedEvent) → t.old.sched ≡ event ∷ rest → (list : List ContainerId) × EndsByEvent event t.old list × (t.new ≡ (sched_worked (sched_step event list t.old)).1) × (log.new ≡ log.old ++ (sched_worked (sched_step event list t.old)).0 ∷ [])) }
     ensures some { OnOk result (t.old.sched ≢ []) }
-    ensures not_ready { IsErrOf result Refused.NotReady ↔ (is_ready t.old Lane.Sched ≡ false) }
+    ensures not_ready { IsErrOf result Refused.NotReady ↔ (is_ready_lane t.old Lane.Sched ≡ false) }
     ensures err { OnErr result ((t.new ≡ t.old) × (log.new ≡ log.old)) }
 {
     if !t.is_ready(Lane::Sched) {
@@ -208,8 +208,8 @@ pub fn sched(t: &mut Tables, log: &mut Items<Entry>) -> Result<(), Refused>
 /// The first awaiting operation is handed to the store.
 pub fn hand(t: &mut Tables, log: &mut Items<Entry>) -> Result<(), Refused>
     ensures ok { OnOk result ((t.new ≡ handed_out t.old) × (log.new ≡ log.old ++ Entry.Handed ∷ [])) }
-    ensures ready { OnOk result (is_ready t.old Lane.Hand ≡ true) }
-    ensures not_ready { IsErrOf result Refused.NotReady ↔ (is_ready t.old Lane.Hand ≡ false) }
+    ensures ready { OnOk result (is_ready_lane t.old Lane.Hand ≡ true) }
+    ensures not_ready { IsErrOf result Refused.NotReady ↔ (is_ready_lane t.old Lane.Hand ≡ false) }
     ensures err { OnErr result ((t.new ≡ t.old) × (log.new ≡ log.old)) }
 {
     if !t.is_ready(Lane::Hand) {
@@ -222,11 +222,11 @@ pub fn hand(t: &mut Tables, log: &mut Items<Entry>) -> Result<(), Refused>
 
 /// The operation that was handed to the store is kept.
 pub fn keep(t: &mut Tables, log: &mut Items<Entry>) -> Result<(), Refused>
-    requires fits { is_ready t.old Lane.Write ≡ true → (op : AnyOp) (rest : List AnyOp) → t.old.awaiting ≡ op ∷ rest → fits_records t.old.tree op ≡ true }
-    requires awaits { is_ready t.old Lane.Write ≡ true → t.old.awaiting ≢ [] }
+    requires fits { is_ready_lane t.old Lane.Write ≡ true → (op : AnyOp) (rest : List AnyOp) → t.old.awaiting ≡ op ∷ rest → fits_records t.old.tree op ≡ true }
+    requires awaits { is_ready_lane t.old Lane.Write ≡ true → t.old.awaiting ≢ [] }
     ensures ok { OnOk result ((op : AnyOp) (rest : List AnyOp) → t.old.awaiting ≡ op ∷ rest → (t.new ≡ kept op t.old) × (log.new ≡ log.old ++ Entry.Kept op ∷ [])) }
-    ensures ready { OnOk result (is_ready t.old Lane.Write ≡ true) }
-    ensures not_ready { IsErrOf result Refused.NotReady ↔ (is_ready t.old Lane.Write ≡ false) }
+    ensures ready { OnOk result (is_ready_lane t.old Lane.Write ≡ true) }
+    ensures not_ready { IsErrOf result Refused.NotReady ↔ (is_ready_lane t.old Lane.Write ≡ false) }
     ensures err { OnErr result ((t.new ≡ t.old) × (log.new ≡ log.old)) }
 {
     if !t.is_ready(Lane::Write) {
@@ -248,8 +248,8 @@ pub fn keep(t: &mut Tables, log: &mut Items<Entry>) -> Result<(), Refused>
 /// The store has refused the operation that was handed to it.
 pub fn blow(t: &mut Tables, log: &mut Items<Entry>, passed: u32) -> Result<(), Refused>
     ensures ok { OnOk result ((t.new ≡ refused t.old) × (log.new ≡ log.old ++ Entry.Blown passed ∷ [])) }
-    ensures ready { OnOk result (is_ready t.old Lane.Write ≡ true) }
-    ensures not_ready { IsErrOf result Refused.NotReady ↔ (is_ready t.old Lane.Write ≡ false) }
+    ensures ready { OnOk result (is_ready_lane t.old Lane.Write ≡ true) }
+    ensures not_ready { IsErrOf result Refused.NotReady ↔ (is_ready_lane t.old Lane.Write ≡ false) }
     ensures err { OnErr result ((t.new ≡ t.old) × (log.new ≡ log.old)) }
 {
     if !t.is_ready(Lane::Write) {
@@ -263,8 +263,8 @@ pub fn blow(t: &mut Tables, log: &mut Items<Entry>, passed: u32) -> Result<(), R
 /// The segment settles: nothing is left to do.
 pub fn settle(t: &Tables, log: &mut Items<Entry>) -> Result<(), Refused>
     ensures ok { OnOk result (log.new ≡ log.old ++ Entry.Settled ∷ []) }
-    ensures ready { OnOk result (is_ready t.now Lane.End ≡ true) }
-    ensures not_ready { IsErrOf result Refused.NotReady ↔ (is_ready t.now Lane.End ≡ false) }
+    ensures ready { OnOk result (is_ready_lane t.now Lane.End ≡ true) }
+    ensures not_ready { IsErrOf result Refused.NotReady ↔ (is_ready_lane t.now Lane.End ≡ false) }
     ensures err { OnErr result (log.new ≡ log.old) }
 {
     if !t.is_ready(Lane::End) {
@@ -276,7 +276,7 @@ pub fn settle(t: &Tables, log: &mut Items<Entry>) -> Result<(), Refused>
 
 /// The life goes down.
 pub fn go_down(t: &mut Tables, log: &mut Items<Entry>) -> Result<(), Refused>
-    ensures ok { OnOk result ((t.new ≡ gone_down t.old) × (log.new ≡ log.old ++ Entry.Down ∷ [])) }
+    ensures ok { OnOk result ((t.new ≡ tables_gone_down t.old) × (log.new ≡ log.old ++ Entry.Down ∷ [])) }
     ensures ready { OnOk result (may_go_down t.old ≡ true) }
     ensures not_ready { IsErrOf result Refused.NotReady ↔ (may_go_down t.old ≡ false) }
     ensures err { OnErr result ((t.new ≡ t.old) × (log.new ≡ log.old)) }
@@ -329,7 +329,7 @@ fn open_answer(queues: &QueueTree, t: &mut Tables, message: &Message) -> Result<
     requires ranged { InBounds t.old }
     requires attempts { (id : AppId) → length (attempts_in (found_in t.old id)) < 2 ^ 32 }
     ensures reply { IfOk result (λ reply. IsOpenReply t.old message.now reply) }
-    ensures changed { IfOk result (λ reply. t.new ≡ answered message.now reply t.old) }
+    ensures changed { IfOk result (λ reply. t.new ≡ after_answer message.now reply t.old) }
     ensures err { OnErr result (t.new ≡ t.old) }
 {
     if t.going == usize::MAX {
@@ -353,11 +353,11 @@ pub fn answer_message(
     requires settings { queues.now ≡ t.old.settings }
     requires message { IsMessage message }
     requires few { t.old.served < most_served }
-    requires ranged { is_ready t.old Lane.Client ≡ true → t.old.is_open ≡ true → InBounds t.old }
-    requires attempts { is_ready t.old Lane.Client ≡ true → t.old.is_open ≡ true → (id : AppId) → length (attempts_in (found_in t.old id)) < 2 ^ 32 }
+    requires ranged { is_ready_lane t.old Lane.Client ≡ true → t.old.is_open ≡ true → InBounds t.old }
+    requires attempts { is_ready_lane t.old Lane.Client ≡ true → t.old.is_open ≡ true → (id : AppId) → length (attempts_in (found_in t.old id)) < 2 ^ 32 }
     ensures ok { OnOk result (IsServed t.old t.new log.old log.new message) }
-    ensures ready { OnOk result (is_ready t.old Lane.Client ≡ true) }
-    ensures not_ready { IsErrOf result Refused.NotReady ↔ (is_ready t.old Lane.Client ≡ false) }
+    ensures ready { OnOk result (is_ready_lane t.old Lane.Client ≡ true) }
+    ensures not_ready { IsErrOf result Refused.NotReady ↔ (is_ready_lane t.old Lane.Client ≡ false) }
     ensures err { OnErr result ((t.new ≡ t.old) × (log.new ≡ log.old)) }
 {
     // The lanes of all senders are ready alike.

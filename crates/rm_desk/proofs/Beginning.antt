@@ -8,13 +8,14 @@ use Rattle.rm_types.specs.Records.{Records, records}
 use Rattle.rm_types.specs.Limits.{greatest_stamp}
 use Rattle.rm_model.specs.Changes.{kept_after_landing}
 use Rattle.rm_model.specs.Lawful.{state_after}
-use Rattle.rm_model.specs.Place.{BeginsAsScripted as BeginsAt, Place, begun, stamp_of}
+use Rattle.rm_model.specs.Place.{BeginsAsScripted as BeginsAt, Place, place_begun, stamp_of}
 use Rattle.rm_core.specs.Moves.{IsLeftAfter, IsOwn}
 use Rattle.rm_core.specs.Seen.{Seen, StandsFor}
 use Rattle.rm_core.specs.Words.{as_new, is_blown, landed_over, served_in, stands}
 use Rattle.rm_core.proofs.Telling.{told_own}
 use Rattle.rm_desk.specs.View.{DeskView}
-use Rattle.rm_desk.specs.Scripts.{AllLive, CanFollow, EndsInCrash, messages_in}
+use Rattle.rm_desk.specs.Scripts.{AllLive, CanFollow, EndsInCrash}
+use Rattle.rm_types.specs.Segments.{messages_in}
 use Rattle.rm_desk.specs.Runs.{IsPlaceSound}
 use Rattle.rm_desk.specs.Effects.{LifeBegins}
 use Rattle.rm_desk.proofs.Longer.{one_more}
@@ -32,10 +33,10 @@ module _ (d : DeskView) (new : Seen) (place : Place) (h : IsPlaceSound d) (tree 
     (stood : stands d.core ≡ false) (standing : stands new ≡ true) (count : served_in new ≡ 0) (unblown : is_blown new ≡ false) (life : Life)
     (added : new.log ≡ d.core.log ++ Opened (landed_over d.core tree) tree.next_epoch (stamp_of life tree.stamp) ∷ []) where
   -- it begins over what the last one left
-  pub begin_does : (more : List Life) → d.place.lives ≡ life ∷ more → place ≡ begun d.place.lives d.place → LifeBegins tree d (record { core = new; place = place })
+  pub begin_does : (more : List Life) → d.place.lives ≡ life ∷ more → place ≡ place_begun d.place.lives d.place → LifeBegins tree d (record { core = new; place = place })
   begin_does more whole p =
       let can : AllLive (life ∷ more) = subst AllLive whole h.lives in
-      let q : place ≡ record { lives = more; segments = life.segments } = p ∙ ap (λ (xs : List Life). begun xs d.place) whole in
+      let q : place ≡ record { lives = more; segments = life.segments } = p ∙ ap (λ (xs : List Life). place_begun xs d.place) whole in
       let lives : place.lives ≡ more = ap (λ (x : Place). x.lives) q in
       let segments : place.segments ≡ life.segments = ap (λ (x : Place). x.segments) q in
       let has : messages_in place.segments ≡ messages_in life.segments = ap messages_in segments in

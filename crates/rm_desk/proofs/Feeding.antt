@@ -11,7 +11,7 @@ use Rattle.rm_model.specs.Place.{first_from, is_from, without_first}
 use Rattle.rm_core.specs.Seen.{Seen}
 use Rattle.rm_core.specs.Words.{IsServable, ready_at}
 use Rattle.rm_desk.specs.Effects.{Answers, IsEntryOf}
-use Rattle.rm_desk.specs.Lanes.{IsWork, stands_after}
+use Rattle.rm_desk.specs.Lanes.{IsWork, life_goes_on}
 use Rattle.rm_desk.specs.Scripts.{AllServed}
 use Rattle.rm_desk.specs.View.{DeskView}
 use Rattle.rm_desk.proofs.Senders.{own_sender}
@@ -78,7 +78,7 @@ not_end senders.Master e = cc
 not_end senders.Node e = cc
 not_end senders.Clock e = cc
 
-pub stands_on : (sender : Sender) (close : Option Close) → stands_after (feed_lane sender) close ≡ true
+pub stands_on : (sender : Sender) (close : Option Close) → life_goes_on (feed_lane sender) close ≡ true
 stands_on senders.Client close = refl
 stands_on senders.Master close = refl
 stands_on senders.Node close = refl

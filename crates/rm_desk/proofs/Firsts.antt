@@ -6,7 +6,8 @@ use Rattle.rm_types.specs.declared.messages.Message.{Message}
 use Rattle.rm_types.specs.declared.messages.Sender.{Sender}
 use Rattle.rm_model.specs.Place.{is_from, first_from}
 use Rattle.rm_desk.specs.declared.cursors.Cursors.{Cursors}
-use Rattle.rm_desk.specs.Left.{sender_of, cursor_of, steps_to, left_from, left, PointsRight}
+use Rattle.rm_desk.specs.Left.{cursor_of, steps_to, left_from, unsent, PointsRight}
+use Rattle.rm_types.specs.Lanes.{sender_of}
 use Rattle.rm_desk.proofs.Senders.{own_sender}
 
 -- no message stands before the first of a sender where that is the first of all
@@ -60,7 +61,7 @@ first_left_from sender cursor place (suc far) (message ∷ more) at within own =
   by false e false t h = let kept = left_kept cursor place message more (ltb-false place (cursor (sender_of message)) t) in rw (kept, find, e) h
 
 -- the first that is left of a sender is the message at its cursor
-pub first_left : (sender : Sender) (cursors : Cursors) (messages : List Message) → PointsRight cursors messages → first_from sender (left cursors messages) ≡ slice_get messages (cursor_of cursors sender)
+pub first_left : (sender : Sender) (cursors : Cursors) (messages : List Message) → PointsRight cursors messages → first_from sender (unsent cursors messages) ≡ slice_get messages (cursor_of cursors sender)
 first_left sender cursors messages right = first_left_from sender (cursor_of cursors) 0 (cursor_of cursors sender) messages (omega arith) (right.within sender) (right.own sender)
 
 -- there is an item at a place below the length alone

@@ -19,18 +19,19 @@ use Rattle.rm_types.specs.Lanes.{feed_lane, lane_of_entry, sender_of}
 use Rattle.rm_types.specs.Lists.{is_nil}
 use Rattle.rm_model.specs.Lawful.{state_after}
 use Rattle.rm_model.specs.Place.{Crashes, Place, Settles, close_left, first_from, messages_left, moved, rest_of, segments_without, without_first}
-use Rattle.rm_core.specs.Moves.{MoveEffect as CoreDoes, GoesOnFrom, IsOf, LifeAround, MeasureChanges, blown_after, served_after}
+use Rattle.rm_core.specs.Moves.{MoveEffect as CoreDoes, GoesOnFrom, IsEntryOfMove, LifeAround, MeasureChanges, blown_after, served_after}
 use Rattle.rm_tables.specs.declared.events.Refused.{Refused}
 use Rattle.rm_core.specs.declared.manager.Move.{Move}
 use Rattle.rm_core.specs.Seen.{Seen, StandsFor}
 use Rattle.rm_types.specs.Limits.{most_served}
 use Rattle.rm_types.proofs.TestLemmas.{nil_is}
-use Rattle.rm_core.specs.Words.{IsServable, as_new, can_go_down, handed_of, has_rest, is_blown, message_measure, ready_at, served_in, stands, measure_of}
+use Rattle.rm_core.specs.Words.{IsServable, as_new, can_go_down, handed_of, has_rest, is_blown, measure_added, ready_at, served_in, stands, measure_of}
 use Rattle.rm_desk.specs.declared.feeds.Feeds.{Feeds}
 use Rattle.rm_desk.specs.View.{DeskView}
-use Rattle.rm_desk.specs.Scripts.{AllLive, CanFollow, EndsInCrash, messages_in}
-use Rattle.rm_desk.specs.Lanes.{IsWork, may_close, stands_after}
-use Rattle.rm_desk.specs.Feeds.{IsEntered, at, place_of}
+use Rattle.rm_desk.specs.Scripts.{AllLive, CanFollow, EndsInCrash}
+use Rattle.rm_types.specs.Segments.{messages_in}
+use Rattle.rm_desk.specs.Lanes.{IsWork, may_close, life_goes_on}
+use Rattle.rm_desk.specs.Feeds.{IsEntered, at, feeds_place}
 use Rattle.rm_desk.specs.Runs.{IsLast, IsPlaceSound, segment_cost}
 use Rattle.rm_desk.specs.Effects.{LaneEffect, EffectBy, IsEntryOf}
 use Rattle.rm_desk.proofs.Feeding.{answers_entry, found_sender, no_work, not_end, one_less, served_found, served_without, stands_on}
@@ -41,14 +42,14 @@ use Rattle.rm_desk.proofs.Words.{rest_idle}
 abbrev pub behind : Feeds → Place
 behind f = record { lives = f.lives; segments = f.segments }
 
-pub close_is : (f : Feeds) → IsEntered f → (close : Option Close) → f.close ≡ close → close_left (place_of f).segments ≡ close
+pub close_is : (f : Feeds) → IsEntered f → (close : Option Close) → f.close ≡ close → close_left (feeds_place f).segments ≡ close
 close_is f entered None e = let none = entered e in rw (e, none.0) refl
 close_is f entered (Some close) e = rw e refl
 
 -- a move of which the script says nothing, made or refused
 module _ (lane : Lane) (old new : Seen) (place : Place) (h : IsPlaceSound (record { core = old; place = place })) (m : Move)
-    (kind : Entry → Type 0) (silent : (e : Entry) → IsOf m old.tables e → IsQuietAt place e × kind e × (lane_of_entry e ≡ lane)) (from : (opening : List Op) → GoesOnFrom m opening old) where
-  pub silent_does : (r : Result (Unit {0}) Refused) → IsWork lane → stands_after lane (close_left place.segments) ≡ true → ready_at old lane ≡ true
+    (kind : Entry → Type 0) (silent : (e : Entry) → IsEntryOfMove m old.tables e → IsQuietAt place e × kind e × (lane_of_entry e ≡ lane)) (from : (opening : List Op) → GoesOnFrom m opening old) where
+  pub silent_does : (r : Result (Unit {0}) Refused) → IsWork lane → life_goes_on lane (close_left place.segments) ≡ true → ready_at old lane ≡ true
       → OnOk r (CoreDoes m old new) → (MeasureChanges m old.settings (measure_of old) (measure_of new) → measure_of new < measure_of old) → (LifeAround m (stands old) (stands new) → (stands old ≡ true) × (stands new ≡ true))
       → served_after m (served_in old) ≡ served_in old → (stands old ≡ true → blown_after m (is_blown old) ≡ true → IsLast (close_left place.segments))
       → OnOk r (EffectBy kind (blown_after m (is_blown old)) lane (record { core = old; place = place }) (record { core = new; place = place }))
@@ -116,10 +117,10 @@ found_some sender [] m e = cc
 found_some sender (one ∷ more) m e = λ none. cc
 
 module _ (f : Feeds) (close : Close) (c : f.close ≡ Some close) (sender : Sender) (m : Message) (e : first_from sender f.feed ≡ Some m) where
-  fed : (place_of f).segments ≡ record { messages = f.feed; close = close } ∷ f.segments
+  fed : (feeds_place f).segments ≡ record { messages = f.feed; close = close } ∷ f.segments
   fed = rw c refl
 
-  fed_messages : messages_in (place_of f).segments ≡ length (without_first sender f.feed) + 1 + messages_in f.segments
+  fed_messages : messages_in (feeds_place f).segments ≡ length (without_first sender f.feed) + 1 + messages_in f.segments
   fed_messages =
       let less = one_less sender m f.feed e in
       ap messages_in fed ∙ sum_by-cons (λ (x : Segment). length x.messages) (record { messages = f.feed; close = close }) f.segments ∙ omega (arith, less)
@@ -144,7 +145,7 @@ module _ (old new : Seen) (f : Feeds) (h : IsPlaceSound (at old f)) (entered : I
     (lawful : (opening : List Op) → StandsFor opening old → StandsFor opening new) where
   -- the first message of a sender's feed is answered
   pub serve_does : (close : Close) → f.close ≡ Some close → (sender : Sender) (m : Message) → first_from sender f.feed ≡ Some m → (reply : Reply)
-      → new.log ≡ old.log ++ Served (sender_of m) m reply ∷ [] → measure_of new ≤ measure_of old + message_measure → (stands old ≡ true) × (stands new ≡ true)
+      → new.log ≡ old.log ++ Served (sender_of m) m reply ∷ [] → measure_of new ≤ measure_of old + measure_added → (stands old ≡ true) × (stands new ≡ true)
       → served_in new ≡ served_in old + 1 → is_blown new ≡ is_blown old → (rest : List Message) → rest ≡ without_first sender f.feed → LaneEffect (feed_lane sender) (at old f) (at new (record f { feed = rest }))
   serve_does close c sender m e reply added weighs alive count same rest is =
       let d = at old f in
@@ -160,9 +161,9 @@ module _ (old new : Seen) (f : Feeds) (h : IsPlaceSound (at old f)) (entered : I
       ap (λ (one : Sender). segments_without one d.place.segments) own ∙ ap (segments_without sender) before in
       let place : next.place ≡ moved d.place entry = ap (λ (x : List Segment). record { lives = f.lives; segments = x }) (after ∙ sym taken) in
       let less = one_less sender m f.feed e in
-      let cost : sum_by segment_cost d.place.segments ≡ 1 + (message_measure + 1) * length f.feed + sum_by segment_cost f.segments =
+      let cost : sum_by segment_cost d.place.segments ≡ 1 + (measure_added + 1) * length f.feed + sum_by segment_cost f.segments =
       ap (λ (x : List Segment). sum_by segment_cost x) before ∙ sum_by-cons segment_cost (record { messages = f.feed; close = close }) f.segments in
-      let costs : sum_by segment_cost next.place.segments ≡ 1 + (message_measure + 1) * length (without_first sender f.feed) + sum_by segment_cost f.segments =
+      let costs : sum_by segment_cost next.place.segments ≡ 1 + (measure_added + 1) * length (without_first sender f.feed) + sum_by segment_cost f.segments =
       ap (λ (x : List Segment). sum_by segment_cost x) after ∙ sum_by-cons segment_cost (record { messages = without_first sender f.feed; close = close }) f.segments in
       let were = fed_messages f close c sender m e in
       let are : messages_in next.place.segments ≡ length (without_first sender f.feed) + messages_in f.segments =
@@ -194,7 +195,7 @@ module _ (old new : Seen) (f : Feeds) (h : IsPlaceSound (at old f)) (entered : I
 
   -- the current segment settles
   pub settle_does : (g : Feeds) → f.close ≡ Some Settle → f.feed ≡ [] → new.log ≡ old.log ++ Settled ∷ [] → measure_of new ≤ measure_of old
-      → (stands old ≡ true) × (stands new ≡ true) → served_in new ≡ served_in old → is_blown new ≡ is_blown old → place_of g ≡ behind f → has_rest new → LaneEffect lanes.End (at old f) (at new g)
+      → (stands old ≡ true) × (stands new ≡ true) → served_in new ≡ served_in old → is_blown new ≡ is_blown old → feeds_place g ≡ behind f → has_rest new → LaneEffect lanes.End (at old f) (at new g)
   settle_does g c none added weighs alive count same p rest =
       let d = at old f in
       let next = at new g in
@@ -236,8 +237,8 @@ module _ (old new : Seen) (f : Feeds) (h : IsPlaceSound (at old f)) (entered : I
       }
 
   -- the life goes down
-  pub down_does : (g : Feeds) (close : Option Close) → f.close ≡ close → close ≢ Some Settle → may_close (at old f) (close_left (place_of f).segments) ≡ true
-      → new.log ≡ old.log ++ Down ∷ [] → measure_of new ≤ measure_of old → (stands old ≡ true) × (stands new ≡ false) → is_blown new ≡ is_blown old → place_of g ≡ behind f → LaneEffect lanes.End (at old f) (at new g)
+  pub down_does : (g : Feeds) (close : Option Close) → f.close ≡ close → close ≢ Some Settle → may_close (at old f) (close_left (feeds_place f).segments) ≡ true
+      → new.log ≡ old.log ++ Down ∷ [] → measure_of new ≤ measure_of old → (stands old ≡ true) × (stands new ≡ false) → is_blown new ≡ is_blown old → feeds_place g ≡ behind f → LaneEffect lanes.End (at old f) (at new g)
   down_does g None c unsettled ready added weighs alive same p = let none = close_is f entered None c in absurd (let x = rw none at ready in cc)
   down_does g (Some Settle) c unsettled ready added weighs alive same p = absurd (unsettled refl)
   down_does g (Some (Crash calls image)) c unsettled ready added weighs alive same p =

@@ -17,7 +17,7 @@ use Rattle.rm_core.specs.Words.{can_go_down, has_rest, is_blown, ready_at, stand
 use Rattle.rm_desk.specs.View.{DeskView}
 use Rattle.rm_desk.specs.Lanes.{HasNoWork, is_ready_at}
 use Rattle.rm_desk.specs.Runs.{IsLast, IsScriptOver, IsPlaceSound, DescribesState}
-use Rattle.rm_desk.specs.Scripts.{EndsInCrash, IsCrash}
+use Rattle.rm_desk.specs.Scripts.{EndsInCrash, ClosesByCrash}
 use Rattle.rm_desk.proofs.Words.{blown_down, blown_serves, dead_idle, idle_rests, life_blew, life_none, life_stands, rest_down, rest_ends, rest_open, rest_owes}
 
 -- what a desk tells of the state after its log
@@ -57,9 +57,9 @@ module _ (d : DeskView) (h : IsPlaceSound d) (alive : stands d.core ≡ true) (b
   blown_segments : (segments : List Segment) → d.place.segments ≡ segments → SomeReady d
   blown_segments [] e = absurd (subst (λ (s : List Segment). IsLast (close_left s)) e (h.blown alive blown))
   blown_segments (segment ∷ more) e =
-      let last : IsCrash segment.close = subst (λ (s : List Segment). IsLast (close_left s)) e (h.blown alive blown) in
+      let last : ClosesByCrash segment.close = subst (λ (s : List Segment). IsLast (close_left s)) e (h.blown alive blown) in
       of_segment d (blown_serves d.core alive blown) (blown_down d.core alive write) segment more e segment.messages refl segment.close refl
-      (λ settles. absurd (subst IsCrash settles last))
+      (λ settles. absurd (subst ClosesByCrash settles last))
 
 -- the run is over, or some lane is ready
 pub over_or_ready : (d : DeskView) → IsPlaceSound d → Rests d.core → IsScriptOver d ⊎ SomeReady d

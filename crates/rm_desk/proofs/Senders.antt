@@ -6,7 +6,8 @@ use Rattle.rm_types.specs.declared.messages.Sender.{Sender}
 use Rattle.rm_types.specs.declared.messages.Sender.TheVariants.{Client, Master, Node, Clock}
 use Rattle.rm_model.specs.Place.{is_from}
 use Rattle.rm_desk.specs.declared.cursors.Cursors.{Cursors}
-use Rattle.rm_desk.specs.Left.{sender_of, cursor_of, with_cursor}
+use Rattle.rm_desk.specs.Left.{cursor_of, with_cursor}
+use Rattle.rm_types.specs.Lanes.{sender_of}
 
 -- a message is of the sender who sent it
 pub from_own : (message : Message) → is_from (sender_of message) message ≡ true

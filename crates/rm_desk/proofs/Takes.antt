@@ -8,7 +8,8 @@ use Rattle.rm_types.specs.declared.messages.Message.{Message}
 use Rattle.rm_types.specs.declared.messages.Sender.{Sender}
 use Rattle.rm_model.specs.Place.{is_from, first_from, without_first}
 use Rattle.rm_desk.specs.declared.cursors.Cursors.{Cursors}
-use Rattle.rm_desk.specs.Left.{sender_of, cursor_of, with_cursor, steps_to, left_from, left, PointsRight}
+use Rattle.rm_desk.specs.Left.{cursor_of, with_cursor, steps_to, left_from, unsent, PointsRight}
+use Rattle.rm_types.specs.Lanes.{sender_of}
 use Rattle.rm_desk.proofs.Senders.{from_own, own_sender, moved_own, moved_others, moved_all}
 use Rattle.rm_desk.proofs.Firsts.{steps_here, steps_on, steps_within, steps_done, left_taken, left_kept, first_left}
 
@@ -113,7 +114,7 @@ drop_got (one ∷ xs) zero x e = let same : one ≡ x = cc in ap (λ y. y ∷ xs
 drop_got (one ∷ xs) (suc place) x e = let n : suc place + 1 ≡ suc (place + 1) = omega arith in rw n (drop_got xs place x e)
 
 -- the cursors at the first messages leave all
-pub all_left : (cursors : Cursors) (messages : List Message) → ((sender : Sender) → cursor_of cursors sender ≡ 0 + steps_to sender messages) → left cursors messages ≡ messages
+pub all_left : (cursors : Cursors) (messages : List Message) → ((sender : Sender) → cursor_of cursors sender ≡ 0 + steps_to sender messages) → unsent cursors messages ≡ messages
 all_left cursors messages at = all_left_from (cursor_of cursors) 0 messages (λ sender. omega (arith, at sender))
 
 -- and point right
@@ -123,7 +124,7 @@ points_first cursors messages at = record { within = λ sender. omega (arith, at
   own sender = let e : cursor_of cursors sender ≡ steps_to sender messages = omega (arith, at sender) in rw e (steps_done sender messages)
 
 -- a cursor that is moved to the next message of its sender takes the first
-pub taken : (sender : Sender) (place : ℕ) (cursors : Cursors) (messages : List Message) → PointsRight cursors messages → cursor_of cursors sender < length messages → place ≡ (cursor_of cursors sender + 1) + steps_to sender (drop (cursor_of cursors sender + 1) messages) → left (with_cursor sender place cursors) messages ≡ without_first sender (left cursors messages)
+pub taken : (sender : Sender) (place : ℕ) (cursors : Cursors) (messages : List Message) → PointsRight cursors messages → cursor_of cursors sender < length messages → place ≡ (cursor_of cursors sender + 1) + steps_to sender (drop (cursor_of cursors sender + 1) messages) → unsent (with_cursor sender place cursors) messages ≡ without_first sender (unsent cursors messages)
 taken sender place cursors messages right within at =
     let more : cursor_of cursors sender + 1 ≡ suc (cursor_of cursors sender) = omega arith in
     let to = rw more at at in
@@ -140,5 +141,5 @@ points_next sender place cursors messages right within at = record { within = mo
   none = rw (at, ← drop-drop (steps_to sender (drop (cursor_of cursors sender + 1) messages)) (cursor_of cursors sender + 1) messages) (steps_done sender (drop (cursor_of cursors sender + 1) messages))
 
 -- where the cursor is at the end, there is no message of its sender to take
-pub none_to_take : (sender : Sender) (cursors : Cursors) (messages : List Message) → PointsRight cursors messages → length messages ≤ cursor_of cursors sender → without_first sender (left cursors messages) ≡ left cursors messages
-none_to_take sender cursors messages right past = none_first sender (left cursors messages) (first_left sender cursors messages right ∙ slice_get_past messages (cursor_of cursors sender) past)
+pub none_to_take : (sender : Sender) (cursors : Cursors) (messages : List Message) → PointsRight cursors messages → length messages ≤ cursor_of cursors sender → without_first sender (unsent cursors messages) ≡ unsent cursors messages
+none_to_take sender cursors messages right past = none_first sender (unsent cursors messages) (first_left sender cursors messages right ∙ slice_get_past messages (cursor_of cursors sender) past)

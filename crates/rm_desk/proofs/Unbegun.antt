@@ -9,12 +9,12 @@ use Rattle.rm_model.specs.Place.{Place, beginning}
 use Rattle.rm_core.specs.Seen.{Seen, StandsFor}
 use Rattle.rm_core.specs.Words.{stands}
 use Rattle.rm_desk.specs.declared.feeds.Feeds.{Feeds}
-use Rattle.rm_desk.specs.Feeds.{at, place_of}
+use Rattle.rm_desk.specs.Feeds.{at, feeds_place}
 use Rattle.rm_desk.specs.Runs.{IsPlaceSound, IsScriptRun}
 use Rattle.rm_desk.specs.Scripts.{CanGoAlong}
 
 -- no life stands, so only the lives of the script have to follow one another
-pub unbegun_sound : (core : Seen) (f : Feeds) (script : Script) → CanGoAlong script → stands core ≡ false → place_of f ≡ beginning script → IsPlaceSound (at core f)
+pub unbegun_sound : (core : Seen) (f : Feeds) (script : Script) → CanGoAlong script → stands core ≡ false → feeds_place f ≡ beginning script → IsPlaceSound (at core f)
 unbegun_sound core f script can down place =
     subst (λ (p : Place). IsPlaceSound (record { core = core; place = p })) (sym place)
     (record {
@@ -27,11 +27,11 @@ unbegun_sound core f script can down place =
     })
 
 -- an empty log goes along each script, whatever the store held
-pub unbegun_runs : (core : Seen) (f : Feeds) (script : Script) (opening : List Op) → StandsFor opening core → core.log ≡ [] → place_of f ≡ beginning script → IsScriptRun opening script (at core f)
+pub unbegun_runs : (core : Seen) (f : Feeds) (script : Script) (opening : List Op) → StandsFor opening core → core.log ≡ [] → feeds_place f ≡ beginning script → IsScriptRun opening script (at core f)
 unbegun_runs core f script opening holds log place = record {
   stands = holds;
   along = record {
     along = subst (λ (entries : List Entry). Follows (opening_state opening) (beginning script) entries) (sym log) tt;
-    at = subst (λ (entries : List Entry). place_after script entries ≡ place_of f) (sym log) (sym place);
+    at = subst (λ (entries : List Entry). place_after script entries ≡ feeds_place f) (sym log) (sym place);
   };
 }

@@ -22,8 +22,8 @@ use Rattle.rm_core.specs.Moves.{IsLeftAfter}
 use Rattle.rm_core.specs.Seen.{StandsFor}
 use Rattle.rm_core.specs.Words.{as_new, handed_of, has_rest, is_blown, landed_over, stands}
 use Rattle.rm_desk.specs.View.{DeskView}
-use Rattle.rm_desk.specs.Lanes.{IsWork, stands_after}
-use Rattle.rm_desk.specs.Runs.{IsScriptRun, IsPlaceSound, left}
+use Rattle.rm_desk.specs.Lanes.{IsWork, life_goes_on}
+use Rattle.rm_desk.specs.Runs.{IsScriptRun, IsPlaceSound, moves_left}
 
 -- the entry with which a segment closes
 abbrev pub ClosesWith : Option Close → Entry → Type 0
@@ -75,9 +75,9 @@ pub record EffectBy (kind : Entry → Type 0) (blew : Bool) (lane : Lane) (old n
   pub adds : AddsOne kind old new
   pub of_lane : lane_of_entry adds.entry ≡ lane
   pub goes : ExtendsScriptRun (λ opening. Unit {0}) old new
-  pub less : left new < left old
+  pub less : moves_left new < moves_left old
   pub stood : stands old.core ≡ true
-  pub standing : stands new.core ≡ stands_after lane (close_left old.place.segments)
+  pub standing : stands new.core ≡ life_goes_on lane (close_left old.place.segments)
   pub blown : is_blown new.core ≡ blew
   pub busy : IsWork lane → has_rest old.core → ⊥
   pub settled : lane ≡ End → close_left old.place.segments ≡ Some Settle → has_rest new.core
@@ -87,8 +87,8 @@ abbrev pub LaneEffect : Lane → DeskView → DeskView → Type 0
 LaneEffect lane old new = EffectBy (IsEntryOf lane old) (is_blown old.core) lane old new
 
 -- the store refused the operation that was with it, after so many calls
-abbrev pub Blows : ℕ → DeskView → DeskView → Type 0
-Blows passed old new = EffectBy (λ e. e ≡ Blown passed) true Write old new
+abbrev pub StoreBlows : ℕ → DeskView → DeskView → Type 0
+StoreBlows passed old new = EffectBy (λ e. e ≡ Blown passed) true Write old new
 
 -- the script's next life begins over what the last one left
 pub record LifeBegins (tree : Records) (old new : DeskView) : Type 0 where

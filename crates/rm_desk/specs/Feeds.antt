@@ -14,12 +14,12 @@ current_in None feed = []
 current_in (Some close) feed = record { messages = feed; close = close } ∷ []
 
 -- where the feeds are in their script
-abbrev pub place_of : Feeds → Place
-place_of f = record { lives = f.lives; segments = current_in f.close f.feed ++ f.segments }
+abbrev pub feeds_place : Feeds → Place
+feeds_place f = record { lives = f.lives; segments = current_in f.close f.feed ++ f.segments }
 
 -- a manager with these feeds
 abbrev pub at : Seen → Feeds → DeskView
-at core f = record { core = core; place = place_of f }
+at core f = record { core = core; place = feeds_place f }
 
 -- where no segment is current, none is left of the life, nor a message
 abbrev pub IsEntered : Feeds → Type 0

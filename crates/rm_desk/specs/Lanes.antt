@@ -56,6 +56,6 @@ abbrev pub HasNoWork : DeskView → Type 0
 HasNoWork d = (lane : Lane) → IsWork lane → is_ready_at d lane ≡ false
 
 -- a life stands behind a lane's move, unless its segment crashed
-abbrev pub stands_after : Lane → Option Close → Bool
-stands_after End (Some (Crash calls image)) = false
-stands_after _ _ = true
+abbrev pub life_goes_on : Lane → Option Close → Bool
+life_goes_on End (Some (Crash calls image)) = false
+life_goes_on _ _ = true

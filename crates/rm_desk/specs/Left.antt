@@ -6,13 +6,7 @@ use Rattle.rm_types.specs.declared.messages.Sender.{Sender}
 use Rattle.rm_types.specs.declared.messages.Sender.TheVariants.{Client, Master, Node, Clock}
 use Rattle.rm_model.specs.Place.{is_from}
 use Rattle.rm_desk.specs.declared.cursors.Cursors.{Cursors}
-
--- who sent the message
-abbrev pub sender_of : Message → Sender
-sender_of (FromClient user ask) = Client
-sender_of (FromMaster attempt ask) = Master
-sender_of (FromNode node ask) = Node
-sender_of (FromClock ask) = Clock
+use Rattle.rm_types.specs.Lanes.{sender_of}
 
 -- the cursor of a sender
 abbrev pub cursor_of : Cursors → Sender → ℕ
@@ -39,8 +33,8 @@ left_from cursor place [] = []
 left_from cursor place (message ∷ more) = elim (ltb place (cursor (sender_of message))) [ true ↦ left_from cursor (place + 1) more | false ↦ message ∷ left_from cursor (place + 1) more ]
 
 -- the messages that are left: those whose place isn't below the cursor of their own sender
-abbrev pub left : Cursors → List Message → List Message
-left cursors messages = left_from (cursor_of cursors) 0 messages
+abbrev pub unsent : Cursors → List Message → List Message
+unsent cursors messages = left_from (cursor_of cursors) 0 messages
 
 -- each cursor is at a message of its own sender, or at the end
 pub record PointsRight (cursors : Cursors) (messages : List Message) : Type 0 where

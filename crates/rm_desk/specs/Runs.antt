@@ -11,14 +11,15 @@ use Rattle.rm_model.specs.Place.{Place, beginning, close_left}
 use Rattle.rm_model.specs.Lawful.{Follows, IsAtRest, place_after, state_after}
 use Rattle.rm_core.specs.Seen.{StandsFor}
 use Rattle.rm_types.specs.Limits.{most_served}
-use Rattle.rm_core.specs.Words.{has_rest, is_blown, message_measure, served_in, stands, measure_of}
+use Rattle.rm_core.specs.Words.{has_rest, is_blown, measure_added, served_in, stands, measure_of}
 use Rattle.rm_desk.specs.View.{DeskView}
-use Rattle.rm_desk.specs.Scripts.{AllLive, CanFollow, EndsInCrash, IsCrash, messages_in}
+use Rattle.rm_desk.specs.Scripts.{AllLive, CanFollow, EndsInCrash, ClosesByCrash}
+use Rattle.rm_types.specs.Segments.{messages_in}
 
 -- the current segment ends with its life
 abbrev pub IsLast : Option Close → Type 0
 IsLast None = ⊥
-IsLast (Some close) = IsCrash close
+IsLast (Some close) = ClosesByCrash close
 
 -- what is left of the script can be gone along: no segment is left between two lives, a life crashes where another follows
 -- it, in the segment in which an operation of it was refused, and no more messages are left in it than may still be served
@@ -49,11 +50,11 @@ pub record IsScriptOver (d : DeskView) : Type 0 where
 
 -- a message costs at most its own move and those that it adds, and a segment one more
 abbrev pub segment_cost : Segment → ℕ
-segment_cost segment = 1 + (message_measure + 1) * length segment.messages
+segment_cost segment = 1 + (measure_added + 1) * length segment.messages
 
 -- at most so many moves are left in a life
-abbrev pub left : DeskView → ℕ
-left d = measure_of d.core + sum_by segment_cost d.place.segments
+abbrev pub moves_left : DeskView → ℕ
+moves_left d = measure_of d.core + sum_by segment_cost d.place.segments
 
 -- a life that was blown, or was not
 abbrev pub HasBlown : Bool → Option LifeState → Type 0

@@ -9,6 +9,7 @@ use Rattle.rm_types.specs.declared.scripts.Segment.{Segment}
 use Rattle.rm_types.specs.declared.scripts.Script.{Script}
 use Rattle.rm_types.specs.Limits.{greatest_stamp, most_served}
 use Rattle.rm_core.specs.Words.{IsServable}
+use Rattle.rm_types.specs.Segments.{messages_in}
 
 -- each message is of a kind that is served
 abbrev pub AllServed : List Message → Type 0
@@ -26,19 +27,15 @@ CanFollow [] = Unit {0}
 CanFollow (segment ∷ more) = AllServed segment.messages × Closes segment.close more × CanFollow more
 
 -- the segment ends with its life
-abbrev pub IsCrash : Close → Type 0
-IsCrash Settle = ⊥
-IsCrash (Crash calls image) = Unit {0}
+abbrev pub ClosesByCrash : Close → Type 0
+ClosesByCrash Settle = ⊥
+ClosesByCrash (Crash calls image) = Unit {0}
 
 -- the last of the segments crashes
 abbrev pub EndsInCrash : List Segment → Type 0
 EndsInCrash [] = ⊥
-EndsInCrash (segment ∷ []) = IsCrash segment.close
+EndsInCrash (segment ∷ []) = ClosesByCrash segment.close
 EndsInCrash (segment ∷ next ∷ more) = EndsInCrash (next ∷ more)
-
--- how many messages segments have
-abbrev pub messages_in : List Segment → ℕ
-messages_in segments = sum_by (λ segment. length segment.messages) segments
 
 -- a life can be lived: its stamp is 1 to 10^15, its segments can follow each other, and it has no more messages than are
 -- served in a life

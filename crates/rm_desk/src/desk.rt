@@ -15,7 +15,7 @@ ghost use Rattle.rm_invariant.specs.messages.Ranges.{KeepsLimits};
 ghost use Rattle.rm_core.specs.Moves.{CanBeginOver, IsLeft, IsOwn};
 ghost use Rattle.rm_core.specs.Seen.{IsToBeKept, StandsFor};
 ghost use Rattle.rm_core.specs.Words.{as_new, handed_of, has_rest, is_blown, new_manager, stands};
-ghost use Rattle.rm_desk.specs.Effects.{LifeBegins, Blows, LaneEffect, IsHanded};
+ghost use Rattle.rm_desk.specs.Effects.{LifeBegins, StoreBlows, LaneEffect, IsHanded};
 ghost use Rattle.rm_desk.specs.Lanes.{HasNoWork, IsStep, is_ready_at};
 ghost use Rattle.rm_desk.specs.Runs.{IsScriptOver, IsScriptRun, IsPlaceSound, DescribesState};
 ghost use Rattle.rm_desk.specs.Scripts.{CanGoAlong};
@@ -137,7 +137,7 @@ impl Desk {
     /// is with the store, and `Memory` where no memory was found; then nothing has changed.
     pub fn blown(&mut self, passed: u32) -> Result<(), Refused>
         requires { (image : ℕ) × (close_left self.old.place.segments ≡ Some (Close.Crash passed image)) }
-        ensures does { OnOk result (Blows passed self.old self.new) }
+        ensures does { OnOk result (StoreBlows passed self.old self.new) }
         ensures ready { OnOk result (is_ready_at self.old Lane.Write ≡ true) }
         ensures not_ready { IsErrOf result Refused.NotReady ↔ (is_ready_at self.old Lane.Write ≡ false) }
         ensures err { OnErr result (self.new ≡ self.old) }

@@ -18,11 +18,11 @@ pub struct Feed {
 impl Model for Feed {
     ghost use Rattle.std.specs.Prelude.{List};
     ghost use Rattle.rm_types.specs.declared.messages.Message.{Message};
-    ghost use Rattle.rm_desk.specs.Left.{left, PointsRight};
+    ghost use Rattle.rm_desk.specs.Left.{unsent, PointsRight};
 
     ghost Value = { List Message };
 
-    ghost view = { λ a. left a.cursors a.messages };
+    ghost view = { λ a. unsent a.cursors a.messages };
 
     ghost invariant = { λ a. PointsRight a.cursors a.messages };
 }

@@ -16,12 +16,12 @@ pub struct Feeds {
 }
 
 impl Feeds {
-    ghost use Rattle.rm_model.specs.Place.{IsAtEnd, begun, beginning};
-    ghost use Rattle.rm_desk.specs.Feeds.{IsEntered, place_of};
+    ghost use Rattle.rm_model.specs.Place.{IsAtEnd, place_begun, beginning};
+    ghost use Rattle.rm_desk.specs.Feeds.{IsEntered, feeds_place};
 
     /// A script before its first life. It takes no memory.
     pub fn new(alloc: Global, script: Script) -> Feeds
-        ensures place { place_of result ≡ beginning script }
+        ensures place { feeds_place result ≡ beginning script }
         ensures entered { IsEntered result }
     {
         let Script { lives } = script;
@@ -36,7 +36,7 @@ impl Feeds {
 
     /// The next segment of the life becomes the current one, if there is one.
     pub fn enter(&mut self)
-        ensures place { place_of self.new ≡ record { lives = self.old.lives; segments = self.old.segments } }
+        ensures place { feeds_place self.new ≡ record { lives = self.old.lives; segments = self.old.segments } }
         ensures entered { IsEntered self.new }
     {
         match self.segments.take_first() {
@@ -55,7 +55,7 @@ impl Feeds {
     /// The next life begins with its first segment.
     pub fn enter_life(&mut self)
         requires { self.old.lives ≢ [] }
-        ensures place { place_of self.new ≡ begun self.old.lives (place_of self.old) }
+        ensures place { feeds_place self.new ≡ place_begun self.old.lives (feeds_place self.old) }
         ensures entered { IsEntered self.new }
     {
         match self.lives.take_first() {
@@ -71,7 +71,7 @@ impl Feeds {
     /// Whether nothing is left of the script.
     pub fn is_at_end(&self) -> bool
         requires { IsEntered self.now }
-        ensures { IsTrue result ↔ IsAtEnd (place_of self.now) }
+        ensures { IsTrue result ↔ IsAtEnd (feeds_place self.now) }
     {
         self.close.is_none() && self.lives.is_empty()
     }

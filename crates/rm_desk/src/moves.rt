@@ -5,7 +5,7 @@ ghost use Rattle.rm_types.specs.Lanes.{feed_lane};
 ghost use Rattle.rm_model.specs.Place.{close_left};
 ghost use Rattle.rm_tables.specs.declared.events.Refused.{Refused};
 ghost use Rattle.rm_core.specs.Moves.{CanBeginOver, IsOwn};
-ghost use Rattle.rm_desk.specs.Effects.{LifeBegins, Blows, LaneEffect};
+ghost use Rattle.rm_desk.specs.Effects.{LifeBegins, StoreBlows, LaneEffect};
 ghost use Rattle.rm_desk.specs.Feeds.{IsEntered, at};
 ghost use Rattle.rm_desk.specs.Lanes.{IsStep, has_message, is_ready_at};
 ghost use Rattle.rm_desk.specs.Runs.{IsPlaceSound};
@@ -88,7 +88,7 @@ pub(crate) fn blown(core: &mut Core, feeds: &Feeds, passed: u32) -> Result<(), R
     requires ready { is_ready_at (at core.old feeds.now) Lane.Write ≡ true }
     requires crashes { (image : ℕ) × (close_left (at core.old feeds.now).place.segments ≡ Some (Close.Crash passed image)) }
     ensures ready { result ≢ Err Refused.NotReady }
-    ensures does { OnOk result (Blows passed (at core.old feeds.now) (at core.new feeds.now)) }
+    ensures does { OnOk result (StoreBlows passed (at core.old feeds.now) (at core.new feeds.now)) }
     ensures core { OnErr result (core.new ≡ core.old) }
 {
     let _ = feeds;

@@ -9,7 +9,7 @@ use Rattle.std.proofs.lemmas.List.Sums.{fold_push}
 use Rattle.rm_disk.specs.Disk.{put, SameElsewhere, AnyIn, IsLaterView, Leaves, IsQuiet, MayWrite, Falls, IsDurable}
 use Rattle.rm_disk.specs.declared.calls.Call.{Call}
 use Rattle.rm_disk.specs.declared.calls.Call.TheVariants.{Write, Fall}
-use Rattle.rm_disk.specs.Memory.{MemState, settled_at, is_within, writes_at, is_written, renewed, fallen_byte, fallen, after_call, replayed, IsImage, LeftSince, view_of, fits, IsReplayed}
+use Rattle.rm_disk.specs.Memory.{MemState, settled_at, is_within, writes_at, is_written, renewed, fallen_byte, fallen, after_call, replayed, IsImage, LeftSince, view_of_memory, call_fits, IsReplayed}
 use Rattle.rm_disk.proofs.Puts.{length-put, before-put, inside-put, after-put, put_elsewhere}
 use Rattle.rm_disk.proofs.Renewed.{if_true, if_false, inside, within_parts, length-renewed, get_or-renewed, renewed_is, renewed_same}
 use Rattle.rm_disk.proofs.Views.{goes_on_same, leaves_same, elsewhere_back, quiet_counted}
@@ -17,8 +17,8 @@ use Rattle.rm_disk.proofs.Views.{goes_on_same, leaves_same, elsewhere_back, quie
 replayed_push : (first : List ℕ) (calls : List Call) (call : Call) → replayed first (calls ++ call ∷ []) ≡ after_call (replayed first calls) call
 replayed_push first calls call = fold_push after_call (settled_at first) calls call
 
-fit_push : (size : ℕ) (calls : List Call) (call : Call) → list_all (fits size) calls ≡ true → fits size call ≡ true → list_all (fits size) (calls ++ call ∷ []) ≡ true
-fit_push size calls call fit one = list_all-append (fits size) calls (call ∷ []) ∙ and_from (list_all (fits size) calls) (fits size call && true) fit (and_from (fits size call) true one refl)
+fit_push : (size : ℕ) (calls : List Call) (call : Call) → list_all (call_fits size) calls ≡ true → call_fits size call ≡ true → list_all (call_fits size) (calls ++ call ∷ []) ≡ true
+fit_push size calls call fit one = list_all-append (call_fits size) calls (call ∷ []) ∙ and_from (list_all (call_fits size) calls) (call_fits size call && true) fit (and_from (call_fits size call) true one refl)
 
 -- A place that is not written by the calls, nor by one more.
 written_push : (calls : List Call) (call : Call) (place : ℕ) → is_written (calls ++ call ∷ []) place ≡ false → (is_written calls place ≡ false) × (writes_at place call ≡ false)
@@ -88,10 +88,10 @@ module _ (first : List ℕ) (calls : List Call) (call : Call) where
   image_push image is = subst (λ (s : MemState). IsImage s image) (replayed_push first calls call) is
 
   -- Whatever the call.
-  goes_on : (bytes bytes' : List ℕ) (faults faults' : ℕ) → faults ≤ faults' → IsLaterView (view_of first bytes calls faults) (view_of first bytes' (calls ++ call ∷ []) faults')
+  goes_on : (bytes bytes' : List ℕ) (faults faults' : ℕ) → faults ≤ faults' → IsLaterView (view_of_memory first bytes calls faults) (view_of_memory first bytes' (calls ++ call ∷ []) faults')
   goes_on bytes bytes' faults faults' le = record { size = refl; tells = refl; past = λ from image _ was. past_push from image was; faults = le }
 
-  leaves : (bytes bytes' : List ℕ) (faults faults' : ℕ) (P : List ℕ → Type 0) → ((image : List ℕ) → IsImage (after_call before call) image → P image) → Leaves (view_of first bytes calls faults) (view_of first bytes' (calls ++ call ∷ []) faults') P
+  leaves : (bytes bytes' : List ℕ) (faults faults' : ℕ) (P : List ℕ → Type 0) → ((image : List ℕ) → IsImage (after_call before call) image → P image) → Leaves (view_of_memory first bytes calls faults) (view_of_memory first bytes' (calls ++ call ∷ []) faults') P
   leaves bytes bytes' faults faults' P weaken = record {
     later = omega (arith, length-append calls (call ∷ []));
     each = λ from image _ left. elim (left_push from image left) [ inl was ↦ inl was | inr is ↦ inr (weaken image is) ];
@@ -163,16 +163,16 @@ module _ (first bytes synced : List ℕ) (calls : List Call) (settled : ℕ) (ke
               ∙ is.others place (list_any-append (writes_at place) here.unsynced (call ∷ []) ∙ or_from (is_written here.unsynced place) (writes_at place call || false) none (or_from (writes_at place call) false out refl))
         ]
 
-    pub may_write : (faults faults' : ℕ) → faults ≤ faults' → MayWrite at (length piece) (view_of first bytes calls faults) (view_of first (put at piece bytes) (calls ++ Write at piece ∷ []) faults')
+    pub may_write : (faults faults' : ℕ) → faults ≤ faults' → MayWrite at (length piece) (view_of_memory first bytes calls faults) (view_of_memory first (put at piece bytes) (calls ++ Write at piece ∷ []) faults')
     may_write faults faults' le = record {
       goes_on = goes_on first calls call bytes (put at piece bytes) faults faults' le;
       told = λ l is. (put at piece bytes, refl, subst (λ (x : List ℕ). SameElsewhere at (length piece) x (put at piece bytes)) (some_same bytes l is) (put_elsewhere at piece bytes (omega (arith, within, kept.size))));
       images = λ image is. unwritten image (image_push first calls call image is);
-      time = leaves first calls call bytes (put at piece bytes) faults faults' (AnyIn at (length piece) (view_of first bytes calls faults)) unwritten;
+      time = leaves first calls call bytes (put at piece bytes) faults faults' (AnyIn at (length piece) (view_of_memory first bytes calls faults)) unwritten;
     }
 
   -- A call that leaves one of the images, and nothing unsynced.
-  module _ (call : Call) (after : List ℕ) (settles_at : after_call here call ≡ settled_at after) (image_of : IsImage here after) (fits_it : fits (length first) call ≡ true) where
+  module _ (call : Call) (after : List ℕ) (settles_at : after_call here call ≡ settled_at after) (image_of : IsImage here after) (fits_it : call_fits (length first) call ≡ true) where
     is_after : (image : List ℕ) → IsImage (after_call here call) image → image ≡ after
     is_after image is =
         let there : IsImage (settled_at after) image = subst (λ (s : MemState). IsImage s image) settles_at is in
@@ -196,16 +196,16 @@ module _ (first bytes synced : List ℕ) (calls : List Call) (settled : ℕ) (ke
     settled_images : (image : List ℕ) → IsImage (after_call here call) image → IsImage here image
     settled_images image is = subst (λ (l : List ℕ). IsImage here l) (sym (is_after image is)) image_of
 
-    settled_goes_on : (faults faults' : ℕ) → faults ≤ faults' → IsLaterView (view_of first bytes calls faults) (view_of first after (calls ++ call ∷ []) faults')
+    settled_goes_on : (faults faults' : ℕ) → faults ≤ faults' → IsLaterView (view_of_memory first bytes calls faults) (view_of_memory first after (calls ++ call ∷ []) faults')
     settled_goes_on faults faults' le = goes_on first calls call bytes after faults faults' le
 
-    settled_time : (faults faults' : ℕ) → Leaves (view_of first bytes calls faults) (view_of first after (calls ++ call ∷ []) faults') (IsImage here)
+    settled_time : (faults faults' : ℕ) → Leaves (view_of_memory first bytes calls faults) (view_of_memory first after (calls ++ call ∷ []) faults') (IsImage here)
     settled_time faults faults' = leaves first calls call bytes after faults faults' (IsImage here) settled_images
 
-    pub settled_durable : (faults' : ℕ) → IsDurable (view_of first after (calls ++ call ∷ []) faults')
+    pub settled_durable : (faults' : ℕ) → IsDurable (view_of_memory first after (calls ++ call ∷ []) faults')
     settled_durable faults' = λ image is. ap (λ (l : List ℕ). Some l) (sym (is_after image (image_push first calls call image is)))
 
-    pub settled_quiet : after ≡ bytes → (faults faults' : ℕ) → faults ≤ faults' → IsQuiet (view_of first bytes calls faults) (view_of first after (calls ++ call ∷ []) faults')
+    pub settled_quiet : after ≡ bytes → (faults faults' : ℕ) → faults ≤ faults' → IsQuiet (view_of_memory first bytes calls faults) (view_of_memory first after (calls ++ call ∷ []) faults')
     settled_quiet same faults faults' le = record {
       goes_on = settled_goes_on faults faults' le;
       told = ap (λ (l : List ℕ). Some l) same;
@@ -213,7 +213,7 @@ module _ (first bytes synced : List ℕ) (calls : List Call) (settled : ℕ) (ke
       time = settled_time faults faults';
     }
 
-    pub falls : (faults : ℕ) → Falls (view_of first bytes calls faults) (view_of first after (calls ++ call ∷ []) faults)
+    pub falls : (faults : ℕ) → Falls (view_of_memory first bytes calls faults) (view_of_memory first after (calls ++ call ∷ []) faults)
     falls faults = record {
       goes_on = settled_goes_on faults faults (omega arith);
       told = λ l is. subst (λ (x : List ℕ). IsImage here x) (some_same after l is) image_of;
@@ -242,12 +242,12 @@ module _ (first bytes synced : List ℕ) (calls : List Call) (settled : ℕ) (ke
   pub synced_anew : renewed (is_written (drop settled calls)) (λ place. get_or bytes place 0) synced ≡ bytes
   synced_anew = settles fields bytes now_image
 
-  pub none_falls : settled ≡ length calls → (faults : ℕ) → Falls (view_of first bytes calls faults) (view_of first bytes calls faults)
+  pub none_falls : settled ≡ length calls → (faults : ℕ) → Falls (view_of_memory first bytes calls faults) (view_of_memory first bytes calls faults)
   none_falls none faults = record {
-    goes_on = goes_on_same (view_of first bytes calls faults);
+    goes_on = goes_on_same (view_of_memory first bytes calls faults);
     told = λ l is. subst (λ (x : List ℕ). IsImage here x) (some_same bytes l is) kept.image;
     durable = λ image is. ap (λ (l : List ℕ). Some l) (sym (already none image is));
-    time = leaves_same (view_of first bytes calls faults) (IsImage here);
+    time = leaves_same (view_of_memory first bytes calls faults) (IsImage here);
     faults = refl;
   }
 
@@ -274,12 +274,12 @@ module _ (first bytes synced : List ℕ) (calls : List Call) (settled : ℕ) (ke
     fallen_anew = settles fields (fallen image fields) fallen_fields
 
 -- A call that fails changes nothing but the count of faults.
-pub fault_quiet : (first bytes : List ℕ) (calls : List Call) (faults faults' : ℕ) → faults ≤ faults' → IsQuiet (view_of first bytes calls faults) (view_of first bytes calls faults')
+pub fault_quiet : (first bytes : List ℕ) (calls : List Call) (faults faults' : ℕ) → faults ≤ faults' → IsQuiet (view_of_memory first bytes calls faults) (view_of_memory first bytes calls faults')
 fault_quiet first bytes calls faults faults' le =
-    quiet_counted (view_of first bytes calls faults) (view_of first bytes calls faults') refl refl refl (λ image is. is) (λ from image left. left) (λ from image left. left) le
+    quiet_counted (view_of_memory first bytes calls faults) (view_of_memory first bytes calls faults') refl refl refl (λ image is. is) (λ from image left. left) (λ from image left. left) le
 
 -- A disk on which no call was made.
-pub fresh_durable : (first bytes : List ℕ) (calls : List Call) (faults : ℕ) → calls ≡ [] → bytes ≡ first → IsDurable (view_of first bytes calls faults)
+pub fresh_durable : (first bytes : List ℕ) (calls : List Call) (faults : ℕ) → calls ≡ [] → bytes ≡ first → IsDurable (view_of_memory first bytes calls faults)
 fresh_durable first bytes calls faults none same = λ image is.
     let there : IsImage (settled_at first) image = subst (λ (l : List Call). IsImage (replayed first l) image) none is in
     ap (λ (l : List ℕ). Some l) (same ∙ sym (ext_get_or 0 image first there.size (λ place _. there.others place refl)))

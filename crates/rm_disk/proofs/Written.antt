@@ -6,7 +6,7 @@ use Rattle.std.proofs.lemmas.Bool.{cases_Bool, and_parts, eq-eqb, eqb-true, leb-
 use Rattle.std.proofs.lemmas.List.Folds.{list_any_more, list_all-append}
 use Rattle.rm_disk.specs.declared.calls.Call.{Call}
 use Rattle.rm_disk.specs.declared.calls.Call.TheVariants.{Write, Sync, Fall}
-use Rattle.rm_disk.specs.Memory.{MemState, fallen, writes_at, is_written, renewed, fits}
+use Rattle.rm_disk.specs.Memory.{MemState, fallen, writes_at, is_written, renewed, call_fits}
 use Rattle.rm_disk.proofs.Renewed.{renewed_twice, renewed_same}
 
 module _ (calls : List Call) (many : ℕ) (call : Call) (byte : ℕ → ℕ) (old : List ℕ) (lt : many < length calls) (is : call ≡ get_or calls many call) where
@@ -27,20 +27,20 @@ writes_none (Write at bytes) none place = absurd (none at bytes refl)
 writes_none Sync none place = refl
 writes_none (Fall image) none place = refl
 
-pub fit_drop : (size many : ℕ) (calls : List Call) → list_all (fits size) calls ≡ true → list_all (fits size) (drop many calls) ≡ true
+pub fit_drop : (size many : ℕ) (calls : List Call) → list_all (call_fits size) calls ≡ true → list_all (call_fits size) (drop many calls) ≡ true
 fit_drop size many calls fit =
-    let whole : (list_all (fits size) (take many calls) && list_all (fits size) (drop many calls)) ≡ true = sym (list_all-append (fits size) (take many calls) (drop many calls)) ∙ ap (list_all (fits size)) (take-append-drop many calls) ∙ fit in
-    (and_parts (list_all (fits size) (take many calls)) (list_all (fits size) (drop many calls)) whole).1
+    let whole : (list_all (call_fits size) (take many calls) && list_all (call_fits size) (drop many calls)) ≡ true = sym (list_all-append (call_fits size) (take many calls) (drop many calls)) ∙ ap (list_all (call_fits size)) (take-append-drop many calls) ∙ fit in
+    (and_parts (list_all (call_fits size) (take many calls)) (list_all (call_fits size) (drop many calls)) whole).1
 
 -- Each call of a record that fits lies within the size.
-pub fit_at : (size many : ℕ) (calls : List Call) (call : Call) (at : ℕ) (bytes : List ℕ) → list_all (fits size) calls ≡ true → many < length calls → call ≡ get_or calls many call → call ≡ Write at bytes → at + length bytes ≤ size
+pub fit_at : (size many : ℕ) (calls : List Call) (call : Call) (at : ℕ) (bytes : List ℕ) → list_all (call_fits size) calls ≡ true → many < length calls → call ≡ get_or calls many call → call ≡ Write at bytes → at + length bytes ≤ size
 fit_at size many calls call at bytes fit lt is write =
-    leb-true (at + length bytes) size (subst (λ c. fits size c ≡ true) (sym is ∙ write) (go calls many fit lt))
+    leb-true (at + length bytes) size (subst (λ c. call_fits size c ≡ true) (sym is ∙ write) (go calls many fit lt))
   where
-    go : (calls : List Call) (many : ℕ) → list_all (fits size) calls ≡ true → many < length calls → fits size (get_or calls many call) ≡ true
+    go : (calls : List Call) (many : ℕ) → list_all (call_fits size) calls ≡ true → many < length calls → call_fits size (get_or calls many call) ≡ true
     go [] many fit lt = absurd (omega arith)
-    go (c ∷ calls) zero fit lt = (and_parts (fits size c) (list_all (fits size) calls) fit).0
-    go (c ∷ calls) (suc many) fit lt = go calls many (and_parts (fits size c) (list_all (fits size) calls) fit).1 (omega arith)
+    go (c ∷ calls) zero fit lt = (and_parts (call_fits size c) (list_all (call_fits size) calls) fit).0
+    go (c ∷ calls) (suc many) fit lt = go calls many (and_parts (call_fits size c) (list_all (call_fits size) calls) fit).1 (omega arith)
 
 -- The three kinds of image.
 module _ (image : ℕ) (state : MemState) where

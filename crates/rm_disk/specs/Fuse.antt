@@ -32,14 +32,14 @@ abbrev pub refusing : {D : Type 0} → Fused D → Fused D
 refusing fuse = record fuse { blown = true; refused = risen fuse.refused }
 
 -- Whether a call counts as one that passed: not where it found no memory.
-abbrev pub counts : {T : Type 0} → Result T DiskError → Bool
-counts (Err Memory) = false
-counts _ = true
+abbrev pub counts_call : {T : Type 0} → Result T DiskError → Bool
+counts_call (Err Memory) = false
+counts_call _ = true
 
 -- How many passed after one more call of the inner disk; only an armed fuse counts.
 abbrev pub passed_after : {T : Type 0} → Option ℕ → Result T DiskError → ℕ → ℕ
 passed_after None outcome passed = passed
-passed_after (Some passes) outcome passed = if counts outcome then passed + 1 else passed
+passed_after (Some passes) outcome passed = if counts_call outcome then passed + 1 else passed
 
 -- A fuse after a call that went through to the inner disk and left it so.
 abbrev pub passing : {D T : Type 0} → Fused D → D → Result T DiskError → Fused D

@@ -1,14 +1,14 @@
 -- What contracts see of a disk in memory beyond what they see of every disk.
 use Rattle.std.specs.Prelude.{◌≡◌, ◌↔◌, ◌+◌, ◌-◌, ◌^◌, ℕ, min, List, drop, Contains, Some, Result, Err}
 use Rattle.rm_disk.specs.Disk.{DiskView, IsDurable}
-use Rattle.rm_disk.specs.Memory.{MemState, fallen, view_of}
+use Rattle.rm_disk.specs.Memory.{MemState, fallen, view_of_memory}
 use Rattle.rm_disk.specs.declared.device.DiskError.{DiskError}
 use Rattle.rm_disk.specs.declared.device.DiskError.TheVariants.{DiskFault}
 use Rattle.rm_disk.specs.declared.memory.MemDisk.{MemDisk}
 
 -- The disk as contracts see every disk.
 abbrev pub memory_view : MemDisk → DiskView
-memory_view disk = view_of disk.first.items disk.bytes.items disk.calls.items disk.faults
+memory_view disk = view_of_memory disk.first.items disk.bytes.items disk.calls.items disk.faults
 
 -- What a fall picks its image from: the bytes of now, those at the last sync, and the writes since.
 abbrev pub state_of : MemDisk → MemState

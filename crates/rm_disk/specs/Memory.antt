@@ -67,8 +67,8 @@ LeftSince first calls from image =
     (many : ℕ) × (from ≤ many) × (many ≤ length calls) × IsImage (replayed first (take many calls)) image
 
 -- A disk in memory as contracts see it: its first bytes, those of now, the record of its calls, and its faults.
-abbrev pub view_of : List ℕ → List ℕ → List Call → ℕ → DiskView
-view_of first bytes calls faults = record {
+abbrev pub view_of_memory : List ℕ → List ℕ → List Call → ℕ → DiskView
+view_of_memory first bytes calls faults = record {
   size = length first;
   told = Some bytes;
   images = IsImage (replayed first calls);
@@ -78,9 +78,9 @@ view_of first bytes calls faults = record {
 }
 
 -- Whether what a call writes lies within a size.
-abbrev pub fits : ℕ → Call → Bool
-fits size (Write at bytes) = nat_le (at + length bytes) size
-fits size _ = true
+abbrev pub call_fits : ℕ → Call → Bool
+call_fits size (Write at bytes) = nat_le (at + length bytes) size
+call_fits size _ = true
 
 -- The bytes that are kept beside the record are those that the record tells.
 pub record IsReplayed (first bytes synced : List ℕ) (calls : List Call) (settled : ℕ) : Type 0 where
@@ -91,4 +91,4 @@ pub record IsReplayed (first bytes synced : List ℕ) (calls : List Call) (settl
   pub within : settled ≤ length calls
   pub size : length bytes ≡ length first
   pub size_synced : length synced ≡ length first
-  pub fit : list_all (fits (length first)) calls ≡ true
+  pub fit : list_all (call_fits (length first)) calls ≡ true

@@ -2,7 +2,7 @@
 use Rattle.std.specs.Prelude.{◌≡◌, ◌⊎◌, ◌≤◌, ◌+◌, ◌-◌, ◌/◌, ℕ, Bool, true, List, length, take, option_map, Result, if◌then◌else◌}
 use Rattle.rm_types.specs.Counts.{risen, Rose}
 use Rattle.rm_disk.specs.Disk.{DiskView, MayWrite, put}
-use Rattle.rm_disk.specs.Fuse.{counts}
+use Rattle.rm_disk.specs.Fuse.{counts_call}
 use Rattle.rm_disk.specs.declared.device.DiskError.{DiskError}
 
 -- A disk over an inner one: of how many writes from now on the last one is torn, which is 0 where none is any more; and how
@@ -22,7 +22,7 @@ first_half bytes = take (length bytes / 2) bytes
 
 -- The disk after a write that isn't torn and left the inner disk so: one fewer is left, unless it found no memory.
 abbrev pub wrote : {D T : Type 0} → Tearing D → D → Result T DiskError → Tearing D
-wrote disk inner outcome = record disk { inner = inner; left = if counts outcome then disk.left - 1 else disk.left }
+wrote disk inner outcome = record disk { inner = inner; left = if counts_call outcome then disk.left - 1 else disk.left }
 
 -- The disk after its torn write, which left the inner disk so: none is left, and it is counted.
 abbrev pub tore : {D : Type 0} → Tearing D → D → Tearing D

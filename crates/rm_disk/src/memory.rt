@@ -2,7 +2,7 @@ ghost use Rattle.std.specs.Prelude.{◌≡◌, ◌<◌, ◌≤◌, ◌+◌, ◌*
 ghost use Rattle.std.specs.List.{list_all};
 ghost use Rattle.rm_disk.specs.Disk.{DiskView, put, IfTold, IsDurable, IsQuiet, MayWrite, Falls, IsAsBefore};
 ghost use Rattle.rm_types.specs.Counts.{Rose};
-ghost use Rattle.rm_disk.specs.Memory.{MemState, fits, is_within, is_written, renewed, fallen, IsReplayed, view_of};
+ghost use Rattle.rm_disk.specs.Memory.{MemState, call_fits, is_within, is_written, renewed, fallen, IsReplayed, view_of_memory};
 
 use crate::calls::Call;
 use crate::device::{Disk, DiskError};
@@ -232,7 +232,7 @@ fn put_bytes(into: &mut Vec<u8>, at: usize, bytes: &[u8])
 // Makes the synced bytes those of now wherever the calls from a place of the record on wrote.
 fn settle(bytes: &Vec<u8>, synced: &mut Vec<u8>, calls: &Vec<Call>, settled: usize)
     requires size { length bytes.now.items ≡ length synced.old.items }
-    requires fit { list_all (fits (length synced.old.items)) calls.now.items ≡ true }
+    requires fit { list_all (call_fits (length synced.old.items)) calls.now.items ≡ true }
     requires within { settled ≤ length calls.now.items }
     ensures { synced.new.items ≡ renewed (is_written (drop settled calls.now.items)) (slice_index bytes.now.items) synced.old.items }
 {
@@ -242,7 +242,7 @@ fn settle(bytes: &Vec<u8>, synced: &mut Vec<u8>, calls: &Vec<Call>, settled: usi
 // Leaves an image, where the calls from a place of the record on are not synced.
 fn fall_to(image: u32, bytes: &mut Vec<u8>, synced: &Vec<u8>, calls: &Vec<Call>, settled: usize)
     requires size { length bytes.old.items ≡ length synced.now.items }
-    requires fit { list_all (fits (length synced.now.items)) calls.now.items ≡ true }
+    requires fit { list_all (call_fits (length synced.now.items)) calls.now.items ≡ true }
     requires within { settled ≤ length calls.now.items }
     ensures { bytes.new.items ≡ fallen image (record { now = bytes.old.items; synced = synced.now.items; unsynced = drop settled calls.now.items }) }
 {
@@ -267,7 +267,7 @@ fn copy_range(from: &[u8], into: &mut Vec<u8>, first: usize, end: usize)
 // Copies what these calls wrote.
 fn copy_written(from: &[u8], into: &mut Vec<u8>, calls: &[Call])
     requires size { length from.now ≡ length into.old.items }
-    requires fit { list_all (fits (length into.old.items)) calls.now ≡ true }
+    requires fit { list_all (call_fits (length into.old.items)) calls.now ≡ true }
     ensures { into.new.items ≡ renewed (is_written calls.now) (slice_index from.now) into.old.items }
 {
     'calls: for call in calls {
@@ -291,7 +291,7 @@ fn scribble_range(image: u32, into: &mut Vec<u8>, first: usize, end: usize)
 
 // Gives what these calls wrote the values of an image above 1.
 fn scribble_written(image: u32, into: &mut Vec<u8>, calls: &[Call])
-    requires { list_all (fits (length into.old.items)) calls.now ≡ true }
+    requires { list_all (call_fits (length into.old.items)) calls.now ≡ true }
     ensures { into.new.items ≡ renewed (is_written calls.now) (λ place. (167 * image + place) % 256) into.old.items }
 {
     'calls: for call in calls {

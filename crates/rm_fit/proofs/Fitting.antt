@@ -21,11 +21,11 @@ use Rattle.rm_types.specs.Passes.{by_priority, fitting, total_of}
 use Rattle.rm_types.specs.Resources.{Fits}
 use Rattle.rm_types.proofs.IdLemmas.{attempt_back, same_container, attempt_itself}
 use Rattle.rm_book.specs.AskTables.{some_asks}
-use Rattle.rm_book.specs.Books.{AreNew, are_on, is_of, sizes_of}
+use Rattle.rm_book.specs.Books.{AreNew, are_grants_on, is_of, sizes_of}
 use Rattle.rm_book.proofs.Lists.{all_more}
 use Rattle.rm_book.proofs.LineOrders.{all_by_priority}
-use Rattle.rm_fit.specs.Conditions.{AreApart, has_turn, is_past, are_past, is_some_size, are_some_sizes}
-use Rattle.rm_fit.specs.Turns.{Spot, granted, granted_from, left_after, turn_left, turn_grants}
+use Rattle.rm_fit.specs.Conditions.{TurnsAreApart, has_turn, is_past, are_past, is_some_size, are_some_sizes}
+use Rattle.rm_fit.specs.Turns.{Spot, spot_grant, granted_from, room_left, turn_left, turn_grants}
 use Rattle.rm_fit.proofs.Counting.{fitting_fits}
 use Rattle.rm_fit.proofs.Passing.{pass_grants, sum_granted}
 
@@ -51,7 +51,7 @@ no_sizes asks is = by (by_priority asks) is ∙ all_by_priority (λ ask. is_some
 -- of a part of what is left an ask takes no more than is there
 abbrev Takes : (Resource → ℕ) → Type 0
 Takes part = (left : Resource) (ask : Ask)
-    → (fitting ask.count ask.size left * part ask.size ≤ part left) × (part (left_after left ask) ≡ part left - fitting ask.count ask.size left * part ask.size)
+    → (fitting ask.count ask.size left * part ask.size ≤ part left) × (part (room_left left ask) ≡ part left - fitting ask.count ask.size left * part ask.size)
 
 module _ (part : Resource → ℕ) (taken : Takes part) where
   -- what a turn grants and what it leaves make up what there was
@@ -60,10 +60,10 @@ module _ (part : Resource → ℕ) (taken : Takes part) where
   turn_sum spot left seq (ask ∷ asks) =
       let count : ℕ = fitting ask.count ask.size left in
       let first : List Grant = granted_from spot ask.size seq count in
-      let rest : List Grant = turn_grants spot (left_after left ask) (seq + count) asks in
+      let rest : List Grant = turn_grants spot (room_left left ask) (seq + count) asks in
       let split = ap (sum_by part) (map-append (λ (grant : Grant). grant.size) first rest) ∙ sum_by-append part (sizes_of first) (sizes_of rest) in
       let this = taken left ask in
-      omega (arith, split, sum_granted part spot ask.size seq count, turn_sum spot (left_after left ask) (seq + count) asks, this.0, this.1)
+      omega (arith, split, sum_granted part spot ask.size seq count, turn_sum spot (room_left left ask) (seq + count) asks, this.0, this.1)
 
   pass_sum : (node : List ℕ) (epoch : ℕ) (asks_of : AttemptId → List Ask) (left : Resource) (turns : List Turn)
       → sum_by part (sizes_of (pass_grants node epoch asks_of left turns)) ≤ part left
@@ -86,27 +86,27 @@ pass_fits node epoch asks_of left turns = (
 
 -- what a test holds of each grant of
 
-granted_all : (p : Grant → Bool) (spot : Spot) (size : Resource) (seq count : ℕ) → ((n : ℕ) → seq ≤ n → n < seq + count → p (granted spot size n) ≡ true)
+granted_all : (p : Grant → Bool) (spot : Spot) (size : Resource) (seq count : ℕ) → ((n : ℕ) → seq ≤ n → n < seq + count → p (spot_grant spot size n) ≡ true)
     → list_all p (granted_from spot size seq count) ≡ true
 granted_all p spot size seq zero each = refl
 granted_all p spot size seq (suc count) each =
-    and_from (p (granted spot size seq)) _ (each seq (omega arith) (omega arith))
+    and_from (p (spot_grant spot size seq)) _ (each seq (omega arith) (omega arith))
     (granted_all p spot size (seq + 1) count (λ n from to. each n (omega (arith, from)) (omega (arith, to))))
 
-turn_all : (p : Grant → Bool) (spot : Spot) (left : Resource) (seq : ℕ) (asks : List Ask) → ((size : Resource) (n : ℕ) → seq ≤ n → p (granted spot size n) ≡ true)
+turn_all : (p : Grant → Bool) (spot : Spot) (left : Resource) (seq : ℕ) (asks : List Ask) → ((size : Resource) (n : ℕ) → seq ≤ n → p (spot_grant spot size n) ≡ true)
     → list_all p (turn_grants spot left seq asks) ≡ true
 turn_all p spot left seq [] each = refl
 turn_all p spot left seq (ask ∷ asks) each =
     let count : ℕ = fitting ask.count ask.size left in
-    list_all-append p (granted_from spot ask.size seq count) (turn_grants spot (left_after left ask) (seq + count) asks)
+    list_all-append p (granted_from spot ask.size seq count) (turn_grants spot (room_left left ask) (seq + count) asks)
     ∙ and_from (list_all p (granted_from spot ask.size seq count)) _ (granted_all p spot ask.size seq count (λ n from to. each ask.size n from))
-    (turn_all p spot (left_after left ask) (seq + count) asks (λ size n from. each size n (omega (arith, from))))
+    (turn_all p spot (room_left left ask) (seq + count) asks (λ size n from. each size n (omega (arith, from))))
 
 -- each turn of these grants what passes a test
 abbrev EachGrants : (Grant → Bool) → List ℕ → ℕ → List Turn → Type 0
 EachGrants p node epoch [] = Unit {0}
 EachGrants p node epoch (turn ∷ turns) =
-    ((size : Resource) (n : ℕ) → p (granted (record { node = node; epoch = epoch; attempt = turn.attempt }) size n) ≡ true) × EachGrants p node epoch turns
+    ((size : Resource) (n : ℕ) → p (spot_grant (record { node = node; epoch = epoch; attempt = turn.attempt }) size n) ≡ true) × EachGrants p node epoch turns
 
 pass_all : (p : Grant → Bool) (node : List ℕ) (epoch : ℕ) (asks_of : AttemptId → List Ask) (left : Resource) (turns : List Turn) → EachGrants p node epoch turns
     → list_all p (pass_grants node epoch asks_of left turns) ≡ true
@@ -119,7 +119,7 @@ pass_all p node epoch asks_of left (turn ∷ turns) each =
     (pass_all p node epoch asks_of (turn_left left asks) turns each.1)
 
 -- all is on the node
-pub pass_on : (node : List ℕ) (epoch : ℕ) (asks_of : AttemptId → List Ask) (left : Resource) (turns : List Turn) → are_on node (pass_grants node epoch asks_of left turns) ≡ true
+pub pass_on : (node : List ℕ) (epoch : ℕ) (asks_of : AttemptId → List Ask) (left : Resource) (turns : List Turn) → are_grants_on node (pass_grants node epoch asks_of left turns) ≡ true
 pass_on node epoch asks_of left turns = pass_all (λ grant. bytes_eq grant.node node) node epoch asks_of left turns (each turns)
   where
     each : (turns : List Turn) → EachGrants (λ grant. bytes_eq grant.node node) node epoch turns
@@ -173,7 +173,7 @@ granted_new rows spot size seq (suc count) past =
     let later : list_all (is_past spot.epoch (record { attempt = spot.attempt; next_seq = seq + 1 })) rows ≡ true =
     all_more (is_past spot.epoch (record { attempt = spot.attempt; next_seq = seq })) (is_past spot.epoch (record { attempt = spot.attempt; next_seq = seq + 1 }))
     (λ row. past_more spot.attempt spot.epoch seq (seq + 1) row (omega arith)) rows past in
-    new_append (λ id. nat_lt id.seq (seq + 1)) rows (granted spot size seq ∷ []) (granted_from spot size (seq + 1) count)
+    new_append (λ id. nat_lt id.seq (seq + 1)) rows (spot_grant spot size seq ∷ []) (granted_from spot size (seq + 1) count)
     (and_from (nat_lt seq (seq + 1)) true (lt-ltb seq (seq + 1) (omega arith)) refl)
     (granted_all (λ grant. not (nat_lt grant.id.seq (seq + 1))) spot size (seq + 1) count (λ n from to. grind (arith, nat_tests)))
     (rows_past spot.attempt spot.epoch seq seq rows (omega arith) past, refl, tt)
@@ -187,13 +187,13 @@ turn_new rows spot left seq (ask ∷ asks) past =
     let later : list_all (is_past spot.epoch (record { attempt = spot.attempt; next_seq = seq + count })) rows ≡ true =
     all_more (is_past spot.epoch (record { attempt = spot.attempt; next_seq = seq })) (is_past spot.epoch (record { attempt = spot.attempt; next_seq = seq + count }))
     (λ row. past_more spot.attempt spot.epoch seq (seq + count) row (omega arith)) rows past in
-    new_append (λ id. nat_lt id.seq (seq + count)) rows (granted_from spot ask.size seq count) (turn_grants spot (left_after left ask) (seq + count) asks)
+    new_append (λ id. nat_lt id.seq (seq + count)) rows (granted_from spot ask.size seq count) (turn_grants spot (room_left left ask) (seq + count) asks)
     (granted_all (λ grant. nat_lt grant.id.seq (seq + count)) spot ask.size seq count (λ n from to. lt-ltb n (seq + count) to))
-    (turn_all (λ grant. not (nat_lt grant.id.seq (seq + count))) spot (left_after left ask) (seq + count) asks (λ size n from. grind (arith, nat_tests)))
+    (turn_all (λ grant. not (nat_lt grant.id.seq (seq + count))) spot (room_left left ask) (seq + count) asks (λ size n from. grind (arith, nat_tests)))
     (granted_new rows spot ask.size seq count past)
-    (turn_new rows spot (left_after left ask) (seq + count) asks later)
+    (turn_new rows spot (room_left left ask) (seq + count) asks later)
 
-pub pass_new : (rows : List BookRow) (node : List ℕ) (epoch : ℕ) (asks_of : AttemptId → List Ask) (left : Resource) (turns : List Turn) → AreApart turns → are_past epoch turns rows ≡ true
+pub pass_new : (rows : List BookRow) (node : List ℕ) (epoch : ℕ) (asks_of : AttemptId → List Ask) (left : Resource) (turns : List Turn) → TurnsAreApart turns → are_past epoch turns rows ≡ true
     → AreNew rows (pass_grants node epoch asks_of left turns)
 pass_new rows node epoch asks_of left [] apart past = tt
 pass_new rows node epoch asks_of left (turn ∷ turns) apart past =

@@ -3,10 +3,10 @@ ghost use Rattle.std.specs.List.{list_all};
 ghost use Rattle.rm_types.specs.declared.resources.Resource.{Resource};
 ghost use Rattle.rm_types.specs.Passes.{by_priority, pass_list, total_of};
 ghost use Rattle.rm_types.specs.Resources.{Fits};
-ghost use Rattle.rm_book.specs.AskTables.{asks_of};
-ghost use Rattle.rm_book.specs.Books.{AreNew, are_on, capability_of, free_on, sizes_of, sizes_on};
+ghost use Rattle.rm_book.specs.AskTables.{attempt_asks};
+ghost use Rattle.rm_book.specs.Books.{AreNew, are_grants_on, capability_of, free_on, sizes_of, sizes_on};
 ghost use Rattle.rm_fit.specs.Turns.{turn_grants, turn_left};
-ghost use Rattle.rm_fit.specs.Conditions.{AreApart, are_early, are_past, is_some_size, are_some_sizes, have_sizes};
+ghost use Rattle.rm_fit.specs.Conditions.{TurnsAreApart, are_early, are_past, is_some_size, are_some_sizes, have_sizes};
 
 use crate::turns::grant_turn;
 use rm_book::{Asks, Book};
@@ -27,12 +27,12 @@ pub fn first_fit(
     epoch: u32,
 ) -> Result<Items<Grant>, NoMemory>
     requires room { IsSomeAnd (free_on book.now node.now) (λ free. free.vcores ≤ 256) }
-    requires attempts { AreApart order.now }
+    requires attempts { TurnsAreApart order.now }
     requires sequences { IsTrue (are_early order.now) }
-    requires sizes { IsTrue (have_sizes (asks_of asks.now) order.now) }
-    ensures pass { IfOk result (λ grants. (capability : Resource) → capability_of book.now node.now ≡ Some capability → grants ≡ pass_list (record { node = node.now; capability = capability; sizes = sizes_on node.now book.now.rows; epoch = epoch }) (asks_of asks.now) order.now) }
+    requires sizes { IsTrue (have_sizes (attempt_asks asks.now) order.now) }
+    ensures pass { IfOk result (λ grants. (capability : Resource) → capability_of book.now node.now ≡ Some capability → grants ≡ pass_list (record { node = node.now; capability = capability; sizes = sizes_on node.now book.now.rows; epoch = epoch }) (attempt_asks asks.now) order.now) }
     ensures few { IfOk result (λ grants. length grants ≤ 256) }
-    ensures on { IfOk result (λ grants. IsTrue (are_on node.now grants)) }
+    ensures on { IfOk result (λ grants. IsTrue (are_grants_on node.now grants)) }
     ensures new { IfOk result (λ grants. IsTrue (are_past epoch order.now book.now.rows) → AreNew book.now.rows grants) }
     ensures fit { IfOk result (λ grants. IsSomeAnd (free_on book.now node.now) (λ free. Fits (total_of (sizes_of grants)) free)) }
 {
@@ -55,9 +55,9 @@ fn grant_attempt(
     asks: &Asks,
 ) -> Result<Resource, NoMemory>
     requires sequence { turn.next_seq + left.vcores < 2 ^ 63 }
-    requires sizes { IsTrue (are_some_sizes (asks_of asks.now turn.attempt)) }
-    ensures grants { OnOk result (grants.new ≡ grants.old ++ turn_grants (record { node = node.now; epoch = epoch; attempt = turn.attempt }) left turn.next_seq (by_priority (asks_of asks.now turn.attempt))) }
-    ensures left { IfOk result (λ rest. rest ≡ turn_left left (by_priority (asks_of asks.now turn.attempt))) }
+    requires sizes { IsTrue (are_some_sizes (attempt_asks asks.now turn.attempt)) }
+    ensures grants { OnOk result (grants.new ≡ grants.old ++ turn_grants (record { node = node.now; epoch = epoch; attempt = turn.attempt }) left turn.next_seq (by_priority (attempt_asks asks.now turn.attempt))) }
+    ensures left { IfOk result (λ rest. rest ≡ turn_left left (by_priority (attempt_asks asks.now turn.attempt))) }
     ensures few { IfOk result (λ rest. length grants.new + rest.vcores ≤ length grants.old + left.vcores) }
 {
     match asks.of(turn.attempt) {
@@ -68,7 +68,7 @@ fn grant_attempt(
 
 /// Whether each size that the attempts in the order ask for has a megabyte and a core at least.
 pub fn have_sizes(asks: &Asks, order: &Items<Turn>) -> bool
-    ensures { result ≡ have_sizes (asks_of asks.now) order.now }
+    ensures { result ≡ have_sizes (attempt_asks asks.now) order.now }
 {
     order
         .as_slice()
@@ -78,7 +78,7 @@ pub fn have_sizes(asks: &Asks, order: &Items<Turn>) -> bool
 
 /// Whether each size that an attempt asks for has a megabyte and a core at least.
 pub fn has_sizes(asks: &Asks, attempt: AttemptId) -> bool
-    ensures { result ≡ are_some_sizes (asks_of asks.now attempt) }
+    ensures { result ≡ are_some_sizes (attempt_asks asks.now attempt) }
 {
     match asks.of(attempt) {
         Some(lines) => are_some_sizes(lines.as_slice()),

@@ -11,7 +11,7 @@ use Rattle.rm_types.specs.Ids.{is_app}
 use Rattle.rm_types.specs.Records.{Records, record_of, with_record, with_end, new_record, apps_recorded, recorded, no_records, records}
 use Rattle.rm_folding.specs.Amounts.{Amounts, amounted, amounts, no_amounts, completed_after}
 use Rattle.rm_types.specs.Folded.{folded}
-use Rattle.rm_types.specs.Alike.{bare, end_number, is_lower, ends_before, IsAlike}
+use Rattle.rm_types.specs.Alike.{without_end_order, end_number, is_lower, ends_before, IsAlike}
 use Rattle.rm_folding.proofs.Folded.{Tells, tells_more, bare_found, folded_amounts}
 
 apart : (x id a : AppId) → is_app x id ≡ true → is_app a id ≡ false → is_app x a ≡ false
@@ -298,10 +298,10 @@ pub tells_all : (ops : List Op) → Tells (records ops) (amounts ops)
 tells_all ops = tells_from ops no_records no_amounts (record { epoch = refl; stamp = refl; apps = refl })
 
 -- whether an application has ended doesn't rest on the numbers
-ended_bare : (apps : List AppRecord) (a : AppId) → is_some (end_of apps a) ≡ is_some (end_of (map bare apps) a)
+ended_bare : (apps : List AppRecord) (a : AppId) → is_some (end_of apps a) ≡ is_some (end_of (map without_end_order apps) a)
 ended_bare apps a = by (record_of apps a) ∙ ap (λ (o : Option AppRecord). is_some (end_number o)) (sym (bare_found apps a))
   where
-    by : (o : Option AppRecord) → is_some (end_number o) ≡ is_some (end_number (option_map bare o))
+    by : (o : Option AppRecord) → is_some (end_number o) ≡ is_some (end_number (option_map without_end_order o))
     by None = refl
     by (Some app) = if_some (is_some app.ending)
       where
@@ -312,7 +312,7 @@ ended_bare apps a = by (record_of apps a) ∙ ap (λ (o : Option AppRecord). is_
         if_some true = refl
         if_some false = refl
 
-orders_same : (one other : List AppRecord) (n m : ℕ) (ids : List AppId) → Ordered one n ids → Ordered other m ids → map bare one ≡ map bare other → (a b : AppId) → ends_before one a b ≡ ends_before other a b
+orders_same : (one other : List AppRecord) (n m : ℕ) (ids : List AppId) → Ordered one n ids → Ordered other m ids → map without_end_order one ≡ map without_end_order other → (a b : AppId) → ends_before one a b ≡ ends_before other a b
 orders_same one other n m ids o p same a b = by (end_of one a) refl (end_of other a) refl (end_of one b) refl (end_of other b) refl (ended a) (ended b)
   where
     ended : (a : AppId) → is_some (end_of one a) ≡ is_some (end_of other a)

@@ -12,8 +12,8 @@ use Rattle.rm_types.specs.Ranges.{IsWithin}
 use Rattle.rm_types.specs.Texts.{fault_of}
 use Rattle.rm_frame.specs.declared.fields.FieldError.{FieldError}
 use Rattle.rm_frame.specs.declared.fields.FieldError.TheVariants.{Bad}
-use Rattle.rm_frame.specs.Fields.{Field, ByteFrom, NumberFrom, TextOf, told_length, size_of, stands, left_at_fault, fields_of, kind_field, layout, fault_place}
-use Rattle.rm_frame.specs.Reads.{TakesFields, Stops}
+use Rattle.rm_frame.specs.Fields.{Field, ByteFrom, NumberFrom, TextOf, told_length, size_of, has_field, left_at_fault, fields_of, kind_field, layout, fault_place}
+use Rattle.rm_frame.specs.Reads.{TakesFields, StopsReading}
 use Rattle.rm_frame.proofs.Numbers.{IsBytes, IsBytes-take, IsWide, wide16}
 
 -- ---- one field
@@ -22,15 +22,15 @@ is_nothing : (o : Option ℕ) → is_none o ≡ true → o ≡ None
 is_nothing None e = refl
 is_nothing (Some n) e = absurd cc
 
-pub goes_past : (field : Field) (bytes : List ℕ) (more : List Field) → stands field bytes ≡ true → left_at_fault (field ∷ more) bytes ≡ left_at_fault more (drop (size_of field bytes) bytes)
+pub goes_past : (field : Field) (bytes : List ℕ) (more : List Field) → has_field field bytes ≡ true → left_at_fault (field ∷ more) bytes ≡ left_at_fault more (drop (size_of field bytes) bytes)
 unfolding left_at_fault
 goes_past field bytes more e = rw e refl
 
-pub stops_at : (field : Field) (bytes : List ℕ) → (stands field bytes ≡ true → ⊥) → (left : ℕ) → Bad (length bytes) ≡ Bad left → Stops (field ∷ []) bytes left
+pub stops_at : (field : Field) (bytes : List ℕ) → (has_field field bytes ≡ true → ⊥) → (left : ℕ) → Bad (length bytes) ≡ Bad left → StopsReading (field ∷ []) bytes left
 unfolding left_at_fault
 stops_at field bytes never left is =
     let n : length bytes ≡ left = cc in
-    let e : stands field bytes ≡ false = false_from_ne_true (stands field bytes) never in
+    let e : has_field field bytes ≡ false = false_from_ne_true (has_field field bytes) never in
     record { at = λ more. rw (e, n) refl }
 
 within_true : (least greatest n : ℕ) → IsWithin least greatest n → (nat_le least n && nat_le n greatest) ≡ true
@@ -45,27 +45,27 @@ true_within least greatest n e =
 
 pub byte_reads : (least greatest n : ℕ) (bytes rest : List ℕ) → bytes ≡ n ∷ rest → least ≤ n → n ≤ greatest → TakesFields (ByteFrom least greatest ∷ []) bytes (n ∷ []) rest
 byte_reads least greatest n bytes rest e low high =
-    let s : stands (ByteFrom least greatest) (n ∷ rest) ≡ true = rw (le-leb 1 (length (n ∷ rest)) (omega arith)) (within_true least greatest n (low, high)) in
+    let s : has_field (ByteFrom least greatest) (n ∷ rest) ≡ true = rw (le-leb 1 (length (n ∷ rest)) (omega arith)) (within_true least greatest n (low, high)) in
     rw e (record { parts = refl; goes = λ more. goes_past (ByteFrom least greatest) (n ∷ rest) more s })
 
-pub byte_stands : (least greatest n : ℕ) (bytes rest : List ℕ) → bytes ≡ n ∷ rest → stands (ByteFrom least greatest) bytes ≡ true → IsWithin least greatest n
+pub byte_stands : (least greatest n : ℕ) (bytes rest : List ℕ) → bytes ≡ n ∷ rest → has_field (ByteFrom least greatest) bytes ≡ true → IsWithin least greatest n
 byte_stands least greatest n bytes rest e s =
-    let t : stands (ByteFrom least greatest) (n ∷ rest) ≡ true = rw e at s in
+    let t : has_field (ByteFrom least greatest) (n ∷ rest) ≡ true = rw e at s in
     true_within least greatest n (and_parts (nat_le 1 (length (n ∷ rest))) (nat_le least n && nat_le n greatest) t).1
 
-pub no_byte : (least greatest : ℕ) (bytes : List ℕ) → bytes ≡ [] → stands (ByteFrom least greatest) bytes ≡ true → ⊥
+pub no_byte : (least greatest : ℕ) (bytes : List ℕ) → bytes ≡ [] → has_field (ByteFrom least greatest) bytes ≡ true → ⊥
 no_byte least greatest bytes e s = let t = rw e at s in absurd cc
 
 -- ---- a number
 
-pub number_stands : (w : Width) (least greatest : ℕ) (bytes : List ℕ) → stands (NumberFrom w least greatest) bytes ≡ true
+pub number_stands : (w : Width) (least greatest : ℕ) (bytes : List ℕ) → has_field (NumberFrom w least greatest) bytes ≡ true
     → (byte_len w ≤ length bytes) × IsWithin least greatest (from_be_bytes w (take (byte_len w) bytes))
 number_stands w least greatest bytes s =
     let n = from_be_bytes w (take (byte_len w) bytes) in
     let b = and_parts (nat_le (byte_len w) (length bytes)) (nat_le least n && nat_le n greatest) s in
     (leb-true (byte_len w) (length bytes) b.0, true_within least greatest n b.1)
 
-pub stands_number : (w : Width) (least greatest : ℕ) (bytes : List ℕ) → byte_len w ≤ length bytes → IsWithin least greatest (from_be_bytes w (take (byte_len w) bytes)) → stands (NumberFrom w least greatest) bytes ≡ true
+pub stands_number : (w : Width) (least greatest : ℕ) (bytes : List ℕ) → byte_len w ≤ length bytes → IsWithin least greatest (from_be_bytes w (take (byte_len w) bytes)) → has_field (NumberFrom w least greatest) bytes ≡ true
 stands_number w least greatest bytes long h =
     rw (le-leb (byte_len w) (length bytes) long) (within_true least greatest (from_be_bytes w (take (byte_len w) bytes)) h)
 
@@ -87,7 +87,7 @@ number_reads w limit wide least greatest n bytes rest fits long n-is rest-is low
 
 -- ---- a text
 
-pub text_stands : (kind : TextKind) (bytes : List ℕ) → stands (TextOf kind) bytes ≡ true
+pub text_stands : (kind : TextKind) (bytes : List ℕ) → has_field (TextOf kind) bytes ≡ true
     → (2 ≤ length bytes) × (2 + told_length bytes ≤ length bytes) × (fault_of kind (take (told_length bytes) (drop 2 bytes)) ≡ None)
 text_stands kind bytes s =
     let told = told_length bytes in
@@ -95,7 +95,7 @@ text_stands kind bytes s =
     let b = and_parts (nat_le (2 + told) (length bytes)) (is_none (fault_of kind (take told (drop 2 bytes)))) a.1 in
     (leb-true 2 (length bytes) a.0, leb-true (2 + told) (length bytes) b.0, is_nothing (fault_of kind (take told (drop 2 bytes))) b.1)
 
-pub stands_text : (kind : TextKind) (bytes : List ℕ) → 2 + told_length bytes ≤ length bytes → IsText kind (take (told_length bytes) (drop 2 bytes)) → stands (TextOf kind) bytes ≡ true
+pub stands_text : (kind : TextKind) (bytes : List ℕ) → 2 + told_length bytes ≤ length bytes → IsText kind (take (told_length bytes) (drop 2 bytes)) → has_field (TextOf kind) bytes ≡ true
 stands_text kind bytes long h =
     rw (le-leb 2 (length bytes) (omega arith), le-leb (2 + told_length bytes) (length bytes) long, h) refl
 
@@ -124,7 +124,7 @@ text_reads kind told bytes behind text rest fits two told-is behind-is long text
 
 -- a text that doesn't stand: its length is short, or the text is, or it is none of the kind
 pub no_text : (kind : TextKind) (told : ℕ) (bytes behind : List ℕ) → told ≡ told_length bytes → behind ≡ drop 2 bytes → (told ≤ length behind → fault_of kind (take told behind) ≡ None → ⊥)
-    → stands (TextOf kind) bytes ≡ true → ⊥
+    → has_field (TextOf kind) bytes ≡ true → ⊥
 no_text kind told bytes behind told-is behind-is never s =
     let t = text_stands kind bytes s in
     let n : length behind ≡ length (drop 2 bytes) = ap length behind-is in
@@ -139,23 +139,23 @@ reads_then fields others bytes front middle back rest first second = record {
   goes = λ more. ap (λ (all : List Field). left_at_fault all bytes) (append_assoc fields others more) ∙ first.goes (others ++ more) ∙ second.goes more;
 }
 
-pub stops_first : (fields others : List Field) (bytes : List ℕ) (left : ℕ) → Stops fields bytes left → Stops (fields ++ others) bytes left
+pub stops_first : (fields others : List Field) (bytes : List ℕ) (left : ℕ) → StopsReading fields bytes left → StopsReading (fields ++ others) bytes left
 stops_first fields others bytes left stops = record {
   at = λ more. ap (λ (all : List Field). left_at_fault all bytes) (append_assoc fields others more) ∙ stops.at (others ++ more);
 }
 
-pub stops_then : (fields others : List Field) (bytes front middle : List ℕ) (left : ℕ) → TakesFields fields bytes front middle → Stops others middle left → Stops (fields ++ others) bytes left
+pub stops_then : (fields others : List Field) (bytes front middle : List ℕ) (left : ℕ) → TakesFields fields bytes front middle → StopsReading others middle left → StopsReading (fields ++ others) bytes left
 stops_then fields others bytes front middle left reads stops = record {
   at = λ more. ap (λ (all : List Field). left_at_fault all bytes) (append_assoc fields others more) ∙ reads.goes (others ++ more) ∙ stops.at more;
 }
 
 -- an error that is passed on
 pub passes_on : {X : Type 0} (fields : List Field) (bytes : List ℕ) (error : FieldError) (result : Result X FieldError) → IsErrAnd result (λ other. other ≡ error)
-    → ((left : ℕ) → error ≡ Bad left → Stops fields bytes left) → IfErr result (λ other. (left : ℕ) → other ≡ Bad left → Stops fields bytes left)
+    → ((left : ℕ) → error ≡ Bad left → StopsReading fields bytes left) → IfErr result (λ other. (left : ℕ) → other ≡ Bad left → StopsReading fields bytes left)
 passes_on fields bytes error (Ok x) same stops = tt
 passes_on fields bytes error (Err other) same stops = λ left is. stops left (sym same ∙ is)
 
-left_within_by : (field : Field) (fields : List Field) (bytes : List ℕ) (left : ℕ) (b : Bool) → stands field bytes ≡ b
+left_within_by : (field : Field) (fields : List Field) (bytes : List ℕ) (left : ℕ) (b : Bool) → has_field field bytes ≡ b
     → (left_at_fault fields (drop (size_of field bytes) bytes) ≡ Some left → left ≤ length (drop (size_of field bytes) bytes))
     → left_at_fault (field ∷ fields) bytes ≡ Some left → left ≤ length bytes
 unfolding left_at_fault
@@ -171,21 +171,21 @@ left_within_by field fields bytes left false s more e =
 pub left_within : (fields : List Field) (bytes : List ℕ) (left : ℕ) → left_at_fault fields bytes ≡ Some left → left ≤ length bytes
 unfolding left_at_fault
 left_within [] bytes left e = absurd cc
-left_within (field ∷ fields) bytes left e = left_within_by field fields bytes left (stands field bytes) refl (left_within fields (drop (size_of field bytes) bytes) left) e
+left_within (field ∷ fields) bytes left e = left_within_by field fields bytes left (has_field field bytes) refl (left_within fields (drop (size_of field bytes) bytes) left) e
 
 -- ---- an operation
 
-pub layout_stops : (kind : ℕ) (bytes rest : List ℕ) (left : ℕ) → TakesFields (kind_field ∷ []) bytes (kind ∷ []) rest → Stops (fields_of kind) rest left → Stops (layout bytes) bytes left
+pub layout_stops : (kind : ℕ) (bytes rest : List ℕ) (left : ℕ) → TakesFields (kind_field ∷ []) bytes (kind ∷ []) rest → StopsReading (fields_of kind) rest left → StopsReading (layout bytes) bytes left
 layout_stops kind bytes rest left reads stops =
     let e : slice_index bytes 0 ≡ kind = ap (λ (all : List ℕ). slice_index all 0) reads.parts in
-    let later : Stops (fields_of (slice_index bytes 0)) rest left = subst (λ (k : ℕ). Stops (fields_of k) rest left) (sym e) stops in
+    let later : StopsReading (fields_of (slice_index bytes 0)) rest left = subst (λ (k : ℕ). StopsReading (fields_of k) rest left) (sym e) stops in
     stops_then (kind_field ∷ []) (fields_of (slice_index bytes 0)) bytes (kind ∷ []) rest left reads later
 
-pub stops_left : (fields : List Field) (bytes : List ℕ) (left : ℕ) → Stops fields bytes left → left_at_fault fields bytes ≡ Some left
+pub stops_left : (fields : List Field) (bytes : List ℕ) (left : ℕ) → StopsReading fields bytes left → left_at_fault fields bytes ≡ Some left
 stops_left fields bytes left stops = ap (λ (all : List Field). left_at_fault all bytes) (sym (append-nil fields)) ∙ stops.at []
 
-pub stops_place : (bytes : List ℕ) (left : ℕ) → Stops (layout bytes) bytes left → fault_place bytes ≡ Some (length bytes - left)
+pub stops_place : (bytes : List ℕ) (left : ℕ) → StopsReading (layout bytes) bytes left → fault_place bytes ≡ Some (length bytes - left)
 stops_place bytes left stops = ap (option_map (λ (n : ℕ). length bytes - n)) (stops_left (layout bytes) bytes left stops)
 
-pub stops_within : (bytes : List ℕ) (left : ℕ) → Stops (layout bytes) bytes left → left ≤ length bytes
+pub stops_within : (bytes : List ℕ) (left : ℕ) → StopsReading (layout bytes) bytes left → left ≤ length bytes
 stops_within bytes left stops = left_within (layout bytes) bytes left (stops_left (layout bytes) bytes left stops)

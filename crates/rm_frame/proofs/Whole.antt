@@ -20,7 +20,7 @@ use Rattle.rm_types.specs.declared.limits.TheConstants.{EPOCHS, SEQUENCES, NUMBE
 use Rattle.rm_formats.specs.declared.codes.TheConstants.{EPOCH_CODE, APP_CODE, ATTEMPT_CODE, ATTEMPT_END_CODE, APP_END_CODE, REMOVE_CODE, FINISHED_CODE, KILLED_CODE}
 use Rattle.rm_frame.specs.Fields.{Field, ByteFrom, NumberFrom, TextOf, told_length, left_at_fault, stamp_field, number_field, kind_field, how_field, app_id_fields, attempt_id_fields, master_fields, submission_fields, end_fields, epoch_fields, layout, attempts_field, cores_field, memory_field}
 use Rattle.rm_frame.specs.Framed.{IsFramed}
-use Rattle.rm_frame.specs.Reads.{TakesFields, Stops}
+use Rattle.rm_frame.specs.Reads.{TakesFields, StopsReading}
 use Rattle.rm_frame.proofs.Numbers.{IsWide, wide16, wide32, wide64, again_before}
 use Rattle.rm_frame.proofs.Faults.{goes_past, stands_number, stands_text, byte_reads, reads_then, stops_left}
 use Rattle.rm_frame.proofs.Apart.{text_short}
@@ -168,7 +168,7 @@ framed_has_none bytes op count is =
     let whole : frame op ++ drop count bytes ≡ bytes = ap (λ (l : List ℕ). l ++ drop count bytes) (sym is.is) ∙ take-append-drop count bytes in
     ap (λ (l : List ℕ). left_at_fault (layout l) l) (sym whole) ∙ frame_has_none op (drop count bytes) is.can
 
-pub never_framed : (bytes : List ℕ) (left : ℕ) → Stops (layout bytes) bytes left → (op : Op) (count : ℕ) → IsFramed bytes op count → ⊥
+pub never_framed : (bytes : List ℕ) (left : ℕ) → StopsReading (layout bytes) bytes left → (op : Op) (count : ℕ) → IsFramed bytes op count → ⊥
 never_framed bytes left stops op count is =
     let fault = stops_left (layout bytes) bytes left stops in
     let none = framed_has_none bytes op count is in

@@ -32,17 +32,17 @@ is_in_range (NumberFrom width least greatest) bytes =
 is_in_range (TextOf kind) bytes = is_none (fault_of kind (take (told_length bytes) (drop 2 bytes)))
 
 -- the bytes begin with the field: it is not short, and in its range
-abbrev pub stands : Field → List ℕ → Bool
-stands (ByteFrom least greatest) bytes = nat_le 1 (length bytes) && is_in_range (ByteFrom least greatest) bytes
-stands (NumberFrom width least greatest) bytes = nat_le (byte_len width) (length bytes) && is_in_range (NumberFrom width least greatest) bytes
-stands (TextOf kind) bytes =
+abbrev pub has_field : Field → List ℕ → Bool
+has_field (ByteFrom least greatest) bytes = nat_le 1 (length bytes) && is_in_range (ByteFrom least greatest) bytes
+has_field (NumberFrom width least greatest) bytes = nat_le (byte_len width) (length bytes) && is_in_range (NumberFrom width least greatest) bytes
+has_field (TextOf kind) bytes =
     nat_le 2 (length bytes) && (nat_le (2 + told_length bytes) (length bytes) && is_in_range (TextOf kind) bytes)
 
 -- how many bytes are left where the first of these fields begins that is short or out of range, if one is
 unfoldable pub left_at_fault : List Field → List ℕ → Option ℕ
 left_at_fault [] bytes = None
 left_at_fault (field ∷ fields) bytes =
-    if stands field bytes then left_at_fault fields (drop (size_of field bytes) bytes) else Some (length bytes)
+    if has_field field bytes then left_at_fault fields (drop (size_of field bytes) bytes) else Some (length bytes)
 
 -- a stamp
 abbrev pub stamp_field : Field

@@ -13,12 +13,12 @@ pub record TakesFields (fields : List Field) (bytes front rest : List ℕ) : Typ
   pub goes : (more : List Field) → left_at_fault (fields ++ more) bytes ≡ left_at_fault more rest
 
 -- one of these fields is the first that is short or out of range, where so many bytes are left
-pub record Stops (fields : List Field) (bytes : List ℕ) (left : ℕ) : Type 0 where
+pub record StopsReading (fields : List Field) (bytes : List ℕ) (left : ℕ) : Type 0 where
   pub at : (more : List Field) → left_at_fault (fields ++ more) bytes ≡ Some left
 
 -- an error for a bad field says where that field begins
 abbrev pub StopsBy : List Field → List ℕ → FieldError → Type 0
-StopsBy fields bytes error = (left : ℕ) → error ≡ Bad left → Stops fields bytes left
+StopsBy fields bytes error = (left : ℕ) → error ≡ Bad left → StopsReading fields bytes left
 
 -- the bytes are an operation's frame and the rest
 pub record ReadsOp (bytes : List ℕ) (op : Op) (rest : List ℕ) : Type 0 where

@@ -6,7 +6,7 @@ ghost use Rattle.rm_formats.specs.Frames.{submission_frame, kind_code};
 ghost use Rattle.rm_formats.specs.declared.codes.TheConstants.{EPOCH_CODE, APP_CODE, ATTEMPT_CODE, ATTEMPT_END_CODE, APP_END_CODE, REMOVE_CODE};
 ghost use Rattle.rm_frame.specs.Fields.{submission_fields, master_fields, epoch_fields, app_id_fields, attempt_id_fields, end_fields, TextOf, layout, left_at_fault, fault_place, fields_of, kind_field};
 ghost use Rattle.rm_frame.specs.Framed.{IsFramed};
-ghost use Rattle.rm_frame.specs.Reads.{TakesFields, Stops, StopsBy, ReadsOp};
+ghost use Rattle.rm_frame.specs.Reads.{TakesFields, StopsReading, StopsBy, ReadsOp};
 
 use crate::fields::{
     End, FieldError, app_id_at, attempt_id_at, byte_within, end_at, text_at, u32_within, u64_within,

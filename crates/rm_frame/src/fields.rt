@@ -4,7 +4,7 @@ ghost use Rattle.rm_types.specs.Ranges.{IsText};
 ghost use Rattle.rm_formats.specs.Frames.{text_frame, app_id_frame, attempt_id_frame, how_code};
 ghost use Rattle.rm_types.specs.Ranges.{IsWithin, IsAppId, IsAttemptId};
 ghost use Rattle.rm_frame.specs.Fields.{ByteFrom, NumberFrom, TextOf, how_field, app_id_fields, attempt_id_fields, end_fields};
-ghost use Rattle.rm_frame.specs.Reads.{TakesFields, Stops, StopsBy};
+ghost use Rattle.rm_frame.specs.Reads.{TakesFields, StopsReading, StopsBy};
 
 use rm_formats::{FAILED_CODE, FINISHED_CODE, KILLED_CODE};
 use rm_types::{AppId, AttemptId, How, NUMBERS, STAMPS, Text, TextError, TextKind};

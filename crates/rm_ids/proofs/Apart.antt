@@ -13,7 +13,7 @@ use Rattle.rm_ids.specs.declared.parts.Part.{Part}
 use Rattle.rm_ids.specs.declared.parts.Part.TheVariants.{Stamp, AppNumber, AttemptNumber, AttemptInContainer, Epoch, Sequence}
 use Rattle.rm_ids.specs.Parts.{least_digits, greatest}
 use Rattle.rm_ids.specs.Digits.{value_of}
-use Rattle.rm_ids.specs.Spelling.{app_then, grant_text, epoch_then}
+use Rattle.rm_ids.specs.Spelling.{app_then, container_numbers_text, epoch_then}
 use Rattle.rm_ids.proofs.Digits.{heads_alike, LacksDigit, digits_alike, value_of-padded}
 use Rattle.rm_ids.proofs.Numerals.{fits}
 use Rattle.rm_ids.proofs.Refusals.{no_digit, number_digits}
@@ -37,7 +37,7 @@ app_alike a b x y is_a is_b lacks_x lacks_y e =
     let number = number_alike AppNumber a.number b.number x y is_a.number is_b.number lacks_x lacks_y second.1 in
     (app_of_parts a b stamp.0 number.0, number.1)
 
-grant_alike : (a b : AttemptId) (m n : ℕ) → IsAttemptId a → IsAttemptId b → IsWithin 1 (2 ^ 40 - 1) m → IsWithin 1 (2 ^ 40 - 1) n → grant_text a m ≡ grant_text b n → (a ≡ b) × (m ≡ n)
+grant_alike : (a b : AttemptId) (m n : ℕ) → IsAttemptId a → IsAttemptId b → IsWithin 1 (2 ^ 40 - 1) m → IsWithin 1 (2 ^ 40 - 1) n → container_numbers_text a m ≡ container_numbers_text b n → (a ≡ b) × (m ≡ n)
 grant_alike a b m n is_a is_b within_m within_n e =
     let app = app_alike a.app b.app (95 ∷ (padded 2 a.number ++ (95 ∷ (padded 6 m ++ [])))) (95 ∷ (padded 2 b.number ++ (95 ∷ (padded 6 n ++ [])))) is_a.app is_b.app no_digit no_digit e in
     let first = heads_alike 95 95 (padded 2 a.number ++ (95 ∷ (padded 6 m ++ []))) (padded 2 b.number ++ (95 ∷ (padded 6 n ++ []))) app.1 in
@@ -63,10 +63,10 @@ attempts_apart a b is_a is_b e =
     attempt_of_parts a b app.0 number.0
 
 epochs_alike : (m n : ℕ) (a b : ContainerId) → IsWithin 0 (2 ^ 24 - 1) m → IsWithin 0 (2 ^ 24 - 1) n → IsContainerId a → IsContainerId b
-    → epoch_then m (grant_text a.attempt a.seq) ≡ epoch_then n (grant_text b.attempt b.seq) → (m ≡ n) × (grant_text a.attempt a.seq ≡ grant_text b.attempt b.seq)
+    → epoch_then m (container_numbers_text a.attempt a.seq) ≡ epoch_then n (container_numbers_text b.attempt b.seq) → (m ≡ n) × (container_numbers_text a.attempt a.seq ≡ container_numbers_text b.attempt b.seq)
 epochs_alike m n a b within_m within_n is_a is_b e =
-    let x : List ℕ = grant_text a.attempt a.seq in
-    let y : List ℕ = grant_text b.attempt b.seq in
+    let x : List ℕ = container_numbers_text a.attempt a.seq in
+    let y : List ℕ = container_numbers_text b.attempt b.seq in
     elim (cases_lt 0 m) [
       | inl some_m ↦ elim (cases_lt 0 n) [
         | inl some_n ↦
@@ -91,8 +91,8 @@ epochs_alike m n a b within_m within_n is_a is_b e =
 
 pub containers_apart : (a b : ContainerId) → IsContainerId a → IsContainerId b → container_text a ≡ container_text b → a ≡ b
 containers_apart a b is_a is_b e =
-    let x : List ℕ = epoch_then a.epoch (grant_text a.attempt a.seq) in
-    let y : List ℕ = epoch_then b.epoch (grant_text b.attempt b.seq) in
+    let x : List ℕ = epoch_then a.epoch (container_numbers_text a.attempt a.seq) in
+    let y : List ℕ = epoch_then b.epoch (container_numbers_text b.attempt b.seq) in
     let spelled : codes "container" ++ x ≡ codes "container" ++ y = sym (container_spelled a is_a) ∙ e ∙ container_spelled b is_b in
     let epoch = epochs_alike a.epoch b.epoch a b is_a.epoch is_b.epoch is_a is_b (append_cancel_left (codes "container") x y spelled) in
     let grant = grant_alike a.attempt b.attempt a.seq b.seq is_a.attempt is_b.attempt is_a.seq is_b.seq epoch.1 in

@@ -10,7 +10,7 @@ use Rattle.rm_types.specs.Ranges.{IsWithin}
 use Rattle.rm_ids.specs.declared.parts.Part.{Part}
 use Rattle.rm_ids.specs.declared.parts.Part.TheVariants.{Stamp, AppNumber, AttemptNumber, AttemptInContainer, Epoch, Sequence}
 use Rattle.rm_ids.specs.Parts.{least_digits, greatest}
-use Rattle.rm_ids.specs.Digits.{IsDigit, AreDigits, value_of, CanBegin}
+use Rattle.rm_ids.specs.Digits.{IsDigit, AreDigits, value_of, CanBeginNumber}
 use Rattle.rm_ids.proofs.Digits.{own, AreDigits-append, AreDigits-front, value_of-push, value_of-front, value_of-some, padded_is_digits, value_of-padded, length-padded}
 
 -- ---- the table
@@ -87,7 +87,7 @@ more_than least digits all first small more =
     sym (ap (λ n. replicate n 48 ++ decimal number) none ∙ e)
 
 -- they are the text of the number that they write
-pub enough_digits : (part : Part) (digits : List ℕ) → CanBegin part digits → least_digits part ≤ length digits → digits ≡ padded (least_digits part) (value_of digits)
+pub enough_digits : (part : Part) (digits : List ℕ) → CanBeginNumber part digits → least_digits part ≤ length digits → digits ≡ padded (least_digits part) (value_of digits)
 enough_digits part digits can enough =
     let small : value_of digits < 2 ^ 64 = omega (arith, can.small, fits part) in
     elim (cases_lt (least_digits part) (length digits)) [
@@ -97,9 +97,9 @@ enough_digits part digits can enough =
 
 -- ---- one digit more
 
-pub begins_with : (part : Part) (digits : List ℕ) (byte : ℕ) → CanBegin part digits → IsDigit byte → value_of digits * 10 + (byte - 48) ≤ greatest part
+pub begins_with : (part : Part) (digits : List ℕ) (byte : ℕ) → CanBeginNumber part digits → IsDigit byte → value_of digits * 10 + (byte - 48) ≤ greatest part
     → (length digits + 1 ≡ least_digits part → 1 ≤ value_of digits * 10 + (byte - 48)) → (least_digits part < length digits + 1 → get_or digits 0 0 ≢ 48)
-    → CanBegin part (digits ++ byte ∷ [])
+    → CanBeginNumber part (digits ++ byte ∷ [])
 begins_with part digits byte can digit small some first =
     let worth : value_of (digits ++ byte ∷ []) ≡ value_of digits * 10 + (byte - 48) = value_of-push digits byte in
     let count : length (digits ++ byte ∷ []) ≡ length digits + 1 = length_push digits byte in
@@ -118,7 +118,7 @@ begins_with part digits byte can digit small some first =
 
 -- ---- what the text of a number begins with
 
-pub number_begins : (part : Part) (number : ℕ) (front more : List ℕ) → IsWithin 1 (greatest part) number → padded (least_digits part) number ≡ front ++ more → CanBegin part front
+pub number_begins : (part : Part) (number : ℕ) (front more : List ℕ) → IsWithin 1 (greatest part) number → padded (least_digits part) number ≡ front ++ more → CanBeginNumber part front
 number_begins part number front more within e =
     let least = least_digits part in
     let small : number < 2 ^ 64 = omega (arith, within.1, fits part) in
@@ -153,7 +153,7 @@ pub record IsNumber (part : Part) (text : List ℕ) : Type 0 where
   pub within : IsWithin 1 (greatest part) number
   pub same : text ≡ padded (least_digits part) number
 
-whole_number : (part : Part) (digits : List ℕ) → CanBegin part digits → least_digits part ≤ length digits → IsNumber part digits
+whole_number : (part : Part) (digits : List ℕ) → CanBeginNumber part digits → least_digits part ≤ length digits → IsNumber part digits
 whole_number part digits can enough = record {
   number = value_of digits;
   within = (can.some enough, can.small);
@@ -161,7 +161,7 @@ whole_number part digits can enough = record {
 }
 
 -- a 1 can stand behind digits that are too few
-one_more : (part : Part) (digits : List ℕ) → CanBegin part digits → length digits < least_digits part → CanBegin part (digits ++ 49 ∷ [])
+one_more : (part : Part) (digits : List ℕ) → CanBeginNumber part digits → length digits < least_digits part → CanBeginNumber part (digits ++ 49 ∷ [])
 one_more part digits can few =
     let all : AreDigits (digits ++ 49 ∷ []) = AreDigits-append digits (49 ∷ []) can.digits_alone ((omega arith, omega arith), tt) in
     let worth : value_of (digits ++ 49 ∷ []) ≡ value_of digits * 10 + (49 - 48) = value_of-push digits 49 in
@@ -174,7 +174,7 @@ one_more part digits can few =
       no_zero = λ more. absurd (omega arith);
     }
 
-goes_on_by : (part : Part) (lack : ℕ) (digits : List ℕ) → CanBegin part digits → least_digits part ≤ lack + length digits → (more : List ℕ) × IsNumber part (digits ++ more)
+goes_on_by : (part : Part) (lack : ℕ) (digits : List ℕ) → CanBeginNumber part digits → least_digits part ≤ lack + length digits → (more : List ℕ) × IsNumber part (digits ++ more)
 goes_on_by part zero digits can enough = ([], subst (IsNumber part) (sym (append-nil digits)) (whole_number part digits can (omega arith)))
 goes_on_by part (suc lack) digits can enough = elim (cases_lt (length digits) (least_digits part)) [
   | inl few ↦
@@ -184,5 +184,5 @@ goes_on_by part (suc lack) digits can enough = elim (cases_lt (length digits) (l
 ]
 
 -- the text of some number begins with such digits
-pub goes_on : (part : Part) (digits : List ℕ) → CanBegin part digits → (more : List ℕ) × IsNumber part (digits ++ more)
+pub goes_on : (part : Part) (digits : List ℕ) → CanBeginNumber part digits → (more : List ℕ) × IsNumber part (digits ++ more)
 goes_on part digits can = goes_on_by part (least_digits part) digits can (omega arith)

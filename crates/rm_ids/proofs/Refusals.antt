@@ -7,9 +7,9 @@ use Rattle.rm_formats.specs.IdTexts.{padded}
 use Rattle.rm_types.specs.Ranges.{IsWithin}
 use Rattle.rm_ids.specs.declared.parts.Part.{Part}
 use Rattle.rm_ids.specs.Parts.{least_digits, greatest}
-use Rattle.rm_ids.specs.Digits.{IsDigit, AreDigits, value_of, CanBegin}
+use Rattle.rm_ids.specs.Digits.{IsDigit, AreDigits, value_of, CanBeginNumber}
 use Rattle.rm_ids.specs.Fronts.{IsFrontOf, IsPlace}
-use Rattle.rm_ids.specs.Steps.{After, NumberThen, AreFields, Refuses, LacksByte, LeavesWord, Passes, Stops, NumberPasses, NumberStops}
+use Rattle.rm_ids.specs.Steps.{After, NumberThen, AreFields, Refuses, LacksByte, LeavesWord, Passes, StopsSpelling, NumberPasses, NumberStops}
 use Rattle.rm_ids.proofs.Digits.{HasDigit, LacksDigit, starts_with, AreDigits-append, heads_alike, digits_alike, digits_within, padded_is_digits, length-padded, digit_or_not}
 use Rattle.rm_ids.proofs.Numerals.{goes_on, enough_digits, number_begins, fits, some_digits}
 
@@ -155,8 +155,8 @@ pub record NumberEnds (part : Part) (bytes : List ℕ) (left : ℕ) : Type 0 whe
   pub rest : List ℕ
   pub parts : bytes ≡ front ++ rest
   pub count : length rest ≡ left
-  pub can : CanBegin part front
-  pub next : (byte : ℕ) (others : List ℕ) → rest ≡ byte ∷ others → CanBegin part (front ++ byte ∷ []) → ⊥
+  pub can : CanBeginNumber part front
+  pub next : (byte : ℕ) (others : List ℕ) → rest ≡ byte ∷ others → CanBeginNumber part (front ++ byte ∷ []) → ⊥
   pub unfit : (length front < least_digits part) ⊎ HasDigit rest
 
 long_enough : (least number : ℕ) → least ≤ length (padded least number)
@@ -166,8 +166,8 @@ no_number_here : (part : Part) (front : List ℕ) (number : ℕ) → front ≡ p
 no_number_here part front number e few = absurd (omega (arith, ap length e, long_enough (least_digits part) number))
 
 -- with the next byte, no number's text and then what begins with no digit
-no_number_next : (part : Part) (front rest : List ℕ) (byte : ℕ) (others tail : List ℕ) (number : ℕ) (behind : List ℕ) → CanBegin part front
-    → ((next : ℕ) (after : List ℕ) → rest ≡ next ∷ after → CanBegin part (front ++ next ∷ []) → ⊥) → (length front < least_digits part) ⊎ HasDigit rest → rest ≡ byte ∷ others
+no_number_next : (part : Part) (front rest : List ℕ) (byte : ℕ) (others tail : List ℕ) (number : ℕ) (behind : List ℕ) → CanBeginNumber part front
+    → ((next : ℕ) (after : List ℕ) → rest ≡ next ∷ after → CanBeginNumber part (front ++ next ∷ []) → ⊥) → (length front < least_digits part) ⊎ HasDigit rest → rest ≡ byte ∷ others
     → IsWithin 1 (greatest part) number → LacksDigit behind → front ++ byte ∷ tail ≡ padded (least_digits part) number ++ behind → ⊥
 no_number_next part front rest byte others tail number behind can next unfit split within lacks e =
     let text = padded (least_digits part) number in
@@ -185,8 +185,8 @@ no_number_next part front rest byte others tail number behind can next unfit spl
     ]
 
 -- the bytes themselves are no number's text and then what begins with no digit
-no_number_whole : (part : Part) (front rest : List ℕ) (number : ℕ) (behind : List ℕ) → CanBegin part front
-    → ((next : ℕ) (after : List ℕ) → rest ≡ next ∷ after → CanBegin part (front ++ next ∷ []) → ⊥) → (length front < least_digits part) ⊎ HasDigit rest
+no_number_whole : (part : Part) (front rest : List ℕ) (number : ℕ) (behind : List ℕ) → CanBeginNumber part front
+    → ((next : ℕ) (after : List ℕ) → rest ≡ next ∷ after → CanBeginNumber part (front ++ next ∷ []) → ⊥) → (length front < least_digits part) ⊎ HasDigit rest
     → IsWithin 1 (greatest part) number → LacksDigit behind → front ++ rest ≡ padded (least_digits part) number ++ behind → ⊥
 no_number_whole part front [] number behind can next unfit within lacks e =
     let same = digits_alike front (padded (least_digits part) number) [] behind can.digits_alone (number_digits part number within) tt lacks e in
@@ -194,8 +194,8 @@ no_number_whole part front [] number behind can next unfit within lacks e =
 no_number_whole part front (byte ∷ rest) number behind can next unfit within lacks e =
     no_number_next part front (byte ∷ rest) byte rest rest number behind can next unfit refl within lacks e
 
-no_more_digits : (IsKind : List ℕ → Type 0) (part : Part) (front rest more others : List ℕ) → CanBegin part front
-    → ((next : ℕ) (after : List ℕ) → rest ≡ next ∷ after → CanBegin part (front ++ next ∷ []) → ⊥) → (length front < least_digits part) ⊎ HasDigit rest
+no_more_digits : (IsKind : List ℕ → Type 0) (part : Part) (front rest more others : List ℕ) → CanBeginNumber part front
+    → ((next : ℕ) (after : List ℕ) → rest ≡ next ∷ after → CanBeginNumber part (front ++ next ∷ []) → ⊥) → (length front < least_digits part) ⊎ HasDigit rest
     → StartsApart IsKind → rest ≡ more ++ others → IsFrontOf (NumberThen part IsKind) (front ++ more) → more ≡ []
 no_more_digits IsKind part front rest [] others can next unfit apart split begins = refl
 no_more_digits IsKind part front rest (byte ∷ more) others can next unfit apart split begins =
@@ -313,12 +313,12 @@ pub record SplitsDigits (part : Part) (bytes digits rest : List ℕ) (count numb
   pub within : count ≤ length bytes
   pub front : digits ≡ take count bytes
   pub back : rest ≡ drop count bytes
-  pub can : CanBegin part (take count bytes)
+  pub can : CanBeginNumber part (take count bytes)
   pub worth : number ≡ value_of (take count bytes)
-  pub longest : count < length bytes → CanBegin part (take (count + 1) bytes) → ⊥
+  pub longest : count < length bytes → CanBeginNumber part (take (count + 1) bytes) → ⊥
 
-pub split_digits : (part : Part) (bytes digits rest : List ℕ) (count number : ℕ) → count ≤ length bytes → digits ≡ take count bytes → rest ≡ drop count bytes → CanBegin part (take count bytes)
-    → number ≡ value_of (take count bytes) → (count < length bytes → CanBegin part (take (count + 1) bytes) → ⊥) → SplitsDigits part bytes digits rest count number
+pub split_digits : (part : Part) (bytes digits rest : List ℕ) (count number : ℕ) → count ≤ length bytes → digits ≡ take count bytes → rest ≡ drop count bytes → CanBeginNumber part (take count bytes)
+    → number ≡ value_of (take count bytes) → (count < length bytes → CanBeginNumber part (take (count + 1) bytes) → ⊥) → SplitsDigits part bytes digits rest count number
 split_digits part bytes digits rest count number within front back can worth longest =
     record { within = within; front = front; back = back; can = can; worth = worth; longest = longest }
 
@@ -331,12 +331,12 @@ number_ends part bytes digits rest count number splits unfit =
       rest = rest;
       parts = whole;
       count = refl;
-      can = subst (CanBegin part) (sym splits.front) splits.can;
+      can = subst (CanBeginNumber part) (sym splits.front) splits.can;
       next = λ byte others split can.
           let all : bytes ≡ (digits ++ byte ∷ []) ++ others = whole ∙ ap (λ (t : List ℕ). digits ++ t) split ∙ sym (append_assoc digits (byte ∷ []) others) in
           let long : length (digits ++ byte ∷ []) ≡ count + 1 = length_push digits byte ∙ ap (λ (n : ℕ). n + 1) size in
           let first : take (count + 1) bytes ≡ digits ++ byte ∷ [] = ap (take (count + 1)) all ∙ take_at (digits ++ byte ∷ []) others (count + 1) long in
-          splits.longest (omega (arith, long, ap length all, length-append (digits ++ byte ∷ []) others)) (subst (CanBegin part) (sym first) can);
+          splits.longest (omega (arith, long, ap length all, length-append (digits ++ byte ∷ []) others)) (subst (CanBeginNumber part) (sym first) can);
       unfit = unfit;
     }
 
@@ -396,11 +396,11 @@ leaves_word word bytes rest count within parts other = record {
 }
 
 -- the same at a field: a `_` and a number
-pub field_stops_before : (part : Part) (bytes : List ℕ) (left : ℕ) → LeavesWord (codes "_") bytes left → Stops (part ∷ []) bytes left
+pub field_stops_before : (part : Part) (bytes : List ℕ) (left : ℕ) → LeavesWord (codes "_") bytes left → StopsSpelling (part ∷ []) bytes left
 field_stops_before part bytes left leaves = λ more.
     within_word (NumberThen part (AreFields more)) (codes "_") bytes left (number_has_text part more) leaves
 
-pub field_stops : (part : Part) (bytes rest : List ℕ) (left : ℕ) → bytes ≡ codes "_" ++ rest → NumberStops part rest left → Stops (part ∷ []) bytes left
+pub field_stops : (part : Part) (bytes rest : List ℕ) (left : ℕ) → bytes ≡ codes "_" ++ rest → NumberStops part rest left → StopsSpelling (part ∷ []) bytes left
 field_stops part bytes rest left e stops = λ more. behind_word (NumberThen part (AreFields more)) (codes "_") bytes rest left e (stops more)
 
 pub field_passes : (part : Part) (bytes middle rest : List ℕ) → bytes ≡ codes "_" ++ middle → NumberPasses part middle rest → Passes (part ∷ []) bytes rest
@@ -408,10 +408,10 @@ field_passes part bytes middle rest e passes = λ more left refuses. behind_word
 
 -- ---- parts one after another
 
-pub stops_first : (parts others : List Part) (bytes : List ℕ) (left : ℕ) → Stops parts bytes left → Stops (parts ++ others) bytes left
+pub stops_first : (parts others : List Part) (bytes : List ℕ) (left : ℕ) → StopsSpelling parts bytes left → StopsSpelling (parts ++ others) bytes left
 stops_first parts others bytes left stops = λ more. subst (λ (all : List Part). Refuses (AreFields all) bytes left) (sym (append_assoc parts others more)) (stops (others ++ more))
 
-pub stops_then : (parts others : List Part) (bytes middle : List ℕ) (left : ℕ) → Passes parts bytes middle → Stops others middle left → Stops (parts ++ others) bytes left
+pub stops_then : (parts others : List Part) (bytes middle : List ℕ) (left : ℕ) → Passes parts bytes middle → StopsSpelling others middle left → StopsSpelling (parts ++ others) bytes left
 stops_then parts others bytes middle left passes stops = λ more.
     subst (λ (all : List Part). Refuses (AreFields all) bytes left) (sym (append_assoc parts others more)) (passes (others ++ more) left (stops more))
 

@@ -15,7 +15,7 @@ use Rattle.rm_ids.specs.declared.parts.Part.TheVariants.{Stamp, AppNumber, Attem
 use Rattle.rm_ids.specs.Digits.{AreDigits}
 use Rattle.rm_ids.specs.Fronts.{IsAppText, IsAttemptText, IsContainerText, IsFrontOf}
 use Rattle.rm_ids.specs.Steps.{After, NumberThen, AreFields, Refuses, LeavesWord, LacksByte}
-use Rattle.rm_ids.specs.Spelling.{app_parts, grant_parts, app_then, grant_text, epoch_then, IsGrantText}
+use Rattle.rm_ids.specs.Spelling.{app_parts, grant_parts, app_then, container_numbers_text, epoch_then, IsGrantText}
 use Rattle.rm_ids.proofs.Digits.{heads_alike, HasDigit, padded_is_digits, length-padded}
 use Rattle.rm_ids.proofs.Refusals.{Inhabits, fields_have_text, number_has_text, behind_word, alike, Either, either}
 
@@ -134,9 +134,9 @@ record IsGrant (text : List ℕ) : Type 0 where
   pub seq : ℕ
   pub is : IsAttemptId attempt
   pub within : IsWithin 1 (2 ^ 40 - 1) seq
-  pub same : text ≡ grant_text attempt seq
+  pub same : text ≡ container_numbers_text attempt seq
 
-pub grant_fields : (attempt : AttemptId) (seq : ℕ) → IsAttemptId attempt → IsWithin 1 (2 ^ 40 - 1) seq → AreFields grant_parts (grant_text attempt seq)
+pub grant_fields : (attempt : AttemptId) (seq : ℕ) → IsAttemptId attempt → IsWithin 1 (2 ^ 40 - 1) seq → AreFields grant_parts (container_numbers_text attempt seq)
 grant_fields attempt seq is within =
     app_fields (AttemptInContainer ∷ Sequence ∷ []) attempt.app (codes "_" ++ (padded 2 attempt.number ++ (codes "_" ++ (padded 6 seq ++ [])))) is.app
     (record {
@@ -172,13 +172,13 @@ with_epoch : (shown : Bool) (epoch : ℕ) (a b : List ℕ) → 95 ∷ a ≡ b �
 with_epoch true epoch a b same = ap (λ (t : List ℕ). codes "container" ++ t) same
 with_epoch false epoch a b same = ap (λ (t : List ℕ). codes "container_e" ++ (padded 2 epoch ++ t)) same
 
-pub container_spelled : (id : ContainerId) → IsContainerId id → container_text id ≡ codes "container" ++ epoch_then id.epoch (grant_text id.attempt id.seq)
+pub container_spelled : (id : ContainerId) → IsContainerId id → container_text id ≡ codes "container" ++ epoch_then id.epoch (container_numbers_text id.attempt id.seq)
 container_spelled id is =
     let app = id.attempt.app in
     let short : List ℕ = padded 4 app.number ++ (codes "_" ++ (padded 2 id.attempt.number ++ (codes "_" ++ padded 6 id.seq))) in
     let long : List ℕ = padded 4 app.number ++ (codes "_" ++ (padded 2 id.attempt.number ++ (codes "_" ++ (padded 6 id.seq ++ [])))) in
     let same : short ≡ long = ap (λ (t : List ℕ). padded 4 app.number ++ (codes "_" ++ (padded 2 id.attempt.number ++ (codes "_" ++ t)))) (sym (append-nil (padded 6 id.seq))) in
-    with_epoch (eqb id.epoch 0) id.epoch (container_end id) (grant_text id.attempt id.seq)
+    with_epoch (eqb id.epoch 0) id.epoch (container_end id) (container_numbers_text id.attempt id.seq)
     (ap (λ (t : List ℕ). codes "_" ++ t) (stamp_then app.stamp short long (stamp_fits app is.attempt.app) same))
 
 pub epoch_shown : (epoch : ℕ) (rest : List ℕ) → 1 ≤ epoch → epoch_then epoch rest ≡ codes "_e" ++ (padded 2 epoch ++ rest)
@@ -198,9 +198,9 @@ container_text_from text after = container_text_by text after.rest after.same af
         let grant = fields_are_grant epoch.rest epoch.is in
         let id : ContainerId = record { attempt = grant.attempt; epoch = epoch.number; seq = grant.seq } in
         let is : IsContainerId id = record { attempt = grant.is; epoch = (omega arith, epoch.within.1); seq = grant.within } in
-        let spelled : rest ≡ epoch_then epoch.number (grant_text grant.attempt grant.seq) =
+        let spelled : rest ≡ epoch_then epoch.number (container_numbers_text grant.attempt grant.seq) =
         shown.same ∙ ap (λ (t : List ℕ). codes "_e" ++ t) (epoch.same ∙ ap (λ (t : List ℕ). padded 2 epoch.number ++ t) grant.same)
-        ∙ sym (epoch_shown epoch.number (grant_text grant.attempt grant.seq) epoch.within.0) in
+        ∙ sym (epoch_shown epoch.number (container_numbers_text grant.attempt grant.seq) epoch.within.0) in
         record { id = id; is = is; same = e ∙ ap (λ (t : List ℕ). codes "container" ++ t) spelled ∙ sym (container_spelled id is) }
 
 epoch_fields : (epoch : ℕ) (rest : List ℕ) → IsWithin 0 (2 ^ 24 - 1) epoch → AreFields grant_parts rest → IsGrantText (epoch_then epoch rest)
@@ -212,9 +212,9 @@ epoch_fields epoch rest within fields = elim (cases_lt 0 epoch) [
 
 container_text_to : (text : List ℕ) → IsContainerText text → After (codes "container") IsGrantText text
 container_text_to text is = record {
-  rest = epoch_then is.id.epoch (grant_text is.id.attempt is.id.seq);
+  rest = epoch_then is.id.epoch (container_numbers_text is.id.attempt is.id.seq);
   same = is.same ∙ container_spelled is.id is.is;
-  is = epoch_fields is.id.epoch (grant_text is.id.attempt is.id.seq) is.is.epoch (grant_fields is.id.attempt is.id.seq is.is.attempt is.is.seq);
+  is = epoch_fields is.id.epoch (container_numbers_text is.id.attempt is.id.seq) is.is.epoch (grant_fields is.id.attempt is.id.seq is.is.attempt is.is.seq);
 }
 
 pub container_refuses : (bytes : List ℕ) (left : ℕ) → Refuses (After (codes "container") IsGrantText) bytes left → Refuses IsContainerText bytes left

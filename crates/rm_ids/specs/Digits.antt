@@ -23,7 +23,7 @@ value_of digits = value_after 0 digits
 
 -- these are digits with which the text of some such number begins: they write no number above the greatest; as many as
 -- must be write no 0; and more than must be have no zero before them
-pub record CanBegin (part : Part) (digits : List ℕ) : Type 0 where
+pub record CanBeginNumber (part : Part) (digits : List ℕ) : Type 0 where
   pub digits_alone : AreDigits digits
   pub small : value_of digits ≤ greatest part
   pub some : least_digits part ≤ length digits → 1 ≤ value_of digits

@@ -20,8 +20,8 @@ abbrev pub app_then : AppId → List ℕ → List ℕ
 app_then id rest = codes "_" ++ (padded 1 id.stamp ++ (codes "_" ++ (padded 4 id.number ++ rest)))
 
 -- a container's numbers as they are written, the epoch left out
-abbrev pub grant_text : AttemptId → ℕ → List ℕ
-grant_text attempt seq = app_then attempt.app (codes "_" ++ (padded 2 attempt.number ++ (codes "_" ++ (padded 6 seq ++ []))))
+abbrev pub container_numbers_text : AttemptId → ℕ → List ℕ
+container_numbers_text attempt seq = app_then attempt.app (codes "_" ++ (padded 2 attempt.number ++ (codes "_" ++ (padded 6 seq ++ []))))
 
 -- behind `container`: such numbers, with the epoch before them or without
 abbrev pub IsGrantText : List ℕ → Type 0

@@ -57,8 +57,8 @@ abbrev pub Passes : List Part → List ℕ → List ℕ → Type 0
 Passes parts bytes rest = (more : List Part) (left : ℕ) → Refuses (AreFields more) rest left → Refuses (AreFields (parts ++ more)) bytes left
 
 -- the bytes stop within these fields, whatever fields follow
-abbrev pub Stops : List Part → List ℕ → ℕ → Type 0
-Stops parts bytes left = (more : List Part) → Refuses (AreFields (parts ++ more)) bytes left
+abbrev pub StopsSpelling : List Part → List ℕ → ℕ → Type 0
+StopsSpelling parts bytes left = (more : List Part) → Refuses (AreFields (parts ++ more)) bytes left
 
 -- the same of a number with no `_` before it: where the bytes behind it stop, those with it do
 abbrev pub NumberPasses : Part → List ℕ → List ℕ → Type 0

@@ -1,14 +1,14 @@
 ghost use Rattle.std.specs.Prelude.{◌≡◌, ◌+◌, ◌≤◌, ◌<◌, ◌∷◌, [], ◌++◌, length, take, SomeIff};
-ghost use Rattle.rm_ids.specs.Digits.{value_of, CanBegin};
+ghost use Rattle.rm_ids.specs.Digits.{value_of, CanBeginNumber};
 
 use crate::parts::Part;
 
 /// The number that the digits and one more byte write, where the text of some such number can begin with
 /// them.
 fn with_digit(part: Part, digits: &[u8], number: u64, byte: u8) -> Option<u64>
-    requires begin { CanBegin part digits.now }
+    requires begin { CanBeginNumber part digits.now }
     requires number { number ≡ value_of digits.now }
-    ensures { SomeIff result (CanBegin part (digits.now ++ byte ∷ [])) (value_of (digits.now ++ byte ∷ [])) }
+    ensures { SomeIff result (CanBeginNumber part (digits.now ++ byte ∷ [])) (value_of (digits.now ++ byte ∷ [])) }
 {
     if !byte.is_ascii_digit() {
         return None;
@@ -32,9 +32,9 @@ fn with_digit(part: Part, digits: &[u8], number: u64, byte: u8) -> Option<u64>
 /// digits write, and how many they are.
 pub(crate) fn longest_front(part: Part, bytes: &[u8]) -> (u64, usize)
     ensures within { result.1 ≤ length bytes.now }
-    ensures begin { CanBegin part (take result.1 bytes.now) }
+    ensures begin { CanBeginNumber part (take result.1 bytes.now) }
     ensures number { result.0 ≡ value_of (take result.1 bytes.now) }
-    ensures longest { result.1 < length bytes.now → CanBegin part (take (result.1 + 1) bytes.now) → ⊥ }
+    ensures longest { result.1 < length bytes.now → CanBeginNumber part (take (result.1 + 1) bytes.now) → ⊥ }
 {
     let mut number = 0;
     for (count, byte) in bytes.iter().enumerate() {

@@ -6,8 +6,8 @@ ghost use Rattle.rm_formats.specs.IdTexts.{app_text, attempt_text, container_tex
 ghost use Rattle.rm_types.specs.Ranges.{IsWithin, IsAppId, IsAttemptId, IsContainerId};
 ghost use Rattle.rm_types.specs.declared.limits.TheConstants.{EPOCHS, SEQUENCES};
 ghost use Rattle.rm_ids.specs.Fronts.{IsAppText, IsAttemptText, IsContainerText, IsPlace};
-ghost use Rattle.rm_ids.specs.Spelling.{app_parts, grant_parts, app_then, grant_text, epoch_then, IsGrantText};
-ghost use Rattle.rm_ids.specs.Steps.{AreFields, Refuses, Passes, Stops};
+ghost use Rattle.rm_ids.specs.Spelling.{app_parts, grant_parts, app_then, container_numbers_text, epoch_then, IsGrantText};
+ghost use Rattle.rm_ids.specs.Steps.{AreFields, Refuses, Passes, StopsSpelling};
 
 use crate::parts::Part;
 use crate::steps::{Stop, after_word, end_at, field_at, number_at};
@@ -111,7 +111,7 @@ fn app_at(bytes: &[u8]) -> Result<(AppId, &[u8]), Stop>
     ensures within { IfOk result (λ read. IsAppId read.0) }
     ensures read { IfOk result (λ read. bytes.now ≡ app_then read.0 read.1.now) }
     ensures passes { IfOk result (λ read. Passes app_parts bytes.now read.1.now) }
-    ensures stop { IfErr result (λ stop. Stops app_parts bytes.now stop.left) }
+    ensures stop { IfErr result (λ stop. StopsSpelling app_parts bytes.now stop.left) }
 {
     let (stamp, rest) = field_at(bytes, Part::Stamp)?;
     let (number, rest) = field_at(rest, Part::AppNumber)?;
@@ -140,7 +140,7 @@ fn epoch_at(bytes: &[u8]) -> Result<(u32, &[u8]), Stop>
 fn grant_of(bytes: &[u8]) -> Result<(AttemptId, u64), Stop>
     ensures attempt { IfOk result (λ read. IsAttemptId read.0) }
     ensures seq { IfOk result (λ read. IsWithin 1 (SEQUENCES - 1) read.1) }
-    ensures read { IfOk result (λ read. bytes.now ≡ grant_text read.0 read.1) }
+    ensures read { IfOk result (λ read. bytes.now ≡ container_numbers_text read.0 read.1) }
     ensures stop { IfErr result (λ stop. Refuses (AreFields grant_parts) bytes.now stop.left) }
 {
     let (app, rest) = app_at(bytes)?;

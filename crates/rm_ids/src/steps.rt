@@ -2,7 +2,7 @@ ghost use Rattle.std.specs.Prelude.{◌≡◌, ◌-◌, ◌≤◌, ◌∷◌, []
 ghost use Rattle.rm_types.specs.Ranges.{IsWithin};
 ghost use Rattle.rm_formats.specs.IdTexts.{padded};
 ghost use Rattle.rm_ids.specs.Parts.{least_digits, greatest};
-ghost use Rattle.rm_ids.specs.Steps.{AreFields, Refuses, LeavesWord, Passes, Stops, NumberPasses, NumberStops};
+ghost use Rattle.rm_ids.specs.Steps.{AreFields, Refuses, LeavesWord, Passes, StopsSpelling, NumberPasses, NumberStops};
 
 use crate::numbers::longest_front;
 use crate::parts::Part;
@@ -62,7 +62,7 @@ pub(crate) fn field_at(bytes: &[u8], part: Part) -> Result<(u64, &[u8]), Stop>
     ensures within { IfOk result (λ read. IsWithin 1 (greatest part) read.0) }
     ensures read { IfOk result (λ read. bytes.now ≡ 95 ∷ (padded (least_digits part) read.0 ++ read.1.now)) }
     ensures passes { IfOk result (λ read. Passes (part ∷ []) bytes.now read.1.now) }
-    ensures stop { IfErr result (λ stop. Stops (part ∷ []) bytes.now stop.left) }
+    ensures stop { IfErr result (λ stop. StopsSpelling (part ∷ []) bytes.now stop.left) }
 {
     number_at(after_word(bytes, b"_")?, part)
 }

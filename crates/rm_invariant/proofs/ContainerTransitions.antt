@@ -36,11 +36,12 @@ use Rattle.rm_attempt.specs.declared.states.AttemptState.{AttemptState}
 use Rattle.rm_attempt.specs.declared.states.AttemptState.TheVariants as attempts
 use Rattle.rm_container.specs.declared.states.ContainerEvent.TheVariants.{Tell, Run, End}
 use Rattle.rm_container.specs.declared.states.ContainerAction.TheVariants.{Nothing}
-use Rattle.rm_container.specs.Table.{Row as ContainerTableRow}
-use Rattle.rm_book.specs.Books.{AreLiving, BookOf, IsBook, entering, granted_rows, is_held, is_living, is_of, row_of, row_taken, taken_rows, with_grants, with_taken, without_rows}
+use Rattle.rm_container.specs.Table.{ContainerTransition as ContainerTableRow}
+use Rattle.rm_book.specs.Books.{AreLiving, BookOf, IsBook, entering, granted_rows, is_living_state, is_of, book_row, book_row_taken, taken_rows, with_grants, book_with_taken, without_rows}
+use Rattle.rm_types.specs.Containers.{is_held, is_granted}
 use Rattle.rm_book.specs.Granted.{AllMayBeTold, grants_to, may_be_told}
 use Rattle.rm_book.proofs.UntoldGrants.{granted_to_told, told_filter}
-use Rattle.rm_model.specs.Containers.{is_granted, once}
+use Rattle.rm_model.specs.Containers.{once}
 use Rattle.rm_model.specs.Facts.{has_container}
 use Rattle.rm_model.specs.NodeReplies.{reported}
 use Rattle.rm_model.specs.MasterReplies.{master_reply}
@@ -59,7 +60,7 @@ use Rattle.rm_tables.specs.Actions.{main_worked, sched_worked}
 use Rattle.rm_tables.specs.KeptOps.{kept}
 use Rattle.rm_tables.specs.Leaving.{ended_by, is_masters_in}
 use Rattle.rm_tables.specs.MainEvents.{main_step}
-use Rattle.rm_tables.specs.Nodes.{is_waiting, node_of}
+use Rattle.rm_tables.specs.Nodes.{is_waiting_row, node_row}
 use Rattle.rm_tables.specs.Passing.{grants_on, updated_by}
 use Rattle.rm_tables.specs.Rows.{row_of as row_of_app}
 use Rattle.rm_tables.specs.SchedEvents.{is_on as is_there_on, is_released, queued_at, queued_by, queued_with, sched_step}
@@ -67,9 +68,9 @@ use Rattle.rm_refinement.specs.History.{History, abstract_scene}
 use Rattle.rm_refinement.specs.Services.{RefinesLife}
 use Rattle.rm_client.specs.Answers.{after_client, taken_by, wished_by}
 use Rattle.rm_master.specs.Answers.{acquired, acquired_row, after_master, ids_granted, is_new_to}
-use Rattle.rm_master.specs.Told.{allocate_told, allocated_told, asks_too_much, goes_on, grants_told, has_too_many, living_row, master_told, new_told, spoken_by, spoken_in, spoken_told}
+use Rattle.rm_master.specs.Told.{allocate_told, allocated_told, asks_too_much, goes_on, grants_told, asks_too_many, living_row, master_told, new_told, spoken_by, spoken_in, spoken_told}
 use Rattle.rm_master.proofs.Served.{master_answer}
-use Rattle.rm_tracker.specs.Answers.{after_clock, after_node, beaten_book, is_new_beat, is_on, is_untold, registered_by}
+use Rattle.rm_tracker.specs.Answers.{after_clock, after_node, beaten_book, is_next_beat, is_row_on, is_untold_row, registered_by}
 use Rattle.rm_tracker.proofs.Alike.{beaten_at_once, book_at_once}
 use Rattle.rm_invariant.specs.events.Outcomes.{Outcome, accepts, adds, delays, ends, ends_one, follows, idles, issues, kills, loses, orders, removes, requeues, saves}
 use Rattle.rm_invariant.proofs.events.Outcomes.{main_outcome}
@@ -80,13 +81,13 @@ use Rattle.rm_invariant.specs.Transitions.{BookFollowsTable, BookRowFollowsTable
 -- ROWS
 
 -- a container that lives goes to where it runs, and by its end to the last state
-runs_follows : (s : ContainerState) → is_living s ≡ true → ContainerFollowsTable s Running
+runs_follows : (s : ContainerState) → is_living_state s ≡ true → ContainerFollowsTable s Running
 runs_follows Granted e = inr (Run, Nothing, ContainerTableRow.run_granted)
 runs_follows Acquired e = inr (Run, Nothing, ContainerTableRow.run_acquired)
 runs_follows Running e = inl refl
 runs_follows Completed e = cc
 
-living_ends : (s : ContainerState) → is_living s ≡ true → ContainerTableRow s End Completed Nothing
+living_ends : (s : ContainerState) → is_living_state s ≡ true → ContainerTableRow s End Completed Nothing
 living_ends Granted e = ContainerTableRow.end_granted
 living_ends Acquired e = ContainerTableRow.end_acquired
 living_ends Running e = ContainerTableRow.end_running
@@ -115,12 +116,12 @@ none_is_some None a e f = cc
 none_is_some (Some x) a e f = cc
 
 -- a row that is found is of a container that lives
-lives_found : (id : ContainerId) (rows : List BookRow) (row : BookRow) → AreLiving rows → find (is_of id) rows ≡ Some row → is_living row.state ≡ true
+lives_found : (id : ContainerId) (rows : List BookRow) (row : BookRow) → AreLiving rows → find (is_of id) rows ≡ Some row → is_living_state row.state ≡ true
 lives_found id [] row living is = cc
 lives_found id (one ∷ rows) row living is = by (is_of id one) refl (lives_found id rows row living.1)
   where
-    by : (b : Bool) → is_of id one ≡ b → (find (is_of id) rows ≡ Some row → is_living row.state ≡ true) → is_living row.state ≡ true
-    by true e rest = let h : Some one ≡ Some row = rw e at is in let same : one ≡ row = cc in subst (λ (r : BookRow). is_living r.state ≡ true) same living.0
+    by : (b : Bool) → is_of id one ≡ b → (find (is_of id) rows ≡ Some row → is_living_state row.state ≡ true) → is_living_state row.state ≡ true
+    by true e rest = let h : Some one ≡ Some row = rw e at is in let same : one ≡ row = cc in subst (λ (r : BookRow). is_living_state r.state ≡ true) same living.0
     by false e rest = rest (rw e at is)
 
 -- what is found among rows that changed, where each is of its own container still
@@ -235,9 +236,9 @@ stays_of ended one = not (list_any (λ other. is_container other one) ended)
 
 -- the rows after an absorption of what stood before it
 abbrev rows_left : List Held → List ContainerId → List BookRow → List BookRow
-rows_left taken ended rows = map (row_taken taken) (filter (λ row. stays_of ended row.id) rows)
+rows_left taken ended rows = map (book_row_taken taken) (filter (λ row. stays_of ended row.id) rows)
 
-taken_keeps : (taken : List Held) (row : BookRow) → (row_taken taken row).id ≡ row.id
+taken_keeps : (taken : List Held) (row : BookRow) → (book_row_taken taken row).id ≡ row.id
 taken_keeps taken row = by (is_held taken row.id)
   where
     by : (b : Bool) → (if b then record row { state = Running } else row).id ≡ row.id
@@ -245,17 +246,17 @@ taken_keeps taken row = by (is_held taken row.id)
     by false = refl
 
 -- a container that stays in the book
-module _ (book : BookOf) (lawful : IsBook book) (id : ContainerId) (before now : BookRow) (found : row_of book id ≡ Some before) where
+module _ (book : BookOf) (lawful : IsBook book) (id : ContainerId) (before now : BookRow) (found : book_row book id ≡ Some before) where
   -- after a change of each row that keeps its container
   mapped : (f : BookRow → BookRow) → ((row : BookRow) → (f row).id ≡ row.id) → find (is_of id) (map f book.rows) ≡ Some now → f before ≡ now
   mapped f same after =
       let at_ : find (is_of id) (map f book.rows) ≡ Some (f before) = found_map f same id book.rows ∙ ap (option_map f) found in
       let h : Some (f before) ≡ Some now = sym at_ ∙ after in cc
 
-  living : is_living before.state ≡ true
+  living : is_living_state before.state ≡ true
   living = lives_found id book.rows before lawful.living found
 
-  left_follows : (ended : List ContainerId) → row_of (without_rows book ended) id ≡ Some now → ContainerFollowsTable before.state now.state
+  left_follows : (ended : List ContainerId) → book_row (without_rows book ended) id ≡ Some now → ContainerFollowsTable before.state now.state
   left_follows ended after = by (stays_of ended id) refl
     where
       by : (b : Bool) → stays_of ended id ≡ b → ContainerFollowsTable before.state now.state
@@ -264,19 +265,19 @@ module _ (book : BookOf) (lawful : IsBook book) (id : ContainerId) (before now :
           inl (ap (λ (r : BookRow). r.state) (same_some (find (is_of id) book.rows) before now found h))
       by false e = let h : ◌≡◌ {A = Option BookRow} None (Some now) = sym (found_left (stays_of ended) id book.rows ∙ rw e refl) ∙ after in cc
 
-  grants_follow : (grants : List Grant) → row_of (with_grants book grants) id ≡ Some now → ContainerFollowsTable before.state now.state
+  grants_follow : (grants : List Grant) → book_row (with_grants book grants) id ≡ Some now → ContainerFollowsTable before.state now.state
   grants_follow grants after =
       let at_ = found_first id book.rows (granted_rows book.added grants) before found in
-      inl (ap (λ (r : BookRow). r.state) (same_some (row_of (with_grants book grants) id) before now at_ after))
+      inl (ap (λ (r : BookRow). r.state) (same_some (book_row (with_grants book grants) id) before now at_ after))
 
   -- its row stood there before the absorption
   stood_follows : (taken : List Held) (ended : List ContainerId) (row : BookRow) → find (is_of id) (rows_left taken ended book.rows) ≡ Some row → ContainerFollowsTable before.state row.state
   stood_follows taken ended row is = by (stays_of ended id) refl
     where
-      here : find (is_of id) (rows_left taken ended book.rows) ≡ option_map (row_taken taken) (if stays_of ended id then find (is_of id) book.rows else None)
+      here : find (is_of id) (rows_left taken ended book.rows) ≡ option_map (book_row_taken taken) (if stays_of ended id then find (is_of id) book.rows else None)
       here =
-          found_map (row_taken taken) (taken_keeps taken) id (filter (λ one. stays_of ended one.id) book.rows)
-          ∙ ap (option_map (row_taken taken)) (found_left (stays_of ended) id book.rows)
+          found_map (book_row_taken taken) (taken_keeps taken) id (filter (λ one. stays_of ended one.id) book.rows)
+          ∙ ap (option_map (book_row_taken taken)) (found_left (stays_of ended) id book.rows)
 
       taken_so : (b : Bool) → ContainerFollowsTable before.state (if b then record before { state = Running } else before).state
       taken_so true = runs_follows before.state living
@@ -284,12 +285,12 @@ module _ (book : BookOf) (lawful : IsBook book) (id : ContainerId) (before now :
 
       by : (b : Bool) → stays_of ended id ≡ b → ContainerFollowsTable before.state row.state
       by true e =
-          let at_ : find (is_of id) (rows_left taken ended book.rows) ≡ Some (row_taken taken before) = here ∙ rw (e, found) refl in
-          let same : row ≡ row_taken taken before = same_some (find (is_of id) (rows_left taken ended book.rows)) (row_taken taken before) row at_ is in
+          let at_ : find (is_of id) (rows_left taken ended book.rows) ≡ Some (book_row_taken taken before) = here ∙ rw (e, found) refl in
+          let same : row ≡ book_row_taken taken before = same_some (find (is_of id) (rows_left taken ended book.rows)) (book_row_taken taken before) row at_ is in
           subst (λ (r : BookRow). ContainerFollowsTable before.state r.state) (sym same) (taken_so (is_held taken before.id))
       by false e = let h : ◌≡◌ {A = Option BookRow} None (Some row) = sym (here ∙ rw e refl) ∙ is in cc
 
-  taken_follows : (node : List ℕ) (capability : Resource) (taken : List Held) (ended : List ContainerId) → row_of (with_taken book node capability taken ended) id ≡ Some now
+  taken_follows : (node : List ℕ) (capability : Resource) (taken : List Held) (ended : List ContainerId) → book_row (book_with_taken book node capability taken ended) id ≡ Some now
       → ContainerFollowsTable before.state now.state
   taken_follows node capability taken ended after = by (find (is_of id) (rows_left taken ended book.rows)) refl
     where
@@ -301,10 +302,10 @@ module _ (book : BookOf) (lawful : IsBook book) (id : ContainerId) (before now :
           let runs : now.state ≡ Running = taken_runs id book.added node (entering book taken) now (sym (found_behind id (rows_left taken ended book.rows) entered e) ∙ after) in
           subst (ContainerFollowsTable before.state) (sym runs) (runs_follows before.state living)
       by (Some row) e =
-          let same : now ≡ row = same_some (row_of (with_taken book node capability taken ended) id) row now (found_first id (rows_left taken ended book.rows) entered row e) after in
+          let same : now ≡ row = same_some (book_row (book_with_taken book node capability taken ended) id) row now (found_first id (rows_left taken ended book.rows) entered row e) after in
           subst (λ (r : BookRow). ContainerFollowsTable before.state r.state) (sym same) (stood_follows taken ended row e)
 
-  acquired_follows : (grants : List Grant) → AllMayBeTold book.rows grants → row_of (acquired (ids_granted grants) book) id ≡ Some now → ContainerFollowsTable before.state now.state
+  acquired_follows : (grants : List Grant) → AllMayBeTold book.rows grants → book_row (acquired (ids_granted grants) book) id ≡ Some now → ContainerFollowsTable before.state now.state
   acquired_follows grants told after =
       subst (λ (r : BookRow). ContainerFollowsTable before.state r.state) (mapped (acquired_row (ids_granted grants)) (λ row. refl) after) (by (has_container (ids_granted grants) before.id) refl)
     where
@@ -314,31 +315,31 @@ module _ (book : BookOf) (lawful : IsBook book) (id : ContainerId) (before now :
           told_follows before.state (rw found at (told_has book.rows id grants told (subst (λ (one : ContainerId). has_container (ids_granted grants) one ≡ true) own e)))
       by false e = inl refl
 
-  beaten_follows : (name : List ℕ) (running launched : List ContainerId) → row_of (beaten_book name running launched book) id ≡ Some now → ContainerFollowsTable before.state now.state
+  beaten_follows : (name : List ℕ) (running launched : List ContainerId) → book_row (beaten_book name running launched book) id ≡ Some now → ContainerFollowsTable before.state now.state
   beaten_follows name running launched after =
       subst (λ (r : BookRow). ContainerFollowsTable before.state r.state)
-      (mapped (beaten_at_once name running launched) (λ row. refl) (sym (ap (λ (b : BookOf). row_of b id) (book_at_once name running launched book lawful.apart)) ∙ after))
-      (by (has_container running before.id && is_on name before) (has_container launched before.id && is_untold name before) refl)
+      (mapped (beaten_at_once name running launched) (λ row. refl) (sym (ap (λ (b : BookOf). book_row b id) (book_at_once name running launched book lawful.apart)) ∙ after))
+      (by (has_container running before.id && is_row_on name before) (has_container launched before.id && is_untold_row name before) refl)
     where
-      by : (c b : Bool) → (has_container launched before.id && is_untold name before) ≡ b → ContainerFollowsTable before.state (if c then Running else (if b then Acquired else before.state))
+      by : (c b : Bool) → (has_container launched before.id && is_untold_row name before) ≡ b → ContainerFollowsTable before.state (if c then Running else (if b then Acquired else before.state))
       by true b e = runs_follows before.state living
       by false true e = granted_follows before.state (untold_parts (has_container launched before.id) (bytes_eq before.node name) (is_granted before.state) e)
       by false false e = inl refl
 
 -- where those that stay follow their table, and those that come are granted or run, each container goes by it: whoever leaves lived
 book_goes : (book next : BookOf) → IsBook book
-    → ((id : ContainerId) (before now : BookRow) → row_of book id ≡ Some before → row_of next id ≡ Some now → ContainerFollowsTable before.state now.state)
-    → ((id : ContainerId) (now : BookRow) → row_of book id ≡ None → row_of next id ≡ Some now → (now.state ≡ Granted) ⊎ (now.state ≡ Running)) → BookFollowsTable book next
-book_goes book next lawful stays comes id = by (row_of book id) (row_of next id) refl refl
+    → ((id : ContainerId) (before now : BookRow) → book_row book id ≡ Some before → book_row next id ≡ Some now → ContainerFollowsTable before.state now.state)
+    → ((id : ContainerId) (now : BookRow) → book_row book id ≡ None → book_row next id ≡ Some now → (now.state ≡ Granted) ⊎ (now.state ≡ Running)) → BookFollowsTable book next
+book_goes book next lawful stays comes id = by (book_row book id) (book_row next id) refl refl
   where
-    by : (o p : Option BookRow) → row_of book id ≡ o → row_of next id ≡ p → BookRowFollowsTable o p
+    by : (o p : Option BookRow) → book_row book id ≡ o → book_row next id ≡ p → BookRowFollowsTable o p
     by None None e f = tt
     by None (Some now) e f = comes id now e f
     by (Some before) None e f = (Nothing, living_ends before.state (lives_found id book.rows before lawful.living e))
     by (Some before) (Some now) e f = stays id before now e f
 
 pub book_stays : (book : BookOf) → BookFollowsTable book book
-book_stays book id = by (row_of book id)
+book_stays book id = by (book_row book id)
   where
     by : (o : Option BookRow) → BookRowFollowsTable o o
     by None = tt
@@ -348,34 +349,34 @@ module _ (book : BookOf) (lawful : IsBook book) where
   left_goes : (ended : List ContainerId) → BookFollowsTable book (without_rows book ended)
   left_goes ended =
       book_goes book (without_rows book ended) lawful (λ id before now found after. left_follows book lawful id before now found ended after)
-      (λ id now none after. absurd (none_is_some (row_of (without_rows book ended) id) now (none_left (stays_of ended) id book.rows none) after))
+      (λ id now none after. absurd (none_is_some (book_row (without_rows book ended) id) now (none_left (stays_of ended) id book.rows none) after))
 
   granted_goes : (grants : List Grant) → BookFollowsTable book (with_grants book grants)
   granted_goes grants =
       book_goes book (with_grants book grants) lawful (λ id before now found after. grants_follow book lawful id before now found grants after)
       (λ id now none after. inl (granted_waits id book.added grants now (sym (found_behind id book.rows (granted_rows book.added grants) none) ∙ after)))
 
-  taken_goes : (node : List ℕ) (capability : Resource) (taken : List Held) (ended : List ContainerId) → BookFollowsTable book (with_taken book node capability taken ended)
+  taken_goes : (node : List ℕ) (capability : Resource) (taken : List Held) (ended : List ContainerId) → BookFollowsTable book (book_with_taken book node capability taken ended)
   taken_goes node capability taken ended =
-      book_goes book (with_taken book node capability taken ended) lawful (λ id before now found after. taken_follows book lawful id before now found node capability taken ended after)
+      book_goes book (book_with_taken book node capability taken ended) lawful (λ id before now found after. taken_follows book lawful id before now found node capability taken ended after)
       (λ id now none after. inr (taken_runs id book.added node (entering book taken) now (sym (found_behind id (rows_left taken ended book.rows) (taken_rows book.added node (entering book taken)) (gone id none)) ∙ after)))
     where
-      gone : (id : ContainerId) → row_of book id ≡ None → find (is_of id) (rows_left taken ended book.rows) ≡ None
+      gone : (id : ContainerId) → book_row book id ≡ None → find (is_of id) (rows_left taken ended book.rows) ≡ None
       gone id none =
-          found_map (row_taken taken) (taken_keeps taken) id (filter (λ one. stays_of ended one.id) book.rows)
-          ∙ ap (option_map (row_taken taken)) (none_left (stays_of ended) id book.rows none)
+          found_map (book_row_taken taken) (taken_keeps taken) id (filter (λ one. stays_of ended one.id) book.rows)
+          ∙ ap (option_map (book_row_taken taken)) (none_left (stays_of ended) id book.rows none)
 
   acquired_goes : (grants : List Grant) → AllMayBeTold book.rows grants → BookFollowsTable book (acquired (ids_granted grants) book)
   acquired_goes grants told =
       book_goes book (acquired (ids_granted grants) book) lawful (λ id before now found after. acquired_follows book lawful id before now found grants told after)
-      (λ id now none after. absurd (none_is_some (row_of (acquired (ids_granted grants) book) id) now
+      (λ id now none after. absurd (none_is_some (book_row (acquired (ids_granted grants) book) id) now
       (found_map (acquired_row (ids_granted grants)) (λ row. refl) id book.rows ∙ ap (option_map (acquired_row (ids_granted grants))) none) after))
 
   beaten_goes : (name : List ℕ) (running launched : List ContainerId) → BookFollowsTable book (beaten_book name running launched book)
   beaten_goes name running launched =
       book_goes book (beaten_book name running launched book) lawful (λ id before now found after. beaten_follows book lawful id before now found name running launched after)
-      (λ id now none after. absurd (none_is_some (row_of (beaten_book name running launched book) id) now
-      (ap (λ (b : BookOf). row_of b id) (book_at_once name running launched book lawful.apart)
+      (λ id now none after. absurd (none_is_some (book_row (beaten_book name running launched book) id) now
+      (ap (λ (b : BookOf). book_row b id) (book_at_once name running launched book lawful.apart)
       ∙ found_map (beaten_at_once name running launched) (λ row. refl) id book.rows ∙ ap (option_map (beaten_at_once name running launched)) none) after))
 
 -- EVENTS, OPERATIONS AND MESSAGES
@@ -443,7 +444,7 @@ module _ (t : Tables) (lawful : IsBook t.book) where
 
   absorbed_containers : (o : Option NodeRow) (name : List ℕ) (turn : ℕ) (ended : List ContainerId) → BookFollowsTable t.book (absorbed_by o name turn ended t).1.book
   absorbed_containers None name turn ended = still
-  absorbed_containers (Some row) name turn ended = by (is_waiting row.state && (row.turn == turn))
+  absorbed_containers (Some row) name turn ended = by (is_waiting_row row.state && (row.turn == turn))
     where
       by : (b : Bool) → BookFollowsTable t.book (absorbed_if b name row ended t).1.book
       by true = taken_goes t.book lawful name row.capability (taken_in t name row) ended
@@ -460,14 +461,14 @@ module _ (t : Tables) (lawful : IsBook t.book) where
   sched_containers (scheds.AttemptAdded id) list = queued_containers (row_of_app t.rows id.app) id
   sched_containers (scheds.AttemptRemoved id) list = ended_containers causes.Attempt list
   sched_containers (scheds.Release attempt released) list = ended_containers causes.Released (once (filter (is_released attempt t) released))
-  sched_containers (scheds.NodeAdded node turn) list = absorbed_containers (node_of t.nodes node) node turn list
-  sched_containers (scheds.NodeDone node done) list = ended_containers causes.Done (once (filter (λ id. is_there_on node (row_of t.book id)) done))
-  sched_containers (scheds.NodeUpdate node) list = updated_containers (node_of t.nodes node) node
+  sched_containers (scheds.NodeAdded node turn) list = absorbed_containers (node_row t.nodes node) node turn list
+  sched_containers (scheds.NodeDone node done) list = ended_containers causes.Done (once (filter (λ id. is_there_on node (book_row t.book id)) done))
+  sched_containers (scheds.NodeUpdate node) list = updated_containers (node_row t.nodes node) node
   sched_containers (scheds.NodeLost node) list = ended_containers causes.Node list
 
   -- messages
   pub node_containers : (name : List ℕ) (ask : NodeAsk) (reply : Reply) → BookFollowsTable t.book (after_node name ask reply t).book
-  node_containers name (asks.Register turn capability running) reply = by (node_of t.nodes name)
+  node_containers name (asks.Register turn capability running) reply = by (node_row t.nodes name)
     where
       later : (row : NodeRow) (b : Bool) → nat_lt row.turn turn ≡ b → BookFollowsTable t.book (registered_by (Some row) name turn capability running reply t).book
       later row true e = rw e still
@@ -476,9 +477,9 @@ module _ (t : Tables) (lawful : IsBook t.book) where
       by : (o : Option NodeRow) → BookFollowsTable t.book (registered_by o name turn capability running reply t).book
       by None = still
       by (Some row) = later row (nat_lt row.turn turn) refl
-  node_containers name (asks.Beat id running done) (replies.Beat next launched clean) = by (is_new_beat id (node_of t.nodes name)) refl
+  node_containers name (asks.Beat id running done) (replies.Beat next launched clean) = by (is_next_beat id (node_row t.nodes name)) refl
     where
-      by : (b : Bool) → is_new_beat id (node_of t.nodes name) ≡ b → BookFollowsTable t.book (after_node name (asks.Beat id running done) (replies.Beat next launched clean) t).book
+      by : (b : Bool) → is_next_beat id (node_row t.nodes name) ≡ b → BookFollowsTable t.book (after_node name (asks.Beat id running done) (replies.Beat next launched clean) t).book
       by true e = rw e (beaten_goes t.book lawful name (reported running) launched)
       by false e = rw e still
   node_containers name (asks.Beat id running done) _ = still
@@ -522,7 +523,7 @@ module _ (t : Tables) (lawful : IsBook t.book) where
           → replies.Allocated next grants ended ≡ (if a then replies.Resync else (if b then one.last_reply else (if not c then replies.WrongId else new_told t attempt id some row))) → grants ≡ grants_told t attempt
       by_id one true b c new f g is = cc
       by_id one false true c new f g is = absurd (grind (arith, nat_tests))
-      by_id one false false true new f g is = by_size (asks_too_much t.settings.greatest some) (has_too_many t.asks attempt some) is
+      by_id one false false true new f g is = by_size (asks_too_much t.settings.greatest some) (asks_too_many t.asks attempt some) is
       by_id one false false false new f g is = let x : true ≡ false = sym new ∙ g in cc
 
       by : (d : Option Dialogue) → replies.Allocated next grants ended ≡ spoken_told t attempt id some row d → is_new_to id d ≡ true → grants ≡ grants_told t attempt

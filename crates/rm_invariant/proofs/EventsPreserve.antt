@@ -9,7 +9,7 @@ use Rattle.rm_tables.specs.declared.events.SchedEvent.{SchedEvent}
 use Rattle.rm_tables.specs.declared.tables.Tables.{Tables}
 use Rattle.rm_tables.specs.Actions.{main_worked, sched_worked}
 use Rattle.rm_tables.specs.MainEvents.{main_step}
-use Rattle.rm_tables.specs.SchedEvents.{EndsBy, sched_step}
+use Rattle.rm_tables.specs.SchedEvents.{EndsByEvent, sched_step}
 use Rattle.rm_refinement.specs.History.{History}
 use Rattle.rm_invariant.specs.messages.Ranges.{KeepsLimits}
 use Rattle.rm_invariant.specs.events.Outcomes.{Outcome}
@@ -80,7 +80,7 @@ module _ (h : History) (t : Tables) (r : LifeInvariant h t) (e : MainEvent) (res
         served = numbers.1;
       }
 
-module _ (h : History) (t : Tables) (r : LifeInvariant h t) (e : SchedEvent) (rest : List SchedEvent) (front : t.sched ≡ e ∷ rest) (list : List ContainerId) (ends : EndsBy e t list) where
+module _ (h : History) (t : Tables) (r : LifeInvariant h t) (e : SchedEvent) (rest : List SchedEvent) (front : t.sched ≡ e ∷ rest) (list : List ContainerId) (ends : EndsByEvent e t list) where
   sched_step_whole : PreservesCore t.settings h t (sched_worked (sched_step e list t))
   sched_step_whole = sched_whole t.settings h t r.whole (sched_facts_of h t r.sides) e rest front (sched_step e list t) (list, ends, refl)
 

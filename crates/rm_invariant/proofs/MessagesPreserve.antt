@@ -30,7 +30,7 @@ use Rattle.rm_master.specs.Answers.{after_master}
 use Rattle.rm_tracker.specs.Answers.{after_clock, after_node}
 use Rattle.rm_invariant.specs.messages.Ranges.{IsClientAsk, IsClockAsk, IsMasterAsk, IsNodeAsk, KeepsLimits}
 use Rattle.rm_invariant.specs.Core.{CoreInvariant, PreservesCore}
-use Rattle.rm_invariant.specs.messages.Fits.{RowsFit}
+use Rattle.rm_invariant.specs.messages.Fits.{EachRowFits}
 use Rattle.rm_invariant.specs.messages.Released.{ReleasesOnWay}
 use Rattle.rm_invariant.specs.messages.Clients.{RefinesClientParts}
 use Rattle.rm_invariant.proofs.messages.Beating.{node_whole}
@@ -70,7 +70,7 @@ module _ (h : History) (t : Tables) (r : LifeInvariant h t) where
   counted next = record next { served = t.served + 1 }
 
   -- what is told of a message, put together
-  served_runs : (e : Entry) (next : Tables) (s : PreservesCore t.settings h t (e, next)) → KeepsFixed t next → AuxInvariant s.next (counted next) → RowsFit next → InBounds (counted next) → FewReported next → ReleasesOnWay s.next next → PreservesLife h t e (counted next)
+  served_runs : (e : Entry) (next : Tables) (s : PreservesCore t.settings h t (e, next)) → KeepsFixed t next → AuxInvariant s.next (counted next) → EachRowFits next → InBounds (counted next) → FewReported next → ReleasesOnWay s.next next → PreservesLife h t e (counted next)
   served_runs e next s before sides fits ranged reported on_way =
       let stays = counted_stays t next (t.served + 1) before in
       record {

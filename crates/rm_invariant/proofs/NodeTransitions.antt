@@ -25,11 +25,11 @@ use Rattle.rm_types.specs.declared.resources.Resource.{Resource}
 use Rattle.rm_types.proofs.TestLemmas.{same_text}
 use Rattle.rm_attempt.specs.declared.states.AttemptState.{AttemptState}
 use Rattle.rm_attempt.specs.declared.states.AttemptState.TheVariants as attempts
-use Rattle.rm_book.specs.Books.{BookOf, row_of as book_row_of}
+use Rattle.rm_book.specs.Books.{BookOf, book_row as book_row_of}
 use Rattle.rm_node.specs.declared.states.NodeState.{NodeState}
 use Rattle.rm_node.specs.declared.states.NodeEvent.{NodeEvent}
 use Rattle.rm_node.specs.declared.states.NodeEvent.TheVariants as events
-use Rattle.rm_node.specs.Table.{next_state}
+use Rattle.rm_node.specs.Table.{next_node_state}
 use Rattle.rm_node.proofs.Rows.{stays_or_row}
 use Rattle.rm_model.specs.Containers.{once}
 use Rattle.rm_tables.specs.declared.events.MainEvent.{MainEvent}
@@ -47,7 +47,7 @@ use Rattle.rm_tables.specs.Actions.{main_worked, sched_worked}
 use Rattle.rm_tables.specs.KeptOps.{kept}
 use Rattle.rm_tables.specs.Leaving.{ended_by, unlaunched, unlaunched_at, unlaunched_one}
 use Rattle.rm_tables.specs.MainEvents.{main_step}
-use Rattle.rm_tables.specs.Nodes.{beaten_row, changed_row, is_waiting, new_row, node_of, ordered_row, registered_row, with_node}
+use Rattle.rm_tables.specs.Nodes.{beaten_row, changed_row, is_waiting_row, new_node_row, node_row, ordered_row, registered_node_row, with_node}
 use Rattle.rm_tables.specs.Passing.{updated_by}
 use Rattle.rm_tables.specs.Rows.{row_of}
 use Rattle.rm_tables.specs.SchedEvents.{is_on, is_released, queued_at, queued_by, queued_with, sched_step}
@@ -57,12 +57,12 @@ use Rattle.rm_refinement.proofs.Found.{other_added, other_row, own_row}
 use Rattle.rm_client.specs.Answers.{after_client, taken_by, wished_by}
 use Rattle.rm_master.specs.Answers.{after_master, is_new_to}
 use Rattle.rm_master.specs.Told.{goes_on, spoken_by}
-use Rattle.rm_tracker.specs.Answers.{after_clock, after_node, is_new_beat, registered_by}
+use Rattle.rm_tracker.specs.Answers.{after_clock, after_node, is_next_beat, registered_by}
 use Rattle.rm_invariant.specs.Transitions.{NodeFollowsTable, NodesFollowTable}
 
 -- each node after a move was there before it, in a state from which this one may come
 abbrev Back : (NodeState → NodeState → Type 0) → List (List ℕ × NodeRow) → List (List ℕ × NodeRow) → Type 0
-Back R nodes next = (name : List ℕ) (now : NodeRow) → node_of next name ≡ Some now → (was : NodeRow) × (node_of nodes name ≡ Some was) × R was.state now.state
+Back R nodes next = (name : List ℕ) (now : NodeRow) → node_row next name ≡ Some now → (was : NodeRow) × (node_row nodes name ≡ Some was) × R was.state now.state
 
 abbrev Same : NodeState → NodeState → Type 0
 Same before now = now ≡ before
@@ -70,15 +70,15 @@ Same before now = now ≡ before
 back_with : (R : NodeState → NodeState → Type 0) (f : NodeRow → NodeRow) (n : List ℕ) (nodes : List (List ℕ × NodeRow)) → ((row : NodeRow) → R row.state (f row).state) → ((s : NodeState) → R s s) → Back R nodes (with_node f n nodes)
 back_with R f n nodes own stays name now found = by (bytes_eq n name) refl
   where
-    changed : (o : Option NodeRow) → node_of nodes n ≡ o → option_map f o ≡ Some now → (was : NodeRow) × (node_of nodes n ≡ Some was) × R was.state now.state
+    changed : (o : Option NodeRow) → node_row nodes n ≡ o → option_map f o ≡ Some now → (was : NodeRow) × (node_row nodes n ≡ Some was) × R was.state now.state
     changed None e is = cc
     changed (Some r) e is = let same : f r ≡ now = cc in (r, e, subst (λ (row : NodeRow). R r.state row.state) same (own r))
 
-    by : (b : Bool) → bytes_eq n name ≡ b → (was : NodeRow) × (node_of nodes name ≡ Some was) × R was.state now.state
+    by : (b : Bool) → bytes_eq n name ≡ b → (was : NodeRow) × (node_row nodes name ≡ Some was) × R was.state now.state
     by true e =
-        let here : node_of (with_node f n nodes) n ≡ Some now = subst (λ (m : List ℕ). node_of (with_node f n nodes) m ≡ Some now) (sym (same_text n name e)) found in
-        let x = changed (node_of nodes n) refl (sym (own_row f n nodes) ∙ here) in
-        (x.0, subst (λ (m : List ℕ). node_of nodes m ≡ Some x.0) (same_text n name e) x.1, x.2)
+        let here : node_row (with_node f n nodes) n ≡ Some now = subst (λ (m : List ℕ). node_row (with_node f n nodes) m ≡ Some now) (sym (same_text n name e)) found in
+        let x = changed (node_row nodes n) refl (sym (own_row f n nodes) ∙ here) in
+        (x.0, subst (λ (m : List ℕ). node_row nodes m ≡ Some x.0) (same_text n name e) x.1, x.2)
     by false e = (now, sym (other_row f n name nodes e) ∙ found, stays now.state)
 
 back_same : (nodes : List (List ℕ × NodeRow)) → Back Same nodes nodes
@@ -106,7 +106,7 @@ stays : (s : NodeState) → NodeFollowsTable s s
 stays s = inl refl
 
 -- a change of one node
-changed_back : (event : NodeEvent) (f : NodeRow → NodeRow) → ((row : NodeRow) → (f row).state ≡ next_state row.state event) → (n : List ℕ) (nodes : List (List ℕ × NodeRow)) → Back NodeFollowsTable nodes (with_node f n nodes)
+changed_back : (event : NodeEvent) (f : NodeRow → NodeRow) → ((row : NodeRow) → (f row).state ≡ next_node_state row.state event) → (n : List ℕ) (nodes : List (List ℕ × NodeRow)) → Back NodeFollowsTable nodes (with_node f n nodes)
 changed_back event f is n nodes = back_with NodeFollowsTable f n nodes (λ row. subst (NodeFollowsTable row.state) (sym (is row)) (stays_or_row row.state event)) stays
 
 -- launches go
@@ -181,7 +181,7 @@ module _ (t : Tables) where
 
   absorbed_nodes : (o : Option NodeRow) (name : List ℕ) (turn : ℕ) (ended : List ContainerId) → NodesFollowTable t.nodes (absorbed_by o name turn ended t).1.nodes
   absorbed_nodes None name turn ended = still
-  absorbed_nodes (Some row) name turn ended = by (is_waiting row.state && (row.turn == turn))
+  absorbed_nodes (Some row) name turn ended = by (is_waiting_row row.state && (row.turn == turn))
     where
       by : (b : Bool) → NodesFollowTable t.nodes (absorbed_if b name row ended t).1.nodes
       by true =
@@ -200,9 +200,9 @@ module _ (t : Tables) where
   sched_nodes (scheds.AttemptAdded id) list = queued_nodes (row_of t.rows id.app) id
   sched_nodes (scheds.AttemptRemoved id) list = ended_nodes causes.Attempt list
   sched_nodes (scheds.Release attempt released) list = ended_nodes causes.Released (once (filter (is_released attempt t) released))
-  sched_nodes (scheds.NodeAdded node turn) list = absorbed_nodes (node_of t.nodes node) node turn list
+  sched_nodes (scheds.NodeAdded node turn) list = absorbed_nodes (node_row t.nodes node) node turn list
   sched_nodes (scheds.NodeDone node done) list = ended_nodes causes.Done (once (filter (λ id. is_on node (book_row_of t.book id)) done))
-  sched_nodes (scheds.NodeUpdate node) list = updated_nodes (node_of t.nodes node) node
+  sched_nodes (scheds.NodeUpdate node) list = updated_nodes (node_row t.nodes node) node
   sched_nodes (scheds.NodeLost node) list = ended_nodes causes.Node list
 
   -- an operation is kept
@@ -216,28 +216,28 @@ module _ (t : Tables) where
 
   -- messages
   pub node_nodes : (name : List ℕ) (ask : NodeAsk) (reply : Reply) → NodesFollowTable t.nodes (after_node name ask reply t).nodes
-  node_nodes name (asks.Register turn capability running) reply = by (node_of t.nodes name) refl
+  node_nodes name (asks.Register turn capability running) reply = by (node_row t.nodes name) refl
     where
-      more : node_of t.nodes name ≡ None → NodesFollowTable t.nodes (t.nodes ++ (name, new_row turn capability running reply) ∷ [])
+      more : node_row t.nodes name ≡ None → NodesFollowTable t.nodes (t.nodes ++ (name, new_node_row turn capability running reply) ∷ [])
       more none q before now there then = at_name (bytes_eq name q) refl
         where
           at_name : (b : Bool) → bytes_eq name q ≡ b → NodeFollowsTable before.state now.state
-          at_name true e = let x = subst (λ (m : List ℕ). node_of t.nodes m ≡ None) (same_text name q e) none in let y = sym x ∙ there in cc
-          at_name false e = still q before now there (sym (other_added name q (new_row turn capability running reply) t.nodes e) ∙ then)
+          at_name true e = let x = subst (λ (m : List ℕ). node_row t.nodes m ≡ None) (same_text name q e) none in let y = sym x ∙ there in cc
+          at_name false e = still q before now there (sym (other_added name q (new_node_row turn capability running reply) t.nodes e) ∙ then)
 
       later : (row : NodeRow) (b : Bool) → nat_lt row.turn turn ≡ b → NodesFollowTable t.nodes (registered_by (Some row) name turn capability running reply t).nodes
       later row true e =
           rw e
-          (goes_back t.nodes (with_node (registered_row turn capability running reply) name t.nodes)
-          (changed_back events.Register (registered_row turn capability running reply) (λ r. refl) name t.nodes))
+          (goes_back t.nodes (with_node (registered_node_row turn capability running reply) name t.nodes)
+          (changed_back events.Register (registered_node_row turn capability running reply) (λ r. refl) name t.nodes))
       later row false e = rw e still
 
-      by : (o : Option NodeRow) → node_of t.nodes name ≡ o → NodesFollowTable t.nodes (registered_by o name turn capability running reply t).nodes
+      by : (o : Option NodeRow) → node_row t.nodes name ≡ o → NodesFollowTable t.nodes (registered_by o name turn capability running reply t).nodes
       by None e = more e
       by (Some row) e = later row (nat_lt row.turn turn) refl
-  node_nodes name (asks.Beat id running done) (replies.Beat next launched clean) = by (is_new_beat id (node_of t.nodes name)) refl
+  node_nodes name (asks.Beat id running done) (replies.Beat next launched clean) = by (is_next_beat id (node_row t.nodes name)) refl
     where
-      by : (b : Bool) → is_new_beat id (node_of t.nodes name) ≡ b → NodesFollowTable t.nodes (after_node name (asks.Beat id running done) (replies.Beat next launched clean) t).nodes
+      by : (b : Bool) → is_next_beat id (node_row t.nodes name) ≡ b → NodesFollowTable t.nodes (after_node name (asks.Beat id running done) (replies.Beat next launched clean) t).nodes
       by true e =
           rw e
           (same_back t.nodes (with_node (beaten_row (id + 1) (replies.Beat next launched clean)) name t.nodes)

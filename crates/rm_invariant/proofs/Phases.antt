@@ -28,15 +28,15 @@ use Rattle.rm_tables.specs.declared.events.SchedEvent.{SchedEvent}
 use Rattle.rm_tables.specs.declared.tables.Tables.{Tables}
 use Rattle.rm_tables.specs.Actions.{found_in, main_worked, sched_worked}
 use Rattle.rm_tables.specs.KeptOps.{kept}
-use Rattle.rm_tables.specs.Lives.{gone_down, handed_out, refused}
+use Rattle.rm_tables.specs.Lives.{tables_gone_down, handed_out, refused}
 use Rattle.rm_tables.specs.MainEvents.{main_step}
-use Rattle.rm_tables.specs.SchedEvents.{EndsBy, sched_step}
+use Rattle.rm_tables.specs.SchedEvents.{EndsByEvent, sched_step}
 use Rattle.rm_refinement.specs.History.{History, abstract_life, live_state}
 use Rattle.rm_invariant.proofs.bounds.Called.{epoch_few}
 use Rattle.rm_invariant.proofs.bounds.Passable.{few_recorded}
 use Rattle.rm_invariant.proofs.measure.Lives.{hand_lighter}
 use Rattle.rm_invariant.specs.Preserves.{PreservesLife, PreservesLifeInternal}
-use Rattle.rm_invariant.specs.Phases.{Simulates, SimulatesInternal, Phase, Saving, Shut, Starting, none, running, saving, shut, starting}
+use Rattle.rm_invariant.specs.Phases.{Simulates, SimulatesInternal, LifePhase, Saving, Shut, Starting, none, running, saving, shut, starting}
 use Rattle.rm_invariant.specs.Invariant.{LifeInvariant}
 use Rattle.rm_invariant.proofs.KeptPreserve.{blow_running, first_fits, first_framed, hand_runs, kept_runs}
 use Rattle.rm_invariant.proofs.opening.Whole.{closed, hand_saving, no_sched, open_leads, recorded, stands, start_leads, told_standing, unblown}
@@ -72,7 +72,7 @@ starting_main h t event rest s front =
     let same : mains.EpochStart ≡ event = (let e = sym s.main ∙ front in cc) in
     subst (MainLeads h t) same (start_leads h t rest s (subst (λ (e : MainEvent). t.main ≡ e ∷ rest) (sym same) front))
 
-pub main_leads : (h : History) (t : Tables) (event : MainEvent) (rest : List MainEvent) → Phase h t → t.main ≡ event ∷ rest → MainLeads h t event
+pub main_leads : (h : History) (t : Tables) (event : MainEvent) (rest : List MainEvent) → LifePhase h t → t.main ≡ event ∷ rest → MainLeads h t event
 main_leads h t event rest (none n) front = absurd (let e = sym n.main ∙ front in cc)
 main_leads h t event rest (starting s) front = starting_main h t event rest s front
 main_leads h t event rest (saving s) front = absurd (let e = sym s.main ∙ front in cc)
@@ -80,7 +80,7 @@ main_leads h t event rest (shut s) front = absurd (let e = sym s.main ∙ front 
 main_leads h t event rest (running r) front = own_leads h t _ _ r.alive (main_runs h t r event rest front)
 
 -- where an event waits, the epoch and the attempts of each application leave room for one more
-pub main_called : (h : History) (t : Tables) (event : MainEvent) (rest : List MainEvent) → Phase h t → t.main ≡ event ∷ rest
+pub main_called : (h : History) (t : Tables) (event : MainEvent) (rest : List MainEvent) → LifePhase h t → t.main ≡ event ∷ rest
     → (t.epoch + 1 < 2 ^ 32) × ((id : AppId) → length (attempts_in (found_in t id)) + 1 < 2 ^ 32)
 main_called h t event rest (none n) front = absurd (let e = sym n.main ∙ front in cc)
 main_called h t event rest (starting s) front = (epoch_few t s.begins.ranged, few_recorded t s.begins.begun.stored.sound s.begins.ranged)
@@ -89,7 +89,7 @@ main_called h t event rest (shut s) front = absurd (let e = sym s.main ∙ front
 main_called h t event rest (running r) front = (epoch_few t r.ranged, few_recorded t r.whole.sound r.ranged)
 
 -- only an open life has events for the scheduler
-pub sched_open : (h : History) (t : Tables) (event : SchedEvent) (rest : List SchedEvent) → Phase h t → t.sched ≡ event ∷ rest → LifeInvariant h t
+pub sched_open : (h : History) (t : Tables) (event : SchedEvent) (rest : List SchedEvent) → LifePhase h t → t.sched ≡ event ∷ rest → LifeInvariant h t
 sched_open h t event rest (none n) front = absurd (let e = sym n.sched ∙ front in cc)
 sched_open h t event rest (starting s) front = absurd (let e = sym (no_sched h t s.begins) ∙ front in cc)
 sched_open h t event rest (saving s) front = absurd (let e = sym (no_sched h t s.begins) ∙ front in cc)
@@ -100,13 +100,13 @@ sched_open h t event rest (running r) front = r
 abbrev pub SchedLeads : History → Tables → SchedEvent → List ContainerId → Type 0
 SchedLeads h t event list = SimulatesInternal h t (sched_worked (sched_step event list t)).0 (sched_worked (sched_step event list t)).1
 
-pub sched_leads : (h : History) (t : Tables) (event : SchedEvent) (list : List ContainerId) (rest : List SchedEvent) → Phase h t → t.sched ≡ event ∷ rest → EndsBy event t list → SchedLeads h t event list
+pub sched_leads : (h : History) (t : Tables) (event : SchedEvent) (list : List ContainerId) (rest : List SchedEvent) → LifePhase h t → t.sched ≡ event ∷ rest → EndsByEvent event t list → SchedLeads h t event list
 sched_leads h t event list rest phase front ends = let r = sched_open h t event rest phase front in own_leads h t _ _ r.alive (sched_runs h t r event rest front list ends)
 
 -- THE STORE
 
 -- an operation that is with the store was not refused
-pub unblown_of : (h : History) (t : Tables) → Phase h t → t.alive ≡ true → t.handed ≡ true → t.blown ≡ false
+pub unblown_of : (h : History) (t : Tables) → LifePhase h t → t.alive ≡ true → t.handed ≡ true → t.blown ≡ false
 unblown_of h t (none n) a handed = absurd (let x = n.alive in cc)
 unblown_of h t (starting s) a handed = unblown h t s.begins
 unblown_of h t (saving s) a handed = unblown h t s.begins
@@ -118,7 +118,7 @@ unblown_of h t (running r) a handed = by t.blown refl
     by false e = e
 
 -- what is recorded by a life that stands
-pub recorded_of : (h : History) (t : Tables) → Phase h t → t.alive ≡ true → records h.kept ≡ t.tree
+pub recorded_of : (h : History) (t : Tables) → LifePhase h t → t.alive ≡ true → records h.kept ≡ t.tree
 recorded_of h t (none n) a = absurd (let x = n.alive in cc)
 recorded_of h t (starting s) a = recorded h t s.begins
 recorded_of h t (saving s) a = recorded h t s.begins
@@ -147,7 +147,7 @@ saving_hand h t s free =
     }
 
 -- the first awaiting operation is handed
-pub hand_leads : (h : History) (t : Tables) → Phase h t → t.alive ≡ true → t.awaiting ≢ [] → t.handed ≡ false → t.blown ≡ false → SimulatesInternal h t Handed (handed_out t)
+pub hand_leads : (h : History) (t : Tables) → LifePhase h t → t.alive ≡ true → t.awaiting ≢ [] → t.handed ≡ false → t.blown ≡ false → SimulatesInternal h t Handed (handed_out t)
 hand_leads h t (none n) a some free b = absurd (let x = n.alive in cc)
 hand_leads h t (starting s) a some free b = absurd (some s.awaiting)
 hand_leads h t (saving s) a some free b = saving_hand h t s free
@@ -160,7 +160,7 @@ saving_kept h t op rest s front handed =
     let same : ops.Epoch (t.epoch + 1) t.stamp ≡ op = (let e = sym s.awaiting ∙ front in cc) in
     subst (λ (x : Op). SimulatesInternal h t (KeptEntry x) (kept x t)) same (open_leads h t s (t.epoch + 1) t.stamp rest (subst (λ (x : Op). t.awaiting ≡ x ∷ rest) (sym same) front) handed)
 
-pub keep_leads : (h : History) (t : Tables) (op : Op) (rest : List Op) → Phase h t → t.alive ≡ true → t.handed ≡ true → t.awaiting ≡ op ∷ rest → SimulatesInternal h t (KeptEntry op) (kept op t)
+pub keep_leads : (h : History) (t : Tables) (op : Op) (rest : List Op) → LifePhase h t → t.alive ≡ true → t.handed ≡ true → t.awaiting ≡ op ∷ rest → SimulatesInternal h t (KeptEntry op) (kept op t)
 keep_leads h t op rest (none n) a handed front = absurd (let x = n.alive in cc)
 keep_leads h t op rest (starting s) a handed front = absurd (let e = sym s.awaiting ∙ front in cc)
 keep_leads h t op rest (saving s) a handed front = saving_kept h t op rest s front handed
@@ -168,7 +168,7 @@ keep_leads h t op rest (shut s) a handed front = absurd (let x = s.free in cc)
 keep_leads h t op rest (running r) a handed front = own_leads h t _ _ a (kept_runs h t r handed op rest front)
 
 -- an operation that is with the store awaits
-pub handed_awaits : (h : History) (t : Tables) → Phase h t → t.alive ≡ true → t.handed ≡ true → t.awaiting ≢ []
+pub handed_awaits : (h : History) (t : Tables) → LifePhase h t → t.alive ≡ true → t.handed ≡ true → t.awaiting ≢ []
 handed_awaits h t (none n) a handed = absurd (let x = n.alive in cc)
 handed_awaits h t (starting s) a handed = absurd (let x = s.handed in cc)
 handed_awaits h t (saving s) a handed = rw s.awaiting (λ e. cc)
@@ -184,7 +184,7 @@ saving_fits h t op rest s front =
     let fits : fits_records t.tree (ops.Epoch (t.epoch + 1) t.stamp) ≡ true = grind (arith, nat_tests) in
     subst (λ (x : Op). fits_records t.tree x ≡ true) same fits
 
-pub fits_in : (h : History) (t : Tables) (op : Op) (rest : List Op) → Phase h t → t.alive ≡ true → t.handed ≡ true → t.awaiting ≡ op ∷ rest → fits_records t.tree op ≡ true
+pub fits_in : (h : History) (t : Tables) (op : Op) (rest : List Op) → LifePhase h t → t.alive ≡ true → t.handed ≡ true → t.awaiting ≡ op ∷ rest → fits_records t.tree op ≡ true
 fits_in h t op rest (none n) a handed front = absurd (let x = n.alive in cc)
 fits_in h t op rest (starting s) a handed front = absurd (let e = sym s.awaiting ∙ front in cc)
 fits_in h t op rest (saving s) a handed front = saving_fits h t op rest s front
@@ -201,7 +201,7 @@ saving_framed h t op rest s front =
     let within : IsOperation (ops.Epoch (t.epoch + 1) t.stamp) = ((omega arith, omega arith), (omega arith, omega arith)) in
     subst IsOperation same within
 
-pub framed_in : (h : History) (t : Tables) (op : Op) (rest : List Op) → Phase h t → t.alive ≡ true → t.handed ≡ true → t.awaiting ≡ op ∷ rest → IsOperation op
+pub framed_in : (h : History) (t : Tables) (op : Op) (rest : List Op) → LifePhase h t → t.alive ≡ true → t.handed ≡ true → t.awaiting ≡ op ∷ rest → IsOperation op
 framed_in h t op rest (none n) a handed front = absurd (let x = n.alive in cc)
 framed_in h t op rest (starting s) a handed front = absurd (let e = sym s.awaiting ∙ front in cc)
 framed_in h t op rest (saving s) a handed front = saving_framed h t op rest s front
@@ -211,7 +211,7 @@ framed_in h t op rest (running r) a handed front = first_framed h t r op rest fr
 -- AN OPERATION IS REFUSED
 
 -- the phase of a life after it
-blown_phase : (h : History) (t : Tables) → Phase h t → t.alive ≡ true → t.handed ≡ true → Phase h (refused t)
+blown_phase : (h : History) (t : Tables) → LifePhase h t → t.alive ≡ true → t.handed ≡ true → LifePhase h (refused t)
 blown_phase h t (none n) a handed = absurd (let x = n.alive in cc)
 blown_phase h t (starting s) a handed = absurd (let x = s.handed in cc)
 blown_phase h t (saving s) a handed =
@@ -230,7 +230,7 @@ blown_phase h t (shut s) a handed = absurd (let x = s.free in cc)
 blown_phase h t (running r) a handed = running (blow_running h t r)
 
 -- the store refused the operation that was with it
-pub blow_leads : (h : History) (t : Tables) (passed : ℕ) → Phase h t → t.alive ≡ true → t.handed ≡ true → Simulates h t (Blown passed) (refused t)
+pub blow_leads : (h : History) (t : Tables) (passed : ℕ) → LifePhase h t → t.alive ≡ true → t.handed ≡ true → Simulates h t (Blown passed) (refused t)
 blow_leads h t passed phase a handed =
     record {
       history = h;
@@ -245,7 +245,7 @@ blow_leads h t passed phase a handed =
 -- A LIFE GOES DOWN
 
 -- what awaits in a life that blew fits what is recorded
-blown_fits : (h : History) (t : Tables) → Phase h t → t.alive ≡ true → t.blown ≡ true → (op : Op) (rest : List Op) → t.awaiting ≡ op ∷ rest → fits_records t.tree op ≡ true
+blown_fits : (h : History) (t : Tables) → LifePhase h t → t.alive ≡ true → t.blown ≡ true → (op : Op) (rest : List Op) → t.awaiting ≡ op ∷ rest → fits_records t.tree op ≡ true
 blown_fits h t (none n) a b op rest front = absurd (let x = n.alive in cc)
 blown_fits h t (starting s) a b op rest front = absurd (let x = unblown h t s.begins in cc)
 blown_fits h t (saving s) a b op rest front = absurd (let x = unblown h t s.begins in cc)
@@ -253,7 +253,7 @@ blown_fits h t (shut s) a b op rest front = s.fits op rest front
 blown_fits h t (running r) a b op rest front = first_fits h t r op rest front
 
 -- with no operation with the store
-pub down_leads : (h : History) (t : Tables) → Phase h t → t.alive ≡ true → t.handed ≡ false → Simulates h t Down (gone_down t)
+pub down_leads : (h : History) (t : Tables) → LifePhase h t → t.alive ≡ true → t.handed ≡ false → Simulates h t Down (tables_gone_down t)
 down_leads h t phase a free =
     record {
       history = h;
@@ -275,14 +275,14 @@ down_leads h t phase a free =
 -- SERVING
 
 -- a life that serves is open, or was shut
-pub serving_open : (h : History) (t : Tables) → Phase h t → t.alive ≡ true → t.is_open ≡ true → LifeInvariant h t
+pub serving_open : (h : History) (t : Tables) → LifePhase h t → t.alive ≡ true → t.is_open ≡ true → LifeInvariant h t
 serving_open h t (none n) a o = absurd (let x = n.alive in cc)
 serving_open h t (starting s) a o = absurd (let x = closed h t s.begins in cc)
 serving_open h t (saving s) a o = absurd (let x = closed h t s.begins in cc)
 serving_open h t (shut s) a o = absurd (let x = s.closed in cc)
 serving_open h t (running r) a o = r
 
-pub serving_shut : (h : History) (t : Tables) → Phase h t → t.alive ≡ true → t.is_open ≡ false → t.blown ≡ true → Shut h t
+pub serving_shut : (h : History) (t : Tables) → LifePhase h t → t.alive ≡ true → t.is_open ≡ false → t.blown ≡ true → Shut h t
 serving_shut h t (none n) a o b = absurd (let x = n.alive in cc)
 serving_shut h t (starting s) a o b = absurd (let x = unblown h t s.begins in cc)
 serving_shut h t (saving s) a o b = absurd (let x = unblown h t s.begins in cc)

@@ -8,11 +8,11 @@ use Rattle.rm_refinement.specs.History.{History, abstract_life}
 use Rattle.rm_invariant.specs.events.Here.{AreServed}
 use Rattle.rm_invariant.proofs.messages.Marked.{none_marked, still_on_way}
 use Rattle.rm_invariant.proofs.resting.Whole.{owes_nothing}
-use Rattle.rm_invariant.specs.Phases.{Simulates, Phase, none, running, saving, shut, starting}
+use Rattle.rm_invariant.specs.Phases.{Simulates, LifePhase, none, running, saving, shut, starting}
 use Rattle.rm_invariant.specs.Invariant.{LifeInvariant}
 
 -- where nothing is left to do the life is open
-pub open_at_rest : (h : History) (t : Tables) → Phase h t → t.alive ≡ true → t.main ≡ [] → t.awaiting ≡ [] → LifeInvariant h t
+pub open_at_rest : (h : History) (t : Tables) → LifePhase h t → t.alive ≡ true → t.main ≡ [] → t.awaiting ≡ [] → LifeInvariant h t
 open_at_rest h t (none n) a m w = absurd (let x = n.alive in cc)
 open_at_rest h t (starting s) a m w = absurd (let x = s.main in cc)
 open_at_rest h t (saving s) a m w = absurd (let x = s.awaiting in cc)
@@ -73,7 +73,7 @@ settled_runs h t r n =
       begun = r.begun;
     }
 
-pub settle_leads : (h : History) (t : Tables) → Phase h t → t.alive ≡ true → t.main ≡ [] → t.sched ≡ [] → t.awaiting ≡ [] → Simulates h t Settled t
+pub settle_leads : (h : History) (t : Tables) → LifePhase h t → t.alive ≡ true → t.main ≡ [] → t.sched ≡ [] → t.awaiting ≡ [] → Simulates h t Settled t
 settle_leads h t phase a m n w =
     let r = open_at_rest h t phase a m w in
     record {

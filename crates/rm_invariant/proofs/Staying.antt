@@ -22,7 +22,7 @@ use Rattle.rm_types.specs.declared.replies.Reply.TheVariants as replies
 use Rattle.rm_types.proofs.TestLemmas.{never_nil}
 use Rattle.rm_attempt.specs.declared.states.AttemptState.{AttemptState}
 use Rattle.rm_attempt.specs.declared.states.AttemptState.TheVariants as attempts
-use Rattle.rm_book.specs.Books.{row_of as book_row_of}
+use Rattle.rm_book.specs.Books.{book_row as book_row_of}
 use Rattle.rm_model.specs.Containers.{once}
 use Rattle.rm_model.specs.Facts.{is_epoch_op}
 use Rattle.rm_tables.specs.declared.events.MainEvent.{MainEvent}
@@ -37,14 +37,14 @@ use Rattle.rm_tables.specs.Absorbing.{absorbed_by, absorbed_if}
 use Rattle.rm_tables.specs.Actions.{main_popped, main_worked, sched_popped, sched_worked}
 use Rattle.rm_tables.specs.KeptOps.{kept}
 use Rattle.rm_tables.specs.Leaving.{ended_by, is_masters_in}
-use Rattle.rm_tables.specs.Nodes.{is_waiting, node_of}
+use Rattle.rm_tables.specs.Nodes.{is_waiting_row, node_row}
 use Rattle.rm_tables.specs.Passing.{grants_on, updated_by, waits_for_master}
 use Rattle.rm_tables.specs.Rows.{row_of}
 use Rattle.rm_tables.specs.SchedEvents.{is_on, is_released, queued_at, queued_by, queued_with, sched_step}
 use Rattle.rm_client.specs.Answers.{after_client, taken_by, wished_by}
 use Rattle.rm_master.specs.Answers.{after_master, is_new_to}
 use Rattle.rm_master.specs.Told.{goes_on, spoken_by}
-use Rattle.rm_tracker.specs.Answers.{after_clock, after_node, is_new_beat, registered_by}
+use Rattle.rm_tracker.specs.Answers.{after_clock, after_node, is_next_beat, registered_by}
 use Rattle.rm_invariant.specs.events.Outcomes.{Outcome, accepts, adds, delays, ends, ends_one, follows, idles, issues, kills, loses, orders, removes, requeues, saves}
 use Rattle.rm_invariant.specs.Preserves.{KeepsFixed}
 use Rattle.rm_invariant.specs.Invariant.{NoneOpens, is_epoch_start}
@@ -200,7 +200,7 @@ module _ (t : Tables) where
 
   absorbed_stays : (o : Option NodeRow) (name : List ℕ) (turn : ℕ) (ended : List ContainerId) → SchedStays t (absorbed_by o name turn ended t).1
   absorbed_stays None name turn ended = quiet_stays
-  absorbed_stays (Some row) name turn ended = by (is_waiting row.state && (row.turn == turn))
+  absorbed_stays (Some row) name turn ended = by (is_waiting_row row.state && (row.turn == turn))
     where
       by : (b : Bool) → SchedStays t (absorbed_if b name row ended t).1
       by true =
@@ -224,9 +224,9 @@ module _ (t : Tables) where
   step_stays (scheds.AttemptAdded id) list = queued_stays (row_of t.rows id.app) id
   step_stays (scheds.AttemptRemoved id) list = ended_stays causes.Attempt list
   step_stays (scheds.Release attempt released) list = ended_stays causes.Released (once (filter (is_released attempt t) released))
-  step_stays (scheds.NodeAdded node turn) list = absorbed_stays (node_of t.nodes node) node turn list
+  step_stays (scheds.NodeAdded node turn) list = absorbed_stays (node_row t.nodes node) node turn list
   step_stays (scheds.NodeDone node done) list = ended_stays causes.Done (once (filter (λ id. is_on node (book_row_of t.book id)) done))
-  step_stays (scheds.NodeUpdate node) list = updated_stays (node_of t.nodes node) node
+  step_stays (scheds.NodeUpdate node) list = updated_stays (node_row t.nodes node) node
   step_stays (scheds.NodeLost node) list = ended_stays causes.Node list
 
   pub sched_stays : (e : SchedEvent) (list : List ContainerId) → SchedStays t (sched_worked (sched_step e list t)).1
@@ -329,7 +329,7 @@ module _ (t : Tables) where
   master_stays attempt _ _ = no_more
 
   pub node_stays : (name : List ℕ) (ask : NodeAsk) (reply : Reply) → KeepsFixed t (after_node name ask reply t)
-  node_stays name (asks.Register turn capability running) reply = by (node_of t.nodes name)
+  node_stays name (asks.Register turn capability running) reply = by (node_row t.nodes name)
     where
       later : (row : NodeRow) (b : Bool) → nat_lt row.turn turn ≡ b → KeepsFixed t (registered_by (Some row) name turn capability running reply t)
       later row true e = rw e (same_stays _ refl refl refl refl refl refl refl refl)
@@ -338,9 +338,9 @@ module _ (t : Tables) where
       by : (o : Option NodeRow) → KeepsFixed t (registered_by o name turn capability running reply t)
       by None = same_stays _ refl refl refl refl refl refl refl refl
       by (Some row) = later row (nat_lt row.turn turn) refl
-  node_stays name (asks.Beat id running done) (replies.Beat next launched clean) = by (is_new_beat id (node_of t.nodes name)) refl
+  node_stays name (asks.Beat id running done) (replies.Beat next launched clean) = by (is_next_beat id (node_row t.nodes name)) refl
     where
-      by : (b : Bool) → is_new_beat id (node_of t.nodes name) ≡ b → KeepsFixed t (after_node name (asks.Beat id running done) (replies.Beat next launched clean) t)
+      by : (b : Bool) → is_next_beat id (node_row t.nodes name) ≡ b → KeepsFixed t (after_node name (asks.Beat id running done) (replies.Beat next launched clean) t)
       by true e = rw e (same_stays _ refl refl refl refl refl refl refl refl)
       by false e = rw e no_more
   node_stays name (asks.Beat id running done) _ = no_more

@@ -20,8 +20,8 @@ use Rattle.rm_types.specs.declared.messages.NodeAsk.{NodeAsk}
 use Rattle.rm_types.specs.declared.operations.Submission.{Submission}
 use Rattle.rm_types.specs.declared.replies.Reply.{Reply}
 use Rattle.rm_types.specs.declared.replies.Reply.TheVariants as replies
-use Rattle.rm_tables.specs.Talks.{begun, registered_row, said_row, told_row, with_answer, with_text, without_closings}
-use Rattle.rm_client.specs.Answers.{after_client, new_row, taken_by, wished_by}
+use Rattle.rm_tables.specs.Talks.{dialogue_begun, registered_row, said_row, told_row, with_answer, with_text, without_closings}
+use Rattle.rm_client.specs.Answers.{after_client, submitted_row, taken_by, wished_by}
 use Rattle.rm_master.specs.Answers.{after_master, is_new_to}
 use Rattle.rm_master.specs.Told.{goes_on, spoken_by}
 use Rattle.rm_tracker.specs.Answers.{after_clock, after_node}
@@ -39,17 +39,17 @@ use Rattle.rm_invariant.specs.Step.{AppsInvariant}
 use Rattle.rm_invariant.specs.apps.View.{view}
 use Rattle.rm_invariant.proofs.apps.Events.{at}
 use Rattle.rm_invariant.proofs.apps.Own.{active_row}
-use Rattle.rm_invariant.specs.Phases.{Phase, none, running, saving, shut, starting}
+use Rattle.rm_invariant.specs.Phases.{LifePhase, none, running, saving, shut, starting}
 use Rattle.rm_app.specs.declared.states.AppState.{AppState}
 use Rattle.rm_app.specs.declared.states.AppEvent.{AppEvent}
 use Rattle.rm_app.specs.declared.states.AppEvent.TheVariants as app_events
-use Rattle.rm_app.specs.Table.{next_state}
+use Rattle.rm_app.specs.Table.{next_app_state}
 use Rattle.rm_app.proofs.Rows.{stays_or_row as app_stays_or_row}
 use Rattle.rm_attempt.specs.declared.states.AttemptState.{AttemptState}
 use Rattle.rm_attempt.specs.declared.states.AttemptState.TheVariants as attempts
 use Rattle.rm_attempt.specs.declared.states.AttemptEvent.{AttemptEvent}
 use Rattle.rm_attempt.specs.declared.states.AttemptEvent.TheVariants as attempt_events
-use Rattle.rm_attempt.specs.Table.{next_state as next_attempt_state}
+use Rattle.rm_attempt.specs.Table.{next_attempt_state as next_attempt_state}
 use Rattle.rm_attempt.proofs.Rows.{stays_or_row as attempt_stays_or_row}
 use Rattle.rm_tables.specs.declared.changes.AttemptChange.{AttemptChange}
 use Rattle.rm_tables.specs.declared.changes.AttemptChange.TheVariants as of_attempt
@@ -61,11 +61,11 @@ use Rattle.rm_tables.specs.declared.rows.AppRow.{AppRow}
 use Rattle.rm_tables.specs.declared.rows.Current.{Current}
 use Rattle.rm_tables.specs.declared.tables.Tables.{Tables}
 use Rattle.rm_tables.specs.Actions.{main_worked, sched_worked}
-use Rattle.rm_tables.specs.Changes.{after_failure, attempt_after, changed, current_after, granted, granted_at, state_after}
+use Rattle.rm_tables.specs.Changes.{after_failure, attempt_after, changed, current_after, granted, granted_at, changed_state}
 use Rattle.rm_tables.specs.KeptOps.{kept}
 use Rattle.rm_tables.specs.Leaving.{closed_in}
 use Rattle.rm_tables.specs.MainEvents.{main_step}
-use Rattle.rm_tables.specs.Passing.{row_granted}
+use Rattle.rm_tables.specs.Passing.{rows_after_grant}
 use Rattle.rm_tables.specs.Rows.{is_retired, row_of, with_row}
 use Rattle.rm_tables.specs.SchedEvents.{sched_step}
 use Rattle.rm_refinement.specs.Agreement.{closings_for}
@@ -87,7 +87,7 @@ current_stays (Some current) = inl (refl, inl refl)
 pub row_stays : (row : AppRow) → RowFollowsTables row row
 row_stays row = record { state = inl refl; current = current_stays row.current }
 
-app_moves : (event : AppEvent) (s : AppState) → AppFollowsTable s (next_state s event)
+app_moves : (event : AppEvent) (s : AppState) → AppFollowsTable s (next_app_state s event)
 app_moves event s = app_stays_or_row s event
 
 attempt_moves : (event : AttemptEvent) (s : AttemptState) → AttemptFollowsTable s (next_attempt_state s event)
@@ -99,7 +99,7 @@ failure_goes ways.Finished s = inl refl
 failure_goes ways.Killed s = inl refl
 
 -- the state of an application after a change
-state_goes : (change : RowChange) (s : AppState) → AppFollowsTable s (state_after change s)
+state_goes : (change : RowChange) (s : AppState) → AppFollowsTable s (changed_state change s)
 state_goes of_app.Issue s = app_moves app_events.Start s
 state_goes of_app.Keep s = app_moves app_events.Kept s
 state_goes of_app.Wish s = inl refl
@@ -268,14 +268,14 @@ one_granting container id rows q now found = by (is_app id q) (row_of rows q) re
     by true (Some was) there e = let after : changed (of_app.OfAttempt (of_attempt.Grant container)) was ≡ now = cc in (was, there, subst (RowGranting was) after (granting_one container was))
     by false o there e = (now, there ∙ e, granting_stays now)
 
-all_granting : (grants : List Grant) (rows : List (AppId × Option AppRow)) → RowsGranting rows (fold row_granted rows grants)
+all_granting : (grants : List Grant) (rows : List (AppId × Option AppRow)) → RowsGranting rows (fold rows_after_grant rows grants)
 all_granting [] rows q now found = (now, found, granting_stays now)
 all_granting (grant ∷ grants) rows q now found =
-    let b = all_granting grants (row_granted rows grant) q now found in
+    let b = all_granting grants (rows_after_grant rows grant) q now found in
     let a = one_granting grant.id grant.id.attempt.app rows q b.0 b.1 in
     (a.0, a.1, granting_then a.0 b.0 now a.2 b.2)
 
-granted_goes : (grants : List Grant) (rows : List (AppId × Option AppRow)) → RowsFollowTables rows (fold row_granted rows grants)
+granted_goes : (grants : List Grant) (rows : List (AppId × Option AppRow)) → RowsFollowTables rows (fold rows_after_grant rows grants)
 granted_goes grants rows q before now there then =
     let g = all_granting grants rows q now then in
     let same : g.0 ≡ before = (let x = sym g.1 ∙ there in cc) in
@@ -351,7 +351,7 @@ module _ (settings : Settings) (h : History) (t : Tables) (k : AppsInvariant set
   outcome_goes done (removes id more first many) = rows_stay t.rows
 
 -- the first event of the main queue, in whichever phase
-pub main_goes : (h : History) (t : Tables) (e : MainEvent) (rest : List MainEvent) → Phase h t → t.main ≡ e ∷ rest → RowsFollowTables t.rows (main_worked (main_step e t)).1.rows
+pub main_goes : (h : History) (t : Tables) (e : MainEvent) (rest : List MainEvent) → LifePhase h t → t.main ≡ e ∷ rest → RowsFollowTables t.rows (main_worked (main_step e t)).1.rows
 main_goes h t e rest (none n) front = absurd (let x = sym n.main ∙ front in cc)
 main_goes h t e rest (starting s) front =
     let same : mains.EpochStart ≡ e = (let x = sym s.main ∙ front in cc) in
@@ -423,7 +423,7 @@ module _ (t : Tables) where
 
   pub master_goes : (attempt : AttemptId) (ask : MasterAsk) (reply : Reply) → RowsFollowTables t.rows (after_master attempt ask reply t).rows
   master_goes attempt masters.Register replies.MasterRegistered =
-      one_goes (registered_row (begun replies.MasterRegistered)) attempt.app t.rows (λ row. talked_goes row (changed of_app.Register row) (registered_row (begun replies.MasterRegistered) row) (changed_goes of_app.Register refl row) refl refl)
+      one_goes (registered_row (dialogue_begun replies.MasterRegistered)) attempt.app t.rows (λ row. talked_goes row (changed of_app.Register row) (registered_row (dialogue_begun replies.MasterRegistered) row) (changed_goes of_app.Register refl row) refl refl)
   master_goes attempt (masters.Finish text) replies.Finishing = by (goes_on (spoken_by attempt (row_of t.rows attempt.app))) refl
     where
       by : (b : Bool) → goes_on (spoken_by attempt (row_of t.rows attempt.app)) ≡ b → RowsFollowTables t.rows (after_master attempt (masters.Finish text) replies.Finishing t).rows
@@ -446,7 +446,7 @@ module _ (t : Tables) where
   client_goes (clients.Submit id s) replies.Submitted = by (row_of t.rows id) refl
     where
       by : (o : Option AppRow) → row_of t.rows id ≡ o → RowsFollowTables t.rows (taken_by o id s t).rows
-      by None e = more_goes id (new_row s) t.rows
+      by None e = more_goes id (submitted_row s) t.rows
       by (Some row) e = still
   client_goes (clients.Kill id) replies.Killing = by (row_of t.rows id)
     where

@@ -8,7 +8,7 @@ use Rattle.rm_tables.specs.declared.tables.Tables.{Tables}
 use Rattle.rm_refinement.specs.History.{History}
 use Rattle.rm_invariant.specs.Core.{CoreInvariant}
 use Rattle.rm_invariant.specs.messages.Ranges.{KeepsLimits}
-use Rattle.rm_invariant.specs.messages.Fits.{RowsFit}
+use Rattle.rm_invariant.specs.messages.Fits.{EachRowFits}
 use Rattle.rm_invariant.specs.messages.Released.{ReleasesOnWay}
 use Rattle.rm_invariant.specs.auxiliary.Invariant.{AuxInvariant}
 use Rattle.rm_invariant.specs.measure.Reports.{FewReported}
@@ -48,7 +48,7 @@ pub record LifeInvariant (h : History) (t : Tables) : Type 0 where
   pub limits : KeepsLimits t.settings
   pub whole : CoreInvariant t.settings h t
   pub sides : AuxInvariant h t
-  pub fits : RowsFit t
+  pub fits : EachRowFits t
   pub ranged : InBounds t
   pub reported : FewReported t
   pub on_way : ReleasesOnWay h t

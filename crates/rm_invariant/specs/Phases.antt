@@ -58,12 +58,12 @@ pub record Shut (h : History) (t : Tables) : Type 0 where
   pub recorded : records h.kept ≡ t.tree
 
 -- how far a life has come
-pub data Phase (h : History) (t : Tables) : Type 0 where
-  none : NoLife h t → Phase h t
-  starting : Starting h t → Phase h t
-  saving : Saving h t → Phase h t
-  shut : Shut h t → Phase h t
-  running : LifeInvariant h t → Phase h t
+pub data LifePhase (h : History) (t : Tables) : Type 0 where
+  none : NoLife h t → LifePhase h t
+  starting : Starting h t → LifePhase h t
+  saving : Saving h t → LifePhase h t
+  shut : Shut h t → LifePhase h t
+  running : LifeInvariant h t → LifePhase h t
 
 -- what a move does to the tables, with a history: its entry is allowed, the state goes on by it, and a phase is reached
 pub record Simulates (h : History) (t : Tables) (e : Entry) (next : Tables) : Type 0 where
@@ -71,7 +71,7 @@ pub record Simulates (h : History) (t : Tables) (e : Entry) (next : Tables) : Ty
   pub lawful : Allowed t.settings (abstract_state h t) e
   pub same : after (abstract_state h t) e ≡ abstract_state history next
   pub recorded : records history.kept ≡ next.tree
-  pub phase : Phase history next
+  pub phase : LifePhase history next
   pub settings : next.settings ≡ t.settings
   pub alloc : next.alloc ≡ t.alloc
 

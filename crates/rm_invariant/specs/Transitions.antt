@@ -4,16 +4,16 @@ use Rattle.rm_types.specs.declared.ids.AppId.{AppId}
 use Rattle.rm_app.specs.declared.states.AppState.{AppState}
 use Rattle.rm_app.specs.declared.states.AppEvent.{AppEvent}
 use Rattle.rm_app.specs.declared.states.AppAction.{AppAction}
-use Rattle.rm_app.specs.Table.{Row as AppTableRow}
+use Rattle.rm_app.specs.Table.{AppTransition as AppTableRow}
 use Rattle.rm_attempt.specs.declared.states.AttemptState.{AttemptState}
 use Rattle.rm_attempt.specs.declared.states.AttemptState.TheVariants.{Ended, Scheduled}
 use Rattle.rm_attempt.specs.declared.states.AttemptEvent.{AttemptEvent}
 use Rattle.rm_attempt.specs.declared.states.AttemptAction.{AttemptAction}
-use Rattle.rm_attempt.specs.Table.{Row as AttemptTableRow}
+use Rattle.rm_attempt.specs.Table.{AttemptTransition as AttemptTableRow}
 use Rattle.rm_node.specs.declared.states.NodeState.{NodeState}
 use Rattle.rm_node.specs.declared.states.NodeEvent.{NodeEvent}
 use Rattle.rm_node.specs.declared.states.NodeAction.{NodeAction}
-use Rattle.rm_node.specs.Table.{Row as NodeTableRow}
+use Rattle.rm_node.specs.Table.{NodeTransition as NodeTableRow}
 use Rattle.rm_types.specs.declared.containers.BookRow.{BookRow}
 use Rattle.rm_types.specs.declared.containers.ContainerState.{ContainerState}
 use Rattle.rm_types.specs.declared.containers.ContainerState.TheVariants.{Granted, Running, Completed}
@@ -21,10 +21,10 @@ use Rattle.rm_types.specs.declared.ids.ContainerId.{ContainerId}
 use Rattle.rm_container.specs.declared.states.ContainerEvent.{ContainerEvent}
 use Rattle.rm_container.specs.declared.states.ContainerEvent.TheVariants.{End}
 use Rattle.rm_container.specs.declared.states.ContainerAction.{ContainerAction}
-use Rattle.rm_container.specs.Table.{Row as ContainerTableRow}
-use Rattle.rm_book.specs.Books.{BookOf, row_of as book_row_of}
+use Rattle.rm_container.specs.Table.{ContainerTransition as ContainerTableRow}
+use Rattle.rm_book.specs.Books.{BookOf, book_row as book_row_of}
 use Rattle.rm_tables.specs.declared.nodes.NodeRow.{NodeRow}
-use Rattle.rm_tables.specs.Nodes.{node_of}
+use Rattle.rm_tables.specs.Nodes.{node_row}
 use Rattle.rm_tables.specs.declared.rows.AppRow.{AppRow}
 use Rattle.rm_tables.specs.declared.rows.Current.{Current}
 use Rattle.rm_tables.specs.Rows.{row_of}
@@ -58,7 +58,7 @@ NodeFollowsTable before now = (now ≡ before) ⊎ ((event : NodeEvent) × (acti
 
 -- each node that is known before and after a move goes so
 abbrev pub NodesFollowTable : List (List ℕ × NodeRow) → List (List ℕ × NodeRow) → Type 0
-NodesFollowTable nodes next = (name : List ℕ) (before now : NodeRow) → node_of nodes name ≡ Some before → node_of next name ≡ Some now → NodeFollowsTable before.state now.state
+NodesFollowTable nodes next = (name : List ℕ) (before now : NodeRow) → node_row nodes name ≡ Some before → node_row next name ≡ Some now → NodeFollowsTable before.state now.state
 
 -- a container's state stays, or a row of the containers' table leads from it to the next one
 abbrev pub ContainerFollowsTable : ContainerState → ContainerState → Type 0

@@ -6,7 +6,7 @@ use Rattle.std.proofs.lemmas.List.{take_at, drop_at, drop-take, length-drop, len
 use Rattle.std.proofs.lemmas.List.Elements.{All-nil, All-cons, All-append, All-head, All-tail}
 use Rattle.rm_disk.specs.Disk.{DiskView, IfTold, IsQuiet}
 use Rattle.rm_formats.specs.Device.{IsPayload, journal_record, journal_records, HasPayloads, no_bytes, records, IsDamagedAt}
-use Rattle.rm_journal.specs.Journal.{Place, IsOpened, FindsAt, FindsDamage, region_of}
+use Rattle.rm_journal.specs.Journal.{JournalPlace, IsOpened, FindsAt, FindsDamage, region_of}
 use Rattle.rm_journal.specs.Walk.{WalkAt, HasWalked, BeginsWith, IsWalking}
 use Rattle.rm_journal.proofs.Payloads.{open_first, next_of, records_head, records_push, length-records_push, length-journal_record, unique}
 use Rattle.rm_journal.proofs.Regions.{region_front, region_on}
@@ -131,8 +131,8 @@ walking_damaged v k offset walking is found = λ bytes told.
     }
 
 -- the journal that a walk ends with
-pub walked_opened : (v : DiskView) (k : WalkAt) (j : Place) → IsWalking v k → k.is_done ≡ true → j ≡ record { from = k.from; end = k.end; gate = k.gate; cursor = k.from; is_broken = false } → IsOpened v k.from (k.end - k.from) j
-walked_opened v k j walking done is = subst (λ (q : Place). IsOpened v k.from (k.end - k.from) q) (sym is) (record {
+pub walked_opened : (v : DiskView) (k : WalkAt) (j : JournalPlace) → IsWalking v k → k.is_done ≡ true → j ≡ record { from = k.from; end = k.end; gate = k.gate; cursor = k.from; is_broken = false } → IsOpened v k.from (k.end - k.from) j
+walked_opened v k j walking done is = subst (λ (q : JournalPlace). IsOpened v k.from (k.end - k.from) q) (sym is) (record {
   stands = record {
     inside = walking.inside;
     first = omega arith;

@@ -3,7 +3,7 @@ ghost use Rattle.rm_disk.specs.Disk.{IfTold, MayWrite, IsQuiet, IsDurable};
 ghost use Rattle.rm_formats.specs.Device.{sized, HasPayloads, IsDamagedAt};
 ghost use Rattle.rm_journal.specs.declared.journal.TheConstants.{BODY_ROOM};
 ghost use Rattle.rm_journal.specs.Fault.{IsReadError, IsAppendError, IsRefusal};
-ghost use Rattle.rm_journal.specs.Journal.{region_of, Place, JournalInvariant, HasRead, IsOpened, GivesNext, LeavesEither, AppendsPayload, StaysInRegion, broken_after};
+ghost use Rattle.rm_journal.specs.Journal.{region_of, JournalPlace, JournalInvariant, HasRead, IsOpened, GivesNext, LeavesEither, AppendsPayload, StaysInRegion, broken_after};
 
 use crate::fault::JournalError;
 use crate::region::{Region, record_at, write_through};
@@ -35,7 +35,7 @@ pub struct Journal {
 }
 
 impl Model for Journal {
-    ghost Value = { Place };
+    ghost Value = { JournalPlace };
 
     ghost view = { λ j. record { from = j.from; end = j.end; gate = j.gate; cursor = j.cursor; is_broken = j.is_broken } };
 

@@ -6,7 +6,7 @@ use Rattle.std.specs.List.{AllByRecursion, IsDistinct, list_any}
 use Rattle.std.specs.Map.{keys_of, values_of, lookup, set_value, remove_entry}
 use Rattle.std.proofs.lemmas.Map.{keys-set_value, length-set_value}
 use Rattle.std.proofs.lemmas.Map.Keys.{IsDistinct-cons, IsDistinct-head, IsDistinct-tail}
-use Rattle.rm_keyed.specs.Slots.{put, live, joined, value_at, AreSlots}
+use Rattle.rm_keyed.specs.Slots.{put_slot, live, joined, value_at, AreSlots}
 
 module _ {K : Type 0} {eq : K → K → Bool} (laws : IsEquivalence eq) (k : K) where
   others : (keys : List K) (key : K) → eq k key ≡ true → AllByRecursion (λ y. eq key y ≡ false) keys → AllByRecursion (λ y. eq k y ≡ false) keys
@@ -15,19 +15,19 @@ module _ {K : Type 0} {eq : K → K → Bool} (laws : IsEquivalence eq) (k : K) 
 
 module _ {K V : Type 0} {eq : K → K → Bool} (laws : IsEquivalence eq) (k : K) where
   -- one slot before others
-  here_found : (key : K) (v : Option V) (rest : List (K × V)) → eq k key ≡ true → lookup (eq k) rest ≡ None → lookup (eq k) (put key v rest) ≡ v
+  here_found : (key : K) (v : Option V) (rest : List (K × V)) → eq k key ≡ true → lookup (eq k) rest ≡ None → lookup (eq k) (put_slot key v rest) ≡ v
   here_found key None rest e n = n
   here_found key (Some value) rest e n = rw e refl
 
-  other_found : (key : K) (v : Option V) (rest : List (K × V)) → eq k key ≡ false → lookup (eq k) (put key v rest) ≡ lookup (eq k) rest
+  other_found : (key : K) (v : Option V) (rest : List (K × V)) → eq k key ≡ false → lookup (eq k) (put_slot key v rest) ≡ lookup (eq k) rest
   other_found key None rest e = refl
   other_found key (Some value) rest e = rw e refl
 
-  here_removed : (key : K) (v : Option V) (rest : List (K × V)) → eq k key ≡ true → remove_entry (eq k) rest ≡ rest → remove_entry (eq k) (put key v rest) ≡ rest
+  here_removed : (key : K) (v : Option V) (rest : List (K × V)) → eq k key ≡ true → remove_entry (eq k) rest ≡ rest → remove_entry (eq k) (put_slot key v rest) ≡ rest
   here_removed key None rest e n = n
   here_removed key (Some value) rest e n = rw e refl
 
-  other_removed : (key : K) (v : Option V) (rest : List (K × V)) → eq k key ≡ false → remove_entry (eq k) (put key v rest) ≡ put key v (remove_entry (eq k) rest)
+  other_removed : (key : K) (v : Option V) (rest : List (K × V)) → eq k key ≡ false → remove_entry (eq k) (put_slot key v rest) ≡ put_slot key v (remove_entry (eq k) rest)
   other_removed key None rest e = refl
   other_removed key (Some value) rest e = rw e refl
 
@@ -37,7 +37,7 @@ module _ {K V : Type 0} {eq : K → K → Bool} (laws : IsEquivalence eq) (k : K
   absent [] a = (refl, refl)
   absent (slot ∷ slots) a =
       let rest = absent slots a.1 in
-      (other_found slot.0 slot.1 (live slots) a.0 ∙ rest.0, other_removed slot.0 slot.1 (live slots) a.0 ∙ ap (put slot.0 slot.1) rest.1)
+      (other_found slot.0 slot.1 (live slots) a.0 ∙ rest.0, other_removed slot.0 slot.1 (live slots) a.0 ∙ ap (put_slot slot.0 slot.1) rest.1)
 
   later_absent : (slot : K × Option V) (slots : List (K × Option V)) → IsDistinct eq (keys_of (slot ∷ slots)) → eq k slot.0 ≡ true
       → (lookup (eq k) (live slots) ≡ None) × (remove_entry (eq k) (live slots) ≡ live slots)
@@ -60,7 +60,7 @@ module _ {K V : Type 0} {eq : K → K → Bool} (laws : IsEquivalence eq) (k : K
       by : (b : Bool) → eq k slot.0 ≡ b → live (set_value (eq k) slots None) ≡ remove_entry (eq k) (live slots)
           → live (set_value (eq k) (slot ∷ slots) None) ≡ remove_entry (eq k) (live (slot ∷ slots))
       by true e rest = rw e (sym (here_removed slot.0 slot.1 (live slots) e (later_absent slot slots d e).1))
-      by false e rest = rw e (ap (put slot.0 slot.1) rest ∙ sym (other_removed slot.0 slot.1 (live slots) e))
+      by false e rest = rw e (ap (put_slot slot.0 slot.1) rest ∙ sym (other_removed slot.0 slot.1 (live slots) e))
 
   -- the entries with one removed are one fewer where it is there
   pub removed_count : (es : List (K × V)) → length (remove_entry (eq k) es) + bool_byte (is_some (lookup (eq k) es)) ≡ length es
@@ -80,7 +80,7 @@ module _ {K V : Type 0} {eq : K → K → Bool} (laws : IsEquivalence eq) (k : K
       by : (b : Bool) → eq k slot.0 ≡ b → (joined (lookup (eq k) slots) ≡ None → live (remove_entry (eq k) slots) ≡ live slots)
           → live (remove_entry (eq k) (slot ∷ slots)) ≡ live (slot ∷ slots)
       by true e rest = let l' = rw e at l in rw (e, l') refl
-      by false e rest = let l' = rw e at l in rw e (ap (put slot.0 slot.1) (rest l'))
+      by false e rest = let l' = rw e at l in rw e (ap (put_slot slot.0 slot.1) (rest l'))
 
   pub gap_gone : (old between : List (K × Option V)) (count : ℕ) → AreSlots eq old count → lookup (eq k) (live old) ≡ None → between ≡ remove_entry (eq k) old
       → live between ≡ live old
@@ -118,18 +118,18 @@ module _ {K V : Type 0} {eq : K → K → Bool} (laws : IsEquivalence eq) (k : K
   written [] v w l = cc
   written (slot ∷ slots) v w l = by (eq k slot.0) refl (written slots v w)
     where
-      here : (u : Option V) → eq k slot.0 ≡ true → u ≡ Some v → (slot.0, w) ∷ live slots ≡ set_value (eq k) (put slot.0 u (live slots)) w
+      here : (u : Option V) → eq k slot.0 ≡ true → u ≡ Some v → (slot.0, w) ∷ live slots ≡ set_value (eq k) (put_slot slot.0 u (live slots)) w
       here None e i = cc
       here (Some u) e i = rw e refl
 
-      past : (u : Option V) (rest : List (K × V)) → eq k slot.0 ≡ false → put slot.0 u (set_value (eq k) rest w) ≡ set_value (eq k) (put slot.0 u rest) w
+      past : (u : Option V) (rest : List (K × V)) → eq k slot.0 ≡ false → put_slot slot.0 u (set_value (eq k) rest w) ≡ set_value (eq k) (put_slot slot.0 u rest) w
       past None rest e = refl
       past (Some u) rest e = rw e refl
 
       by : (b : Bool) → eq k slot.0 ≡ b → (lookup (eq k) slots ≡ Some (Some v) → live (set_value (eq k) slots (Some w)) ≡ set_value (eq k) (live slots) w)
           → live (set_value (eq k) (slot ∷ slots) (Some w)) ≡ set_value (eq k) (live (slot ∷ slots)) w
       by true e rest = let is : slot.1 ≡ Some v = (let m = rw e at l in cc) in rw e (here slot.1 e is)
-      by false e rest = let l' = rw e at l in rw e (ap (put slot.0 slot.1) (rest l') ∙ past slot.1 (live slots) e)
+      by false e rest = let l' = rw e at l in rw e (ap (put_slot slot.0 slot.1) (rest l') ∙ past slot.1 (live slots) e)
 
   -- a slot's value set to what it is
   pub same_set : (slots : List (K × Option V)) (v : Option V) → lookup (eq k) slots ≡ Some v → set_value (eq k) slots v ≡ slots

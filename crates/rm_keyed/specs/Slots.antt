@@ -4,14 +4,14 @@ use Rattle.std.specs.List.{IsDistinct}
 use Rattle.std.specs.Map.{keys_of}
 
 -- a slot before others that are seen as these
-abbrev pub put : {K V : Type 0} → K → Option V → List (K × V) → List (K × V)
-put key None rest = rest
-put key (Some value) rest = (key, value) ∷ rest
+abbrev pub put_slot : {K V : Type 0} → K → Option V → List (K × V) → List (K × V)
+put_slot key None rest = rest
+put_slot key (Some value) rest = (key, value) ∷ rest
 
 -- the values that are there, each with its key, in order
 abbrev pub live : {K V : Type 0} → List (K × Option V) → List (K × V)
 live [] = []
-live (slot ∷ slots) = put slot.0 slot.1 (live slots)
+live (slot ∷ slots) = put_slot slot.0 slot.1 (live slots)
 
 -- no two slots have one key, and so many hold a value
 pub record AreSlots {K V : Type 0} (eq : K → K → Bool) (slots : List (K × Option V)) (count : ℕ) : Type 0 where

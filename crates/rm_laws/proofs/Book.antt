@@ -16,8 +16,9 @@ use Rattle.rm_types.proofs.IdLemmas.{same_container}
 use Rattle.rm_model.specs.State.{NodeState, Row, Scene}
 use Rattle.rm_model.specs.Facts.{has_container}
 use Rattle.rm_model.specs.Containers.{ids_on, is_living, lives_elsewhere, lives_on}
-use Rattle.rm_model.specs.Absorbing.{book_taken, is_held, not_taken, row_absorbed, row_taken, taken_of}
-use Rattle.rm_model.specs.Nodes.{node_of}
+use Rattle.rm_model.specs.Absorbing.{book_taken, not_taken, row_absorbed, row_taken, taken_of}
+use Rattle.rm_types.specs.Containers.{is_held}
+use Rattle.rm_model.specs.Nodes.{judged_node}
 use Rattle.rm_model.specs.Passing.{row_granted}
 use Rattle.rm_laws.proofs.Lists.{Each}
 use Rattle.rm_laws.proofs.Taken.{each_taken}
@@ -131,11 +132,11 @@ lives_home (row ∷ book) name id out living =
     home_row row book name id (is_container row.id id) (bytes_eq row.node name) (lives_elsewhere book name id) (is_living book id) (lives_on book name id) out living (lives_home book name id)
 
 -- the node that is found by a name has that name
-pub found : (nodes : List NodeState) (at : List ℕ) (node : NodeState) → node_of nodes at ≡ Some node → node.name ≡ at
+pub found : (nodes : List NodeState) (at : List ℕ) (node : NodeState) → judged_node nodes at ≡ Some node → node.name ≡ at
 found [] at node e = cc
 found (one ∷ nodes) at node e = go (found nodes at node) (bytes_eq one.name at) refl e
   where
-    go : (node_of nodes at ≡ Some node → node.name ≡ at) → (b : Bool) → bytes_eq one.name at ≡ b → (if b then Some one else node_of nodes at) ≡ Some node → node.name ≡ at
+    go : (judged_node nodes at ≡ Some node → node.name ≡ at) → (b : Bool) → bytes_eq one.name at ≡ b → (if b then Some one else judged_node nodes at) ≡ Some node → node.name ≡ at
     go more true same e = let x : one ≡ node = cc in subst (λ (n : NodeState). n.name ≡ at) x (same_text one.name at same)
     go more false same e = more e
 

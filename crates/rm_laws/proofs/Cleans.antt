@@ -19,13 +19,13 @@ use Rattle.rm_types.proofs.IdLemmas.{same_container}
 use Rattle.rm_model.specs.State.{LifeState, Manager, NodeState, Scene, scene, opening_state}
 use Rattle.rm_model.specs.Facts.{has_container}
 use Rattle.rm_model.specs.Containers.{lives_on, once}
-use Rattle.rm_model.specs.Absorbing.{is_held}
-use Rattle.rm_model.specs.Nodes.{is_ready, is_waiting, node_of}
+use Rattle.rm_types.specs.Containers.{is_held}
+use Rattle.rm_model.specs.Nodes.{is_ready, is_waiting, judged_node}
 use Rattle.rm_model.specs.NodeReplies.{beat_reply, strangers, reported}
 use Rattle.rm_model.specs.Rules.{Allowed}
 use Rattle.rm_model.specs.Changes.{after, after_all}
 use Rattle.rm_model.specs.Lawful.{AllAllowed}
-use Rattle.rm_laws.specs.Laws.{CleansStrangers, NewBeat, is_new_beat, is_ready_in, lives_in, state_at}
+use Rattle.rm_laws.specs.Laws.{CleansStrangers, NewBeat, is_new_beat, is_ready_in, lives_on_node, state_at}
 use Rattle.rm_laws.proofs.Lists.{Each, each_all, each-filter, each-map, each-passing}
 use Rattle.rm_laws.proofs.Phases.{state}
 use Rattle.rm_laws.proofs.Book.{found}
@@ -86,7 +86,7 @@ not_both : (id last : ℕ) → (id + 1 == last) ≡ true → (id == last) ≡ tr
 not_both id last again new = grind (arith, nat_tests)
 
 module _ (m : Scene) (name : List ℕ) (id : ℕ) (running : List Held) where
-  by_node : (node : Option NodeState) → node_of m.life.nodes name ≡ node → (next : ℕ) (launch clean : List ContainerId)
+  by_node : (node : Option NodeState) → judged_node m.life.nodes name ≡ node → (next : ℕ) (launch clean : List ContainerId)
       → replies.Beat next launch clean ≡ beat_reply m id running node → is_some_and (λ one. id == one.last_id) node ≡ true
       → IsTold m name running (is_some_and (λ one. is_ready one.phase) node) launch clean
   by_node None at next launch clean is new = cc
@@ -104,17 +104,17 @@ module _ (m : Scene) (name : List ℕ) (id : ℕ) (running : List Held) where
       go false false e false x = by_phase m node.name running (node.last_id + 1) node.launches (is_ready node.phase) next launch clean x
 
   by_open : (b : Bool) (next : ℕ) (launch clean : List ContainerId)
-      → replies.Beat next launch clean ≡ (if b then beat_reply m id running (node_of m.life.nodes name) else replies.NotOpen)
-      → is_some_and (λ one. id == one.last_id) (node_of m.life.nodes name) ≡ true
-      → IsTold m name running (is_some_and (λ one. is_ready one.phase) (node_of m.life.nodes name)) launch clean
+      → replies.Beat next launch clean ≡ (if b then beat_reply m id running (judged_node m.life.nodes name) else replies.NotOpen)
+      → is_some_and (λ one. id == one.last_id) (judged_node m.life.nodes name) ≡ true
+      → IsTold m name running (is_some_and (λ one. is_ready one.phase) (judged_node m.life.nodes name)) launch clean
   by_open false next launch clean is new = cc
-  by_open true next launch clean is new = by_node (node_of m.life.nodes name) refl next launch clean is new
+  by_open true next launch clean is new = by_node (judged_node m.life.nodes name) refl next launch clean is new
 
 -- what is said of the answer to a new beat
 pub record SaysOfBeat (s : Manager) (e : Entry) (name : List ℕ) (running : List Held) (launch clean : List ContainerId) : Type 0 where
-  pub before : Each (λ id. lives_in s.life name id ≡ false) clean
-  pub past : Each (λ id. lives_in (after s e).life name id ≡ false) clean
-  pub all : (id : ContainerId) → is_ready_in s.life name ≡ true → is_held running id ≡ true → lives_in s.life name id ≡ false → has_container clean id ≡ true
+  pub before : Each (λ id. lives_on_node s.life name id ≡ false) clean
+  pub past : Each (λ id. lives_on_node (after s e).life name id ≡ false) clean
+  pub all : (id : ContainerId) → is_ready_in s.life name ≡ true → is_held running id ≡ true → lives_on_node s.life name id ≡ false → has_container clean id ≡ true
   pub waits : is_ready_in s.life name ≡ false → (clean ≡ []) × (launch ≡ [])
 
 module _ (settings : Settings) (kept awaiting : List Op) (blew : Bool) (sender : Sender) (name : List ℕ) (beat : ℕ) (running : List Held) (done : List ContainerId) (next : ℕ) (launch clean : List ContainerId) where
@@ -127,7 +127,7 @@ module _ (settings : Settings) (kept awaiting : List Op) (blew : Bool) (sender :
   says_at (Some life) may new =
       record {
         before = away;
-        past = each-map (λ one. lives_on life.book name one ≡ false) (λ one. lives_in (after s the_entry).life name one ≡ false)
+        past = each-map (λ one. lives_on life.book name one ≡ false) (λ one. lives_on_node (after s the_entry).life name one ≡ false)
             (λ one h. step name one settings kept awaiting blew (Some life) the_entry may ∙ h) clean away;
         all = λ id ready held out. subst (λ (list : List ContainerId). has_container list id ≡ true) (sym (in_ready ready)) (strangers_all m name running id held out);
         waits = λ waiting. (told.0 ∙ rw waiting refl, told.1 waiting);
@@ -139,10 +139,10 @@ module _ (settings : Settings) (kept awaiting : List Op) (blew : Bool) (sender :
       m : Scene
       m = scene (state kept awaiting blew (Some life)) life
 
-      told : IsTold (scene (state kept awaiting blew (Some life)) life) name running (is_some_and (λ one. is_ready one.phase) (node_of life.nodes name)) launch clean
+      told : IsTold (scene (state kept awaiting blew (Some life)) life) name running (is_some_and (λ one. is_ready one.phase) (judged_node life.nodes name)) launch clean
       told = by_open (scene (state kept awaiting blew (Some life)) life) name beat running life.is_open next launch clean may.answers new
 
-      in_ready : is_some_and (λ one. is_ready one.phase) (node_of life.nodes name) ≡ true → clean ≡ strangers (scene (state kept awaiting blew (Some life)) life) name running
+      in_ready : is_some_and (λ one. is_ready one.phase) (judged_node life.nodes name) ≡ true → clean ≡ strangers (scene (state kept awaiting blew (Some life)) life) name running
       in_ready ready = told.0 ∙ rw ready refl
 
       either_way : (ready : Bool) → Each (λ one. lives_on life.book name one ≡ false) (if ready then strangers (scene (state kept awaiting blew (Some life)) life) name running else [])

@@ -26,7 +26,7 @@ use Rattle.rm_model.specs.MasterReplies.{finished_issued}
 use Rattle.rm_model.specs.Rules.{Allowed}
 use Rattle.rm_model.specs.Changes.{after, after_all}
 use Rattle.rm_model.specs.Lawful.{AllAllowed}
-use Rattle.rm_laws.specs.Laws.{EndsStay, Passage, ReportsNext, IsRemembered, ended_by, is_final_word, told_by}
+use Rattle.rm_laws.specs.Laws.{EndsStay, Passage, ReportsNext, IsRemembered, entry_ended, is_final_word, told_by}
 use Rattle.rm_laws.proofs.Phases.{state}
 use Rattle.rm_laws.proofs.Recorded.{none_removed}
 use Rattle.rm_laws.proofs.Told.{some_pair, some_same, tells_same}
@@ -126,7 +126,7 @@ some_id a b false h = cc
 
 -- what an entry tells has ended has an end
 told_ended : (settings : Settings) (kept awaiting : List Op) (blew : Bool) (life : Option LifeState) (e : Entry) → Allowed settings (state kept awaiting blew life) e
-    → (id : AppId) → ended_by e ≡ Some id → is_some (end_of (records kept).apps id) ≡ true
+    → (id : AppId) → entry_ended e ≡ Some id → is_some (end_of (records kept).apps id) ≡ true
 told_ended settings kept awaiting blew None (Opened landed epoch stamp) may id tells = cc
 told_ended settings kept awaiting blew None _ may id tells = absurd may
 told_ended settings kept awaiting blew (Some life) (Served sender (FromClient user (AskReport one)) (replies.Report report)) may id tells =
@@ -182,7 +182,7 @@ some_final a true h = refl
 some_final a false h = cc
 
 -- a report with a final word tells an end
-ended_too : (e : Entry) (id : AppId) (report : Report) → told_by e ≡ Some (id, report) → is_final_word report.state ≡ true → ended_by e ≡ Some id
+ended_too : (e : Entry) (id : AppId) (report : Report) → told_by e ≡ Some (id, report) → is_final_word report.state ≡ true → entry_ended e ≡ Some id
 ended_too (Served sender (FromClient user (AskReport one)) (replies.Report other)) id report tells final =
     let same = some_pair one id other report tells in
     some_final one (is_final_word other.state) (ap (λ (r : Report). is_final_word r.state) same.1 ∙ final) ∙ ap (λ (i : AppId). Some i) same.0
@@ -202,7 +202,7 @@ ends_stay settings opening log allowed =
       same = λ p id report later tells final stands next. same_later p id report later tells final stands next;
     }
   where
-    final_later : (p : Passage log) (id : AppId) (later : Report) → ended_by p.entry ≡ Some id → IsRemembered opening p id → ReportsNext p id later → is_final_word later.state ≡ true
+    final_later : (p : Passage log) (id : AppId) (later : Report) → entry_ended p.entry ≡ Some id → IsRemembered opening p id → ReportsNext p id later → is_final_word later.state ≡ true
     final_later p id later ended stands next =
         let s = after_all (opening_state opening) p.before in
         let g = passage settings opening log allowed p id stands in
@@ -210,7 +210,7 @@ ends_stay settings opening log allowed =
         let says = later_says settings opening log allowed p id stands e.0 e.1 later next in
         ap (λ (w : StateWord). is_final_word w) says.word ∙ final_end e.0.0
 
-    one_later : (p q : Passage log) (id : AppId) (first second : Report) → p.before ≡ q.before → ended_by p.entry ≡ Some id → IsRemembered opening p id → IsRemembered opening q id
+    one_later : (p q : Passage log) (id : AppId) (first second : Report) → p.before ≡ q.before → entry_ended p.entry ≡ Some id → IsRemembered opening p id → IsRemembered opening q id
         → ReportsNext p id first → ReportsNext q id second → (first.state ≡ second.state) × (first.text ≡ second.text)
     one_later p q id first second from ended p_stands q_stands p_next q_next =
         let s = after_all (opening_state opening) p.before in

@@ -11,9 +11,9 @@ use Rattle.rm_types.specs.Ids.{is_container}
 use Rattle.rm_model.specs.State.{LifeState, NodeState, Registration, Row, Scene}
 use Rattle.rm_model.specs.Facts.{has_container}
 use Rattle.rm_model.specs.Containers.{is_living, released_by}
-use Rattle.rm_model.specs.Nodes.{node_of, tidied, tidied_node, with_node}
+use Rattle.rm_model.specs.Nodes.{judged_node, tidied, tidied_node, with_judged_node}
 use Rattle.rm_model.specs.MasterReplies.{allocates, row_allocated, untold_rows}
-use Rattle.rm_model.specs.NodeReplies.{beaten, beats, expired, new_node, nodes_registered, registered, reported, row_beaten}
+use Rattle.rm_model.specs.NodeReplies.{beaten, beats, expired, new_node, nodes_registered, node_after_registration, reported, row_beaten}
 use Rattle.rm_model.specs.Replies.{life_after}
 use Rattle.rm_laws.proofs.Messages.{Any, Changes, either, served}
 use Rattle.rm_laws.proofs.Grants.{made}
@@ -106,7 +106,7 @@ left_rows old new q o b e gr =
 
 -- nodes that change in other parts
 pub with_node_offers : (change : NodeState → NodeState) → ((node : NodeState) → ((change node).name ≡ node.name) × ((change node).capability ≡ node.capability)) → (at : List ℕ) (nodes : List NodeState) (name : List ℕ)
-    → capability_of (with_node change at nodes) name ≡ capability_of nodes name
+    → capability_of (with_judged_node change at nodes) name ≡ capability_of nodes name
 with_node_offers change keeps at nodes name = offers-map (λ node. if bytes_eq node.name at then change node else node) (λ node. go node (bytes_eq node.name at)) nodes name
   where
     go : (node : NodeState) (b : Bool) → ((if b then change node else node).name ≡ node.name) × ((if b then change node else node).capability ≡ node.capability)
@@ -132,7 +132,7 @@ module _ (m : Scene) where
 
   registered_offers : (at : List ℕ) (registration : Registration) (reply : Reply) (o : Option NodeState) (name : List ℕ) → capability_of (nodes_registered m at registration reply o) name ≡ capability_of m.life.nodes name
   registered_offers at registration reply None name = offers-new m.life.nodes (new_node at registration reply) name refl
-  registered_offers at registration reply (Some node) name = with_node_offers (registered registration reply) (λ n. (refl, refl)) at m.life.nodes name
+  registered_offers at registration reply (Some node) name = with_node_offers (node_after_registration registration reply) (λ n. (refl, refl)) at m.life.nodes name
 
   answered : Changes m (Calm m.life) Any
   answered =
@@ -147,16 +147,16 @@ module _ (m : Scene) where
             (row_allocated (map (λ row. row.id) (untold_rows m attempt)) (released_by m (record { attempt = attempt; list = release }))) (λ row. (refl, refl)) (λ row. refl) (λ name. refl) refl refl refl;
         finishes = λ attempt text. same_rows m.life _ (λ name. refl) refl refl refl;
         node_registered = λ at registration reply.
-            same_rows m.life (tidied (record m.life { nodes = nodes_registered m at registration reply (node_of m.life.nodes at) }))
-            (λ name. tidied_offers (record m.life { nodes = nodes_registered m at registration reply (node_of m.life.nodes at) }) name ∙ registered_offers at registration reply (node_of m.life.nodes at) name)
+            same_rows m.life (tidied (record m.life { nodes = nodes_registered m at registration reply (judged_node m.life.nodes at) }))
+            (λ name. tidied_offers (record m.life { nodes = nodes_registered m at registration reply (judged_node m.life.nodes at) }) name ∙ registered_offers at registration reply (judged_node m.life.nodes at) name)
             refl refl refl;
         beaten = λ at running done launch reply.
             changed_rows m.life (beats m at running done launch reply) (row_beaten at (reported running) launch) (beaten_at at (reported running) launch) (beaten_size at (reported running) launch)
             (λ name. with_node_offers (beaten launch done reply) (λ n. (refl, refl)) at m.life.nodes name) refl refl refl;
         ticks = λ time. same_rows m.life _ (λ name. refl) refl refl refl;
         node_expires = λ at.
-            same_rows m.life (tidied (record m.life { nodes = with_node expired at m.life.nodes }))
-            (λ name. tidied_offers (record m.life { nodes = with_node expired at m.life.nodes }) name ∙ with_node_offers expired (λ n. (refl, refl)) at m.life.nodes name) refl refl refl;
+            same_rows m.life (tidied (record m.life { nodes = with_judged_node expired at m.life.nodes }))
+            (λ name. tidied_offers (record m.life { nodes = with_judged_node expired at m.life.nodes }) name ∙ with_node_offers expired (λ n. (refl, refl)) at m.life.nodes name) refl refl refl;
         master_expires = λ attempt. same_rows m.life _ (λ name. refl) refl refl refl;
       }
 

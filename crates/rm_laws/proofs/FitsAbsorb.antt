@@ -16,8 +16,9 @@ use Rattle.rm_types.proofs.TestLemmas.{found_passes}
 use Rattle.rm_model.specs.State.{NodeState, Row, Scene}
 use Rattle.rm_model.specs.Facts.{has_container}
 use Rattle.rm_model.specs.Attempts.{attempt_was_first}
-use Rattle.rm_model.specs.Containers.{ids_on, lives_on, row_of}
-use Rattle.rm_model.specs.Absorbing.{as_booked, as_counted, as_reported, is_held, left_beside, not_taken, taken_of}
+use Rattle.rm_model.specs.Containers.{ids_on, lives_on, judged_row}
+use Rattle.rm_model.specs.Absorbing.{as_booked, as_counted, as_reported, left_beside, not_taken, taken_of}
+use Rattle.rm_types.specs.Containers.{is_held}
 use Rattle.rm_laws.proofs.Lists.{Each, each-append}
 use Rattle.rm_laws.proofs.Book.{ended_test}
 use Rattle.rm_laws.proofs.Told.{some_same}
@@ -94,13 +95,13 @@ module _ (m : Scene) (node : NodeState) where
   pub record Booked (held : Held) : Type 0 where
     pub row : Row
     pub here : lives_on m.life.book node.name held.id ≡ true
-    pub found : row_of m.life.book held.id ≡ Some row
+    pub found : judged_row m.life.book held.id ≡ Some row
     pub size : row.size ≡ held.size
 
   pub booked_counts : (capability : Resource) → node.capability ≡ Some capability → (held one : Held) → as_counted m node held ≡ Some one → Booked one
-  booked_counts capability later held one e = go (lives_on m.life.book node.name held.id) refl (row_of m.life.book held.id) refl (ap (λ (o : Option Resource). if is_some o then as_booked m node held else as_reported m held) (sym later) ∙ e)
+  booked_counts capability later held one e = go (lives_on m.life.book node.name held.id) refl (judged_row m.life.book held.id) refl (ap (λ (o : Option Resource). if is_some o then as_booked m node held else as_reported m held) (sym later) ∙ e)
     where
-      go : (b : Bool) → lives_on m.life.book node.name held.id ≡ b → (o : Option Row) → row_of m.life.book held.id ≡ o
+      go : (b : Bool) → lives_on m.life.book node.name held.id ≡ b → (o : Option Row) → judged_row m.life.book held.id ≡ o
           → (if b then option_map (λ (row : Row). let h : Held = record { id = row.id; size = row.size } in h) o else None) ≡ Some one → Booked one
       go false l o r h = cc
       go true l None r h = cc
@@ -112,7 +113,7 @@ module _ (m : Scene) (node : NodeState) where
           record {
             row = row;
             here = ap (λ (i : ContainerId). lives_on m.life.book node.name i) id ∙ l;
-            found = ap (λ (i : ContainerId). row_of m.life.book i) id ∙ r;
+            found = ap (λ (i : ContainerId). judged_row m.life.book i) id ∙ r;
             size = ap (λ (x : Held). x.size) same;
           }
 
@@ -143,11 +144,11 @@ own_filter f id q (row ∷ book) = go (q row) (is_container row.id id) refl (own
     go false b e h = let y = own-front f id row book b e in omega (arith, y, h)
 
 -- a container with one row weighs as much as that
-pub own_found : (f : Resource → ℕ) (id : ContainerId) (book : List Row) (row : Row) → rows_of book id ≤ 1 → row_of book id ≡ Some row → own_weight f id book ≤ f row.size
+pub own_found : (f : Resource → ℕ) (id : ContainerId) (book : List Row) (row : Row) → rows_of book id ≤ 1 → judged_row book id ≡ Some row → own_weight f id book ≤ f row.size
 own_found f id [] row once found = cc
 own_found f id (one ∷ book) row once found = go (is_container one.id id) refl found (own_found f id book row)
   where
-    go : (b : Bool) → is_container one.id id ≡ b → cond b (Some one) (row_of book id) ≡ Some row → (rows_of book id ≤ 1 → row_of book id ≡ Some row → own_weight f id book ≤ f row.size) → own_weight f id (one ∷ book) ≤ f row.size
+    go : (b : Bool) → is_container one.id id ≡ b → cond b (Some one) (judged_row book id) ≡ Some row → (rows_of book id ≤ 1 → judged_row book id ≡ Some row → own_weight f id book ≤ f row.size) → own_weight f id (one ∷ book) ≤ f row.size
     go true e h more =
         let same : one ≡ row = some_same h in
         let c = count_join (λ (x : Row). is_container x.id id) (one ∷ []) book in

@@ -13,7 +13,7 @@ use Rattle.rm_types.specs.Ids.{is_container}
 use Rattle.rm_types.proofs.IdLemmas.{same_container}
 use Rattle.rm_model.specs.State.{NodeState, Row, Scene}
 use Rattle.rm_model.specs.Containers.{is_living}
-use Rattle.rm_model.specs.Nodes.{node_of, with_node}
+use Rattle.rm_model.specs.Nodes.{judged_node, with_judged_node}
 use Rattle.rm_model.specs.Passing.{first_fit_on, asks_of, pass_node, pass_of, passed, passes, row_granted, turns}
 use Rattle.rm_model.specs.Rules.{MayPass}
 use Rattle.rm_laws.proofs.Lists.{Each, Pairs, each-map}
@@ -80,7 +80,7 @@ granted_weighs f on name (grant ∷ grants) e false other =
     let m = granted_weighs f on name grants e.1 false other in
     omega (arith, a, one, m)
 
-module _ (settings : Settings) (m : Scene) (name : List ℕ) (node : NodeState) (here : node_of m.life.nodes name ≡ Some node) (named : node.name ≡ name) (w : FitLife m.life) where
+module _ (settings : Settings) (m : Scene) (name : List ℕ) (node : NodeState) (here : judged_node m.life.nodes name ≡ Some node) (named : node.name ≡ name) (w : FitLife m.life) where
   offered : capability_of m.life.nodes name ≡ node.capability
   offered = ap (λ (o : Option NodeState). option_and_then (λ (n : NodeState). n.capability) o) here
 
@@ -113,7 +113,7 @@ module _ (settings : Settings) (m : Scene) (name : List ℕ) (node : NodeState) 
 
     offers : (at : List ℕ) → capability_of (passes m name grants).nodes at ≡ capability_of m.life.nodes at
     offers at =
-        tidied_offers (record m.life { granted = m.life.granted ++ map (λ grant. grant.id) grants; asks = (passes m name grants).asks; book = m.life.book ++ map row_granted grants; nodes = with_node passed name m.life.nodes }) at
+        tidied_offers (record m.life { granted = m.life.granted ++ map (λ grant. grant.id) grants; asks = (passes m name grants).asks; book = m.life.book ++ map row_granted grants; nodes = with_judged_node passed name m.life.nodes }) at
         ∙ with_node_offers passed (λ n. (refl, refl)) name m.life.nodes at
 
     pub pass_fits : FitLife (passes m name grants)

@@ -9,7 +9,7 @@ use Rattle.rm_types.specs.declared.ids.AttemptId.{AttemptId}
 use Rattle.rm_types.specs.declared.ids.ContainerId.{ContainerId}
 use Rattle.rm_types.specs.declared.resources.Resource.{Resource}
 use Rattle.rm_types.specs.Ids.{is_attempt}
-use Rattle.rm_types.specs.Passes.{PassNode, fitting, grant_of, by_priority, left_of, seq_after, with_granted, with_turn}
+use Rattle.rm_types.specs.Passes.{PassNode, fitting, turn_grant, by_priority, left_of, seq_after, with_granted, with_turn}
 use Rattle.rm_types.proofs.IdLemmas.{attempt_itself}
 use Rattle.rm_laws.proofs.Lists.{Each, Pairs, each-append, each-map, pairs-append}
 
@@ -62,14 +62,14 @@ module _ (epoch : ℕ) (node : List ℕ) (base : AttemptId → ℕ) where
   module _ (pass : PassNode) (turn : Turn) (of_node : pass.node ≡ node) (of_epoch : pass.epoch ≡ epoch) (follows : turn.next_seq ≡ base turn.attempt + 1) where
     -- so many grants of one size
     size_new : (size : Resource) (n : ℕ) (grants : List Grant) (seq : ℕ) → seq ≡ base turn.attempt + made_to turn.attempt grants + 1 → AreNew grants
-        → AreNew (grants ++ map (grant_of pass turn size) (range_with_len seq n))
+        → AreNew (grants ++ map (turn_grant pass turn size) (range_with_len seq n))
     size_new size zero grants seq is new = rw (append-nil grants) new
     size_new size (suc n) grants seq is new =
-        let grant = grant_of pass turn size seq in
+        let grant = turn_grant pass turn size seq in
         let a = made_to-append turn.attempt grants (grant ∷ []) in
         let one : made_to turn.attempt (grant ∷ []) ≡ 1 = rw (attempt_itself turn.attempt) refl in
         let next = size_new size n (grants ++ grant ∷ []) (seq + 1) (omega (arith, is, a, one)) (one_more grants grant of_node of_epoch is new) in
-        subst AreNew (append_assoc grants (grant ∷ []) (map (grant_of pass turn size) (range_with_len (seq + 1) n))) next
+        subst AreNew (append_assoc grants (grant ∷ []) (map (turn_grant pass turn size) (range_with_len (seq + 1) n))) next
 
     ask_new : (grants : List Grant) (ask : Ask) → AreNew grants → AreNew (with_granted pass turn grants ask)
     ask_new grants ask new =

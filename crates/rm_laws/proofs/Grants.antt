@@ -24,7 +24,7 @@ use Rattle.rm_types.specs.Ids.{is_attempt}
 use Rattle.rm_model.specs.State.{LifeState, Manager, NodeState, Scene, scene, opening_state}
 use Rattle.rm_model.specs.Attempts.{attempt_at}
 use Rattle.rm_model.specs.Lawful.{AllAllowed}
-use Rattle.rm_model.specs.Nodes.{node_of}
+use Rattle.rm_model.specs.Nodes.{judged_node}
 use Rattle.rm_model.specs.Passing.{first_fit_on, asks_of, pass_node, pass_of, turn_of, turns}
 use Rattle.rm_model.specs.Replies.{life_after, reply_to}
 use Rattle.rm_model.specs.Rules.{Allowed, AllowedIn, MayKeep, MayOpen, MayPass}
@@ -265,7 +265,7 @@ module _ (settings : Settings) (kept awaiting : List Op) (blew : Bool) (life : L
   in_life (Served sender message reply) may =
       stays (Served sender message reply) may _ (same_served (scene (state kept awaiting blew (Some life)) life) message reply) refl refl (serves_closed message reply may.answers)
   in_life (Absorbed name taken ended) may = stays (Absorbed name taken ended) may _ (all_same (plain refl refl refl refl refl)) refl refl (λ closed. absurd (rw (none closed) at may))
-  in_life (Pass name grants) may = grants_open name grants (opened_by name grants life.is_open refl may) may (by_node name grants (node_of life.nodes name) may).0 (by_node name grants (node_of life.nodes name) may).1
+  in_life (Pass name grants) may = grants_open name grants (opened_by name grants life.is_open refl may) may (by_node name grants (judged_node life.nodes name) may).0 (by_node name grants (judged_node life.nodes name) may).1
   in_life (Ordered container name) may = stays (Ordered container name) may _ (all_same (plain refl refl refl refl refl)) refl refl (λ closed. absurd (let x = may.opened in cc))
   in_life (Ended cause list) may = stays (Ended cause list) may _ (all_same (plain refl refl refl refl refl)) refl refl (λ closed. rw (none closed) refl)
   in_life Down may = record { sound = ((id_steps settings kept awaiting blew (Some life) Down p may).sound, tt); lifts = giving.goes_down (λ (x : ContainerId). x.epoch) (λ l. l.epoch) Unused Free is_own kept awaiting life p; gives = tt; apart = tt; past = tt }

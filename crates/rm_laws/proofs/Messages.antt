@@ -23,7 +23,7 @@ use Rattle.rm_types.specs.declared.replies.Reply.TheVariants as replies
 use Rattle.rm_model.specs.State.{LifeState, Registration, Scene}
 use Rattle.rm_model.specs.Facts.{is_known}
 use Rattle.rm_model.specs.Attempts.{is_registered}
-use Rattle.rm_model.specs.Nodes.{node_of, tidied, with_node}
+use Rattle.rm_model.specs.Nodes.{judged_node, tidied, with_judged_node}
 use Rattle.rm_model.specs.ClientReplies.{life_after_client}
 use Rattle.rm_model.specs.MasterReplies.{allocates, is_new_to_master, life_after_master, registers, with_master}
 use Rattle.rm_model.specs.NodeReplies.{beats, expired, is_later_turn, is_new_to_node, life_after_node, nodes_registered}
@@ -50,11 +50,11 @@ module _ (m : Scene) (P : LifeState → Type 0) (Q : Message → Reply → Type 
         → Q (FromMaster attempt (Allocate id asks release)) (replies.Allocated next grants ended) → P (allocates m attempt asks release (replies.Allocated next grants ended))
     pub finishes : (attempt : AttemptId) (text : List ℕ) → P (record m.life { masters = with_master (λ one. record one { finishing = Some text }) attempt m.life.masters })
     -- a node registers, its beat is new
-    pub node_registered : (name : List ℕ) (registration : Registration) (reply : Reply) → P (tidied (record m.life { nodes = nodes_registered m name registration reply (node_of m.life.nodes name) }))
+    pub node_registered : (name : List ℕ) (registration : Registration) (reply : Reply) → P (tidied (record m.life { nodes = nodes_registered m name registration reply (judged_node m.life.nodes name) }))
     pub beaten : (name : List ℕ) (running : List Held) (done launch : List ContainerId) (reply : Reply) → P (beats m name running done launch reply)
     -- time goes on, a node's lease runs out, a master's does
     pub ticks : (time : ℕ) → P (record m.life { now = m.life.now + time })
-    pub node_expires : (name : List ℕ) → P (tidied (record m.life { nodes = with_node expired name m.life.nodes }))
+    pub node_expires : (name : List ℕ) → P (tidied (record m.life { nodes = with_judged_node expired name m.life.nodes }))
     pub master_expires : (attempt : AttemptId) → P (record m.life { masters = record m.life.masters { expired = m.life.masters.expired ++ attempt ∷ [] } })
 
   module _ (c : Changes) where
@@ -81,7 +81,7 @@ module _ (m : Scene) (P : LifeState → Type 0) (Q : Message → Reply → Type 
 
     node : (name : List ℕ) (ask : NodeAsk) (reply : Reply) → P (life_after_node m name ask reply)
     node name (NodeRegister turn capability running) (replies.NodeRegistered told epoch) =
-        either P (is_later_turn turn (node_of m.life.nodes name)) _ _ (c.node_registered name (record { turn = turn; capability = capability; running = running }) (replies.NodeRegistered told epoch)) c.nothing
+        either P (is_later_turn turn (judged_node m.life.nodes name)) _ _ (c.node_registered name (record { turn = turn; capability = capability; running = running }) (replies.NodeRegistered told epoch)) c.nothing
     node name (NodeRegister turn capability running) reply = c.nothing
     node name (NodeBeat id running done) (replies.Beat next launch clean) = either P (is_new_to_node m name id) _ _ (c.beaten name running done launch (replies.Beat next launch clean)) c.nothing
     node name (NodeBeat id running done) reply = c.nothing

@@ -34,9 +34,10 @@ use Rattle.rm_model.specs.Facts.{has_app, has_container, is_known, is_submitted,
 use Rattle.rm_model.specs.Attempts.{attempt_end_issued, attempt_is_kept, finishing_text, has_failed, has_registered, is_current, is_live, is_registered, master_of}
 use Rattle.rm_model.specs.MasterReplies.{allocate_reply, allocates, allocation_reply, row_allocated, untold_rows}
 use Rattle.rm_model.specs.NodeReplies.{beats, reported, row_beaten}
-use Rattle.rm_model.specs.Absorbing.{book_taken, is_held, row_absorbed, row_taken, taken_of}
+use Rattle.rm_model.specs.Absorbing.{book_taken, row_absorbed, row_taken, taken_of}
+use Rattle.rm_types.specs.Containers.{is_held}
 use Rattle.rm_model.specs.Containers.{is_living, released_by}
-use Rattle.rm_model.specs.Nodes.{node_of}
+use Rattle.rm_model.specs.Nodes.{judged_node}
 use Rattle.rm_model.specs.Passing.{row_granted, without_granted}
 use Rattle.rm_model.specs.Replies.{reply_to}
 use Rattle.rm_model.specs.Issuing.{MayIssue}
@@ -321,8 +322,8 @@ module _ (settings : Settings) (kept awaiting : List Op) (blew : Bool) (life : L
   in_life (Served sender message reply) may =
       (w.fit, served (scene (state kept awaiting blew (Some life)) life) (Sane kept awaiting) (λ one answer. answer ≡ reply_to settings (scene (state kept awaiting blew (Some life)) life) one) answered message reply may.answers)
   in_life (Queued t) may = (w.fit, queued t may (submission_of (scene (state kept awaiting blew (Some life)) life) t.app))
-  in_life (Absorbed name taken list) may = (w.fit, absorbed name taken list (node_of life.nodes name) may _ refl refl refl refl)
-  in_life (Pass name grants) may = (w.fit, passed name grants (node_of life.nodes name) may _ refl refl refl refl)
+  in_life (Absorbed name taken list) may = (w.fit, absorbed name taken list (judged_node life.nodes name) may _ refl refl refl refl)
+  in_life (Pass name grants) may = (w.fit, passed name grants (judged_node life.nodes name) may _ refl refl refl refl)
   in_life (Ended cause list) may = (w.fit, ended list _ refl refl refl refl)
   in_life Down may = (w.fit, tt)
   in_life e may = (w.fit, near_sane kept awaiting blew life _ w.sane (parts settings (scene (state kept awaiting blew (Some life)) life) here refl refl refl refl))

@@ -19,7 +19,7 @@ use Rattle.rm_types.specs.declared.records.AttemptRecord.{AttemptRecord}
 use Rattle.rm_types.specs.declared.resources.Resource.{Resource}
 use Rattle.rm_types.specs.declared.settings.Settings.{Settings}
 use Rattle.rm_types.specs.Ids.{is_app, is_attempt}
-use Rattle.rm_types.specs.Passes.{PassNode, fitting, grant_of, by_priority, left_of, seq_after, with_granted, with_turn}
+use Rattle.rm_types.specs.Passes.{PassNode, fitting, turn_grant, by_priority, left_of, seq_after, with_granted, with_turn}
 use Rattle.rm_types.specs.Records.{Records, recorded, record_of, fits_records, all_ended, is_some_and, last_attempt}
 use Rattle.rm_types.proofs.EndLemmas.{length-ended, all_ended-map}
 use Rattle.rm_types.proofs.TestLemmas.{none_from_is_none}
@@ -130,7 +130,7 @@ module _ (asks : List AskOf) where
   abbrev pub Asking : Grant → Type 0
   Asking grant = asks_for asks grant.id.attempt ≡ true
 
-  each_range : (pass : PassNode) (turn : Turn) (size : Resource) (n seq : ℕ) → asks_for asks turn.attempt ≡ true → Each Asking (map (grant_of pass turn size) (range_with_len seq n))
+  each_range : (pass : PassNode) (turn : Turn) (size : Resource) (n seq : ℕ) → asks_for asks turn.attempt ≡ true → Each Asking (map (turn_grant pass turn size) (range_with_len seq n))
   each_range pass turn size zero seq h = tt
   each_range pass turn size (suc n) seq h = (h, each_range pass turn size n (seq + 1) h)
 
@@ -138,7 +138,7 @@ module _ (asks : List AskOf) where
   each_ask pass turn [] grants h e = e
   each_ask pass turn (ask ∷ list) grants h e =
       each_ask pass turn list (with_granted pass turn grants ask) h
-      (each-append Asking grants (map (grant_of pass turn ask.size) (range_with_len (seq_after turn grants) (fitting ask.count ask.size (left_of pass grants)))) e
+      (each-append Asking grants (map (turn_grant pass turn ask.size) (range_with_len (seq_after turn grants) (fitting ask.count ask.size (left_of pass grants)))) e
       (each_range pass turn ask.size (fitting ask.count ask.size (left_of pass grants)) (seq_after turn grants) h))
 
   turn_asks : (pass : PassNode) (turn : Turn) (grants : List Grant) → Each Asking grants → (b : Bool) → asks_for asks turn.attempt ≡ b → Each Asking (with_turn pass (asks_of asks) grants turn)

@@ -15,15 +15,15 @@ use Rattle.rm_types.proofs.TestLemmas.{same_text}
 use Rattle.rm_model.specs.State.{LifeState, Manager, NodeState, Row, Scene, scene, opening_state}
 use Rattle.rm_model.specs.Facts.{has_container}
 use Rattle.rm_model.specs.Containers.{is_living, lives_elsewhere, lives_on}
-use Rattle.rm_model.specs.Absorbing.{is_held}
-use Rattle.rm_model.specs.Nodes.{node_of}
+use Rattle.rm_types.specs.Containers.{is_held}
+use Rattle.rm_model.specs.Nodes.{judged_node}
 use Rattle.rm_model.specs.MasterReplies.{row_allocated}
 use Rattle.rm_model.specs.NodeReplies.{row_beaten}
 use Rattle.rm_model.specs.Passing.{row_granted}
 use Rattle.rm_model.specs.Rules.{Allowed, AllowedIn, MayAbsorb, MayPass}
 use Rattle.rm_model.specs.Changes.{after, after_all, life_issues, life_keeps}
 use Rattle.rm_model.specs.Lawful.{AllAllowed}
-use Rattle.rm_laws.specs.Laws.{lives_in, stands_after, stands_by}
+use Rattle.rm_laws.specs.Laws.{lives_on_node, stands_after, stands_by}
 use Rattle.rm_laws.proofs.Lists.{Each, each-map}
 use Rattle.rm_laws.proofs.Messages.{Any, Changes, either, served}
 use Rattle.rm_laws.proofs.Phases.{state}
@@ -77,7 +77,7 @@ module _ (name : List ℕ) (id : ContainerId) where
 
   module _ (settings : Settings) (kept awaiting : List Op) (blew : Bool) (life : LifeState) where
     abbrev pub Says : Entry → Type 0
-    Says e = lives_in (after (state kept awaiting blew (Some life)) e).life name id ≡ stands_by name id (lives_on life.book name id) e
+    Says e = lives_on_node (after (state kept awaiting blew (Some life)) e).life name id ≡ stands_by name id (lives_on life.book name id) e
 
     and_comm : (a b : Bool) → (a && b) ≡ (b && a)
     and_comm true true = refl
@@ -85,7 +85,7 @@ module _ (name : List ℕ) (id : ContainerId) where
     and_comm false true = refl
     and_comm false false = refl
 
-    absorbed_rows : (on : List ℕ) (taken : List Held) (ended : List ContainerId) (node : Option NodeState) → node_of life.nodes on ≡ node
+    absorbed_rows : (on : List ℕ) (taken : List Held) (ended : List ContainerId) (node : Option NodeState) → judged_node life.nodes on ≡ node
         → IsSomeAnd node (λ n. MayAbsorb (scene (state kept awaiting blew (Some life)) life) n taken ended) → Says (Absorbed on taken ended)
     absorbed_rows on taken ended None e may = absurd may
     absorbed_rows on taken ended (Some n) e may =
@@ -102,7 +102,7 @@ module _ (name : List ℕ) (id : ContainerId) where
             let out = each_held (λ x. lives_elsewhere life.book n.name x ≡ false) id taken all held in
             subst (λ (x : List ℕ). lives_on life.book x id ≡ true) at (lives_home life.book n.name id out living)
 
-    passed_rows : (on : List ℕ) (grants : List Grant) (node : Option NodeState) → node_of life.nodes on ≡ node
+    passed_rows : (on : List ℕ) (grants : List Grant) (node : Option NodeState) → judged_node life.nodes on ≡ node
         → IsSomeAnd node (λ n. MayPass settings (scene (state kept awaiting blew (Some life)) life) n grants) → Says (Pass on grants)
     passed_rows on grants None e may = absurd may
     passed_rows on grants (Some n) e may =
@@ -115,20 +115,20 @@ module _ (name : List ℕ) (id : ContainerId) where
     in_life (Issued op) may = issued_rows (scene (state kept awaiting blew (Some life)) life) op
     in_life (Kept op) may = kept_rows life op
     in_life (Served sender message reply) may = served (scene (state kept awaiting blew (Some life)) life) (Alike life) Any (answered (scene (state kept awaiting blew (Some life)) life)) message reply tt
-    in_life (Absorbed node taken ended) may = absorbed_rows node taken ended (node_of life.nodes node) refl may
-    in_life (Pass node grants) may = passed_rows node grants (node_of life.nodes node) refl may
+    in_life (Absorbed node taken ended) may = absorbed_rows node taken ended (judged_node life.nodes node) refl may
+    in_life (Pass node grants) may = passed_rows node grants (judged_node life.nodes node) refl may
     in_life (Ended cause list) may = lives-filter list life.book name id ∙ and_comm (not (has_container list id)) (lives_on life.book name id)
     in_life e may = refl
 
   -- each entry that is allowed
   pub step : (settings : Settings) (kept awaiting : List Op) (blew : Bool) (life : Option LifeState) (e : Entry) → Allowed settings (state kept awaiting blew life) e
-      → lives_in (after (state kept awaiting blew life) e).life name id ≡ stands_by name id (lives_in life name id) e
+      → lives_on_node (after (state kept awaiting blew life) e).life name id ≡ stands_by name id (lives_on_node life name id) e
   step settings kept awaiting blew None (Opened landed epoch stamp) may = refl
   step settings kept awaiting blew None _ may = absurd may
   step settings kept awaiting blew (Some life) e may = in_life settings kept awaiting blew life e may
 
-  walk : (settings : Settings) (s : Manager) (before rest : List Entry) → AllAllowed settings s (before ++ rest) → (stood : Bool) → lives_in s.life name id ≡ stood
-      → lives_in (after_all s before).life name id ≡ fold (stands_by name id) stood before
+  walk : (settings : Settings) (s : Manager) (before rest : List Entry) → AllAllowed settings s (before ++ rest) → (stood : Bool) → lives_on_node s.life name id ≡ stood
+      → lives_on_node (after_all s before).life name id ≡ fold (stands_by name id) stood before
   walk settings s [] rest allowed stood same = same
   walk settings s (e ∷ before) rest allowed stood same =
       walk settings (after s e) before rest allowed.1 (stands_by name id stood e)
@@ -136,6 +136,6 @@ module _ (name : List ℕ) (id : ContainerId) where
 
 -- the first part of the law of the book
 pub rows_are_of_log : (settings : Settings) (opening : List Op) (log : List Entry) → AllAllowed settings (opening_state opening) log
-    → (before rest : List Entry) (name : List ℕ) (id : ContainerId) → log ≡ before ++ rest → lives_in (after_all (opening_state opening) before).life name id ≡ stands_after name id before
+    → (before rest : List Entry) (name : List ℕ) (id : ContainerId) → log ≡ before ++ rest → lives_on_node (after_all (opening_state opening) before).life name id ≡ stands_after name id before
 rows_are_of_log settings opening log allowed before rest name id whole =
     walk name id settings (opening_state opening) before rest (subst (AllAllowed settings (opening_state opening)) whole allowed) false refl

@@ -21,8 +21,9 @@ use Rattle.rm_types.proofs.IdLemmas.{container_itself, same_container}
 use Rattle.rm_model.specs.State.{LifeState, Manager, NodeState, Row, Scene, scene, opening_state}
 use Rattle.rm_model.specs.Facts.{has_container}
 use Rattle.rm_model.specs.Containers.{ids_on, is_living, leave, lives_on, without_launches}
-use Rattle.rm_model.specs.Nodes.{node_of, tidied, with_node}
-use Rattle.rm_model.specs.Absorbing.{absorbed, absorbs, book_taken, is_held, row_absorbed, row_taken, with_taken}
+use Rattle.rm_model.specs.Nodes.{judged_node, tidied, with_judged_node}
+use Rattle.rm_model.specs.Absorbing.{absorbed, absorbs, book_taken, row_absorbed, row_taken, with_taken}
+use Rattle.rm_types.specs.Containers.{is_held}
 use Rattle.rm_model.specs.Rules.{Allowed, AllowedIn, MayAbsorb, MayPass}
 use Rattle.rm_model.specs.Changes.{after, after_all, life_issues, life_keeps, orders}
 use Rattle.rm_model.specs.Lawful.{AllAllowed}
@@ -40,42 +41,42 @@ use Rattle.rm_laws.proofs.FitsAbsorb.{Booked, IsTaken, booked_counts, bounded, c
 use Rattle.rm_laws.proofs.Walks.{walk}
 
 -- a node after it changed, and after all did
-node_own : (change : NodeState → NodeState) → ((node : NodeState) → (change node).name ≡ node.name) → (name : List ℕ) (nodes : List NodeState) (node : NodeState) → node_of nodes name ≡ Some node → node_of (with_node change name nodes) name ≡ Some (change node)
+node_own : (change : NodeState → NodeState) → ((node : NodeState) → (change node).name ≡ node.name) → (name : List ℕ) (nodes : List NodeState) (node : NodeState) → judged_node nodes name ≡ Some node → judged_node (with_judged_node change name nodes) name ≡ Some (change node)
 node_own change names name [] node here = cc
 node_own change names name (one ∷ nodes) node here = go (bytes_eq one.name name) refl here (node_own change names name nodes node)
   where
-    go : (b : Bool) → bytes_eq one.name name ≡ b → cond b (Some one) (node_of nodes name) ≡ Some node → (node_of nodes name ≡ Some node → node_of (with_node change name nodes) name ≡ Some (change node))
-        → node_of ((if b then change one else one) ∷ with_node change name nodes) name ≡ Some (change node)
+    go : (b : Bool) → bytes_eq one.name name ≡ b → cond b (Some one) (judged_node nodes name) ≡ Some node → (judged_node nodes name ≡ Some node → judged_node (with_judged_node change name nodes) name ≡ Some (change node))
+        → judged_node ((if b then change one else one) ∷ with_judged_node change name nodes) name ≡ Some (change node)
     go true e h more =
         let same : one ≡ node = cc in
-        ap (λ (b : Bool). cond b (Some (change one)) (node_of (with_node change name nodes) name)) (ap (λ (n : List ℕ). bytes_eq n name) (names one) ∙ e) ∙ ap (λ (n : NodeState). Some (change n)) same
+        ap (λ (b : Bool). cond b (Some (change one)) (judged_node (with_judged_node change name nodes) name)) (ap (λ (n : List ℕ). bytes_eq n name) (names one) ∙ e) ∙ ap (λ (n : NodeState). Some (change n)) same
     go false e h more = rw e (more h)
 
-node_all : (g : NodeState → NodeState) → ((node : NodeState) → (g node).name ≡ node.name) → (name : List ℕ) (nodes : List NodeState) (node : NodeState) → node_of nodes name ≡ Some node → node_of (map g nodes) name ≡ Some (g node)
+node_all : (g : NodeState → NodeState) → ((node : NodeState) → (g node).name ≡ node.name) → (name : List ℕ) (nodes : List NodeState) (node : NodeState) → judged_node nodes name ≡ Some node → judged_node (map g nodes) name ≡ Some (g node)
 node_all g names name [] node here = cc
 node_all g names name (one ∷ nodes) node here =
-    ap (λ (b : Bool). cond b (Some (g one)) (node_of (map g nodes) name)) (ap (λ (n : List ℕ). bytes_eq n name) (names one)) ∙ go (bytes_eq one.name name) here (node_all g names name nodes node)
+    ap (λ (b : Bool). cond b (Some (g one)) (judged_node (map g nodes) name)) (ap (λ (n : List ℕ). bytes_eq n name) (names one)) ∙ go (bytes_eq one.name name) here (node_all g names name nodes node)
   where
-    go : (b : Bool) → cond b (Some one) (node_of nodes name) ≡ Some node → (node_of nodes name ≡ Some node → node_of (map g nodes) name ≡ Some (g node)) → cond b (Some (g one)) (node_of (map g nodes) name) ≡ Some (g node)
+    go : (b : Bool) → cond b (Some one) (judged_node nodes name) ≡ Some node → (judged_node nodes name ≡ Some node → judged_node (map g nodes) name ≡ Some (g node)) → cond b (Some (g one)) (judged_node (map g nodes) name) ≡ Some (g node)
     go true h more = let same : one ≡ node = cc in ap (λ (n : NodeState). Some (g n)) same
     go false h more = more h
 
 -- and another node
-node_other : (change : NodeState → NodeState) → ((node : NodeState) → (change node).name ≡ node.name) → (name at : List ℕ) → bytes_eq name at ≡ false → (nodes : List NodeState) → capability_of (with_node change name nodes) at ≡ capability_of nodes at
+node_other : (change : NodeState → NodeState) → ((node : NodeState) → (change node).name ≡ node.name) → (name at : List ℕ) → bytes_eq name at ≡ false → (nodes : List NodeState) → capability_of (with_judged_node change name nodes) at ≡ capability_of nodes at
 node_other change names name at other [] = refl
 node_other change names name at other (one ∷ nodes) = go (bytes_eq one.name name) refl (node_other change names name at other nodes)
   where
-    skip : (b : Bool) → bytes_eq one.name at ≡ b → capability_of (with_node change name nodes) at ≡ capability_of nodes at
-        → option_and_then (λ (n : NodeState). n.capability) (cond b (Some one) (node_of (with_node change name nodes) at)) ≡ option_and_then (λ (n : NodeState). n.capability) (cond b (Some one) (node_of nodes at))
+    skip : (b : Bool) → bytes_eq one.name at ≡ b → capability_of (with_judged_node change name nodes) at ≡ capability_of nodes at
+        → option_and_then (λ (n : NodeState). n.capability) (cond b (Some one) (judged_node (with_judged_node change name nodes) at)) ≡ option_and_then (λ (n : NodeState). n.capability) (cond b (Some one) (judged_node nodes at))
     skip true e m = refl
     skip false e m = m
 
-    go : (b : Bool) → bytes_eq one.name name ≡ b → capability_of (with_node change name nodes) at ≡ capability_of nodes at
-        → option_and_then (λ (n : NodeState). n.capability) (node_of ((if b then change one else one) ∷ with_node change name nodes) at) ≡ option_and_then (λ (n : NodeState). n.capability) (node_of (one ∷ nodes) at)
+    go : (b : Bool) → bytes_eq one.name name ≡ b → capability_of (with_judged_node change name nodes) at ≡ capability_of nodes at
+        → option_and_then (λ (n : NodeState). n.capability) (judged_node ((if b then change one else one) ∷ with_judged_node change name nodes) at) ≡ option_and_then (λ (n : NodeState). n.capability) (judged_node (one ∷ nodes) at)
     go true e m =
         let away : bytes_eq one.name at ≡ false = subst (λ (n : List ℕ). bytes_eq n at ≡ false) (sym (same_text one.name name e)) other in
         let gone : bytes_eq (change one).name at ≡ false = ap (λ (n : List ℕ). bytes_eq n at) (names one) ∙ away in
-        ap (λ (b : Bool). option_and_then (λ (n : NodeState). n.capability) (cond b (Some (change one)) (node_of (with_node change name nodes) at))) gone ∙ m ∙ ap (λ (b : Bool). option_and_then (λ (n : NodeState). n.capability) (cond b (Some one) (node_of nodes at))) (sym away)
+        ap (λ (b : Bool). option_and_then (λ (n : NodeState). n.capability) (cond b (Some (change one)) (judged_node (with_judged_node change name nodes) at))) gone ∙ m ∙ ap (λ (b : Bool). option_and_then (λ (n : NodeState). n.capability) (cond b (Some one) (judged_node nodes at))) (sym away)
     go false e m = skip (bytes_eq one.name at) refl m
 
 -- rows absorbed
@@ -140,13 +141,13 @@ each_entered P q on id (held ∷ taken) e h = go (q held) (is_container held.id 
     go true false same h more = more (rw same at h)
     go false b same h more = more h
 
-module _ (m : Scene) (name : List ℕ) (node : NodeState) (here : node_of m.life.nodes name ≡ Some node) (named : node.name ≡ name) (w : FitLife m.life) (taken : List Held) (ended : List ContainerId) (may : MayAbsorb m node taken ended) where
-  own_offer : capability_of (with_node absorbed name (map (without_launches ended) m.life.nodes)) name ≡ Some node.last.capability
+module _ (m : Scene) (name : List ℕ) (node : NodeState) (here : judged_node m.life.nodes name ≡ Some node) (named : node.name ≡ name) (w : FitLife m.life) (taken : List Held) (ended : List ContainerId) (may : MayAbsorb m node taken ended) where
+  own_offer : capability_of (with_judged_node absorbed name (map (without_launches ended) m.life.nodes)) name ≡ Some node.last.capability
   own_offer =
       ap (λ (o : Option NodeState). option_and_then (λ (n : NodeState). n.capability) o)
       (node_own absorbed (λ n. refl) name (map (without_launches ended) m.life.nodes) (without_launches ended node) (node_all (without_launches ended) (λ n. refl) name m.life.nodes node here))
 
-  other_offer : (at : List ℕ) → bytes_eq name at ≡ false → capability_of (with_node absorbed name (map (without_launches ended) m.life.nodes)) at ≡ capability_of m.life.nodes at
+  other_offer : (at : List ℕ) → bytes_eq name at ≡ false → capability_of (with_judged_node absorbed name (map (without_launches ended) m.life.nodes)) at ≡ capability_of m.life.nodes at
   other_offer at other =
       node_other absorbed (λ n. refl) name at other (map (without_launches ended) m.life.nodes) ∙ offers-map (without_launches ended) (λ n. (refl, refl)) m.life.nodes at
 
@@ -183,7 +184,7 @@ record Leaves (m : Scene) (name : List ℕ) (node : NodeState) (taken : List Hel
   former : (id : ContainerId) → is_living (map (row_absorbed name) (entered m taken ended)) id ≡ true → id.epoch < m.life.epoch
   once : (id : ContainerId) → times_held taken id ≤ 1
 
-module _ (m : Scene) (name : List ℕ) (node : NodeState) (here : node_of m.life.nodes name ≡ Some node) (named : node.name ≡ name) (w : FitLife m.life) (taken : List Held) (ended : List ContainerId) (may : MayAbsorb m node taken ended) where
+module _ (m : Scene) (name : List ℕ) (node : NodeState) (here : judged_node m.life.nodes name ≡ Some node) (named : node.name ≡ name) (w : FitLife m.life) (taken : List Held) (ended : List ContainerId) (may : MayAbsorb m node taken ended) where
   is_offered : capability_of m.life.nodes name ≡ node.capability
   is_offered = ap (λ (o : Option NodeState). option_and_then (λ (n : NodeState). n.capability) o) here
 
@@ -270,11 +271,11 @@ module _ (m : Scene) (name : List ℕ) (node : NodeState) (here : node_of m.life
               (sym (any-map (λ (row : Row). bytes_eq row.node at) (row_taken taken) (λ row. ap (λ (n : List ℕ). bytes_eq n at) (row_taken_stays taken row).1) (filter (λ row. not (has_container ended row.id)) m.life.book)) ∙ h) in
               absurd (let y : true ≡ false = sym x ∙ none in cc)
 
-      bare_by : (at : List ℕ) (b : Bool) → bytes_eq name at ≡ b → capability_of (with_node absorbed name (map (without_launches ended) m.life.nodes)) at ≡ None → stands_on (book_taken name taken (filter (λ row. not (has_container ended row.id)) m.life.book)) at ≡ false
+      bare_by : (at : List ℕ) (b : Bool) → bytes_eq name at ≡ b → capability_of (with_judged_node absorbed name (map (without_launches ended) m.life.nodes)) at ≡ None → stands_on (book_taken name taken (filter (λ row. not (has_container ended row.id)) m.life.book)) at ≡ false
       bare_by at true is none =
           let same : name ≡ at = same_text name at is in
           let own = own_offer m name node here named w taken ended may in
-          absurd (let x : Some node.last.capability ≡ None = sym own ∙ ap (λ (n : List ℕ). capability_of (with_node absorbed name (map (without_launches ended) m.life.nodes)) n) same ∙ none in cc)
+          absurd (let x : Some node.last.capability ≡ None = sym own ∙ ap (λ (n : List ℕ). capability_of (with_judged_node absorbed name (map (without_launches ended) m.life.nodes)) n) same ∙ none in cc)
       bare_by at false is none =
           list_any-append (λ (row : Row). bytes_eq row.node at) (map (row_taken taken) (filter (λ row. not (has_container ended row.id)) m.life.book)) (map (row_absorbed name) (entered m taken ended))
           ∙ rw (left_stands at (w.bare at (sym (other_offer m name node here named w taken ended may at is) ∙ none)), absorbed_stands name at (entered m taken ended) is) refl
@@ -285,12 +286,12 @@ module _ (m : Scene) (name : List ℕ) (node : NodeState) (here : node_of m.life
           let b = weight-map f at (row_taken taken) (λ row. ((row_taken_stays taken row).1, (row_taken_stays taken row).2)) (filter (λ row. not (has_container ended row.id)) m.life.book) in
           omega (arith, a, b)
 
-      held_by : (f : Resource → ℕ) → IsPart f → (at : List ℕ) (capability : Resource) (b : Bool) → bytes_eq name at ≡ b → capability_of (with_node absorbed name (map (without_launches ended) m.life.nodes)) at ≡ Some capability
+      held_by : (f : Resource → ℕ) → IsPart f → (at : List ℕ) (capability : Resource) (b : Bool) → bytes_eq name at ≡ b → capability_of (with_judged_node absorbed name (map (without_launches ended) m.life.nodes)) at ≡ Some capability
           → weight f at (book_taken name taken (filter (λ row. not (has_container ended row.id)) m.life.book)) ≤ f capability
       held_by f part at capability true is some =
           let same : name ≡ at = same_text name at is in
           let own = own_offer m name node here named w taken ended may in
-          let e : Some node.last.capability ≡ Some capability = sym own ∙ ap (λ (n : List ℕ). capability_of (with_node absorbed name (map (without_launches ended) m.life.nodes)) n) same ∙ some in
+          let e : Some node.last.capability ≡ Some capability = sym own ∙ ap (λ (n : List ℕ). capability_of (with_judged_node absorbed name (map (without_launches ended) m.life.nodes)) n) same ∙ some in
           let c : f node.last.capability ≡ f capability = ap f (the_same node.last.capability capability e) in
           let j = sum_join f at in
           let a = absorbed_weight f name at true is (entered m taken ended) in
@@ -339,12 +340,12 @@ module _ (settings : Settings) (kept awaiting : List Op) (blew : Bool) (life : L
   kept_fits (AppEnd id how text) = same _ (λ name. refl) refl refl refl
   kept_fits (Remove id) = same _ (λ name. refl) refl refl refl
 
-  passed_fits : (name : List ℕ) (grants : List Grant) (node : Option NodeState) → node_of life.nodes name ≡ node → IsSomeAnd node (λ n. MayPass settings (scene (state kept awaiting blew (Some life)) life) n grants)
+  passed_fits : (name : List ℕ) (grants : List Grant) (node : Option NodeState) → judged_node life.nodes name ≡ node → IsSomeAnd node (λ n. MayPass settings (scene (state kept awaiting blew (Some life)) life) n grants)
       → FitIn (after (state kept awaiting blew (Some life)) (Pass name grants)).life
   passed_fits name grants None e may = absurd may
   passed_fits name grants (Some n) e may = pass_fits settings (scene (state kept awaiting blew (Some life)) life) name n e (found life.nodes name n e) w grants may
 
-  absorbed_fits : (name : List ℕ) (taken : List Held) (ended : List ContainerId) (node : Option NodeState) → node_of life.nodes name ≡ node → IsSomeAnd node (λ n. MayAbsorb (scene (state kept awaiting blew (Some life)) life) n taken ended)
+  absorbed_fits : (name : List ℕ) (taken : List Held) (ended : List ContainerId) (node : Option NodeState) → judged_node life.nodes name ≡ node → IsSomeAnd node (λ n. MayAbsorb (scene (state kept awaiting blew (Some life)) life) n taken ended)
       → FitIn (after (state kept awaiting blew (Some life)) (Absorbed name taken ended)).life
   absorbed_fits name taken ended None e may = absurd may
   absorbed_fits name taken ended (Some n) e may =
@@ -356,8 +357,8 @@ module _ (settings : Settings) (kept awaiting : List Op) (blew : Bool) (life : L
   in_life (Issued op) may = issued op
   in_life (Kept op) may = kept_fits op
   in_life (Served sender message reply) may = calm_fits life _ (calm_served (scene (state kept awaiting blew (Some life)) life) message reply) w
-  in_life (Absorbed name taken ended) may = absorbed_fits name taken ended (node_of life.nodes name) refl may
-  in_life (Pass name grants) may = passed_fits name grants (node_of life.nodes name) refl may
+  in_life (Absorbed name taken ended) may = absorbed_fits name taken ended (judged_node life.nodes name) refl may
+  in_life (Pass name grants) may = passed_fits name grants (judged_node life.nodes name) refl may
   in_life (Ordered container name) may = same (orders life container name) (λ at. with_node_offers (λ node. record node { launches = node.launches ++ container ∷ [] }) (λ n. (refl, refl)) name life.nodes at) refl refl refl
   in_life (Ended cause list) may =
       let m = scene (state kept awaiting blew (Some life)) life in

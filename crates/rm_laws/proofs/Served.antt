@@ -8,7 +8,7 @@ use Rattle.rm_types.specs.declared.messages.Message.TheVariants.{Client as FromC
 use Rattle.rm_types.specs.declared.replies.Reply.{Reply}
 use Rattle.rm_types.specs.declared.replies.Reply.TheVariants as replies
 use Rattle.rm_model.specs.State.{LifeState, Scene}
-use Rattle.rm_model.specs.Nodes.{node_of, tidied, with_node}
+use Rattle.rm_model.specs.Nodes.{judged_node, tidied, with_judged_node}
 use Rattle.rm_model.specs.MasterReplies.{allocates}
 use Rattle.rm_model.specs.NodeReplies.{beats, expired, nodes_registered}
 use Rattle.rm_model.specs.Replies.{life_after}
@@ -61,10 +61,10 @@ module _ (m : Scene) where
         registered = λ attempt q. of _ (plain refl refl refl refl refl);
         allocated = λ attempt id asks release next grants ended q. of (allocates m attempt asks release (replies.Allocated next grants ended)) (plain refl refl refl refl refl);
         finishes = λ attempt text. of _ (plain refl refl refl refl refl);
-        node_registered = λ name registration reply. of (tidied (record m.life { nodes = nodes_registered m name registration reply (node_of m.life.nodes name) })) (plain refl refl refl refl refl);
+        node_registered = λ name registration reply. of (tidied (record m.life { nodes = nodes_registered m name registration reply (judged_node m.life.nodes name) })) (plain refl refl refl refl refl);
         beaten = λ name running done launch reply. of (beats m name running done launch reply) (plain refl refl refl refl refl);
         ticks = λ time. of _ (plain refl refl refl refl refl);
-        node_expires = λ name. of (tidied (record m.life { nodes = with_node expired name m.life.nodes })) (plain refl refl refl refl refl);
+        node_expires = λ name. of (tidied (record m.life { nodes = with_judged_node expired name m.life.nodes })) (plain refl refl refl refl refl);
         master_expires = λ attempt. of _ (plain refl refl refl refl refl);
       }
 

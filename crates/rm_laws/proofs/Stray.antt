@@ -25,7 +25,7 @@ use Rattle.rm_types.proofs.IdLemmas.{app_itself, same_app}
 use Rattle.rm_types.proofs.TestLemmas.{none_from_is_some, found_passes, is_some-find}
 use Rattle.rm_model.specs.State.{LifeState, Manager, Row, scene}
 use Rattle.rm_model.specs.Facts.{app_issued, has_app, is_app_op, is_attempt_op, is_app_end_op, is_epoch_op, is_remove_op, is_submitted, attempts_in, end_in, is_completed}
-use Rattle.rm_model.specs.Issuing.{MayIssue, MayIssueApp, MayIssueAttempt, MayIssueAttemptEnd, MayIssueAppEnd, MayIssueRemove, is_before}
+use Rattle.rm_model.specs.Issuing.{MayIssue, MayIssueApp, MayIssueAttempt, MayIssueAttemptEnd, MayIssueAppEnd, MayIssueRemove, is_completed_before}
 use Rattle.rm_model.specs.Changes.{asks_without, life_keeps}
 use Rattle.rm_laws.proofs.Stamps.{Phase, Sound}
 use Rattle.rm_laws.proofs.Phases.{state}
@@ -116,8 +116,8 @@ module _ (settings : Settings) (kept awaiting : List Op) (blew : Bool) (life : L
   by_completed : (id : AppId) → MayIssueRemove settings (scene (state kept awaiting blew (Some life)) life) id → fits_records (fold recorded (records kept) awaiting) (Remove id) ≡ true
   by_completed id may =
       let m = scene (state kept awaiting blew (Some life)) life in
-      let s = some_and (λ app. is_completed m app && list_all (is_before m app) m.records.apps) (record_of (records kept).apps id) may.first in
-      let c = and_parts (is_completed m s.0) (list_all (is_before m s.0) m.records.apps) s.2 in
+      let s = some_and (λ app. is_completed m app && list_all (is_completed_before m app) m.records.apps) (record_of (records kept).apps id) may.first in
+      let c = and_parts (is_completed m s.0) (list_all (is_completed_before m s.0) m.records.apps) s.2 in
       let d = and_parts (is_some s.0.ending) (not (list_any (is_remove_op s.0.id) awaiting)) c.0 in
       let same = same_app s.0.id id (found_passes (λ (app : AppRecord). is_app app.id id) (records kept).apps s.0 s.1) in
       let waits = subst (λ (i : AppId). list_any (is_remove_op i) awaiting ≡ false) same (not-true (list_any (is_remove_op s.0.id) awaiting) d.1) in

@@ -6,7 +6,8 @@ use Rattle.rm_types.specs.Resources.{fits}
 use Rattle.rm_model.specs.State.{NodeState, Scene}
 use Rattle.rm_model.specs.Containers.{lives_elsewhere}
 use Rattle.rm_model.specs.Attempts.{is_current}
-use Rattle.rm_model.specs.Absorbing.{as_counted, is_held, left_beside, may_take, taken_of, with_counted}
+use Rattle.rm_model.specs.Absorbing.{as_counted, left_beside, may_take, taken_of, with_counted}
+use Rattle.rm_types.specs.Containers.{is_held}
 use Rattle.rm_laws.proofs.Lists.{Each, each-append}
 
 -- a container that may be taken: what its test says

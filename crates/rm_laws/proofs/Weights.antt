@@ -11,11 +11,11 @@ use Rattle.rm_types.specs.declared.containers.Grant.{Grant}
 use Rattle.rm_types.specs.declared.containers.Turn.{Turn}
 use Rattle.rm_types.specs.declared.ids.AttemptId.{AttemptId}
 use Rattle.rm_types.specs.declared.resources.Resource.{Resource}
-use Rattle.rm_types.specs.Passes.{PassNode, fitting, grant_of, by_priority, left_of, seq_after, times, total_of, with_granted, with_turn}
+use Rattle.rm_types.specs.Passes.{PassNode, fitting, turn_grant, by_priority, left_of, seq_after, times, total_of, with_granted, with_turn}
 use Rattle.rm_types.specs.Resources.{difference_of, fits}
 use Rattle.rm_model.specs.State.{NodeState, Row}
 use Rattle.rm_model.specs.Containers.{rows_on}
-use Rattle.rm_model.specs.Nodes.{node_of}
+use Rattle.rm_model.specs.Nodes.{judged_node}
 
 -- one part of the size of all that stands on a node
 abbrev pub weight : (Resource → ℕ) → List ℕ → List Row → ℕ
@@ -67,17 +67,17 @@ module _ (f : Resource → ℕ) (name : List ℕ) where
 
 -- what a node offers
 abbrev pub capability_of : List NodeState → List ℕ → Option Resource
-capability_of nodes name = option_and_then (λ node. node.capability) (node_of nodes name)
+capability_of nodes name = option_and_then (λ node. node.capability) (judged_node nodes name)
 
 pub offers-map : (g : NodeState → NodeState) → ((node : NodeState) → ((g node).name ≡ node.name) × ((g node).capability ≡ node.capability)) → (nodes : List NodeState) (name : List ℕ)
     → capability_of (map g nodes) name ≡ capability_of nodes name
 offers-map g keeps [] name = refl
 offers-map g keeps (node ∷ nodes) name =
-    ap (λ (b : Bool). option_and_then (λ (n : NodeState). n.capability) (cond b (Some (g node)) (node_of (map g nodes) name))) (ap (λ (n : List ℕ). bytes_eq n name) (keeps node).0)
+    ap (λ (b : Bool). option_and_then (λ (n : NodeState). n.capability) (cond b (Some (g node)) (judged_node (map g nodes) name))) (ap (λ (n : List ℕ). bytes_eq n name) (keeps node).0)
     ∙ go (bytes_eq node.name name) (offers-map g keeps nodes name)
   where
     go : (b : Bool) → capability_of (map g nodes) name ≡ capability_of nodes name
-        → option_and_then (λ (n : NodeState). n.capability) (cond b (Some (g node)) (node_of (map g nodes) name)) ≡ option_and_then (λ (n : NodeState). n.capability) (cond b (Some node) (node_of nodes name))
+        → option_and_then (λ (n : NodeState). n.capability) (cond b (Some (g node)) (judged_node (map g nodes) name)) ≡ option_and_then (λ (n : NodeState). n.capability) (cond b (Some node) (judged_node nodes name))
     go true e = (keeps node).1
     go false e = e
 
@@ -90,7 +90,7 @@ offers-new [] new name none = go (bytes_eq new.name name)
 offers-new (node ∷ nodes) new name none = go (bytes_eq node.name name) (offers-new nodes new name none)
   where
     go : (b : Bool) → capability_of (nodes ++ new ∷ []) name ≡ capability_of nodes name
-        → option_and_then (λ (n : NodeState). n.capability) (cond b (Some node) (node_of (nodes ++ new ∷ []) name)) ≡ option_and_then (λ (n : NodeState). n.capability) (cond b (Some node) (node_of nodes name))
+        → option_and_then (λ (n : NodeState). n.capability) (cond b (Some node) (judged_node (nodes ++ new ∷ []) name)) ≡ option_and_then (λ (n : NodeState). n.capability) (cond b (Some node) (judged_node nodes name))
     go true e = refl
     go false e = e
 
@@ -113,10 +113,10 @@ fitting_fits (suc n) size left = go (fits (times (suc n) size) left) refl (fitti
     go false e h = h
 
 module _ (f : Resource → ℕ) (part : IsPart f) where
-  copies : (pass : PassNode) (turn : Turn) (size : Resource) (n seq : ℕ) → granted_weight f (map (grant_of pass turn size) (range_with_len seq n)) ≡ n * f size
+  copies : (pass : PassNode) (turn : Turn) (size : Resource) (n seq : ℕ) → granted_weight f (map (turn_grant pass turn size) (range_with_len seq n)) ≡ n * f size
   copies pass turn size zero seq = omega arith
   copies pass turn size (suc n) seq =
-      let a = sum_by-append f (size ∷ []) (map (λ (grant : Grant). grant.size) (map (grant_of pass turn size) (range_with_len (seq + 1) n))) in
+      let a = sum_by-append f (size ∷ []) (map (λ (grant : Grant). grant.size) (map (turn_grant pass turn size) (range_with_len (seq + 1) n))) in
       let e = copies pass turn size n (seq + 1) in
       let one : sum_by f (size ∷ []) ≡ f size = omega arith in
       grind (arith, a, e, one)
@@ -135,7 +135,7 @@ module _ (f : Resource → ℕ) (part : IsPart f) where
   ask_weight : (pass : PassNode) (turn : Turn) (grants : List Grant) (ask : Ask) → Fit pass grants → Fit pass (with_granted pass turn grants ask)
   ask_weight pass turn grants ask h =
       let n = fitting ask.count ask.size (left_of pass grants) in
-      let added = granted-append grants (map (grant_of pass turn ask.size) (range_with_len (seq_after turn grants) n)) in
+      let added = granted-append grants (map (turn_grant pass turn ask.size) (range_with_len (seq_after turn grants) n)) in
       let many = copies pass turn ask.size n (seq_after turn grants) in
       let fit = part.less (times n ask.size) (left_of pass grants) (fitting_fits ask.count ask.size (left_of pass grants)) in
       let m = part.multiple n ask.size in

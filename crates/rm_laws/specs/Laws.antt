@@ -32,9 +32,9 @@ use Rattle.rm_model.specs.State.{LifeState, Manager, Scene, scene}
 use Rattle.rm_model.specs.Facts.{has_app, has_container, is_remove_op}
 use Rattle.rm_model.specs.Attempts.{attempt_is_kept}
 use Rattle.rm_model.specs.Containers.{lives_on, rows_on}
-use Rattle.rm_model.specs.Nodes.{is_ready, node_of}
+use Rattle.rm_model.specs.Nodes.{is_ready, judged_node}
 use Rattle.rm_model.specs.NodeReplies.{is_new_to_node}
-use Rattle.rm_model.specs.Absorbing.{is_held}
+use Rattle.rm_types.specs.Containers.{is_held}
 use Rattle.rm_model.specs.Changes.{after}
 use Rattle.rm_model.specs.Lawful.{state_after}
 
@@ -120,16 +120,16 @@ ToldStays opening log =
     → HasReported (state_later opening p) id report
 
 -- of which application a reply tells that it has ended: a report with a final word, a kill's `ended`, a master's `finished`
-abbrev pub ended_in : Message → Reply → Option AppId
-ended_in (FromClient user (AskReport id)) (Tells report) = elim (is_final_word report.state) [ true ↦ Some id | false ↦ None ]
-ended_in (FromClient user (AskKill id)) AppEnded = Some id
-ended_in (FromMaster attempt (Finish text)) Finished = Some attempt.app
-ended_in _ _ = None
+abbrev pub application_ended : Message → Reply → Option AppId
+application_ended (FromClient user (AskReport id)) (Tells report) = elim (is_final_word report.state) [ true ↦ Some id | false ↦ None ]
+application_ended (FromClient user (AskKill id)) AppEnded = Some id
+application_ended (FromMaster attempt (Finish text)) Finished = Some attempt.app
+application_ended _ _ = None
 
 -- of which application an entry tells that it has ended
-abbrev pub ended_by : Entry → Option AppId
-ended_by (Served sender message reply) = ended_in message reply
-ended_by _ = None
+abbrev pub entry_ended : Entry → Option AppId
+entry_ended (Served sender message reply) = application_ended message reply
+entry_ended _ = None
 
 -- an entry reports this of an application, next after a passage
 abbrev pub ReportsNext : {log : List Entry} → Passage log → AppId → Report → Type 0
@@ -138,10 +138,10 @@ ReportsNext p id report = (next : Entry) × (more : List Entry) × (p.rest ≡ n
 -- Ends stay: after an application's end was told, each later report of it has a final word, and all of them have the same one
 -- and the same text; and where a report told it, they have that report's word and text; until its Remove is kept or lands.
 pub record EndsStay (opening : List Op) (log : List Entry) : Type 0 where
-  pub final : (p : Passage log) (id : AppId) (later : Report) → ended_by p.entry ≡ Some id → IsRemembered opening p id → ReportsNext p id later
+  pub final : (p : Passage log) (id : AppId) (later : Report) → entry_ended p.entry ≡ Some id → IsRemembered opening p id → ReportsNext p id later
       → is_final_word later.state ≡ true
   -- of two passages from the same entry
-  pub one : (p q : Passage log) (id : AppId) (first second : Report) → p.before ≡ q.before → ended_by p.entry ≡ Some id → IsRemembered opening p id → IsRemembered opening q id
+  pub one : (p q : Passage log) (id : AppId) (first second : Report) → p.before ≡ q.before → entry_ended p.entry ≡ Some id → IsRemembered opening p id → IsRemembered opening q id
       → ReportsNext p id first → ReportsNext q id second → (first.state ≡ second.state) × (first.text ≡ second.text)
   pub same : (p : Passage log) (id : AppId) (report later : Report) → told_by p.entry ≡ Some (id, report) → is_final_word report.state ≡ true
       → IsRemembered opening p id → ReportsNext p id later → (later.state ≡ report.state) × (later.text ≡ report.text)
@@ -173,7 +173,7 @@ pub record IdsDiffer (opening : List Op) (log : List Entry) : Type 0 where
 
 -- what a node offers in a life; nothing before it was absorbed
 abbrev pub offered : LifeState → List ℕ → Resource
-offered life name = unwrap_or (option_and_then (λ node. node.capability) (node_of life.nodes name)) (record { memory_mb = 0; vcores = 0 })
+offered life name = unwrap_or (option_and_then (λ node. node.capability) (judged_node life.nodes name)) (record { memory_mb = 0; vcores = 0 })
 
 -- what stands on a node fits what it offers
 abbrev pub FitsOn : LifeState → List ℕ → Type 0
@@ -203,9 +203,9 @@ abbrev pub stands_after : List ℕ → ContainerId → List Entry → Bool
 stands_after name id log = fold (stands_by name id) false log
 
 -- a container lives on a node, in the life that stands if one does
-abbrev pub lives_in : Option LifeState → List ℕ → ContainerId → Bool
-lives_in None name id = false
-lives_in (Some life) name id = lives_on life.book name id
+abbrev pub lives_on_node : Option LifeState → List ℕ → ContainerId → Bool
+lives_on_node None name id = false
+lives_on_node (Some life) name id = lives_on life.book name id
 
 -- each row is of another container, in the life that stands if one does
 abbrev pub RowsDiffer : Option LifeState → Type 0
@@ -216,7 +216,7 @@ RowsDiffer (Some life) = AllPairs (λ a b. a.id ≢ b.id) life.book
 -- has one row at most, so that it lives on one node and counts once.
 pub record BookIsOfLog (opening : List Op) (log : List Entry) : Type 0 where
   pub rows : (before rest : List Entry) (name : List ℕ) (id : ContainerId) → log ≡ before ++ rest
-      → lives_in (state_after opening before).life name id ≡ stands_after name id before
+      → lives_on_node (state_after opening before).life name id ≡ stands_after name id before
   pub once : InEachState (λ s. RowsDiffer s.life) opening log
 
 -- Store: in every state no operation is stray, of those that are kept and of those that await after them.
@@ -264,7 +264,7 @@ is_new_beat s (Some life) name id = is_new_to_node (scene s life) name id
 -- the node was absorbed in the life that stands, if one does, and is not lost or registered again since
 abbrev pub is_ready_in : Option LifeState → List ℕ → Bool
 is_ready_in None name = false
-is_ready_in (Some life) name = is_some_and (λ node. is_ready node.phase) (node_of life.nodes name)
+is_ready_in (Some life) name = is_some_and (λ node. is_ready node.phase) (judged_node life.nodes name)
 
 -- an answer to a node's new beat, and where it stands in a log
 pub record NewBeat (opening : List Op) (log : List Entry) : Type 0 where
@@ -291,7 +291,7 @@ state_past b = after (state_at b) (Served b.sender (FromNode b.name (AskBeat b.i
 
 -- none of these containers lives on a node
 abbrev pub NoneLives : Manager → List ℕ → List ContainerId → Type 0
-NoneLives s name list = All (λ id. lives_in s.life name id ≡ false) list
+NoneLives s name list = All (λ id. lives_on_node s.life name id ≡ false) list
 
 -- Cleans: no container that a node is to clean by the answer to a new beat lives on that node, in the state before and in that
 -- after; each other container that a ready node's new beat reports as running is to be cleaned; and a node that isn't ready is to
@@ -299,7 +299,7 @@ NoneLives s name list = All (λ id. lives_in s.life name id ≡ false) list
 pub record CleansStrangers (opening : List Op) (log : List Entry) : Type 0 where
   pub strangers : (b : NewBeat opening log) → NoneLives (state_at b) b.name b.clean × NoneLives (state_past b) b.name b.clean
   pub all : (b : NewBeat opening log) (id : ContainerId) → is_ready_in (state_at b).life b.name ≡ true → is_held b.running id ≡ true
-      → lives_in (state_at b).life b.name id ≡ false → has_container b.clean id ≡ true
+      → lives_on_node (state_at b).life b.name id ≡ false → has_container b.clean id ≡ true
   pub waits : (b : NewBeat opening log) → is_ready_in (state_at b).life b.name ≡ false → (b.clean ≡ []) × (b.launch ≡ [])
 
 -- an attempt is kept, or its application was retired in this life

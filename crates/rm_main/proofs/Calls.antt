@@ -8,7 +8,7 @@ use Rattle.rm_disk.specs.Disk.{DiskView}
 use Rattle.rm_disk.specs.MemDisk.{IsFresh}
 use Rattle.rm_disk.specs.declared.memory.MemDisk.{MemDisk}
 use Rattle.rm_outside.specs.Sinks.{SinkCounts}
-use Rattle.rm_main.specs.Calls.{CameBy, CountsFaults, IsNewDevice, RanInMemory, RanOver, RanOverAsked, is_over_file}
+use Rattle.rm_main.specs.Calls.{CameBy, OutcomeCountsFaults, IsNewDevice, RanInMemory, RanOver, RanOverAsked, is_over_file}
 
 -- the device that was handed on is the old one, and the new one is the device that came back
 pub ran_along : {D : Type 0} (view : D → DiskView) (words : List (List ℕ)) (outcome : Outcome) (old handed back new : D) → handed ≡ old → new ≡ back → RanOver view words handed back outcome → RanOver view words old new outcome
@@ -21,7 +21,7 @@ is_new size failing (Ok device) is none fresh = record { size = size; is = is; f
 is_new size failing (Err error) is none fresh = tt
 
 -- want of memory tells of no file and no output
-pub none_told : (outcome : Outcome) (reads : ℕ) (sink : SinkCounts) → outcome ≡ Memory → CountsFaults outcome reads sink
+pub none_told : (outcome : Outcome) (reads : ℕ) (sink : SinkCounts) → outcome ≡ Memory → OutcomeCountsFaults outcome reads sink
 none_told outcome reads sink starved = record { read_fault = λ is. absurd (cc); write_fault = λ is. absurd (cc); took_nothing = λ is. absurd (cc) }
 
 module _ {D : Type 0} (view : D → DiskView) (words : List (List ℕ)) where

@@ -7,7 +7,7 @@ use Rattle.rm_types.specs.declared.settings.Settings.{Settings}
 use Rattle.rm_types.specs.Counts.{Rose}
 use Rattle.rm_disk.specs.Disk.{DiskView}
 use Rattle.rm_store.specs.Content.{DeviceHolds}
-use Rattle.rm_outside.specs.Shelves.{bytes_read}
+use Rattle.rm_outside.specs.Shelves.{bytes_read, ShelfTells, WereRead}
 use Rattle.rm_cluster.specs.Clusters.{IsCluster, IsNoCluster}
 use Rattle.rm_cluster.specs.declared.clusters.ClusterError.TheVariants.{Refused}
 use Rattle.rm_cluster.specs.Rules.{first_broken}
@@ -19,14 +19,14 @@ use Rattle.rm_types.specs.declared.entries.Entry.{Entry}
 use Rattle.rm_core.specs.Words.{new_manager}
 use Rattle.rm_desk.specs.View.{DeskView}
 use Rattle.rm_plain.specs.declared.schedule.Step.{Step}
-use Rattle.rm_plain.specs.Keeping.{IsFull}
+use Rattle.rm_plain.specs.Keeping.{IsFullFor}
 use Rattle.rm_plain.specs.Policy.{run_after}
-use Rattle.rm_plain.specs.Schedule.{StopsAt, left_after, steps_from, steps_of}
+use Rattle.rm_plain.specs.Schedule.{StopsAt, letters_left, steps_from, steps_of}
 use Rattle.rm_plain.specs.Stops.{IsNoStore, IsTold}
 use Rattle.rm_plain.proofs.Choosing.{left_none}
-use Rattle.rm_main.specs.Complete.{AreAccepted, IsAccepted, IsFollowed, HasPlace, NoneRose}
+use Rattle.rm_main.specs.Complete.{AreAccepted, IsAccepted, ScheduleIsFollowed, HasPlace, NoneRose}
 use Rattle.rm_main.specs.Made.{Made}
-use Rattle.rm_main.specs.Runs.{Ends, HasNoScript, HasNoSettings, Ran, Told, WereRead}
+use Rattle.rm_main.specs.Runs.{CallEnds, HasNoScript, HasNoSettings, Ran}
 use Rattle.rm_words.specs.Words.{Asked, Run, Soak, Listing, Mover, OneThread, Workers}
 
 -- what was read of a file whose bytes are told
@@ -51,12 +51,12 @@ no_steps : steps_of [] ≡ []
 unfolding steps_from
 no_steps = refl
 
-no_letters : (schedule : List ℕ) (log : List Entry) (d : DeskView) (at : ℕ) → schedule ≡ [] → StopsAt (left_after (steps_of schedule) log) d at → ⊥
+no_letters : (schedule : List ℕ) (log : List Entry) (d : DeskView) (at : ℕ) → schedule ≡ [] → StopsAt (letters_left (steps_of schedule) log) d at → ⊥
 no_letters schedule log d at none stops =
     let steps : steps_of schedule ≡ [] = ap steps_of none ∙ no_steps in
-    subst (λ (l : List Step). StopsAt l d at) (ap (λ (all : List Step). left_after all log) steps ∙ left_none log) stops
+    subst (λ (l : List Step). StopsAt l d at) (ap (λ (all : List Step). letters_left all log) steps ∙ left_none log) stops
 
-module _ {D : Type 0} (view : D → DiskView) (told : Told) (made : Made D) (place : HasPlace view made) where
+module _ {D : Type 0} (view : D → DiskView) (told : ShelfTells) (made : Made D) (place : HasPlace view made) where
   no_bad_cluster : (cluster script : List ℕ) → AreAccepted told cluster script → (at : ℕ) → HasNoSettings (told cluster) at → ⊥
   no_bad_cluster cluster script accepted at none =
       let read = read_is (told cluster) none.bytes accepted.cluster_bytes accepted.cluster_told none.read in
@@ -78,7 +78,7 @@ module _ {D : Type 0} (view : D → DiskView) (told : Told) (made : Made D) (pla
 
     no_full : (needed room : ℕ) → Ran view told asked made (StoreFull needed room) → ⊥
     no_full needed room ran =
-        let full : IsFull (IsTold (view made.before.inner) × IsBelowLast (view made.after.inner)) made.opening made.log (view made.after.inner).size needed room = ran.ran.caused in
+        let full : IsFullFor (IsTold (view made.before.inner) × IsBelowLast (view made.after.inner)) made.opening made.log (view made.after.inner).size needed room = ran.ran.caused in
         let behind = ran.ran.caused.behind ((place.bytes, place.told), place.below_last) in
         let enough = place.room ran.ran.caused.op ran.ran.caused.handed.first in
         let less = ran.ran.caused.less in
@@ -89,7 +89,7 @@ module _ {D : Type 0} (view : D → DiskView) (told : Told) (made : Made D) (pla
     no_spent ran = place.some_left ran.ran.caused.1.1
 
   -- no letter stops a run
-  no_letter : (asked : Option Asked) → IsFollowed told asked made → (at : ℕ) → Ran view told asked made (ScheduleRefused at) → ⊥
+  no_letter : (asked : Option Asked) → ScheduleIsFollowed told asked made → (at : ℕ) → Ran view told asked made (ScheduleRefused at) → ⊥
   no_letter None followed at ran = absurd ran.inputs
   no_letter (Some Listing) followed at ran = absurd ran.inputs
   no_letter (Some (Soak number)) followed at ran = no_letters ran.schedule made.log (run_after (new_manager ran.alloc ran.settings) ran.script made.opening made.log) at ran.inputs.2 ran.ran.caused.0
@@ -104,8 +104,8 @@ module _ {D : Type 0} (view : D → DiskView) (told : Told) (made : Made D) (pla
   files_of : (asked : Option Asked) (cluster script : List ℕ) (schedule : Option (List ℕ)) (mover : Mover) → IsAccepted told asked → asked ≡ Some (Run cluster script schedule mover) → AreAccepted told cluster script
   files_of asked cluster script schedule mover accepted is = subst (IsAccepted told) is accepted
 
-  module _ (asked : Option Asked) (accepted : IsAccepted told asked) (followed : IsFollowed told asked made) (read_old read_new write_old write_new idle_old idle_new : ℕ) (none : NoneRose read_old read_new write_old write_new idle_old idle_new) where
-    pub complete : (outcome : Outcome) → Ends view told asked made outcome → (outcome ≡ ReadFault → Rose read_old read_new) → (outcome ≡ WriteFault false → Rose write_old write_new)
+  module _ (asked : Option Asked) (accepted : IsAccepted told asked) (followed : ScheduleIsFollowed told asked made) (read_old read_new write_old write_new idle_old idle_new : ℕ) (none : NoneRose read_old read_new write_old write_new idle_old idle_new) where
+    pub complete : (outcome : Outcome) → CallEnds view told asked made outcome → (outcome ≡ ReadFault → Rose read_old read_new) → (outcome ≡ WriteFault false → Rose write_old write_new)
         → (outcome ≡ WriteFault true → Rose idle_old idle_new) → (outcome ≡ Done) ⊎ (outcome ≡ Memory)
     complete Done ends read write idle = inl refl
     complete Memory ends read write idle = inr refl

@@ -4,11 +4,12 @@ use Rattle.rm_types.specs.declared.outcomes.Outcome.{Outcome}
 use Rattle.rm_types.specs.declared.outcomes.Outcome.TheVariants.{Done, Usage, ReadFault, WriteFault, ClusterRefused, ScriptRefused, ScheduleRefused, DiskFault, StoreDamaged, StoreFull, EpochsSpent, Memory}
 use Rattle.rm_types.specs.declared.scripts.Script.{Script}
 use Rattle.rm_main.specs.Inputs.{IsOneMore, IsUnread, StopsAtCluster, StopsAtScript}
-use Rattle.rm_main.specs.Runs.{IsScriptOf, ReadsAll, ReadsBy, ReadsFor, ReadsScript, Told}
+use Rattle.rm_main.specs.Runs.{IsScriptOf, ReadsAllFiles, ReadsBy, ReadsFor, ReadsScript}
+use Rattle.rm_outside.specs.Shelves.{ShelfTells}
 use Rattle.rm_main.specs.Ways.{IsOfRun}
 use Rattle.rm_words.specs.Words.{Asked, Listing, Run, Soak}
 
-module _ {F : Type 0} (reads : List ℕ → F → F → Type 0) (told : Told) (cluster script : List ℕ) (schedule : Option (List ℕ)) (old new : F) where
+module _ {F : Type 0} (reads : List ℕ → F → F → Type 0) (told : ShelfTells) (cluster script : List ℕ) (schedule : Option (List ℕ)) (old new : F) where
   -- a run that stopped at its cluster file read that alone
   pub at_cluster : (bytes : Option (List ℕ)) (outcome : Outcome) → StopsAtCluster bytes outcome → reads cluster old new → ReadsBy reads told cluster script schedule outcome old new
   at_cluster bytes ReadFault stops read = inl read
@@ -40,7 +41,7 @@ module _ {F : Type 0} (reads : List ℕ → F → F → Type 0) (told : Told) (c
   at_script bytes EpochsSpent stops read = absurd stops
 
   -- one that stopped at its schedule read all
-  pub at_schedule : (outcome : Outcome) → IsUnread outcome → ReadsAll reads told cluster script schedule old new → ReadsBy reads told cluster script schedule outcome old new
+  pub at_schedule : (outcome : Outcome) → IsUnread outcome → ReadsAllFiles reads told cluster script schedule old new → ReadsBy reads told cluster script schedule outcome old new
   at_schedule ReadFault unread read = inr (inr read)
   at_schedule Memory unread read = inr (inr (inr read))
   at_schedule Done unread read = absurd unread
@@ -55,7 +56,7 @@ module _ {F : Type 0} (reads : List ℕ → F → F → Type 0) (told : Told) (c
   at_schedule EpochsSpent unread read = absurd unread
 
   -- one that was made read all
-  pub of_run : (outcome : Outcome) → IsOfRun outcome → ReadsAll reads told cluster script schedule old new → ReadsBy reads told cluster script schedule outcome old new
+  pub of_run : (outcome : Outcome) → IsOfRun outcome → ReadsAllFiles reads told cluster script schedule old new → ReadsBy reads told cluster script schedule outcome old new
   of_run Done of read = read
   of_run (WriteFault took_nothing) of read = read
   of_run (ScheduleRefused place) of read = read

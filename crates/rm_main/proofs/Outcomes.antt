@@ -15,7 +15,8 @@ use Rattle.rm_plain.specs.Starts.{IsUnopenedBy}
 use Rattle.rm_plain.specs.Stops.{IsStoppedBy}
 use Rattle.rm_store.specs.Store.{seen}
 use Rattle.rm_main.specs.Made.{Made}
-use Rattle.rm_main.specs.Runs.{Ends, IsCausedBy, IsListed, IsWritten, Ran, Told, Writes, WritesPage}
+use Rattle.rm_main.specs.Runs.{CallEnds, IsCausedBy, IsListed, IsWritten, Ran, Writes, WritesPage}
+use Rattle.rm_outside.specs.Shelves.{ShelfTells}
 use Rattle.rm_main.specs.Ways.{IsOfRun, IsOfWriting, outcome_of}
 use Rattle.rm_words.specs.Words.{Asked}
 
@@ -198,7 +199,7 @@ listed_held view disk ops (Ok done) empty holds = inr (holds refl)
 listed_held view disk ops (Err stop) empty holds = inl empty
 
 -- how a run that was made ends
-pub run_ends : {D : Type 0} (view : D → DiskView) (told : Told) (asked : Option Asked) (made : Made D) (outcome : Outcome) → IsOfRun outcome → Ran view told asked made outcome → Ends view told asked made outcome
+pub run_ends : {D : Type 0} (view : D → DiskView) (told : ShelfTells) (asked : Option Asked) (made : Made D) (outcome : Outcome) → IsOfRun outcome → Ran view told asked made outcome → CallEnds view told asked made outcome
 run_ends view told asked made Done h ran = inl ran
 run_ends view told asked made Usage h ran = absurd h
 run_ends view told asked made ReadFault h ran = absurd h

@@ -10,14 +10,14 @@ use Rattle.rm_types.proofs.TestLemmas.{and_first}
 use Rattle.rm_queues.specs.Rules.{KeepsRules}
 use Rattle.rm_invariant.specs.messages.Ranges.{KeepsLimits}
 use Rattle.rm_cluster.specs.Queues.{all_follow, is_tree}
-use Rattle.rm_cluster.specs.Ranges.{IsInRange}
+use Rattle.rm_cluster.specs.Ranges.{SettingsInRange}
 
 first_is : (queues : List QueueSpec) → is_tree queues ≡ true → option_map (λ queue. queue.name) (slice_get queues 0) ≡ Some root_name
 first_is [] h = cc
 first_is (first ∷ more) h = let same = and_first (bytes_eq first.name root_name) (all_follow (first ∷ []) more) h in let named : first.name ≡ root_name = (bytes_eq-Decides first.name root_name).0 same in ap (λ name. Some name) named
 
-pub rooted : (settings : Settings) → IsInRange settings → KeepsRules settings
+pub rooted : (settings : Settings) → SettingsInRange settings → KeepsRules settings
 rooted settings within = record { first_is_root = first_is settings.queues within.queues.tree }
 
-pub limited : (settings : Settings) → IsInRange settings → KeepsLimits settings
+pub limited : (settings : Settings) → SettingsInRange settings → KeepsLimits settings
 limited settings within = within.max_attempts

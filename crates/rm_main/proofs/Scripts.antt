@@ -24,15 +24,16 @@ use Rattle.rm_types.specs.declared.scripts.Script.{Script}
 use Rattle.rm_types.specs.declared.operations.Submission.{Submission}
 use Rattle.rm_types.specs.declared.texts.TextKind.TheVariants.{Name}
 use Rattle.rm_types.specs.Ranges.{IsText, IsSubmission as IsFramedSubmission}
-use Rattle.rm_invariant.specs.messages.Ranges.{IsAsk, IsClientAsk, IsClockAsk, IsHeld, IsList, IsMasterAsk, IsMessage, IsNodeAsk, IsSize}
-use Rattle.rm_script.specs.Messages.{IsAsk as IsReadAsk, IsClientAsk as IsReadClientAsk, IsClockAsk as IsReadClockAsk, IsHeld as IsReadHeld, IsList as IsReadList, IsMasterAsk as IsReadMasterAsk, IsNodeAsk as IsReadNodeAsk, IsSize as IsReadSize, IsSubmission}
-use Rattle.rm_script.specs.Scripts.{IsScript, IsRead, EachButLast}
-use Rattle.rm_script.specs.Values.{Settles, EndInCrash, IsToldLife, IsToldScript}
+use Rattle.rm_invariant.specs.messages.Ranges.{IsClientAsk, IsClockAsk, IsMasterAsk, IsMessage, IsNodeAsk}
+use Rattle.rm_types.specs.Messages.{IsSize, IsSize as IsReadSize, IsList, IsList as IsReadList, IsHeld, IsHeld as IsReadHeld, IsAsk, IsAsk as IsReadAsk}
+use Rattle.rm_script.specs.Messages.{IsScriptClientAsk as IsReadClientAsk, IsScriptClockAsk as IsReadClockAsk, IsScriptMasterAsk as IsReadMasterAsk, IsScriptNodeAsk as IsReadNodeAsk, IsScriptSubmission}
+use Rattle.rm_script.specs.Scripts.{IsScript, IsReadMessage, EachButLast}
+use Rattle.rm_script.specs.Values.{ClosesSettled, EndInCrash, IsToldLife, IsToldScript}
 use Rattle.rm_script.proofs.Values.{told_values}
 use Rattle.rm_desk.specs.Scripts.{AllServed, Closes, CanFollow, CanGoAlong, EndsInCrash, CanLive, AllLive}
 
 -- what is submitted can be kept
-framed : (user : List ℕ) (submission : Submission) → IsText Name user → IsSubmission user submission → IsFramedSubmission submission
+framed : (user : List ℕ) (submission : Submission) → IsText Name user → IsScriptSubmission user submission → IsFramedSubmission submission
 framed user submission name h =
     record {
       user = subst (IsText Name) (sym h.by_user) name;
@@ -84,38 +85,38 @@ clock_served (clocks.Tick time) is = is.1
 clock_served (clocks.ExpireNode node) is = tt
 clock_served (clocks.ExpireMaster attempt) is = tt
 
-message_served : (message : Message) → IsRead message → IsMessage message
+message_served : (message : Message) → IsReadMessage message → IsMessage message
 message_served (messages.Client user ask) h = client_served user ask h.0 h.1
 message_served (messages.Master attempt ask) h = master_served ask h.1
 message_served (messages.Node node ask) h = (h.0, node_served ask h.1)
 message_served (messages.Clock ask) h = clock_served ask h
 
-all_served : (messages : List Message) → AllByRecursion IsRead messages → AllServed messages
+all_served : (messages : List Message) → AllByRecursion IsReadMessage messages → AllServed messages
 all_served [] h = tt
 all_served (message ∷ more) h = (message_served message h.0, all_served more h.1)
 
 abbrev AreRead : Segment → Type 0
-AreRead segment = All IsRead segment.messages
+AreRead segment = All IsReadMessage segment.messages
 
 closes : (more : List Segment) (close : Close) → close ≡ Settle → Closes close more
 closes more Settle h = tt
 closes more (Crash calls image) h = absurd (cc)
 
 -- segments that settle, with such a one before those that can follow
-settling_follows : (segment : Segment) (more : List Segment) → AreRead segment → Settles segment → CanFollow more → CanFollow (segment ∷ more)
+settling_follows : (segment : Segment) (more : List Segment) → AreRead segment → ClosesSettled segment → CanFollow more → CanFollow (segment ∷ more)
 settling_follows segment more read settles follows =
-    (all_served segment.messages (recursion_from_All IsRead segment.messages read), closes more segment.close settles, follows)
+    (all_served segment.messages (recursion_from_All IsReadMessage segment.messages read), closes more segment.close settles, follows)
 
-settled_follow : (segments : List Segment) → AllByRecursion AreRead segments → AllByRecursion Settles segments → CanFollow segments
+settled_follow : (segments : List Segment) → AllByRecursion AreRead segments → AllByRecursion ClosesSettled segments → CanFollow segments
 settled_follow [] read settle = tt
 settled_follow (segment ∷ more) read settle = settling_follows segment more read.0 settle.0 (settled_follow more read.1 settle.1)
 
 abbrev crash_of : List Message → ℕ → ℕ → Segment
 crash_of messages calls image = record { messages = messages; close = Crash calls image }
 
-crashed_follow : (before : List Segment) (messages : List Message) (calls image : ℕ) → AllByRecursion AreRead (before ++ crash_of messages calls image ∷ []) → AllByRecursion Settles before
+crashed_follow : (before : List Segment) (messages : List Message) (calls image : ℕ) → AllByRecursion AreRead (before ++ crash_of messages calls image ∷ []) → AllByRecursion ClosesSettled before
     → CanFollow (before ++ crash_of messages calls image ∷ [])
-crashed_follow [] messages calls image read settle = (all_served messages (recursion_from_All IsRead messages read.0), refl, tt)
+crashed_follow [] messages calls image read settle = (all_served messages (recursion_from_All IsReadMessage messages read.0), refl, tt)
 crashed_follow (segment ∷ before) messages calls image read settle =
     settling_follows segment (before ++ crash_of messages calls image ∷ []) read.0 settle.0 (crashed_follow before messages calls image read.1 settle.1)
 
@@ -127,13 +128,13 @@ last_crashes (segment ∷ next ∷ before) messages calls image = last_crashes (
 ends : (segments : List Segment) → EndInCrash segments → EndsInCrash segments
 ends segments h = subst EndsInCrash (sym h.apart) (last_crashes h.before h.messages h.calls h.image)
 
-follow : (segments : List Segment) → AllByRecursion AreRead segments → All Settles segments ⊎ EndInCrash segments → CanFollow segments
+follow : (segments : List Segment) → AllByRecursion AreRead segments → All ClosesSettled segments ⊎ EndInCrash segments → CanFollow segments
 follow segments read h =
     elim h [
-      | inl settle ↦ settled_follow segments read (recursion_from_All Settles segments settle)
+      | inl settle ↦ settled_follow segments read (recursion_from_All ClosesSettled segments settle)
       | inr crash ↦
           subst CanFollow (sym crash.apart)
-          (crashed_follow crash.before crash.messages crash.calls crash.image (subst (AllByRecursion AreRead) crash.apart read) (recursion_from_All Settles crash.before crash.settle))
+          (crashed_follow crash.before crash.messages crash.calls crash.image (subst (AllByRecursion AreRead) crash.apart read) (recursion_from_All ClosesSettled crash.before crash.settle))
     ]
 
 can_live : (life : Life) → IsToldLife life → CanLive life

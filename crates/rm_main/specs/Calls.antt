@@ -11,12 +11,13 @@ use Rattle.rm_disk.specs.Fuse.{Fused}
 use Rattle.rm_disk.specs.MemDisk.{IsFresh, memory_view}
 use Rattle.rm_disk.specs.declared.memory.MemDisk.{MemDisk}
 use Rattle.rm_main.specs.Made.{LeavesDevice, Made}
-use Rattle.rm_main.specs.Runs.{Ends, StopsBefore, Told}
+use Rattle.rm_main.specs.Runs.{CallEnds, StopsBefore}
+use Rattle.rm_outside.specs.Shelves.{ShelfTells}
 use Rattle.rm_main.specs.Statuses.{status_of}
 use Rattle.rm_words.specs.Words.{Asked, is_in_file, mode_of}
 
 -- the system's files tell no bytes
-abbrev pub untold : Told
+abbrev pub untold : ShelfTells
 untold = λ name. None
 
 -- a device under a new fuse
@@ -28,12 +29,12 @@ pub record RanOver {D : Type 0} (view : D → DiskView) (words : List (List ℕ)
   pub made : Made D
   pub over : made.before ≡ under_new_fuse old
   pub given_back : made.after.inner ≡ new
-  pub ends : Ends view untold (mode_of words) made outcome
+  pub ends : CallEnds view untold (mode_of words) made outcome
   pub unused : StopsBefore outcome → made.after ≡ made.before
   pub device : LeavesDevice view made
 
 -- what the outcome of a call tells of its files and of its output was counted there: a file that could not be read, a write that was refused, or one of which nothing was taken
-pub record CountsFaults (outcome : Outcome) (reads : ℕ) (sink : SinkCounts) : Type 0 where
+pub record OutcomeCountsFaults (outcome : Outcome) (reads : ℕ) (sink : SinkCounts) : Type 0 where
   pub read_fault : outcome ≡ ReadFault → Rose 0 reads
   pub write_fault : outcome ≡ WriteFault false → Rose 0 sink.faults
   pub took_nothing : outcome ≡ WriteFault true → Rose 0 sink.idle

@@ -8,21 +8,21 @@ use Rattle.rm_types.specs.Counts.{Rose}
 use Rattle.rm_disk.specs.Disk.{DiskView}
 use Rattle.rm_store.specs.Content.{DeviceHolds}
 use Rattle.rm_model.specs.Lawful.{state_after}
-use Rattle.rm_outside.specs.Shelves.{bytes_read}
+use Rattle.rm_outside.specs.Shelves.{bytes_read, ShelfTells, WereRead}
 use Rattle.rm_cluster.specs.Clusters.{IsCluster}
 use Rattle.rm_script.specs.Scripts.{IsScript}
 use Rattle.rm_store.specs.Kept.{needed_for}
 use Rattle.rm_store.specs.Store.{IsBelowLast, room_behind}
 use Rattle.rm_core.specs.Words.{new_manager}
 use Rattle.rm_plain.specs.Policy.{run_after}
-use Rattle.rm_plain.specs.Schedule.{StopsAt, left_after, steps_of}
+use Rattle.rm_plain.specs.Schedule.{StopsAt, letters_left, steps_of}
 use Rattle.rm_plain.specs.Stops.{NoneLeft}
 use Rattle.rm_main.specs.Made.{Made}
-use Rattle.rm_main.specs.Runs.{AreSettings, IsScriptOf, Told, WereRead}
+use Rattle.rm_main.specs.Runs.{AreSettings, IsScriptOf}
 use Rattle.rm_words.specs.Words.{Asked, Run, Soak, OneThread}
 
 -- a shelf tells of two files that they hold settings and a script
-pub record AreAccepted (told : Told) (cluster_file script_file : List ℕ) : Type 0 where
+pub record AreAccepted (told : ShelfTells) (cluster_file script_file : List ℕ) : Type 0 where
   pub cluster_bytes : List ℕ
   pub cluster_told : told cluster_file ≡ Some cluster_bytes
   pub settings : Settings
@@ -33,7 +33,7 @@ pub record AreAccepted (told : Told) (cluster_file script_file : List ℕ) : Typ
   pub of_script : IsScript (bytes_read script_bytes) script
 
 -- the words ask for a run, and the files that they name hold settings and a script; or for a soak
-abbrev pub IsAccepted : Told → Option Asked → Type 0
+abbrev pub IsAccepted : ShelfTells → Option Asked → Type 0
 IsAccepted told (Some (Run cluster_file script_file schedule_file mover)) = AreAccepted told cluster_file script_file
 IsAccepted told (Some (Soak number)) = Unit {0}
 IsAccepted told _ = ⊥
@@ -52,11 +52,11 @@ pub record HasPlace {D : Type 0} (view : D → DiskView) (made : Made D) : Type 
   pub faultless : Rose (view made.before.inner).faults (view made.after.inner).faults → ⊥
 
 -- Where moves are told by a schedule, each of its letters that is reached is known and its lane ready: none stops the run.
-abbrev pub IsFollowed : {D : Type 0} → Told → Option Asked → Made D → Type 0
-IsFollowed told (Some (Run cluster_file script_file (Some schedule_file) OneThread)) made =
+abbrev pub ScheduleIsFollowed : {D : Type 0} → ShelfTells → Option Asked → Made D → Type 0
+ScheduleIsFollowed told (Some (Run cluster_file script_file (Some schedule_file) OneThread)) made =
     (alloc : Global) (settings : Settings) (script : Script) (schedule : List ℕ) (place : ℕ) → AreSettings (told cluster_file) settings → IsScriptOf (told script_file) script
-    → WereRead (told schedule_file) schedule → StopsAt (left_after (steps_of schedule) made.log) (run_after (new_manager alloc settings) script made.opening made.log) place → ⊥
-IsFollowed told _ made = Unit {0}
+    → WereRead (told schedule_file) schedule → StopsAt (letters_left (steps_of schedule) made.log) (run_after (new_manager alloc settings) script made.opening made.log) place → ⊥
+ScheduleIsFollowed told _ made = Unit {0}
 
 -- each count of the shelf and the sink stays below its end and does not rise
 pub record NoneRose (read_old read_new write_old write_new idle_old idle_new : ℕ) : Type 0 where

@@ -5,7 +5,8 @@ use Rattle.rm_types.specs.declared.outcomes.Outcome.{Outcome}
 use Rattle.rm_types.specs.declared.outcomes.Outcome.TheVariants.{ReadFault, ClusterRefused, ScriptRefused, Memory}
 use Rattle.rm_types.specs.declared.settings.Settings.{Settings}
 use Rattle.rm_main.specs.declared.inputs.Files.{Files}
-use Rattle.rm_main.specs.Runs.{Told, AreSettings, HasNoSettings, HasNoScript}
+use Rattle.rm_main.specs.Runs.{AreSettings, HasNoSettings, HasNoScript}
+use Rattle.rm_outside.specs.Shelves.{ShelfTells}
 use Rattle.rm_words.specs.Words.{Asked, Mover, Run}
 
 -- the cluster file couldn't be read, or breaks a rule, the first of them at the place
@@ -39,7 +40,7 @@ asked_of mover files = Run files.cluster.now files.script.now (option_copied fil
 
 -- one of the inputs stops the program: a file couldn't be read, the cluster file breaks a rule, or it holds settings and
 -- the script's file no script
-abbrev pub StopsEarly : Told → List ℕ → List ℕ → Outcome → Type 0
+abbrev pub StopsEarly : ShelfTells → List ℕ → List ℕ → Outcome → Type 0
 StopsEarly told cluster script ReadFault = Unit {0}
 StopsEarly told cluster script (ClusterRefused place) = HasNoSettings (told cluster) place
 StopsEarly told cluster script (ScriptRefused line) = (settings : Settings) × AreSettings (told cluster) settings × HasNoScript (told script) line

@@ -15,7 +15,7 @@ use Rattle.rm_model.specs.Downs.{AllGoDownAtRest}
 use Rattle.rm_model.specs.Lawful.{Lawful, IsDone}
 use Rattle.rm_formats.specs.Page.{page, store_page}
 use Rattle.rm_model.specs.State.{opening_state}
-use Rattle.rm_outside.specs.Shelves.{bytes_read}
+use Rattle.rm_outside.specs.Shelves.{bytes_read, ShelfTells, WereRead}
 use Rattle.rm_outside.specs.Writes.{AppendsPart}
 use Rattle.rm_cluster.specs.Clusters.{IsCluster, IsNoCluster}
 use Rattle.rm_cluster.specs.declared.clusters.ClusterError.TheVariants.{Refused}
@@ -36,14 +36,6 @@ use Rattle.rm_main.specs.Laws.{MeetsLaws}
 use Rattle.rm_main.specs.Made.{Made}
 use Rattle.rm_words.specs.Words.{Asked, Run, Listing, Soak, Mover, OneThread, Workers}
 
--- what a shelf tells of each name
-abbrev pub Told : Type 0
-Told = List ℕ → Option (List ℕ)
-
--- these bytes were read of a file: where the shelf tells the file's bytes, they are what a read gives of them
-abbrev pub WereRead : Option (List ℕ) → List ℕ → Type 0
-WereRead told bytes = IfSome told (λ all. bytes ≡ bytes_read all)
-
 -- the settings are those of the bytes that were read of a file
 pub record AreSettings (told : Option (List ℕ)) (settings : Settings) : Type 0 where
   pub bytes : List ℕ
@@ -57,7 +49,7 @@ pub record IsScriptOf (told : Option (List ℕ)) (script : Script) : Type 0 wher
   pub spelled : IsScript bytes script
 
 -- the bytes are those that were read of a schedule; without one there are none
-abbrev pub AreMoves : Told → Option (List ℕ) → List ℕ → Type 0
+abbrev pub AreMoves : ShelfTells → Option (List ℕ) → List ℕ → Type 0
 AreMoves told None bytes = bytes ≡ []
 AreMoves told (Some schedule) bytes = WereRead (told schedule) bytes
 
@@ -91,7 +83,7 @@ IsListed view made Done = IfTold (seen view made.before) (λ bytes. HasContent b
 IsListed view made _ = Unit {0}
 
 -- what a run is made from: the settings, the script and the schedule that the named files hold, or those of a soak, which has no schedule
-abbrev pub AreInputs : Told → Option Asked → Settings → Script → List ℕ → Type 0
+abbrev pub AreInputs : ShelfTells → Option Asked → Settings → Script → List ℕ → Type 0
 AreInputs told (Some (Run cluster_file script_file schedule_file mover)) settings script schedule =
     AreSettings (told cluster_file) settings × IsScriptOf (told script_file) script × AreMoves told schedule_file schedule
 AreInputs told (Some (Soak number)) settings script schedule = (settings ≡ soak_settings) × (script ≡ soak_of number) × (schedule ≡ [])
@@ -122,7 +114,7 @@ pub record RanBy {D : Type 0} (view : D → DiskView) (order : Order) (alloc : G
   pub idle : script.lives ≡ [] → (made.log ≡ []) × (made.after ≡ made.before)
 
 -- a run was made from what was asked for, in the order that was asked for
-pub record Ran {D : Type 0} (view : D → DiskView) (told : Told) (asked : Option Asked) (made : Made D) (outcome : Outcome) : Type 0 where
+pub record Ran {D : Type 0} (view : D → DiskView) (told : ShelfTells) (asked : Option Asked) (made : Made D) (outcome : Outcome) : Type 0 where
   pub settings : Settings
   pub script : Script
   pub schedule : List ℕ
@@ -151,7 +143,7 @@ pub record WasToList {D : Type 0} (view : D → DiskView) (asked : Option Asked)
   pub listed : IsListed view made outcome
 
 -- the cluster file was refused at the place
-pub record RefusedCluster {D : Type 0} (told : Told) (asked : Option Asked) (made : Made D) (place : ℕ) : Type 0 where
+pub record RefusedCluster {D : Type 0} (told : ShelfTells) (asked : Option Asked) (made : Made D) (place : ℕ) : Type 0 where
   pub cluster_file : List ℕ
   pub script_file : List ℕ
   pub schedule_file : Option (List ℕ)
@@ -161,7 +153,7 @@ pub record RefusedCluster {D : Type 0} (told : Told) (asked : Option Asked) (mad
   pub nothing : RanNothing made
 
 -- the script was refused at the line: the cluster file holds settings, and the script's file no script
-pub record RefusedScript {D : Type 0} (told : Told) (asked : Option Asked) (made : Made D) (line : ℕ) : Type 0 where
+pub record RefusedScript {D : Type 0} (told : ShelfTells) (asked : Option Asked) (made : Made D) (line : ℕ) : Type 0 where
   pub cluster_file : List ℕ
   pub script_file : List ℕ
   pub schedule_file : Option (List ℕ)
@@ -173,22 +165,22 @@ pub record RefusedScript {D : Type 0} (told : Told) (asked : Option Asked) (made
   pub nothing : RanNothing made
 
 -- how a call ends, by its outcome; no other outcome comes
-abbrev pub Ends : {D : Type 0} → (D → DiskView) → Told → Option Asked → Made D → Outcome → Type 0
-Ends view told asked made Done = Ran view told asked made Done ⊎ WasToList view asked made Done
-Ends view told asked made Usage = (asked ≡ None) × RanNothing made
-Ends view told asked made ReadFault = WasToRun asked made
-Ends view told asked made (WriteFault took_nothing) = Ran view told asked made (WriteFault took_nothing) ⊎ WasToList view asked made (WriteFault took_nothing)
-Ends view told asked made (ClusterRefused place) = RefusedCluster told asked made place
-Ends view told asked made (ScriptRefused line) = RefusedScript told asked made line
-Ends view told asked made (ScheduleRefused place) = Ran view told asked made (ScheduleRefused place)
-Ends view told asked made DiskFault = Ran view told asked made DiskFault ⊎ WasToList view asked made DiskFault
-Ends view told asked made (StoreDamaged offset) = Ran view told asked made (StoreDamaged offset) ⊎ WasToList view asked made (StoreDamaged offset)
-Ends view told asked made (StoreFull needed room) = Ran view told asked made (StoreFull needed room)
-Ends view told asked made EpochsSpent = Ran view told asked made EpochsSpent
-Ends view told asked made Memory = Ran view told asked made Memory ⊎ RanNothing made
+abbrev pub CallEnds : {D : Type 0} → (D → DiskView) → ShelfTells → Option Asked → Made D → Outcome → Type 0
+CallEnds view told asked made Done = Ran view told asked made Done ⊎ WasToList view asked made Done
+CallEnds view told asked made Usage = (asked ≡ None) × RanNothing made
+CallEnds view told asked made ReadFault = WasToRun asked made
+CallEnds view told asked made (WriteFault took_nothing) = Ran view told asked made (WriteFault took_nothing) ⊎ WasToList view asked made (WriteFault took_nothing)
+CallEnds view told asked made (ClusterRefused place) = RefusedCluster told asked made place
+CallEnds view told asked made (ScriptRefused line) = RefusedScript told asked made line
+CallEnds view told asked made (ScheduleRefused place) = Ran view told asked made (ScheduleRefused place)
+CallEnds view told asked made DiskFault = Ran view told asked made DiskFault ⊎ WasToList view asked made DiskFault
+CallEnds view told asked made (StoreDamaged offset) = Ran view told asked made (StoreDamaged offset) ⊎ WasToList view asked made (StoreDamaged offset)
+CallEnds view told asked made (StoreFull needed room) = Ran view told asked made (StoreFull needed room)
+CallEnds view told asked made EpochsSpent = Ran view told asked made EpochsSpent
+CallEnds view told asked made Memory = Ran view told asked made Memory ⊎ RanNothing made
 
 -- the cluster file was read, which holds settings, and then the script's file
-pub record ReadsScript {F : Type 0} (reads : List ℕ → F → F → Type 0) (told : Told) (cluster script : List ℕ) (old new : F) : Type 0 where
+pub record ReadsScript {F : Type 0} (reads : List ℕ → F → F → Type 0) (told : ShelfTells) (cluster script : List ℕ) (old new : F) : Type 0 where
   pub settings : Settings
   pub of_cluster : AreSettings (told cluster) settings
   pub mid : F
@@ -196,7 +188,7 @@ pub record ReadsScript {F : Type 0} (reads : List ℕ → F → F → Type 0) (t
   pub second : reads script mid new
 
 -- these two were read, the script's file holds a script, and then the file of the schedule was read
-pub record ReadsSchedule {F : Type 0} (reads : List ℕ → F → F → Type 0) (told : Told) (cluster script schedule : List ℕ) (old new : F) : Type 0 where
+pub record ReadsSchedule {F : Type 0} (reads : List ℕ → F → F → Type 0) (told : ShelfTells) (cluster script schedule : List ℕ) (old new : F) : Type 0 where
   pub spelled : Script
   pub of_script : IsScriptOf (told script) spelled
   pub mid : F
@@ -204,25 +196,25 @@ pub record ReadsSchedule {F : Type 0} (reads : List ℕ → F → F → Type 0) 
   pub last : reads schedule mid new
 
 -- all files of a run were read, that of the schedule if there is one
-abbrev pub ReadsAll : {F : Type 0} → (List ℕ → F → F → Type 0) → Told → List ℕ → List ℕ → Option (List ℕ) → F → F → Type 0
-ReadsAll reads told cluster script None old new = ReadsScript reads told cluster script old new
-ReadsAll reads told cluster script (Some schedule) old new = ReadsSchedule reads told cluster script schedule old new
+abbrev pub ReadsAllFiles : {F : Type 0} → (List ℕ → F → F → Type 0) → ShelfTells → List ℕ → List ℕ → Option (List ℕ) → F → F → Type 0
+ReadsAllFiles reads told cluster script None old new = ReadsScript reads told cluster script old new
+ReadsAllFiles reads told cluster script (Some schedule) old new = ReadsSchedule reads told cluster script schedule old new
 
 -- a beginning of the files of a run was read, each of them only where those before it hold what they are to hold
-abbrev pub ReadsSome : {F : Type 0} → (List ℕ → F → F → Type 0) → Told → List ℕ → List ℕ → Option (List ℕ) → F → F → Type 0
-ReadsSome reads told cluster script schedule old new = reads cluster old new ⊎ (ReadsScript reads told cluster script old new ⊎ ReadsAll reads told cluster script schedule old new)
+abbrev pub ReadsSome : {F : Type 0} → (List ℕ → F → F → Type 0) → ShelfTells → List ℕ → List ℕ → Option (List ℕ) → F → F → Type 0
+ReadsSome reads told cluster script schedule old new = reads cluster old new ⊎ (ReadsScript reads told cluster script old new ⊎ ReadsAllFiles reads told cluster script schedule old new)
 
 -- which files of a run were read, by its outcome: a refused cluster file alone; that and the script's where this one is refused; where a file couldn't be read those
 -- up to it, and where memory ran out those up to then; and else all
-abbrev pub ReadsBy : {F : Type 0} → (List ℕ → F → F → Type 0) → Told → List ℕ → List ℕ → Option (List ℕ) → Outcome → F → F → Type 0
+abbrev pub ReadsBy : {F : Type 0} → (List ℕ → F → F → Type 0) → ShelfTells → List ℕ → List ℕ → Option (List ℕ) → Outcome → F → F → Type 0
 ReadsBy reads told cluster script schedule (ClusterRefused place) old new = reads cluster old new
 ReadsBy reads told cluster script schedule (ScriptRefused line) old new = ReadsScript reads told cluster script old new
 ReadsBy reads told cluster script schedule ReadFault old new = ReadsSome reads told cluster script schedule old new
 ReadsBy reads told cluster script schedule Memory old new = (new ≡ old) ⊎ ReadsSome reads told cluster script schedule old new
-ReadsBy reads told cluster script schedule _ old new = ReadsAll reads told cluster script schedule old new
+ReadsBy reads told cluster script schedule _ old new = ReadsAllFiles reads told cluster script schedule old new
 
 -- which files were read by what was asked for: those of a run, and else none
-abbrev pub ReadsFor : {F : Type 0} → (List ℕ → F → F → Type 0) → Told → Option Asked → Outcome → F → F → Type 0
+abbrev pub ReadsFor : {F : Type 0} → (List ℕ → F → F → Type 0) → ShelfTells → Option Asked → Outcome → F → F → Type 0
 ReadsFor reads told (Some (Run cluster script schedule mover)) outcome old new = ReadsBy reads told cluster script schedule outcome old new
 ReadsFor reads told _ outcome old new = new ≡ old
 

@@ -4,7 +4,8 @@ ghost use Rattle.rm_queues.specs.Rules.{KeepsRules};
 ghost use Rattle.rm_invariant.specs.messages.Ranges.{KeepsLimits};
 ghost use Rattle.rm_desk.specs.Scripts.{CanGoAlong};
 ghost use Rattle.std.specs.Option.{option_copied};
-ghost use Rattle.rm_main.specs.Runs.{AreMoves, AreSettings, IsScriptOf, ReadsAll, ReadsBy, WereRead};
+ghost use Rattle.rm_main.specs.Runs.{AreMoves, AreSettings, IsScriptOf, ReadsAllFiles, ReadsBy};
+ghost use Rattle.rm_outside.specs.Shelves.{WereRead};
 ghost use Rattle.rm_main.specs.Inputs.{IsOneMore, IsUnread, StopsAtCluster, StopsAtScript, StopsEarly};
 
 use rm_cluster::{ClusterError, read_cluster};
@@ -121,7 +122,7 @@ pub fn read_inputs<F: Shelf>(
     ensures can_run { IfOk result (λ inputs. CanGoAlong inputs.script) }
     ensures schedule { IfOk result (λ inputs. AreMoves (F.bytes_of shelf.old) (option_copied files.entry.schedule) inputs.schedule.items) }
     ensures refused { IfErr result (StopsEarly (F.bytes_of shelf.old) files.entry.cluster.now files.entry.script.now) }
-    ensures reads { OnOk result (ReadsAll F.reads (F.bytes_of shelf.old) files.entry.cluster.now files.entry.script.now (option_copied files.entry.schedule) shelf.old shelf.new) }
+    ensures reads { OnOk result (ReadsAllFiles F.reads (F.bytes_of shelf.old) files.entry.cluster.now files.entry.script.now (option_copied files.entry.schedule) shelf.old shelf.new) }
     ensures read { IfErr result (λ outcome. ReadsBy F.reads (F.bytes_of shelf.old) files.entry.cluster.now files.entry.script.now (option_copied files.entry.schedule) outcome shelf.old shelf.new) }
     ensures fault { result ≡ Err Outcome.ReadFault → Rose (F.faults shelf.old) (F.faults shelf.new) }
 {

@@ -6,10 +6,11 @@ ghost use Rattle.rm_desk.specs.Scripts.{CanGoAlong};
 ghost use Rattle.rm_queues.specs.Rules.{KeepsRules};
 ghost use Rattle.rm_invariant.specs.messages.Ranges.{KeepsLimits};
 ghost use Rattle.rm_plain.specs.Schedule.{by_letters, steps_of};
-ghost use Rattle.rm_main.specs.Complete.{HasPlace, IsAccepted, IsFollowed, NoneRose};
+ghost use Rattle.rm_main.specs.Complete.{HasPlace, IsAccepted, ScheduleIsFollowed, NoneRose};
 ghost use Rattle.rm_main.specs.Inputs.{asked_of};
 ghost use Rattle.rm_main.specs.Made.{LeavesDevice, made_by};
-ghost use Rattle.rm_main.specs.Runs.{Ends, IsListed, RanBy, ReadsBy, ReadsFor, StopsBefore, Told, WritesPage, page_for};
+ghost use Rattle.rm_main.specs.Runs.{CallEnds, IsListed, RanBy, ReadsBy, ReadsFor, StopsBefore, WritesPage, page_for};
+ghost use Rattle.rm_outside.specs.Shelves.{ShelfTells};
 ghost use Rattle.rm_main.specs.Shown.{shown_in};
 ghost use Rattle.rm_soak.specs.Limits.{most_soaked};
 ghost use Rattle.rm_soak.specs.Lines.{soak_page};
@@ -120,7 +121,7 @@ fn run_files<F: Shelf, K: Sink, D: Disk>(
     disk: Fuse<D>,
 ) -> Ended<D>
     requires { disk.armed ≡ None }
-    ensures ends { Ends D.view (F.bytes_of shelf.old) (Some (asked_of OneThread files.entry)) (made_by disk result) result.outcome }
+    ensures ends { CallEnds D.view (F.bytes_of shelf.old) (Some (asked_of OneThread files.entry)) (made_by disk result) result.outcome }
     ensures reads { ReadsBy F.reads (F.bytes_of shelf.old) files.entry.cluster.now files.entry.script.now (option_copied files.entry.schedule) result.outcome shelf.old shelf.new }
     ensures writes { WritesPage K.taken K.faults K.idle sink.old sink.new (page result.log moves) result.outcome }
     ensures read_fault { result.outcome ≡ Outcome.ReadFault → Rose (F.faults shelf.old) (F.faults shelf.new) }
@@ -157,7 +158,7 @@ fn soak<K: Sink, D: Disk>(alloc: Global, number: u32, sink: &mut K, disk: Fuse<D
     requires some { 1 ≤ number }
     requires few { number ≤ most_soaked }
     requires unarmed { disk.armed ≡ None }
-    ensures ends { (told : Told) → Ends D.view told (Some (Soak number)) (made_by disk result) result.outcome }
+    ensures ends { (told : ShelfTells) → CallEnds D.view told (Some (Soak number)) (made_by disk result) result.outcome }
     ensures read { result.outcome ≡ Outcome.ReadFault → ⊥ }
     ensures writes { WritesPage K.taken K.faults K.idle sink.old sink.new (soak_page number result.log) result.outcome }
     ensures unused { StopsBefore result.outcome → result.disk ≡ disk }
@@ -179,7 +180,7 @@ fn run_line<F: Shelf, K: Sink, D: Disk>(
 ) -> Ended<D>
     requires within { IsWithinSoak line.mode }
     requires unarmed { disk.armed ≡ None }
-    ensures ends { Ends D.view (F.bytes_of shelf.old) (without_threads (Some (asked line.entry.mode))) (made_by disk result) result.outcome }
+    ensures ends { CallEnds D.view (F.bytes_of shelf.old) (without_threads (Some (asked line.entry.mode))) (made_by disk result) result.outcome }
     ensures reads { ReadsFor F.reads (F.bytes_of shelf.old) (without_threads (Some (asked line.entry.mode))) result.outcome shelf.old shelf.new }
     ensures writes { WritesPage K.taken K.faults K.idle sink.old sink.new (page_for line.entry.shows_moves (without_threads (Some (asked line.entry.mode))) result.opening result.log) result.outcome }
     ensures read_fault { result.outcome ≡ Outcome.ReadFault → Rose (F.faults shelf.old) (F.faults shelf.new) }
@@ -253,9 +254,9 @@ pub fn top_plain<F: Shelf, K: Sink, D: Disk>(
     disk: Fuse<D>,
 ) -> Ended<D>
     requires { disk.armed ≡ None }
-    ensures ends { Ends D.view (F.bytes_of shelf.old) (plain_mode_of (map string_bytes words.now)) (made_by disk result) result.outcome }
+    ensures ends { CallEnds D.view (F.bytes_of shelf.old) (plain_mode_of (map string_bytes words.now)) (made_by disk result) result.outcome }
     ensures complete { IsAccepted (F.bytes_of shelf.old) (plain_mode_of (map string_bytes words.now)) → HasPlace D.view (made_by disk result)
-        → IsFollowed (F.bytes_of shelf.old) (plain_mode_of (map string_bytes words.now)) (made_by disk result)
+        → ScheduleIsFollowed (F.bytes_of shelf.old) (plain_mode_of (map string_bytes words.now)) (made_by disk result)
         → NoneRose (F.faults shelf.old) (F.faults shelf.new) (K.faults sink.old) (K.faults sink.new) (K.idle sink.old) (K.idle sink.new)
         → (result.outcome ≡ Outcome.Done) ⊎ (result.outcome ≡ Outcome.Memory) }
     ensures flags { has_flags (map string_bytes words.now) ≡ false → result.outcome ≡ Outcome.Usage }

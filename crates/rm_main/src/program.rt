@@ -1,5 +1,5 @@
 ghost use Rattle.std.specs.Prelude.{◌≡◌, ◌⊎◌, map, string_bytes, IfOk};
-ghost use Rattle.rm_main.specs.Calls.{CameBy, CountsFaults, EndsProgram, IsNewDevice, IsOfProgram, RanInMemory, RanOver, is_over_file};
+ghost use Rattle.rm_main.specs.Calls.{CameBy, OutcomeCountsFaults, EndsProgram, IsNewDevice, IsOfProgram, RanInMemory, RanOver, is_over_file};
 
 use crate::described::Described;
 use crate::hints::{cluster_hint, schedule_hint, script_hint};
@@ -91,7 +91,7 @@ fn call_over<R: Threads + Wait + Sync, D: Disk + Drop + Send>(
     is_file: bool,
 ) -> (Call, D)
     ensures ran { RanOver D.view (map string_bytes words.now) device result.1 result.0.outcome }
-    ensures faults { CountsFaults result.0.outcome result.0.shelf result.0.sink }
+    ensures faults { OutcomeCountsFaults result.0.outcome result.0.shelf result.0.sink }
 {
     let alloc = rt.alloc();
     let mut shelf = FileShelf::new(rt);
@@ -142,7 +142,7 @@ fn run_over<R: Threads + Wait + Sync, D: Disk + Described + Drop + Send>(
     is_file: bool,
 ) -> (Call, D)
     ensures ran { RanOver D.view (map string_bytes words.now) device result.1 result.0.outcome }
-    ensures faults { CountsFaults result.0.outcome result.0.shelf result.0.sink }
+    ensures faults { OutcomeCountsFaults result.0.outcome result.0.shelf result.0.sink }
 {
     let ahead = Window::new(rt.alloc(), device);
     let watched = Watched::new(ahead, rt, program, is_terminal(&rt));
@@ -174,7 +174,7 @@ fn run_in_memory<R: Threads + Wait + Sync>(
     words: &[String],
 ) -> Call
     ensures ran { (result.outcome ≡ Outcome.Memory) ⊎ RanInMemory (map string_bytes words.now) result.outcome }
-    ensures faults { CountsFaults result.outcome result.shelf result.sink }
+    ensures faults { OutcomeCountsFaults result.outcome result.shelf result.sink }
 {
     match new_device(rt.alloc()) {
         Ok(device) => run_over(threads, rt, program, words, MEMORY_DEVICE, device, false).0,
@@ -277,7 +277,7 @@ pub fn run_by<R: Threads + Wait + Sync, D: Disk + Described + Drop + Send>(
     file: D,
 ) -> (Call, D)
     ensures came { CameBy D.view (map string_bytes words.now) file result.1 result.0.outcome }
-    ensures faults { CountsFaults result.0.outcome result.0.shelf result.0.sink }
+    ensures faults { OutcomeCountsFaults result.0.outcome result.0.shelf result.0.sink }
 {
     match is_over_file(rt.alloc(), words) {
         Ok(true) => run_over(threads, rt, program, words, STORE_FILE, file, true),

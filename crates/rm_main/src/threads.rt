@@ -5,11 +5,11 @@ ghost use Rattle.rm_types.specs.Counts.{Rose};
 ghost use Rattle.rm_desk.specs.Scripts.{CanGoAlong};
 ghost use Rattle.rm_queues.specs.Rules.{KeepsRules};
 ghost use Rattle.rm_invariant.specs.messages.Ranges.{KeepsLimits};
-ghost use Rattle.rm_main.specs.Complete.{HasPlace, IsAccepted, IsFollowed, NoneRose};
+ghost use Rattle.rm_main.specs.Complete.{HasPlace, IsAccepted, ScheduleIsFollowed, NoneRose};
 ghost use Rattle.rm_workers.specs.AnyOrder.{any_order};
 ghost use Rattle.rm_main.specs.Inputs.{asked_of};
 ghost use Rattle.rm_main.specs.Made.{LeavesDevice, made_by};
-ghost use Rattle.rm_main.specs.Runs.{Ends, RanBy, ReadsBy, ReadsFor, StopsBefore, WritesPage, page_for};
+ghost use Rattle.rm_main.specs.Runs.{CallEnds, RanBy, ReadsBy, ReadsFor, StopsBefore, WritesPage, page_for};
 ghost use Rattle.rm_main.specs.Ways.{IsOfRun};
 ghost use Rattle.rm_words.specs.Words.{Run, Workers as ByWorkers, asked, has_flags, mode_of, shows_moves, without_threads};
 
@@ -78,7 +78,7 @@ fn run_files_by_workers<
     disk: Fuse<D>,
 ) -> Ended<D>
     requires { disk.armed ≡ None }
-    ensures ends { Ends D.view (F.bytes_of shelf.old) (Some (asked_of ByWorkers files.entry)) (made_by disk result) result.outcome }
+    ensures ends { CallEnds D.view (F.bytes_of shelf.old) (Some (asked_of ByWorkers files.entry)) (made_by disk result) result.outcome }
     ensures reads { ReadsBy F.reads (F.bytes_of shelf.old) files.entry.cluster.now files.entry.script.now (option_copied files.entry.schedule) result.outcome shelf.old shelf.new }
     ensures writes { WritesPage K.taken K.faults K.idle sink.old sink.new (page result.log moves) result.outcome }
     ensures read_fault { result.outcome ≡ Outcome.ReadFault → Rose (F.faults shelf.old) (F.faults shelf.new) }
@@ -120,9 +120,9 @@ pub fn top<R: Threads + Wait + Sync, F: Shelf, K: Sink, D: Disk + Drop + Send, G
     gate: &G,
 ) -> Ended<D>
     requires { disk.armed ≡ None }
-    ensures ends { Ends D.view (F.bytes_of shelf.old) (mode_of (map string_bytes words.now)) (made_by disk result) result.outcome }
+    ensures ends { CallEnds D.view (F.bytes_of shelf.old) (mode_of (map string_bytes words.now)) (made_by disk result) result.outcome }
     ensures complete { IsAccepted (F.bytes_of shelf.old) (mode_of (map string_bytes words.now)) → HasPlace D.view (made_by disk result)
-        → IsFollowed (F.bytes_of shelf.old) (mode_of (map string_bytes words.now)) (made_by disk result)
+        → ScheduleIsFollowed (F.bytes_of shelf.old) (mode_of (map string_bytes words.now)) (made_by disk result)
         → NoneRose (F.faults shelf.old) (F.faults shelf.new) (K.faults sink.old) (K.faults sink.new) (K.idle sink.old) (K.idle sink.new)
         → (result.outcome ≡ Outcome.Done) ⊎ (result.outcome ≡ Outcome.Memory) }
     ensures flags { has_flags (map string_bytes words.now) ≡ false → result.outcome ≡ Outcome.Usage }

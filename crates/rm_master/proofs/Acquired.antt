@@ -17,7 +17,7 @@ use Rattle.rm_types.proofs.IdLemmas.{container_back}
 use Rattle.rm_book.specs.Books.{BookOf, is_of, with_state}
 use Rattle.rm_book.specs.Granted.{AllMayBeTold, may_be_told}
 use Rattle.rm_model.specs.Facts.{has_container}
-use Rattle.rm_master.specs.Answers.{acquired, acquired_row, ids_granted, told_by}
+use Rattle.rm_master.specs.Answers.{acquired, acquired_row, ids_granted, containers_told}
 
 no_rows : (rows : List BookRow) → rows ≡ map (acquired_row []) rows
 no_rows [] = refl
@@ -28,7 +28,7 @@ pub none_acquired : (book : BookOf) → book ≡ acquired [] book
 none_acquired book = ap (λ (rows : List BookRow). record book { rows = rows }) (no_rows book.rows)
 
 -- nor where the reply tells of none
-pub none_told : (reply : Reply) (book : BookOf) → ((id : ℕ) (grants : List Grant) (ended : List Closing) → reply ≡ Allocated id grants ended → ⊥) → book ≡ acquired (told_by reply) book
+pub none_told : (reply : Reply) (book : BookOf) → ((id : ℕ) (grants : List Grant) (ended : List Closing) → reply ≡ Allocated id grants ended → ⊥) → book ≡ acquired (containers_told reply) book
 none_told (Allocated id grants ended) book other = absurd (other id grants ended refl)
 none_told _ book other = none_acquired book
 

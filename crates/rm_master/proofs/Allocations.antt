@@ -12,7 +12,7 @@ use Rattle.rm_types.specs.declared.replies.Reply.TheVariants.{Resync, WrongId, T
 use Rattle.rm_types.specs.Ids.{is_attempt}
 use Rattle.rm_types.specs.Records.{Records}
 use Rattle.rm_book.specs.Granted.{grants_to}
-use Rattle.rm_book.specs.AskTables.{asks_of as asks_in}
+use Rattle.rm_book.specs.AskTables.{attempt_asks as asks_in}
 use Rattle.rm_book.specs.ManyAsks.{asks_after}
 use Rattle.rm_model.specs.State.{MasterState, Scene}
 use Rattle.rm_model.specs.Attempts.{is_live, is_registered, master_of}
@@ -25,13 +25,13 @@ use Rattle.rm_tables.specs.Leaving.{is_masters_in}
 use Rattle.rm_tables.specs.Rows.{row_of}
 use Rattle.rm_refinement.specs.Agreement.{ClosingsAgree, PlainDialogue, bare_dialogue, closings_for, plain_dialogue}
 use Rattle.rm_refinement.specs.Services.{RefinesLife, lives_by}
-use Rattle.rm_master.specs.Told.{allocate_told, allocated_told, asks_too_much, closings_told, grants_told, has_too_many, living_row, new_told, said_told, spoken_told}
+use Rattle.rm_master.specs.Told.{allocate_told, allocated_told, asks_too_much, closings_told, grants_told, asks_too_many, living_row, new_told, said_told, spoken_told}
 use Rattle.rm_master.proofs.Asked.{lines_told, many_told}
 use Rattle.rm_master.proofs.Granted.{endings_same, grants_same}
 use Rattle.rm_master.proofs.Replies.{Lives, lives_here, none_lives, row_lives}
 
 -- too many are too many
-pub many_alike : (m : Scene) (t : Tables) (attempt : AttemptId) (asks : List Ask) → RefinesLife m t → has_too_many t.asks attempt asks ≡ too_many_told attempt (with_asks attempt m.life.asks asks)
+pub many_alike : (m : Scene) (t : Tables) (attempt : AttemptId) (asks : List Ask) → RefinesLife m t → asks_too_many t.asks attempt asks ≡ too_many_told attempt (with_asks attempt m.life.asks asks)
 many_alike m t attempt asks shows =
     ap (λ (n : ℕ). nat_lt 64 n)
     (ap (λ (so_far : List Ask). length (asks_after so_far asks)) (shows.asks attempt) ∙ ap (length {A = Ask}) (sym (many_told attempt m.life.asks asks)) ∙ sym (lines_told attempt (with_asks attempt m.life.asks asks)))

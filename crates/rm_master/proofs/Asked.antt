@@ -12,7 +12,7 @@ use Rattle.rm_types.specs.declared.containers.AskOf.{AskOf}
 use Rattle.rm_types.specs.declared.ids.AttemptId.{AttemptId}
 use Rattle.rm_types.specs.Ids.{is_attempt}
 use Rattle.rm_types.proofs.IdLemmas.{attempt_back, same_attempt, attempt_itself}
-use Rattle.rm_book.specs.AskTables.{AsksOf, asks_of as asks_in, asks_set, is_for, renewed, with_asks_of}
+use Rattle.rm_book.specs.AskTables.{AsksOf, attempt_asks as asks_in, asks_set, is_for, renewed_ask, with_asks_of}
 use Rattle.rm_book.specs.ManyAsks.{all_asked, asks_after, one_asked}
 use Rattle.rm_model.specs.MasterReplies.{is_line_of, with_ask, with_asks}
 use Rattle.rm_model.specs.Passing.{asks_of as asks_told}
@@ -54,12 +54,12 @@ module _ (attempt : AttemptId) (ask : Ask) where
       by true false e f rest = rw (e, f) rest
       by false b e f rest = rw e rest
 
-  own_changed : (lines : List AskOf) → asks_told (map set_line lines) attempt ≡ map (renewed ask) (asks_told lines attempt)
+  own_changed : (lines : List AskOf) → asks_told (map set_line lines) attempt ≡ map (renewed_ask ask) (asks_told lines attempt)
   own_changed [] = refl
   own_changed (line ∷ lines) = by (is_attempt line.attempt attempt) (is_for ask.priority ask.size line.ask) refl refl (own_changed lines)
     where
-      by : (a b : Bool) → is_attempt line.attempt attempt ≡ a → is_for ask.priority ask.size line.ask ≡ b → asks_told (map set_line lines) attempt ≡ map (renewed ask) (asks_told lines attempt)
-          → asks_told (map set_line (line ∷ lines)) attempt ≡ map (renewed ask) (asks_told (line ∷ lines) attempt)
+      by : (a b : Bool) → is_attempt line.attempt attempt ≡ a → is_for ask.priority ask.size line.ask ≡ b → asks_told (map set_line lines) attempt ≡ map (renewed_ask ask) (asks_told lines attempt)
+          → asks_told (map set_line (line ∷ lines)) attempt ≡ map (renewed_ask ask) (asks_told (line ∷ lines) attempt)
       by true true e f rest = rw (e, f, e) (ap (λ (more : List Ask). ask ∷ more) rest)
       by true false e f rest = rw (e, f, e) (ap (λ (more : List Ask). line.ask ∷ more) rest)
       by false b e f rest = rw (e, e) rest

@@ -16,10 +16,10 @@ use Rattle.rm_types.specs.declared.records.AppRecord.{AppRecord}
 use Rattle.rm_types.specs.declared.records.AttemptRecord.{AttemptRecord}
 use Rattle.rm_types.specs.Ids.{is_app, is_attempt, is_container}
 use Rattle.rm_types.specs.Records.{is_some_and, record_of}
-use Rattle.rm_book.specs.Granted.{grant_of, grants_to, is_granted as is_granted_in, is_granted_to}
+use Rattle.rm_book.specs.Granted.{row_grant, grants_to, is_granted_to}
+use Rattle.rm_types.specs.Containers.{is_granted as is_granted_in, is_granted}
 use Rattle.rm_model.specs.State.{Row, Scene}
 use Rattle.rm_model.specs.Attempts.{is_masters}
-use Rattle.rm_model.specs.Containers.{is_granted}
 use Rattle.rm_model.specs.Facts.{attempts_in}
 use Rattle.rm_model.specs.MasterReplies.{untold_rows}
 use Rattle.rm_tables.specs.Leaving.{attempt_in, is_masters_in, is_own_or_unkept, masters_by}
@@ -68,7 +68,7 @@ module _ (m : Scene) (attempt : AttemptId) where
       let granted : is_granted_in row.state ≡ is_granted one.state = granted_same row.state ∙ ap is_granted state in
       by (is_attempt one.id.attempt attempt) (is_granted one.state) (is_masters m one.id) refl refl refl id granted (ap (λ (x : PlainRow). record { id = x.id; node = x.node; size = x.size }) first) (grants_by rows book rest)
     where
-      by : (a b c : Bool) → is_attempt one.id.attempt attempt ≡ a → is_granted one.state ≡ b → is_masters m one.id ≡ c → row.id ≡ one.id → is_granted_in row.state ≡ is_granted one.state → grant_of row ≡ grant_told one
+      by : (a b c : Bool) → is_attempt one.id.attempt attempt ≡ a → is_granted one.state ≡ b → is_masters m one.id ≡ c → row.id ≡ one.id → is_granted_in row.state ≡ is_granted one.state → row_grant row ≡ grant_told one
           → filter (λ grant. not (is_masters_in m.records.apps grant.id)) (grants_to rows attempt) ≡ map grant_told (filter is_untold book)
           → filter (λ grant. not (is_masters_in m.records.apps grant.id)) (grants_to (row ∷ rows) attempt) ≡ map grant_told (filter is_untold (one ∷ book))
       by false b c e f g id granted grant rest =

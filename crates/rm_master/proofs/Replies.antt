@@ -14,9 +14,9 @@ use Rattle.rm_types.specs.declared.records.AttemptRecord.{AttemptRecord}
 use Rattle.rm_types.specs.declared.replies.Reply.{Reply}
 use Rattle.rm_types.specs.declared.replies.Reply.TheVariants.{MasterRegistered, Already, Gone, Resync, WrongId, TooLarge, Full, Allocated, NotRegistered, Finishing, Finished}
 use Rattle.rm_types.specs.Ids.{is_app, is_attempt}
-use Rattle.rm_types.specs.Records.{is_some_and, record_of, last_attempt, records}
+use Rattle.rm_types.specs.Records.{is_some_and, record_of, last_attempt, records, is_finished}
 use Rattle.rm_model.specs.State.{MasterState, Scene}
-use Rattle.rm_model.specs.Attempts.{attempt_end, finishing_text, has_registered, is_finished, is_finishing, is_last, is_live, is_registered, master_of}
+use Rattle.rm_model.specs.Attempts.{attempt_end, finishing_text, has_registered, is_finishing, is_last, is_live, is_registered, master_of}
 use Rattle.rm_model.specs.Facts.{attempts_in, awaits, end_in, has_app, kept_end}
 use Rattle.rm_model.specs.MasterReplies.{finish_reply, finished_issued, is_finished_op, register_reply}
 use Rattle.rm_attempt.specs.Table.{is_alive}
@@ -29,7 +29,7 @@ use Rattle.rm_tables.specs.Leaving.{attempt_in}
 use Rattle.rm_tables.specs.Rows.{row_of}
 use Rattle.rm_refinement.specs.Agreement.{AttemptAgrees, CurrentAgrees, RowAgrees, bare_dialogue, plain_dialogue}
 use Rattle.rm_refinement.specs.Services.{RefinesLife, finishes_by, lives_by, lives_with}
-use Rattle.rm_master.specs.Told.{finish_told, finished_in, goes_on, has_ended_with, has_finished, is_finished_end, living_row, register_told, spoken_by, spoken_in}
+use Rattle.rm_master.specs.Told.{finish_told, finished_in, goes_on, has_ended_with, has_finished, is_finished_end, living_row, master_register_told, spoken_by, spoken_in}
 
 -- an attempt that lives: its application has this row, and this is the current attempt of it
 pub record Lives (m : Scene) (t : Tables) (attempt : AttemptId) : Type 0 where
@@ -80,7 +80,7 @@ same_some (Some one) (Some other) e = refl
 -- REGISTRATIONS
 
 register_by : (m : Scene) (t : Tables) (attempt : AttemptId) → RefinesLife m t → (b : Bool) → lives_by attempt (row_of t.rows attempt.app) ≡ b
-    → register_told (living_row attempt (row_of t.rows attempt.app)) ≡ register_reply m attempt
+    → master_register_told (living_row attempt (row_of t.rows attempt.app)) ≡ register_reply m attempt
 register_by m t attempt shows false lives = let live : is_live m attempt ≡ false = shows.live attempt ∙ lives in rw (none_lives attempt (row_of t.rows attempt.app) lives, live) refl
 register_by m t attempt shows true lives =
     let here : Lives m t attempt = lives_here m t attempt shows lives in
@@ -89,7 +89,7 @@ register_by m t attempt shows true lives =
     rw (row_lives attempt (row_of t.rows attempt.app) here.row here.found lives, live, both) refl
 
 -- a registration is answered as the judge does
-pub register_answer : (m : Scene) (t : Tables) (attempt : AttemptId) → RefinesLife m t → register_told (living_row attempt (row_of t.rows attempt.app)) ≡ register_reply m attempt
+pub register_answer : (m : Scene) (t : Tables) (attempt : AttemptId) → RefinesLife m t → master_register_told (living_row attempt (row_of t.rows attempt.app)) ≡ register_reply m attempt
 register_answer m t attempt shows = register_by m t attempt shows (lives_by attempt (row_of t.rows attempt.app)) refl
 
 -- MASTERS THAT FINISH

@@ -28,15 +28,15 @@ use Rattle.rm_model.specs.MasterReplies.{allocate_reply, allocated_reply, alloca
 use Rattle.rm_attempt.specs.declared.states.AttemptState.{AttemptState}
 use Rattle.rm_attempt.specs.declared.states.AttemptEvent.{AttemptEvent}
 use Rattle.rm_attempt.specs.declared.states.AttemptEvent.TheVariants as attempt_events
-use Rattle.rm_attempt.specs.Table.{next_state as next_attempt_state, is_alive}
+use Rattle.rm_attempt.specs.Table.{next_attempt_state as next_attempt_state, is_alive}
 use Rattle.rm_tables.specs.declared.rows.AppRow.{AppRow}
 use Rattle.rm_tables.specs.declared.rows.Dialogue.{Dialogue}
 use Rattle.rm_tables.specs.declared.tables.Tables.{Tables}
 use Rattle.rm_tables.specs.Rows.{row_of}
-use Rattle.rm_tables.specs.Talks.{begun, registered_row, said_row, told_row, with_answer, with_text, without_closings}
+use Rattle.rm_tables.specs.Talks.{dialogue_begun, registered_row, said_row, told_row, with_answer, with_text, without_closings}
 use Rattle.rm_refinement.specs.Agreement.{PlainDialogue, PlainRow, SameRows, bare_row, bare_dialogue, closings_for, session_of, plain_row, plain_dialogue}
 use Rattle.rm_refinement.specs.Services.{RefinesLife, lives_by}
-use Rattle.rm_master.specs.Answers.{acquired, acquired_row, after_master, allocated_with, ids_granted, is_new_to, registered, release_events, said, told_by}
+use Rattle.rm_master.specs.Answers.{acquired, acquired_row, after_master, allocated_with, ids_granted, is_new_to, registered, release_events, said, containers_told}
 use Rattle.rm_master.specs.Told.{goes_on, living_row, spoken_by}
 use Rattle.rm_master.proofs.Again.{again}
 use Rattle.rm_master.proofs.Allocations.{closings_alike}
@@ -83,7 +83,7 @@ module _ (m : Scene) (t : Tables) (attempt : AttemptId) (shows : RefinesLife m t
 
   joins : (here : Lives m t attempt) → master_of m attempt ≡ None → ShowsAfter m t attempt Register MasterRegistered
   joins here none =
-      again m t attempt shows here (registered_row (begun MasterRegistered)) (record here.current { state = next_attempt_state here.current.state attempt_events.Register; registered = true }) (rw here.is refl) refl refl (alive_still attempt_events.Register refl here.current.state here.alive)
+      again m t attempt shows here (registered_row (dialogue_begun MasterRegistered)) (record here.current { state = next_attempt_state here.current.state attempt_events.Register; registered = true }) (rw here.is refl) refl refl (alive_still attempt_events.Register refl here.current.state here.alive)
       (m.life.masters.registered ++ new_master ∷ []) (rw (own_joined new_master m.life.masters.registered none) refl) refl
       (λ q apart. other_joined new_master q m.life.masters.registered apart)
       m.life.endings.outbox (closings_alike m t attempt here.row here.found shows) (λ q apart. refl)

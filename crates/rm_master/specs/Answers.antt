@@ -19,12 +19,12 @@ use Rattle.rm_tables.specs.declared.events.SchedEvent.TheVariants as scheds
 use Rattle.rm_tables.specs.declared.rows.Dialogue.{Dialogue}
 use Rattle.rm_tables.specs.declared.tables.Tables.{Tables}
 use Rattle.rm_tables.specs.Rows.{row_of, with_row}
-use Rattle.rm_tables.specs.Talks.{begun, registered_row, said_row, told_row, with_answer, with_text, without_closings}
+use Rattle.rm_tables.specs.Talks.{dialogue_begun, registered_row, said_row, told_row, with_answer, with_text, without_closings}
 use Rattle.rm_master.specs.Told.{goes_on, spoken_by}
 
 -- a master registered, and was answered so
 abbrev pub registered : AttemptId → Reply → Tables → Tables
-registered attempt reply t = record t { rows = with_row (registered_row (begun reply)) attempt.app t.rows }
+registered attempt reply t = record t { rows = with_row (registered_row (dialogue_begun reply)) attempt.app t.rows }
 
 -- a master finishes, and says this: its attempt is to be worked off
 abbrev pub said : AttemptId → List ℕ → Tables → Tables
@@ -46,9 +46,9 @@ grants_in (Allocated id grants ended) = grants
 grants_in _ = []
 
 -- the containers of which a reply tells the master
-abbrev pub told_by : Reply → List ContainerId
-told_by (Allocated id grants ended) = ids_granted grants
-told_by _ = []
+abbrev pub containers_told : Reply → List ContainerId
+containers_told (Allocated id grants ended) = ids_granted grants
+containers_told _ = []
 
 -- a row of which its master was told, where it is of one of these containers; and the book with such rows
 abbrev pub acquired_row : List ContainerId → BookRow → BookRow
@@ -59,17 +59,17 @@ abbrev pub acquired : List ContainerId → BookOf → BookOf
 acquired told book = record book { rows = map (acquired_row told) book.rows }
 
 -- a master was told something under the id after this one: it is its last reply, and what it was told of is Acquired
-abbrev pub told_in : AttemptId → ℕ → Reply → Tables → Tables
-told_in attempt id reply t =
+abbrev pub after_told : AttemptId → ℕ → Reply → Tables → Tables
+after_told attempt id reply t =
     record t {
       rows = with_row (told_row (with_answer (id + 1) reply) (without_closings attempt)) attempt.app t.rows;
-      book = acquired (told_by reply) t.book;
+      book = acquired (containers_told reply) t.book;
     }
 
 -- a new allocation, which was answered so: its master is told it, its asks are set, and its release is posted
 abbrev pub allocated_with : AttemptId → ℕ → List Ask → List ContainerId → Reply → Tables → Tables
 allocated_with attempt id asks release reply t =
-    record (told_in attempt id reply t) { asks = all_asked attempt t.asks asks; sched = t.sched ++ release_events attempt release }
+    record (after_told attempt id reply t) { asks = all_asked attempt t.asks asks; sched = t.sched ++ release_events attempt release }
 
 -- the id is the last one that a master was answered, so that the message is new
 abbrev pub is_new_to : ℕ → Option Dialogue → Bool

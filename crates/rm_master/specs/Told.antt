@@ -14,13 +14,12 @@ use Rattle.rm_types.specs.declared.replies.Reply.{Reply}
 use Rattle.rm_types.specs.declared.replies.Reply.TheVariants.{MasterRegistered, Already, Gone, Resync, WrongId, TooLarge, Full, Allocated, NotRegistered, Finishing, Finished}
 use Rattle.rm_types.specs.declared.resources.Resource.{Resource}
 use Rattle.rm_types.specs.Ids.{is_attempt}
-use Rattle.rm_types.specs.Records.{is_some_and, last_attempt}
+use Rattle.rm_types.specs.Records.{is_some_and, last_attempt, is_finished}
 use Rattle.rm_types.specs.Resources.{fits}
 use Rattle.rm_refinement.specs.Services.{finishes_by, lives_with}
-use Rattle.rm_book.specs.AskTables.{AsksOf, asks_of}
+use Rattle.rm_book.specs.AskTables.{AsksOf, attempt_asks}
 use Rattle.rm_book.specs.Granted.{grants_to}
 use Rattle.rm_book.specs.ManyAsks.{asks_after}
-use Rattle.rm_model.specs.Attempts.{is_finished}
 use Rattle.rm_model.specs.Facts.{attempts_in, end_in}
 use Rattle.rm_tables.specs.declared.rows.AppRow.{AppRow}
 use Rattle.rm_tables.specs.declared.rows.Dialogue.{Dialogue}
@@ -55,9 +54,9 @@ goes_on None = false
 goes_on (Some one) = not (is_some one.finishing)
 
 -- what a registration is answered, of an attempt that doesn't live, and of one that does: it registers once
-abbrev pub register_told : Option AppRow → Reply
-register_told None = Gone
-register_told (Some row) = if is_some row.dialogue then Already else MasterRegistered
+abbrev pub master_register_told : Option AppRow → Reply
+master_register_told None = Gone
+master_register_told (Some row) = if is_some row.dialogue then Already else MasterRegistered
 
 -- an application has ended, with this attempt as its last
 abbrev pub has_ended_with : AttemptId → Option AppRecord → Bool
@@ -90,8 +89,8 @@ abbrev pub asks_too_much : Resource → List Ask → Bool
 asks_too_much greatest asks = list_any (λ ask. not (fits ask.size greatest)) asks
 
 -- an attempt would ask for more than 64 different ones
-abbrev pub has_too_many : List AsksOf → AttemptId → List Ask → Bool
-has_too_many table attempt asks = nat_lt 64 (length (asks_after (asks_of table attempt) asks))
+abbrev pub asks_too_many : List AsksOf → AttemptId → List Ask → Bool
+asks_too_many table attempt asks = nat_lt 64 (length (asks_after (attempt_asks table attempt) asks))
 
 -- the grants that a master is told of: to its attempt, and no master's
 abbrev pub grants_told : Tables → AttemptId → List Grant
@@ -109,7 +108,7 @@ allocated_told t attempt id row = Allocated (id + 1) (grants_told t attempt) (cl
 abbrev pub new_told : Tables → AttemptId → ℕ → List Ask → AppRow → Reply
 new_told t attempt id asks row =
     if asks_too_much t.settings.greatest asks then TooLarge else
-    (if has_too_many t.asks attempt asks then Full else allocated_told t attempt id row)
+    (if asks_too_many t.asks attempt asks then Full else allocated_told t attempt id row)
 
 -- what an allocation is answered in a dialogue: the master finished; it is repeated, is of another id, or is new
 abbrev pub said_told : Tables → AttemptId → ℕ → List Ask → AppRow → Dialogue → Reply
@@ -130,6 +129,6 @@ allocate_told t attempt id asks (Some row) = spoken_told t attempt id asks row r
 
 -- what a master is answered
 abbrev pub master_told : Tables → AttemptId → MasterAsk → Reply
-master_told t attempt Register = register_told (living_row attempt (row_of t.rows attempt.app))
+master_told t attempt Register = master_register_told (living_row attempt (row_of t.rows attempt.app))
 master_told t attempt (Finish text) = finish_told attempt (found_in t attempt.app) (row_of t.rows attempt.app)
 master_told t attempt (Allocate id asks release) = allocate_told t attempt id asks (living_row attempt (row_of t.rows attempt.app))

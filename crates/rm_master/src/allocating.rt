@@ -6,8 +6,8 @@ ghost use Rattle.rm_types.specs.Ids.{is_attempt};
 ghost use Rattle.rm_book.specs.Granted.{AllMayBeTold};
 ghost use Rattle.rm_book.specs.ManyAsks.{all_asked};
 ghost use Rattle.rm_master.specs.declared.allocating.AskError.TheVariants.{Memory, TooMany};
-ghost use Rattle.rm_master.specs.Answers.{acquired, after_master, allocated_with, grants_in, ids_granted, release_events, told_by, told_in};
-ghost use Rattle.rm_master.specs.Told.{allocate_told, allocated_told, asks_too_much, closings_told, grants_told, has_too_many, living_row};
+ghost use Rattle.rm_master.specs.Answers.{acquired, after_master, allocated_with, grants_in, ids_granted, release_events, containers_told, after_told};
+ghost use Rattle.rm_master.specs.Told.{allocate_told, allocated_told, asks_too_much, closings_told, grants_told, asks_too_many, living_row};
 ghost use Rattle.rm_tables.specs.declared.events.SchedEvent.{SchedEvent as Event};
 ghost use Rattle.rm_tables.specs.Leaving.{is_masters_in};
 ghost use Rattle.rm_tables.specs.Rows.{row_of};
@@ -94,8 +94,8 @@ impl From<NoMemory> for AskError {
 
 /// The asks of an attempt are set, unless it would ask for too many. A refusal changes nothing.
 fn set_asks(asks: &mut Asks, attempt: AttemptId, new: &[Ask]) -> Result<(), AskError>
-    ensures ok { OnOk result ((has_too_many asks.old attempt new.now ≡ false) × (asks.new ≡ all_asked attempt asks.old new.now)) }
-    ensures too_many { result ≡ Err TooMany → has_too_many asks.old attempt new.now ≡ true }
+    ensures ok { OnOk result ((asks_too_many asks.old attempt new.now ≡ false) × (asks.new ≡ all_asked attempt asks.old new.now)) }
+    ensures too_many { result ≡ Err TooMany → asks_too_many asks.old attempt new.now ≡ true }
     ensures err { OnErr result (asks.new ≡ asks.old) }
 {
     if asks.set_all(attempt, new, MOST_ASKS)? {
@@ -113,18 +113,18 @@ fn set_and_release(
     new: &[Ask],
     release: Items<ContainerId>,
 ) -> Result<(), AskError>
-    ensures few { OnOk result (has_too_many asks.old attempt new.now ≡ false) }
+    ensures few { OnOk result (asks_too_many asks.old attempt new.now ≡ false) }
     ensures set { OnOk result (asks.new ≡ all_asked attempt asks.old new.now) }
     ensures posted { OnOk result (sched.new ≡ sched.old ++ Event.Release attempt release ∷ []) }
-    ensures too_many { result ≡ Err TooMany → has_too_many asks.old attempt new.now ≡ true }
+    ensures too_many { result ≡ Err TooMany → asks_too_many asks.old attempt new.now ≡ true }
     ensures err { OnErr result ((asks.new ≡ asks.old) × (sched.new ≡ sched.old)) }
 {
     sched.push_made(
         asks,
         |asks: &mut Asks| -> Result<SchedEvent, AskError>
             ensures event { IfOk result (λ made. made ≡ Event.Release attempt release) }
-            ensures ok { OnOk result ((has_too_many asks.old attempt new.entry.now ≡ false) × (asks.new ≡ all_asked attempt asks.old new.entry.now)) }
-            ensures too_many { result ≡ Err TooMany → has_too_many asks.old attempt new.entry.now ≡ true }
+            ensures ok { OnOk result ((asks_too_many asks.old attempt new.entry.now ≡ false) × (asks.new ≡ all_asked attempt asks.old new.entry.now)) }
+            ensures too_many { result ≡ Err TooMany → asks_too_many asks.old attempt new.entry.now ≡ true }
             ensures err { OnErr result (asks.new ≡ asks.old) }
         {
             set_asks(asks, attempt, new)?;
@@ -143,9 +143,9 @@ fn take_asks(
     new: &[Ask],
     release: &Items<ContainerId>,
 ) -> Result<(), AskError>
-    ensures few { OnOk result (has_too_many t.old.asks attempt new.now ≡ false) }
+    ensures few { OnOk result (asks_too_many t.old.asks attempt new.now ≡ false) }
     ensures ok { OnOk result (t.new ≡ record t.old { asks = all_asked attempt t.old.asks new.now; sched = t.old.sched ++ release_events attempt release.now }) }
-    ensures too_many { result ≡ Err TooMany → has_too_many t.old.asks attempt new.now ≡ true }
+    ensures too_many { result ≡ Err TooMany → asks_too_many t.old.asks attempt new.now ≡ true }
     ensures err { OnErr result (t.new ≡ t.old) }
 {
     if release.is_empty() {
@@ -168,7 +168,7 @@ fn acquire_all(book: &mut Book, grants: &[Grant])
 /// What a reply tells a master of is acquired.
 fn acquire_told(book: &mut Book, reply: &Reply)
     requires { AllMayBeTold book.old.rows (grants_in reply.now) }
-    ensures { book.new ≡ acquired (told_by reply.now) book.old }
+    ensures { book.new ≡ acquired (containers_told reply.now) book.old }
 {
     if let Reply::Allocated { grants, .. } = reply {
         acquire_all(book, grants.as_slice());
@@ -180,7 +180,7 @@ fn tell(t: &mut Tables, attempt: AttemptId, id: u32, reply: &Reply, kept: Boxed<
     requires id { id + 1 < 2 ^ 32 }
     requires kept { kept ≡ reply.now }
     requires told { AllMayBeTold t.old.book.rows (grants_in reply.now) }
-    ensures { t.new ≡ told_in attempt id reply.now t.old }
+    ensures { t.new ≡ after_told attempt id reply.now t.old }
 {
     acquire_told(&mut t.book, reply);
     let id = id + 1;
@@ -203,8 +203,8 @@ fn take(
 ) -> Result<Reply, NoMemory>
     requires id { id + 1 < 2 ^ 32 }
     requires told { AllMayBeTold t.old.book.rows (grants_in reply) }
-    ensures reply { IfOk result (λ told. told ≡ (if has_too_many t.old.asks attempt asks.now then Told.Full else reply)) }
-    ensures changed { IfOk result (λ told. t.new ≡ (if has_too_many t.old.asks attempt asks.now then t.old else allocated_with attempt id asks.now release.now reply t.old)) }
+    ensures reply { IfOk result (λ told. told ≡ (if asks_too_many t.old.asks attempt asks.now then Told.Full else reply)) }
+    ensures changed { IfOk result (λ told. t.new ≡ (if asks_too_many t.old.asks attempt asks.now then t.old else allocated_with attempt id asks.now release.now reply t.old)) }
     ensures err { OnErr result (t.new ≡ t.old) }
 {
     let kept = reply.copy()?;

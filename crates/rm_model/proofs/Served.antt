@@ -22,7 +22,7 @@ use Rattle.rm_model.specs.ClientReplies.{life_after_client}
 use Rattle.rm_model.specs.Facts.{is_known}
 use Rattle.rm_model.specs.MasterReplies.{is_new_to_master, life_after_master}
 use Rattle.rm_model.specs.NodeReplies.{is_later_turn, is_new_to_node, life_after_clock, life_after_node}
-use Rattle.rm_model.specs.Nodes.{node_of}
+use Rattle.rm_model.specs.Nodes.{judged_node}
 use Rattle.rm_model.specs.Replies.{life_after}
 use Rattle.rm_model.specs.State.{LifeState, Scene}
 
@@ -47,7 +47,7 @@ module _ (P : Bool → Bool → Type 0) where
   of_master m attempt _ _ h = h
 
   of_node : (m : Scene) (name : List ℕ) (ask : NodeAsk) (reply : Reply) → Says m.life → Says (life_after_node m name ask reply)
-  of_node m name (nodes.Register turn capability running) (replies.NodeRegistered told epoch) h = of_either (is_later_turn turn (node_of m.life.nodes name)) _ _ h h
+  of_node m name (nodes.Register turn capability running) (replies.NodeRegistered told epoch) h = of_either (is_later_turn turn (judged_node m.life.nodes name)) _ _ h h
   of_node m name (nodes.Beat id running done) (replies.Beat next launch clean) h = of_either (is_new_to_node m name id) _ _ h h
   of_node m name _ _ h = h
 

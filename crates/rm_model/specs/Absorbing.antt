@@ -13,12 +13,9 @@ use Rattle.rm_types.specs.Passes.{total_of}
 use Rattle.rm_types.specs.Resources.{difference_of, fits}
 use Rattle.rm_model.specs.State.{LifeState, NodeState, Ready, Row, Scene}
 use Rattle.rm_model.specs.Attempts.{attempt_was_first, is_current}
-use Rattle.rm_model.specs.Containers.{ids_on, is_living, leave, lives_elsewhere, lives_on, row_of}
-use Rattle.rm_model.specs.Nodes.{tidied, with_node}
-
--- the container is one of these
-abbrev pub is_held : List Held → ContainerId → Bool
-is_held list id = list_any (λ held. is_container held.id id) list
+use Rattle.rm_model.specs.Containers.{ids_on, is_living, leave, lives_elsewhere, lives_on, judged_row}
+use Rattle.rm_model.specs.Nodes.{tidied, with_judged_node}
+use Rattle.rm_types.specs.Containers.{is_held}
 
 -- a container that is reported at its node's first absorption in a life, with the reported size: its epoch is below the
 -- life's, and its attempt was kept when the life began
@@ -28,7 +25,7 @@ as_reported m held = if nat_lt held.id.epoch m.life.epoch && attempt_was_first m
 -- a container that is reported at a later one, with the size that it has in the book: it lives on this node
 abbrev pub as_booked : Scene → NodeState → Held → Option Held
 as_booked m node held =
-    if lives_on m.life.book node.name held.id then option_map (λ row. record { id = row.id; size = row.size }) (row_of m.life.book held.id) else None
+    if lives_on m.life.book node.name held.id then option_map (λ row. record { id = row.id; size = row.size }) (judged_row m.life.book held.id) else None
 
 -- a reported container as it counts at this absorption, which is the node's first in this life where nothing says yet what it
 -- offers
@@ -79,7 +76,7 @@ absorbed node = record node { phase = Ready; capability = Some node.last.capabil
 
 -- a life with the containers taken on a node that was absorbed
 abbrev pub with_taken : List ℕ → List Held → LifeState → LifeState
-with_taken name taken life = record life { book = book_taken name taken life.book; nodes = with_node absorbed name life.nodes }
+with_taken name taken life = record life { book = book_taken name taken life.book; nodes = with_judged_node absorbed name life.nodes }
 
 -- the life after an absorption: what wasn't taken leaves, and what was taken stands; the node is ready, so that nothing is left
 -- to do of its registration

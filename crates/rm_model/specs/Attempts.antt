@@ -13,12 +13,6 @@ use Rattle.rm_types.specs.Records.{record_of, last_attempt, is_some_and}
 use Rattle.rm_model.specs.State.{Scene, MasterState}
 use Rattle.rm_model.specs.Facts.{attempts_in, awaits, has_container, is_attempt_end_op, is_kept, kept_attempts, kept_end}
 
--- it ended FINISHED
-abbrev pub is_finished : How → Bool
-is_finished Finished = true
-is_finished Failed = false
-is_finished Killed = false
-
 -- it ended FAILED
 abbrev pub is_failed : How → Bool
 is_failed Finished = false

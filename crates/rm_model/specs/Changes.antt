@@ -13,7 +13,7 @@ use Rattle.rm_types.specs.Records.{records}
 use Rattle.rm_model.specs.State.{Manager, LifeState, Scene, scene, new_life}
 use Rattle.rm_model.specs.Facts.{next_attempt, submission_of}
 use Rattle.rm_model.specs.Containers.{leave}
-use Rattle.rm_model.specs.Nodes.{tidied, with_node}
+use Rattle.rm_model.specs.Nodes.{tidied, with_judged_node}
 use Rattle.rm_model.specs.Replies.{life_after}
 use Rattle.rm_model.specs.Absorbing.{absorbs}
 use Rattle.rm_model.specs.Passing.{passes}
@@ -62,7 +62,7 @@ abbrev pub orders : LifeState → ContainerId → List ℕ → LifeState
 orders life container name =
     record life {
       masters = record life.masters { ordered = life.masters.ordered ++ container ∷ [] };
-      nodes = with_node (λ node. record node { launches = node.launches ++ container ∷ [] }) name life.nodes;
+      nodes = with_judged_node (λ node. record node { launches = node.launches ++ container ∷ [] }) name life.nodes;
     }
 
 -- the state with the life changed

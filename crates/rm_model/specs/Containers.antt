@@ -25,16 +25,9 @@ is_size a b = (a.memory_mb == b.memory_mb) && (a.vcores == b.vcores)
 abbrev pub is_same_ask : Ask → Ask → Bool
 is_same_ask a b = (a.priority == b.priority) && is_size a.size b.size
 
--- it was granted, and nobody was told of it yet (`ALLOCATED`, in YARN's `RMContainerState`)
-abbrev pub is_granted : ContainerState → Bool
-is_granted Granted = true
-is_granted Acquired = false
-is_granted Running = false
-is_granted Completed = false
-
 -- the row of a container, if it lives
-abbrev pub row_of : List Row → ContainerId → Option Row
-row_of book id = find (λ row. is_container row.id id) book
+abbrev pub judged_row : List Row → ContainerId → Option Row
+judged_row book id = find (λ row. is_container row.id id) book
 
 -- a container lives: it is in the book
 abbrev pub is_living : List Row → ContainerId → Bool

@@ -100,12 +100,12 @@ pub record MayIssueAppEnd (settings : Settings) (m : Scene) (id : AppId) (how : 
   pub end : end_by settings m id (last_end m id) ≡ Some (how, text)
 
 -- an application completed before another, or that one isn't completed
-abbrev pub is_before : Scene → AppRecord → AppRecord → Bool
-is_before m app other = not (is_completed m other) || nat_le app.end_order other.end_order
+abbrev pub is_completed_before : Scene → AppRecord → AppRecord → Bool
+is_completed_before m app other = not (is_completed m other) || nat_le app.end_order other.end_order
 
 -- an application is the one of the completed whose end was kept first
 abbrev pub completed_first : Scene → AppId → Bool
-completed_first m id = is_some_and (λ app. is_completed m app && list_all (is_before m app) m.records.apps) (kept_record m id)
+completed_first m id = is_some_and (λ app. is_completed m app && list_all (is_completed_before m app) m.records.apps) (kept_record m id)
 
 -- a Remove may be issued where more applications are completed than are remembered (YARN's
 -- `state-store.max-completed-applications`), of the one that completed first

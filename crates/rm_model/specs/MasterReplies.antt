@@ -17,12 +17,13 @@ use Rattle.rm_types.specs.declared.replies.Reply.{Reply}
 use Rattle.rm_types.specs.declared.replies.Reply.TheVariants.{MasterRegistered, Already, Gone, Resync, WrongId, TooLarge, Full, Allocated, NotRegistered, Finishing, Finished}
 use Rattle.rm_types.specs.declared.settings.Settings.{Settings}
 use Rattle.rm_types.specs.Ids.{is_attempt}
-use Rattle.rm_types.specs.Records.{is_some_and}
+use Rattle.rm_types.specs.Records.{is_some_and, is_finished}
 use Rattle.rm_types.specs.Resources.{fits}
 use Rattle.rm_model.specs.State.{Scene, LifeState, Masters, MasterState, Row}
 use Rattle.rm_model.specs.Facts.{awaits, has_container, kept_end}
-use Rattle.rm_model.specs.Attempts.{attempt_end, has_registered, is_finished, is_finishing, is_last, is_live, is_masters, is_registered, master_of}
-use Rattle.rm_model.specs.Containers.{is_granted, is_same_ask, released_by}
+use Rattle.rm_model.specs.Attempts.{attempt_end, has_registered, is_finishing, is_last, is_live, is_masters, is_registered, master_of}
+use Rattle.rm_model.specs.Containers.{is_same_ask, released_by}
+use Rattle.rm_types.specs.Containers.{is_granted}
 
 -- what a registration is answered: an attempt that isn't live is gone; the master of a live one registers once in a life
 abbrev pub register_reply : Scene → AttemptId → Reply

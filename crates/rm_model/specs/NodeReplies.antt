@@ -17,8 +17,9 @@ use Rattle.rm_types.specs.Records.{is_some_and}
 use Rattle.rm_model.specs.State.{LifeState, NodeState, Registration, Row, Scene, Waiting, Lost, Registered, Beat, Expired}
 use Rattle.rm_model.specs.Facts.{has_container}
 use Rattle.rm_model.specs.Attempts.{is_live}
-use Rattle.rm_model.specs.Containers.{is_granted, lives_on, once}
-use Rattle.rm_model.specs.Nodes.{is_ready, is_waiting, node_of, tidied, with_node}
+use Rattle.rm_model.specs.Containers.{lives_on, once}
+use Rattle.rm_types.specs.Containers.{is_granted}
+use Rattle.rm_model.specs.Nodes.{is_ready, is_waiting, judged_node, tidied, with_judged_node}
 
 -- a node's turn is above the last one in this life
 abbrev pub is_later_turn : ℕ → Option NodeState → Bool
@@ -56,12 +57,12 @@ beat_reply m id running (Some node) =
 
 -- what a node is answered
 abbrev pub node_reply : Scene → List ℕ → NodeAsk → Reply
-node_reply m name (AskRegister turn capability running) = node_register_reply m turn (node_of m.life.nodes name)
-node_reply m name (AskBeat id running done) = beat_reply m id running (node_of m.life.nodes name)
+node_reply m name (AskRegister turn capability running) = node_register_reply m turn (judged_node m.life.nodes name)
+node_reply m name (AskBeat id running done) = beat_reply m id running (judged_node m.life.nodes name)
 
 -- a node may expire that registered in this life and isn't lost
 abbrev pub may_expire : Scene → List ℕ → Bool
-may_expire m name = is_some_and (λ node. is_waiting node.phase || is_ready node.phase) (node_of m.life.nodes name)
+may_expire m name = is_some_and (λ node. is_waiting node.phase || is_ready node.phase) (judged_node m.life.nodes name)
 
 -- what the clock is answered: a node may expire that isn't lost, and the master of a live attempt
 abbrev pub clock_reply : Scene → ClockAsk → Reply
@@ -70,8 +71,8 @@ clock_reply m (ExpireNode name) = if may_expire m name then Ok else Unknown
 clock_reply m (ExpireMaster attempt) = if is_live m attempt then Ok else Unknown
 
 -- a node after a later registration: it waits to be absorbed, and its last id is 0
-abbrev pub registered : Registration → Reply → NodeState → NodeState
-registered registration reply node =
+abbrev pub node_after_registration : Registration → Reply → NodeState → NodeState
+node_after_registration registration reply node =
     record node {
       last = registration;
       phase = Waiting;
@@ -97,7 +98,7 @@ new_node name registration reply =
 -- the nodes after a registration, where the node didn't register in this life before, and where it did
 abbrev pub nodes_registered : Scene → List ℕ → Registration → Reply → Option NodeState → List NodeState
 nodes_registered m name registration reply None = m.life.nodes ++ new_node name registration reply ∷ []
-nodes_registered m name registration reply (Some node) = with_node (registered registration reply) name m.life.nodes
+nodes_registered m name registration reply (Some node) = with_judged_node (node_after_registration registration reply) name m.life.nodes
 
 -- a row after a beat of its node: Running where the node reported it, else Acquired where the node was told to launch it
 -- and nobody was told of it before. Rows on other nodes stay
@@ -119,23 +120,23 @@ beaten launched done reply node =
 
 -- the id is the last one that the node was answered, so that the message is new
 abbrev pub is_new_to_node : Scene → List ℕ → ℕ → Bool
-is_new_to_node m name id = is_some_and (λ node. id == node.last_id) (node_of m.life.nodes name)
+is_new_to_node m name id = is_some_and (λ node. id == node.last_id) (judged_node m.life.nodes name)
 
 -- a new beat changes the rows on the node, and the node
 abbrev pub beats : Scene → List ℕ → List Held → List ContainerId → List ContainerId → Reply → LifeState
 beats m name running done launched reply =
     record m.life {
       book = map (row_beaten name (reported running) launched) m.life.book;
-      nodes = with_node (beaten launched done reply) name m.life.nodes;
+      nodes = with_judged_node (beaten launched done reply) name m.life.nodes;
     }
 
 -- the life after a node was answered: a later registration changes it, and a beat that isn't refused or repeated; nothing else
 abbrev pub life_after_node : Scene → List ℕ → NodeAsk → Reply → LifeState
 life_after_node m name (AskRegister turn capability running) (NodeRegistered told epoch) =
-    if is_later_turn turn (node_of m.life.nodes name) then
+    if is_later_turn turn (judged_node m.life.nodes name) then
     tidied (record m.life {
       nodes =
-          nodes_registered m name (record { turn = turn; capability = capability; running = running }) (NodeRegistered told epoch) (node_of m.life.nodes name);
+          nodes_registered m name (record { turn = turn; capability = capability; running = running }) (NodeRegistered told epoch) (judged_node m.life.nodes name);
     })
     else m.life
 life_after_node m name (AskBeat id running done) (TellBeat next launch clean) =
@@ -149,6 +150,6 @@ expired node = record node { phase = Lost; undone = node.undone ++ Expired ∷ [
 -- the life after the clock was answered: the time goes on, a node is lost at once, a master's lease has run out
 abbrev pub life_after_clock : Scene → ClockAsk → Reply → LifeState
 life_after_clock m (Tick time) Ok = record m.life { now = m.life.now + time }
-life_after_clock m (ExpireNode name) Ok = tidied (record m.life { nodes = with_node expired name m.life.nodes })
+life_after_clock m (ExpireNode name) Ok = tidied (record m.life { nodes = with_judged_node expired name m.life.nodes })
 life_after_clock m (ExpireMaster attempt) Ok = record m.life { masters = record m.life.masters { expired = m.life.masters.expired ++ attempt ∷ [] } }
 life_after_clock m _ _ = m.life

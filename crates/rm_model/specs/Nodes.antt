@@ -19,12 +19,12 @@ is_ready Ready = true
 is_ready Lost = false
 
 -- the state of a node, if it registered in this life
-abbrev pub node_of : List NodeState → List ℕ → Option NodeState
-node_of nodes name = find (λ node. bytes_eq node.name name) nodes
+abbrev pub judged_node : List NodeState → List ℕ → Option NodeState
+judged_node nodes name = find (λ node. bytes_eq node.name name) nodes
 
 -- the nodes with one of them changed
-abbrev pub with_node : (NodeState → NodeState) → List ℕ → List NodeState → List NodeState
-with_node change name nodes = map (λ node. if bytes_eq node.name name then change node else node) nodes
+abbrev pub with_judged_node : (NodeState → NodeState) → List ℕ → List NodeState → List NodeState
+with_judged_node change name nodes = map (λ node. if bytes_eq node.name name then change node else node) nodes
 
 -- the done list of the beat at the front of what is not worked off, where a beat stands there
 abbrev pub beat_at : List Undone → Option (List ContainerId)

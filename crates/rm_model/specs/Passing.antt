@@ -15,7 +15,7 @@ use Rattle.rm_types.specs.Passes.{PassNode, by_priority, pass_list}
 use Rattle.rm_model.specs.State.{LifeState, NodeState, Row, Scene}
 use Rattle.rm_model.specs.Attempts.{attempt_at}
 use Rattle.rm_model.specs.Containers.{is_same_ask, is_size, rows_on}
-use Rattle.rm_model.specs.Nodes.{is_ready, tidied, with_node}
+use Rattle.rm_model.specs.Nodes.{is_ready, tidied, with_judged_node}
 
 -- nothing is granted yet: the store held an application without an end when the life began, and its nodes may still report.
 -- From YARN's `work-preserving-recovery.scheduling-wait-ms`
@@ -87,5 +87,5 @@ passes m name grants =
       granted = m.life.granted ++ map (λ grant. grant.id) grants;
       asks = fold without_granted m.life.asks grants;
       book = m.life.book ++ map row_granted grants;
-      nodes = with_node passed name m.life.nodes;
+      nodes = with_judged_node passed name m.life.nodes;
     })

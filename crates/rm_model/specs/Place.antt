@@ -103,9 +103,9 @@ IsNext s p Down = Crashes p
 IsNext s p _ = Unit {0}
 
 -- the place where a life has begun
-abbrev pub begun : List Life → Place → Place
-begun [] p = p
-begun (life ∷ more) p = record { lives = more; segments = life.segments }
+abbrev pub place_begun : List Life → Place → Place
+place_begun [] p = p
+place_begun (life ∷ more) p = record { lives = more; segments = life.segments }
 
 -- the segments after the current one
 abbrev pub rest_of : List Segment → List Segment
@@ -114,7 +114,7 @@ rest_of (segment ∷ more) = more
 
 -- the place after an entry
 abbrev pub moved : Place → Entry → Place
-moved p (Opened landed epoch stamp) = begun p.lives p
+moved p (Opened landed epoch stamp) = place_begun p.lives p
 moved p (Served sender message reply) = record p { segments = segments_without sender p.segments }
 moved p Settled = record p { segments = rest_of p.segments }
 moved p Down = record p { segments = rest_of p.segments }

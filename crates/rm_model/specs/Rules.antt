@@ -25,7 +25,7 @@ use Rattle.rm_model.specs.State.{Manager, LifeState, NodeState, Registered, Scen
 use Rattle.rm_model.specs.Facts.{app_end_issued, awaits, has_container, is_accepted, is_attempt_op, is_kept, is_known, is_wished, kept_attempts, kept_record, next_attempt, reaches_bound}
 use Rattle.rm_model.specs.Attempts.{attempt_end_issued, has_failed, has_master_ask, is_own_master, kept_here}
 use Rattle.rm_model.specs.Containers.{lives_on}
-use Rattle.rm_model.specs.Nodes.{beat_at, node_of}
+use Rattle.rm_model.specs.Nodes.{beat_at, judged_node}
 use Rattle.rm_model.specs.Replies.{reply_to}
 use Rattle.rm_model.specs.Absorbing.{not_taken, taken_of}
 use Rattle.rm_model.specs.Passing.{pass_of}
@@ -142,8 +142,8 @@ AllowedIn settings m (Blown passed) = MayBlow m
 AllowedIn settings m (Served sender message reply) = MayServe settings m sender message reply
 AllowedIn settings m (Accepted app) = MayAccept m app
 AllowedIn settings m (Queued attempt) = MayQueue settings m attempt
-AllowedIn settings m (Absorbed name taken ended) = IsSomeAnd (node_of m.life.nodes name) (λ node. MayAbsorb m node taken ended)
-AllowedIn settings m (Pass name grants) = IsSomeAnd (node_of m.life.nodes name) (λ node. MayPass settings m node grants)
+AllowedIn settings m (Absorbed name taken ended) = IsSomeAnd (judged_node m.life.nodes name) (λ node. MayAbsorb m node taken ended)
+AllowedIn settings m (Pass name grants) = IsSomeAnd (judged_node m.life.nodes name) (λ node. MayPass settings m node grants)
 AllowedIn settings m (Ordered container node) = MayOrder m container node
 AllowedIn settings m (Ended cause list) = MayEnd m cause list
 AllowedIn settings m Settled = MaySettle settings m

@@ -1,8 +1,8 @@
-ghost use Rattle.rm_node.specs.Laws.{RowsAreOne, ReadyWereWaiting, RegisteredWait, LostWereRegistered, NoneIsAbsentAgain};
+ghost use Rattle.rm_node.specs.Laws.{NodeRowsAreOne, ReadyWereWaiting, RegisteredWait, LostWereRegistered, NoneIsAbsentAgain};
 
 /// A state and an event have at most one row.
 pub fn one_row_answers_each_pair()
-    ensures { RowsAreOne }
+    ensures { NodeRowsAreOne }
 {}
 
 /// A node is ready only by way of waiting, once what it runs was taken in.

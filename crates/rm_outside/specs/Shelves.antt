@@ -1,5 +1,5 @@
 -- What stands on a shelf, and how much of it a read gives.
-use Rattle.std.specs.Prelude.{◌≡◌, ◌⊎◌, ℕ, Contains, IsNone, List, Option, Result, Ok, Err, take}
+use Rattle.std.specs.Prelude.{◌≡◌, ◌⊎◌, ℕ, Contains, IfSome, IsNone, List, Option, Result, Ok, Err, take}
 use Rattle.std.specs.Option.{option_map}
 use Rattle.std.specs.List.{find}
 use Rattle.std.specs.Str.{bytes_eq}
@@ -24,15 +24,23 @@ bytes_of_name files name = option_map (λ file. file.bytes) (find (λ file. byte
 abbrev pub bytes_read : List ℕ → List ℕ
 bytes_read bytes = take MOST_READ bytes
 
+-- What a shelf tells of each name.
+abbrev pub ShelfTells : Type 0
+ShelfTells = List ℕ → Option (List ℕ)
+
+-- These bytes were read of a file: where the shelf tells the file's bytes, they are what a read gives of them.
+abbrev pub WereRead : Option (List ℕ) → List ℕ → Type 0
+WereRead told bytes = IfSome told (λ all. bytes ≡ bytes_read all)
+
 -- The count of faults after this answer: a failure raises it.
-abbrev pub faults_after : {A : Type 0} → ℕ → Result A ShelfError → ℕ
-faults_after faults (Ok bytes) = faults
-faults_after faults (Err Failed) = risen faults
-faults_after faults (Err Memory) = faults
+abbrev pub shelf_faults : {A : Type 0} → ℕ → Result A ShelfError → ℕ
+shelf_faults faults (Ok bytes) = faults
+shelf_faults faults (Err Failed) = risen faults
+shelf_faults faults (Err Memory) = faults
 
 -- The shelf in memory after a call that gave this answer: the call counts, and so does a failure.
 abbrev pub shelf_after : {A : Type 0} → MemShelfState → Result A ShelfError → MemShelfState
-shelf_after shelf answer = record shelf { calls = risen shelf.calls; faults = faults_after shelf.faults answer }
+shelf_after shelf answer = record shelf { calls = risen shelf.calls; faults = shelf_faults shelf.faults answer }
 
 -- One read of a file of the name: the call counts; it fails exactly where its number is among those that fail or the shelf
 -- holds no file of the name, and then the failure counts.

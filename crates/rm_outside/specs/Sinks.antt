@@ -20,10 +20,10 @@ pub record SinkCounts : Type 0 where
   pub idle : ℕ
 
 -- The count of faults after this answer: a fault raises it.
-abbrev pub faults_after : ℕ → Result ℕ SinkError → ℕ
-faults_after faults (Ok count) = faults
-faults_after faults (Err SinkFault) = risen faults
-faults_after faults (Err Memory) = faults
+abbrev pub sink_faults : ℕ → Result ℕ SinkError → ℕ
+sink_faults faults (Ok count) = faults
+sink_faults faults (Err SinkFault) = risen faults
+sink_faults faults (Err Memory) = faults
 
 -- The count of idle writes after this answer to a piece: taking nothing of a piece that isn't empty raises it.
 abbrev pub idle_after : ℕ → Result ℕ SinkError → List ℕ → ℕ
@@ -42,10 +42,10 @@ abbrev pub sink_after : MemSinkState → Result ℕ SinkError → List ℕ → M
 sink_after sink answer piece = record sink {
   taken = taken_after sink.taken answer piece;
   calls = risen sink.calls;
-  faults = faults_after sink.faults answer;
+  faults = sink_faults sink.faults answer;
   idle = idle_after sink.idle answer piece;
 }
 
 -- The counts of a sink that tells no bytes, after this answer to a piece.
 abbrev pub counts_after : SinkCounts → Result ℕ SinkError → List ℕ → SinkCounts
-counts_after counts answer piece = record { faults = faults_after counts.faults answer; idle = idle_after counts.idle answer piece }
+counts_after counts answer piece = record { faults = sink_faults counts.faults answer; idle = idle_after counts.idle answer piece }

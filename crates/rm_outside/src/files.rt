@@ -69,7 +69,7 @@ impl<R> FileShelf<R> {
 }
 
 impl<R: Files + AllocGlobal> Shelf for FileShelf<R> {
-    ghost use Rattle.rm_outside.specs.Shelves.{faults_after};
+    ghost use Rattle.rm_outside.specs.Shelves.{shelf_faults};
 
     ghost bytes_of = { λ _ _. None };
 
@@ -81,7 +81,7 @@ impl<R: Files + AllocGlobal> Shelf for FileShelf<R> {
     /// that or for its bytes.
     fn read(&mut self, name: &str) -> Result<Vec<u8>, ShelfError>
         ensures most { IfOk result (λ bytes. length bytes.items ≤ MOST_READ) }
-        ensures after { self.new ≡ faults_after self.old result }
+        ensures after { self.new ≡ shelf_faults self.old result }
         ensures one { Unit {0} }
         ensures never_falls { self.old ≤ self.new }
     {

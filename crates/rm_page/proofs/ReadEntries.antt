@@ -29,7 +29,7 @@ use Rattle.rm_formats.specs.Page.{line, line_of}
 use Rattle.rm_types.specs.Lanes.{sender_of}
 use Rattle.rm_formats.specs.Wording.{spaced, bracketed, cause_text, message_words, message_text, op_words, reply_words}
 use Rattle.rm_ids.specs.Digits.{value_of}
-use Rattle.rm_page.specs.Ranges.{IsEntry, IsServed, IsMessage, IsHeld, IsGrant, AsksForReport}
+use Rattle.rm_page.specs.Ranges.{IsEntry, IsPageServed, IsPageMessage, IsPageHeld, IsGrant, AsksForReport}
 use Rattle.rm_page.specs.Shown.{listed_held, listed_grant, shown_reply, shown, is_silent}
 use Rattle.rm_page.proofs.Bytes.{made_of, lacks, number_back, cut, cut_at, cut-append, EachLacks, behind, is_word_byte, number_word, node_word, AreWords, words_lack, EachLacks-append, joined_lacks}
 use Rattle.rm_page.proofs.ReadIds.{app_word, attempt_word, container_word, read_app, read_attempt, read_container, app_back, attempt_back, container_back}
@@ -121,7 +121,7 @@ free_start (messages.Clock (clocks.Tick time)) more = refl
 free_start message more = refl
 
 -- any other message has words alone
-unfree_are : (message : Message) → IsMessage message → frees message ≡ false → AreWords (message_pieces message)
+unfree_are : (message : Message) → IsPageMessage message → frees message ≡ false → AreWords (message_pieces message)
 unfolding frees message_pieces message_front
 unfree_are (messages.Client user (clients.Submit id submission)) is e = absurd cc
 unfree_are (messages.Master attempt (masters.Finish text)) is e = absurd cc
@@ -133,7 +133,7 @@ no_report (messages.Client user (clients.Report id)) e wants = cc
 no_report message e wants = wants
 
 -- and the reply to such a message has
-free_are : (message : Message) (reply : Reply) → IsServed message reply → frees message ≡ true → AreWords (reply_pieces reply)
+free_are : (message : Message) (reply : Reply) → IsPageServed message reply → frees message ≡ true → AreWords (reply_pieces reply)
 unfolding reply_pieces reply_front
 free_are message (replies.Report report) is e = absurd (no_report message e is.answers)
 free_are message reply is e = reply_are reply is.reply_is
@@ -266,7 +266,7 @@ reply_some : (reply : Reply) → is_nil (reply_words reply) ≡ false
 reply_some replies.NotOpen = refl
 reply_some reply = refl
 
-served_pieces : (message : Message) (reply : Reply) → IsServed message reply
+served_pieces : (message : Message) (reply : Reply) → IsPageServed message reply
     → cut 32 (spaced (codes "served" ∷ (message_words message ++ codes "->" ∷ reply_words reply))) ≡ codes "served" ∷ (message_pieces message ++ codes "->" ∷ reply_pieces reply)
 served_pieces message reply is =
     let words : List (List ℕ) = message_words message ++ codes "->" ∷ reply_words reply in
@@ -282,7 +282,7 @@ served_pieces message reply is =
     some_front [] back some = absurd cc
     some_front (word ∷ front) back some = refl
 
-served_halves : (message : Message) (reply : Reply) → IsServed message reply
+served_halves : (message : Message) (reply : Reply) → IsPageServed message reply
     → cond (are_free (message_pieces message ++ codes "->" ∷ reply_pieces reply)) (split_last (message_pieces message ++ codes "->" ∷ reply_pieces reply)) (split_first (message_pieces message ++ codes "->" ∷ reply_pieces reply))
     ≡ record { front = message_pieces message; back = reply_pieces reply }
 served_halves message reply is =
@@ -294,13 +294,13 @@ served_halves message reply is =
     by_kind true e = split_last_at (message_pieces message) (reply_pieces reply) (free_are message reply is e)
     by_kind false e = split_first_at (message_pieces message) (reply_pieces reply) (unfree_are message is.message_is e)
 
-served_back : (message : Message) (reply : Reply) → IsServed message reply
+served_back : (message : Message) (reply : Reply) → IsPageServed message reply
     → read_served (message_pieces message ++ codes "->" ∷ reply_pieces reply) ≡ entries.Served (sender_of message) message (shown_reply reply)
 unfolding read_served served_of
 served_back message reply is =
     ap served_of (served_halves message reply is) ∙ rw (message_pieces_back message is.message_is, reply_pieces_back reply is.reply_is) refl
 
-served_line : (sender : Sender) (message : Message) (reply : Reply) → IsServed message reply → HasLine (entries.Served sender message reply)
+served_line : (sender : Sender) (message : Message) (reply : Reply) → IsPageServed message reply → HasLine (entries.Served sender message reply)
 unfolding read_line read_entry entry_by keyword
 served_line sender message reply is = record {
   body = spaced (codes "served" ∷ (message_words message ++ codes "->" ∷ reply_words reply));
@@ -312,8 +312,8 @@ served_line sender message reply is = record {
 
 -- ---- each entry
 
-taken_back : (taken : List Held) → All IsHeld taken → All (ComesBack (λ one. container_text one.id) read_listed_held listed_held) taken
-taken_back taken all = All-weaker IsHeld (ComesBack (λ one. container_text one.id) read_listed_held listed_held) listed_held_comes_back taken all
+taken_back : (taken : List Held) → All IsPageHeld taken → All (ComesBack (λ one. container_text one.id) read_listed_held listed_held) taken
+taken_back taken all = All-weaker IsPageHeld (ComesBack (λ one. container_text one.id) read_listed_held listed_held) listed_held_comes_back taken all
 
 passed_back : (grants : List Grant) → All IsGrant grants → All (ComesBack (λ one. container_text one.id) read_listed_grant listed_grant) grants
 passed_back grants all = All-weaker IsGrant (ComesBack (λ one. container_text one.id) read_listed_grant listed_grant) listed_grant_comes_back grants all

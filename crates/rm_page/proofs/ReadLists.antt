@@ -21,7 +21,7 @@ use Rattle.rm_formats.specs.IdTexts.{container_text}
 use Rattle.rm_types.specs.Lists.{is_nil}
 use Rattle.rm_formats.specs.Wording.{listed, bracketed, list_word, held_text, ask_text, cause_text, grant_text, closing_text}
 use Rattle.rm_ids.specs.Digits.{value_of}
-use Rattle.rm_page.specs.Ranges.{IsHeld, IsAsk, IsGrant, IsClosing}
+use Rattle.rm_page.specs.Ranges.{IsPageHeld, IsPageAsk, IsGrant, IsClosing}
 use Rattle.rm_page.specs.Shown.{no_size, told_grant, listed_grant, listed_held}
 use Rattle.rm_page.proofs.Bytes.{made_of, lacks, made_of-append, is_part_byte, is_id_byte, decimal_made, number_back, text_made, text_lacks, text_long, cut, EachMade, EachMade-weaker, joined_made, cut_joined, behind, behind_is, is_word_byte, is_piece_byte, piece_by, queue_word, AreWords, joined_lacks}
 use Rattle.rm_page.proofs.ReadIds.{container_made, container_lacks, container_word, read_container, container_back, container_not_nil}
@@ -206,7 +206,7 @@ held_of pieces = record { id = read_container []; size = no_size }
 pub read_held : List ℕ → Held
 read_held text = held_of (cut 58 text)
 
-pub held_comes_back : (held : Held) → IsHeld held → ComesBack held_text read_held (λ x. x) held
+pub held_comes_back : (held : Held) → IsPageHeld held → ComesBack held_text read_held (λ x. x) held
 unfolding read_held held_of
 held_comes_back held is =
     let memory : held.size.memory_mb < 2 ^ 64 = omega (arith, is.size.0) in
@@ -223,7 +223,7 @@ ask_of pieces = record { priority = 0; count = 0; size = no_size }
 pub read_ask : List ℕ → Ask
 read_ask text = ask_of (cut 58 text)
 
-pub ask_comes_back : (ask : Ask) → IsAsk ask → ComesBack ask_text read_ask (λ x. x) ask
+pub ask_comes_back : (ask : Ask) → IsPageAsk ask → ComesBack ask_text read_ask (λ x. x) ask
 unfolding read_ask ask_of
 ask_comes_back ask is =
     let priority : ask.priority < 2 ^ 64 = omega (arith, is.priority) in
@@ -289,7 +289,7 @@ closing_comes_back closing is =
 pub read_listed_held : List ℕ → Held
 read_listed_held text = record { id = read_container text; size = no_size }
 
-pub listed_held_comes_back : (held : Held) → IsHeld held → ComesBack (λ one. container_text one.id) read_listed_held listed_held held
+pub listed_held_comes_back : (held : Held) → IsPageHeld held → ComesBack (λ one. container_text one.id) read_listed_held listed_held held
 unfolding read_listed_held
 listed_held_comes_back held is = record {
   no_comma = container_lacks 44 held.id refl is.id;

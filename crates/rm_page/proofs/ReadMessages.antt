@@ -22,7 +22,7 @@ use Rattle.rm_formats.specs.IdTexts.{app_text, attempt_text, container_text}
 use Rattle.rm_types.specs.Ranges.{IsContainerId}
 use Rattle.rm_formats.specs.Wording.{spaced, list_word, text_word, held_text, ask_text, message_words, message_text}
 use Rattle.rm_ids.specs.Digits.{value_of}
-use Rattle.rm_page.specs.Ranges.{IsMessage, IsHeld, IsAsk}
+use Rattle.rm_page.specs.Ranges.{IsPageMessage, IsPageHeld, IsPageAsk}
 use Rattle.rm_page.proofs.Bytes.{number_back, text_lacks, cut, join_cut, EachMade-append, EachLacks, behind, is_word_byte, number_word, name_word, node_word, AreWords, words_lack, EachLacks-append}
 use Rattle.rm_page.proofs.ReadIds.{app_word, attempt_word, read_app, read_attempt, read_container, app_back, attempt_back}
 use Rattle.rm_page.proofs.ReadOperations.{cut_all, cut_words_last, cut_with_last, last_lacks, read_submission, submission_pieces, submission_front, submission_are, submission_back}
@@ -105,11 +105,11 @@ read_message [] = Clock (Tick 0)
 
 -- ---- their words
 
-asks_back : (asks : List Ask) → All IsAsk asks → All (ComesBack ask_text read_ask (λ x. x)) asks
-asks_back asks all = All-weaker IsAsk (ComesBack ask_text read_ask (λ x. x)) ask_comes_back asks all
+asks_back : (asks : List Ask) → All IsPageAsk asks → All (ComesBack ask_text read_ask (λ x. x)) asks
+asks_back asks all = All-weaker IsPageAsk (ComesBack ask_text read_ask (λ x. x)) ask_comes_back asks all
 
-helds_back : (running : List Held) → All IsHeld running → All (ComesBack held_text read_held (λ x. x)) running
-helds_back running all = All-weaker IsHeld (ComesBack held_text read_held (λ x. x)) held_comes_back running all
+helds_back : (running : List Held) → All IsPageHeld running → All (ComesBack held_text read_held (λ x. x)) running
+helds_back running all = All-weaker IsPageHeld (ComesBack held_text read_held (λ x. x)) held_comes_back running all
 
 pub ids_back : (ids : List ContainerId) → All IsContainerId ids → All (ComesBack container_text read_container (λ x. x)) ids
 ids_back ids all = All-weaker IsContainerId (ComesBack container_text read_container (λ x. x)) containers_come_back ids all
@@ -120,7 +120,7 @@ message_front (Client user (Submit id submission)) = codes "client" ∷ user ∷
 message_front (Master attempt (Finish text)) = codes "master" ∷ attempt_text attempt ∷ codes "finish" ∷ []
 message_front message = message_words message
 
-pub message_are : (message : Message) → IsMessage message → AreWords (message_front message)
+pub message_are : (message : Message) → IsPageMessage message → AreWords (message_front message)
 unfolding message_front
 message_are (Client user New) is = (refl, (name_word user is.0, (refl, tt)))
 message_are (Client user (Submit id submission)) is = (refl, (name_word user is.0, (refl, (app_word id is.1.0, submission_are submission is.1.1))))
@@ -187,7 +187,7 @@ message_pieces (Client user (Submit id submission)) = codes "client" ∷ user �
 message_pieces (Master attempt (Finish text)) = codes "master" ∷ attempt_text attempt ∷ codes "finish" ∷ cut 32 text
 message_pieces message = message_words message
 
-pub cut_message : (message : Message) → IsMessage message → cut 32 (message_text message) ≡ message_pieces message
+pub cut_message : (message : Message) → IsPageMessage message → cut 32 (message_text message) ≡ message_pieces message
 unfolding message_front message_pieces
 cut_message (Client user (Submit id submission)) is =
     cut_with_last (codes "client") (user ∷ codes "submit" ∷ app_text id ∷ submission_front submission) (codes "modify=") submission.modify (message_are (Client user (Submit id submission)) is)
@@ -195,7 +195,7 @@ cut_message (Master attempt (Finish text)) is = cut_words_last (codes "master" �
 cut_message message is = cut_all (message_words message) refl (message_are message is)
 
 -- no line feed stands in a message's words
-pub message_lacks_feed : (message : Message) → IsMessage message → EachLacks 10 (message_words message)
+pub message_lacks_feed : (message : Message) → IsPageMessage message → EachLacks 10 (message_words message)
 unfolding message_front
 message_lacks_feed (Client user (Submit id submission)) is =
     EachLacks-append 10 (message_front (Client user (Submit id submission))) (text_word (codes "modify=") submission.modify)
@@ -208,7 +208,7 @@ message_lacks_feed message is = words_lack 10 (message_words message) refl (mess
 
 -- ---- and come back
 
-pub message_pieces_back : (message : Message) → IsMessage message → read_message (message_pieces message) ≡ message
+pub message_pieces_back : (message : Message) → IsPageMessage message → read_message (message_pieces message) ≡ message
 unfolding read_message message_by keyword client_by master_by node_by clock_by expire_by message_pieces
 message_pieces_back (Client user New) is = refl
 message_pieces_back (Client user (Submit id submission)) is =
@@ -246,8 +246,8 @@ message_pieces_back (Clock (Tick time)) is = rw (number_back time is) refl
 message_pieces_back (Clock (ExpireNode node)) is = refl
 message_pieces_back (Clock (ExpireMaster attempt)) is = rw (attempt_back attempt is) refl
 
-pub message_back : (message : Message) → IsMessage message → read_message (cut 32 (message_text message)) ≡ message
+pub message_back : (message : Message) → IsPageMessage message → read_message (cut 32 (message_text message)) ≡ message
 message_back message is = ap read_message (cut_message message is) ∙ message_pieces_back message is
 
-pub messages_apart : (a b : Message) → IsMessage a → IsMessage b → message_text a ≡ message_text b → a ≡ b
+pub messages_apart : (a b : Message) → IsPageMessage a → IsPageMessage b → message_text a ≡ message_text b → a ≡ b
 messages_apart a b is_a is_b e = sym (message_back a is_a) ∙ ap (λ (text : List ℕ). read_message (cut 32 text)) e ∙ message_back b is_b

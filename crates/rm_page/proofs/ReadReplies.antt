@@ -19,7 +19,7 @@ use Rattle.rm_types.specs.Ranges.{IsText}
 use Rattle.rm_formats.specs.IdTexts.{container_text}
 use Rattle.rm_formats.specs.Wording.{spaced, listed, acl_op_text, state_text, grant_text, closing_text, reply_words, reply_text}
 use Rattle.rm_ids.specs.Digits.{value_of}
-use Rattle.rm_page.specs.Ranges.{IsReply, IsGrant, IsClosing}
+use Rattle.rm_page.specs.Ranges.{IsPageReply, IsGrant, IsClosing}
 use Rattle.rm_page.specs.Shown.{told_grant, shown_reply}
 use Rattle.rm_page.proofs.Bytes.{made_of, number_back, text_lacks, cut, EachLacks, behind, is_word_byte, number_word, name_word, queue_word, AreWords, words_lack, EachLacks-append}
 use Rattle.rm_page.proofs.ReadIds.{app_word, read_app, read_container, app_back}
@@ -154,7 +154,7 @@ unfoldable pub reply_front : Reply → List (List ℕ)
 reply_front (replies.Report report) = report_front report
 reply_front reply = reply_words reply
 
-pub reply_are : (reply : Reply) → IsReply reply → AreWords (reply_front reply)
+pub reply_are : (reply : Reply) → IsPageReply reply → AreWords (reply_front reply)
 unfolding reply_front
 reply_are (replies.New id) is = (refl, (app_word id is, tt))
 reply_are (replies.Denied denial) is = (refl, (acl_op_word denial.op, (queue_word denial.queue is.queue, (refl, (names_word denial.lists is.lists, tt)))))
@@ -196,13 +196,13 @@ unfoldable pub reply_pieces : Reply → List (List ℕ)
 reply_pieces (replies.Report report) = report_front report ++ cut 32 (codes "text=" ++ report.text)
 reply_pieces reply = reply_words reply
 
-pub cut_reply : (reply : Reply) → IsReply reply → cut 32 (reply_text reply) ≡ reply_pieces reply
+pub cut_reply : (reply : Reply) → IsPageReply reply → cut 32 (reply_text reply) ≡ reply_pieces reply
 unfolding reply_front reply_pieces
 cut_reply (replies.Report report) is = cut_words_last (report_front report) (codes "text=" ++ report.text) (reply_are (replies.Report report) is)
 cut_reply reply is = cut_all (reply_words reply) refl (reply_are reply is)
 
 -- no line feed stands in a reply's words
-pub reply_lacks_feed : (reply : Reply) → IsReply reply → EachLacks 10 (reply_words reply)
+pub reply_lacks_feed : (reply : Reply) → IsPageReply reply → EachLacks 10 (reply_words reply)
 unfolding reply_front
 reply_lacks_feed (replies.Report report) is =
     EachLacks-append 10 (report_front report) ((codes "text=" ++ report.text) ∷ []) (words_lack 10 (report_front report) refl (reply_are (replies.Report report) is)) (text_lacks Note 10 report.text refl is.text, tt)
@@ -210,7 +210,7 @@ reply_lacks_feed reply is = words_lack 10 (reply_words reply) refl (reply_are re
 
 -- ---- and come back
 
-pub reply_pieces_back : (reply : Reply) → IsReply reply → read_reply (reply_pieces reply) ≡ shown_reply reply
+pub reply_pieces_back : (reply : Reply) → IsPageReply reply → read_reply (reply_pieces reply) ≡ shown_reply reply
 unfolding read_reply reply_by keyword read_plain reply_pieces
 reply_pieces_back (replies.New id) is = rw (app_back id is) refl
 reply_pieces_back (replies.Denied denial) is = rw (acl_op_back denial.op, names_back denial.lists is.lists) refl
@@ -234,7 +234,7 @@ reply_pieces_back (replies.Beat id launch clean) is =
     ) refl
 reply_pieces_back reply is = refl
 
-pub reply_back : (reply : Reply) → IsReply reply → read_reply (cut 32 (reply_text reply)) ≡ shown_reply reply
+pub reply_back : (reply : Reply) → IsPageReply reply → read_reply (cut 32 (reply_text reply)) ≡ shown_reply reply
 reply_back reply is = ap read_reply (cut_reply reply is) ∙ reply_pieces_back reply is
 
 -- items have the same texts where what is left out isn't shown
@@ -248,7 +248,7 @@ pub reply_words-shown : (reply : Reply) → reply_words (shown_reply reply) ≡ 
 reply_words-shown (replies.Allocated id grants ended) = rw (same_texts grant_text told_grant grant_text grants (λ grant. refl)) refl
 reply_words-shown reply = refl
 
-pub replies_show : (a b : Reply) → IsReply a → IsReply b → (reply_text a ≡ reply_text b) ↔ (shown_reply a ≡ shown_reply b)
+pub replies_show : (a b : Reply) → IsPageReply a → IsPageReply b → (reply_text a ≡ reply_text b) ↔ (shown_reply a ≡ shown_reply b)
 replies_show a b is_a is_b = (
   λ e. sym (reply_back a is_a) ∙ ap (λ (text : List ℕ). read_reply (cut 32 text)) e ∙ reply_back b is_b,
   λ e. ap spaced (sym (reply_words-shown a) ∙ ap reply_words e ∙ reply_words-shown b),

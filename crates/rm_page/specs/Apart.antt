@@ -8,7 +8,7 @@ use Rattle.rm_types.specs.Ranges.{IsOperation}
 use Rattle.rm_formats.specs.Wording.{message_text, op_text, reply_text}
 use Rattle.rm_formats.specs.Page.{line_of, page}
 use Rattle.rm_types.specs.Lanes.{lane_of_entry}
-use Rattle.rm_page.specs.Ranges.{IsMessage, IsReply, IsEntry}
+use Rattle.rm_page.specs.Ranges.{IsPageMessage, IsPageReply, IsEntry}
 use Rattle.rm_page.specs.Shown.{shown_reply, shown, is_silent, shown_log}
 
 -- no two operations have one text
@@ -17,11 +17,11 @@ OpTextsAreApart = (a b : Op) → IsOperation a → IsOperation b → op_text a �
 
 -- no two messages have one text
 abbrev pub MessageTextsAreApart : Type 0
-MessageTextsAreApart = (a b : Message) → IsMessage a → IsMessage b → message_text a ≡ message_text b → a ≡ b
+MessageTextsAreApart = (a b : Message) → IsPageMessage a → IsPageMessage b → message_text a ≡ message_text b → a ≡ b
 
 -- two replies have one text exactly where they show the same
 abbrev pub ReplyTextsShow : Type 0
-ReplyTextsShow = (a b : Reply) → IsReply a → IsReply b → (reply_text a ≡ reply_text b) ↔ (shown_reply a ≡ shown_reply b)
+ReplyTextsShow = (a b : Reply) → IsPageReply a → IsPageReply b → (reply_text a ≡ reply_text b) ↔ (shown_reply a ≡ shown_reply b)
 
 -- two entries that have lines have one line exactly where they show the same
 abbrev pub LinesShow : Type 0

@@ -34,12 +34,12 @@ abbrev pub IsWord64 : ℕ → Type 0
 IsWord64 number = number < 2 ^ 64
 
 -- a container that a node reports, with its size
-pub record IsHeld (held : Held) : Type 0 where
+pub record IsPageHeld (held : Held) : Type 0 where
   pub id : IsContainerId held.id
   pub size : IsInRange held.size
 
 -- what a master asks for
-pub record IsAsk (ask : Ask) : Type 0 where
+pub record IsPageAsk (ask : Ask) : Type 0 where
   pub priority : IsWord32 ask.priority
   pub count : IsWord32 ask.count
   pub size : IsInRange ask.size
@@ -54,35 +54,35 @@ abbrev pub IsClosing : Closing → Type 0
 IsClosing closing = IsContainerId closing.id
 
 -- what a client asks; who submits is who sends it
-abbrev pub IsClientAsk : List ℕ → ClientAsk → Type 0
-IsClientAsk user clients.New = Unit {0}
-IsClientAsk user (clients.Submit id submission) = IsAppId id × IsSubmission submission × (submission.user ≡ user)
-IsClientAsk user (clients.Report id) = IsAppId id
-IsClientAsk user (clients.Kill id) = IsAppId id
+abbrev pub IsPageClientAsk : List ℕ → ClientAsk → Type 0
+IsPageClientAsk user clients.New = Unit {0}
+IsPageClientAsk user (clients.Submit id submission) = IsAppId id × IsSubmission submission × (submission.user ≡ user)
+IsPageClientAsk user (clients.Report id) = IsAppId id
+IsPageClientAsk user (clients.Kill id) = IsAppId id
 
 -- what a master asks
-abbrev pub IsMasterAsk : MasterAsk → Type 0
-IsMasterAsk masters.Register = Unit {0}
-IsMasterAsk (masters.Finish text) = IsText Note text
-IsMasterAsk (masters.Allocate id asks release) = IsWord32 id × All IsAsk asks × All IsContainerId release
+abbrev pub IsPageMasterAsk : MasterAsk → Type 0
+IsPageMasterAsk masters.Register = Unit {0}
+IsPageMasterAsk (masters.Finish text) = IsText Note text
+IsPageMasterAsk (masters.Allocate id asks release) = IsWord32 id × All IsPageAsk asks × All IsContainerId release
 
 -- what a node says
-abbrev pub IsNodeAsk : NodeAsk → Type 0
-IsNodeAsk (nodes.Register turn capability running) = IsWord32 turn × IsInRange capability × All IsHeld running
-IsNodeAsk (nodes.Beat id running done) = IsWord32 id × All IsHeld running × All IsContainerId done
+abbrev pub IsPageNodeAsk : NodeAsk → Type 0
+IsPageNodeAsk (nodes.Register turn capability running) = IsWord32 turn × IsInRange capability × All IsPageHeld running
+IsPageNodeAsk (nodes.Beat id running done) = IsWord32 id × All IsPageHeld running × All IsContainerId done
 
 -- what the clock says
-abbrev pub IsClockAsk : ClockAsk → Type 0
-IsClockAsk (clocks.Tick time) = IsWord64 time
-IsClockAsk (clocks.ExpireNode node) = IsText Node node
-IsClockAsk (clocks.ExpireMaster attempt) = IsAttemptId attempt
+abbrev pub IsPageClockAsk : ClockAsk → Type 0
+IsPageClockAsk (clocks.Tick time) = IsWord64 time
+IsPageClockAsk (clocks.ExpireNode node) = IsText Node node
+IsPageClockAsk (clocks.ExpireMaster attempt) = IsAttemptId attempt
 
 -- a message
-abbrev pub IsMessage : Message → Type 0
-IsMessage (messages.Client user ask) = IsText Name user × IsClientAsk user ask
-IsMessage (messages.Master attempt ask) = IsAttemptId attempt × IsMasterAsk ask
-IsMessage (messages.Node node ask) = IsText Node node × IsNodeAsk ask
-IsMessage (messages.Clock ask) = IsClockAsk ask
+abbrev pub IsPageMessage : Message → Type 0
+IsPageMessage (messages.Client user ask) = IsText Name user × IsPageClientAsk user ask
+IsPageMessage (messages.Master attempt ask) = IsAttemptId attempt × IsPageMasterAsk ask
+IsPageMessage (messages.Node node ask) = IsText Node node × IsPageNodeAsk ask
+IsPageMessage (messages.Clock ask) = IsPageClockAsk ask
 
 -- a right that wasn't there; the names of the lists are written as queues are
 pub record IsDenial (denial : Denial) : Type 0 where
@@ -90,7 +90,7 @@ pub record IsDenial (denial : Denial) : Type 0 where
   pub lists : All (IsText Queue) denial.lists
 
 -- what a client is told of an application
-pub record IsReport (report : Report) : Type 0 where
+pub record IsPageReport (report : Report) : Type 0 where
   pub user : IsText Name report.user
   pub queue : IsText Queue report.queue
   pub name : IsText Name report.name
@@ -99,14 +99,14 @@ pub record IsReport (report : Report) : Type 0 where
   pub text : IsText Note report.text
 
 -- a reply
-abbrev pub IsReply : Reply → Type 0
-IsReply (replies.New id) = IsAppId id
-IsReply (replies.Denied denial) = IsDenial denial
-IsReply (replies.Report report) = IsReport report
-IsReply (replies.Allocated id grants ended) = IsWord32 id × All IsGrant grants × All IsClosing ended
-IsReply (replies.NodeRegistered turn epoch) = IsWord32 turn × IsWord32 epoch
-IsReply (replies.Beat id launch clean) = IsWord32 id × All IsContainerId launch × All IsContainerId clean
-IsReply reply = Unit {0}
+abbrev pub IsPageReply : Reply → Type 0
+IsPageReply (replies.New id) = IsAppId id
+IsPageReply (replies.Denied denial) = IsDenial denial
+IsPageReply (replies.Report report) = IsPageReport report
+IsPageReply (replies.Allocated id grants ended) = IsWord32 id × All IsGrant grants × All IsClosing ended
+IsPageReply (replies.NodeRegistered turn epoch) = IsWord32 turn × IsWord32 epoch
+IsPageReply (replies.Beat id launch clean) = IsWord32 id × All IsContainerId launch × All IsContainerId clean
+IsPageReply reply = Unit {0}
 
 -- the message asks for a report
 abbrev pub AsksForReport : Message → Type 0
@@ -119,9 +119,9 @@ MayAnswer message (replies.Report report) = AsksForReport message
 MayAnswer message reply = Unit {0}
 
 -- a message that was answered
-pub record IsServed (message : Message) (reply : Reply) : Type 0 where
-  pub message_is : IsMessage message
-  pub reply_is : IsReply reply
+pub record IsPageServed (message : Message) (reply : Reply) : Type 0 where
+  pub message_is : IsPageMessage message
+  pub reply_is : IsPageReply reply
   pub answers : MayAnswer message reply
 
 -- an entry
@@ -131,10 +131,10 @@ IsEntry (entries.Issued op) = IsOperation op
 IsEntry entries.Handed = Unit {0}
 IsEntry (entries.Kept op) = IsOperation op
 IsEntry (entries.Blown passed) = IsWord32 passed
-IsEntry (entries.Served sender message reply) = IsServed message reply
+IsEntry (entries.Served sender message reply) = IsPageServed message reply
 IsEntry (entries.Accepted app) = IsAppId app
 IsEntry (entries.Queued attempt) = IsAttemptId attempt
-IsEntry (entries.Absorbed node taken ended) = IsText Node node × All IsHeld taken × All IsContainerId ended
+IsEntry (entries.Absorbed node taken ended) = IsText Node node × All IsPageHeld taken × All IsContainerId ended
 IsEntry (entries.Pass node grants) = IsText Node node × All IsGrant grants
 IsEntry (entries.Ordered container node) = IsContainerId container × IsText Node node
 IsEntry (entries.Ended cause list) = All IsContainerId list

@@ -11,7 +11,7 @@ use Rattle.rm_types.specs.declared.messages.NodeAsk.TheVariants as nodes
 use Rattle.rm_types.specs.declared.replies.Reply.{Reply}
 use Rattle.rm_types.specs.declared.replies.Reply.TheVariants as replies
 use Rattle.rm_formats.specs.Wording.{message_words, message_text, reply_words, reply_text}
-use Rattle.rm_page.specs.Ranges.{IsMessage, IsServed, AsksForReport}
+use Rattle.rm_page.specs.Ranges.{IsPageMessage, IsPageServed, AsksForReport}
 use Rattle.rm_page.proofs.Bytes.{lacks, lacks-append, cut, cut_at, cut_last, cut-append, AreWords, words_lack, joined_lacks}
 use Rattle.rm_page.proofs.ReadLists.{without_last, without_last-push}
 use Rattle.rm_page.proofs.ReadMessages.{message_front, message_are, message_pieces, cut_message}
@@ -46,7 +46,7 @@ same_last byte text front back one other e h is =
 
 -- ---- messages and replies
 
-unfree_words : (message : Message) → IsMessage message → frees message ≡ false → AreWords (message_words message)
+unfree_words : (message : Message) → IsPageMessage message → frees message ≡ false → AreWords (message_words message)
 unfolding message_front
 unfree_words (messages.Client user (clients.Submit id submission)) is e = absurd cc
 unfree_words (messages.Master attempt (masters.Finish text)) is e = absurd cc
@@ -56,7 +56,7 @@ no_report : (message : Message) → frees message ≡ true → AsksForReport mes
 no_report (messages.Client user (clients.Report id)) e wants = cc
 no_report message e wants = wants
 
-free_words : (message : Message) (reply : Reply) → IsServed message reply → frees message ≡ true → AreWords (reply_words reply)
+free_words : (message : Message) (reply : Reply) → IsPageServed message reply → frees message ≡ true → AreWords (reply_words reply)
 unfolding reply_front
 free_words message (replies.Report report) is e = absurd (no_report message e is.answers)
 free_words message reply is e = reply_are reply is.reply_is
@@ -65,18 +65,18 @@ free_words message reply is e = reply_are reply is.reply_is
 at_arrow : (message : Message) (reply : Reply) → served_text message reply ≡ (message_text message ++ codes " -") ++ 62 ∷ (32 ∷ reply_text reply)
 at_arrow message reply = sym (append_assoc (message_text message) (codes " -") (62 ∷ (32 ∷ reply_text reply)))
 
-front_lacks : (message : Message) → IsMessage message → frees message ≡ false → lacks 62 (message_text message ++ codes " -") ≡ true
+front_lacks : (message : Message) → IsPageMessage message → frees message ≡ false → lacks 62 (message_text message ++ codes " -") ≡ true
 front_lacks message is e = lacks-append 62 (message_text message) (codes " -") (joined_lacks 62 32 (message_words message) refl (words_lack 62 (message_words message) refl (unfree_words message is e))) refl
 
-back_lacks : (message : Message) (reply : Reply) → IsServed message reply → frees message ≡ true → lacks 62 (32 ∷ reply_text reply) ≡ true
+back_lacks : (message : Message) (reply : Reply) → IsPageServed message reply → frees message ≡ true → lacks 62 (32 ∷ reply_text reply) ≡ true
 back_lacks message reply is e = joined_lacks 62 32 (reply_words reply) refl (words_lack 62 (reply_words reply) refl (free_words message reply is e))
 
-pub first_arrow : (message : Message) (reply : Reply) (text front back : List ℕ) → IsServed message reply → text ≡ served_text message reply → frees message ≡ false → IsFirstCut 62 text front back
+pub first_arrow : (message : Message) (reply : Reply) (text front back : List ℕ) → IsPageServed message reply → text ≡ served_text message reply → frees message ≡ false → IsFirstCut 62 text front back
     → (front ≡ message_text message ++ codes " -") × (back ≡ codes " " ++ reply_text reply)
 first_arrow message reply text front back is e free cut_is =
     same_first 62 text (message_text message ++ codes " -") (32 ∷ reply_text reply) front back (e ∙ at_arrow message reply) (front_lacks message is.message_is free) cut_is
 
-pub last_arrow : (message : Message) (reply : Reply) (text front back : List ℕ) → IsServed message reply → text ≡ served_text message reply → frees message ≡ true → IsLastCut 62 text front back
+pub last_arrow : (message : Message) (reply : Reply) (text front back : List ℕ) → IsPageServed message reply → text ≡ served_text message reply → frees message ≡ true → IsLastCut 62 text front back
     → (front ≡ message_text message ++ codes " -") × (back ≡ codes " " ++ reply_text reply)
 last_arrow message reply text front back is e free cut_is =
     same_last 62 text (message_text message ++ codes " -") (32 ∷ reply_text reply) front back (e ∙ at_arrow message reply) (back_lacks message reply is free) cut_is
@@ -110,7 +110,7 @@ begin_pieces (messages.Clock (clocks.Tick time)) more = record { sender = codes 
 begin_pieces (messages.Clock (clocks.ExpireNode node)) more = record { sender = codes "clock"; name = _; verb = _; more = _; same = refl; free = refl }
 begin_pieces (messages.Clock (clocks.ExpireMaster attempt)) more = record { sender = codes "clock"; name = _; verb = _; more = _; same = refl; free = refl }
 
-pub free_is : (message : Message) (reply : Reply) (text : List ℕ) (found : Result Bool LineError) → IsServed message reply → text ≡ served_text message reply
+pub free_is : (message : Message) (reply : Reply) (text : List ℕ) (found : Result Bool LineError) → IsPageServed message reply → text ≡ served_text message reply
     → ((sender name verb : List ℕ) (more : List (List ℕ)) → cut 32 text ≡ sender ∷ name ∷ verb ∷ more → found ≡ Ok (is_free sender verb)) → found ≡ Ok (frees message)
 free_is message reply text found is e of =
     let rest : List ℕ = codes "-> " ++ reply_text reply in
@@ -119,10 +119,10 @@ free_is message reply text found is e of =
     ap (cut 32) e ∙ cut-append 32 (message_text message) rest ∙ ap (λ (ps : List (List ℕ)). ps ++ cut 32 rest) (cut_message message is.message_is) in
     of begins.sender begins.name begins.verb begins.more (pieces ∙ begins.same) ∙ ap (λ (b : Bool). Ok b) begins.free
 
-pub free_found : (message : Message) (reply : Reply) (text : List ℕ) (found : Bool) → IsServed message reply → text ≡ served_text message reply
+pub free_found : (message : Message) (reply : Reply) (text : List ℕ) (found : Bool) → IsPageServed message reply → text ≡ served_text message reply
     → ((sender name verb : List ℕ) (more : List (List ℕ)) → cut 32 text ≡ sender ∷ name ∷ verb ∷ more → ◌≡◌ {A = Result Bool LineError} (Ok found) (Ok (is_free sender verb))) → frees message ≡ found
 free_found message reply text found is e of = let same = free_is message reply text (Ok found) is e of in cc
 
-pub free_fails : (message : Message) (reply : Reply) (text : List ℕ) (error : LineError) → IsServed message reply → text ≡ served_text message reply
+pub free_fails : (message : Message) (reply : Reply) (text : List ℕ) (error : LineError) → IsPageServed message reply → text ≡ served_text message reply
     → ((sender name verb : List ℕ) (more : List (List ℕ)) → cut 32 text ≡ sender ∷ name ∷ verb ∷ more → ◌≡◌ {A = Result Bool LineError} (Err error) (Ok (is_free sender verb))) → ⊥
 free_fails message reply text error is e of = let same = free_is message reply text (Err error) is e of in cc

@@ -9,14 +9,15 @@ use Rattle.rm_types.specs.declared.replies.Reply.{Reply}
 use Rattle.rm_types.proofs.TestLemmas.{same_text}
 use Rattle.rm_formats.specs.Page.{line_of}
 use Rattle.rm_formats.specs.Wording.{spaced, message_words, message_text, reply_words, reply_text}
-use Rattle.rm_page.specs.Ranges.{IsReply, IsServed, MayAnswer}
+use Rattle.rm_page.specs.Ranges.{IsPageReply, IsPageServed, MayAnswer}
 use Rattle.rm_page.proofs.Bytes.{cut, cut_at}
 use Rattle.rm_script.proofs.Parts.{differ}
 use Rattle.rm_page_reader.specs.declared.errors.LineError.{LineError}
 use Rattle.rm_page_reader.specs.declared.errors.LineError.TheVariants.{NotALine, Memory}
-use Rattle.rm_page_reader.specs.Answers.{GivesLine, HasSender, IsPlain, IsTold, served_entry, served_text}
+use Rattle.rm_page_reader.specs.Answers.{GivesLine, HasSender, IsPlain, IsToldEntry, served_entry, served_text}
 use Rattle.rm_page_reader.specs.Pieces.{entry_pieces, reply_pieces}
-use Rattle.rm_page_reader.specs.Results.{IsOf, Finds, FindsNone}
+use Rattle.rm_page_reader.specs.Results.{FindsLine, FindsNoLine}
+use Rattle.rm_script.specs.Results.{IsOf}
 use Rattle.rm_page_reader.specs.Told.{IsOfScript, IsManagerEntry}
 use Rattle.rm_page_reader.proofs.Halves.{behind_same, cut_same}
 use Rattle.rm_page_reader.proofs.Lines.{body_is, plain_line, plain_is, not_served, plain_found, served_line, cut_reply_text, same_answers}
@@ -26,7 +27,7 @@ record IsAnswered (entry : Entry) : Type 0 where
   pub message : Message
   pub reply : Reply
   pub scripted : IsOfScript message
-  pub served : IsServed message reply
+  pub served : IsPageServed message reply
   pub same : line_of entry ≡ line_of (served_entry message reply)
 
 no_end : (text : List ℕ) → [] ≡ text ++ codes "\n" → ⊥
@@ -49,7 +50,7 @@ gives_line (Err error) one other e gives = gives
 
 -- a line whose first word is `served`
 pub served_found : (text word rest : List ℕ) (more : List (List ℕ)) (answer : Result Entry LineError) → cut 32 text ≡ word ∷ more → bytes_eq word (codes "served") ≡ true → more ≡ cut 32 rest
-    → ((message : Message) (reply : Reply) → IsOfScript message → IsServed message reply → rest ≡ served_text message reply → GivesLine answer (served_entry message reply))
+    → ((message : Message) (reply : Reply) → IsOfScript message → IsPageServed message reply → rest ≡ served_text message reply → GivesLine answer (served_entry message reply))
     → (entry : Entry) → IsManagerEntry entry → line_of entry ≡ text ++ codes "\n" → GivesLine answer entry
 served_found text word rest more answer first is_served behind gives entry is e = by_kind (kind_of entry is text e)
   where
@@ -81,7 +82,7 @@ lone_served text word more first is_served behind entry is e = by_kind (kind_of 
         cc
 
 -- a line whose first word is another
-pub other_found : (text word : List ℕ) (more : List (List ℕ)) (answer : Result Entry LineError) → cut 32 text ≡ word ∷ more → bytes_eq word (codes "served") ≡ false → Finds answer (IsOf entry_pieces IsPlain (word ∷ more))
+pub other_found : (text word : List ℕ) (more : List (List ℕ)) (answer : Result Entry LineError) → cut 32 text ≡ word ∷ more → bytes_eq word (codes "served") ≡ false → FindsLine answer (IsOf entry_pieces IsPlain (word ∷ more))
     → (entry : Entry) → IsManagerEntry entry → line_of entry ≡ text ++ codes "\n" → GivesLine answer entry
 other_found text word more answer first other finds entry is e = by_kind (kind_of entry is text e)
   where
@@ -98,15 +99,15 @@ plain_sender entries.Handed is = tt
 plain_sender (entries.Served sender message reply) is = absurd is
 plain_sender entry is = tt
 
-pub plain_told : (entry : Entry) → IsPlain entry → IsTold entry
+pub plain_told : (entry : Entry) → IsPlain entry → IsToldEntry entry
 plain_told entry is = let own = plain_is entry is in record { ranges = own.0; heard = own.1; sender = plain_sender entry is }
 
 -- ---- answered messages
 
-pub reply_there : (reply : Reply) (text : List ℕ) → IsReply reply → text ≡ reply_text reply → IsOf reply_pieces IsReply (cut 32 text) reply
+pub reply_there : (reply : Reply) (text : List ℕ) → IsPageReply reply → text ≡ reply_text reply → IsOf reply_pieces IsPageReply (cut 32 text) reply
 reply_there reply text is e = record { same = ap (cut 32) e ∙ cut_reply_text reply is; fits = is }
 
-pub reply_same : (reply found : Reply) (text : List ℕ) → text ≡ reply_text reply → IsOf reply_pieces IsReply (cut 32 text) found → reply_text found ≡ reply_text reply
+pub reply_same : (reply found : Reply) (text : List ℕ) → text ≡ reply_text reply → IsOf reply_pieces IsPageReply (cut 32 text) found → reply_text found ≡ reply_text reply
 reply_same reply found text e of = cut_same 32 (reply_text found) (reply_text reply) (cut_reply_text found of.fits ∙ sym of.same ∙ ap (cut 32) e)
 
 pub answered_line : (message : Message) (one other : Reply) → reply_text one ≡ reply_text other → line_of (served_entry message one) ≡ line_of (served_entry message other)
@@ -114,16 +115,16 @@ answered_line message one other e =
     ap (λ (text : List ℕ). text ++ codes "\n")
     (served_line message one ∙ ap (λ (text : List ℕ). codes "served " ++ (message_text message ++ (codes " -> " ++ text))) e ∙ sym (served_line message other))
 
-pub served_told : (message : Message) (reply : Reply) → IsServed message reply → IsTold (served_entry message reply)
+pub served_told : (message : Message) (reply : Reply) → IsPageServed message reply → IsToldEntry (served_entry message reply)
 served_told message reply is = record { ranges = is; heard = refl; sender = refl }
 
 -- what `?` hands on where no reply is found says that memory ran out, where there is one
-pub stops_line : (answer : Result Entry LineError) (error : LineError) (entry : Entry) (IsPart : Reply → Type 0) (reply : Reply) → IsErrAnd answer (λ returned. returned ≡ error) → FindsNone error IsPart → IsPart reply → GivesLine answer entry
+pub stops_line : (answer : Result Entry LineError) (error : LineError) (entry : Entry) (IsPart : Reply → Type 0) (reply : Reply) → IsErrAnd answer (λ returned. returned ≡ error) → FindsNoLine error IsPart → IsPart reply → GivesLine answer entry
 stops_line (Ok value) error entry IsPart reply same none is = absurd same
 stops_line (Err returned) NotALine entry IsPart reply same none is = absurd (none reply is)
 stops_line (Err returned) Memory entry IsPart reply same none is = rw same tt
 
 -- a reply with this one's text answers the same message
-pub still_answers : (message asked : Message) (reply found : Reply) (text : List ℕ) → IsServed message reply → asked ≡ message → text ≡ reply_text reply → IsOf reply_pieces IsReply (cut 32 text) found → MayAnswer asked found
+pub still_answers : (message asked : Message) (reply found : Reply) (text : List ℕ) → IsPageServed message reply → asked ≡ message → text ≡ reply_text reply → IsOf reply_pieces IsPageReply (cut 32 text) found → MayAnswer asked found
 still_answers message asked reply found text is e same of =
     subst (λ (one : Message). MayAnswer one found) (sym e) (same_answers message reply found is.reply_is of.fits (sym (reply_same reply found text same of)) is.answers)

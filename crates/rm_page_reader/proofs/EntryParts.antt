@@ -14,11 +14,11 @@ use Rattle.rm_types.specs.declared.texts.TextKind.TheVariants.{Node}
 use Rattle.rm_types.specs.Ranges.{IsText, IsAppId, IsAttemptId, IsContainerId}
 use Rattle.rm_formats.specs.IdTexts.{app_text, attempt_text, container_text}
 use Rattle.rm_formats.specs.Wording.{bracketed}
-use Rattle.rm_page.specs.Ranges.{IsHeld, IsGrant}
+use Rattle.rm_page.specs.Ranges.{IsPageHeld, IsGrant}
 use Rattle.rm_script.proofs.Parts.{differ, heads}
 use Rattle.rm_page_reader.specs.Answers.{IsPlain}
 use Rattle.rm_page_reader.specs.Pieces.{entry_pieces}
-use Rattle.rm_page_reader.specs.Results.{IsOf}
+use Rattle.rm_script.specs.Results.{IsOf}
 use Rattle.rm_page_reader.proofs.Found.{Starts}
 
 first_word : List (List ℕ) → List ℕ
@@ -57,7 +57,7 @@ pub record IsAbsorbed (words : List (List ℕ)) : Type 0 where
   pub ended : List ContainerId
   pub same : words ≡ node ∷ (codes "taken=" ++ bracketed (map (λ held. container_text held.id) taken)) ∷ (codes "ended=" ++ bracketed (map container_text ended)) ∷ []
   pub node_is : IsText Node node
-  pub taken_are : All IsHeld taken
+  pub taken_are : All IsPageHeld taken
   pub ended_are : All IsContainerId ended
 
 pub absorbed_parts : (words : List (List ℕ)) (entry : Entry) → IsOf entry_pieces IsPlain (codes "absorbed" ∷ words) entry → IsAbsorbed words

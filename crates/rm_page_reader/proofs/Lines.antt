@@ -19,7 +19,7 @@ use Rattle.rm_types.specs.Ranges.{IsOperation}
 use Rattle.rm_formats.specs.IdTexts.{app_text, attempt_text, container_text}
 use Rattle.rm_formats.specs.Page.{line, line_of}
 use Rattle.rm_formats.specs.Wording.{spaced, bracketed, how_text, cause_text, message_words, message_text, op_words, op_text, reply_words, reply_text}
-use Rattle.rm_page.specs.Ranges.{IsEntry, IsHeld, IsGrant, IsReply, MayAnswer}
+use Rattle.rm_page.specs.Ranges.{IsEntry, IsPageHeld, IsGrant, IsPageReply, MayAnswer}
 use Rattle.rm_page.specs.Shown.{is_silent, listed_held, listed_grant, shown_reply}
 use Rattle.rm_page.proofs.Bytes.{made_of, lacks, cut, cut_at, is_word_byte, number_word, name_word, node_word, AreWords}
 use Rattle.rm_page.proofs.ReadIds.{app_word, attempt_word, container_word, read_container}
@@ -33,7 +33,8 @@ use Rattle.rm_page_reader.specs.declared.errors.LineError.TheVariants.{NotALine,
 use Rattle.rm_script.proofs.Parts.{differ}
 use Rattle.rm_page_reader.specs.Answers.{GivesLine, IsPlain, served_text}
 use Rattle.rm_page_reader.specs.Pieces.{op_pieces, reply_pieces, entry_pieces}
-use Rattle.rm_page_reader.specs.Results.{IsOf, Finds}
+use Rattle.rm_page_reader.specs.Results.{FindsLine}
+use Rattle.rm_script.specs.Results.{IsOf}
 use Rattle.rm_page_reader.proofs.Halves.{cut_same}
 
 -- a line without its line feed
@@ -69,8 +70,8 @@ op_some op = refl
 
 -- ---- lines that say of no message that it was answered
 
-taken_back : (taken : List Held) → All IsHeld taken → All (ComesBack (λ one. container_text one.id) read_listed_held listed_held) taken
-taken_back taken all = All-weaker IsHeld (ComesBack (λ one. container_text one.id) read_listed_held listed_held) listed_held_comes_back taken all
+taken_back : (taken : List Held) → All IsPageHeld taken → All (ComesBack (λ one. container_text one.id) read_listed_held listed_held) taken
+taken_back taken all = All-weaker IsPageHeld (ComesBack (λ one. container_text one.id) read_listed_held listed_held) listed_held_comes_back taken all
 
 passed_back : (grants : List Grant) → All IsGrant grants → All (ComesBack (λ one. container_text one.id) read_listed_grant listed_grant) grants
 passed_back grants all = All-weaker IsGrant (ComesBack (λ one. container_text one.id) read_listed_grant listed_grant) listed_grant_comes_back grants all
@@ -152,7 +153,7 @@ not_served entries.Settled more is e = differ (codes "settled") (codes "served")
 not_served entries.Down more is e = differ (codes "down") (codes "served") refl (ap first_word e)
 
 -- what is found of a line that says of no message that it was answered has that line
-pub plain_found : (entry : Entry) (text : List ℕ) (answer : Result Entry LineError) → Finds answer (IsOf entry_pieces IsPlain (cut 32 text)) → IsPlain entry → line_of entry ≡ text ++ codes "\n" → GivesLine answer entry
+pub plain_found : (entry : Entry) (text : List ℕ) (answer : Result Entry LineError) → FindsLine answer (IsOf entry_pieces IsPlain (cut 32 text)) → IsPlain entry → line_of entry ≡ text ++ codes "\n" → GivesLine answer entry
 plain_found entry text (Ok found) of is e = plain_same found text of.fits of.same ∙ sym e
 plain_found entry text (Err NotALine) none is e = none entry (record { same = plain_line entry is text e; fits = is })
 plain_found entry text (Err Memory) none is e = tt
@@ -189,13 +190,13 @@ served_line message reply =
     (spaced-append (message_words message) (codes "->" ∷ reply_words reply) (message_some message) refl
     ∙ ap (λ (text : List ℕ). message_text message ++ 32 ∷ text) (spaced-first (codes "->") (reply_words reply) (reply_some reply)))
 
-pub cut_reply_text : (reply : Reply) → IsReply reply → cut 32 (reply_text reply) ≡ reply_pieces reply
+pub cut_reply_text : (reply : Reply) → IsPageReply reply → cut 32 (reply_text reply) ≡ reply_pieces reply
 unfolding pieces_of
 cut_reply_text (replies.Report report) is = cut_reply (replies.Report report) is
 cut_reply_text reply is = cut_reply reply is
 
 -- replies with the same pieces have one text
-pub same_reply_text : (one other : Reply) → IsReply one → IsReply other → reply_pieces one ≡ reply_pieces other → reply_text one ≡ reply_text other
+pub same_reply_text : (one other : Reply) → IsPageReply one → IsPageReply other → reply_pieces one ≡ reply_pieces other → reply_text one ≡ reply_text other
 same_reply_text one other is_one is_other e = cut_same 32 (reply_text one) (reply_text other) (cut_reply_text one is_one ∙ e ∙ sym (cut_reply_text other is_other))
 
 to_shown : (message : Message) (reply : Reply) → MayAnswer message reply → MayAnswer message (shown_reply reply)
@@ -207,6 +208,6 @@ from_shown message (replies.Allocated id grants ended) may = tt
 from_shown message reply may = may
 
 -- and answer the same messages
-pub same_answers : (message : Message) (one other : Reply) → IsReply one → IsReply other → reply_text one ≡ reply_text other → MayAnswer message one → MayAnswer message other
+pub same_answers : (message : Message) (one other : Reply) → IsPageReply one → IsPageReply other → reply_text one ≡ reply_text other → MayAnswer message one → MayAnswer message other
 same_answers message one other is_one is_other e may =
     from_shown message other (subst (MayAnswer message) ((replies_show one other is_one is_other).0 e) (to_shown message one may))

@@ -7,7 +7,7 @@ use Rattle.rm_page.proofs.Bytes.{EachLacks, cut, join_cut, cut_joined}
 use Rattle.rm_script.proofs.Parts.{heads}
 use Rattle.rm_script.proofs.Pieces.{AreItems}
 use Rattle.rm_page_reader.specs.Items.{IsItemText}
-use Rattle.rm_page_reader.specs.Results.{IsOf}
+use Rattle.rm_script.specs.Results.{IsOf}
 
 each_lacks_comma : {X : Type 0} (text : X → List ℕ) (Fits : X → Type 0) → ((item : X) → Fits item → IsItemText (text item)) → (items : List X) → AllByRecursion Fits items → EachLacks 44 (map text items)
 each_lacks_comma text Fits law [] fit = tt

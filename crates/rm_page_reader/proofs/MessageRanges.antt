@@ -16,9 +16,10 @@ use Rattle.rm_types.specs.declared.messages.NodeAsk.TheVariants as nodes
 use Rattle.rm_types.specs.declared.operations.Submission.{Submission}
 use Rattle.rm_types.specs.declared.texts.TextKind.TheVariants.{Name}
 use Rattle.rm_types.specs.Ranges.{IsText, IsSubmission}
-use Rattle.rm_page.specs.Ranges.{IsMessage, IsClientAsk, IsMasterAsk, IsNodeAsk, IsClockAsk, IsHeld, IsAsk}
+use Rattle.rm_page.specs.Ranges.{IsPageMessage, IsPageClientAsk, IsPageMasterAsk, IsPageNodeAsk, IsPageClockAsk, IsPageHeld, IsPageAsk}
 use Rattle.rm_script.specs.Laws.{shown_size, shown_held, shown_ask}
-use Rattle.rm_script.specs.Messages.{IsMessage as IsSaid, IsClientAsk as IsSaidByClient, IsMasterAsk as IsSaidByMaster, IsNodeAsk as IsSaidByNode, IsClockAsk as IsSaidByClock, IsSubmission as IsSubmitted, IsHeld as IsSaidHeld, IsAsk as IsSaidAsk}
+use Rattle.rm_script.specs.Messages.{IsScriptMessage as IsSaid, IsScriptClientAsk as IsSaidByClient, IsScriptMasterAsk as IsSaidByMaster, IsScriptNodeAsk as IsSaidByNode, IsScriptClockAsk as IsSaidByClock, IsScriptSubmission as IsSubmitted}
+use Rattle.rm_types.specs.Messages.{IsHeld as IsSaidHeld, IsAsk as IsSaidAsk}
 
 submission_ranges : (user : List ℕ) (submission : Submission) → IsText Name user → IsSubmitted user submission → IsSubmission submission
 submission_ranges user submission name is = record {
@@ -31,33 +32,33 @@ submission_ranges user submission name is = record {
   modify = is.modify;
 }
 
-held_ranges : (running : List Held) → All IsSaidHeld running → All IsHeld running
-held_ranges running all = All-weaker IsSaidHeld IsHeld shown_held running all
+held_ranges : (running : List Held) → All IsSaidHeld running → All IsPageHeld running
+held_ranges running all = All-weaker IsSaidHeld IsPageHeld shown_held running all
 
-ask_ranges : (asks : List Ask) → All IsSaidAsk asks → All IsAsk asks
-ask_ranges asks all = All-weaker IsSaidAsk IsAsk shown_ask asks all
+ask_ranges : (asks : List Ask) → All IsSaidAsk asks → All IsPageAsk asks
+ask_ranges asks all = All-weaker IsSaidAsk IsPageAsk shown_ask asks all
 
-client_ranges : (user : List ℕ) (ask : ClientAsk) → IsText Name user → IsSaidByClient user ask → IsClientAsk user ask
+client_ranges : (user : List ℕ) (ask : ClientAsk) → IsText Name user → IsSaidByClient user ask → IsPageClientAsk user ask
 client_ranges user clients.New name is = is
 client_ranges user (clients.Submit id submission) name is = (is.0, submission_ranges user submission name is.1, is.1.by_user)
 client_ranges user (clients.Report id) name is = is
 client_ranges user (clients.Kill id) name is = is
 
-master_ranges : (ask : MasterAsk) → IsSaidByMaster ask → IsMasterAsk ask
+master_ranges : (ask : MasterAsk) → IsSaidByMaster ask → IsPageMasterAsk ask
 master_ranges masters.Register is = is
 master_ranges (masters.Finish text) is = is.note
 master_ranges (masters.Allocate id asks release) is = (omega (arith, is.0.1), ask_ranges asks is.1.each, is.2.each)
 
-node_ranges : (ask : NodeAsk) → IsSaidByNode ask → IsNodeAsk ask
+node_ranges : (ask : NodeAsk) → IsSaidByNode ask → IsPageNodeAsk ask
 node_ranges (nodes.Register turn capability running) is = (omega (arith, is.0.1), shown_size capability is.1, held_ranges running is.2.each)
 node_ranges (nodes.Beat id running done) is = (omega (arith, is.0.1), held_ranges running is.1.each, is.2.each)
 
-clock_ranges : (ask : ClockAsk) → IsSaidByClock ask → IsClockAsk ask
+clock_ranges : (ask : ClockAsk) → IsSaidByClock ask → IsPageClockAsk ask
 clock_ranges (clocks.Tick time) is = omega (arith, is.1)
 clock_ranges (clocks.ExpireNode node) is = is
 clock_ranges (clocks.ExpireMaster attempt) is = is
 
-pub message_ranges : (message : Message) → IsSaid message → IsMessage message
+pub message_ranges : (message : Message) → IsSaid message → IsPageMessage message
 message_ranges (messages.Client user ask) is = (is.0, client_ranges user ask is.0 is.1)
 message_ranges (messages.Master attempt ask) is = (is.0, master_ranges ask is.1)
 message_ranges (messages.Node node ask) is = (is.0, node_ranges ask is.1)

@@ -7,13 +7,14 @@ use Rattle.rm_page.proofs.Bytes.{cut}
 use Rattle.rm_page.proofs.ReadOperations.{last_pieces}
 use Rattle.rm_page_reader.specs.declared.errors.LineError.{LineError}
 use Rattle.rm_page_reader.specs.declared.errors.LineError.TheVariants.{NotALine, Memory}
-use Rattle.rm_page_reader.specs.Results.{IsOf, Finds}
+use Rattle.rm_page_reader.specs.Results.{FindsLine}
+use Rattle.rm_script.specs.Results.{IsOf}
 use Rattle.rm_page_reader.proofs.Halves.{behind_same, cut_some, cut_same}
 
 some_pieces : (byte : ℕ) (bytes : List ℕ) → [] ≡ last_pieces (codes "modify=") (byte ∷ bytes) → ⊥
 some_pieces byte bytes e = cut_some 32 (codes "modify=" ++ byte ∷ bytes) (sym e)
 
-pub modify_none : (words : List (List ℕ)) (answer : Result (List ℕ) LineError) → words ≡ [] → Finds answer (IsOf (λ text. text) (IsText AclText) []) → Finds answer (IsOf (last_pieces (codes "modify=")) (IsText AclText) words)
+pub modify_none : (words : List (List ℕ)) (answer : Result (List ℕ) LineError) → words ≡ [] → FindsLine answer (IsOf (λ text. text) (IsText AclText) []) → FindsLine answer (IsOf (last_pieces (codes "modify=")) (IsText AclText) words)
 modify_none words (Ok []) none of = record { same = none; fits = of.fits }
 modify_none words (Ok (byte ∷ bytes)) none of = absurd (let e = of.same in cc)
 modify_none words (Err NotALine) none nothing = absurd (nothing [] (record { same = refl; fits = refl }))

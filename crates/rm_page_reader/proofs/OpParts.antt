@@ -19,7 +19,7 @@ use Rattle.rm_page.proofs.ReadIds.{read_attempt, read_container, attempt_back, c
 use Rattle.rm_page.proofs.ReadOperations.{submission_pieces}
 use Rattle.rm_script.proofs.Parts.{differ}
 use Rattle.rm_page_reader.specs.Pieces.{op_pieces}
-use Rattle.rm_page_reader.specs.Results.{IsOf}
+use Rattle.rm_script.specs.Results.{IsOf}
 use Rattle.rm_page_reader.proofs.Found.{first_same, left_same}
 use Rattle.rm_page_reader.proofs.Halves.{behind_same}
 

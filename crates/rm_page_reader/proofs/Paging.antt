@@ -20,8 +20,8 @@ use Rattle.rm_page.proofs.ReadEntries.{has_line, lines_show}
 use Rattle.rm_script.proofs.Parts.{differ}
 use Rattle.rm_page_reader.specs.declared.errors.LineError.{LineError}
 use Rattle.rm_page_reader.specs.declared.errors.LineError.TheVariants.{NotALine, Memory}
-use Rattle.rm_page_reader.specs.Answers.{AreHeard, AreLetters, Fit, HasSender, IsFirstLine, IsMemory, IsTold, IsWant}
-use Rattle.rm_page_reader.specs.Results.{IsFirstCut, at_line}
+use Rattle.rm_page_reader.specs.Answers.{AreHeard, AreLetters, Fit, HasSender, IsFirstLine, IsMemory, IsToldEntry, IsWant}
+use Rattle.rm_page_reader.specs.Results.{IsFirstCut, at_page_line}
 use Rattle.rm_page_reader.specs.declared.errors.PageError.{PageError}
 use Rattle.rm_page_reader.specs.declared.errors.PageError.TheVariants as page_errors
 use Rattle.rm_page_reader.specs.declared.pages.Page.{Page}
@@ -157,7 +157,7 @@ lane_shown (entries.Served sender message reply) own = ap feed_lane (sym own)
 lane_shown entries.Handed own = refl
 lane_shown entry own = refl
 
-same_letter : (found entry : Entry) → IsTold found → IsHeard entry → line_of found ≡ line_of entry → lane_of_entry found ≡ lane_of_entry entry
+same_letter : (found entry : Entry) → IsToldEntry found → IsHeard entry → line_of found ≡ line_of entry → lane_of_entry found ≡ lane_of_entry entry
 same_letter found entry told is e =
     sym (lane_shown found told.sender) ∙ ap lane_of_entry ((lines_show found entry told.ranges is.0.ranges told.heard is.1).0 e) ∙ lane_shown entry (own_sender entry is.0)
 
@@ -168,7 +168,7 @@ pub record IsNext (log : List Entry) (moves : Bool) (told : List Entry) (line af
   pub entry : Entry
   pub is : IsManagerEntry entry
   pub line_is : line_of entry ≡ line ++ codes "\n"
-  pub goes_on : (found : Entry) → IsTold found → line_of found ≡ line_of entry → IsLeft log moves (told ++ found ∷ []) after
+  pub goes_on : (found : Entry) → IsToldEntry found → line_of found ≡ line_of entry → IsLeft log moves (told ++ found ∷ []) after
 
 pushed : {X : Type 0} (text : X → List ℕ) (front : List X) (one : X) (back : List ℕ) → flat_map text (front ++ one ∷ []) ++ back ≡ flat_map text front ++ (text one ++ back)
 pushed text front one back =
@@ -267,7 +267,7 @@ end_is log moves told is = by_left is.left is.are is.text is.lines is.same_lette
 
 -- ---- what a page's error says
 
-pub want_at : (error : LineError) (line : ℕ) → IsMemory error → IsWant (at_line error line)
+pub want_at : (error : LineError) (line : ℕ) → IsMemory error → IsWant (at_page_line error line)
 want_at NotALine line is = absurd is
 want_at Memory line is = tt
 

@@ -14,16 +14,17 @@ use Rattle.rm_types.specs.declared.replies.Report.{Report}
 use Rattle.rm_types.specs.Ranges.{IsAppId, IsContainerId}
 use Rattle.rm_formats.specs.IdTexts.{app_text, container_text}
 use Rattle.rm_formats.specs.Wording.{bracketed, grant_text, closing_text, denial_words}
-use Rattle.rm_page.specs.Ranges.{IsWord32, IsGrant, IsClosing, IsReply, IsDenial, IsReport}
+use Rattle.rm_page.specs.Ranges.{IsWord32, IsGrant, IsClosing, IsPageReply, IsDenial, IsPageReport}
 use Rattle.rm_script.proofs.Parts.{differ}
 use Rattle.rm_page_reader.specs.declared.errors.LineError.{LineError}
 use Rattle.rm_page_reader.specs.Pieces.{IsBare, IsServiceWord, reply_pieces, report_pieces}
-use Rattle.rm_page_reader.specs.Results.{IsOf, Finds}
+use Rattle.rm_page_reader.specs.Results.{FindsLine}
+use Rattle.rm_script.specs.Results.{IsOf}
 use Rattle.rm_page_reader.proofs.Found.{found_as}
 use Rattle.rm_page_reader.proofs.OpParts.{first_word, behind_first}
 
 -- a reply of one word is that word alone
-pub bare_is : (word : List ℕ) (reply : Reply) → IsBare word reply → IsOf reply_pieces IsReply (word ∷ []) reply
+pub bare_is : (word : List ℕ) (reply : Reply) → IsBare word reply → IsOf reply_pieces IsPageReply (word ∷ []) reply
 bare_is word (replies.New id) e = absurd e
 bare_is word (replies.Denied denial) e = absurd e
 bare_is word (replies.Report report) e = absurd e
@@ -32,7 +33,7 @@ bare_is word (replies.NodeRegistered turn epoch) e = absurd e
 bare_is word (replies.Beat id launch clean) e = absurd e
 bare_is word reply e = record { same = ap (λ (one : List ℕ). one ∷ []) e; fits = tt }
 
-pub bare_said : (word : List ℕ) (reply : Reply) → IsOf reply_pieces IsReply (word ∷ []) reply → IsBare word reply
+pub bare_said : (word : List ℕ) (reply : Reply) → IsOf reply_pieces IsPageReply (word ∷ []) reply → IsBare word reply
 bare_said word (replies.New id) of = absurd (let e = ap behind_first of.same in cc)
 bare_said word (replies.Denied denial) of = absurd (let e = ap behind_first of.same in cc)
 bare_said word (replies.Report report) of = absurd (let e = ap behind_first of.same in cc)
@@ -41,10 +42,10 @@ bare_said word (replies.NodeRegistered turn epoch) of = absurd (let e = ap behin
 bare_said word (replies.Beat id launch clean) of = absurd (let e = ap behind_first of.same in cc)
 bare_said word reply of = ap first_word of.same
 
-pub bare_found : (word : List ℕ) (words left : List (List ℕ)) (answer : Result Reply LineError) → words ≡ word ∷ left → left ≡ [] → Finds answer (IsBare word) → Finds answer (IsOf reply_pieces IsReply words)
+pub bare_found : (word : List ℕ) (words left : List (List ℕ)) (answer : Result Reply LineError) → words ≡ word ∷ left → left ≡ [] → FindsLine answer (IsBare word) → FindsLine answer (IsOf reply_pieces IsPageReply words)
 bare_found word words left answer first none finds =
     let whole : words ≡ word ∷ [] = first ∙ ap (λ (more : List (List ℕ)). word ∷ more) none in
-    rw whole (found_as (IsBare word) (IsOf reply_pieces IsReply (word ∷ [])) answer (bare_is word) (bare_said word) finds)
+    rw whole (found_as (IsBare word) (IsOf reply_pieces IsPageReply (word ∷ [])) answer (bare_is word) (bare_said word) finds)
 
 service_bare : (word : List ℕ) (reply : Reply) → IsServiceWord word reply → IsBare word reply
 service_bare word replies.NotOpen e = absurd e
@@ -76,10 +77,10 @@ bare_service word notopen submitted badid retired noqueue toolarge full unknown 
 bare_service word notopen submitted badid retired noqueue toolarge full unknown killing ended reply e = e
 
 -- a word that is none of those to a client
-pub to_service : (word : List ℕ) (answer : Result Reply LineError) → Finds answer (IsServiceWord word)
+pub to_service : (word : List ℕ) (answer : Result Reply LineError) → FindsLine answer (IsServiceWord word)
     → bytes_eq word (codes "NOTOPEN") ≡ false → bytes_eq word (codes "submitted") ≡ false → bytes_eq word (codes "BADID") ≡ false → bytes_eq word (codes "RETIRED") ≡ false
     → bytes_eq word (codes "NOQUEUE") ≡ false → bytes_eq word (codes "TOOLARGE") ≡ false → bytes_eq word (codes "FULL") ≡ false → bytes_eq word (codes "UNKNOWN") ≡ false
-    → bytes_eq word (codes "killing") ≡ false → bytes_eq word (codes "ended") ≡ false → Finds answer (IsBare word)
+    → bytes_eq word (codes "killing") ≡ false → bytes_eq word (codes "ended") ≡ false → FindsLine answer (IsBare word)
 to_service word answer finds notopen submitted badid retired noqueue toolarge full unknown killing ended =
     found_as (IsServiceWord word) (IsBare word) answer (service_bare word) (bare_service word notopen submitted badid retired noqueue toolarge full unknown killing ended) finds
 
@@ -101,7 +102,7 @@ no_service word registered already gone resync wrongid notregistered finishing f
 
 -- a reply of more words begins with one of these
 pub no_reply : (word : List ℕ) (words : List (List ℕ)) → (words ≡ [] → ⊥) → bytes_eq word (codes "new") ≡ false → bytes_eq word (codes "DENIED") ≡ false → bytes_eq word (codes "report") ≡ false
-    → bytes_eq word (codes "allocated") ≡ false → bytes_eq word (codes "registered") ≡ false → bytes_eq word (codes "beat") ≡ false → (reply : Reply) → IsOf reply_pieces IsReply (word ∷ words) reply → ⊥
+    → bytes_eq word (codes "allocated") ≡ false → bytes_eq word (codes "registered") ≡ false → bytes_eq word (codes "beat") ≡ false → (reply : Reply) → IsOf reply_pieces IsPageReply (word ∷ words) reply → ⊥
 no_reply word words more new denied report allocated registered beat (replies.New id) of = differ word (codes "new") new (ap first_word of.same)
 no_reply word words more new denied report allocated registered beat (replies.Denied denial) of = differ word (codes "DENIED") denied (ap first_word of.same)
 no_reply word words more new denied report allocated registered beat (replies.Report one) of = differ word (codes "report") report (ap first_word of.same)
@@ -116,7 +117,7 @@ pub record IsNew (words : List (List ℕ)) : Type 0 where
   pub same : words ≡ app_text id ∷ []
   pub id_is : IsAppId id
 
-pub new_parts : (words : List (List ℕ)) (reply : Reply) → IsOf reply_pieces IsReply (codes "new" ∷ words) reply → IsNew words
+pub new_parts : (words : List (List ℕ)) (reply : Reply) → IsOf reply_pieces IsPageReply (codes "new" ∷ words) reply → IsNew words
 new_parts words (replies.New id) of = record { id = id; same = ap behind_first of.same; id_is = of.fits }
 new_parts words reply of = absurd (differ (codes "new") (first_word (reply_pieces reply)) refl (ap first_word of.same))
 
@@ -130,7 +131,7 @@ pub record IsAllocated (words : List (List ℕ)) : Type 0 where
   pub grants_are : All IsGrant grants
   pub ended_are : All IsClosing ended
 
-pub allocated_parts : (words : List (List ℕ)) (reply : Reply) → IsOf reply_pieces IsReply (codes "allocated" ∷ words) reply → IsAllocated words
+pub allocated_parts : (words : List (List ℕ)) (reply : Reply) → IsOf reply_pieces IsPageReply (codes "allocated" ∷ words) reply → IsAllocated words
 allocated_parts words (replies.Allocated id grants ended) of = record { id = id; grants = grants; ended = ended; same = ap behind_first of.same; id_is = of.fits.0; grants_are = of.fits.1; ended_are = of.fits.2 }
 allocated_parts words reply of = absurd (differ (codes "allocated") (first_word (reply_pieces reply)) refl (ap first_word of.same))
 
@@ -144,7 +145,7 @@ pub record IsBeat (words : List (List ℕ)) : Type 0 where
   pub launch_are : All IsContainerId launch
   pub clean_are : All IsContainerId clean
 
-pub beat_parts : (words : List (List ℕ)) (reply : Reply) → IsOf reply_pieces IsReply (codes "beat" ∷ words) reply → IsBeat words
+pub beat_parts : (words : List (List ℕ)) (reply : Reply) → IsOf reply_pieces IsPageReply (codes "beat" ∷ words) reply → IsBeat words
 beat_parts words (replies.Beat id launch clean) of = record { id = id; launch = launch; clean = clean; same = ap behind_first of.same; id_is = of.fits.0; launch_are = of.fits.1; clean_are = of.fits.2 }
 beat_parts words reply of = absurd (differ (codes "beat") (first_word (reply_pieces reply)) refl (ap first_word of.same))
 
@@ -156,16 +157,16 @@ pub record IsRegistered (words : List (List ℕ)) : Type 0 where
   pub turn_is : IsWord32 turn
   pub epoch_is : IsWord32 epoch
 
-pub registered_parts : (words : List (List ℕ)) → (words ≡ [] → ⊥) → (reply : Reply) → IsOf reply_pieces IsReply (codes "registered" ∷ words) reply → IsRegistered words
+pub registered_parts : (words : List (List ℕ)) → (words ≡ [] → ⊥) → (reply : Reply) → IsOf reply_pieces IsPageReply (codes "registered" ∷ words) reply → IsRegistered words
 registered_parts words more replies.MasterRegistered of = absurd (more (ap behind_first of.same))
 registered_parts words more (replies.NodeRegistered turn epoch) of = record { turn = turn; epoch = epoch; same = ap behind_first of.same; turn_is = of.fits.0; epoch_is = of.fits.1 }
 registered_parts words more reply of = absurd (differ (codes "registered") (first_word (reply_pieces reply)) refl (ap first_word of.same))
 
 -- a right that wasn't there, and a report
-pub denied_parts : (words : List (List ℕ)) (reply : Reply) → IsOf reply_pieces IsReply (codes "DENIED" ∷ words) reply → (denial : Denial) × IsOf denial_words IsDenial (codes "DENIED" ∷ words) denial
+pub denied_parts : (words : List (List ℕ)) (reply : Reply) → IsOf reply_pieces IsPageReply (codes "DENIED" ∷ words) reply → (denial : Denial) × IsOf denial_words IsDenial (codes "DENIED" ∷ words) denial
 denied_parts words (replies.Denied denial) of = (denial, record { same = of.same; fits = of.fits })
 denied_parts words reply of = absurd (differ (codes "DENIED") (first_word (reply_pieces reply)) refl (ap first_word of.same))
 
-pub told_parts : (words : List (List ℕ)) (reply : Reply) → IsOf reply_pieces IsReply (codes "report" ∷ words) reply → (report : Report) × IsOf report_pieces IsReport words report
+pub told_parts : (words : List (List ℕ)) (reply : Reply) → IsOf reply_pieces IsPageReply (codes "report" ∷ words) reply → (report : Report) × IsOf report_pieces IsPageReport words report
 told_parts words (replies.Report report) of = (report, record { same = ap behind_first of.same; fits = of.fits })
 told_parts words reply of = absurd (differ (codes "report") (first_word (reply_pieces reply)) refl (ap first_word of.same))

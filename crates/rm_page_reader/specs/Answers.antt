@@ -54,9 +54,9 @@ IsMemory line_errors.NotALine = ⊥
 IsMemory line_errors.Memory = Unit {0}
 
 -- the answer is this value, unless memory ran out
-abbrev pub Gives : {X : Type 0} → Result X LineError → X → Type 0
-Gives (Ok found) value = found ≡ value
-Gives (Err error) value = IsMemory error
+abbrev pub GivesValue : {X : Type 0} → Result X LineError → X → Type 0
+GivesValue (Ok found) value = found ≡ value
+GivesValue (Err error) value = IsMemory error
 
 -- the answer is an entry with this one's line, unless memory ran out
 abbrev pub GivesLine : Result Entry LineError → Entry → Type 0
@@ -78,7 +78,7 @@ HasSender (entries.Served sender message reply) = sender ≡ sender_of message
 HasSender entry = Unit {0}
 
 -- an entry that a line tells
-pub record IsTold (entry : Entry) : Type 0 where
+pub record IsToldEntry (entry : Entry) : Type 0 where
   pub ranges : IsEntry entry
   pub heard : is_silent entry ≡ false
   pub sender : HasSender entry

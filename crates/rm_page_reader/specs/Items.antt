@@ -9,7 +9,7 @@ use Rattle.rm_types.specs.Lists.{is_nil}
 use Rattle.rm_types.specs.Ranges.{IsContainerId, IsText}
 use Rattle.rm_formats.specs.IdTexts.{container_text}
 use Rattle.rm_formats.specs.Wording.{grant_text, closing_text}
-use Rattle.rm_page.specs.Ranges.{IsHeld, IsGrant, IsClosing}
+use Rattle.rm_page.specs.Ranges.{IsPageHeld, IsGrant, IsClosing}
 use Rattle.rm_page.proofs.Bytes.{lacks}
 use Rattle.rm_page.proofs.ReadLists.{containers_come_back, texts_come_back, grant_comes_back, closing_comes_back, listed_held_comes_back}
 
@@ -35,5 +35,5 @@ pub closing_item : (closing : Closing) → IsClosing closing → IsItemText (clo
 closing_item closing is = let back = closing_comes_back closing is in record { no_comma = back.no_comma; some = back.some }
 
 -- and that of a container that an absorption takes
-pub held_item : (held : Held) → IsHeld held → IsItemText (container_text held.id)
+pub held_item : (held : Held) → IsPageHeld held → IsItemText (container_text held.id)
 held_item held is = let back = listed_held_comes_back held is in record { no_comma = back.no_comma; some = back.some }

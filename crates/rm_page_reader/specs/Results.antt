@@ -7,20 +7,15 @@ use Rattle.rm_page_reader.specs.declared.errors.PageError.{PageError}
 use Rattle.rm_page_reader.specs.declared.errors.PageError.TheVariants as pages
 use Rattle.rm_page.proofs.Bytes.{lacks}
 
--- the value fits, and what is given is what it is written as
-pub record IsOf {X Y : Type 0} (written : X → Y) (Fits : X → Type 0) (given : Y) (value : X) : Type 0 where
-  pub same : given ≡ written value
-  pub fits : Fits value
-
 -- the error says that there is no value of which this holds, or that memory ran out
-abbrev pub FindsNone : {X : Type 0} → LineError → (X → Type 0) → Type 0
-FindsNone {X} NotALine Is = (value : X) → Is value → ⊥
-FindsNone Memory Is = Unit {0}
+abbrev pub FindsNoLine : {X : Type 0} → LineError → (X → Type 0) → Type 0
+FindsNoLine {X} NotALine Is = (value : X) → Is value → ⊥
+FindsNoLine Memory Is = Unit {0}
 
 -- the answer is a value of which this holds, or there is none, unless memory ran out
-abbrev pub Finds : {X : Type 0} → Result X LineError → (X → Type 0) → Type 0
-Finds (Ok value) Is = Is value
-Finds (Err error) Is = FindsNone error Is
+abbrev pub FindsLine : {X : Type 0} → Result X LineError → (X → Type 0) → Type 0
+FindsLine (Ok value) Is = Is value
+FindsLine (Err error) Is = FindsNoLine error Is
 
 -- the error says that the first word is that of no value, or that memory ran out
 abbrev pub TakesNone : {X : Type 0} → LineError → (X → List ℕ) → (X → Type 0) → List (List ℕ) → Type 0
@@ -28,9 +23,9 @@ TakesNone {X} NotALine written Fits words = (value : X) (left : List (List ℕ))
 TakesNone Memory written Fits words = Unit {0}
 
 -- the answer is the value whose word is the first, and the other words are left; or it is that of none, unless memory ran out
-abbrev pub Takes : {X : Type 0} → Result X LineError → (X → List ℕ) → (X → Type 0) → List (List ℕ) → List (List ℕ) → Type 0
-Takes (Ok value) written Fits words left = (words ≡ written value ∷ left) × Fits value
-Takes (Err error) written Fits words left = TakesNone error written Fits words
+abbrev pub TakesWord : {X : Type 0} → Result X LineError → (X → List ℕ) → (X → Type 0) → List (List ℕ) → List (List ℕ) → Type 0
+TakesWord (Ok value) written Fits words left = (words ≡ written value ∷ left) × Fits value
+TakesWord (Err error) written Fits words left = TakesNone error written Fits words
 
 -- what stands before the end of a text, where it has that end
 abbrev pub before_end : List ℕ → List ℕ → Option (List ℕ)
@@ -47,6 +42,6 @@ pub record IsLastCut (byte : ℕ) (text front back : List ℕ) : Type 0 where
   pub back_lacks : lacks byte back ≡ true
 
 -- the same error of the page whose line this is
-abbrev pub at_line : LineError → ℕ → PageError
-at_line NotALine line = pages.NotAPage line
-at_line Memory line = pages.Memory
+abbrev pub at_page_line : LineError → ℕ → PageError
+at_page_line NotALine line = pages.NotAPage line
+at_page_line Memory line = pages.Memory

@@ -10,7 +10,7 @@ use Rattle.rm_formats.specs.Wording.{message_text}
 use Rattle.rm_page.specs.Ranges.{IsEntry}
 use Rattle.rm_page.specs.Shown.{is_silent, shown, shown_log}
 use Rattle.rm_script.specs.Lines.{IsLineText}
-use Rattle.rm_script.specs.Scripts.{IsRead}
+use Rattle.rm_script.specs.Scripts.{IsReadMessage}
 use Rattle.rm_page_reader.specs.declared.soaks.SoakLine.{SoakLine}
 use Rattle.rm_page_reader.specs.declared.pages.Page.{Page}
 use Rattle.rm_page_reader.specs.declared.pages.Page.TheVariants.{Log, Soak}
@@ -49,7 +49,7 @@ IsOneReading =
 
 -- a message that a line of a script says: its parts are in their ranges, and its text may stand there
 pub record IsOfScript (message : Message) : Type 0 where
-  pub parts : IsRead message
+  pub parts : IsReadMessage message
   pub line : IsLineText (message_text message)
 
 -- what a manager's log keeps to besides the ranges: it was given the messages of scripts, each by its sender, and the events

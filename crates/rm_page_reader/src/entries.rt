@@ -7,11 +7,12 @@ ghost use Rattle.rm_types.specs.Ranges.{IsContainerId, IsText};
 ghost use Rattle.rm_types.specs.declared.texts.TextKind.TheVariants.{Node};
 ghost use Rattle.rm_formats.specs.Page.{line_of};
 ghost use Rattle.rm_formats.specs.Wording.{bracketed, message_text, reply_text};
-ghost use Rattle.rm_page.specs.Ranges.{IsEntry, IsGrant, IsServed, MayAnswer};
+ghost use Rattle.rm_page.specs.Ranges.{IsEntry, IsGrant, IsPageServed, MayAnswer};
 ghost use Rattle.rm_page.proofs.Bytes.{cut, lacks};
-ghost use Rattle.rm_page_reader.specs.Answers.{GivesLine, IsPlain, IsTold, frees, is_free, served_entry, served_text};
+ghost use Rattle.rm_page_reader.specs.Answers.{GivesLine, IsPlain, IsToldEntry, frees, is_free, served_entry, served_text};
 ghost use Rattle.rm_page_reader.specs.Pieces.{entry_pieces};
-ghost use Rattle.rm_page_reader.specs.Results.{IsOf, Finds, Takes, IsLastCut};
+ghost use Rattle.rm_page_reader.specs.Results.{FindsLine, TakesWord, IsLastCut};
+ghost use Rattle.rm_script.specs.Results.{IsOf};
 ghost use Rattle.rm_page_reader.specs.Told.{IsOfScript, IsManagerEntry};
 ghost use Rattle.rm_types.specs.declared.entries.Entry.TheVariants.{Pass};
 
@@ -29,7 +30,7 @@ use std::alloc::Global;
 
 /// The entry that a line tells, by the line without its line feed. No line tells a silent one.
 pub(crate) fn entry(alloc: Global, line: &[u8]) -> Result<Entry, LineError>
-    ensures told { IfOk result IsTold }
+    ensures told { IfOk result IsToldEntry }
     ensures only { (entry : AnyEntry) → IsManagerEntry entry → line_of entry ≡ line.now ++ codes "\n" → GivesLine result entry }
 {
     let mut words = Words::of(line);
@@ -44,7 +45,7 @@ pub(crate) fn entry(alloc: Global, line: &[u8]) -> Result<Entry, LineError>
 /// An entry that says of no message that it was answered, by the first word of its line and the others.
 #[tactic(auto, using(crate::proofs::Found::at_word, crate::proofs::EntryParts::no_entry))]
 fn plain(alloc: Global, word: &[u8], words: Words<'_>) -> Result<Entry, LineError>
-    ensures { Finds result (IsOf entry_pieces IsPlain (word.now ∷ words.entry)) }
+    ensures { FindsLine result (IsOf entry_pieces IsPlain (word.now ∷ words.entry)) }
 {
     if word == "opened".as_bytes() {
         opened(words)
@@ -76,21 +77,21 @@ fn plain(alloc: Global, word: &[u8], words: Words<'_>) -> Result<Entry, LineErro
 }
 
 fn settled(words: Words<'_>) -> Result<Entry, LineError>
-    ensures { Finds result (IsOf entry_pieces IsPlain (codes "settled" ∷ words.entry)) }
+    ensures { FindsLine result (IsOf entry_pieces IsPlain (codes "settled" ∷ words.entry)) }
 {
     words.end()?;
     Ok(Entry::Settled)
 }
 
 fn down(words: Words<'_>) -> Result<Entry, LineError>
-    ensures { Finds result (IsOf entry_pieces IsPlain (codes "down" ∷ words.entry)) }
+    ensures { FindsLine result (IsOf entry_pieces IsPlain (codes "down" ∷ words.entry)) }
 {
     words.end()?;
     Ok(Entry::Down)
 }
 
 fn issued(alloc: Global, words: Words<'_>) -> Result<Entry, LineError>
-    ensures { Finds result (IsOf entry_pieces IsPlain (codes "issued" ∷ words.entry)) }
+    ensures { FindsLine result (IsOf entry_pieces IsPlain (codes "issued" ∷ words.entry)) }
 {
     let op = operation(alloc, words)?;
     Ok(Entry::Issued {
@@ -99,7 +100,7 @@ fn issued(alloc: Global, words: Words<'_>) -> Result<Entry, LineError>
 }
 
 fn kept(alloc: Global, words: Words<'_>) -> Result<Entry, LineError>
-    ensures { Finds result (IsOf entry_pieces IsPlain (codes "kept" ∷ words.entry)) }
+    ensures { FindsLine result (IsOf entry_pieces IsPlain (codes "kept" ∷ words.entry)) }
 {
     let op = operation(alloc, words)?;
     Ok(Entry::Kept {
@@ -108,7 +109,7 @@ fn kept(alloc: Global, words: Words<'_>) -> Result<Entry, LineError>
 }
 
 fn opened(mut words: Words<'_>) -> Result<Entry, LineError>
-    ensures { Finds result (IsOf entry_pieces IsPlain (codes "opened" ∷ words.entry)) }
+    ensures { FindsLine result (IsOf entry_pieces IsPlain (codes "opened" ∷ words.entry)) }
 {
     let landed = words.number(b"landed=")?;
     let epoch = words.number(b"epoch=")?;
@@ -122,7 +123,7 @@ fn opened(mut words: Words<'_>) -> Result<Entry, LineError>
 }
 
 fn blown(mut words: Words<'_>) -> Result<Entry, LineError>
-    ensures { Finds result (IsOf entry_pieces IsPlain (codes "blown" ∷ words.entry)) }
+    ensures { FindsLine result (IsOf entry_pieces IsPlain (codes "blown" ∷ words.entry)) }
 {
     let passed = words.number(b"passed=")?;
     words.end()?;
@@ -131,8 +132,8 @@ fn blown(mut words: Words<'_>) -> Result<Entry, LineError>
 
 /// An answered message: what stands before the arrow, and its reply behind it.
 fn served(alloc: Global, text: &[u8]) -> Result<Entry, LineError>
-    ensures told { IfOk result IsTold }
-    ensures only { (message : AnyMessage) (reply : AnyReply) → IsOfScript message → IsServed message reply → text.now ≡ served_text message reply → GivesLine result (served_entry message reply) }
+    ensures told { IfOk result IsToldEntry }
+    ensures only { (message : AnyMessage) (reply : AnyReply) → IsOfScript message → IsPageServed message reply → text.now ≡ served_text message reply → GivesLine result (served_entry message reply) }
 {
     let (asked, answered) = around_arrow(text)?;
     let message = message(alloc, asked)?;
@@ -157,8 +158,8 @@ fn served_of(alloc: Global, message: Message, reply: Reply) -> Result<Entry, NoM
 /// What stands before the arrow, and what behind it. Where spaces may stand in the message, an arrow may too, and none in the
 /// reply; so the last `>` is the arrow's there, and else the first.
 fn around_arrow(text: &[u8]) -> Result<(&[u8], &[u8]), LineError>
-    ensures halves { (message : AnyMessage) (reply : AnyReply) → IsServed message reply → text.now ≡ served_text message reply → IfOk result (λ halves. (halves.0.now ≡ message_text message) × (halves.1.now ≡ reply_text reply)) }
-    ensures some { (message : AnyMessage) (reply : AnyReply) → IsServed message reply → text.now ≡ served_text message reply → IfErr result (λ error. ⊥) }
+    ensures halves { (message : AnyMessage) (reply : AnyReply) → IsPageServed message reply → text.now ≡ served_text message reply → IfOk result (λ halves. (halves.0.now ≡ message_text message) × (halves.1.now ≡ reply_text reply)) }
+    ensures some { (message : AnyMessage) (reply : AnyReply) → IsPageServed message reply → text.now ≡ served_text message reply → IfErr result (λ error. ⊥) }
 {
     let (front, back) = at_arrow(text)?;
     Ok((before(front, b" -")?, behind(back, b" ")?))
@@ -166,8 +167,8 @@ fn around_arrow(text: &[u8]) -> Result<(&[u8], &[u8]), LineError>
 
 /// What stands before the arrow's `>`, and what behind it.
 fn at_arrow(text: &[u8]) -> Result<(&[u8], &[u8]), LineError>
-    ensures halves { (message : AnyMessage) (reply : AnyReply) → IsServed message reply → text.now ≡ served_text message reply → IfOk result (λ halves. (halves.0.now ≡ message_text message ++ codes " -") × (halves.1.now ≡ codes " " ++ reply_text reply)) }
-    ensures some { (message : AnyMessage) (reply : AnyReply) → IsServed message reply → text.now ≡ served_text message reply → IfErr result (λ error. ⊥) }
+    ensures halves { (message : AnyMessage) (reply : AnyReply) → IsPageServed message reply → text.now ≡ served_text message reply → IfOk result (λ halves. (halves.0.now ≡ message_text message ++ codes " -") × (halves.1.now ≡ codes " " ++ reply_text reply)) }
+    ensures some { (message : AnyMessage) (reply : AnyReply) → IsPageServed message reply → text.now ≡ served_text message reply → IfErr result (λ error. ⊥) }
 {
     if may_have_spaces(text)? {
         match last_halves(text, b'>') {
@@ -239,7 +240,7 @@ fn sender_of(message: &Message) -> Sender
 }
 
 fn accepted(mut words: Words<'_>) -> Result<Entry, LineError>
-    ensures { Finds result (IsOf entry_pieces IsPlain (codes "accepted" ∷ words.entry)) }
+    ensures { FindsLine result (IsOf entry_pieces IsPlain (codes "accepted" ∷ words.entry)) }
 {
     let app = words.app_id()?;
     words.end()?;
@@ -247,7 +248,7 @@ fn accepted(mut words: Words<'_>) -> Result<Entry, LineError>
 }
 
 fn queued(mut words: Words<'_>) -> Result<Entry, LineError>
-    ensures { Finds result (IsOf entry_pieces IsPlain (codes "queued" ∷ words.entry)) }
+    ensures { FindsLine result (IsOf entry_pieces IsPlain (codes "queued" ∷ words.entry)) }
 {
     let attempt = words.attempt_id()?;
     words.end()?;
@@ -255,7 +256,7 @@ fn queued(mut words: Words<'_>) -> Result<Entry, LineError>
 }
 
 fn absorbed(alloc: Global, mut words: Words<'_>) -> Result<Entry, LineError>
-    ensures { Finds result (IsOf entry_pieces IsPlain (codes "absorbed" ∷ words.entry)) }
+    ensures { FindsLine result (IsOf entry_pieces IsPlain (codes "absorbed" ∷ words.entry)) }
 {
     let node = boxed_node(alloc, &mut words)?;
     let taken = boxed_list::<ByContainer, Held>(alloc, &mut words, b"taken=")?;
@@ -266,7 +267,7 @@ fn absorbed(alloc: Global, mut words: Words<'_>) -> Result<Entry, LineError>
 
 /// Takes the next word, a node's name.
 fn boxed_node(alloc: Global, words: &mut Words<'_>) -> Result<Boxed<Text>, LineError>
-    ensures { Takes result (λ node. node) (IsText Node) words.old words.new }
+    ensures { TakesWord result (λ node. node) (IsText Node) words.old words.new }
 {
     let node = words.name(alloc, TextKind::Node)?;
     Ok(Boxed::new(alloc, node)?)
@@ -278,14 +279,14 @@ fn boxed_list<R: Reading<T>, T: Drop>(
     words: &mut Words<'_>,
     name: &[u8],
 ) -> Result<Boxed<Items<T>>, LineError>
-    ensures { Takes result (λ items. name.now ++ bracketed (map R.text items)) (All R.is) words.old words.new }
+    ensures { TakesWord result (λ items. name.now ++ bracketed (map R.text items)) (All R.is) words.old words.new }
 {
     let list = list_behind::<R, T>(alloc, words, name)?;
     Ok(Boxed::new(alloc, list)?)
 }
 
 fn pass(alloc: Global, mut words: Words<'_>) -> Result<Entry, LineError>
-    ensures { Finds result (IsOf entry_pieces IsPlain (codes "pass" ∷ words.entry)) }
+    ensures { FindsLine result (IsOf entry_pieces IsPlain (codes "pass" ∷ words.entry)) }
 {
     let node = words.name(alloc, TextKind::Node)?;
     let ids = list_behind::<Whole, ContainerId>(alloc, &mut words, b"grants=")?;
@@ -331,7 +332,7 @@ fn grant_on(node: &Text, id: ContainerId) -> Result<Grant, NoMemory>
 }
 
 fn ordered(alloc: Global, mut words: Words<'_>) -> Result<Entry, LineError>
-    ensures { Finds result (IsOf entry_pieces IsPlain (codes "ordered" ∷ words.entry)) }
+    ensures { FindsLine result (IsOf entry_pieces IsPlain (codes "ordered" ∷ words.entry)) }
 {
     let container = words.container_id()?;
     let node = boxed_node(alloc, &mut words)?;
@@ -343,7 +344,7 @@ fn ordered(alloc: Global, mut words: Words<'_>) -> Result<Entry, LineError>
 }
 
 fn ended(alloc: Global, mut words: Words<'_>) -> Result<Entry, LineError>
-    ensures { Finds result (IsOf entry_pieces IsPlain (codes "ended" ∷ words.entry)) }
+    ensures { FindsLine result (IsOf entry_pieces IsPlain (codes "ended" ∷ words.entry)) }
 {
     let cause = cause(words.word()?)?;
     let list = bracketed::<Whole, ContainerId>(alloc, words.word()?)?;

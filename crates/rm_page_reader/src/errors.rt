@@ -1,7 +1,7 @@
 ghost use Rattle.std.specs.Prelude.{◌≡◌};
 ghost use Rattle.rm_page_reader.specs.declared.errors.LineError.TheVariants.{Memory};
 ghost use Rattle.rm_page_reader.specs.declared.errors.PageError.TheVariants as pages;
-ghost use Rattle.rm_page_reader.specs.Results.{at_line};
+ghost use Rattle.rm_page_reader.specs.Results.{at_page_line};
 
 use rm_types::NoMemory;
 use std::alloc::{AllocError, AllocFailed};
@@ -48,7 +48,7 @@ pub(crate) enum LineError {
 impl LineError {
     /// The same of the page whose line this is.
     pub(crate) fn at(self, line: u32) -> PageError
-        ensures { result ≡ at_line self line }
+        ensures { result ≡ at_page_line self line }
     {
         match self {
             LineError::NotALine => PageError::NotAPage { line },

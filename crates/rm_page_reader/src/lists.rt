@@ -3,10 +3,11 @@ ghost use Rattle.rm_types.specs.Ranges.{IsContainerId, IsText};
 ghost use Rattle.rm_types.specs.declared.texts.TextKind.TheVariants.{Queue};
 ghost use Rattle.rm_formats.specs.IdTexts.{container_text};
 ghost use Rattle.rm_formats.specs.Wording.{listed, bracketed, cause_text, grant_text, closing_text};
-ghost use Rattle.rm_page.specs.Ranges.{IsHeld, IsGrant, IsClosing};
+ghost use Rattle.rm_page.specs.Ranges.{IsPageHeld, IsGrant, IsClosing};
 ghost use Rattle.rm_page.proofs.Bytes.{cut};
 ghost use Rattle.rm_page_reader.specs.Items.{IsItemText, container_item, text_item, grant_item, closing_item, held_item};
-ghost use Rattle.rm_page_reader.specs.Results.{IsOf, Finds, Takes};
+ghost use Rattle.rm_page_reader.specs.Results.{FindsLine, TakesWord};
+ghost use Rattle.rm_script.specs.Results.{IsOf};
 
 use crate::errors::LineError;
 use crate::words::{Words, before, behind, container_id, halves, text};
@@ -29,7 +30,7 @@ pub(crate) trait Reading<T> {
 
     /// Reads an item.
     fn read(alloc: Global, bytes: &[u8]) -> Result<T, LineError>
-        ensures { Finds result (IsOf text is bytes.now) };
+        ensures { FindsLine result (IsOf text is bytes.now) };
 
     /// It can be told where its text ends in a list.
     ghost apart: { (item : T) → is item → IsItemText (text item) };
@@ -98,7 +99,7 @@ impl Reading<Closing> for Whole {
 impl Reading<Held> for ByContainer {
     ghost text = { λ held. container_text held.id };
 
-    ghost is = { IsHeld };
+    ghost is = { IsPageHeld };
 
     ghost apart = { held_item };
 
@@ -110,7 +111,7 @@ impl Reading<Held> for ByContainer {
 
 /// A grant, by its container's id and its node.
 fn grant(alloc: Global, id: &[u8], node: &[u8]) -> Result<Grant, LineError>
-    ensures { Finds result (λ grant. (id.now ≡ container_text grant.id) × (node.now ≡ grant.node) × IsGrant grant) }
+    ensures { FindsLine result (λ grant. (id.now ≡ container_text grant.id) × (node.now ≡ grant.node) × IsGrant grant) }
 {
     let id = container_id(id)?;
     let node = text(alloc, node, TextKind::Node)?;
@@ -123,7 +124,7 @@ fn grant(alloc: Global, id: &[u8], node: &[u8]) -> Result<Grant, LineError>
 
 /// A container that ended, by its id and why it did.
 fn closing(id: &[u8], why: &[u8]) -> Result<Closing, LineError>
-    ensures { Finds result (λ closing. (id.now ≡ container_text closing.id) × (why.now ≡ cause_text closing.cause) × IsClosing closing) }
+    ensures { FindsLine result (λ closing. (id.now ≡ container_text closing.id) × (why.now ≡ cause_text closing.cause) × IsClosing closing) }
 {
     let id = container_id(id)?;
     let cause = cause(why)?;
@@ -132,7 +133,7 @@ fn closing(id: &[u8], why: &[u8]) -> Result<Closing, LineError>
 
 /// Why a container ended, by its word.
 pub(crate) fn cause(word: &[u8]) -> Result<Cause, LineError>
-    ensures { Finds result (λ cause. word.now ≡ cause_text cause) }
+    ensures { FindsLine result (λ cause. word.now ≡ cause_text cause) }
 {
     match word {
         b"done" => Ok(Cause::Done),
@@ -158,7 +159,7 @@ fn pieces(alloc: Global, text: &[u8]) -> Result<Vec<&[u8]>, LineError>
 /// The items of a list that has some, with a comma between each two.
 fn items_of<R: Reading<T>, T: Drop>(alloc: Global, text: &[u8]) -> Result<Items<T>, LineError>
     requires { 0 < length text.now }
-    ensures { Finds result (IsOf (λ items. listed (map R.text items)) (All R.is) text.now) }
+    ensures { FindsLine result (IsOf (λ items. listed (map R.text items)) (All R.is) text.now) }
 {
     let words = pieces(alloc, text)?;
     let mut items = Items::new(alloc);
@@ -173,7 +174,7 @@ pub(crate) fn listed<R: Reading<T>, T: Drop>(
     alloc: Global,
     text: &[u8],
 ) -> Result<Items<T>, LineError>
-    ensures { Finds result (IsOf (λ items. listed (map R.text items)) (All R.is) text.now) }
+    ensures { FindsLine result (IsOf (λ items. listed (map R.text items)) (All R.is) text.now) }
 {
     if text.is_empty() {
         return Ok(Items::new(alloc));
@@ -194,7 +195,7 @@ pub(crate) fn bracketed<R: Reading<T>, T: Drop>(
     alloc: Global,
     text: &[u8],
 ) -> Result<Items<T>, LineError>
-    ensures { Finds result (IsOf (λ items. bracketed (map R.text items)) (All R.is) text.now) }
+    ensures { FindsLine result (IsOf (λ items. bracketed (map R.text items)) (All R.is) text.now) }
 {
     listed::<R, T>(alloc, inside(text)?)
 }
@@ -205,7 +206,7 @@ pub(crate) fn list_behind<R: Reading<T>, T: Drop>(
     words: &mut Words<'_>,
     name: &[u8],
 ) -> Result<Items<T>, LineError>
-    ensures { Takes result (λ items. name.now ++ bracketed (map R.text items)) (All R.is) words.old words.new }
+    ensures { TakesWord result (λ items. name.now ++ bracketed (map R.text items)) (All R.is) words.old words.new }
 {
     bracketed::<R, T>(alloc, words.field(name)?)
 }

@@ -3,7 +3,7 @@ ghost use Rattle.rm_types.specs.Lanes.{lane_of_entry};
 ghost use Rattle.rm_formats.specs.Page.{lane_letter, letters};
 ghost use Rattle.rm_page.specs.Ranges.{IsEntry};
 ghost use Rattle.rm_page.specs.Shown.{is_silent};
-ghost use Rattle.rm_page_reader.specs.Answers.{Fit, IsLogOf, IsSilentLetter, IsTold};
+ghost use Rattle.rm_page_reader.specs.Answers.{Fit, IsLogOf, IsSilentLetter, IsToldEntry};
 
 use crate::errors::LineError;
 use rm_page::page;
@@ -30,7 +30,7 @@ pub(crate) fn with_moves(
     heard: Items<Entry>,
     moves: &[u8],
 ) -> Result<Items<Entry>, LineError>
-    requires { All IsTold heard }
+    requires { All IsToldEntry heard }
     ensures log { IfOk result (IsLogOf heard moves.now) }
     ensures only { IfErr result (λ error. Fit moves.now (letters heard) → error ≡ LineError.Memory) }
 {

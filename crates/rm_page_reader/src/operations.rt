@@ -4,7 +4,8 @@ ghost use Rattle.rm_types.specs.declared.texts.TextKind.TheVariants.{Name, AclTe
 ghost use Rattle.rm_formats.specs.Wording.{how_text};
 ghost use Rattle.rm_page.proofs.ReadOperations.{last_pieces, submission_pieces};
 ghost use Rattle.rm_page_reader.specs.Pieces.{op_pieces};
-ghost use Rattle.rm_page_reader.specs.Results.{IsOf, Finds};
+ghost use Rattle.rm_page_reader.specs.Results.{FindsLine};
+ghost use Rattle.rm_script.specs.Results.{IsOf};
 
 use crate::errors::LineError;
 use crate::words::{Words, container_id, text};
@@ -16,7 +17,7 @@ use std::alloc::Global;
 
 /// A store operation, by its words.
 pub(crate) fn operation(alloc: Global, mut words: Words<'_>) -> Result<Op, LineError>
-    ensures { Finds result (IsOf op_pieces IsOperation words.entry) }
+    ensures { FindsLine result (IsOf op_pieces IsOperation words.entry) }
 {
     let word = words.word()?;
     by_word(alloc, word, words)
@@ -25,7 +26,7 @@ pub(crate) fn operation(alloc: Global, mut words: Words<'_>) -> Result<Op, LineE
 /// The same by the first word and the others.
 #[tactic(auto, using(crate::proofs::Found::at_word, crate::proofs::OpParts::no_op))]
 fn by_word(alloc: Global, word: &[u8], words: Words<'_>) -> Result<Op, LineError>
-    ensures { Finds result (IsOf op_pieces IsOperation (word.now ∷ words.entry)) }
+    ensures { FindsLine result (IsOf op_pieces IsOperation (word.now ∷ words.entry)) }
 {
     if word == "epoch".as_bytes() {
         epoch(words)
@@ -45,7 +46,7 @@ fn by_word(alloc: Global, word: &[u8], words: Words<'_>) -> Result<Op, LineError
 }
 
 fn epoch(mut words: Words<'_>) -> Result<Op, LineError>
-    ensures { Finds result (IsOf op_pieces IsOperation (codes "epoch" ∷ words.entry)) }
+    ensures { FindsLine result (IsOf op_pieces IsOperation (codes "epoch" ∷ words.entry)) }
 {
     let next = words.number_within(b"next=", 1, EPOCHS)?;
     let stamp = words.long_number_within(b"stamp=", 1, STAMPS - 1)?;
@@ -54,7 +55,7 @@ fn epoch(mut words: Words<'_>) -> Result<Op, LineError>
 }
 
 fn app(alloc: Global, mut words: Words<'_>) -> Result<Op, LineError>
-    ensures { Finds result (IsOf op_pieces IsOperation (codes "app" ∷ words.entry)) }
+    ensures { FindsLine result (IsOf op_pieces IsOperation (codes "app" ∷ words.entry)) }
 {
     let id = words.app_id()?;
     let user = words.text(alloc, b"user=", TextKind::Name)?;
@@ -65,7 +66,7 @@ fn app(alloc: Global, mut words: Words<'_>) -> Result<Op, LineError>
 /// What the user submits, by the words behind its name or its application.
 fn submission(alloc: Global, user: Text, mut words: Words<'_>) -> Result<Submission, LineError>
     requires { IsText Name user }
-    ensures { Finds result (λ submission. IsOf submission_pieces IsSubmission words.entry submission × (submission.user ≡ user)) }
+    ensures { FindsLine result (λ submission. IsOf submission_pieces IsSubmission words.entry submission × (submission.user ≡ user)) }
 {
     let queue = words.text(alloc, b"queue=", TextKind::Queue)?;
     let name = words.text(alloc, b"name=", TextKind::Name)?;
@@ -85,7 +86,7 @@ fn submission(alloc: Global, user: Text, mut words: Words<'_>) -> Result<Submiss
 
 /// Who else may modify an application: nobody, where no word is left. A word that names nobody is none.
 fn modify(alloc: Global, mut words: Words<'_>) -> Result<Text, LineError>
-    ensures { Finds result (IsOf (last_pieces (codes "modify=")) (IsText AclText) words.entry) }
+    ensures { FindsLine result (IsOf (last_pieces (codes "modify=")) (IsText AclText) words.entry) }
 {
     if words.is_empty() {
         return text(alloc, b"", TextKind::AclText);
@@ -99,7 +100,7 @@ fn modify(alloc: Global, mut words: Words<'_>) -> Result<Text, LineError>
 }
 
 fn attempt(alloc: Global, mut words: Words<'_>) -> Result<Op, LineError>
-    ensures { Finds result (IsOf op_pieces IsOperation (codes "attempt" ∷ words.entry)) }
+    ensures { FindsLine result (IsOf op_pieces IsOperation (codes "attempt" ∷ words.entry)) }
 {
     let id = words.attempt_id()?;
     let master = container_id(words.field(b"master=")?)?;
@@ -112,7 +113,7 @@ fn attempt(alloc: Global, mut words: Words<'_>) -> Result<Op, LineError>
 }
 
 fn attempt_end(alloc: Global, mut words: Words<'_>) -> Result<Op, LineError>
-    ensures { Finds result (IsOf op_pieces IsOperation (codes "attempt-end" ∷ words.entry)) }
+    ensures { FindsLine result (IsOf op_pieces IsOperation (codes "attempt-end" ∷ words.entry)) }
 {
     let id = words.attempt_id()?;
     let how = how(words.word()?)?;
@@ -121,7 +122,7 @@ fn attempt_end(alloc: Global, mut words: Words<'_>) -> Result<Op, LineError>
 }
 
 fn app_end(alloc: Global, mut words: Words<'_>) -> Result<Op, LineError>
-    ensures { Finds result (IsOf op_pieces IsOperation (codes "app-end" ∷ words.entry)) }
+    ensures { FindsLine result (IsOf op_pieces IsOperation (codes "app-end" ∷ words.entry)) }
 {
     let id = words.app_id()?;
     let how = how(words.word()?)?;
@@ -130,7 +131,7 @@ fn app_end(alloc: Global, mut words: Words<'_>) -> Result<Op, LineError>
 }
 
 fn remove(mut words: Words<'_>) -> Result<Op, LineError>
-    ensures { Finds result (IsOf op_pieces IsOperation (codes "remove" ∷ words.entry)) }
+    ensures { FindsLine result (IsOf op_pieces IsOperation (codes "remove" ∷ words.entry)) }
 {
     let id = words.app_id()?;
     words.end()?;
@@ -139,7 +140,7 @@ fn remove(mut words: Words<'_>) -> Result<Op, LineError>
 
 /// How an attempt or an application ended, by its word.
 fn how(word: &[u8]) -> Result<How, LineError>
-    ensures { Finds result (λ how. word.now ≡ how_text how) }
+    ensures { FindsLine result (λ how. word.now ≡ how_text how) }
 {
     match word {
         b"FINISHED" => Ok(How::Finished),

@@ -5,7 +5,7 @@ ghost use Rattle.rm_page.specs.Ranges.{IsEntry};
 ghost use Rattle.rm_page.proofs.Bytes.{lacks};
 ghost use Rattle.rm_formats.specs.Page.{page};
 ghost use Rattle.rm_page_reader.specs.declared.soaks.SoakLine.{SoakLine as AnySoak};
-ghost use Rattle.rm_page_reader.specs.Answers.{AreHeard, AreLetters, IsFirstLine, IsTold, IsWant};
+ghost use Rattle.rm_page_reader.specs.Answers.{AreHeard, AreLetters, IsFirstLine, IsToldEntry, IsWant};
 ghost use Rattle.rm_page_reader.specs.Soaks.{IsSoak, soak_text};
 ghost use Rattle.rm_page_reader.specs.Results.{IsFirstCut};
 ghost use Rattle.rm_page_reader.specs.Told.{IsManagerEntry, IsNoPage, Tells, heard};
@@ -145,7 +145,7 @@ struct Lines<'a> {
 
 /// The lines of the bytes, up to that of the moves.
 fn read_lines(alloc: Global, bytes: &[u8]) -> Result<Lines<'_>, PageError>
-    ensures told { IfOk result (λ lines. All IsTold lines.heard) }
+    ensures told { IfOk result (λ lines. All IsToldEntry lines.heard) }
     ensures heard { (log : List AnyEntry) (moves : Bool) → All IsManagerEntry log → bytes.now ≡ page log moves → IfOk result (λ lines. AreHeard log lines.heard × AreLetters (option_copied lines.letters) log moves) }
     ensures want { (log : List AnyEntry) (moves : Bool) → All IsManagerEntry log → bytes.now ≡ page log moves → IfErr result IsWant }
 {

@@ -1,9 +1,10 @@
 ghost use Rattle.std.specs.Prelude.{◌≡◌, ◌≢◌, ◌∷◌, [], codes};
 ghost use Rattle.rm_formats.specs.Wording.{acl_op_text, state_text, denial_words};
-ghost use Rattle.rm_page.specs.Ranges.{IsReply, IsDenial, IsReport};
+ghost use Rattle.rm_page.specs.Ranges.{IsPageReply, IsDenial, IsPageReport};
 ghost use Rattle.rm_page.proofs.Bytes.{cut};
 ghost use Rattle.rm_page_reader.specs.Pieces.{IsBare, IsServiceWord, report_pieces, reply_pieces};
-ghost use Rattle.rm_page_reader.specs.Results.{IsOf, Finds};
+ghost use Rattle.rm_page_reader.specs.Results.{FindsLine};
+ghost use Rattle.rm_script.specs.Results.{IsOf};
 
 use crate::errors::LineError;
 use crate::lists::{Whole, list_behind, listed};
@@ -15,7 +16,7 @@ use std::alloc::Global;
 
 /// A reply by its text.
 pub(crate) fn reply(alloc: Global, text: &[u8]) -> Result<Reply, LineError>
-    ensures { Finds result (IsOf reply_pieces IsReply (cut 32 text.now)) }
+    ensures { FindsLine result (IsOf reply_pieces IsPageReply (cut 32 text.now)) }
 {
     let mut words = Words::of(text);
     let word = words.word()?;
@@ -29,7 +30,7 @@ pub(crate) fn reply(alloc: Global, text: &[u8]) -> Result<Reply, LineError>
 /// The reply that is this word alone.
 #[tactic(auto, using(crate::proofs::ReplyParts::to_service))]
 fn bare_reply(word: &[u8]) -> Result<Reply, LineError>
-    ensures { Finds result (IsBare word.now) }
+    ensures { FindsLine result (IsBare word.now) }
 {
     if word == "NOTOPEN".as_bytes() {
         Ok(Reply::NotOpen)
@@ -59,7 +60,7 @@ fn bare_reply(word: &[u8]) -> Result<Reply, LineError>
 /// The same of the replies to masters and nodes.
 #[tactic(auto, using(crate::proofs::ReplyParts::no_service))]
 fn service_reply(word: &[u8]) -> Result<Reply, LineError>
-    ensures { Finds result (IsServiceWord word.now) }
+    ensures { FindsLine result (IsServiceWord word.now) }
 {
     if word == "registered".as_bytes() {
         Ok(Reply::MasterRegistered)
@@ -88,7 +89,7 @@ fn service_reply(word: &[u8]) -> Result<Reply, LineError>
 #[tactic(auto, using(crate::proofs::Found::at_word, crate::proofs::ReplyParts::no_reply))]
 fn long_reply(alloc: Global, word: &[u8], words: Words<'_>) -> Result<Reply, LineError>
     requires { words ≢ [] }
-    ensures { Finds result (IsOf reply_pieces IsReply (word.now ∷ words.entry)) }
+    ensures { FindsLine result (IsOf reply_pieces IsPageReply (word.now ∷ words.entry)) }
 {
     if word == "new".as_bytes() {
         new(words)
@@ -108,7 +109,7 @@ fn long_reply(alloc: Global, word: &[u8], words: Words<'_>) -> Result<Reply, Lin
 }
 
 fn new(mut words: Words<'_>) -> Result<Reply, LineError>
-    ensures { Finds result (IsOf reply_pieces IsReply (codes "new" ∷ words.entry)) }
+    ensures { FindsLine result (IsOf reply_pieces IsPageReply (codes "new" ∷ words.entry)) }
 {
     let id = words.app_id()?;
     words.end()?;
@@ -116,13 +117,13 @@ fn new(mut words: Words<'_>) -> Result<Reply, LineError>
 }
 
 fn denied(alloc: Global, words: Words<'_>) -> Result<Reply, LineError>
-    ensures { Finds result (IsOf reply_pieces IsReply (codes "DENIED" ∷ words.entry)) }
+    ensures { FindsLine result (IsOf reply_pieces IsPageReply (codes "DENIED" ∷ words.entry)) }
 {
     Ok(Reply::Denied(denial(alloc, words)?))
 }
 
 fn denial(alloc: Global, mut words: Words<'_>) -> Result<Denial, LineError>
-    ensures { Finds result (IsOf denial_words IsDenial (codes "DENIED" ∷ words.entry)) }
+    ensures { FindsLine result (IsOf denial_words IsDenial (codes "DENIED" ∷ words.entry)) }
 {
     let op = acl_op(words.word()?)?;
     let queue = words.name(alloc, TextKind::Queue)?;
@@ -136,7 +137,7 @@ fn denial(alloc: Global, mut words: Words<'_>) -> Result<Denial, LineError>
 
 /// What a right was asked for, by its word.
 fn acl_op(word: &[u8]) -> Result<AclOp, LineError>
-    ensures { Finds result (λ op. word.now ≡ acl_op_text op) }
+    ensures { FindsLine result (λ op. word.now ≡ acl_op_text op) }
 {
     match word {
         b"submit" => Ok(AclOp::Submit),
@@ -146,13 +147,13 @@ fn acl_op(word: &[u8]) -> Result<AclOp, LineError>
 }
 
 fn told(alloc: Global, words: Words<'_>) -> Result<Reply, LineError>
-    ensures { Finds result (IsOf reply_pieces IsReply (codes "report" ∷ words.entry)) }
+    ensures { FindsLine result (IsOf reply_pieces IsPageReply (codes "report" ∷ words.entry)) }
 {
     Ok(Reply::Report(report(alloc, words)?))
 }
 
 fn report(alloc: Global, mut words: Words<'_>) -> Result<Report, LineError>
-    ensures { Finds result (IsOf report_pieces IsReport words.entry) }
+    ensures { FindsLine result (IsOf report_pieces IsPageReport words.entry) }
 {
     let state = state(words.field(b"state=")?)?;
     let user = words.text(alloc, b"user=", TextKind::Name)?;
@@ -174,7 +175,7 @@ fn report(alloc: Global, mut words: Words<'_>) -> Result<Report, LineError>
 
 /// The state of an application, by its word.
 fn state(word: &[u8]) -> Result<StateWord, LineError>
-    ensures { Finds result (λ state. word.now ≡ state_text state) }
+    ensures { FindsLine result (λ state. word.now ≡ state_text state) }
 {
     match word {
         b"NEW" => Ok(StateWord::New),
@@ -190,7 +191,7 @@ fn state(word: &[u8]) -> Result<StateWord, LineError>
 }
 
 fn allocated(alloc: Global, mut words: Words<'_>) -> Result<Reply, LineError>
-    ensures { Finds result (IsOf reply_pieces IsReply (codes "allocated" ∷ words.entry)) }
+    ensures { FindsLine result (IsOf reply_pieces IsPageReply (codes "allocated" ∷ words.entry)) }
 {
     let id = words.number(b"id=")?;
     let grants = list_behind::<Whole, Grant>(alloc, &mut words, b"grants=")?;
@@ -201,7 +202,7 @@ fn allocated(alloc: Global, mut words: Words<'_>) -> Result<Reply, LineError>
 
 fn node_registered(mut words: Words<'_>) -> Result<Reply, LineError>
     requires { words ≢ [] }
-    ensures { Finds result (IsOf reply_pieces IsReply (codes "registered" ∷ words.entry)) }
+    ensures { FindsLine result (IsOf reply_pieces IsPageReply (codes "registered" ∷ words.entry)) }
 {
     let turn = words.number(b"turn=")?;
     let epoch = words.number(b"epoch=")?;
@@ -210,7 +211,7 @@ fn node_registered(mut words: Words<'_>) -> Result<Reply, LineError>
 }
 
 fn beat(alloc: Global, mut words: Words<'_>) -> Result<Reply, LineError>
-    ensures { Finds result (IsOf reply_pieces IsReply (codes "beat" ∷ words.entry)) }
+    ensures { FindsLine result (IsOf reply_pieces IsPageReply (codes "beat" ∷ words.entry)) }
 {
     let id = words.number(b"id=")?;
     let launch = list_behind::<Whole, ContainerId>(alloc, &mut words, b"launch=")?;

@@ -1,7 +1,8 @@
 ghost use Rattle.std.specs.Prelude.{◌≡◌, ◌∷◌, ◌++◌, IfOk, OnOk, codes};
 ghost use Rattle.std.specs.Fmt.{decimal};
 ghost use Rattle.rm_page.proofs.Bytes.{cut};
-ghost use Rattle.rm_page_reader.specs.Results.{IsOf, Finds};
+ghost use Rattle.rm_page_reader.specs.Results.{FindsLine};
+ghost use Rattle.rm_script.specs.Results.{IsOf};
 ghost use Rattle.rm_page_reader.specs.Soaks.{IsSoak, soak_pieces, soak_text};
 
 use crate::errors::LineError;
@@ -24,7 +25,7 @@ pub struct SoakLine {
 
 /// The line of a soak, without its line feed.
 pub(crate) fn soak_line(line: &[u8]) -> Result<SoakLine, LineError>
-    ensures { Finds result (IsOf soak_pieces IsSoak (cut 32 line.now)) }
+    ensures { FindsLine result (IsOf soak_pieces IsSoak (cut 32 line.now)) }
 {
     let mut words = Words::of(line);
     if words.word()? == "soak".as_bytes() {
@@ -36,7 +37,7 @@ pub(crate) fn soak_line(line: &[u8]) -> Result<SoakLine, LineError>
 
 /// The same by the words behind the first.
 fn numbers(mut words: Words<'_>) -> Result<SoakLine, LineError>
-    ensures { Finds result (IsOf soak_pieces IsSoak (codes "soak" ∷ words.entry)) }
+    ensures { FindsLine result (IsOf soak_pieces IsSoak (codes "soak" ∷ words.entry)) }
 {
     let apps = number(words.word()?)?;
     let lives = words.long_number(b"lives=")?;

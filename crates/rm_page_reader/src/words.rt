@@ -6,7 +6,8 @@ ghost use Rattle.rm_formats.specs.IdTexts.{app_text, attempt_text, container_tex
 ghost use Rattle.rm_page.specs.Ranges.{IsWord32, IsWord64};
 ghost use Rattle.rm_page.proofs.Bytes.{lacks, cut};
 ghost use Rattle.rm_script.specs.Words.{after_label};
-ghost use Rattle.rm_page_reader.specs.Results.{IsOf, Finds, Takes, IsFirstCut, before_end};
+ghost use Rattle.rm_page_reader.specs.Results.{FindsLine, TakesWord, IsFirstCut, before_end};
+ghost use Rattle.rm_script.specs.Results.{IsOf};
 
 use crate::errors::LineError;
 use rm_ids::{read_app, read_attempt, read_container};
@@ -82,7 +83,7 @@ impl<'a> Words<'a> {
 
     /// Takes the next word, and gives the number that stands in it behind a name.
     pub(crate) fn number(&mut self, name: &[u8]) -> Result<u32, LineError>
-        ensures { Takes result (λ number. name.now ++ decimal number) IsWord32 self.old self.new }
+        ensures { TakesWord result (λ number. name.now ++ decimal number) IsWord32 self.old self.new }
     {
         number(self.field(name)?)
     }
@@ -94,14 +95,14 @@ impl<'a> Words<'a> {
         least: u32,
         greatest: u32,
     ) -> Result<u32, LineError>
-        ensures { Takes result (λ number. name.now ++ decimal number) (IsWithin least greatest) self.old self.new }
+        ensures { TakesWord result (λ number. name.now ++ decimal number) (IsWithin least greatest) self.old self.new }
     {
         number_within(self.field(name)?, least, greatest)
     }
 
     /// The same of a number of 64 bits.
     pub(crate) fn long_number(&mut self, name: &[u8]) -> Result<u64, LineError>
-        ensures { Takes result (λ number. name.now ++ decimal number) IsWord64 self.old self.new }
+        ensures { TakesWord result (λ number. name.now ++ decimal number) IsWord64 self.old self.new }
     {
         long_number(self.field(name)?)
     }
@@ -113,7 +114,7 @@ impl<'a> Words<'a> {
         least: u64,
         greatest: u64,
     ) -> Result<u64, LineError>
-        ensures { Takes result (λ number. name.now ++ decimal number) (IsWithin least greatest) self.old self.new }
+        ensures { TakesWord result (λ number. name.now ++ decimal number) (IsWithin least greatest) self.old self.new }
     {
         long_number_within(self.field(name)?, least, greatest)
     }
@@ -125,35 +126,35 @@ impl<'a> Words<'a> {
         name: &[u8],
         kind: TextKind,
     ) -> Result<Text, LineError>
-        ensures { Takes result (λ text. name.now ++ text) (IsText kind) self.old self.new }
+        ensures { TakesWord result (λ text. name.now ++ text) (IsText kind) self.old self.new }
     {
         text(alloc, self.field(name)?, kind)
     }
 
     /// Takes the next word, which is the id of an application.
     pub(crate) fn app_id(&mut self) -> Result<AppId, LineError>
-        ensures { Takes result app_text IsAppId self.old self.new }
+        ensures { TakesWord result app_text IsAppId self.old self.new }
     {
         app_id(self.word()?)
     }
 
     /// The same of an attempt.
     pub(crate) fn attempt_id(&mut self) -> Result<AttemptId, LineError>
-        ensures { Takes result attempt_text IsAttemptId self.old self.new }
+        ensures { TakesWord result attempt_text IsAttemptId self.old self.new }
     {
         attempt_id(self.word()?)
     }
 
     /// The same of a container.
     pub(crate) fn container_id(&mut self) -> Result<ContainerId, LineError>
-        ensures { Takes result container_text IsContainerId self.old self.new }
+        ensures { TakesWord result container_text IsContainerId self.old self.new }
     {
         container_id(self.word()?)
     }
 
     /// Takes the next word, which is a text of a kind.
     pub(crate) fn name(&mut self, alloc: Global, kind: TextKind) -> Result<Text, LineError>
-        ensures { Takes result (λ text. text) (IsText kind) self.old self.new }
+        ensures { TakesWord result (λ text. text) (IsText kind) self.old self.new }
     {
         text(alloc, self.word()?, kind)
     }
@@ -165,7 +166,7 @@ impl<'a> Words<'a> {
         name: &[u8],
         kind: TextKind,
     ) -> Result<Text, LineError>
-        ensures { Finds result (IsOf (λ text. cut 32 (name.now ++ text)) (IsText kind) self.old) }
+        ensures { FindsLine result (IsOf (λ text. cut 32 (name.now ++ text)) (IsText kind) self.old) }
     {
         text(alloc, self.last_field(name)?, kind)
     }
@@ -246,7 +247,7 @@ pub(crate) fn before<'a>(text: &'a [u8], end: &[u8]) -> Result<&'a [u8], LineErr
 
 /// The number of 64 bits from a least to a greatest one that decimal digits write, with no zero before them.
 fn long_number_within(text: &[u8], least: u64, greatest: u64) -> Result<u64, LineError>
-    ensures { Finds result (IsOf decimal (IsWithin least greatest) text.now) }
+    ensures { FindsLine result (IsOf decimal (IsWithin least greatest) text.now) }
 {
     match number_in(text, least, greatest) {
         Some(number) => Ok(number),
@@ -256,21 +257,21 @@ fn long_number_within(text: &[u8], least: u64, greatest: u64) -> Result<u64, Lin
 
 /// The number that decimal digits write, with no zero before them.
 pub(crate) fn long_number(text: &[u8]) -> Result<u64, LineError>
-    ensures { Finds result (IsOf decimal IsWord64 text.now) }
+    ensures { FindsLine result (IsOf decimal IsWord64 text.now) }
 {
     long_number_within(text, 0, u64::MAX)
 }
 
 /// The same of a number of 32 bits.
 pub(crate) fn number(text: &[u8]) -> Result<u32, LineError>
-    ensures { Finds result (IsOf decimal IsWord32 text.now) }
+    ensures { FindsLine result (IsOf decimal IsWord32 text.now) }
 {
     number_within(text, 0, u32::MAX)
 }
 
 /// The same of a number from a least to a greatest one.
 pub(crate) fn number_within(text: &[u8], least: u32, greatest: u32) -> Result<u32, LineError>
-    ensures { Finds result (IsOf decimal (IsWithin least greatest) text.now) }
+    ensures { FindsLine result (IsOf decimal (IsWithin least greatest) text.now) }
 {
     let number = long_number_within(text, u64::from(least), u64::from(greatest))?;
     Ok(number as u32)
@@ -278,7 +279,7 @@ pub(crate) fn number_within(text: &[u8], least: u32, greatest: u32) -> Result<u3
 
 /// The text of a kind that the bytes are.
 pub(crate) fn text(alloc: Global, bytes: &[u8], kind: TextKind) -> Result<Text, LineError>
-    ensures { Finds result (IsOf (λ text. text) (IsText kind) bytes.now) }
+    ensures { FindsLine result (IsOf (λ text. text) (IsText kind) bytes.now) }
 {
     match Text::read(alloc, bytes, kind) {
         Ok(text) => Ok(text),
@@ -289,7 +290,7 @@ pub(crate) fn text(alloc: Global, bytes: &[u8], kind: TextKind) -> Result<Text, 
 
 /// The application whose id the bytes are.
 pub(crate) fn app_id(bytes: &[u8]) -> Result<AppId, LineError>
-    ensures { Finds result (IsOf app_text IsAppId bytes.now) }
+    ensures { FindsLine result (IsOf app_text IsAppId bytes.now) }
 {
     match read_app(bytes) {
         Ok(id) => Ok(id),
@@ -299,7 +300,7 @@ pub(crate) fn app_id(bytes: &[u8]) -> Result<AppId, LineError>
 
 /// The attempt whose id the bytes are.
 pub(crate) fn attempt_id(bytes: &[u8]) -> Result<AttemptId, LineError>
-    ensures { Finds result (IsOf attempt_text IsAttemptId bytes.now) }
+    ensures { FindsLine result (IsOf attempt_text IsAttemptId bytes.now) }
 {
     match read_attempt(bytes) {
         Ok(id) => Ok(id),
@@ -309,7 +310,7 @@ pub(crate) fn attempt_id(bytes: &[u8]) -> Result<AttemptId, LineError>
 
 /// The container whose id the bytes are.
 pub(crate) fn container_id(bytes: &[u8]) -> Result<ContainerId, LineError>
-    ensures { Finds result (IsOf container_text IsContainerId bytes.now) }
+    ensures { FindsLine result (IsOf container_text IsContainerId bytes.now) }
 {
     match read_container(bytes) {
         Ok(id) => Ok(id),

@@ -29,7 +29,7 @@ use Rattle.rm_plain.specs.declared.halts.Halt.{Halt}
 use Rattle.rm_plain.specs.declared.halts.Halt.TheVariants.{DiskFault, Full, Schedule, Memory}
 use Rattle.rm_plain.specs.Order.{AllReady, HaltsHere, May, Order, StopsHere}
 use Rattle.rm_plain.specs.Policy.{first_ready, policy, run_after}
-use Rattle.rm_plain.specs.Schedule.{MovesBy, Stops, StopsAt, by_letters, chosen, left_after, moved_by, used_by}
+use Rattle.rm_plain.specs.Schedule.{MovesBy, Stops, StopsAt, by_letters, chosen, letters_left, moved_by, used_by}
 
 -- where an entry of a longer log stands: at its end, or among those before
 abbrev pub Among : List Entry → List Entry → Entry → Entry → Type 0
@@ -50,10 +50,10 @@ split_push (l ∷ log) (y ∷ past) e x more h =
     (λ before. inr (before.0, ap (λ (z : Entry). z ∷ log) same ∙ ap (λ (zs : List Entry). y ∷ zs) before.1)) (split_push log past e x more rest)
 
 -- a move leaves of the letters what it doesn't use up
-pub left_push : (steps : List Step) (log : List Entry) (e : Entry) → left_after steps (log ++ e ∷ []) ≡ used_by (lane_of_entry e) (left_after steps log)
+pub left_push : (steps : List Step) (log : List Entry) (e : Entry) → letters_left steps (log ++ e ∷ []) ≡ used_by (lane_of_entry e) (letters_left steps log)
 left_push steps log e = fold_push (λ left x. used_by (lane_of_entry x) left) steps log e
 
-pub left_none : (log : List Entry) → left_after [] log ≡ []
+pub left_none : (log : List Entry) → letters_left [] log ≡ []
 left_none [] = refl
 left_none (e ∷ log) = left_none log
 
@@ -65,7 +65,7 @@ ready_push new script opening log e h ready = λ past x more is.
 
 -- an entry of the lane that was to move may be added
 moves_push : (steps : List Step) (new : Seen) (script : Script) (opening : List Op) (log : List Entry) (e : Entry) → MovesBy steps new script opening log
-    → chosen (left_after steps log) (run_after new script opening log) ≡ Some (lane_of_entry e) → MovesBy steps new script opening (log ++ e ∷ [])
+    → chosen (letters_left steps log) (run_after new script opening log) ≡ Some (lane_of_entry e) → MovesBy steps new script opening (log ++ e ∷ [])
 moves_push steps new script opening log e h next = λ past x more is.
     ⊎_elim (λ end. rw (end.0, end.1) next) (λ before. h past x before.0 before.1) (split_push log past e x more is)
 
@@ -118,11 +118,11 @@ module _ (opening : List Op) (script : Script) (d : DeskView) (run : GoesAlong o
   stops_told (step ∷ more) place stops = (stops.0, moved_told step.letter ∙ stops.1)
 
 -- so it stops the run, by the letters' order
-pub letters_stop : (steps : List Step) (d : DeskView) (place : ℕ) → StopsAt (left_after steps d.core.log) d place → StopsHere (by_letters steps) d place
-letters_stop steps d place stops = λ opening script run. stops_told opening script d run (left_after steps d.core.log) place stops
+pub letters_stop : (steps : List Step) (d : DeskView) (place : ℕ) → StopsAt (letters_left steps d.core.log) d place → StopsHere (by_letters steps) d place
+letters_stop steps d place stops = λ opening script run. stops_told opening script d run (letters_left steps d.core.log) place stops
 
 -- and halts a life, where the schedule has come as far as the log
-pub letters_halt : (steps left : List Step) (d : DeskView) → left ≡ left_after steps d.core.log → (halt : Halt) → Stops left d halt → HaltsHere (by_letters steps) d halt
+pub letters_halt : (steps left : List Step) (d : DeskView) → left ≡ letters_left steps d.core.log → (halt : Halt) → Stops left d halt → HaltsHere (by_letters steps) d halt
 letters_halt steps left d at DiskFault stops = absurd stops
 letters_halt steps left d at (Full needed room) stops = absurd stops
 letters_halt steps left d at (Schedule place) stops = letters_stop steps d place (subst (λ (l : List Step). StopsAt l d place) at stops)
@@ -234,13 +234,13 @@ chosen_ready [] d lane is = found_passes (is_ready_at d) policy lane is
 chosen_ready (step ∷ more) d lane is = moved_ready step.letter d lane is
 
 -- and may move by the letters' order
-pub letters_may : (steps : List Step) (d : DeskView) (lane : Lane) → chosen (left_after steps d.core.log) d ≡ Some lane → May (by_letters steps) lane d
+pub letters_may : (steps : List Step) (d : DeskView) (lane : Lane) → chosen (letters_left steps d.core.log) d ≡ Some lane → May (by_letters steps) lane d
 letters_may steps d lane is =
     record {
       keeps = λ opening script e run of_lane h.
-          moves_push steps (as_new d.core) script opening d.core.log e h (chosen_told opening script d run (left_after steps d.core.log) ∙ is ∙ ap (λ (l : Lane). Some l) (sym of_lane));
+          moves_push steps (as_new d.core) script opening d.core.log e h (chosen_told opening script d run (letters_left steps d.core.log) ∙ is ∙ ap (λ (l : Lane). Some l) (sym of_lane));
       rests = λ none end unblown.
-          end_idle d (ap (λ (left : List Step). chosen left d) (sym (left_none d.core.log) ∙ ap (λ (all : List Step). left_after all d.core.log) (sym none)) ∙ is ∙ ap (λ (l : Lane). Some l) end);
+          end_idle d (ap (λ (left : List Step). chosen left d) (sym (left_none d.core.log) ∙ ap (λ (all : List Step). letters_left all d.core.log) (sym none)) ∙ is ∙ ap (λ (l : Lane). Some l) end);
     }
 
 -- where no life stands and one is left, it begins

@@ -15,11 +15,11 @@ use Rattle.rm_disk.specs.Fuse.{Fused, KeepsFuse}
 use Rattle.rm_model.specs.Place.{close_left}
 use Rattle.rm_store.specs.declared.fault.StoreError.{StoreError}
 use Rattle.rm_store.specs.Store.{StoreInvariant as IsStoreSound, StoreState, seen}
-use Rattle.rm_store.specs.Errors.{broken_after}
+use Rattle.rm_store.specs.Errors.{store_broken_after}
 use Rattle.rm_core.specs.Words.{has_rest, is_blown, stands}
 use Rattle.rm_desk.specs.View.{DeskView}
 use Rattle.rm_desk.specs.Effects.{LaneEffect}
-use Rattle.rm_desk.specs.Lanes.{HasNoWork, IsStep, is_ready_at, stands_after}
+use Rattle.rm_desk.specs.Lanes.{HasNoWork, IsStep, is_ready_at, life_goes_on}
 use Rattle.rm_desk.specs.Runs.{IsLast, IsScriptOver as IsDeskOver, IsPlaceSound as IsDeskSound}
 use Rattle.rm_plain.specs.Falls.{fall}
 use Rattle.rm_plain.specs.Goes.{ExtendsRunOver, ExtendsRun, IsRun}
@@ -77,7 +77,7 @@ module _ {D : Type 0} (view : D → DiskView) where
 
   -- an operation was kept
   pub kept_serves : (keeps : D → D → Type 0) (d next : DeskView) (store now : StoreState D) (r : Result (Unit {0}) StoreError) → close_left next.place.segments ≡ close_left d.place.segments → is_blown d.core ≡ false → is_blown next.core ≡ is_blown d.core
-      → Serves view d store → ((e : StoreError) → r ≡ Err e → ⊥) → IsStoreSound view now → now.is_broken ≡ broken_after r store.is_broken → KeepsFuse view keeps (is_ok r) store.disk now.disk → Serves view next now
+      → Serves view d store → ((e : StoreError) → r ≡ Err e → ⊥) → IsStoreSound view now → now.is_broken ≡ store_broken_after r store.is_broken → KeepsFuse view keeps (is_ok r) store.disk now.disk → Serves view next now
   kept_serves keeps d next store now (Ok x) close unblown same serves none sound broken kept =
       record {
         sound = sound;
@@ -136,7 +136,7 @@ module _ {order : Order} {D : Type 0} (view : D → DiskView) where
         stores = record { sound = serves.sound; kept = λ opening. unkept_stores opening d next works.same (seen view store.disk) };
       }
     where
-      stays : (lane : Lane) → IsStep lane → lane ≢ End → (close : Option Close) → stands_after lane close ≡ true
+      stays : (lane : Lane) → IsStep lane → lane ≢ End → (close : Option Close) → life_goes_on lane close ≡ true
       stays Client step goes close = refl
       stays Master step goes close = refl
       stays Node step goes close = refl
@@ -155,7 +155,7 @@ module _ {order : Order} {D : Type 0} (view : D → DiskView) where
       record {
         goes = goes;
         less = does.less;
-        stands = does.standing ∙ ap (stands_after End) settles;
+        stands = does.standing ∙ ap (life_goes_on End) settles;
         serves = serves;
         stores = record { sound = serves.sound; kept = λ opening k has. rw (inner, refused) (unkept_stores opening d next same (seen view store.disk) k has) };
       }
@@ -172,7 +172,7 @@ module _ {order : Order} {D : Type 0} (view : D → DiskView) where
         within = serves.within calls (serves.armed ∙ ap armed_by crash);
         spent = λ blew. same_Some store.disk.passed calls (sym (serves.spent (serves.blown ∙ blew)) ∙ serves.armed ∙ ap armed_by crash);
         goes = down_goes d next does chosen tells told idle calls image crash;
-        down = does.standing ∙ ap (stands_after End) crash;
+        down = does.standing ∙ ap (life_goes_on End) crash;
         stores = record { sound = serves.sound; kept = λ opening. unkept_stores opening d next (down_unkept d next does chosen tells told idle calls image crash) (seen view store.disk) };
       }
 

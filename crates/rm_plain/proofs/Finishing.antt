@@ -37,7 +37,7 @@ use Rattle.rm_plain.specs.Halted.{stop_of}
 use Rattle.rm_desk.specs.Effects.{IsHanded}
 use Rattle.rm_plain.specs.Opens.{IsOfStart, StartsOver}
 use Rattle.rm_plain.specs.Order.{AllReady, HaltsHere, Order, StopsHere}
-use Rattle.rm_plain.specs.Schedule.{MovesBy, StopsAt, by_letters, left_after}
+use Rattle.rm_plain.specs.Schedule.{MovesBy, StopsAt, by_letters, letters_left}
 use Rattle.rm_plain.specs.Keeping.{IsKeptOn, LeftOver}
 use Rattle.rm_plain.specs.Later.{FirstLived, FirstStopped, IsDueAt, IsLaterStop, LaterTo}
 use Rattle.rm_plain.specs.Stops.{IsDue, IsStoppedBy, IsTold}
@@ -210,7 +210,7 @@ module _ (order : Order) {D : Type 0} (view : D → DiskView) (opening : List Op
         }
 
 -- what is told of the letters that are left is told of the order that they give
-module _ (steps left : List Step) (d : DeskView) (at : left ≡ left_after steps d.core.log) (r : Result (Unit {0}) Stop) where
+module _ (steps left : List Step) (d : DeskView) (at : left ≡ letters_left steps d.core.log) (r : Result (Unit {0}) Stop) where
   pub used_as : OnOk r (left ≡ []) → OnOk r ((by_letters steps).ends d.core.log)
   used_as used = on_ok_map r (λ none. sym at ∙ none) used
 

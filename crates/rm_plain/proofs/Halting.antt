@@ -31,7 +31,7 @@ use Rattle.rm_plain.specs.declared.halts.Halt.{Halt}
 use Rattle.rm_plain.specs.declared.halts.Halt.TheVariants.{DiskFault, Full, Schedule, Memory}
 use Rattle.rm_plain.specs.Goes.{ExtendsRun, ExtendsRunOver}
 use Rattle.rm_plain.specs.Halted.{halt_of}
-use Rattle.rm_plain.specs.Keeping.{HaltsBy, HaltsOver, IsFoundOn, IsFull, IsHaltedBy, IsKeptOn, IsUnkept, KeepsOn, LeavesOn, armed_by, has_blown}
+use Rattle.rm_plain.specs.Keeping.{HaltsBy, HaltsOver, IsFoundOn, IsFullFor, IsHaltedBy, IsKeptOn, IsUnkept, KeepsOn, LeavesOn, armed_by, has_blown}
 use Rattle.rm_plain.proofs.Ending.{goes_trans}
 use Rattle.rm_plain.proofs.Moving.{goes_same}
 use Rattle.rm_plain.proofs.Stored.{has_kept, holds_kept, unkept_stores, within_longer}
@@ -90,7 +90,7 @@ if_memory P (Ok x) p h = tt
 if_memory P (Err halt) p h = subst P (sym h) p
 
 -- what is told of a full disk where more is known, is told where less is
-pub full_known : (known less below : Type 0) (opening : List Op) (log : List Entry) (size needed room : ℕ) → (less → known) → IsFull (known × below) opening log size needed room → IsFull (less × below) opening log size needed room
+pub full_known : (known less below : Type 0) (opening : List Op) (log : List Entry) (size needed room : ℕ) → (less → known) → IsFullFor (known × below) opening log size needed room → IsFullFor (less × below) opening log size needed room
 full_known known less below opening log size needed room by full =
     record { op = full.op; handed = full.handed; needs = full.needs; less = full.less; behind = λ is. full.behind (by is.0, is.1) }
 

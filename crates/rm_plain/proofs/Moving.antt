@@ -23,17 +23,17 @@ use Rattle.rm_model.specs.State.{LifeState, Manager, opening_state}
 use Rattle.rm_model.specs.Changes.{after, after_where, kept_after_landing}
 use Rattle.rm_model.specs.Downs.{GoesDownAtRest}
 use Rattle.rm_model.specs.Lawful.{IsAtRest, state_after}
-use Rattle.rm_model.specs.Place.{Place, begun, close_left, moved, rest_of, segments_without, stamp_of}
+use Rattle.rm_model.specs.Place.{Place, place_begun, close_left, moved, rest_of, segments_without, stamp_of}
 use Rattle.rm_core.specs.Moves.{IsLeftAfter}
 use Rattle.rm_core.specs.Seen.{StandsFor}
 use Rattle.rm_core.specs.Words.{has_rest, is_blown, landed_over, stands}
 use Rattle.rm_desk.specs.View.{DeskView}
 use Rattle.rm_desk.specs.Lanes.{HasNoWork, IsStep}
 use Rattle.rm_desk.specs.Runs.{HasBlown, IsLast, IsPlaceSound as IsDeskSound, DescribesState}
-use Rattle.rm_desk.specs.Effects.{Answers, LifeBegins, Blows, LaneEffect, EffectBy, IsEntryOf}
+use Rattle.rm_desk.specs.Effects.{Answers, LifeBegins, StoreBlows, LaneEffect, EffectBy, IsEntryOf}
 use Rattle.rm_plain.specs.Falls.{fall, falls_at}
 use Rattle.rm_plain.specs.Goes.{ExtendsRun, ExtendsRunOver, IsRun}
-use Rattle.rm_plain.specs.Keeping.{IsBegun, IsUnkept, blown_in, has_blown}
+use Rattle.rm_plain.specs.Keeping.{BeganLife, IsUnkept, blown_in, has_blown}
 use Rattle.rm_plain.specs.Order.{May, Order}
 use Rattle.rm_plain.proofs.Longer.{IsQuiet, falls_none, first_stays, hand_quiet, is_plain, kept_stays, main_quiet, no_down, one_more, plain_stands, sched_quiet}
 use Rattle.rm_plain.proofs.Stored.{holds_on}
@@ -180,13 +180,13 @@ kept_goes d next does chosen =
     step_goes (IsEntryOf Write d) (is_blown d.core) Write d next does chosen (λ down. let x = sym is ∙ down in cc) (ap (λ (p : Place). p.lives) place)
 
 -- or refused
-pub blown_goes : {order : Order} (d next : DeskView) (passed : ℕ) → Blows passed d next → May order Write d → ExtendsRun order [] d next
+pub blown_goes : {order : Order} (d next : DeskView) (passed : ℕ) → StoreBlows passed d next → May order Write d → ExtendsRun order [] d next
 blown_goes d next passed does chosen =
     let is = does.adds.of_kind in
     let place : next.place ≡ d.place = does.adds.place ∙ ap (λ (e : Entry). moved d.place e) is in
     step_goes (λ e. e ≡ Blown passed) true Write d next does chosen (λ down. let x = sym is ∙ down in cc) (ap (λ (p : Place). p.lives) place)
 
-pub blown_close : (d next : DeskView) (passed : ℕ) → Blows passed d next → close_left next.place.segments ≡ close_left d.place.segments
+pub blown_close : (d next : DeskView) (passed : ℕ) → StoreBlows passed d next → close_left next.place.segments ≡ close_left d.place.segments
 blown_close d next passed does = ap (λ (p : Place). close_left p.segments) (does.adds.place ∙ ap (λ (e : Entry). moved d.place e) does.adds.of_kind)
 
 -- A SEGMENT CLOSES
@@ -284,7 +284,7 @@ module _ (tree : Records) (d next : DeskView) (begins : LifeBegins tree d next) 
   whole = (first_of d.place.lives life begins.adds.of_kind.1).1
 
   place : next.place ≡ record { lives = more; segments = life.segments }
-  place = begins.adds.place ∙ ap (λ (e : Entry). moved d.place e) begins.adds.of_kind.2 ∙ ap (λ (xs : List Life). begun xs d.place) whole
+  place = begins.adds.place ∙ ap (λ (e : Entry). moved d.place e) begins.adds.of_kind.2 ∙ ap (λ (xs : List Life). place_begun xs d.place) whole
 
   pub begin_fewer : length next.place.lives < length d.place.lives
   begin_fewer = let now = ap (λ (p : Place). length p.lives) place in let were = ap (λ (xs : List Life). length xs) whole in omega (arith, now, were)
@@ -319,7 +319,7 @@ module _ (tree : Records) (d next : DeskView) (begins : LifeBegins tree d next) 
   begin_state opening =
       ap (λ (l : List Entry). state_after opening l) begins.adds.added ∙ fold_push after (opening_state opening) d.core.log begins.adds.entry ∙ ap (λ (e : Entry). after (state_after opening d.core.log) e) begins.adds.of_kind.2
 
-  pub begin_kept : TellsAll d → IsBegun tree d next
+  pub begin_kept : TellsAll d → BeganLife tree d next
   begin_kept tells =
       record {
         kept = λ opening k.

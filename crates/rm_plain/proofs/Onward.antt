@@ -41,7 +41,7 @@ use Rattle.rm_plain.specs.Goes.{ExtendsRunOver, IsOver}
 use Rattle.rm_plain.specs.Halted.{stop_of}
 use Rattle.rm_plain.specs.Keeping.{HaltsOver, HoldsBy, IsFoundOn, IsHaltedBy, IsKeptOn, KeepsOn, LeavesOn, blown_in, has_blown}
 use Rattle.rm_plain.specs.Later.{FirstStopped, FirstTo, IsAgain, IsDueAt, IsFirst, IsLaterStop, IsReady, IsUnfounded, IsUnready, LaterTo, StopsLater}
-use Rattle.rm_plain.specs.Starts.{DiskStays, Halts, IsAtEase, IsGivenBack, IsOpened, IsRefusedBy, IsUnopenedBy, Lives, LivesTo}
+use Rattle.rm_plain.specs.Starts.{DiskStays, Halts, IsAtEase, IsGivenBack, IsOpenedStore, IsRefusedBy, IsUnopenedBy, Lives, LivesTo}
 use Rattle.rm_plain.specs.Stops.{IsNoStore, IsStoppedBy, IsTold, NoneLeft}
 use Rattle.rm_plain.proofs.Ending.{goes_trans}
 use Rattle.rm_plain.proofs.Halting.{after_within, full_known, goes_any, leaves_after}
@@ -111,7 +111,7 @@ module _ {D : Type 0} (view : D → DiskView) where
   unopened_first disk now (Schedule place) h = absurd h
   unopened_first disk now EpochsSpent h = absurd h
 
-  module _ (disk : Fused D) (store : StoreState D) (tree : Records) (ops : List Op) (o : IsOpened view disk store tree ops) where
+  module _ (disk : Fused D) (store : StoreState D) (tree : Records) (ops : List Op) (o : IsOpenedStore view disk store tree ops) where
     -- what was opened is what the last life left, and what the next one begins with
     record Found (s : Manager) (core : Seen) : Type 0 where
       left : IsLeft tree s

@@ -31,9 +31,9 @@ use Rattle.rm_plain.specs.declared.lives.LifeEnd.TheVariants.{Rest, Down}
 use Rattle.rm_plain.specs.Falls.{fall}
 use Rattle.rm_plain.specs.Goes.{ExtendsRunOver}
 use Rattle.rm_plain.specs.Halted.{stop_of, stop_at_open}
-use Rattle.rm_plain.specs.Keeping.{FuseStays, HaltsBy, HaltsOver, HoldsIn, IsBegun, IsFoundOn, IsHaltedBy, IsKeptOn, KeepsOn, Serves, StoresOn}
+use Rattle.rm_plain.specs.Keeping.{FuseStays, HaltsBy, HaltsOver, HoldsIn, BeganLife, IsFoundOn, IsHaltedBy, IsKeptOn, KeepsOn, Serves, StoresOn}
 use Rattle.rm_plain.specs.Lives.{EndsBy, ComesToRest, WentDown}
-use Rattle.rm_plain.specs.Starts.{StartEffect, DiskStays, Halts, IsOpened, IsUnopenedBy, KeepsOver, Leaves, Lives, LivesTo, disarmed}
+use Rattle.rm_plain.specs.Starts.{StartEffect, DiskStays, Halts, IsOpenedStore, IsUnopenedBy, KeepsOver, LeavesAtEnd, Lives, LivesTo, disarmed}
 use Rattle.rm_plain.proofs.Ending.{fuse_trans, goes_trans}
 use Rattle.rm_plain.proofs.Halting.{after_within, halts_on, keeps_leaves}
 use Rattle.rm_plain.proofs.Stored.{holds_kept, just_holds, keeps_trans}
@@ -43,11 +43,11 @@ module _ {D : Type 0} (view : D → DiskView) where
   pub opened : (inner : D → D → Type 0) (old disarmed : Fused D) (store : StoreState D) (tree : Records) (ops : List Op) → disarmed ≡ record old { armed = None; blown = false }
       → IsStoreSound view store → store.is_broken ≡ false → AreRead tree ops
       → IfTold (seen view disarmed) (λ bytes. HasContent bytes ops) → IfTold (seen view disarmed) (λ bytes. EachImage (seen view store.disk) (λ image. HasContent image ops))
-      → IsQuiet (seen view disarmed) (seen view store.disk) → KeepsFuse view inner true disarmed store.disk → IsOpened view old store tree ops
+      → IsQuiet (seen view disarmed) (seen view store.disk) → KeepsFuse view inner true disarmed store.disk → IsOpenedStore view old store tree ops
   opened inner old disarmed store tree ops is sound unbroken read =
       let F : Fused D → Type 0 = λ x.
       IfTold (seen view x) (λ bytes. HasContent bytes ops) → IfTold (seen view x) (λ bytes. EachImage (seen view store.disk) (λ image. HasContent image ops))
-      → IsQuiet (seen view x) (seen view store.disk) → KeepsFuse view inner true x store.disk → IsOpened view old store tree ops in
+      → IsQuiet (seen view x) (seen view store.disk) → KeepsFuse view inner true x store.disk → IsOpenedStore view old store tree ops in
       subst F (sym is) (λ holds images quiet kept.
       let unblown : store.disk.blown ≡ false = kept.success refl in
       record {
@@ -90,7 +90,7 @@ module _ {D : Type 0} (view : D → DiskView) where
       by store.Memory can why fault = tt
 
   -- what a life begins with is on the disk on which it was found
-  begun_keeps : (d mid : DeskView) (tree : Records) → IsBegun tree d mid → (opening : List Op) → StandsFor opening d.core → (disk : DiskView) → IsFoundOn opening d.core tree disk → KeepsOn opening d.core.log mid.core.log disk disk
+  begun_keeps : (d mid : DeskView) (tree : Records) → BeganLife tree d mid → (opening : List Op) → StandsFor opening d.core → (disk : DiskView) → IsFoundOn opening d.core tree disk → KeepsOn opening d.core.log mid.core.log disk disk
   begun_keeps d mid tree begun opening k disk has =
       let next = state_after opening mid.core.log in
       let kept = begun.kept opening k in
@@ -108,7 +108,7 @@ module _ {D : Type 0} (view : D → DiskView) where
       }
 
   -- a life began, and its store serves it
-  pub begins : (d mid : DeskView) (store now : StoreState D) (tree : Records) → IsBegun tree d mid → stands mid.core ≡ true → now.disk.inner ≡ store.disk.inner → now.disk.refused ≡ store.disk.refused
+  pub begins : (d mid : DeskView) (store now : StoreState D) (tree : Records) → BeganLife tree d mid → stands mid.core ≡ true → now.disk.inner ≡ store.disk.inner → now.disk.refused ≡ store.disk.refused
       → Serves view mid now → StartEffect view (λ opening. IsLeftAfter tree opening d.core.log) (λ opening. IsFoundOn opening d.core tree (seen view store.disk)) d mid store now
   begins d mid store now tree begun alive inner refused serves =
       record {
@@ -223,7 +223,7 @@ module _ {order : Order} {D : Type 0} (view : D → DiskView) where
 
     -- how a life that began went
     pub lived : (inner : ℕ → D → D → Type 0) (disk : Fused D) (ended : Result LifeEnd Halt) (result : Result (Unit {0}) Stop) → IfOk ended (EndsBy order view mid new one two)
-        → IfErr ended (HaltsBy order view mid new one.disk two.disk) → Leaves view inner two.disk disk ended result → LivesTo order view over found d new store.disk disk result
+        → IfErr ended (HaltsBy order view mid new one.disk two.disk) → LeavesAtEnd view inner two.disk disk ended result → LivesTo order view over found d new store.disk disk result
     lived inner disk (Ok Rest) result ends why leaves =
         subst (λ (r : Result (Unit {0}) Stop). LivesTo order view over found d new store.disk disk r) (sym leaves.1) (rested disk leaves.0 ends)
     lived inner disk (Ok (Down image)) result ends why leaves =
@@ -248,7 +248,7 @@ module _ {order : Order} {D : Type 0} (view : D → DiskView) where
       })
 
   -- memory ran out directly after a life began
-  pub begun_halts : (d mid : DeskView) (disk now : Fused D) (tree : Records) → ExtendsRunOver order (λ opening. IsLeftAfter tree opening d.core.log) [] d mid → IsBegun tree d mid → now.inner ≡ disk.inner → now.refused ≡ disk.refused
+  pub begun_halts : (d mid : DeskView) (disk now : Fused D) (tree : Records) → ExtendsRunOver order (λ opening. IsLeftAfter tree opening d.core.log) [] d mid → BeganLife tree d mid → now.inner ≡ disk.inner → now.refused ≡ disk.refused
       → HaltsOver order view (λ opening. IsLeftAfter tree opening d.core.log) (λ opening. IsFoundOn opening d.core tree (seen view disk)) d mid disk now halts.Memory
   begun_halts d mid disk now tree goes begun inner refused =
       record {
@@ -258,7 +258,7 @@ module _ {order : Order} {D : Type 0} (view : D → DiskView) where
       }
 
 -- what is told of a life that ended is told of what it left
-pub left_ok : {D : Type 0} (P : Type 0) (view : D → DiskView) (inner : ℕ → D → D → Type 0) (old new : Fused D) (ended : Result LifeEnd Halt) (result : Result (Unit {0}) Stop) → Leaves view inner old new ended result → OnOk ended P → OnOk result P
+pub left_ok : {D : Type 0} (P : Type 0) (view : D → DiskView) (inner : ℕ → D → D → Type 0) (old new : Fused D) (ended : Result LifeEnd Halt) (result : Result (Unit {0}) Stop) → LeavesAtEnd view inner old new ended result → OnOk ended P → OnOk result P
 left_ok P view inner old new (Ok end) result leaves p = subst (λ (r : Result (Unit {0}) Stop). OnOk r P) (sym leaves.1) p
 left_ok P view inner old new (Err halt) result leaves p = subst (λ (r : Result (Unit {0}) Stop). OnOk r P) (sym leaves.1) tt
 

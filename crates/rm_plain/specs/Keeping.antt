@@ -77,7 +77,7 @@ pub record IsUnkept (old new : DeskView) : Type 0 where
   pub grows : new.core.log ≡ old.core.log ++ more
 
 -- a life began over a tree, and nothing else happened
-pub record IsBegun (tree : Records) (old new : DeskView) : Type 0 where
+pub record BeganLife (tree : Records) (old new : DeskView) : Type 0 where
   pub kept : (opening : List Op) → StandsFor opening old.core → (state_after opening new.core.log).kept ≡ kept_after_landing (state_after opening old.core.log) (landed_over old.core tree)
   pub unblown : (opening : List Op) → StandsFor opening old.core → has_blown (state_after opening new.core.log) ≡ false
   pub more : List Entry
@@ -122,7 +122,7 @@ LeftOver over found old new before now =
 
 -- the operation that is with the store needs so much, and a disk of so many bytes has less room; where the disk is known,
 -- and isn't of the last generation, the room is that behind what is left of what is kept
-pub record IsFull (known : Type 0) (opening : List Op) (log : List Entry) (size needed room : ℕ) : Type 0 where
+pub record IsFullFor (known : Type 0) (opening : List Op) (log : List Entry) (size needed room : ℕ) : Type 0 where
   pub op : Op
   pub handed : IsHanded opening log op
   pub needs : needed ≡ needed_for op
@@ -135,7 +135,7 @@ IsHaltedBy order view over found old new disk now DiskFault =
     Rose (view disk.inner).faults (view now.inner).faults × ((opening : List Op) → over opening → StandsFor opening old.core → (op : Op) × IsHanded opening new.core.log op)
 IsHaltedBy order view over found old new disk now (Full needed room) =
     (opening : List Op) → over opening → StandsFor opening old.core
-    → IsFull (found opening × IsBelowLast (view now.inner)) opening new.core.log (view now.inner).size needed room
+    → IsFullFor (found opening × IsBelowLast (view now.inner)) opening new.core.log (view now.inner).size needed room
 IsHaltedBy order view over found old new disk now (Schedule place) = StopsHere order new place
 IsHaltedBy order view over found old new disk now Memory = Unit {0}
 

@@ -19,7 +19,7 @@ use Rattle.rm_plain.specs.declared.halts.Stop.{Stop}
 use Rattle.rm_plain.specs.declared.halts.Stop.TheVariants.{DiskFault, Damaged, Full, Schedule, EpochsSpent, Memory}
 use Rattle.rm_plain.specs.Order.{Order, StopsHere}
 use Rattle.rm_plain.specs.Goes.{ExtendsRunOver, IsOver}
-use Rattle.rm_plain.specs.Keeping.{IsFoundOn, IsFull, IsKeptOn, LeftOver}
+use Rattle.rm_plain.specs.Keeping.{IsFoundOn, IsFullFor, IsKeptOn, LeftOver}
 use Rattle.rm_plain.specs.Starts.{DiskStays, IsAtEase, Lives}
 use Rattle.rm_plain.specs.Stops.{IsNoStore, IsSpent, IsStoppedBy, NoneLeft}
 
@@ -70,7 +70,7 @@ IsLaterStop order view opening old new disk now DiskFault =
 IsLaterStop order view opening old new disk now (Damaged offset) =
     IsDueAt new × (IsKeptOn opening old.core.log (seen view disk) → ⊥)
 IsLaterStop order view opening old new disk now (Full needed room) =
-    IsFull (IsKeptOn opening old.core.log (seen view disk) × IsBelowLast (view now.inner)) opening new.core.log (view now.inner).size needed room
+    IsFullFor (IsKeptOn opening old.core.log (seen view disk) × IsBelowLast (view now.inner)) opening new.core.log (view now.inner).size needed room
 IsLaterStop order view opening old new disk now (Schedule place) = StopsHere order new place
 IsLaterStop order view opening old new disk now EpochsSpent = IsDueAt new × NoneLeft opening new.core.log
 IsLaterStop order view opening old new disk now Memory = Unit {0}

@@ -12,7 +12,7 @@ use Rattle.rm_plain.specs.declared.lives.LifeEnd.{LifeEnd}
 use Rattle.rm_plain.specs.declared.lives.LifeEnd.TheVariants.{Rest, Down}
 use Rattle.rm_plain.specs.declared.lives.Moved.{Moved}
 use Rattle.rm_plain.specs.declared.lives.Moved.TheVariants as moved
-use Rattle.rm_desk.specs.Runs.{left}
+use Rattle.rm_desk.specs.Runs.{moves_left}
 use Rattle.rm_plain.specs.Falls.{fall}
 use Rattle.rm_plain.specs.Goes.{ExtendsRun, IsOver}
 use Rattle.rm_plain.specs.Order.{Order}
@@ -30,7 +30,7 @@ pub record Stores {D : Type 0} (view : D → DiskView) (old new : DeskView) (sto
 -- the life goes on: a lane moved, and less is left
 pub record TakesStep (order : Order) {D : Type 0} (view : D → DiskView) (old new : DeskView) (store now : StoreState D) : Type 0 where
   pub goes : ExtendsRun order [] old new
-  pub less : left new < left old
+  pub less : moves_left new < moves_left old
   pub stands : stands new.core ≡ true
   pub serves : Serves view new now
   pub stores : Stores view old new store now

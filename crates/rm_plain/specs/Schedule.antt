@@ -40,14 +40,14 @@ unfoldable pub letter_at : ℕ → ℕ → Letter
 letter_at place byte = if nat_le most_scheduled place then Unknown else letter_of byte
 
 -- line feeds are skipped
-abbrev pub is_skipped : ℕ → ℕ → Bool
-is_skipped place byte = not (nat_le most_scheduled place) && bytes_eq (byte ∷ []) (codes "\n")
+abbrev pub is_skipped_byte : ℕ → ℕ → Bool
+is_skipped_byte place byte = not (nat_le most_scheduled place) && bytes_eq (byte ∷ []) (codes "\n")
 
 -- the letters that begin at a place, with theirs
 unfoldable pub steps_from : ℕ → List ℕ → List Step
 steps_from place [] = []
 steps_from place (byte ∷ more) =
-    if is_skipped place byte then steps_from (place + 1) more else record { place = place; letter = letter_at place byte } ∷ steps_from (place + 1) more
+    if is_skipped_byte place byte then steps_from (place + 1) more else record { place = place; letter = letter_at place byte } ∷ steps_from (place + 1) more
 
 -- the letters of a schedule
 abbrev pub steps_of : List ℕ → List Step
@@ -65,8 +65,8 @@ used_by lane [] = []
 used_by lane (step ∷ more) = if is_used_up step.letter lane then more else step ∷ more
 
 -- what is left of the letters after a log
-abbrev pub left_after : List Step → List Entry → List Step
-left_after steps log = fold (λ left e. used_by (lane_of_entry e) left) steps log
+abbrev pub letters_left : List Step → List Entry → List Step
+letters_left steps log = fold (λ left e. used_by (lane_of_entry e) left) steps log
 
 -- the lane that a letter moves: its own where this is ready, and for `p` the policy's first where a segment is left in the life that stands
 abbrev pub moved_by : Letter → DeskView → Option Lane
@@ -83,7 +83,7 @@ chosen (step ∷ more) d = moved_by step.letter d
 abbrev pub MovesBy : List Step → Seen → Script → List Op → List Entry → Type 0
 MovesBy steps new script opening log =
     (past : List Entry) (e : Entry) (more : List Entry) → log ≡ past ++ e ∷ more
-    → chosen (left_after steps past) (run_after new script opening past) ≡ Some (lane_of_entry e)
+    → chosen (letters_left steps past) (run_after new script opening past) ≡ Some (lane_of_entry e)
 
 -- a letter stands at the place that can't move its lane
 abbrev pub StopsAt : List Step → DeskView → ℕ → Type 0
@@ -102,8 +102,8 @@ pub record Course : Type 0 where
   pub place : ℕ
 
 -- the letters that are left
-abbrev pub left_of : Course → List Step
-left_of course = steps_from course.place course.rest
+abbrev pub course_left : Course → List Step
+course_left course = steps_from course.place course.rest
 
 -- the order that letters give, and after them the policy
 abbrev pub by_letters : List Step → Order
@@ -111,8 +111,8 @@ by_letters steps =
     record {
       keeps = MovesBy steps;
       rests = steps ≡ [];
-      stops = λ new script opening log place. StopsAt (left_after steps log) (run_after new script opening log) place;
-      ends = λ log. left_after steps log ≡ [];
+      stops = λ new script opening log place. StopsAt (letters_left steps log) (run_after new script opening log) place;
+      ends = λ log. letters_left steps log ≡ [];
     }
 
 -- that of a schedule
@@ -121,4 +121,4 @@ order_of course = by_letters (steps_of course.whole)
 
 -- the schedule has come as far as the log
 abbrev pub IsAt : Course → List Entry → Type 0
-IsAt course log = left_of course ≡ left_after (steps_of course.whole) log
+IsAt course log = course_left course ≡ letters_left (steps_of course.whole) log

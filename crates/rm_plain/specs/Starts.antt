@@ -35,7 +35,7 @@ pub record IsAtEase {D : Type 0} (fuse : Fused D) : Type 0 where
   pub unblown : fuse.blown ≡ false
 
 -- a store was opened on a disk, quietly: these operations are the disk's content, and that of each image of what it became
-pub record IsOpened {D : Type 0} (view : D → DiskView) (old : Fused D) (store : StoreState D) (tree : Records) (ops : List Op) : Type 0 where
+pub record IsOpenedStore {D : Type 0} (view : D → DiskView) (old : Fused D) (store : StoreState D) (tree : Records) (ops : List Op) : Type 0 where
   pub sound : StoreInvariant view store
   pub unbroken : store.is_broken ≡ false
   pub unarmed : store.disk.armed ≡ None
@@ -115,6 +115,6 @@ abbrev pub disarmed : {D : Type 0} → Fused D → Fused D
 disarmed fuse = record fuse { armed = None; blown = false }
 
 -- what is left of a life that ended so, or halted
-abbrev pub Leaves : {D : Type 0} → (D → DiskView) → (ℕ → D → D → Type 0) → Fused D → Fused D → Result LifeEnd Halt → Result (Unit {0}) Stop → Type 0
-Leaves view inner old new (Ok end) result = FallsBy view inner old new end × (result ≡ Ok tt)
-Leaves view inner old new (Err halt) result = (new ≡ disarmed old) × (result ≡ Err (stop_of halt))
+abbrev pub LeavesAtEnd : {D : Type 0} → (D → DiskView) → (ℕ → D → D → Type 0) → Fused D → Fused D → Result LifeEnd Halt → Result (Unit {0}) Stop → Type 0
+LeavesAtEnd view inner old new (Ok end) result = FallsBy view inner old new end × (result ≡ Ok tt)
+LeavesAtEnd view inner old new (Err halt) result = (new ≡ disarmed old) × (result ≡ Err (stop_of halt))

@@ -15,7 +15,7 @@ use Rattle.rm_store.specs.declared.fault.StoreError.TheVariants as store
 use Rattle.rm_core.specs.Moves.{IsLeft}
 use Rattle.rm_desk.specs.Effects.{IsHanded}
 use Rattle.rm_store.specs.Store.{IsBelowLast, seen}
-use Rattle.rm_plain.specs.Keeping.{IsFull}
+use Rattle.rm_plain.specs.Keeping.{IsFullFor}
 use Rattle.rm_plain.specs.declared.halts.Stop.{Stop}
 use Rattle.rm_plain.specs.declared.halts.Stop.TheVariants.{DiskFault, Damaged, Full, Schedule, EpochsSpent, Memory}
 
@@ -57,7 +57,7 @@ IsStoppedBy view due stops old new opening log DiskFault =
     Rose (view old.inner).faults (view new.inner).faults × (due ⊎ ((op : Op) × IsHanded opening log op)) × (log ≡ [] → opening ≡ [])
 IsStoppedBy view due stops old new opening log (Damaged offset) =
     due × IsDamaged (seen view old) opening log offset × (log ≡ [] → opening ≡ [])
-IsStoppedBy view due stops old new opening log (Full needed room) = IsFull (IsTold (seen view old) × IsBelowLast (view new.inner)) opening log (view new.inner).size needed room
+IsStoppedBy view due stops old new opening log (Full needed room) = IsFullFor (IsTold (seen view old) × IsBelowLast (view new.inner)) opening log (view new.inner).size needed room
 IsStoppedBy view due stops old new opening log (Schedule place) = stops place × (log ≡ [] → opening ≡ [])
 IsStoppedBy view due stops old new opening log EpochsSpent = due × IsSpent (seen view old) opening log
 IsStoppedBy view due stops old new opening log Memory = Unit {0}

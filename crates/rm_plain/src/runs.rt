@@ -18,7 +18,7 @@ ghost use Rattle.rm_plain.specs.Falls.{falls_of};
 ghost use Rattle.rm_plain.specs.Later.{FirstTo, LaterTo};
 ghost use Rattle.rm_plain.specs.Opens.{StartsOver};
 ghost use Rattle.rm_plain.specs.Policy.{run_after};
-ghost use Rattle.rm_plain.specs.Schedule.{IsAt, MovesBy, StopsAt, chosen, left_after, left_of, order_of, steps_of};
+ghost use Rattle.rm_plain.specs.Schedule.{IsAt, MovesBy, StopsAt, chosen, letters_left, course_left, order_of, steps_of};
 ghost use Rattle.rm_plain.specs.declared.halts.Stop.{Stop};
 ghost use Rattle.rm_plain.specs.Starts.{DiskStays, IsAtEase};
 ghost use Rattle.rm_plain.specs.Stops.{IsDue, IsStoppedBy};
@@ -58,14 +58,14 @@ fn first_life<D: Disk>(
     schedule: &mut Schedule<'_>,
 ) -> First<D>
     requires at { IsAt schedule.old d.old.core.log }
-    requires chosen { chosen (left_of schedule.old) d.old ≡ Some Lane.Begin }
+    requires chosen { chosen (course_left schedule.old) d.old ≡ Some Lane.Begin }
     requires dead { stands d.old.core ≡ false }
     requires lives { d.old.place.lives ≢ [] }
     requires empty { d.old.core.log ≡ [] }
     requires unarmed { disk.armed ≡ None }
     ensures whole { schedule.new.whole ≡ schedule.old.whole }
     ensures at { OnOk result.ended (IsAt schedule.new d.new.core.log) }
-    ensures used { OnOk result.ended (stands d.new.core ≡ true → left_of schedule.new ≡ []) }
+    ensures used { OnOk result.ended (stands d.new.core ≡ true → course_left schedule.new ≡ []) }
     ensures first { FirstTo (order_of schedule.old) D.view result.opening d.old d.new disk result.disk result.ended }
     ensures read_back { stray result.opening ≡ None }
 {
@@ -94,14 +94,14 @@ fn next_life<D: Disk>(
     schedule: &mut Schedule<'_>,
 ) -> Lived<D>
     requires at { IsAt schedule.old d.old.core.log }
-    requires chosen { chosen (left_of schedule.old) d.old ≡ Some Lane.Begin }
+    requires chosen { chosen (course_left schedule.old) d.old ≡ Some Lane.Begin }
     requires dead { stands d.old.core ≡ false }
     requires lives { d.old.place.lives ≢ [] }
     requires some { d.old.core.log ≢ [] }
     requires unarmed { disk.armed ≡ None }
     ensures whole { schedule.new.whole ≡ schedule.old.whole }
     ensures at { OnOk result.ended (IsAt schedule.new d.new.core.log) }
-    ensures used { OnOk result.ended (stands d.new.core ≡ true → left_of schedule.new ≡ []) }
+    ensures used { OnOk result.ended (stands d.new.core ≡ true → course_left schedule.new ≡ []) }
     ensures later { LaterTo (order_of schedule.old) D.view d.old d.new disk result.disk result.ended }
     ensures fewer { OnOk result.ended (length d.new.place.lives < length d.old.place.lives) }
 {
@@ -116,9 +116,9 @@ fn next_life<D: Disk>(
 
 /// Where no lane can move any more, no letter can be left of the schedule.
 fn all_used(d: &Desk, schedule: &Schedule<'_>) -> Result<(), Stop>
-    requires idle { (left_of schedule.now ≡ []) ⊎ ((lane : Lane) → is_ready_at d.now lane ≡ false) }
-    ensures used { OnOk result (left_of schedule.now ≡ []) }
-    ensures stops { IfErr result (λ stop. (place : ℕ) × (stop ≡ Stop.Schedule place) × StopsAt (left_of schedule.now) d.now place) }
+    requires idle { (course_left schedule.now ≡ []) ⊎ ((lane : Lane) → is_ready_at d.now lane ≡ false) }
+    ensures used { OnOk result (course_left schedule.now ≡ []) }
+    ensures stops { IfErr result (λ stop. (place : ℕ) × (stop ≡ Stop.Schedule place) × StopsAt (course_left schedule.now) d.now place) }
 {
     let _ = d;
     match schedule.place_left() {
@@ -135,7 +135,7 @@ fn later_lives<D: Disk>(
     schedule: &mut Schedule<'_>,
 ) -> Lived<D>
     requires at { IsAt schedule.old d.old.core.log }
-    requires used { stands d.old.core ≡ true → left_of schedule.old ≡ [] }
+    requires used { stands d.old.core ≡ true → course_left schedule.old ≡ [] }
     requires ends { (stands d.old.core ≡ false) ⊎ IsOver d.old }
     requires some { d.old.core.log ≢ [] }
     requires at_ease { IsAtEase disk }
@@ -254,7 +254,7 @@ pub fn run_script<D: Disk>(
     ensures lawful { Lawful settings script result.opening result.log }
     ensures done { IsOk result.ended → IsDone settings script result.opening result.log }
     ensures moves { MovesBy (steps_of schedule.now) (new_manager alloc settings) script result.opening result.log }
-    ensures used { OnOk result.ended (left_after (steps_of schedule.now) result.log ≡ []) }
+    ensures used { OnOk result.ended (letters_left (steps_of schedule.now) result.log ≡ []) }
     ensures downs { steps_of schedule.now ≡ [] → AllGoDownAtRest settings (opening_state result.opening) result.log }
     ensures falls { result.disk.falls ≡ disk.falls ++ falls_of script result.opening result.log }
     ensures stays { DiskStays D.view disk result.disk }
@@ -269,7 +269,7 @@ pub fn run_script<D: Disk>(
     ensures images { SurvivesAll result.opening result.log (seen D.view disk) (seen D.view result.disk) }
     ensures images_now { SurvivesNow result.opening result.log (seen D.view disk) (seen D.view result.disk) }
     ensures starts { StartsOver (seen D.view disk) result.log result.ended }
-    ensures stopped { IfErr result.ended (IsStoppedBy D.view (IsDue script result.opening result.log) (StopsAt (left_after (steps_of schedule.now) result.log) (run_after (new_manager alloc settings) script result.opening result.log)) disk result.disk result.opening result.log) }
+    ensures stopped { IfErr result.ended (IsStoppedBy D.view (IsDue script result.opening result.log) (StopsAt (letters_left (steps_of schedule.now) result.log) (run_after (new_manager alloc settings) script result.opening result.log)) disk result.disk result.opening result.log) }
 {
     let Ok(mut d) = Desk::new(alloc, settings, script) else {
         unreachable!()

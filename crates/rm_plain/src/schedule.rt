@@ -1,6 +1,6 @@
 ghost use Rattle.std.specs.Prelude.{◌≡◌, ◌≤◌, ◌+◌, ◌^◌, ◌∷◌, List, length, IfOk, IfErr, IfNone, IfSome, []};
 ghost use Rattle.rm_plain.specs.declared.schedule.Step.{Step};
-ghost use Rattle.rm_plain.specs.Schedule.{Stops, chosen, left_of, letter_at, letter_of, most_scheduled, moved_by, steps_from, used_by};
+ghost use Rattle.rm_plain.specs.Schedule.{Stops, chosen, course_left, letter_at, letter_of, most_scheduled, moved_by, steps_from, used_by};
 
 use crate::halts::Halt;
 use crate::policy::first_ready;
@@ -103,7 +103,7 @@ impl<'a> Schedule<'a> {
     /// A schedule of which nothing is used up.
     pub fn new(bytes: &'a [u8]) -> Schedule<'a>
         ensures whole { result.whole ≡ bytes.now }
-        ensures left { left_of result ≡ steps_from 0 bytes.now }
+        ensures left { course_left result ≡ steps_from 0 bytes.now }
     {
         let mut schedule = Schedule {
             whole: bytes,
@@ -118,7 +118,7 @@ impl<'a> Schedule<'a> {
     #[tactic(auto, unfolding(crate::specs::Schedule::steps_from))]
     fn skip(&mut self)
         ensures whole { self.new.whole ≡ self.old.whole }
-        ensures left { left_of self.new ≡ left_of self.old }
+        ensures left { course_left self.new ≡ course_left self.old }
     {
         let mut rest = self.rest;
         let mut place = self.place;
@@ -136,8 +136,8 @@ impl<'a> Schedule<'a> {
     /// The first letter that is left, and the bytes behind it.
     #[tactic(auto, unfolding(crate::specs::Schedule::steps_from))]
     fn front(&self) -> Option<(Step, &'a [u8])>
-        ensures none { IfNone result (left_of self.now ≡ []) }
-        ensures some { IfSome result (λ front. left_of self.now ≡ front.0 ∷ steps_from (front.0.place + 1) front.1.now) }
+        ensures none { IfNone result (course_left self.now ≡ []) }
+        ensures some { IfSome result (λ front. course_left self.now ≡ front.0 ∷ steps_from (front.0.place + 1) front.1.now) }
         ensures within { IfSome result (λ front. front.0.place + 1 + length front.1.now ≤ 2 ^ 63) }
     {
         let mut rest = self.rest;
@@ -156,9 +156,9 @@ impl<'a> Schedule<'a> {
     /// The lane that is to move next: the first letter's or, where none is left, the policy's first that is ready. `Schedule`
     /// comes exactly where a letter is left that can move no lane, with its place.
     pub(crate) fn choice(&self, d: &Desk) -> Result<Option<Lane>, Halt>
-        ensures chosen { IfOk result (λ lane. lane ≡ chosen (left_of self.now) d.now) }
-        ensures over { IfOk result (λ lane. IfNone lane (left_of self.now ≡ [])) }
-        ensures stops { IfErr result (Stops (left_of self.now) d.now) }
+        ensures chosen { IfOk result (λ lane. lane ≡ chosen (course_left self.now) d.now) }
+        ensures over { IfOk result (λ lane. IfNone lane (course_left self.now ≡ [])) }
+        ensures stops { IfErr result (Stops (course_left self.now) d.now) }
     {
         let Some((step, _)) = self.front() else {
             return Ok(first_ready(d));
@@ -171,8 +171,8 @@ impl<'a> Schedule<'a> {
 
     /// Where the first letter stands that is left.
     pub(crate) fn place_left(&self) -> Option<u64>
-        ensures none { IfNone result (left_of self.now ≡ []) }
-        ensures some { IfSome result (λ place. (step : Step) × (more : List Step) × (left_of self.now ≡ step ∷ more) × (place ≡ step.place)) }
+        ensures none { IfNone result (course_left self.now ≡ []) }
+        ensures some { IfSome result (λ place. (step : Step) × (more : List Step) × (course_left self.now ≡ step ∷ more) × (place ≡ step.place)) }
     {
         self.front().map(|(step, _)| step.place)
     }
@@ -180,7 +180,7 @@ impl<'a> Schedule<'a> {
     /// Uses up the first letter, unless it is for more than this lane's move.
     pub(crate) fn pass(&mut self, lane: Lane)
         ensures whole { self.new.whole ≡ self.old.whole }
-        ensures left { left_of self.new ≡ used_by lane (left_of self.old) }
+        ensures left { course_left self.new ≡ used_by lane (course_left self.old) }
     {
         if let Some((step, rest)) = self.front() {
             if step.letter == Letter::Plain && lane != Lane::End {

@@ -18,8 +18,8 @@ ghost use Rattle.rm_plain.specs.Halted.{stop_at_open};
 ghost use Rattle.rm_plain.specs.Keeping.{FuseStays, HaltsOver, IsFoundOn};
 ghost use Rattle.rm_plain.specs.Lives.{AddsOneOf};
 ghost use Rattle.rm_plain.specs.Order.{May};
-ghost use Rattle.rm_plain.specs.Schedule.{IsAt, chosen, left_of, order_of};
-ghost use Rattle.rm_plain.specs.Starts.{StartEffect, FallsBy, IsGivenBack, IsOpened, IsRefusedBy, IsUnopenedBy, Leaves, LivesTo};
+ghost use Rattle.rm_plain.specs.Schedule.{IsAt, chosen, course_left, order_of};
+ghost use Rattle.rm_plain.specs.Starts.{StartEffect, FallsBy, IsGivenBack, IsOpenedStore, IsRefusedBy, IsUnopenedBy, LeavesAtEnd, LivesTo};
 
 use crate::halts::{Halt, Stop};
 use crate::lives::{LifeEnd, run_life};
@@ -69,7 +69,7 @@ pub(crate) fn open<D: Disk>(
     disk: Fuse<D>,
 ) -> Result<(Store<D>, Tree, Items<Op>), Unopened<D>>
     requires { disk.armed ≡ None }
-    ensures opened { IfOk result (λ opened. IsOpened D.view disk opened.0 opened.1 opened.2) }
+    ensures opened { IfOk result (λ opened. IsOpenedStore D.view disk opened.0 opened.1 opened.2) }
     ensures why { IfErr result (λ unopened. IsUnopenedBy D.view disk unopened.disk unopened.why) }
     ensures given_back { IfErr result (λ unopened. IsGivenBack D.view disk unopened.disk) }
 {
@@ -143,7 +143,7 @@ fn fall<D: Disk>(disk: Fuse<D>, end: LifeEnd) -> Fuse<D>
 
 /// What a life left, once its store is closed: where it halted, the fuse is disarmed.
 pub fn leave<D: Disk>(store: Store<D>, ended: Result<LifeEnd, Halt>) -> Lived<D>
-    ensures { Leaves D.view D.falls_to store.disk result.disk ended result.ended }
+    ensures { LeavesAtEnd D.view D.falls_to store.disk result.disk ended result.ended }
 {
     let mut disk = store.close();
     match ended {
@@ -169,7 +169,7 @@ pub(crate) fn live<D: Disk>(
     tree: Tree,
 ) -> Lived<D>
     requires at { IsAt schedule.old d.old.core.log }
-    requires chosen { chosen (left_of schedule.old) d.old ≡ Some Lane.Begin }
+    requires chosen { chosen (course_left schedule.old) d.old ≡ Some Lane.Begin }
     requires dead { stands d.old.core ≡ false }
     requires lives { d.old.place.lives ≢ [] }
     requires over { CanBeginOver tree }
@@ -180,7 +180,7 @@ pub(crate) fn live<D: Disk>(
     requires unblown { store.disk.blown ≡ false }
     ensures whole { schedule.new.whole ≡ schedule.old.whole }
     ensures at { OnOk result.ended (IsAt schedule.new d.new.core.log) }
-    ensures used { OnOk result.ended (stands d.new.core ≡ true → left_of schedule.new ≡ []) }
+    ensures used { OnOk result.ended (stands d.new.core ≡ true → course_left schedule.new ≡ []) }
     ensures lived { LivesTo (order_of schedule.old) D.view (λ opening. IsLeftAfter tree opening d.old.core.log) (λ opening. IsFoundOn opening d.old.core tree (seen D.view store.disk)) d.old d.new store.disk result.disk result.ended }
     ensures fewer { OnOk result.ended (length d.new.place.lives < length d.old.place.lives) }
 {

@@ -5,7 +5,7 @@ ghost use Rattle.rm_store.specs.Errors.{IsWriteError};
 ghost use Rattle.rm_store.specs.Store.{StoreInvariant as IsStoreSound, seen};
 ghost use Rattle.rm_core.specs.Words.{is_blown, stands};
 ghost use Rattle.rm_desk.specs.Lanes.{is_ready_at};
-ghost use Rattle.rm_desk.specs.Runs.{left};
+ghost use Rattle.rm_desk.specs.Runs.{moves_left};
 ghost use Rattle.rm_plain.specs.Goes.{ExtendsRun};
 ghost use Rattle.rm_plain.specs.Halted.{halt_of};
 ghost use Rattle.rm_plain.specs.Keeping.{FuseStays, HaltsBy, Serves, StoresOn};
@@ -46,7 +46,7 @@ pub(crate) fn keep<D: Disk>(
     requires chosen { May (order_of schedule.now) Lane.Write d.old }
     requires serves { Serves D.view d.old store.old }
     ensures goes { ExtendsRun (order_of schedule.now) [] d.old d.new }
-    ensures less { OnOk result (left d.new < left d.old) }
+    ensures less { OnOk result (moves_left d.new < moves_left d.old) }
     ensures stands { OnOk result (stands d.new.core ≡ true) }
     ensures serves { OnOk result (Serves D.view d.new store.new) }
     ensures stores { OnOk result ((opening : List AnyOp) → StoresOn opening d.old d.new (seen D.view store.old.disk) (seen D.view store.new.disk)) }

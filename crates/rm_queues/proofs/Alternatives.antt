@@ -3,7 +3,7 @@ use Rattle.std.proofs.Common.{◌≡◌, ℕ, Bool, true, false, not, ◌||◌, 
 use Rattle.std.proofs.lemmas.Bool.{or_left, or_right}
 use Rattle.rm_types.specs.declared.settings.QueueSpec.{QueueSpec}
 use Rattle.rm_queues.specs.Acls.{AclMeaning}
-use Rattle.rm_queues.specs.Trees.{node_of}
+use Rattle.rm_queues.specs.Trees.{queue_node}
 use Rattle.rm_queues.specs.declared.nodes.Node.{Node}
 
 -- what is on, and doesn't pass the first test, passes by the second
@@ -21,10 +21,10 @@ third_decides first second third answer first_fails second_fails is =
 
 -- a node is that of a queue by its parts
 pub node_by_parts : (queues : List QueueSpec) (queue : QueueSpec) (parent : Option ℕ) (is_leaf : Bool) (submit admin : AclMeaning)
-    → parent ≡ (node_of queues queue).parent → is_leaf ≡ (node_of queues queue).is_leaf → submit ≡ (node_of queues queue).submit → admin ≡ (node_of queues queue).admin
-    → ◌≡◌ {A = Node} (record { parent = parent; is_leaf = is_leaf; submit = submit; admin = admin }) (node_of queues queue)
+    → parent ≡ (queue_node queues queue).parent → is_leaf ≡ (queue_node queues queue).is_leaf → submit ≡ (queue_node queues queue).submit → admin ≡ (queue_node queues queue).admin
+    → ◌≡◌ {A = Node} (record { parent = parent; is_leaf = is_leaf; submit = submit; admin = admin }) (queue_node queues queue)
 node_by_parts queues queue parent is_leaf submit admin parents leaves submits admins =
     ap (λ p. record { parent = p; is_leaf = is_leaf; submit = submit; admin = admin }) parents
-    ∙ ap (λ l. record { parent = (node_of queues queue).parent; is_leaf = l; submit = submit; admin = admin }) leaves
-    ∙ ap (λ s. record { parent = (node_of queues queue).parent; is_leaf = (node_of queues queue).is_leaf; submit = s; admin = admin }) submits
-    ∙ ap (λ a. record { parent = (node_of queues queue).parent; is_leaf = (node_of queues queue).is_leaf; submit = (node_of queues queue).submit; admin = a }) admins
+    ∙ ap (λ l. record { parent = (queue_node queues queue).parent; is_leaf = l; submit = submit; admin = admin }) leaves
+    ∙ ap (λ s. record { parent = (queue_node queues queue).parent; is_leaf = (queue_node queues queue).is_leaf; submit = s; admin = admin }) submits
+    ∙ ap (λ a. record { parent = (queue_node queues queue).parent; is_leaf = (queue_node queues queue).is_leaf; submit = (queue_node queues queue).submit; admin = a }) admins

@@ -11,7 +11,7 @@ use Rattle.std.proofs.lemmas.Slice.Eq.{bytes_eq-Decides}
 use Rattle.rm_types.specs.declared.settings.QueueSpec.{QueueSpec}
 use Rattle.rm_types.specs.Rights.{queue_of, is_queue}
 use Rattle.rm_types.proofs.TestLemmas.{found_passes, find_none}
-use Rattle.rm_queues.specs.Places.{first_in, AreFirstPlaces}
+use Rattle.rm_queues.specs.Places.{first_known_place, AreFirstPlaces}
 use Rattle.rm_queues.specs.declared.places.Places.{Places}
 use Rattle.rm_queues.specs.Trees.{place_of, first_place}
 
@@ -94,10 +94,10 @@ is_queue-some queues name place is =
     ⊎_elim (λ some. some) (λ none. absurd (none-some place (sym (place_of-none queues name none) ∙ is))) (cases_Bool (is_queue queues name))
 
 -- the places that are known are the first places
-pub first_in-first_place : (queues : List QueueSpec) (places : Places) (names : List (List ℕ)) → AreFirstPlaces (λ queue. queue.name) queues places → first_in places names ≡ first_place queues names
+pub first_in-first_place : (queues : List QueueSpec) (places : Places) (names : List (List ℕ)) → AreFirstPlaces (λ queue. queue.name) queues places → first_known_place places names ≡ first_place queues names
 first_in-first_place queues places [] are = refl
 first_in-first_place queues places (name ∷ names) are =
-    ap (λ o. option_or o (first_in places names)) (are name)
+    ap (λ o. option_or o (first_known_place places names)) (are name)
     ∙ ap (option_or (place_of queues name)) (first_in-first_place queues places names are)
     ∙ by_place (is_queue queues name) refl
   where

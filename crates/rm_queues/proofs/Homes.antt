@@ -8,7 +8,7 @@ use Rattle.rm_types.specs.declared.settings.Settings.{Settings}
 use Rattle.rm_types.specs.Rights.{path_of, parents_of, home, root_name, groups_of_user}
 use Rattle.rm_queues.specs.declared.nodes.Node.{Node}
 use Rattle.rm_queues.specs.Rules.{KeepsRules}
-use Rattle.rm_queues.specs.Trees.{first_place, node_of, node_allows, path_admits}
+use Rattle.rm_queues.specs.Trees.{first_place, queue_node, node_allows, path_admits}
 use Rattle.rm_queues.proofs.FirstPlaces.{Sought, NotThere, There, sought, IsFirstPlace}
 use Rattle.rm_queues.proofs.Steps.{steps_left}
 use Rattle.rm_queues.proofs.Walks.{admits_in, admits_from, IsPlaceNext, IsPlaceNext-first, name_left, name_left-parent, path_admits-step}
@@ -47,22 +47,22 @@ home_name settings name place queue rules is at =
     ap (λ it. it.name) (same_Some queue one.0 (sym at ∙ ap (slice_get settings.queues) is ∙ one.1)) ∙ one.2
 
 -- the node at a place is that of the queue there
-pub node_at : (queues : List QueueSpec) (nodes : List Node) (place : ℕ) (node : Node) (queue : QueueSpec) → nodes ≡ map (node_of queues) queues
-    → node ≡ get_or nodes place node → slice_get queues place ≡ Some queue → node ≡ node_of queues queue
+pub node_at : (queues : List QueueSpec) (nodes : List Node) (place : ℕ) (node : Node) (queue : QueueSpec) → nodes ≡ map (queue_node queues) queues
+    → node ≡ get_or nodes place node → slice_get queues place ≡ Some queue → node ≡ queue_node queues queue
 node_at queues nodes place node queue each is at =
-    is ∙ get_or_from_slice_get nodes place (node_of queues queue) node
-    (ap (λ all. slice_get all place) each ∙ slice_get-map (node_of queues) queues place ∙ ap (option_map (node_of queues)) at)
+    is ∙ get_or_from_slice_get nodes place (queue_node queues queue) node
+    (ap (λ all. slice_get all place) each ∙ slice_get-map (queue_node queues) queues place ∙ ap (option_map (queue_node queues)) at)
 
 -- a turn of the walk: at the place of a queue, whose path says what the whole path says
 pub record IsTurn (op : AclOp) (settings : Settings) (user name : List ℕ) (place : ℕ) (node : Node) (queue : QueueSpec) : Type 0 where
   pub first : IsFirstPlace settings.queues place queue
-  pub node_is : node ≡ node_of settings.queues queue
+  pub node_is : node ≡ queue_node settings.queues queue
   pub same : admits_in op settings user (path_of queue.name) ≡ admits_in op settings user (path_of name)
 
 pub turn : (op : AclOp) (settings : Settings) (user name : List ℕ) (next : Option ℕ) (place : ℕ) (nodes : List Node) (node : Node)
     → next ≡ Some place → IsPlaceNext settings.queues next
     → path_admits op settings user (option_and_then (slice_get settings.queues) next) ≡ admits_in op settings user (path_of name)
-    → nodes ≡ map (node_of settings.queues) settings.queues → node ≡ get_or nodes place node
+    → nodes ≡ map (queue_node settings.queues) settings.queues → node ≡ get_or nodes place node
     → (queue : QueueSpec) × IsTurn op settings user name place node queue
 turn op settings user name next place nodes node is next_is same each node_there =
     let here : IsPlaceNext settings.queues (Some place) = subst (IsPlaceNext settings.queues) is next_is in (

@@ -14,7 +14,7 @@ use Rattle.rm_types.specs.AclTexts.{admits, is_among}
 use Rattle.rm_types.specs.Rights.{path_of, parents_of, queue_of, is_queue, root_name, acl_of, admits_at, admits_user, submit_list, groups_of_user}
 use Rattle.rm_queues.specs.Paths.{IsParent}
 use Rattle.rm_queues.specs.Rules.{KeepsRules}
-use Rattle.rm_queues.specs.Trees.{place_of, first_place, node_of, node_allows, path_admits}
+use Rattle.rm_queues.specs.Trees.{place_of, first_place, queue_node, node_allows, path_admits}
 use Rattle.rm_queues.proofs.Dots.{parent_cases}
 use Rattle.rm_queues.proofs.Steps.{steps_left}
 use Rattle.rm_queues.proofs.FirstPlaces.{Sought, NotThere, There, sought, IsFirstPlace, queue_of-none, queue_of-first}
@@ -122,23 +122,23 @@ from_parents op settings user name rules = from_nearest op settings user name (�
 
 -- a node says what the lists of its queue's name say
 pub node_allows-at : (op : AclOp) (settings : Settings) (user : List ℕ) (place : ℕ) (queue : QueueSpec) → IsFirstPlace settings.queues place queue
-    → node_allows op (node_of settings.queues queue) user (groups_of_user settings.groups user) ≡ admits_at op settings user queue.name
+    → node_allows op (queue_node settings.queues queue) user (groups_of_user settings.groups user) ≡ admits_at op settings user queue.name
 node_allows-at op settings user place queue first = at op
   where
     of_list : (list : QueueSpec → Option (List ℕ)) → admits_user settings user (acl_of queue.name (list queue)) ≡ admits_user settings user (acl_of queue.name (option_and_then list (queue_of settings.queues queue.name)))
     of_list list = ap (λ one. admits_user settings user (acl_of queue.name (option_and_then list one))) (sym (queue_of-first settings.queues place queue first))
 
-    at : (one : AclOp) → node_allows one (node_of settings.queues queue) user (groups_of_user settings.groups user) ≡ admits_at one settings user queue.name
+    at : (one : AclOp) → node_allows one (queue_node settings.queues queue) user (groups_of_user settings.groups user) ≡ admits_at one settings user queue.name
     at Submit = ap (λ b. b || admits_user settings user (acl_of queue.name queue.admin)) (of_list (λ one. one.submit)) ∙ ap (λ b. admits_user settings user (submit_list settings.queues queue.name) || b) (of_list (λ one. one.admin))
     at Kill = of_list (λ one. one.admin)
 
 -- the path of a queue says what its node says, and then what the path from its nearest parent in the tree says
 pub path_admits-step : (op : AclOp) (settings : Settings) (user : List ℕ) (place : ℕ) (queue : QueueSpec) → KeepsRules settings → IsFirstPlace settings.queues place queue
     → admits_in op settings user (path_of queue.name)
-    ≡ (node_allows op (node_of settings.queues queue) user (groups_of_user settings.groups user) || admits_from op settings user (parents_of queue.name))
+    ≡ (node_allows op (queue_node settings.queues queue) user (groups_of_user settings.groups user) || admits_from op settings user (parents_of queue.name))
 path_admits-step op settings user place queue rules first =
     ap (λ b. b || admits_in op settings user (parents_of queue.name)) (sym (node_allows-at op settings user place queue first))
-    ∙ ap (λ b. node_allows op (node_of settings.queues queue) user (groups_of_user settings.groups user) || b) (from_parents op settings user queue.name rules)
+    ∙ ap (λ b. node_allows op (queue_node settings.queues queue) user (groups_of_user settings.groups user) || b) (from_parents op settings user queue.name rules)
 
 -- a parent in the tree has a shorter name
 shorter_within : (fuel : ℕ) (queues : List QueueSpec) (name found : List ℕ) → length name < fuel → find (is_queue queues) (parents_of name) ≡ Some found → length found < length name

@@ -10,9 +10,9 @@ abbrev pub place_in : Places → List ℕ → Option ℕ
 place_in places text = get_by (λ key. bytes_eq text key.items) places.by_text
 
 -- the first place that is known of one of these texts
-abbrev pub first_in : Places → List (List ℕ) → Option ℕ
-first_in places [] = None
-first_in places (text ∷ texts) = option_or (place_in places text) (first_in places texts)
+abbrev pub first_known_place : Places → List (List ℕ) → Option ℕ
+first_known_place places [] = None
+first_known_place places (text ∷ texts) = option_or (place_in places text) (first_known_place places texts)
 
 -- a text has this place now, unless it had one
 abbrev pub AddsPlace : Places → Places → List ℕ → ℕ → Type 0

@@ -27,8 +27,8 @@ abbrev pub any_below : List QueueSpec → List ℕ → Bool
 any_below queues name = list_any (λ queue. is_below queue.name name) queues
 
 -- the node of a queue: its nearest parent in the tree, whether it is a leaf, and its lists as they count
-abbrev pub node_of : List QueueSpec → QueueSpec → Node
-node_of queues queue = record {
+abbrev pub queue_node : List QueueSpec → QueueSpec → Node
+queue_node queues queue = record {
   parent = first_place queues (parents_of queue.name);
   is_leaf = not (any_below queues queue.name);
   submit = meaning_of (acl_of queue.name queue.submit);
@@ -46,8 +46,8 @@ path_admits op settings user None = false
 path_admits op settings user (Some queue) = list_any (λ name. admits_at op settings user name) (path_of queue.name)
 
 -- rights aren't checked, or a list along the queue's path or the admin list of all admits
-abbrev pub is_allowed : AclOp → Settings → List ℕ → List ℕ → Bool
-is_allowed op settings user queue = not settings.acl_enable || admits_along op settings user queue
+abbrev pub is_user_allowed : AclOp → Settings → List ℕ → List ℕ → Bool
+is_user_allowed op settings user queue = not settings.acl_enable || admits_along op settings user queue
 
 -- what a refusal says, by the queue that was consulted first
 abbrev pub denial_from : AclOp → List ℕ → Denial
@@ -58,5 +58,5 @@ pub record IsTreeOf (settings : Settings) (places users : Places) (nodes : List 
   pub rules : KeepsRules settings
   pub by_name : AreFirstPlaces (λ queue. queue.name) settings.queues places
   pub by_user : AreFirstPlaces (λ one. one.user) settings.groups users
-  pub each : nodes ≡ map (node_of settings.queues) settings.queues
+  pub each : nodes ≡ map (queue_node settings.queues) settings.queues
   pub all : admin ≡ meaning_of settings.admin_acl

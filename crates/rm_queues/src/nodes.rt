@@ -1,7 +1,7 @@
 ghost use Rattle.std.specs.Prelude.{◌≡◌, IfOk};
 ghost use Rattle.rm_types.specs.Rights.{is_below, acl_of};
 ghost use Rattle.rm_queues.specs.Places.{AreFirstPlaces};
-ghost use Rattle.rm_queues.specs.Trees.{any_below, node_of, node_allows};
+ghost use Rattle.rm_queues.specs.Trees.{any_below, queue_node, node_allows};
 
 use crate::acls::Acl;
 use crate::places::Places;
@@ -27,7 +27,7 @@ impl Node {
         queue: &QueueSpec,
     ) -> Result<Node, NoMemory>
         requires { AreFirstPlaces (λ one. one.name) queues.now places.now }
-        ensures { IfOk result (λ node. node ≡ node_of queues.now queue.now) }
+        ensures { IfOk result (λ node. node ≡ queue_node queues.now queue.now) }
     {
         let name = queue.name.bytes();
         let submit = Acl::read(alloc, acl_text(name, &queue.submit))?;

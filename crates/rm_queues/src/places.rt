@@ -1,6 +1,6 @@
 ghost use Rattle.std.specs.Prelude.{◌≡◌, ℕ, List, OnOk, None, IfOk};
 ghost use Rattle.rm_types.specs.Rights.{path_of, parents_of};
-ghost use Rattle.rm_queues.specs.Places.{place_in, first_in, AddsPlace, AreFirstPlaces};
+ghost use Rattle.rm_queues.specs.Places.{place_in, first_known_place, AddsPlace, AreFirstPlaces};
 
 use crate::paths::parent_of;
 use rm_types::{NoMemory, QueueSpec, UserGroups};
@@ -65,7 +65,7 @@ impl Places {
 
     /// The place of a name or else of the nearest of its parents that has one.
     pub(crate) fn nearest(&self, name: &[u8]) -> Option<usize>
-        ensures { result ≡ first_in self.now (path_of name.now) }
+        ensures { result ≡ first_known_place self.now (path_of name.now) }
     {
         let mut next = Some(name);
         while let Some(name) = next {
@@ -80,7 +80,7 @@ impl Places {
 
     /// The place of the nearest of a name's parents that has one.
     pub(crate) fn nearest_parent(&self, name: &[u8]) -> Option<usize>
-        ensures { result ≡ first_in self.now (parents_of name.now) }
+        ensures { result ≡ first_known_place self.now (parents_of name.now) }
     {
         match parent_of(name) {
             Some(parent) => self.nearest(parent),

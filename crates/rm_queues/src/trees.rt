@@ -3,7 +3,7 @@ ghost use Rattle.std.specs.List.{list_any};
 ghost use Rattle.rm_types.specs.Rights.{path_of, is_leaf, home, denial, groups_of_user, admits_at, may_submit, may_administer, may_kill};
 ghost use Rattle.rm_queues.specs.Rules.{KeepsRules};
 ghost use Rattle.rm_queues.specs.Places.{AreFirstPlaces};
-ghost use Rattle.rm_queues.specs.Trees.{node_of, is_allowed, denial_from};
+ghost use Rattle.rm_queues.specs.Trees.{queue_node, is_user_allowed, denial_from};
 
 use crate::acls::Acl;
 use crate::nodes::Node;
@@ -109,7 +109,7 @@ impl QueueTree {
 
     /// Whether rights aren't checked, or a list along the queue's path or the admin list admits.
     fn is_allowed(&self, op: AclOp, user: &[u8], queue: &[u8]) -> bool
-        ensures { result ≡ is_allowed op self.now user.now queue.now }
+        ensures { result ≡ is_user_allowed op self.now user.now queue.now }
     {
         if !self.settings.acl_enable {
             return true;
@@ -166,7 +166,7 @@ pub fn starts_at_root(settings: &Settings) -> bool
 /// The nodes of all queues, whose places are known.
 fn nodes_of(alloc: Global, places: &Places, queues: &[QueueSpec]) -> Result<Vec<Node>, NoMemory>
     requires { AreFirstPlaces (λ one. one.name) queues.now places.now }
-    ensures { IfOk result (λ nodes. nodes.items ≡ map (node_of queues.now) queues.now) }
+    ensures { IfOk result (λ nodes. nodes.items ≡ map (queue_node queues.now) queues.now) }
 {
     let mut nodes = Vec::with_capacity(alloc, queues.len())?;
     for queue in queues {

@@ -6,9 +6,9 @@ use Rattle.std.specs.Str.{bytes_eq}
 use Rattle.std.proofs.lemmas.Bool.{false≢true}
 use Rattle.rm_types.proofs.TestLemmas.{text_itself, same_text}
 use Rattle.rm_model.specs.State.{NodeState}
-use Rattle.rm_model.specs.Nodes.{node_of as node_told, with_node as with_told}
+use Rattle.rm_model.specs.Nodes.{judged_node as node_told, with_judged_node as with_told}
 use Rattle.rm_tables.specs.declared.nodes.NodeRow.{NodeRow}
-use Rattle.rm_tables.specs.Nodes.{node_of as node_in, with_found, with_node}
+use Rattle.rm_tables.specs.Nodes.{node_row as node_in, with_found, with_node}
 
 -- names that differ, differ both ways
 pub apart_names : (n q : List ℕ) → bytes_eq n q ≡ false → bytes_eq q n ≡ false

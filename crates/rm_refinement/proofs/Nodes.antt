@@ -6,9 +6,9 @@ use Rattle.rm_types.specs.declared.resources.Resource.{Resource}
 use Rattle.rm_types.proofs.TestLemmas.{same_text}
 use Rattle.rm_book.specs.Books.{BookOf, capability_of}
 use Rattle.rm_model.specs.State.{NodeState, Row}
-use Rattle.rm_model.specs.Nodes.{node_of as node_told, tidied_node, with_node as with_told}
+use Rattle.rm_model.specs.Nodes.{judged_node as node_told, tidied_node, with_judged_node as with_told}
 use Rattle.rm_tables.specs.declared.nodes.NodeRow.{NodeRow}
-use Rattle.rm_tables.specs.Nodes.{node_of as node_in, with_node}
+use Rattle.rm_tables.specs.Nodes.{node_row as node_in, with_node}
 use Rattle.rm_refinement.specs.Agreement.{SameNodes, bare_node, plain_node}
 use Rattle.rm_refinement.proofs.Found.{KeepsName, found_each, other_added, other_row, other_told, other_told_added, own_added, own_row, own_told, own_told_added}
 

@@ -7,9 +7,9 @@ use Rattle.rm_types.specs.declared.ids.ContainerId.{ContainerId}
 use Rattle.rm_types.specs.Ids.{is_container}
 use Rattle.rm_types.specs.Records.{is_some_and}
 use Rattle.rm_types.proofs.IdLemmas.{same_container}
-use Rattle.rm_book.specs.Books.{AreApart, is_of}
+use Rattle.rm_book.specs.Books.{BookRowsAreApart, is_of}
 use Rattle.rm_book.proofs.Lists.{any_view}
-use Rattle.rm_model.specs.Containers.{row_of as row_told}
+use Rattle.rm_model.specs.Containers.{judged_row as row_told}
 use Rattle.rm_model.specs.State.{Row}
 use Rattle.rm_refinement.specs.Agreement.{PlainRow, SameRows, bare_row, plain_row}
 
@@ -41,7 +41,7 @@ none_of p id (row ∷ rows) none = by (is_of id row) refl (none_of p id rows)
     by false e rest = rw e (rest (rw e at none))
 
 -- a container has one row at most, so that the first one found is all of it
-pub first_alone : (p : BookRow → Bool) (id : ContainerId) (rows : List BookRow) → AreApart rows → is_some_and p (find (is_of id) rows) ≡ list_any (λ row. is_of id row && p row) rows
+pub first_alone : (p : BookRow → Bool) (id : ContainerId) (rows : List BookRow) → BookRowsAreApart rows → is_some_and p (find (is_of id) rows) ≡ list_any (λ row. is_of id row && p row) rows
 first_alone p id [] apart = refl
 first_alone p id (row ∷ rows) apart = by (is_of id row) refl (first_alone p id rows apart.1)
   where

@@ -12,7 +12,7 @@ use Rattle.rm_types.specs.declared.ids.ContainerId.{ContainerId}
 use Rattle.rm_types.specs.declared.replies.Reply.{Reply}
 use Rattle.rm_types.specs.declared.resources.Resource.{Resource}
 use Rattle.rm_types.specs.Ids.{is_app, is_attempt}
-use Rattle.rm_book.specs.AskTables.{AsksOf, asks_of as asks_in}
+use Rattle.rm_book.specs.AskTables.{AsksOf, attempt_asks as asks_in}
 use Rattle.rm_book.specs.Books.{BookOf, capability_of}
 use Rattle.rm_model.specs.Passing.{asks_of as asks_told}
 use Rattle.rm_model.specs.State.{MasterState, NodeState, Phase, Waiting, Ready, Lost, Registration, Row}
@@ -22,8 +22,8 @@ use Rattle.rm_tables.specs.declared.nodes.NodeRow.{NodeRow}
 use Rattle.rm_tables.specs.declared.rows.AppRow.{AppRow}
 use Rattle.rm_tables.specs.declared.rows.Current.{Current}
 use Rattle.rm_tables.specs.declared.rows.Dialogue.{Dialogue}
-use Rattle.rm_tables.specs.Nodes.{node_of as node_in}
-use Rattle.rm_model.specs.Nodes.{node_of as node_told}
+use Rattle.rm_tables.specs.Nodes.{node_row as node_in}
+use Rattle.rm_model.specs.Nodes.{judged_node as node_told}
 
 -- a living container, as the tables and the judge both have it
 pub record PlainRow : Type 0 where

@@ -18,9 +18,9 @@ use Rattle.rm_tables.specs.declared.tables.Tables.{Tables}
 use Rattle.rm_tables.specs.Rows.{is_retired, row_of}
 
 -- the master of the current attempt registered in this life
-abbrev pub has_registered : Option Current → Bool
-has_registered None = false
-has_registered (Some current) = current.registered
+abbrev pub current_registered : Option Current → Bool
+current_registered None = false
+current_registered (Some current) = current.registered
 
 -- the last kept attempt of a record has a kept end, and it is FAILED
 abbrev pub last_failed : Option AppRecord → Bool
@@ -28,12 +28,12 @@ last_failed found = is_some_and has_failed (last_attempt (attempts_in found))
 
 -- an application runs: its current attempt's master registered in this life, and the last kept attempt has not failed
 abbrev pub runs : AppRow → Option AppRecord → Bool
-runs row found = has_registered row.current && not (last_failed found)
+runs row found = current_registered row.current && not (last_failed found)
 
 -- the application's App was issued and isn't kept
-abbrev pub is_saving : AppState → Bool
-is_saving apps.NewSaving = true
-is_saving _ = false
+abbrev pub is_saving_app : AppState → Bool
+is_saving_app apps.NewSaving = true
+is_saving_app _ = false
 
 -- the row of an application that is known shows what a report tells
 pub record RowRefines (m : Scene) (id : AppId) (row : AppRow) : Type 0 where
@@ -41,7 +41,7 @@ pub record RowRefines (m : Scene) (id : AppId) (row : AppRow) : Type 0 where
   pub waits : waiting_submission m.life.apps.submitted id ≡ row.pending
   pub running : is_running m id ≡ runs row (kept_record m id)
   pub accepted : (is_accepted m id || not (is_nil (kept_attempts m id))) ≡ is_some row.current
-  pub saving : awaits m (is_app_op id) ≡ is_saving row.state
+  pub saving : awaits m (is_app_op id) ≡ is_saving_app row.state
 
 -- an application without a row isn't known: nothing of it was issued, and it was not accepted unless it was removed since
 pub record NoRowRefines (m : Scene) (id : AppId) : Type 0 where

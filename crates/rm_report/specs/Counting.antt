@@ -8,29 +8,24 @@ use Rattle.rm_types.specs.declared.operations.Op.TheVariants as ops
 use Rattle.rm_formats.specs.Frames.{frame}
 
 -- a life begins
-abbrev pub lives_in : Entry → ℕ
-lives_in (Opened landed epoch stamp) = 1
-lives_in entry = 0
+abbrev pub life_count : Entry → ℕ
+life_count (Opened landed epoch stamp) = 1
+life_count entry = 0
 
 -- a message is answered
-abbrev pub served_in : Entry → ℕ
-served_in (Served sender message reply) = 1
-served_in entry = 0
+abbrev pub served_count : Entry → ℕ
+served_count (Served sender message reply) = 1
+served_count entry = 0
 
 -- a beat is answered with grants
 abbrev pub passes_in : Entry → ℕ
 passes_in (Pass node grants) = 1
 passes_in entry = 0
 
--- the containers that are granted
-abbrev pub granted_in : Entry → ℕ
-granted_in (Pass node grants) = length grants
-granted_in entry = 0
-
 -- the containers that are taken in again
-abbrev pub taken_in : Entry → ℕ
-taken_in (Absorbed node taken ended) = length taken
-taken_in entry = 0
+abbrev pub taken_count : Entry → ℕ
+taken_count (Absorbed node taken ended) = length taken
+taken_count entry = 0
 
 -- an operation is issued
 abbrev pub issued_in : Entry → ℕ
@@ -53,9 +48,9 @@ jobs_in (Kept (ops.App id submission)) = 1
 jobs_in entry = 0
 
 -- an application is kept as finished
-abbrev pub finished_in : Entry → ℕ
-finished_in (Kept (ops.AppEnd id hows.Finished text)) = 1
-finished_in entry = 0
+abbrev pub finished_count : Entry → ℕ
+finished_count (Kept (ops.AppEnd id hows.Finished text)) = 1
+finished_count entry = 0
 
 -- an application is kept as failed
 abbrev pub failed_in : Entry → ℕ
@@ -83,9 +78,9 @@ released_in (Ended causes.Released list) = length list
 released_in entry = 0
 
 -- the containers that end since their node was lost
-abbrev pub lost_in : Entry → ℕ
-lost_in (Ended causes.Node list) = length list
-lost_in entry = 0
+abbrev pub lost_count : Entry → ℕ
+lost_count (Ended causes.Node list) = length list
+lost_count entry = 0
 
 -- the containers that end with their attempt
 abbrev pub over_in : Entry → ℕ

@@ -92,22 +92,22 @@ names_reply subject (replies.Beat id launch clean) =
 names_reply subject reply = false
 
 -- the line of an entry tells an id that the subject covers
-abbrev pub names : Subject → Entry → Bool
-names subject (entries.Issued op) = names_op subject op
-names subject (entries.Kept op) = names_op subject op
-names subject (entries.Served sender message reply) = names_message subject message || names_reply subject reply
-names subject (entries.Accepted app) = covers subject (App app)
-names subject (entries.Queued attempt) = covers subject (Attempt attempt)
-names subject (entries.Absorbed node taken ended) =
+abbrev pub names_subject : Subject → Entry → Bool
+names_subject subject (entries.Issued op) = names_op subject op
+names_subject subject (entries.Kept op) = names_op subject op
+names_subject subject (entries.Served sender message reply) = names_message subject message || names_reply subject reply
+names_subject subject (entries.Accepted app) = covers subject (App app)
+names_subject subject (entries.Queued attempt) = covers subject (Attempt attempt)
+names_subject subject (entries.Absorbed node taken ended) =
     covers subject (Node node) || list_any (λ held. covers subject (Container held.id)) taken || list_any (λ container. covers subject (Container container)) ended
-names subject (entries.Pass node grants) = covers subject (Node node) || list_any (λ grant. covers subject (Container grant.id)) grants
-names subject (entries.Ordered container node) = covers subject (Container container) || covers subject (Node node)
-names subject (entries.Ended cause list) = list_any (λ container. covers subject (Container container)) list
-names subject entry = false
+names_subject subject (entries.Pass node grants) = covers subject (Node node) || list_any (λ grant. covers subject (Container grant.id)) grants
+names_subject subject (entries.Ordered container node) = covers subject (Container container) || covers subject (Node node)
+names_subject subject (entries.Ended cause list) = list_any (λ container. covers subject (Container container)) list
+names_subject subject entry = false
 
 -- the bytes are the text of the id, in its ranges
-abbrev pub IsTextOf : List ℕ → Subject → Type 0
-IsTextOf text (App id) = IsAppId id × (text ≡ app_text id)
-IsTextOf text (Attempt id) = IsAttemptId id × (text ≡ attempt_text id)
-IsTextOf text (Container id) = IsContainerId id × (text ≡ container_text id)
-IsTextOf text (Node node) = IsText kinds.Node node × (text ≡ node)
+abbrev pub IsSubjectText : List ℕ → Subject → Type 0
+IsSubjectText text (App id) = IsAppId id × (text ≡ app_text id)
+IsSubjectText text (Attempt id) = IsAttemptId id × (text ≡ attempt_text id)
+IsSubjectText text (Container id) = IsContainerId id × (text ≡ container_text id)
+IsSubjectText text (Node node) = IsText kinds.Node node × (text ≡ node)

@@ -18,7 +18,8 @@ use Rattle.rm_page_reader.specs.Told.{Tells}
 use Rattle.rm_report.specs.declared.lives.LifeEnd.{LifeEnd}
 use Rattle.rm_report.specs.declared.lives.LifeEnd.TheVariants.{AtCrash, AtRefusal, AtPageEnd}
 use Rattle.rm_report.specs.declared.tallies.TheConstants.{MOST_NAMES}
-use Rattle.rm_report.specs.Counting.{lives_in, served_in, passes_in, granted_in, taken_in, issued_in, kept_in, kept_bytes_in, jobs_in, finished_in, failed_in, killed_in, removed_in, done_in, released_in, lost_in, over_in, gone_in}
+use Rattle.rm_report.specs.Counting.{life_count, served_count, passes_in, taken_count, issued_in, kept_in, kept_bytes_in, jobs_in, finished_count, failed_in, killed_in, removed_in, done_in, released_in, lost_count, over_in, gone_in}
+use Rattle.rm_types.specs.Entries.{granted_count}
 
 -- ---- lives
 
@@ -32,15 +33,15 @@ end_of (entries.Down ∷ rest) = AtCrash
 end_of (entry ∷ rest) = end_of rest
 
 -- how a life ended, at the end of its line
-abbrev pub end_text : LifeEnd → List ℕ
-end_text AtCrash = codes ", went down\n"
-end_text (AtRefusal passed) = codes ", kept no more after " ++ decimal passed ++ codes " device calls\n"
-end_text AtPageEnd = codes ", open at the end of the page\n"
+abbrev pub life_end_text : LifeEnd → List ℕ
+life_end_text AtCrash = codes ", went down\n"
+life_end_text (AtRefusal passed) = codes ", kept no more after " ++ decimal passed ++ codes " device calls\n"
+life_end_text AtPageEnd = codes ", open at the end of the page\n"
 
 -- a life: its number, epoch, stamp and what had landed, and how it ended
 abbrev pub life_text : ℕ → ℕ → ℕ → ℕ → LifeEnd → List ℕ
 life_text number landed epoch stamp ending =
-    codes "life " ++ decimal number ++ codes ": epoch " ++ decimal epoch ++ codes ", stamp " ++ decimal stamp ++ codes ", landed " ++ decimal landed ++ end_text ending
+    codes "life " ++ decimal number ++ codes ": epoch " ++ decimal epoch ++ codes ", stamp " ++ decimal stamp ++ codes ", landed " ++ decimal landed ++ life_end_text ending
 
 -- each life, with so many before them
 abbrev pub lives_text : ℕ → List Entry → List ℕ
@@ -161,30 +162,30 @@ longest (entry ∷ rest) = max (longest_in entry) (longest rest)
 -- the lines, and whether the moves are shown
 abbrev pub head_text : List Entry → Bool → List ℕ
 head_text es moves =
-    decimal (length es) ++ codes " lines, " ++ decimal (sum_by lives_in es) ++ codes " lives" ++ (if moves then codes ", with the moves" else []) ++ codes "\n"
+    decimal (length es) ++ codes " lines, " ++ decimal (sum_by life_count es) ++ codes " lives" ++ (if moves then codes ", with the moves" else []) ++ codes "\n"
 
 -- the jobs whose submission is kept, and how they ended; the others live, unless they were submitted before the page began
 abbrev pub jobs_text : List Entry → List ℕ
 jobs_text es =
-    codes "jobs: " ++ decimal (sum_by jobs_in es) ++ codes " kept, " ++ decimal (sum_by finished_in es) ++ codes " FINISHED, " ++ decimal (sum_by failed_in es)
+    codes "jobs: " ++ decimal (sum_by jobs_in es) ++ codes " kept, " ++ decimal (sum_by finished_count es) ++ codes " FINISHED, " ++ decimal (sum_by failed_in es)
     ++ codes " FAILED, " ++ decimal (sum_by killed_in es) ++ codes " KILLED, "
-    ++ decimal (sum_by jobs_in es - sum_by finished_in es - sum_by failed_in es - sum_by killed_in es) ++ codes " live, " ++ decimal (sum_by removed_in es) ++ codes " removed\n"
+    ++ decimal (sum_by jobs_in es - sum_by finished_count es - sum_by failed_in es - sum_by killed_in es) ++ codes " live, " ++ decimal (sum_by removed_in es) ++ codes " removed\n"
 
 -- the messages that were answered, by the word of the reply; and the denials, by queue
 abbrev pub replies_text : List Entry → List ℕ
 replies_text es =
-    codes "replies: " ++ decimal (sum_by served_in es) ++ codes ":" ++ tally answer_in [] es ++ codes "\ndenials:" ++ tally denial_in [] es ++ codes "\n"
+    codes "replies: " ++ decimal (sum_by served_count es) ++ codes ":" ++ tally answer_in [] es ++ codes "\ndenials:" ++ tally denial_in [] es ++ codes "\n"
 
 -- the containers that ended, by their cause
 abbrev pub endings_text : List Entry → List ℕ
 endings_text es =
-    codes "endings: " ++ decimal (sum_by done_in es) ++ codes " done, " ++ decimal (sum_by released_in es) ++ codes " released, " ++ decimal (sum_by lost_in es)
+    codes "endings: " ++ decimal (sum_by done_in es) ++ codes " done, " ++ decimal (sum_by released_in es) ++ codes " released, " ++ decimal (sum_by lost_count es)
     ++ codes " node, " ++ decimal (sum_by over_in es) ++ codes " attempt, " ++ decimal (sum_by gone_in es) ++ codes " gone\n"
 
 -- the containers that were granted, and those that were taken in again; and the longest list of a line
 abbrev pub grants_text : List Entry → List ℕ
 grants_text es =
-    codes "containers: " ++ decimal (sum_by granted_in es) ++ codes " granted in " ++ decimal (sum_by passes_in es) ++ codes " passes, " ++ decimal (sum_by taken_in es)
+    codes "containers: " ++ decimal (sum_by granted_count es) ++ codes " granted in " ++ decimal (sum_by passes_in es) ++ codes " passes, " ++ decimal (sum_by taken_count es)
     ++ codes " taken in again\n"
 
 -- the longest list, and the operations
@@ -199,15 +200,15 @@ log_text es moves =
     head_text es moves ++ lives_text 0 es ++ jobs_text es ++ replies_text es ++ grants_text es ++ endings_text es ++ store_text es
 
 -- the summary of a soak
-abbrev pub soak_text : SoakLine → List ℕ
-soak_text soak =
+abbrev pub soak_summary : SoakLine → List ℕ
+soak_summary soak =
     codes "a soak of " ++ decimal soak.apps ++ codes " applications\nlives: " ++ decimal soak.lives ++ codes "\nmessages: " ++ decimal soak.served ++ codes " served\ncontainers: "
     ++ decimal soak.grants ++ codes " granted\njobs: " ++ decimal soak.finished ++ codes " FINISHED\noperations: " ++ decimal soak.kept ++ codes " kept\n"
 
 -- the summary of what a page tells
 abbrev pub summary_text : Page → List ℕ
 summary_text (Log es moves) = log_text es moves
-summary_text (Soak soak) = soak_text soak
+summary_text (Soak soak) = soak_summary soak
 
 -- the report is of this page
 pub record IsSummary (bytes report : List ℕ) : Type 0 where

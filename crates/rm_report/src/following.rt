@@ -2,8 +2,8 @@ ghost use Rattle.std.specs.Prelude.{◌≡◌, ◌++◌, ℕ, IfOk, OnOk, Err, c
 ghost use Rattle.rm_types.specs.Ranges.{IsText};
 ghost use Rattle.rm_types.specs.declared.texts.TextKind.TheVariants as kinds;
 ghost use Rattle.rm_page_reader.specs.Told.{IsNoPage};
-ghost use Rattle.rm_report.specs.Naming.{names};
-ghost use Rattle.rm_report.specs.Following.{marks_life, told, rows, subject_text, follow_text, explained, row, mark, IsFollowed};
+ghost use Rattle.rm_report.specs.Naming.{names_subject};
+ghost use Rattle.rm_report.specs.Following.{marks_life, line_told, rows, subject_text, follow_text, explained, row, mark, IsFollowed};
 
 use crate::errors::ReportError;
 use crate::meanings::meaning;
@@ -20,7 +20,7 @@ use std::alloc::Global;
 /// `NotAnId` comes only where the text is no id and can't be a node's name; `NotAPage` comes only where the bytes are no
 /// page, and names the first line that is none of one; `Memory` may come of any bytes.
 pub fn follow(alloc: Global, page: &[u8], id: &str) -> Result<Vec<u8>, ReportError>
-    ensures told { IfOk result (λ report. IsFollowed page.now id.now report.items) }
+    ensures line_told { IfOk result (λ report. IsFollowed page.now id.now report.items) }
     ensures not_an_id { result ≡ Err ReportError.NotAnId → IsText kinds.Node id.now → ⊥ }
     ensures not_a_page { (line : ℕ) → result ≡ Err (ReportError.NotAPage line) → IsNoPage page.now }
 {
@@ -64,7 +64,7 @@ fn put_subject(sheet: &mut Sheet, subject: &Subject) -> Result<(), NoMemory>
 
 /// How many of the lines name the subject.
 fn lines_naming(subject: &Subject, entries: &[Entry]) -> usize
-    ensures { result ≡ count_by (names subject.now) entries.now }
+    ensures { result ≡ count_by (names_subject subject.now) entries.now }
 {
     let mut naming = 0;
     'entries: for entry in entries {
@@ -103,7 +103,7 @@ fn put_told(
     number: usize,
     entry: &Entry,
 ) -> Result<(), NoMemory>
-    ensures { OnOk result (sheet.new ≡ sheet.old ++ told subject.now number entry.now) }
+    ensures { OnOk result (sheet.new ≡ sheet.old ++ line_told subject.now number entry.now) }
 {
     if subject.is_named_by(entry) {
         put_row(alloc, sheet, number, entry)

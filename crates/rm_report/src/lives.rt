@@ -1,5 +1,5 @@
 ghost use Rattle.std.specs.Prelude.{◌≡◌, ◌++◌, OnOk};
-ghost use Rattle.rm_report.specs.Summaries.{end_of, end_text, life_text, lives_text};
+ghost use Rattle.rm_report.specs.Summaries.{end_of, life_end_text, life_text, lives_text};
 
 use crate::sheet::Sheet;
 use rm_types::{Entry, NoMemory};
@@ -55,7 +55,7 @@ fn put_life(
 }
 
 fn put_end(sheet: &mut Sheet, end: LifeEnd) -> Result<(), NoMemory>
-    ensures { OnOk result (sheet.new ≡ sheet.old ++ end_text end) }
+    ensures { OnOk result (sheet.new ≡ sheet.old ++ life_end_text end) }
 {
     match end {
         LifeEnd::AtCrash => sheet.text(b", went down\n"),

@@ -1,6 +1,6 @@
 ghost use Rattle.std.specs.Prelude.{◌≡◌};
 ghost use Rattle.std.specs.List.{list_any};
-ghost use Rattle.rm_report.specs.Naming.{names, names_op, names_client, names_master, names_node, names_clock, names_message, names_grant, names_reply, covers};
+ghost use Rattle.rm_report.specs.Naming.{names_subject, names_op, names_client, names_master, names_node, names_clock, names_message, names_grant, names_reply, covers};
 ghost use Rattle.rm_report.specs.declared.subjects.Subject.TheVariants as subjects;
 
 use crate::subjects::Subject;
@@ -11,7 +11,7 @@ use rm_types::{
 impl Subject {
     /// Whether the line of the entry names it: whether it tells an id that is about it.
     pub(crate) fn is_named_by(&self, entry: &Entry) -> bool
-        ensures { result ≡ names self.now entry.now }
+        ensures { result ≡ names_subject self.now entry.now }
     {
         match entry {
             Entry::Issued { op } | Entry::Kept { op } => self.is_in_op(op.get()),

@@ -20,12 +20,12 @@ pub enum Subject {
 }
 
 impl Subject {
-    ghost use Rattle.rm_report.specs.Naming.{covers, IsTextOf};
+    ghost use Rattle.rm_report.specs.Naming.{covers, IsSubjectText};
 
     /// The subject whose text the bytes are. What is the text of no other id is a node's name where it can be one. `NotAnId` comes
     /// only where it can't.
     pub fn read(alloc: Global, text: &[u8]) -> Result<Subject, ReportError>
-        ensures read { IfOk result (IsTextOf text.now) }
+        ensures read { IfOk result (IsSubjectText text.now) }
         ensures not_an_id { result ≡ Err ReportError.NotAnId → IsText kinds.Node text.now → ⊥ }
         ensures no_page { (line : ℕ) → result ≡ Err (ReportError.NotAPage line) → ⊥ }
     {

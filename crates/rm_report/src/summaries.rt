@@ -2,7 +2,7 @@ ghost use Rattle.std.specs.Prelude.{◌≡◌, ◌++◌, ℕ, All, Err, IfOk, On
 ghost use Rattle.rm_page.specs.Ranges.{IsEntry};
 ghost use Rattle.rm_page_reader.specs.Told.{IsNoPage, entries_of};
 ghost use Rattle.rm_report.specs.Counting.{kept_bytes_in};
-ghost use Rattle.rm_report.specs.Summaries.{IsSummary, summary_text, log_text, head_text, jobs_text, replies_text, grants_text, endings_text, store_text, soak_text};
+ghost use Rattle.rm_report.specs.Summaries.{IsSummary, summary_text, log_text, head_text, jobs_text, replies_text, grants_text, endings_text, store_text, soak_summary};
 
 use crate::counting::{
     Done, Failed, Finished, Gone, Granted, Issued, Jobs, Kept, Killed, Lives, Lost, Over, Passes,
@@ -162,7 +162,7 @@ fn frame_bytes(encoder: &mut Encoder, entry: &Entry) -> Result<usize, NoMemory>
 }
 
 fn put_soak(sheet: &mut Sheet, soak: SoakLine) -> Result<(), NoMemory>
-    ensures { OnOk result (sheet.new ≡ sheet.old ++ soak_text soak) }
+    ensures { OnOk result (sheet.new ≡ sheet.old ++ soak_summary soak) }
 {
     sheet.number(b"a soak of ", soak.apps)?;
     sheet.number(b" applications\nlives: ", soak.lives)?;

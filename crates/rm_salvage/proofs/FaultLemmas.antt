@@ -6,10 +6,10 @@ use Rattle.rm_formats.specs.Device.{HasPayloads, records, journal_records}
 use Rattle.rm_salvage.specs.declared.forms.Form.TheVariants.{OneJournal}
 use Rattle.rm_salvage.specs.declared.fronts.Stop.{Stop}
 use Rattle.rm_salvage.specs.declared.fronts.Stop.TheVariants.{End, NoRecord, NoFrame, Stray, NoArea}
-use Rattle.rm_salvage.specs.Checks.{HasOldContent, IsOldFault, fault_of}
-use Rattle.rm_salvage.specs.Fronts.{BeginsFront, IsFront, IsStop, StopsAt}
+use Rattle.rm_salvage.specs.Checks.{HasOldContent, IsOldFault, front_fault}
+use Rattle.rm_salvage.specs.Fronts.{BeginsFront, IsFront, IsStop, FrontStops}
 
-pub whole_by : (bytes : List ℕ) (ops : List Op) (stop : Stop) → BeginsFront bytes [] ops → StopsAt bytes 0 [] ops stop → IfNone (fault_of stop (length ops)) (HasOldContent bytes ops)
+pub whole_by : (bytes : List ℕ) (ops : List Op) (stop : Stop) → BeginsFront bytes [] ops → FrontStops bytes 0 [] ops stop → IfNone (front_fault stop (length ops)) (HasOldContent bytes ops)
 whole_by bytes ops (End offset) front at = record {
   payloads = at.payloads;
   holds = records at.here.1.gate at.here.1.rest at.here.1.closed at.sizes (at.is ∙ ap (λ (l : List ℕ). journal_records at.payloads ++ l) at.here.1.is);
@@ -21,7 +21,7 @@ whole_by bytes ops (NoFrame offset) front at = tt
 whole_by bytes ops (Stray offset) front at = tt
 whole_by bytes ops NoArea front at = absurd at.here
 
-pub fault_by : (bytes : List ℕ) (ops : List Op) (stop : Stop) → BeginsFront bytes [] ops → StopsAt bytes 0 [] ops stop → IfSome (fault_of stop (length ops)) (IsOldFault bytes)
+pub fault_by : (bytes : List ℕ) (ops : List Op) (stop : Stop) → BeginsFront bytes [] ops → FrontStops bytes 0 [] ops stop → IfSome (front_fault stop (length ops)) (IsOldFault bytes)
 fault_by bytes ops (End offset) front at = tt
 fault_by bytes ops (NoRecord offset) front at = record { ops = ops; stop = NoRecord offset; front = front; stops = at; is = refl }
 fault_by bytes ops (NoFrame offset) front at = record { ops = ops; stop = NoFrame offset; front = front; stops = at; is = refl }

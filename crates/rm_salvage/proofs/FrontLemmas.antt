@@ -18,7 +18,7 @@ use Rattle.rm_salvage.specs.declared.fronts.Stop.TheVariants.{End, NoRecord, NoF
 use Rattle.rm_salvage.specs.declared.forms.Form.{Form}
 use Rattle.rm_salvage.specs.declared.forms.Form.TheVariants.{OneJournal, TwoAreas, NoArea as NoneLive}
 use Rattle.rm_salvage.specs.Forms.{HasFirst}
-use Rattle.rm_salvage.specs.Fronts.{BeginsFront, IsFront, StopsBehind, StopsAt}
+use Rattle.rm_salvage.specs.Fronts.{BeginsFront, IsFront, StopsBehind, FrontStops}
 use Rattle.rm_salvage.specs.Steps.{ReadsTo, WentOn}
 
 -- behind a record that stands at a gate stands the next gate
@@ -72,7 +72,7 @@ front_to bytes start end heads gate ops stop to here =
     }
 
 -- and end by it
-pub stop_at : (bytes : List ℕ) (start end : ℕ) (heads : List (List ℕ)) (gate : ℕ) (ops : List Op) (stop : Stop) → ReadsTo bytes start end heads gate ops → StopsBehind (region_of gate end bytes) gate ops stop → StopsAt (region_of start end bytes) start heads ops stop
+pub stop_at : (bytes : List ℕ) (start end : ℕ) (heads : List (List ℕ)) (gate : ℕ) (ops : List Op) (stop : Stop) → ReadsTo bytes start end heads gate ops → StopsBehind (region_of gate end bytes) gate ops stop → FrontStops (region_of start end bytes) start heads ops stop
 stop_at bytes start end heads gate ops stop to here = record {
   payloads = to.payloads;
   sizes = to.sizes;
@@ -137,7 +137,7 @@ no_stop behind gate ops (Stray offset) op q next rest here framed fits small is 
 no_stop behind gate ops NoArea op q next rest here framed fits small is = here
 
 -- no front is longer than one behind which a stop stands
-pub longest : (part : List ℕ) (start : ℕ) (heads : List (List ℕ)) (ops other : List Op) (stop : Stop) → StopsAt part start heads ops stop → BeginsFront part heads other → (rest : List Op) × (ops ≡ other ++ rest)
+pub longest : (part : List ℕ) (start : ℕ) (heads : List (List ℕ)) (ops other : List Op) (stop : Stop) → FrontStops part start heads ops stop → BeginsFront part heads other → (rest : List Op) × (ops ≡ other ++ rest)
 longest part start heads ops other stop at front =
     by (compare (heads ++ at.payloads) (heads ++ front.payloads) at.behind front.begins.next front.begins.rest at.sizes front.begins.sizes (sym at.is ∙ front.begins.is))
   where

@@ -11,7 +11,7 @@ use Rattle.rm_formats.specs.Device.{journal_record, journal_records}
 use Rattle.rm_disk.specs.Disk.{DiskView, AtEachMoment, EachImage, IfTold, IsQuiet, Leaves}
 use Rattle.rm_disk.proofs.Views.{leaves_of, leaves_trans}
 use Rattle.rm_journal.proofs.Payloads.{length-journal_record}
-use Rattle.rm_areas.specs.Areas.{AreasAt, AreasHold, HasCurrent, HasLayout, LeavesEither, head_of}
+use Rattle.rm_areas.specs.Areas.{AreasAt, AreasHold, HasCurrent, HasLayout, LeavesEitherLayout, head_of}
 use Rattle.rm_areas.proofs.Steps.{layout}
 use Rattle.rm_store.specs.Content.{HasContent, half_of}
 use Rattle.rm_store.proofs.Framed.{reads_frames}
@@ -59,7 +59,7 @@ no_payloads a payloads bytes zero has = (has.none zero).1
 
 -- a build behind that leaves none or all
 pub built_leaves : (old between new : DiskView) (a : AreasAt) (ops : List Op) (bytes : List ℕ) (payloads : List (List ℕ)) → All IsOperation ops → stray ops ≡ None → IsQuiet old between → EachImage old (λ image. HasContent image [])
-    → a.generation ≡ 0 → AreasHold a payloads bytes → LeavesEither between new a.half payloads (map frame ops) → LeavesNoneOrAll old new ops
+    → a.generation ≡ 0 → AreasHold a payloads bytes → LeavesEitherLayout between new a.half payloads (map frame ops) → LeavesNoneOrAll old new ops
 built_leaves old between new a ops bytes payloads framed none quiet empty zero has leaves =
     let is = no_payloads a payloads bytes zero has in
     let P : List ℕ → Type 0 = λ image. HasContent image [] ⊎ HasContent image ops in

@@ -15,7 +15,7 @@ use Rattle.rm_salvage.specs.declared.forms.Form.{Form}
 use Rattle.rm_salvage.specs.declared.forms.Form.TheVariants.{OneJournal, TwoAreas, NoArea}
 use Rattle.rm_salvage.specs.declared.fronts.Stop.{Stop}
 use Rattle.rm_salvage.specs.declared.fronts.Stop.TheVariants as stops
-use Rattle.rm_salvage.specs.Fronts.{BeginsFront, StopsAt}
+use Rattle.rm_salvage.specs.Fronts.{BeginsFront, FrontStops}
 
 -- a store of the old form holds these operations: the frames of them all, and of nothing else, are the payloads of one journal over all its bytes; none
 -- is stray
@@ -26,20 +26,20 @@ pub record HasOldContent (bytes : List ℕ) (ops : List Op) : Type 0 where
   pub none_stray : stray ops ≡ None
 
 -- the fault of a front that ends by a stop other than a closed gate, behind so many operations
-abbrev pub fault_of : Stop → ℕ → Option Fault
-fault_of (stops.End offset) count = None
-fault_of (stops.NoRecord offset) count = Some (Damaged offset)
-fault_of (stops.NoFrame offset) count = Some (Damaged offset)
-fault_of (stops.Stray offset) count = Some (Stray count offset)
-fault_of stops.NoArea count = None
+abbrev pub front_fault : Stop → ℕ → Option Fault
+front_fault (stops.End offset) count = None
+front_fault (stops.NoRecord offset) count = Some (Damaged offset)
+front_fault (stops.NoFrame offset) count = Some (Damaged offset)
+front_fault (stops.Stray offset) count = Some (Stray count offset)
+front_fault stops.NoArea count = None
 
 -- an old store's front ends by what is at fault
 pub record IsOldFault (bytes : List ℕ) (fault : Fault) : Type 0 where
   pub ops : List Op
   pub stop : Stop
   pub front : BeginsFront bytes [] ops
-  pub stops : StopsAt bytes 0 [] ops stop
-  pub is : fault_of stop (length ops) ≡ Some fault
+  pub stops : FrontStops bytes 0 [] ops stop
+  pub is : front_fault stop (length ops) ≡ Some fault
 
 -- bytes have this fault: where they are of two areas, it is why the store isn't opened
 abbrev pub IsFault : Form → List ℕ → Fault → Type 0
@@ -56,7 +56,7 @@ IsWhole (TwoAreas second generation) bytes ops = HasContent bytes ops × IsFault
 IsWhole NoArea bytes ops = HasContent bytes ops × IsFaultless bytes
 
 -- what came of opening bytes of two areas: they hold these operations, or this is why they are not opened
-abbrev pub IsOpened : List ℕ → Opened → Type 0
-IsOpened bytes (Whole ops tree) = HasContent bytes ops × IsFaultless bytes × (tree ≡ records ops) × All IsOperation ops
-IsOpened bytes (Faulty (Damaged offset)) = IsWhy bytes (store.Damaged offset)
-IsOpened bytes (Faulty (Stray number offset)) = IsWhy bytes (store.Stray number offset)
+abbrev pub IsOpeningOutcome : List ℕ → Opened → Type 0
+IsOpeningOutcome bytes (Whole ops tree) = HasContent bytes ops × IsFaultless bytes × (tree ≡ records ops) × All IsOperation ops
+IsOpeningOutcome bytes (Faulty (Damaged offset)) = IsWhy bytes (store.Damaged offset)
+IsOpeningOutcome bytes (Faulty (Stray number offset)) = IsWhy bytes (store.Stray number offset)

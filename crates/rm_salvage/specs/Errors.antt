@@ -6,9 +6,9 @@ use Rattle.rm_salvage.specs.declared.errors.WriteError.{WriteError}
 use Rattle.rm_salvage.specs.declared.errors.WriteError.TheVariants.{DiskFault, Damaged, Full, Memory}
 
 -- an error of the areas, as the writer tells it; of two areas that are just begun none needs to be opened again
-abbrev pub of_journal : JournalError → WriteError
-of_journal journal.DiskFault = DiskFault
-of_journal (journal.Damaged offset) = Damaged offset
-of_journal (journal.Full needed room) = Full room
-of_journal journal.NeedsReopen = DiskFault
-of_journal journal.Memory = Memory
+abbrev pub write_error : JournalError → WriteError
+write_error journal.DiskFault = DiskFault
+write_error (journal.Damaged offset) = Damaged offset
+write_error (journal.Full needed room) = Full room
+write_error journal.NeedsReopen = DiskFault
+write_error journal.Memory = Memory

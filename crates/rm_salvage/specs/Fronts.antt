@@ -65,7 +65,7 @@ StopsBehind behind gate ops (stops.Stray offset) = (offset ≡ gate) × IsRecord
 StopsBehind behind gate ops stops.NoArea = ⊥
 
 -- behind these heads and the records of these operations stands why no more are read
-pub record StopsAt (part : List ℕ) (start : ℕ) (heads : List (List ℕ)) (ops : List Op) (stop : Stop) : Type 0 where
+pub record FrontStops (part : List ℕ) (start : ℕ) (heads : List (List ℕ)) (ops : List Op) (stop : Stop) : Type 0 where
   pub payloads : List (List ℕ)
   pub sizes : All IsPayload (heads ++ payloads)
   pub reads : ReadsAs payloads ops
@@ -75,6 +75,6 @@ pub record StopsAt (part : List ℕ) (start : ℕ) (heads : List (List ℕ)) (op
 
 -- why a front ends where it does
 abbrev pub IsStop : Form → List ℕ → List Op → Stop → Type 0
-IsStop OneJournal bytes ops stop = StopsAt bytes 0 [] ops stop
-IsStop (TwoAreas second generation) bytes ops stop = StopsAt (part_of (TwoAreas second generation) bytes) (start_of (TwoAreas second generation) bytes) (heads_of (TwoAreas second generation)) ops stop
+IsStop OneJournal bytes ops stop = FrontStops bytes 0 [] ops stop
+IsStop (TwoAreas second generation) bytes ops stop = FrontStops (part_of (TwoAreas second generation) bytes) (start_of (TwoAreas second generation) bytes) (heads_of (TwoAreas second generation)) ops stop
 IsStop NoArea bytes ops stop = stop ≡ stops.NoArea

@@ -34,10 +34,10 @@ pub record IsStrayBehind (payload : List ℕ) (ops : List Op) : Type 0 where
   pub stray : fits_records (records ops) op ≡ false
 
 -- what came of a payload: its operation was taken in, or it is the frame of none, or stray, and then nothing was changed
-abbrev pub IsTaken : List ℕ → List Op → List Op → Records → Records → Taken → Type 0
-IsTaken payload old new before after taken.In = TookIn payload old new after
-IsTaken payload old new before after taken.NoFrame = (new ≡ old) × (after ≡ before) × ((op : Op) → IsFrameOf payload op → ⊥)
-IsTaken payload old new before after taken.Stray = (new ≡ old) × (after ≡ before) × IsStrayBehind payload old
+abbrev pub IsTakenPayload : List ℕ → List Op → List Op → Records → Records → Taken → Type 0
+IsTakenPayload payload old new before after taken.In = TookIn payload old new after
+IsTakenPayload payload old new before after taken.NoFrame = (new ≡ old) × (after ≡ before) × ((op : Op) → IsFrameOf payload op → ⊥)
+IsTakenPayload payload old new before after taken.Stray = (new ≡ old) × (after ≡ before) × IsStrayBehind payload old
 
 -- from the start of a part to its end, so far these operations were read behind the heads, and the next gate is looked at now
 pub record ReadsTo (bytes : List ℕ) (start end : ℕ) (heads : List (List ℕ)) (gate : ℕ) (ops : List Op) : Type 0 where

@@ -32,8 +32,8 @@ pub record HoldsAll (disk : DiskView) (ops : List Op) : Type 0 where
   pub images : EachImage disk (λ image. HasContent image ops)
 
 -- the disk is refused: it isn't a new one, or too small
-abbrev pub IsRefusal : WriteError → Type 0
-IsRefusal (Damaged offset) = Unit {0}
-IsRefusal Used = Unit {0}
-IsRefusal (Full size) = Unit {0}
-IsRefusal error = ⊥
+abbrev pub IsDiskRefusal : WriteError → Type 0
+IsDiskRefusal (Damaged offset) = Unit {0}
+IsDiskRefusal Used = Unit {0}
+IsDiskRefusal (Full size) = Unit {0}
+IsDiskRefusal error = ⊥

@@ -2,7 +2,7 @@ ghost use Rattle.std.specs.Prelude.{◌≡◌, ◌≢◌, ℕ, List, All, IfNone
 ghost use Rattle.rm_types.specs.Ranges.{IsOperation};
 ghost use Rattle.rm_store.specs.Content.{half_of, room_for};
 ghost use Rattle.rm_types.specs.Records.{records};
-ghost use Rattle.rm_salvage.specs.Checks.{HasOldContent, IsFault, IsOldFault, IsOpened, IsWhole, fault_of};
+ghost use Rattle.rm_salvage.specs.Checks.{HasOldContent, IsFault, IsOldFault, IsOpeningOutcome, IsWhole, front_fault};
 ghost use Rattle.rm_salvage.specs.Forms.{IsForm};
 ghost use Rattle.rm_salvage.specs.Fronts.{IsFront, IsStop};
 
@@ -155,7 +155,7 @@ fn judge_areas(
 
 /// What is at fault where a front of so many operations ends by a stop.
 fn fault_at(stop: Stop, count: usize) -> Option<Fault>
-    ensures { result ≡ fault_of stop count }
+    ensures { result ≡ front_fault stop count }
 {
     match stop {
         Stop::End { .. } => None,
@@ -180,7 +180,7 @@ pub enum Opened {
 
 /// Opens a store of two areas as the manager does.
 fn open_areas(alloc: Global, disk: FixedDisk) -> Result<Opened, NoMemory>
-    ensures { IfOk result (IsOpened disk) }
+    ensures { IfOk result (IsOpeningOutcome disk) }
 {
     match Store::open(alloc, Fuse::new(alloc, disk)) {
         Ok((_store, tree, ops)) => Ok(Opened::Whole { ops, tree }),

@@ -25,9 +25,9 @@ pub enum WriteError {
 }
 
 impl From<JournalError> for WriteError {
-    ghost use Rattle.rm_salvage.specs.Errors.{of_journal};
+    ghost use Rattle.rm_salvage.specs.Errors.{write_error};
 
-    ghost from_gives = { λ error told. told ≡ of_journal error };
+    ghost from_gives = { λ error told. told ≡ write_error error };
 
     fn from(error: JournalError) -> Self {
         match error {

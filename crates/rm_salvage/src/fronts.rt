@@ -4,7 +4,7 @@ ghost use Rattle.rm_types.specs.Records.{records};
 ghost use Rattle.rm_areas.specs.Areas.{area_from};
 ghost use Rattle.rm_journal.specs.Journal.{region_of};
 ghost use Rattle.rm_salvage.specs.Forms.{IsForm};
-ghost use Rattle.rm_salvage.specs.Fronts.{BeginsFront, IsFront, IsLongest, IsStop, StopsAt, StopsBehind};
+ghost use Rattle.rm_salvage.specs.Fronts.{BeginsFront, IsFront, IsLongest, IsStop, FrontStops, StopsBehind};
 ghost use Rattle.rm_salvage.specs.Steps.{ReadsTo, WentOn};
 
 use crate::fixed::FixedDisk;
@@ -120,7 +120,7 @@ fn read_front(alloc: Global, disk: &mut FixedDisk, gate: u64, end: u64) -> Resul
     requires inside { end ≤ length disk.old }
     ensures same { disk.new ≡ disk.old }
     ensures front { IfOk result (λ front. (start : ℕ) (heads : List (List ℕ)) → ReadsTo disk.old start end heads gate [] → BeginsFront (region_of start end disk.old) heads front.ops) }
-    ensures stop { IfOk result (λ front. (start : ℕ) (heads : List (List ℕ)) → ReadsTo disk.old start end heads gate [] → StopsAt (region_of start end disk.old) start heads front.ops front.stop) }
+    ensures stop { IfOk result (λ front. (start : ℕ) (heads : List (List ℕ)) → ReadsTo disk.old start end heads gate [] → FrontStops (region_of start end disk.old) start heads front.ops front.stop) }
     ensures amounts { IfOk result (λ front. front.tree ≡ records front.ops) }
 {
     let mut reader = Reader {

@@ -2,7 +2,7 @@ ghost use Rattle.std.specs.Prelude.{◌≡◌, ◌+◌, ◌<◌, ◌≤◌, ℕ,
 ghost use Rattle.rm_types.specs.Records.{records};
 ghost use Rattle.rm_formats.specs.declared.TheConstants.{RECORD_HEAD};
 ghost use Rattle.rm_journal.specs.Journal.{region_of};
-ghost use Rattle.rm_salvage.specs.Steps.{IsFound, IsTaken};
+ghost use Rattle.rm_salvage.specs.Steps.{IsFound, IsTakenPayload};
 
 use crate::fixed::FixedDisk;
 use rm_disk::Disk;
@@ -80,7 +80,7 @@ pub fn take_in(
     ops: &mut Items<Op>,
 ) -> Result<Taken, NoMemory>
     requires { tree.old ≡ records ops.old }
-    ensures { IfOk result (IsTaken payload.now ops.old ops.new tree.old tree.new) }
+    ensures { IfOk result (IsTakenPayload payload.now ops.old ops.new tree.old tree.new) }
 {
     let Some(op) = operation_of(alloc, payload)? else {
         return Ok(Taken::NoFrame);

@@ -4,7 +4,7 @@ ghost use Rattle.rm_types.specs.Records.{stray};
 ghost use Rattle.rm_disk.specs.Disk.{IfTold, EachImage, IsQuiet};
 ghost use Rattle.rm_areas.specs.Areas.{IsDamagedLayout};
 ghost use Rattle.rm_store.specs.Content.{HasContent, half_of};
-ghost use Rattle.rm_salvage.specs.Writes.{HasLiveArea, HoldsAll, IsRefusal, LeavesNoneOrAll, bytes_before};
+ghost use Rattle.rm_salvage.specs.Writes.{HasLiveArea, HoldsAll, IsDiskRefusal, LeavesNoneOrAll, bytes_before};
 
 use crate::errors::WriteError;
 use rm_areas::Areas;
@@ -28,7 +28,7 @@ pub fn write_anew<D: Disk>(alloc: Global, disk: &mut D, ops: &Items<Op>) -> Resu
     ensures damaged { (offset : ℕ) → result ≡ Err (WriteError.Damaged offset) → IfTold (D.view disk.old) (λ bytes. IsDamagedLayout (half_of bytes) bytes offset) }
     ensures only_full { (size : ℕ) → result ≡ Err (WriteError.Full size) → (size ≡ (D.view disk.old).size / 2) × (size ≤ bytes_before ops.now) }
     ensures fits { OnOk result (bytes_before ops.now < (D.view disk.old).size / 2) }
-    ensures quiet { IfErr result (λ error. IsRefusal error → IsQuiet (D.view disk.old) (D.view disk.new)) }
+    ensures quiet { IfErr result (λ error. IsDiskRefusal error → IsQuiet (D.view disk.old) (D.view disk.new)) }
     ensures kept { D.keeps (is_ok result) disk.old disk.new }
     ensures fault { IsErrOf result WriteError.DiskFault → D.faulted disk.old disk.new }
 {

@@ -19,10 +19,11 @@ use Rattle.rm_types.specs.Order.{Ascend}
 use Rattle.rm_types.specs.Passes.{total_of}
 use Rattle.rm_types.specs.Resources.{Fits, fits}
 use Rattle.rm_types.proofs.IdLemmas.{container_back, same_container}
-use Rattle.rm_book.specs.Books.{AreApart, AreOnce, IsBook, capability_of, entering, is_held, is_of, row_taken, sizes_on, taken_rows, total_on, with_taken}
+use Rattle.rm_book.specs.Books.{BookRowsAreApart, AreOnce, IsBook, capability_of, entering, is_of, book_row_taken, sizes_on, taken_rows, total_on, book_with_taken}
+use Rattle.rm_types.specs.Containers.{is_held}
 use Rattle.rm_tables.specs.declared.nodes.NodeRow.{NodeRow}
 use Rattle.rm_tables.specs.declared.tables.Tables.{Tables}
-use Rattle.rm_tables.specs.Absorbing.{booked_at, counted_in, is_current_in, is_elsewhere, left_beside, may_take, not_taken, reported_in, taken_in, with_counted}
+use Rattle.rm_tables.specs.Absorbing.{booked_at, counted_in, is_current_in, is_elsewhere, capability_left, tables_may_take, book_not_taken, reported_in, taken_in, tables_with_counted}
 use Rattle.rm_sched.specs.CanWork.{CanAbsorb}
 
 -- a test of each item, as facts
@@ -66,10 +67,10 @@ sum_end part taken held =
     omega (arith, split, last)
 
 -- what fits beside them
-fits_beside : (capability : Resource) (taken : List Held) (held : Held) → Fits (total_of (map (λ one. one.size) taken)) capability → fits held.size (left_beside capability taken) ≡ true
+fits_beside : (capability : Resource) (taken : List Held) (held : Held) → Fits (total_of (map (λ one. one.size) taken)) capability → fits held.size (capability_left capability taken) ≡ true
     → Fits (total_of (map (λ one. one.size) (taken ++ held ∷ []))) capability
 fits_beside capability taken held so_far fit =
-    let parts = and_parts (nat_le held.size.memory_mb (left_beside capability taken).memory_mb) (nat_le held.size.vcores (left_beside capability taken).vcores) fit in
+    let parts = and_parts (nat_le held.size.memory_mb (capability_left capability taken).memory_mb) (nat_le held.size.vcores (capability_left capability taken).vcores) fit in
     let memory : held.size.memory_mb ≤ capability.memory_mb - taken_sum (λ r. r.memory_mb) taken = let e = parts.0 in grind (arith, nat_tests) in
     let cores : held.size.vcores ≤ capability.vcores - taken_sum (λ r. r.vcores) taken = let e = parts.1 in grind (arith, nat_tests) in
     let first = sum_end (λ r. r.memory_mb) taken held in
@@ -95,15 +96,15 @@ all_end P [] x all own = (own, tt)
 all_end P (y ∷ xs) x all own = (all.0, all_end P xs x all.1 own)
 
 module _ (t : Tables) (name : List ℕ) (capability : Resource) where
-  one_more : (taken : List Held) (held : Held) → IsSized t.book.rows name held → IsTaken t.book.rows name capability taken → (b : Bool) → may_take t name capability taken held ≡ b
+  one_more : (taken : List Held) (held : Held) → IsSized t.book.rows name held → IsTaken t.book.rows name capability taken → (b : Bool) → tables_may_take t name capability taken held ≡ b
       → IsTaken t.book.rows name capability (if b then taken ++ held ∷ [] else taken)
   one_more taken held sized so_far false e = so_far
   one_more taken held sized so_far true e =
       let current : Bool = is_current_in t.tree.apps held.id.attempt in
       let here : Bool = not (is_elsewhere name (find (is_of held.id) t.book.rows)) in
-      let first = and_parts (not (is_held taken held.id)) (current && (here && fits held.size (left_beside capability taken))) e in
-      let second = and_parts current (here && fits held.size (left_beside capability taken)) first.1 in
-      let third = and_parts here (fits held.size (left_beside capability taken)) second.1 in
+      let first = and_parts (not (is_held taken held.id)) (current && (here && fits held.size (capability_left capability taken))) e in
+      let second = and_parts current (here && fits held.size (capability_left capability taken)) first.1 in
+      let third = and_parts here (fits held.size (capability_left capability taken)) second.1 in
       record {
         once = once_more taken held so_far.once (turned (is_held taken held.id) first.0);
         fit = fits_beside capability taken held so_far.fit third.1;
@@ -119,15 +120,15 @@ module _ (t : Tables) (name : List ℕ) (capability : Resource) where
   IsSizedIf None = Unit {0}
   IsSizedIf (Some held) = IsSized t.book.rows name held
 
-  counted_more : (taken : List Held) (o : Option Held) → IsSizedIf o → IsTaken t.book.rows name capability taken → IsTaken t.book.rows name capability (with_counted t name capability taken o)
+  counted_more : (taken : List Held) (o : Option Held) → IsSizedIf o → IsTaken t.book.rows name capability taken → IsTaken t.book.rows name capability (tables_with_counted t name capability taken o)
   counted_more taken None sized so_far = so_far
-  counted_more taken (Some held) sized so_far = one_more taken held sized so_far (may_take t name capability taken held) refl
+  counted_more taken (Some held) sized so_far = one_more taken held sized so_far (tables_may_take t name capability taken held) refl
 
   all_taken : (report taken : List Held) → ((held : Held) → IsSizedIf (counted_in t name held)) → IsTaken t.book.rows name capability taken
-      → IsTaken t.book.rows name capability (fold (λ so_far held. with_counted t name capability so_far (counted_in t name held)) taken report)
+      → IsTaken t.book.rows name capability (fold (λ so_far held. tables_with_counted t name capability so_far (counted_in t name held)) taken report)
   all_taken [] taken sized so_far = so_far
   all_taken (held ∷ report) taken sized so_far =
-      all_taken report (with_counted t name capability taken (counted_in t name held)) sized (counted_more taken (counted_in t name held) (sized held) so_far)
+      all_taken report (tables_with_counted t name capability taken (counted_in t name held)) sized (counted_more taken (counted_in t name held) (sized held) so_far)
 
 -- a row on a node has no size
 abbrev IsBare : List ℕ → BookRow → Type 0
@@ -211,7 +212,7 @@ module _ (name : List ℕ) (part : Resource → ℕ) where
       by true e rest = rw e (omega (arith, rest))
       by false e rest = omega (arith, rest)
 
-  one_of : IsGrowing part → (held : Held) (rows : List BookRow) → AreApart rows → IsSized rows name held → sum_if (λ row. bytes_eq row.node name && is_container held.id row.id) part rows ≤ part held.size
+  one_of : IsGrowing part → (held : Held) (rows : List BookRow) → BookRowsAreApart rows → IsSized rows name held → sum_if (λ row. bytes_eq row.node name && is_container held.id row.id) part rows ≤ part held.size
   one_of grows held [] apart sized = omega arith
   one_of grows held (row ∷ rows) apart sized = by (is_of held.id row) refl (one_of grows held rows apart.1)
     where
@@ -262,7 +263,7 @@ module _ (name : List ℕ) (part : Resource → ℕ) where
       by false rest = omega (arith, rest)
 
   -- what stands there of what was taken, and what enters, are no more than what was taken
-  all_of_taken : IsGrowing part → (rows : List BookRow) (taken : List Held) → AreApart rows → All (IsSized rows name) taken
+  all_of_taken : IsGrowing part → (rows : List BookRow) (taken : List Held) → BookRowsAreApart rows → All (IsSized rows name) taken
       → sum_if (is_there taken) part rows + taken_sum part (filter (λ held. not (list_any (is_of held.id) rows)) taken) ≤ taken_sum part taken
   all_of_taken grows rows [] apart sized = let none = none_held rows in omega (arith, none)
   all_of_taken grows rows (held ∷ taken) apart sized =
@@ -298,12 +299,12 @@ module _ (name : List ℕ) (part : Resource → ℕ) where
   -- what stays
   stayed_sum : (taken : List Held) (ended : List ContainerId) (rows : List BookRow)
       → All (λ row. bytes_eq row.node name ≡ true → is_held taken row.id ≡ false → list_any (λ id. is_container id row.id) ended ≡ true) rows
-      → sum_if (λ row. bytes_eq row.node name) part (map (row_taken taken) (filter (λ row. not (list_any (λ id. is_container id row.id) ended)) rows)) ≤ sum_if (is_there taken) part rows
+      → sum_if (λ row. bytes_eq row.node name) part (map (book_row_taken taken) (filter (λ row. not (list_any (λ id. is_container id row.id) ended)) rows)) ≤ sum_if (is_there taken) part rows
   stayed_sum taken ended [] all = omega arith
   stayed_sum taken ended (row ∷ rows) all = by (list_any (λ id. is_container id row.id) ended) refl (stayed_sum taken ended rows all.1)
     where
       stays : List BookRow
-      stays = map (row_taken taken) (filter (λ one. not (list_any (λ id. is_container id one.id) ended)) rows)
+      stays = map (book_row_taken taken) (filter (λ one. not (list_any (λ id. is_container id one.id) ended)) rows)
 
       kept : (h : Bool) → cond (bytes_eq (cond h (record row { state = Running }) row).node name) (part (cond h (record row { state = Running }) row).size) 0 ≡ cond (bytes_eq row.node name) (part row.size) 0
       kept true = refl
@@ -315,7 +316,7 @@ module _ (name : List ℕ) (part : Resource → ℕ) where
       more false h never = omega arith
 
       by : (b : Bool) → list_any (λ id. is_container id row.id) ended ≡ b → sum_if (λ one. bytes_eq one.node name) part stays ≤ sum_if (is_there taken) part rows
-          → sum_if (λ one. bytes_eq one.node name) part (map (row_taken taken) (filter (λ one. not (list_any (λ id. is_container id one.id) ended)) (row ∷ rows))) ≤ sum_if (is_there taken) part (row ∷ rows)
+          → sum_if (λ one. bytes_eq one.node name) part (map (book_row_taken taken) (filter (λ one. not (list_any (λ id. is_container id one.id) ended)) (row ∷ rows))) ≤ sum_if (is_there taken) part (row ∷ rows)
       by true e rest = rw e (omega (arith, rest))
       by false e rest =
           let same = kept (is_held taken row.id) in
@@ -372,10 +373,10 @@ module _ (name : List ℕ) (taken : List Held) where
 -- ALL OF IT
 
 -- what stands on a node after its report is absorbed is no more than what was taken
-absorbed_sum : (t : Tables) (name : List ℕ) (row : NodeRow) (taken : List Held) (ended : List ContainerId) (part : Resource → ℕ) → IsGrowing part → AreApart t.book.rows → All (IsSized t.book.rows name) taken
-    → Ascend (not_taken t.book name taken) ended → sum_by part (sizes_on name (with_taken t.book name row.capability taken ended).rows) ≤ taken_sum part taken
+absorbed_sum : (t : Tables) (name : List ℕ) (row : NodeRow) (taken : List Held) (ended : List ContainerId) (part : Resource → ℕ) → IsGrowing part → BookRowsAreApart t.book.rows → All (IsSized t.book.rows name) taken
+    → Ascend (book_not_taken t.book name taken) ended → sum_by part (sizes_on name (book_with_taken t.book name row.capability taken ended).rows) ≤ taken_sum part taken
 absorbed_sum t name row taken ended part grows apart sized ends =
-    let stays : List BookRow = map (row_taken taken) (filter (λ one. not (list_any (λ id. is_container id one.id) ended)) t.book.rows) in
+    let stays : List BookRow = map (book_row_taken taken) (filter (λ one. not (list_any (λ id. is_container id one.id) ended)) t.book.rows) in
     let enters : List BookRow = taken_rows t.book.added name (entering t.book taken) in
     let whole = on_sum name part (stays ++ enters) in
     let both = sum_append name part (λ (one : BookRow). bytes_eq one.node name) stays enters in

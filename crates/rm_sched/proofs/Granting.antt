@@ -19,7 +19,7 @@ use Rattle.rm_model.specs.Attempts.{attempt_at}
 use Rattle.rm_model.specs.Containers.{is_size}
 use Rattle.rm_tables.specs.declared.rows.AppRow.{AppRow}
 use Rattle.rm_tables.specs.declared.tables.Tables.{Tables}
-use Rattle.rm_tables.specs.Passing.{asks_some, granted_by, turn_in, turns_in}
+use Rattle.rm_tables.specs.Passing.{asks_some, granted_number, turn_in, turns_in}
 use Rattle.rm_tables.specs.Rows.{row_of}
 use Rattle.rm_sched.specs.CanWork.{CanPass}
 
@@ -74,10 +74,10 @@ room_is book name some few = by (capability_of book name) refl some
     by None e n = cc
     by (Some capability) e n = let h = few capability e in omega (arith, h)
 
-all_early : (rows : List (AppId × Option AppRow)) (ids : List AttemptId) → ((id : AttemptId) → granted_by id.number (row_of rows id.app) + 1 ≤ 2 ^ 39) → are_early (map (turn_in rows) ids) ≡ true
+all_early : (rows : List (AppId × Option AppRow)) (ids : List AttemptId) → ((id : AttemptId) → granted_number id.number (row_of rows id.app) + 1 ≤ 2 ^ 39) → are_early (map (turn_in rows) ids) ≡ true
 all_early rows [] h = refl
 all_early rows (id ∷ ids) h =
-    let first : nat_le (granted_by id.number (row_of rows id.app) + 1) (2 ^ 39) ≡ true = let f = h id in grind (arith, nat_tests) in
+    let first : nat_le (granted_number id.number (row_of rows id.app) + 1) (2 ^ 39) ≡ true = let f = h id in grind (arith, nat_tests) in
     rw first (all_early rows ids h)
 
 pub early_is : (t : Tables) → CanPass t → are_early (turns_in t) ≡ true

@@ -10,7 +10,7 @@ use Rattle.rm_tables.specs.declared.rows.AppRow.{AppRow}
 use Rattle.rm_tables.specs.Leaving.{closed, closed_one, telling}
 use Rattle.rm_tables.specs.Rows.{row_in, row_of, slot_of, with_row, with_slot}
 use Rattle.rm_tables.proofs.Stays.{unknown_stays}
-use Rattle.rm_sched.specs.ClosingLists.{has_list, with_ending, with_lists}
+use Rattle.rm_sched.specs.ClosingLists.{has_list, with_closing, with_lists}
 
 abbrev Slots : Type 0
 Slots = List (AppId × Option AppRow)
@@ -81,12 +81,12 @@ changes_alike f g id rows row found same = by (slot_of rows id) found
         rw at refl
 
 -- an ending of an application that has a list
-ending_here : (c : Closing) (lists : Lists) (rows : Slots) (v : List Closing) → lookup (is_app c.id.attempt.app) lists ≡ Some v → with_lists (with_ending lists c) rows ≡ closed_one (with_lists lists rows) c
+ending_here : (c : Closing) (lists : Lists) (rows : Slots) (v : List Closing) → lookup (is_app c.id.attempt.app) lists ≡ Some v → with_lists (with_closing lists c) rows ≡ closed_one (with_lists lists rows) c
 ending_here c [] rows v l = cc
 ending_here c (x ∷ lists) rows v l = by (is_app c.id.attempt.app x.0) refl (ending_here c lists rows v)
   where
-    by : (b : Bool) → is_app c.id.attempt.app x.0 ≡ b → (lookup (is_app c.id.attempt.app) lists ≡ Some v → with_lists (with_ending lists c) rows ≡ closed_one (with_lists lists rows) c)
-        → with_lists (with_ending (x ∷ lists) c) rows ≡ closed_one (with_lists (x ∷ lists) rows) c
+    by : (b : Bool) → is_app c.id.attempt.app x.0 ≡ b → (lookup (is_app c.id.attempt.app) lists ≡ Some v → with_lists (with_closing lists c) rows ≡ closed_one (with_lists lists rows) c)
+        → with_lists (with_closing (x ∷ lists) c) rows ≡ closed_one (with_lists (x ∷ lists) rows) c
     by true e rest =
         let own = same_app c.id.attempt.app x.0 e in
         let join = changes_join (telling x.1) (closed c) x.0 (with_lists lists rows) in
@@ -108,21 +108,21 @@ ending_past c (x ∷ lists) rows l = by (is_app c.id.attempt.app x.0) refl (endi
         ap (with_row (telling x.1) x.0) (rest l') ∙ sym (changes_pass (closed c) (telling x.1) c.id.attempt.app x.0 (with_lists lists rows) e)
 
 -- where an application has a list, its ending is the last there
-pub ending_found : (c : Closing) (v : List Closing) (lists : Lists) → lookup (is_app c.id.attempt.app) lists ≡ Some v → with_ending lists c ≡ set_value (is_app c.id.attempt.app) lists (v ++ c ∷ [])
+pub ending_found : (c : Closing) (v : List Closing) (lists : Lists) → lookup (is_app c.id.attempt.app) lists ≡ Some v → with_closing lists c ≡ set_value (is_app c.id.attempt.app) lists (v ++ c ∷ [])
 ending_found c v [] l = cc
 ending_found c v (x ∷ lists) l = by (is_app c.id.attempt.app x.0) refl (ending_found c v lists)
   where
-    by : (b : Bool) → is_app c.id.attempt.app x.0 ≡ b → (lookup (is_app c.id.attempt.app) lists ≡ Some v → with_ending lists c ≡ set_value (is_app c.id.attempt.app) lists (v ++ c ∷ []))
-        → with_ending (x ∷ lists) c ≡ set_value (is_app c.id.attempt.app) (x ∷ lists) (v ++ c ∷ [])
+    by : (b : Bool) → is_app c.id.attempt.app x.0 ≡ b → (lookup (is_app c.id.attempt.app) lists ≡ Some v → with_closing lists c ≡ set_value (is_app c.id.attempt.app) lists (v ++ c ∷ []))
+        → with_closing (x ∷ lists) c ≡ set_value (is_app c.id.attempt.app) (x ∷ lists) (v ++ c ∷ [])
     by true e rest = let l' : x.1 ≡ v = (let m = rw e at l in cc) in rw e (ap (λ w. (x.0, w ++ c ∷ []) ∷ lists) l')
     by false e rest = let l' = rw e at l in rw e (ap (λ more. x ∷ more) (rest l'))
 
 -- where it has none, the lists stay
-pub ending_none : (c : Closing) (lists : Lists) → lookup (is_app c.id.attempt.app) lists ≡ None → with_ending lists c ≡ lists
+pub ending_none : (c : Closing) (lists : Lists) → lookup (is_app c.id.attempt.app) lists ≡ None → with_closing lists c ≡ lists
 ending_none c [] l = refl
 ending_none c (x ∷ lists) l = by (is_app c.id.attempt.app x.0) refl (ending_none c lists)
   where
-    by : (b : Bool) → is_app c.id.attempt.app x.0 ≡ b → (lookup (is_app c.id.attempt.app) lists ≡ None → with_ending lists c ≡ lists) → with_ending (x ∷ lists) c ≡ x ∷ lists
+    by : (b : Bool) → is_app c.id.attempt.app x.0 ≡ b → (lookup (is_app c.id.attempt.app) lists ≡ None → with_closing lists c ≡ lists) → with_closing (x ∷ lists) c ≡ x ∷ lists
     by true e rest = let l' = rw e at l in cc
     by false e rest = let l' = rw e at l in rw e (ap (λ more. x ∷ more) (rest l'))
 
@@ -131,10 +131,10 @@ pub lists_end : (lists : Lists) (rows : Slots) (id : AppId) (v : List Closing) �
 lists_end [] rows id v = refl
 lists_end (x ∷ lists) rows id v = ap (with_row (telling x.1) x.0) (lists_end lists rows id v)
 
-pub ending_there : (c : Closing) (lists : Lists) (rows : Slots) → has_list c.id.attempt.app lists ≡ true → with_lists (with_ending lists c) rows ≡ closed_one (with_lists lists rows) c
+pub ending_there : (c : Closing) (lists : Lists) (rows : Slots) → has_list c.id.attempt.app lists ≡ true → with_lists (with_closing lists c) rows ≡ closed_one (with_lists lists rows) c
 ending_there c lists rows t = by (lookup (is_app c.id.attempt.app) lists) refl
   where
-    by : (o : Option (List Closing)) → lookup (is_app c.id.attempt.app) lists ≡ o → with_lists (with_ending lists c) rows ≡ closed_one (with_lists lists rows) c
+    by : (o : Option (List Closing)) → lookup (is_app c.id.attempt.app) lists ≡ o → with_lists (with_closing lists c) rows ≡ closed_one (with_lists lists rows) c
     by None e = let t' = rw e at t in cc
     by (Some v) e = ending_here c lists rows v e
 

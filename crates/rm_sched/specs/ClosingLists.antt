@@ -14,10 +14,10 @@ abbrev pub has_list : AppId → List (AppId × List Closing) → Bool
 has_list id lists = is_some (lookup (is_app id) lists)
 
 -- the lists with one more ending, where there is one of its application
-abbrev pub with_ending : List (AppId × List Closing) → Closing → List (AppId × List Closing)
-with_ending [] closing = []
-with_ending (list ∷ lists) closing =
-    if is_app closing.id.attempt.app list.0 then (list.0, list.1 ++ closing ∷ []) ∷ lists else list ∷ with_ending lists closing
+abbrev pub with_closing : List (AppId × List Closing) → Closing → List (AppId × List Closing)
+with_closing [] closing = []
+with_closing (list ∷ lists) closing =
+    if is_app closing.id.attempt.app list.0 then (list.0, list.1 ++ closing ∷ []) ∷ lists else list ∷ with_closing lists closing
 
 -- the rows with these lists in the places of their own
 abbrev pub with_lists : List (AppId × List Closing) → List (AppId × Option AppRow) → List (AppId × Option AppRow)

@@ -3,9 +3,10 @@ ghost use Rattle.std.specs.Prelude.{◌≡◌, List, IfOk, OnOk, OnErr};
 ghost use Rattle.rm_types.specs.declared.ids.ContainerId.{ContainerId as Id};
 ghost use Rattle.rm_types.specs.Order.{Ascend};
 ghost use Rattle.rm_types.specs.Resources.{Fits, difference_of};
-ghost use Rattle.rm_book.specs.Books.{AreOnce, is_held, row_of as book_row_of, total_on, with_taken};
-ghost use Rattle.rm_tables.specs.Absorbing.{absorbed_by, absorbed_with, absorbs, booked_at, counted_in, is_elsewhere, left_beside, may_take, not_taken, reported_in, taken_in, unlaunched_here, unlaunched_on, was_first, with_counted};
-ghost use Rattle.rm_tables.specs.Nodes.{node_of};
+ghost use Rattle.rm_book.specs.Books.{AreOnce, book_row as book_row_of, total_on, book_with_taken};
+ghost use Rattle.rm_types.specs.Containers.{is_held};
+ghost use Rattle.rm_tables.specs.Absorbing.{absorbed_by, absorbed_with, absorption_step, booked_at, counted_in, is_elsewhere, capability_left, tables_may_take, book_not_taken, reported_in, taken_in, unlaunched_here, unlaunched_on, was_first, tables_with_counted};
+ghost use Rattle.rm_tables.specs.Nodes.{node_row};
 ghost use Rattle.rm_tables.specs.Rows.{row_of};
 ghost use Rattle.rm_tables.specs.SchedEvents.{EndsAbsorbed};
 
@@ -86,7 +87,7 @@ fn is_held(taken: &[Held], id: ContainerId) -> bool
 
 /// What is left of what a node offers beside what was taken so far.
 fn left_beside(capability: Resource, taken: &[Held]) -> Resource
-    ensures { result ≡ left_beside capability taken.now }
+    ensures { result ≡ capability_left capability taken.now }
 {
     let mut left = capability;
     'taken: for held in taken {
@@ -107,7 +108,7 @@ fn less(left: Resource, size: Resource) -> Resource
 
 /// Whether a container that counts may be taken.
 fn may_take(t: &Tables, name: &Text, capability: Resource, taken: &[Held], held: Held) -> bool
-    ensures { result ≡ may_take t.now name.now capability taken.now held }
+    ensures { result ≡ tables_may_take t.now name.now capability taken.now held }
 {
     !is_held(taken, held.id)
         && is_current(&t.tree, held.id.attempt)
@@ -123,7 +124,7 @@ fn take_one(
     capability: Resource,
     held: Held,
 ) -> Result<(), NoMemory>
-    ensures ok { OnOk result (taken.new ≡ with_counted t.now name.now capability taken.old (counted_in t.now name.now held)) }
+    ensures ok { OnOk result (taken.new ≡ tables_with_counted t.now name.now capability taken.old (counted_in t.now name.now held)) }
 {
     let Some(held) = counted(t, name, held) else {
         return Ok(());
@@ -169,7 +170,7 @@ fn take_in(
     ended: &[ContainerId],
 ) -> Result<(), NoMemory>
     requires once { AreOnce taken.now }
-    requires fit { Fits (total_on name.now (with_taken t.old.book name.now capability taken.now ended.now).rows) capability }
+    requires fit { Fits (total_on name.now (book_with_taken t.old.book name.now capability taken.now ended.now).rows) capability }
     ensures ok { OnOk result (t.new ≡ absorbed_with name.now capability taken.now ended.now t.old) }
     ensures err { OnErr result (t.new ≡ t.old) }
 {
@@ -193,8 +194,8 @@ fn absorb(
     taken: Items<Held>,
 ) -> Result<Entry, NoMemory>
     requires once { AreOnce taken }
-    requires fit { (ended : List Id) → Ascend (not_taken t.old.book name.now taken) ended → Fits (total_on name.now (with_taken t.old.book name.now capability taken ended).rows) capability }
-    ensures ok { IfOk result (λ e. (ended : List Id) × Ascend (not_taken t.old.book name.now taken) ended × ((e, t.new) ≡ absorbs name.now capability taken ended t.old)) }
+    requires fit { (ended : List Id) → Ascend (book_not_taken t.old.book name.now taken) ended → Fits (total_on name.now (book_with_taken t.old.book name.now capability taken ended).rows) capability }
+    ensures ok { IfOk result (λ e. (ended : List Id) × Ascend (book_not_taken t.old.book name.now taken) ended × ((e, t.new) ≡ absorption_step name.now capability taken ended t.old)) }
     ensures err { OnErr result (t.new ≡ t.old) }
 {
     let ended = t.book.not_taken(name, taken.as_slice())?;
@@ -214,7 +215,7 @@ fn absorb(
 
 /// NodeAdded: the report of a node that waits is absorbed, where this is its last registration.
 pub fn added(t: &mut Tables, name: &Text, turn: u32) -> Result<Entry, NoMemory>
-    ensures ok { IfOk result (λ e. (list : List Id) × EndsAbsorbed (node_of t.old.nodes name.now) name.now turn t.old list × ((e, t.new) ≡ absorbed_by (node_of t.old.nodes name.now) name.now turn list t.old)) }
+    ensures ok { IfOk result (λ e. (list : List Id) × EndsAbsorbed (node_row t.old.nodes name.now) name.now turn t.old list × ((e, t.new) ≡ absorbed_by (node_row t.old.nodes name.now) name.now turn list t.old)) }
     ensures err { OnErr result (t.new ≡ t.old) }
 {
     let Some(row) = t.nodes.find(name) else {

@@ -4,7 +4,7 @@ ghost use Rattle.std.specs.Map.{lookup};
 ghost use Rattle.std.specs.Option.{option_to_list};
 ghost use Rattle.rm_types.specs.Ids.{is_app};
 ghost use Rattle.rm_tables.specs.Leaving.{closed_in, closed_one};
-ghost use Rattle.rm_sched.specs.ClosingLists.{has_list, with_ending, with_lists};
+ghost use Rattle.rm_sched.specs.ClosingLists.{has_list, with_closing, with_lists};
 
 use indexmap::IndexMap;
 use rm_tables::Rows;
@@ -41,7 +41,7 @@ impl ClosingLists {
     /// One more ending, where there is a list of its application; says whether there is one.
     fn add_ending(&mut self, closing: Closing) -> Result<bool, NoMemory>
         ensures there { IfOk result (λ there. there ≡ has_list closing.id.attempt.app self.old) }
-        ensures ok { OnOk result (self.new ≡ with_ending self.old closing) }
+        ensures ok { OnOk result (self.new ≡ with_closing self.old closing) }
     {
         match self.map.get_mut(&closing.id.attempt.app) {
             Some(list) => {

@@ -5,9 +5,9 @@ ghost use Rattle.rm_types.specs.declared.ids.ContainerId.{ContainerId as Id};
 ghost use Rattle.rm_types.specs.Order.{Ascend};
 ghost use Rattle.rm_model.specs.Containers.{once};
 ghost use Rattle.rm_model.specs.Facts.{has_container};
-ghost use Rattle.rm_book.specs.Books.{ids_of, ids_on, row_of as book_row_of};
+ghost use Rattle.rm_book.specs.Books.{attempt_containers, node_containers, book_row as book_row_of};
 ghost use Rattle.rm_tables.specs.Leaving.{ended_by};
-ghost use Rattle.rm_tables.specs.SchedEvents.{done_by, is_on, is_released, released_by};
+ghost use Rattle.rm_tables.specs.SchedEvents.{done_by, is_on, is_released, release_step};
 
 use crate::asking::quiet;
 use crate::leaving::leave;
@@ -29,7 +29,7 @@ fn end_list(t: &mut Tables, cause: Cause, list: Items<ContainerId>) -> Result<En
 
 /// AttemptRemoved: what an attempt that is over has in the book ends.
 pub fn removed(t: &mut Tables, id: AttemptId) -> Result<Entry, NoMemory>
-    ensures ok { IfOk result (λ e. (list : List Id) × Ascend (ids_of t.old.book id) list × ((e, t.new) ≡ ended_by Why.Attempt list t.old)) }
+    ensures ok { IfOk result (λ e. (list : List Id) × Ascend (attempt_containers t.old.book id) list × ((e, t.new) ≡ ended_by Why.Attempt list t.old)) }
     ensures err { OnErr result (t.new ≡ t.old) }
 {
     let list = t.book.of_attempt(id)?;
@@ -38,7 +38,7 @@ pub fn removed(t: &mut Tables, id: AttemptId) -> Result<Entry, NoMemory>
 
 /// NodeLost: all that stands on a node ends.
 pub fn lost(t: &mut Tables, node: &Text) -> Result<Entry, NoMemory>
-    ensures ok { IfOk result (λ e. (list : List Id) × Ascend (ids_on t.old.book node.now) list × ((e, t.new) ≡ ended_by Why.Node list t.old)) }
+    ensures ok { IfOk result (λ e. (list : List Id) × Ascend (node_containers t.old.book node.now) list × ((e, t.new) ≡ ended_by Why.Node list t.old)) }
     ensures err { OnErr result (t.new ≡ t.old) }
 {
     let list = t.book.of_node(node)?;
@@ -110,7 +110,7 @@ fn released_of(
 
 /// Release: what a master released ends, where it is its attempt's and no master's.
 pub fn released(t: &mut Tables, attempt: AttemptId, list: &[ContainerId]) -> Result<Entry, NoMemory>
-    ensures ok { IfOk result (λ e. (e, t.new) ≡ released_by attempt list.now t.old) }
+    ensures ok { IfOk result (λ e. (e, t.new) ≡ release_step attempt list.now t.old) }
     ensures err { OnErr result (t.new ≡ t.old) }
 {
     let ids = released_of(t, attempt, list)?;

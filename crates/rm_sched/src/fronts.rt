@@ -2,7 +2,7 @@ ghost use Rattle.std.specs.Prelude.{◌≡◌, ℕ, List, [], ◌∷◌, IfOk, O
 ghost use Rattle.rm_types.specs.declared.ids.ContainerId.{ContainerId as Id};
 ghost use Rattle.rm_tables.specs.declared.events.SchedEvent.{SchedEvent as Event};
 ghost use Rattle.rm_tables.specs.Actions.{sched_worked};
-ghost use Rattle.rm_tables.specs.SchedEvents.{EndsBy, SchedDoes, sched_step};
+ghost use Rattle.rm_tables.specs.SchedEvents.{EndsByEvent, SchedDoes, sched_step};
 ghost use Rattle.rm_sched.specs.CanWork.{AreFew, CanPass};
 
 use crate::absorbing::added;
@@ -35,7 +35,7 @@ fn work_off(t: &mut Tables, event: &SchedEvent) -> Result<Entry, NoMemory>
 /// comes exactly where the queue is empty; a refusal leaves all as it was.
 pub fn front(t: &mut Tables) -> Result<Entry, Refused>
     requires pass { (name : List ℕ) (rest : List Event) → t.old.sched ≡ Event.NodeUpdate name ∷ rest → AreFew t.old × CanPass t.old }
-    ensures ok { (event : Event) (rest : List Event) → t.old.sched ≡ event ∷ rest → IfOk result (λ e. (list : List Id) × EndsBy event t.old list × ((e, t.new) ≡ sched_worked (sched_step event list t.old))) }
+    ensures ok { (event : Event) (rest : List Event) → t.old.sched ≡ event ∷ rest → IfOk result (λ e. (list : List Id) × EndsByEvent event t.old list × ((e, t.new) ≡ sched_worked (sched_step event list t.old))) }
     ensures not_ready { IsErrOf result Refused.NotReady → t.old.sched ≡ [] }
     ensures none { t.old.sched ≡ [] → result ≡ Err Refused.NotReady }
     ensures err { OnErr result (t.new ≡ t.old) }

@@ -2,12 +2,12 @@
 ghost use Rattle.std.specs.Prelude.{◌≡◌, ◌+◌, ◌<◌, ◌^◌, ◌≤◌, [], ◌∷◌, ◌++◌, not, Some, filter, find, fold, map, option_map, length, count_by, ◌&&◌, if◌then◌else◌, is_some, IfOk, IfSome, OnOk, OnErr};
 ghost use Rattle.std.specs.Option.{option_copied};
 ghost use Rattle.rm_types.specs.Passes.{by_priority};
-ghost use Rattle.rm_book.specs.AskTables.{asks_of};
+ghost use Rattle.rm_book.specs.AskTables.{attempt_asks};
 ghost use Rattle.rm_book.specs.Books.{capability_of};
 ghost use Rattle.rm_model.specs.Attempts.{attempt_at};
 ghost use Rattle.rm_model.specs.Containers.{is_size};
-ghost use Rattle.rm_tables.specs.Nodes.{node_of};
-ghost use Rattle.rm_tables.specs.Passing.{asks_some, fitted_on, granted_by, masters_granted, passed_with, row_granted, still_waits, turn_in, turns_in, updated_by, waits_for_master, without_granted};
+ghost use Rattle.rm_tables.specs.Nodes.{node_row};
+ghost use Rattle.rm_tables.specs.Passing.{asks_some, fitted_on, granted_number, masters_granted, passed_with, rows_after_grant, still_waits, turn_in, turns_in, updated_by, waits_for_master, table_without_granted};
 ghost use Rattle.rm_tables.specs.Rows.{row_of};
 ghost use Rattle.rm_sched.specs.Turns.{has_waiting, turns_of};
 ghost use Rattle.rm_sched.specs.CanWork.{AreFew, CanPass, GrantsFit};
@@ -52,7 +52,7 @@ pub fn attempt_at(app: &AppRecord) -> AttemptId
 
 /// How many containers this life granted to an attempt, where it is the current one of its application; otherwise 0.
 pub fn granted_to(rows: &Rows, id: AttemptId) -> u64
-    ensures { result ≡ granted_by id.number (row_of rows.now id.app) }
+    ensures { result ≡ granted_number id.number (row_of rows.now id.app) }
 {
     let Some(row) = rows.find(id.app) else {
         return 0;
@@ -194,7 +194,7 @@ fn priority_of(lines: &[AskLine], size: Resource) -> Option<u32>
 
 /// The priority of the ask that a grant answers.
 fn answered_priority(asks: &Asks, grant: &Grant) -> Option<u32>
-    ensures { result ≡ option_map (λ ask. ask.priority) (find (λ one. is_size one.size grant.now.size) (by_priority (asks_of asks.now grant.now.id.attempt))) }
+    ensures { result ≡ option_map (λ ask. ask.priority) (find (λ one. is_size one.size grant.now.size) (by_priority (attempt_asks asks.now grant.now.id.attempt))) }
 {
     match asks.of(grant.id.attempt) {
         Some(lines) => priority_of(lines.as_slice(), grant.size),
@@ -204,7 +204,7 @@ fn answered_priority(asks: &Asks, grant: &Grant) -> Option<u32>
 
 /// One less is asked for after a grant.
 fn answer(asks: &mut Asks, grant: &Grant)
-    ensures { asks.new ≡ without_granted asks.old grant.now }
+    ensures { asks.new ≡ table_without_granted asks.old grant.now }
 {
     if let Some(priority) = answered_priority(asks, grant) {
         asks.granted(grant.id.attempt, priority, grant.size);
@@ -213,8 +213,8 @@ fn answer(asks: &mut Asks, grant: &Grant)
 
 /// The asks and the rows of applications after these grants.
 fn take_grants(asks: &mut Asks, rows: &mut Rows, grants: &[Grant])
-    ensures asks { asks.new ≡ fold without_granted asks.old grants.now }
-    ensures rows { rows.new ≡ fold row_granted rows.old grants.now }
+    ensures asks { asks.new ≡ fold table_without_granted asks.old grants.now }
+    ensures rows { rows.new ≡ fold rows_after_grant rows.old grants.now }
 {
     'grants: for grant in grants {
         answer(asks, grant);
@@ -259,7 +259,7 @@ fn grants_on(t: &Tables, name: &Text, ready: bool) -> Result<Items<Grant>, NoMem
 pub fn updated(t: &mut Tables, name: &Text) -> Result<Entry, NoMemory>
     requires few { AreFew t.old }
     requires pass { CanPass t.old }
-    ensures ok { IfOk result (λ e. (e, t.new) ≡ updated_by (node_of t.old.nodes name.now) name.now t.old) }
+    ensures ok { IfOk result (λ e. (e, t.new) ≡ updated_by (node_row t.old.nodes name.now) name.now t.old) }
     ensures err { OnErr result (t.new ≡ t.old) }
 {
     let Some(row) = t.nodes.find(name) else {

@@ -8,7 +8,7 @@ use Rattle.std.proofs.lemmas.Str.Parse.{IsNumeralModel, numerals_by_fold}
 use Rattle.std.proofs.lemmas.Fmt.{digits_decimal, digits_value-decimal, decimal-digits_value, decimal_nonempty, first_decimal, decimal_digit}
 use Rattle.rm_types.specs.Texts.{is_digit}
 use Rattle.rm_script.specs.Results.{IsOf, ◌>>=◌}
-use Rattle.rm_script.specs.Numbers.{number_after, leads_with_zero, is_empty, number_of, number_in}
+use Rattle.rm_script.specs.Numbers.{number_after, leads_with_zero, is_empty, number_of, number_between}
 
 -- each byte is a digit
 abbrev pub all_digits : List ℕ → Bool
@@ -104,7 +104,7 @@ number_of_is text number e =
 
 -- ---- within bounds
 
-pub number_in-decimal : (least greatest number : ℕ) → greatest < 2 ^ 64 → IsWithin least greatest number → number_in least greatest (decimal number) ≡ Some number
+pub number_in-decimal : (least greatest number : ℕ) → greatest < 2 ^ 64 → IsWithin least greatest number → number_between least greatest (decimal number) ≡ Some number
 number_in-decimal least greatest number small fits =
     rw (number_of-decimal number (omega (arith, fits.1)), le-leb least number fits.0, le-leb number greatest fits.1) refl
 
@@ -115,19 +115,19 @@ bounded least greatest (Some n) number e =
     let tests = and_parts (leb least n) (leb n greatest) c.0 in
     (ap Some c.1, subst (IsWithin least greatest) c.1 (leb-true _ _ tests.0, leb-true _ _ tests.1))
 
-pub number_in_is : (least greatest : ℕ) (text : List ℕ) (number : ℕ) → number_in least greatest text ≡ Some number → (text ≡ decimal number) × IsWithin least greatest number
+pub number_in_is : (least greatest : ℕ) (text : List ℕ) (number : ℕ) → number_between least greatest text ≡ Some number → (text ≡ decimal number) × IsWithin least greatest number
 number_in_is least greatest text number e =
     let parts = bounded least greatest (number_of text) number e in
     ((number_of_is text number parts.0).0, parts.1)
 
 -- what is read is the number that the word is
-pub number_read : (least greatest : ℕ) (word : List ℕ) (number : ℕ) → number_in least greatest word ≡ Some number → IsOf decimal (IsWithin least greatest) word number
+pub number_read : (least greatest : ℕ) (word : List ℕ) (number : ℕ) → number_between least greatest word ≡ Some number → IsOf decimal (IsWithin least greatest) word number
 number_read least greatest word number e =
     let read = number_in_is least greatest word number e in
     record { same = read.0; fits = read.1 }
 
 -- and where none is read the word is none
-pub number_none : (least greatest : ℕ) (word : List ℕ) → greatest < 2 ^ 64 → number_in least greatest word ≡ None → (number : ℕ) → IsOf decimal (IsWithin least greatest) word number → ⊥
+pub number_none : (least greatest : ℕ) (word : List ℕ) → greatest < 2 ^ 64 → number_between least greatest word ≡ None → (number : ℕ) → IsOf decimal (IsWithin least greatest) word number → ⊥
 number_none least greatest word small e number is =
-    let none : None ≡ Some number = sym e ∙ ap (number_in least greatest) is.same ∙ number_in-decimal least greatest number small is.fits in
+    let none : None ≡ Some number = sym e ∙ ap (number_between least greatest) is.same ∙ number_in-decimal least greatest number small is.fits in
     cc

@@ -18,9 +18,9 @@ use Rattle.rm_script.specs.declared.drafts.Draft.{Draft}
 use Rattle.rm_script.specs.declared.drafts.Draft.TheVariants as drafts
 use Rattle.rm_script.specs.Written.{Sent, Delivered, Lost, WrittenLife, delivered, settled_segment, life_of}
 use Rattle.rm_script.specs.Spelling.{sent_text, start_text, settled_lines, life_lines, script_lines}
-use Rattle.rm_script.specs.Scripts.{IsRead, IsSent, IsCrash, IsLife, Crashes}
+use Rattle.rm_script.specs.Scripts.{IsReadMessage, IsSent, IsCrash, IsLife, EndsByCrash}
 use Rattle.rm_types.specs.Limits.{greatest_stamp}
-use Rattle.rm_script.specs.Reading.{settled, crashed, told, line_text, with_start, with_settle, with_crash, with_message, with_loss, with_line, with_lines, IsCrashLine, IsLine}
+use Rattle.rm_script.specs.Reading.{settled, crashed, told, line_text, with_start, with_settle, with_crash, with_message, with_loss, with_line, with_each_line, IsCrashLine, IsLine}
 use Rattle.rm_script.proofs.Labels.{bound}
 
 -- a script as it is written, as far as its lines go: the lives that crashed, and the life that goes on
@@ -45,7 +45,7 @@ written_lines (Going lives stamp done sent) = script_lines lives ++ ((start_text
 -- lives that may stand before others
 pub record AreCrashed (lives : List WrittenLife) : Type 0 where
   pub each : All IsLife lives
-  pub crash : All Crashes lives
+  pub crash : All EndsByCrash lives
 
 pub record IsGoing (lives : List WrittenLife) (stamp : ℕ) (done : List (List Sent)) (sent : List Sent) : Type 0 where
   pub lives_fit : AreCrashed lives
@@ -140,7 +140,7 @@ crashed_fit lives stamp done sent calls image fits fine =
       image = fine.image_fits;
     } in
     let is : IsLife life = record { stamp = fits.stamp_fits; settled = fits.done_fit; crash = crash } in
-    record { each = All-push IsLife lives life fits.lives_fit.each is; crash = All-push Crashes lives life fits.lives_fit.crash refl }
+    record { each = All-push IsLife lives life fits.lives_fit.each is; crash = All-push EndsByCrash lives life fits.lives_fit.crash refl }
 
 pub lines_of-push : (lives : List WrittenLife) (life : WrittenLife) → script_lines (lives ++ life ∷ []) ≡ script_lines lives ++ life_lines life
 lines_of-push lives life = flat_map-append life_lines lives (life ∷ []) ∙ ap (λ (ls : List (List ℕ)). script_lines lives ++ ls) (append-nil (life_lines life))
@@ -164,7 +164,7 @@ grow_crash (Going lives stamp done sent) calls image next e fits fine =
 sent_lines : (lives front : List (List ℕ)) (sent : List Sent) (one : Sent) → lives ++ (front ++ map sent_text (sent ++ one ∷ [])) ≡ (lives ++ (front ++ map sent_text sent)) ++ sent_text one ∷ []
 sent_lines lives front sent one = simp (map-append, append_assoc)
 
-grow_message : (before : Written) (message : Message) (next : Draft) → with_message (draft_of before) message ≡ Some next → Fits before → IsRead message
+grow_message : (before : Written) (message : Message) (next : Draft) → with_message (draft_of before) message ≡ Some next → Fits before → IsReadMessage message
     → Grown before (sent_text (Delivered message) ∷ []) next
 grow_message (Between lives) message next e fits fine = absurd cc
 grow_message (Going lives stamp done sent) message next e fits fine = record {
@@ -174,7 +174,7 @@ grow_message (Going lives stamp done sent) message next e fits fine = record {
   lines = sent_lines (script_lines lives) (start_text stamp ∷ flat_map settled_lines done) sent (Delivered message);
 }
 
-grow_loss : (before : Written) (message : Message) (next : Draft) → with_loss (draft_of before) ≡ Some next → Fits before → IsRead message → Grown before (sent_text (Lost message) ∷ []) next
+grow_loss : (before : Written) (message : Message) (next : Draft) → with_loss (draft_of before) ≡ Some next → Fits before → IsReadMessage message → Grown before (sent_text (Lost message) ∷ []) next
 grow_loss (Between lives) message next e fits fine = absurd cc
 grow_loss (Going lives stamp done sent) message next e fits fine = record {
   after = Going lives stamp done (sent ++ Lost message ∷ []);
@@ -193,13 +193,13 @@ grow before (Deliver message) next e fits fine = grow_message before message nex
 grow before (Lose message) next e fits fine = grow_loss before message next e fits fine
 
 -- lines one after the other
-pub with_lines_are : (before : Written) (lines : List Line) (last : Draft) → with_lines (draft_of before) lines ≡ Some last → Fits before → AllByRecursion IsLine lines
+pub with_lines_are : (before : Written) (lines : List Line) (last : Draft) → with_each_line (draft_of before) lines ≡ Some last → Fits before → AllByRecursion IsLine lines
     → Grown before (map line_text lines) last
 with_lines_are before [] last e fits fit = record { after = before; is = sym (same_Some (draft_of before) last e); fits = fits; lines = sym (append-nil (written_lines before)) }
 with_lines_are before (line ∷ lines) last e fits fit =
-    let first = bound (with_line (draft_of before) line) (λ next. with_lines next lines) last e in
+    let first = bound (with_line (draft_of before) line) (λ next. with_each_line next lines) last e in
     let one = grow before line first.0 first.1 fits fit.0 in
-    let more : with_lines (draft_of one.after) lines ≡ Some last = ap (λ (d : Draft). with_lines d lines) (sym one.is) ∙ first.2 in
+    let more : with_each_line (draft_of one.after) lines ≡ Some last = ap (λ (d : Draft). with_each_line d lines) (sym one.is) ∙ first.2 in
     let rest = with_lines_are one.after lines last more one.fits fit.1 in
     record {
       after = rest.after;

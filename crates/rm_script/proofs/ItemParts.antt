@@ -10,7 +10,7 @@ use Rattle.rm_page.proofs.Bytes.{lacks, lacks_failing, is_part_byte, decimal_mad
 use Rattle.rm_page.proofs.ReadIds.{container_lacks}
 use Rattle.rm_script.specs.declared.errors.LineError.{LineError}
 use Rattle.rm_script.specs.declared.errors.LineError.TheVariants.{Refused, Memory}
-use Rattle.rm_script.specs.Messages.{IsHeld, IsAsk}
+use Rattle.rm_types.specs.Messages.{IsHeld, IsAsk}
 use Rattle.rm_script.specs.Results.{IsOf, Finds}
 use Rattle.rm_script.specs.Words.{cut, held_parts, ask_parts}
 

@@ -19,9 +19,9 @@ use Rattle.rm_page.proofs.ReadOperations.{cut_words, last_pieces}
 use Rattle.rm_page.proofs.ReadMessages.{message_pieces, cut_message}
 use Rattle.rm_script.specs.declared.lines.Line.{Line}
 use Rattle.rm_script.specs.declared.lines.Line.TheVariants.{Skipped, Start, Settle, Crash, Deliver, Lose}
-use Rattle.rm_script.specs.Messages.{IsMessage}
+use Rattle.rm_script.specs.Messages.{IsScriptMessage}
 use Rattle.rm_script.specs.Reading.{line_words, line_text, IsLine}
-use Rattle.rm_script.specs.Words.{cut, as_one, message_front, line_front, with_text, words_of}
+use Rattle.rm_script.specs.Words.{cut, as_one, message_front, line_front, with_last_text, words_of}
 use Rattle.rm_script.proofs.Ranges.{shown_message}
 
 -- ---- the words put together
@@ -43,7 +43,7 @@ spaced-as_one : (words : List (List ℕ)) → spaced (as_one words) ≡ spaced w
 spaced-as_one [] = refl
 spaced-as_one (word ∷ words) = refl
 
-spaced-with_text : (front : Option ℕ) (words : List (List ℕ)) → spaced (with_text front words) ≡ spaced words
+spaced-with_text : (front : Option ℕ) (words : List (List ℕ)) → spaced (with_last_text front words) ≡ spaced words
 spaced-with_text None words = refl
 spaced-with_text (Some zero) words = spaced-as_one words
 spaced-with_text (Some (suc count)) [] = refl
@@ -72,7 +72,7 @@ as_one-last byte label [] = refl
 as_one-last byte label (one ∷ text) = as_one-cut ((byte ∷ label) ++ one ∷ text)
 
 -- of a message
-with_front : (message : Message) → with_text (message_front (message_pieces message)) (message_pieces message) ≡ message_words message
+with_front : (message : Message) → with_last_text (message_front (message_pieces message)) (message_pieces message) ≡ message_words message
 unfolding message_pieces
 with_front (Client user New) = refl
 with_front (Client user (Submit id submission)) =
@@ -97,15 +97,15 @@ same_front (Master attempt ask) = refl
 same_front (Node node ask) = refl
 same_front (Clock ask) = refl
 
-message_back : (message : Message) → IsMessage message → words_of (message_text message) ≡ message_words message
+message_back : (message : Message) → IsScriptMessage message → words_of (message_text message) ≡ message_words message
 message_back message is =
-    ap (λ (pieces : List (List ℕ)). with_text (line_front pieces) pieces) (cut_message message (shown_message message is))
-    ∙ ap (λ (front : Option ℕ). with_text front (message_pieces message)) (same_front message)
+    ap (λ (pieces : List (List ℕ)). with_last_text (line_front pieces) pieces) (cut_message message (shown_message message is))
+    ∙ ap (λ (front : Option ℕ). with_last_text front (message_pieces message)) (same_front message)
     ∙ with_front message
 
 -- and of one that is lost
 
-with_text-more : (front : Option ℕ) (word : List ℕ) (words : List (List ℕ)) → with_text (option_map (λ count. count + 1) front) (word ∷ words) ≡ word ∷ with_text front words
+with_text-more : (front : Option ℕ) (word : List ℕ) (words : List (List ℕ)) → with_last_text (option_map (λ count. count + 1) front) (word ∷ words) ≡ word ∷ with_last_text front words
 with_text-more None word words = refl
 with_text-more (Some count) word words = rw add-one refl
 
@@ -115,21 +115,21 @@ lost_text (Master attempt ask) = refl
 lost_text (Node node ask) = refl
 lost_text (Clock ask) = refl
 
-lost_back : (message : Message) → IsMessage message → words_of (spaced (codes "lose" ∷ message_words message)) ≡ codes "lose" ∷ message_words message
+lost_back : (message : Message) → IsScriptMessage message → words_of (spaced (codes "lose" ∷ message_words message)) ≡ codes "lose" ∷ message_words message
 lost_back message is =
     let cuts : cut 32 (spaced (codes "lose" ∷ message_words message)) ≡ codes "lose" ∷ message_pieces message =
     ap (cut 32) (lost_text message) ∙ cut_at 32 (codes "lose") (message_text message) refl ∙ ap (λ (ws : List (List ℕ)). codes "lose" ∷ ws) (cut_message message (shown_message message is)) in
-    ap (λ (pieces : List (List ℕ)). with_text (line_front pieces) pieces) cuts
+    ap (λ (pieces : List (List ℕ)). with_last_text (line_front pieces) pieces) cuts
     ∙ with_text-more (message_front (message_pieces message)) (codes "lose") (message_pieces message)
     ∙ ap (λ (ws : List (List ℕ)). codes "lose" ∷ ws) (with_front message)
 
 -- of a line
 pub words_back : (line : Line) → IsLine line → words_of (line_text line) ≡ line_words line
 words_back Skipped is = absurd is
-words_back (Start stamp) is = ap (λ (ws : List (List ℕ)). with_text (line_front ws) ws) (cut_words (codes "start") (decimal stamp ∷ []) (refl, (number_word stamp (omega (arith, is.1)), tt)))
-words_back Settle is = ap (λ (ws : List (List ℕ)). with_text (line_front ws) ws) (cut_words (codes "settle") [] (refl, tt))
+words_back (Start stamp) is = ap (λ (ws : List (List ℕ)). with_last_text (line_front ws) ws) (cut_words (codes "start") (decimal stamp ∷ []) (refl, (number_word stamp (omega (arith, is.1)), tt)))
+words_back Settle is = ap (λ (ws : List (List ℕ)). with_last_text (line_front ws) ws) (cut_words (codes "settle") [] (refl, tt))
 words_back (Crash calls image) is =
-    ap (λ (ws : List (List ℕ)). with_text (line_front ws) ws)
+    ap (λ (ws : List (List ℕ)). with_last_text (line_front ws) ws)
     (cut_words (codes "crash") (decimal calls ∷ decimal image ∷ []) (refl, (number_word calls (omega (arith, is.calls_fit.1)), (number_word image (omega (arith, is.image_fits.1)), tt))))
 words_back (Deliver message) is = message_back message is
 words_back (Lose message) is = lost_back message is
@@ -140,16 +140,16 @@ pub with_text-some : (line : List ℕ) (front : Option ℕ) (count : ℕ) (text 
     → take count (cut 32 line) ++ text ∷ [] ≡ words_of line
 with_text-some line front count text e is behind =
     sym (
-    ap (λ (o : Option ℕ). with_text o (cut 32 line)) (e ∙ is) ∙ ap (λ (rest : List (List ℕ)). take count (cut 32 line) ++ as_one rest) (sym behind)
+    ap (λ (o : Option ℕ). with_last_text o (cut 32 line)) (e ∙ is) ∙ ap (λ (rest : List (List ℕ)). take count (cut 32 line) ++ as_one rest) (sym behind)
     ∙ ap (λ (last : List (List ℕ)). take count (cut 32 line) ++ last) (as_one-cut text)
     )
 
 pub with_text-all : (line : List ℕ) (front : Option ℕ) (count : ℕ) → line_front (cut 32 line) ≡ front → front ≡ Some count → length (cut 32 line) ≤ count → cut 32 line ≡ words_of line
 with_text-all line front count e is all =
     sym (
-    ap (λ (o : Option ℕ). with_text o (cut 32 line)) (e ∙ is) ∙ ap (λ (rest : List (List ℕ)). take count (cut 32 line) ++ as_one rest) (drop_all count (cut 32 line) all)
+    ap (λ (o : Option ℕ). with_last_text o (cut 32 line)) (e ∙ is) ∙ ap (λ (rest : List (List ℕ)). take count (cut 32 line) ++ as_one rest) (drop_all count (cut 32 line) all)
     ∙ append-nil (take count (cut 32 line)) ∙ take_all count (cut 32 line) all
     )
 
 pub with_text-none : (line : List ℕ) (front : Option ℕ) → line_front (cut 32 line) ≡ front → front ≡ None → cut 32 line ≡ words_of line
-with_text-none line front e is = sym (ap (λ (o : Option ℕ). with_text o (cut 32 line)) (e ∙ is))
+with_text-none line front e is = sym (ap (λ (o : Option ℕ). with_last_text o (cut 32 line)) (e ∙ is))

@@ -17,7 +17,7 @@ use Rattle.rm_types.specs.Limits.{most_lines}
 use Rattle.rm_script.specs.Limits.{most_bytes}
 use Rattle.rm_script.specs.Lines.{lines_of, ended, size_of_first, is_skipped, kept_lines, IsLineText}
 use Rattle.rm_script.specs.Results.{◌>>=◌, Fails, FindsNone, at_line}
-use Rattle.rm_script.specs.Reading.{line_text, with_line, with_lines, no_lines, script_of_draft, IsLine, IsTextOf, Takes, ReadsLines, AnswersReading}
+use Rattle.rm_script.specs.Reading.{line_text, with_line, with_each_line, no_lines, script_of_draft, IsLine, IsTextOf, Takes, ReadsLines, AnswersReading}
 use Rattle.rm_script.proofs.Parts.{heads}
 use Rattle.rm_script.proofs.Labels.{bound}
 use Rattle.rm_script.proofs.OneLine.{is_told, text_said, none_said, says}
@@ -119,9 +119,9 @@ kept_same : (texts : List (List ℕ)) (text : List ℕ) → is_skipped text ≡ 
 kept_same texts text skipped =
     filter-append (λ one. not (is_skipped one)) texts (text ∷ []) ∙ ap (λ (b : Bool). kept_lines texts ++ cond (not b) (text ∷ []) []) skipped ∙ append-nil (kept_lines texts)
 
-run_more : (draft next : Draft) (lines : List Line) (line : Line) → with_lines no_lines lines ≡ Some draft → with_line draft line ≡ Some next → with_lines no_lines (lines ++ line ∷ []) ≡ Some next
+run_more : (draft next : Draft) (lines : List Line) (line : Line) → with_each_line no_lines lines ≡ Some draft → with_line draft line ≡ Some next → with_each_line no_lines (lines ++ line ∷ []) ≡ Some next
 run_more draft next lines line so_far e =
-    with_lines-append no_lines lines (line ∷ []) ∙ ap (λ (o : Option Draft). o >>= λ last. with_lines last (line ∷ [])) so_far
+    with_lines-append no_lines lines (line ∷ []) ∙ ap (λ (o : Option Draft). o >>= λ last. with_each_line last (line ∷ [])) so_far
     ∙ ap (λ (o : Option Draft). o >>= λ last. Some last) e
 
 -- one line on
@@ -220,10 +220,10 @@ took count bytes rest draft next text after is line reads = by (is_skipped text)
         let fit : AllByRecursion IsLine (ends.before ++ ends.last ∷ []) = subst (AllByRecursion IsLine) {y = ends.before ++ ends.last ∷ []} ends.apart (recursion_from_All IsLine reads.lines reads.fit) in
         let before : ends.before ≡ is.reads.lines =
         one_lines ends.before is.reads.lines (recursion_front IsLine ends.before ends.last fit) (recursion_from_All IsLine is.reads.lines is.reads.fit) (sym ends.front_is ∙ is.reads.texts) in
-        let run : (with_lines no_lines ends.before >>= λ d. with_lines d (ends.last ∷ [])) ≡ Some next =
-        sym (with_lines-append no_lines ends.before (ends.last ∷ [])) ∙ ap (with_lines no_lines) (sym ends.apart) ∙ reads.draft_is in
+        let run : (with_each_line no_lines ends.before >>= λ d. with_each_line d (ends.last ∷ [])) ≡ Some next =
+        sym (with_lines-append no_lines ends.before (ends.last ∷ [])) ∙ ap (with_each_line no_lines) (sym ends.apart) ∙ reads.draft_is in
         let at : (with_line draft ends.last >>= λ d. Some d) ≡ Some next =
-        sym (ap (λ (o : Option Draft). o >>= λ d. with_lines d (ends.last ∷ [])) (ap (with_lines no_lines) before ∙ is.reads.draft_is)) ∙ run in
+        sym (ap (λ (o : Option Draft). o >>= λ d. with_each_line d (ends.last ∷ [])) (ap (with_each_line no_lines) before ∙ is.reads.draft_is)) ∙ run in
         let made = bound (with_line draft ends.last) (λ d. Some d) next at in (
           made.0,
           record {

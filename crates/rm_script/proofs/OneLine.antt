@@ -21,7 +21,7 @@ use Rattle.rm_script.specs.declared.errors.LineError.TheVariants.{Refused, Memor
 use Rattle.rm_script.specs.declared.lines.Line.{Line}
 use Rattle.rm_script.specs.declared.lines.Line.TheVariants.{Skipped, Start, Settle, Crash, Deliver, Lose}
 use Rattle.rm_script.specs.Lines.{is_skipped, IsLineText}
-use Rattle.rm_script.specs.Messages.{IsMessage}
+use Rattle.rm_script.specs.Messages.{IsScriptMessage}
 use Rattle.rm_script.specs.Reading.{line_words, line_text, IsLine, IsTextOf, Says, IsLineAs, with_line, Takes}
 use Rattle.rm_script.specs.Results.{Finds, Gives, IsOf}
 use Rattle.rm_script.specs.Words.{words_of}
@@ -63,7 +63,7 @@ kind_words (Lose message) = refl
 same_decimal : (one other : ℕ) → one < 2 ^ 64 → other < 2 ^ 64 → decimal one ≡ decimal other → one ≡ other
 same_decimal one other fits fits' e = sym (number_back one fits) ∙ ap value_of e ∙ number_back other fits'
 
-same_message : (one other : Message) → IsMessage one → IsMessage other → message_words one ≡ message_words other → one ≡ other
+same_message : (one other : Message) → IsScriptMessage one → IsScriptMessage other → message_words one ≡ message_words other → one ≡ other
 same_message one other is is' e = messages_apart one other (shown_message one is) (shown_message other is') (ap spaced e)
 
 same_line : (one other : Line) → kind one ≡ kind other → IsLine one → IsLine other → line_words one ≡ line_words other → one ≡ other

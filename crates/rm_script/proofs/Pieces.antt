@@ -9,8 +9,8 @@ use Rattle.std.proofs.lemmas.List.Splits.{slice_split_first, length-slice_split}
 use Rattle.rm_formats.specs.Wording.{listed, list_word}
 use Rattle.rm_page.proofs.Bytes.{EachLacks, join_cut, cut_joined}
 use Rattle.rm_script.specs.Laws.{HasNoComma}
-use Rattle.rm_script.specs.Limits.{most_listed}
-use Rattle.rm_script.specs.Messages.{IsList}
+use Rattle.rm_types.specs.Limits.{most_listed}
+use Rattle.rm_types.specs.Messages.{IsList}
 use Rattle.rm_script.specs.Results.{IsOf}
 use Rattle.rm_script.specs.Words.{cut, after_label, IsSomeList}
 use Rattle.rm_script.proofs.Labels.{not_found, after_label_is, after_label-label}

@@ -12,12 +12,13 @@ use Rattle.rm_types.specs.declared.messages.NodeAsk.TheVariants.{Register as Joi
 use Rattle.rm_types.specs.declared.operations.Submission.{Submission}
 use Rattle.rm_types.specs.declared.texts.TextKind.TheVariants.{Name}
 use Rattle.rm_types.specs.Ranges.{IsText}
-use Rattle.rm_page.specs.Ranges.{IsMessage as IsShown, IsHeld as IsShownHeld, IsAsk as IsShownAsk}
-use Rattle.rm_script.specs.Messages.{IsSubmission, IsHeld, IsAsk, IsMessage}
+use Rattle.rm_page.specs.Ranges.{IsPageMessage as IsShown, IsPageHeld as IsShownHeld, IsPageAsk as IsShownAsk}
+use Rattle.rm_script.specs.Messages.{IsScriptSubmission, IsScriptMessage}
+use Rattle.rm_types.specs.Messages.{IsHeld, IsAsk}
 use Rattle.rm_script.specs.Laws.{shown_size, shown_held, shown_ask}
 use Rattle.std.proofs.Common.{sym, subst}
 
-framed : (user : List ℕ) (submission : Submission) → IsText Name user → IsSubmission user submission → IsFramed submission
+framed : (user : List ℕ) (submission : Submission) → IsText Name user → IsScriptSubmission user submission → IsFramed submission
 framed user submission name is = record {
   user = subst (IsText Name) (sym is.by_user) name;
   queue = is.queue;
@@ -31,7 +32,7 @@ framed user submission name is = record {
 helds : (running : List Held) → All IsHeld running → All IsShownHeld running
 helds running all = All-weaker IsHeld IsShownHeld shown_held running all
 
-pub shown_message : (message : Message) → IsMessage message → IsShown message
+pub shown_message : (message : Message) → IsScriptMessage message → IsShown message
 shown_message (Client user New) is = is
 shown_message (Client user (Submit id submission)) is = (is.0, (is.1.0, framed user submission is.0 is.1.1, is.1.1.by_user))
 shown_message (Client user (Report id)) is = is

@@ -11,9 +11,9 @@ use Rattle.rm_script.specs.declared.lines.Line.TheVariants.{Start, Settle, Crash
 use Rattle.rm_script.specs.declared.drafts.Draft.{Draft}
 use Rattle.rm_script.specs.Written.{Sent, Delivered, Lost, Crashing, WrittenLife, settled_segment, crash_segments, life_of, script_of_lives}
 use Rattle.rm_script.specs.Spelling.{sent_text, start_text, crash_text, settled_lines, crash_lines, life_lines, script_lines}
-use Rattle.rm_script.specs.Scripts.{IsSent, IsCrash, IsLife, Crashes, IsLineOf, EachButLast, AreLives}
+use Rattle.rm_script.specs.Scripts.{IsSent, IsCrash, IsLife, EndsByCrash, IsLineOf, EachButLast, AreLives}
 use Rattle.rm_script.specs.Results.{◌>>=◌}
-use Rattle.rm_script.specs.Reading.{line_text, with_line, with_lines, script_of_draft, IsLine}
+use Rattle.rm_script.specs.Reading.{line_text, with_line, with_each_line, script_of_draft, IsLine}
 use Rattle.rm_script.proofs.Parts.{heads}
 use Rattle.rm_script.proofs.OneLine.{one_line}
 use Rattle.rm_script.proofs.Drafting.{Between, Going, draft_of, crashed_life, delivered_is, lost_is, settled_is, crashed_is}
@@ -105,9 +105,9 @@ pub associated : (o : Option Draft) (f g h : Draft → Option Draft) → ((draft
 associated None f g h e = refl
 associated (Some draft) f g h e = e draft
 
-pub with_lines-append : (draft : Draft) (xs ys : List Line) → with_lines draft (xs ++ ys) ≡ (with_lines draft xs >>= λ next. with_lines next ys)
+pub with_lines-append : (draft : Draft) (xs ys : List Line) → with_each_line draft (xs ++ ys) ≡ (with_each_line draft xs >>= λ next. with_each_line next ys)
 with_lines-append draft [] ys = refl
-with_lines-append draft (line ∷ xs) ys = associated (with_line draft line) (λ next. with_lines next (xs ++ ys)) (λ next. with_lines next xs) (λ next. with_lines next ys) (λ next. with_lines-append next xs ys)
+with_lines-append draft (line ∷ xs) ys = associated (with_line draft line) (λ next. with_each_line next (xs ++ ys)) (λ next. with_each_line next xs) (λ next. with_each_line next ys) (λ next. with_lines-append next xs ys)
 
 -- lines with the same texts are the same
 pub one_lines : (ones others : List Line) → AllByRecursion IsLine ones → AllByRecursion IsLine others → map line_text ones ≡ map line_text others → ones ≡ others
@@ -120,36 +120,36 @@ one_lines (one ∷ ones) (other ∷ others) marks marks' e =
 
 -- ---- their draft
 
-run_on : (draft next : Draft) (line : Line) (more : List Line) → with_line draft line ≡ Some next → with_lines draft (line ∷ more) ≡ with_lines next more
-run_on draft next line more e = ap (λ (o : Option Draft). o >>= λ n. with_lines n more) e
+run_on : (draft next : Draft) (line : Line) (more : List Line) → with_line draft line ≡ Some next → with_each_line draft (line ∷ more) ≡ with_each_line next more
+run_on draft next line more e = ap (λ (o : Option Draft). o >>= λ n. with_each_line n more) e
 
 run_sent : (lives : List WrittenLife) (stamp : ℕ) (done : List (List Sent)) (before sent : List Sent) (more : List Line)
-    → with_lines (draft_of (Going lives stamp done before)) (map mark_of sent ++ more) ≡ with_lines (draft_of (Going lives stamp done (before ++ sent))) more
-run_sent lives stamp done before [] more = ap (λ (s : List Sent). with_lines (draft_of (Going lives stamp done s)) more) (sym (append-nil before))
+    → with_each_line (draft_of (Going lives stamp done before)) (map mark_of sent ++ more) ≡ with_each_line (draft_of (Going lives stamp done (before ++ sent))) more
+run_sent lives stamp done before [] more = ap (λ (s : List Sent). with_each_line (draft_of (Going lives stamp done s)) more) (sym (append-nil before))
 run_sent lives stamp done before (Delivered message ∷ sent) more =
-    ap (λ (d : Draft). with_lines d (map mark_of sent ++ more)) (delivered_is lives stamp done before message)
+    ap (λ (d : Draft). with_each_line d (map mark_of sent ++ more)) (delivered_is lives stamp done before message)
     ∙ run_sent lives stamp done (before ++ Delivered message ∷ []) sent more
-    ∙ ap (λ (s : List Sent). with_lines (draft_of (Going lives stamp done s)) more) (append_assoc before (Delivered message ∷ []) sent)
+    ∙ ap (λ (s : List Sent). with_each_line (draft_of (Going lives stamp done s)) more) (append_assoc before (Delivered message ∷ []) sent)
 run_sent lives stamp done before (Lost message ∷ sent) more =
-    ap (λ (d : Draft). with_lines d (map mark_of sent ++ more)) (lost_is lives stamp done before message)
+    ap (λ (d : Draft). with_each_line d (map mark_of sent ++ more)) (lost_is lives stamp done before message)
     ∙ run_sent lives stamp done (before ++ Lost message ∷ []) sent more
-    ∙ ap (λ (s : List Sent). with_lines (draft_of (Going lives stamp done s)) more) (append_assoc before (Lost message ∷ []) sent)
+    ∙ ap (λ (s : List Sent). with_each_line (draft_of (Going lives stamp done s)) more) (append_assoc before (Lost message ∷ []) sent)
 
 run_segment : (lives : List WrittenLife) (stamp : ℕ) (done : List (List Sent)) (sent : List Sent) (more : List Line)
-    → with_lines (draft_of (Going lives stamp done [])) (settled_marks sent ++ more) ≡ with_lines (draft_of (Going lives stamp (done ++ sent ∷ []) [])) more
+    → with_each_line (draft_of (Going lives stamp done [])) (settled_marks sent ++ more) ≡ with_each_line (draft_of (Going lives stamp (done ++ sent ∷ []) [])) more
 run_segment lives stamp done sent more =
-    ap (with_lines (draft_of (Going lives stamp done []))) (append_assoc (map mark_of sent) (Settle ∷ []) more)
+    ap (with_each_line (draft_of (Going lives stamp done []))) (append_assoc (map mark_of sent) (Settle ∷ []) more)
     ∙ run_sent lives stamp done [] sent (Settle ∷ more)
-    ∙ ap (λ (d : Draft). with_lines d more) (settled_is lives stamp done sent)
+    ∙ ap (λ (d : Draft). with_each_line d more) (settled_is lives stamp done sent)
 
 run_segments : (lives : List WrittenLife) (stamp : ℕ) (before done : List (List Sent)) (more : List Line)
-    → with_lines (draft_of (Going lives stamp before [])) (flat_map settled_marks done ++ more) ≡ with_lines (draft_of (Going lives stamp (before ++ done) [])) more
-run_segments lives stamp before [] more = ap (λ (d : List (List Sent)). with_lines (draft_of (Going lives stamp d [])) more) (sym (append-nil before))
+    → with_each_line (draft_of (Going lives stamp before [])) (flat_map settled_marks done ++ more) ≡ with_each_line (draft_of (Going lives stamp (before ++ done) [])) more
+run_segments lives stamp before [] more = ap (λ (d : List (List Sent)). with_each_line (draft_of (Going lives stamp d [])) more) (sym (append-nil before))
 run_segments lives stamp before (sent ∷ done) more =
-    ap (with_lines (draft_of (Going lives stamp before []))) (append_assoc (settled_marks sent) (flat_map settled_marks done) more)
+    ap (with_each_line (draft_of (Going lives stamp before []))) (append_assoc (settled_marks sent) (flat_map settled_marks done) more)
     ∙ run_segment lives stamp before sent (flat_map settled_marks done ++ more)
     ∙ run_segments lives stamp (before ++ sent ∷ []) done more
-    ∙ ap (λ (d : List (List Sent)). with_lines (draft_of (Going lives stamp d [])) more) (append_assoc before (sent ∷ []) done)
+    ∙ ap (λ (d : List (List Sent)). with_each_line (draft_of (Going lives stamp d [])) more) (append_assoc before (sent ∷ []) done)
 
 -- the crash of the life that goes on
 run_crash : (lives : List WrittenLife) (stamp : ℕ) (done : List (List Sent)) (sent : List Sent) (calls image : ℕ)
@@ -158,25 +158,25 @@ run_crash lives stamp done sent calls image = ap Some (crashed_is lives (crashed
 
 -- the lines of a life up to the segment that crashes
 run_life : (lives : List WrittenLife) (life : WrittenLife) (more : List Line)
-    → with_lines (draft_of (Between lives)) (life_marks life ++ more) ≡ with_lines (draft_of (Going lives life.stamp life.settled [])) (crash_marks life.crash ++ more)
+    → with_each_line (draft_of (Between lives)) (life_marks life ++ more) ≡ with_each_line (draft_of (Going lives life.stamp life.settled [])) (crash_marks life.crash ++ more)
 run_life lives life more =
-    ap (with_lines (draft_of (Between lives))) (append_assoc (Start life.stamp ∷ flat_map settled_marks life.settled) (crash_marks life.crash) more)
+    ap (with_each_line (draft_of (Between lives))) (append_assoc (Start life.stamp ∷ flat_map settled_marks life.settled) (crash_marks life.crash) more)
     ∙ run_segments lives life.stamp [] life.settled (crash_marks life.crash ++ more)
 
 run_end : (lives : List WrittenLife) (life : WrittenLife) (crash : Option Crashing) (more : List Line) → life.crash ≡ crash → IfSome crash IsCrash → IsSome crash
-    → with_lines (draft_of (Going lives life.stamp life.settled [])) (crash_marks crash ++ more) ≡ with_lines (draft_of (Between (lives ++ life ∷ []))) more
+    → with_each_line (draft_of (Going lives life.stamp life.settled [])) (crash_marks crash ++ more) ≡ with_each_line (draft_of (Between (lives ++ life ∷ []))) more
 run_end lives life None more e fit crashes = absurd cc
 run_end lives life (Some crash) more e fit crashes =
     let marks : crash_marks (Some crash) ++ more ≡ map mark_of crash.sent ++ (Crash crash.calls crash.image ∷ more) = append_assoc (map mark_of crash.sent) (Crash crash.calls crash.image ∷ []) more in
-    ap (with_lines (draft_of (Going lives life.stamp life.settled []))) marks
+    ap (with_each_line (draft_of (Going lives life.stamp life.settled []))) marks
     ∙ run_sent lives life.stamp life.settled [] crash.sent (Crash crash.calls crash.image ∷ more)
     ∙ run_on (draft_of (Going lives life.stamp life.settled crash.sent)) (draft_of (Between (lives ++ crashed_life life.stamp life.settled crash.sent crash.calls crash.image ∷ []))) (Crash crash.calls crash.image) more
     (run_crash lives life.stamp life.settled crash.sent crash.calls crash.image)
-    ∙ ap (λ (c : Option Crashing). with_lines (draft_of (Between (lives ++ record { stamp = life.stamp; settled = life.settled; crash = c } ∷ []))) more) (sym e)
+    ∙ ap (λ (c : Option Crashing). with_each_line (draft_of (Between (lives ++ record { stamp = life.stamp; settled = life.settled; crash = c } ∷ []))) more) (sym e)
 
 -- the last life, with a crash or without
 run_last : (lives : List WrittenLife) (life : WrittenLife) (crash : Option Crashing) → life.crash ≡ crash → IfSome crash IsCrash
-    → (with_lines (draft_of (Going lives life.stamp life.settled [])) (crash_marks crash ++ []) >>= script_of_draft) ≡ Some (script_of_lives (lives ++ life ∷ []))
+    → (with_each_line (draft_of (Going lives life.stamp life.settled [])) (crash_marks crash ++ []) >>= script_of_draft) ≡ Some (script_of_lives (lives ++ life ∷ []))
 run_last lives life None e fit =
     ap (λ (ls : List Life). Some (record { lives = ls }))
     (ap (λ (segments : List Segment). map life_of lives ++ record { stamp = life.stamp; segments = segments } ∷ []) (sym (ap (λ (c : Option Crashing). map settled_segment life.settled ++ crash_segments c) e ∙ append-nil (map settled_segment life.settled)))
@@ -184,8 +184,8 @@ run_last lives life None e fit =
 run_last lives life (Some crash) e fit = ap (λ (o : Option Draft). o >>= script_of_draft) (run_end lives life (Some crash) [] e fit refl)
 
 -- the lines of lives make the script that they are
-run_lives : (done lives : List WrittenLife) → AllByRecursion IsLife lives → EachButLast Crashes lives
-    → (with_lines (draft_of (Between done)) (script_marks lives) >>= script_of_draft) ≡ Some (script_of_lives (done ++ lives))
+run_lives : (done lives : List WrittenLife) → AllByRecursion IsLife lives → EachButLast EndsByCrash lives
+    → (with_each_line (draft_of (Between done)) (script_marks lives) >>= script_of_draft) ≡ Some (script_of_lives (done ++ lives))
 run_lives done [] fit crash = ap (λ (ls : List WrittenLife). Some (script_of_lives ls)) (sym (append-nil done))
 run_lives done (life ∷ []) fit crash =
     ap (λ (o : Option Draft). o >>= script_of_draft) (run_life done life []) ∙ run_last done life life.crash refl fit.0.crash
@@ -194,7 +194,7 @@ run_lives done (life ∷ next ∷ lives) fit crash =
     ∙ run_lives (done ++ life ∷ []) (next ∷ lives) fit.1 crash.1
     ∙ ap (λ (ls : List WrittenLife). Some (script_of_lives ls)) (append_assoc done (life ∷ []) (next ∷ lives))
 
-pub script_runs : (lives : List WrittenLife) → AreLives lives → (with_lines (draft_of (Between [])) (script_marks lives) >>= script_of_draft) ≡ Some (script_of_lives lives)
+pub script_runs : (lives : List WrittenLife) → AreLives lives → (with_each_line (draft_of (Between [])) (script_marks lives) >>= script_of_draft) ≡ Some (script_of_lives lives)
 script_runs lives fit = run_lives [] lives (recursion_from_All IsLife lives fit.each) fit.crash
 
 -- ---- one line for each message that is sent, and one message for each line

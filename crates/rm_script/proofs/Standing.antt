@@ -18,29 +18,29 @@ use Rattle.rm_script.specs.declared.drafts.Draft.{Draft}
 use Rattle.rm_script.specs.Lines.{lines_of, ended, is_skipped, kept_lines, IsLineText}
 use Rattle.rm_script.specs.Written.{Sent, WrittenLife, settled_segment, life_of, script_of_lives}
 use Rattle.rm_script.specs.Spelling.{start_text, life_lines, script_lines}
-use Rattle.rm_script.specs.Scripts.{IsSent, IsLife, Crashes, EachButLast, AreLives, Spell, IsScript}
+use Rattle.rm_script.specs.Scripts.{IsSent, IsLife, EndsByCrash, EachButLast, AreLives, Spell, IsScript}
 use Rattle.rm_script.specs.Refusals.{CanBegin, Stand}
 use Rattle.rm_script.specs.Results.{◌>>=◌}
 use Rattle.rm_types.specs.Limits.{greatest_stamp}
-use Rattle.rm_script.specs.Reading.{told_life, line_text, with_lines, no_lines, script_of_draft, IsLine, ReadsLines, ReadsAll}
+use Rattle.rm_script.specs.Reading.{told_life, line_text, with_each_line, no_lines, script_of_draft, IsLine, ReadsLines, ReadsAll}
 use Rattle.rm_script.proofs.Labels.{bound, not_chosen}
 use Rattle.rm_script.proofs.Drafting.{Written, Between, Going, living_of, draft_of, written_lines, AreCrashed, Fits, Grown, nothing_sent, settled_text, lines_of-push, with_lines_are}
 use Rattle.rm_script.proofs.Running.{script_marks, texts-lives, marks-lives, with_lines-append, one_lines, script_runs}
 
 -- ---- lives at the end of others
 
-last_apart : (lives : List WrittenLife) (last : WrittenLife) → AllByRecursion Crashes lives → EachButLast Crashes (lives ++ last ∷ [])
+last_apart : (lives : List WrittenLife) (last : WrittenLife) → AllByRecursion EndsByCrash lives → EachButLast EndsByCrash (lives ++ last ∷ [])
 last_apart [] last crash = tt
 last_apart (life ∷ []) last crash = (crash.0, tt)
 last_apart (life ∷ next ∷ lives) last crash = (crash.0, last_apart (next ∷ lives) last crash.1)
 
-each_apart : (lives : List WrittenLife) → AllByRecursion Crashes lives → EachButLast Crashes lives
+each_apart : (lives : List WrittenLife) → AllByRecursion EndsByCrash lives → EachButLast EndsByCrash lives
 each_apart [] crash = tt
 each_apart (life ∷ []) crash = tt
 each_apart (life ∷ next ∷ lives) crash = (crash.0, each_apart (next ∷ lives) crash.1)
 
 crashed_are_lives : (lives : List WrittenLife) → AreCrashed lives → AreLives lives
-crashed_are_lives lives fit = record { each = fit.each; crash = each_apart lives (recursion_from_All Crashes lives fit.crash) }
+crashed_are_lives lives fit = record { each = fit.each; crash = each_apart lives (recursion_from_All EndsByCrash lives fit.crash) }
 
 -- a life that hasn't crashed
 abbrev open_life : ℕ → List (List Sent) → WrittenLife
@@ -51,7 +51,7 @@ with_open_life : (lives : List WrittenLife) (stamp : ℕ) (done : List (List Sen
 with_open_life lives stamp done fit stamp_fits done_fit =
     let life : WrittenLife = open_life stamp done in
     let is : IsLife life = record { stamp = stamp_fits; settled = done_fit; crash = tt } in
-    record { each = All-push IsLife lives life fit.each is; crash = last_apart lives life (recursion_from_All Crashes lives fit.crash) }
+    record { each = All-push IsLife lives life fit.each is; crash = last_apart lives life (recursion_from_All EndsByCrash lives fit.crash) }
 
 -- ---- a draft can be finished
 
@@ -80,7 +80,7 @@ finish (Going lives stamp done sent) lines fits same =
     }
 
 no_lives : AreCrashed []
-no_lives = record { each = All-nil IsLife; crash = All-nil Crashes }
+no_lives = record { each = All-nil IsLife; crash = All-nil EndsByCrash }
 
 -- what was written of the lines that read as a draft
 grown_of : (count : ℕ) (bytes : List ℕ) (draft : Draft) → ReadsLines count bytes draft → Grown (Between []) (kept_lines (take count (lines_of bytes))) draft
@@ -156,10 +156,10 @@ stand_reads count bytes stand =
     let first : List Line = take (length front) marks in
     let apart : front ++ kept_lines stand.begin.more ≡ script_lines lives = sym (filter-append (λ line. not (is_skipped line)) lines stand.begin.more) ∙ stand.begin.spelled.text in
     let all_fit : AllByRecursion IsLine marks = marks-lives lives (recursion_from_All IsLife lives fit.each) in
-    let run = bound (with_lines no_lines marks) script_of_draft (script_of_lives lives) (script_runs lives fit) in
-    let split : (with_lines no_lines first >>= λ next. with_lines next (drop (length front) marks)) ≡ Some run.0 =
-    sym (with_lines-append no_lines first (drop (length front) marks)) ∙ ap (with_lines no_lines) (take-append-drop (length front) marks) ∙ run.1 in
-    let made = bound (with_lines no_lines first) (λ next. with_lines next (drop (length front) marks)) run.0 split in (
+    let run = bound (with_each_line no_lines marks) script_of_draft (script_of_lives lives) (script_runs lives fit) in
+    let split : (with_each_line no_lines first >>= λ next. with_each_line next (drop (length front) marks)) ≡ Some run.0 =
+    sym (with_lines-append no_lines first (drop (length front) marks)) ∙ ap (with_each_line no_lines) (take-append-drop (length front) marks) ∙ run.1 in
+    let made = bound (with_each_line no_lines first) (λ next. with_each_line next (drop (length front) marks)) run.0 split in (
       made.0,
       record {
         few = stand.limits.few;
@@ -177,7 +177,7 @@ pub script_is_read : (bytes : List ℕ) (script : Script) → IsScript bytes scr
 script_is_read bytes script is =
     let lives : List WrittenLife = is.spelled.lives in
     let fit : AreLives lives = is.spelled.fit in
-    let run = bound (with_lines no_lines (script_marks lives)) script_of_draft (script_of_lives lives) (script_runs lives fit) in
+    let run = bound (with_each_line no_lines (script_marks lives)) script_of_draft (script_of_lives lives) (script_runs lives fit) in
     record {
       draft = run.0;
       before = record {
@@ -197,7 +197,7 @@ pub one_draft : (count : ℕ) (bytes : List ℕ) (one other : Draft) → ReadsLi
 one_draft count bytes one other reads again =
     let lines : reads.lines ≡ again.lines =
     one_lines reads.lines again.lines (recursion_from_All IsLine reads.lines reads.fit) (recursion_from_All IsLine again.lines again.fit) (sym reads.texts ∙ again.texts) in
-    same_Some one other (sym reads.draft_is ∙ ap (with_lines no_lines) lines ∙ again.draft_is)
+    same_Some one other (sym reads.draft_is ∙ ap (with_each_line no_lines) lines ∙ again.draft_is)
 
 -- ---- fewer lines stand too
 

@@ -14,31 +14,32 @@ use Rattle.rm_types.specs.Limits.{most_lines}
 use Rattle.rm_script.specs.Lines.{lines_of, is_skipped, kept_lines}
 use Rattle.rm_script.specs.Written.{Sent, Delivered, Lost, Crashing, WrittenLife, delivered, settled_segment, crash_segments, life_of}
 use Rattle.rm_script.specs.Spelling.{sent_text, start_text, settled_lines, crash_lines, life_lines, script_lines}
-use Rattle.rm_script.specs.Scripts.{IsRead, IsSent, IsCrash, IsLife, Crashes, EachButLast, IsScript}
-use Rattle.rm_script.specs.Values.{Settles, EndInCrash, messages_in, IsToldLife, IsToldScript}
+use Rattle.rm_script.specs.Scripts.{IsReadMessage, IsSent, IsCrash, IsLife, EndsByCrash, EachButLast, IsScript}
+use Rattle.rm_script.specs.Values.{ClosesSettled, EndInCrash, IsToldLife, IsToldScript}
+use Rattle.rm_types.specs.Segments.{messages_in}
 
 -- ---- messages
 
-delivered_read : (sent : List Sent) → AllByRecursion IsSent sent → AllByRecursion IsRead (flat_map delivered sent)
+delivered_read : (sent : List Sent) → AllByRecursion IsSent sent → AllByRecursion IsReadMessage (flat_map delivered sent)
 delivered_read [] fit = tt
 delivered_read (Delivered message ∷ sent) fit = (fit.0, delivered_read sent fit.1)
 delivered_read (Lost message ∷ sent) fit = delivered_read sent fit.1
 
 abbrev AreRead : Segment → Type 0
-AreRead segment = All IsRead segment.messages
+AreRead segment = All IsReadMessage segment.messages
 
 settled_read : (done : List (List Sent)) → AllByRecursion (All IsSent) done → AllByRecursion AreRead (map settled_segment done)
 settled_read [] fit = tt
-settled_read (sent ∷ done) fit = (All-from_recursion IsRead (flat_map delivered sent) (delivered_read sent (recursion_from_All IsSent sent fit.0)), settled_read done fit.1)
+settled_read (sent ∷ done) fit = (All-from_recursion IsReadMessage (flat_map delivered sent) (delivered_read sent (recursion_from_All IsSent sent fit.0)), settled_read done fit.1)
 
 crash_read : (crash : Option Crashing) → IfSome crash IsCrash → All AreRead (crash_segments crash)
 crash_read None fit = All-nil AreRead
 crash_read (Some crash) fit =
-    All-cons AreRead _ [] (All-from_recursion IsRead (flat_map delivered crash.sent) (delivered_read crash.sent (recursion_from_All IsSent crash.sent fit.sent))) (All-nil AreRead)
+    All-cons AreRead _ [] (All-from_recursion IsReadMessage (flat_map delivered crash.sent) (delivered_read crash.sent (recursion_from_All IsSent crash.sent fit.sent))) (All-nil AreRead)
 
 -- ---- closes
 
-all_settle : (done : List (List Sent)) → AllByRecursion Settles (map settled_segment done)
+all_settle : (done : List (List Sent)) → AllByRecursion ClosesSettled (map settled_segment done)
 all_settle [] = tt
 all_settle (sent ∷ done) = (refl, all_settle done)
 
@@ -50,15 +51,15 @@ ends life (Some crash) fit crashes = record {
   calls = crash.calls;
   image = crash.image;
   apart = refl;
-  settle = All-from_recursion Settles (map settled_segment life.settled) (all_settle life.settled);
+  settle = All-from_recursion ClosesSettled (map settled_segment life.settled) (all_settle life.settled);
   calls_fit = fit.calls;
   image_fits = fit.image;
 }
 
 closes : (life : WrittenLife) (crash : Option Crashing) → IfSome crash IsCrash
-    → All Settles (map settled_segment life.settled ++ crash_segments crash) ⊎ EndInCrash (map settled_segment life.settled ++ crash_segments crash)
+    → All ClosesSettled (map settled_segment life.settled ++ crash_segments crash) ⊎ EndInCrash (map settled_segment life.settled ++ crash_segments crash)
 closes life None fit =
-    inl (All-append Settles (map settled_segment life.settled) [] (All-from_recursion Settles (map settled_segment life.settled) (all_settle life.settled)) (All-nil Settles))
+    inl (All-append ClosesSettled (map settled_segment life.settled) [] (All-from_recursion ClosesSettled (map settled_segment life.settled) (all_settle life.settled)) (All-nil ClosesSettled))
 closes life (Some crash) fit = inr (ends life (Some crash) fit refl)
 
 -- ---- how many
@@ -124,7 +125,7 @@ told_lives (life ∷ lives) fit few =
 abbrev CrashesSo : Life → Type 0
 CrashesSo life = EndInCrash life.segments
 
-told_crashes : (lives : List WrittenLife) → AllByRecursion IsLife lives → EachButLast Crashes lives → EachButLast CrashesSo (map life_of lives)
+told_crashes : (lives : List WrittenLife) → AllByRecursion IsLife lives → EachButLast EndsByCrash lives → EachButLast CrashesSo (map life_of lives)
 told_crashes [] fit crash = tt
 told_crashes (life ∷ []) fit crash = tt
 told_crashes (life ∷ next ∷ lives) fit crash = (ends life life.crash fit.0.crash crash.0, told_crashes (next ∷ lives) fit.1 crash.1)

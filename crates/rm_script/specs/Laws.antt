@@ -8,11 +8,11 @@ use Rattle.rm_types.specs.declared.ids.ContainerId.{ContainerId}
 use Rattle.rm_types.specs.declared.resources.Resource.{Resource}
 use Rattle.rm_formats.specs.IdTexts.{container_text}
 use Rattle.rm_formats.specs.Wording.{held_text, ask_text}
-use Rattle.rm_page.specs.Ranges.{IsHeld as IsShownHeld, IsAsk as IsShownAsk}
+use Rattle.rm_page.specs.Ranges.{IsPageHeld as IsShownHeld, IsPageAsk as IsShownAsk}
 use Rattle.rm_page.proofs.Bytes.{lacks}
 use Rattle.rm_page.proofs.ReadIds.{container_lacks}
 use Rattle.rm_page.proofs.ReadLists.{held_comes_back, ask_comes_back}
-use Rattle.rm_script.specs.Messages.{IsSize, IsHeld, IsAsk}
+use Rattle.rm_types.specs.Messages.{IsSize, IsHeld, IsAsk}
 
 -- no comma (44) stands in the text
 abbrev pub HasNoComma : List ℕ → Type 0

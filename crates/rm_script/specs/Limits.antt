@@ -1,6 +1,6 @@
 -- The limits that are a script's alone: of its bytes and of the numbers in it. This project's own.
 use Rattle.std.specs.Prelude.{ℕ}
-use Rattle.rm_script.specs.declared.limits.TheConstants.{MOST_BYTES, MOST_LINE_BYTES, GREATEST_CALLS, GREATEST_IMAGE, MOST_LISTED, GREATEST_PRIORITY, GREATEST_COUNT, GREATEST_RESPONSE, GREATEST_TURN, GREATEST_TICK}
+use Rattle.rm_script.specs.declared.limits.TheConstants.{MOST_BYTES, MOST_LINE_BYTES, GREATEST_CALLS, GREATEST_IMAGE, GREATEST_RESPONSE, GREATEST_TURN, GREATEST_TICK}
 
 -- how many bytes a script may have, line feeds counted
 abbrev pub most_bytes : ℕ
@@ -17,18 +17,6 @@ greatest_calls = GREATEST_CALLS
 -- the greatest number of an image that the device falls to
 abbrev pub greatest_image : ℕ
 greatest_image = GREATEST_IMAGE
-
--- how many items a list has at most
-abbrev pub most_listed : ℕ
-most_listed = MOST_LISTED
-
--- the greatest priority of an ask; 1 is the least
-abbrev pub greatest_priority : ℕ
-greatest_priority = GREATEST_PRIORITY
-
--- how many containers one ask is for at most
-abbrev pub greatest_count : ℕ
-greatest_count = GREATEST_COUNT
 
 -- the greatest response id that a master or a node names
 abbrev pub greatest_response : ℕ

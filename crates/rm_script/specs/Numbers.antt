@@ -34,7 +34,7 @@ abbrev pub number_within : ℕ → ℕ → ℕ → Option ℕ
 number_within least greatest number = if nat_le least number && nat_le number greatest then Some number else None
 
 -- the same of what the text writes
-abbrev pub number_in : ℕ → ℕ → List ℕ → Option ℕ
-number_in least greatest text = do
+abbrev pub number_between : ℕ → ℕ → List ℕ → Option ℕ
+number_between least greatest text = do
   number ← number_of text
   number_within least greatest number

@@ -17,7 +17,7 @@ use Rattle.rm_script.specs.declared.drafts.Draft.TheVariants as drafts
 use Rattle.rm_types.specs.Limits.{greatest_stamp, most_lines}
 use Rattle.rm_script.specs.Limits.{most_bytes, greatest_calls, greatest_image}
 use Rattle.rm_script.specs.Lines.{lines_of, size_of_first, is_skipped, kept_lines, IsLineText}
-use Rattle.rm_script.specs.Messages.{IsMessage}
+use Rattle.rm_script.specs.Messages.{IsScriptMessage}
 use Rattle.rm_script.specs.Results.{◌>>=◌}
 
 -- ---- a line by itself
@@ -46,8 +46,8 @@ IsLine Skipped = ⊥
 IsLine (Start stamp) = IsWithin 1 greatest_stamp stamp
 IsLine Settle = Unit {0}
 IsLine (Crash calls image) = IsCrashLine calls image
-IsLine (Deliver message) = IsMessage message
-IsLine (Lose message) = IsMessage message
+IsLine (Deliver message) = IsScriptMessage message
+IsLine (Lose message) = IsScriptMessage message
 
 -- the text is that of a line that says something
 pub record IsTextOf (text : List ℕ) (line : Line) : Type 0 where
@@ -125,11 +125,11 @@ pub record Takes (draft : Draft) (text : List ℕ) (next : Draft) : Type 0 where
   pub next_is : with_line draft line ≡ Some next
 
 -- a draft with these lines more, where they may stand there
-abbrev pub with_lines : Draft → List Line → Option Draft
-with_lines draft [] = Some draft
-with_lines draft (line ∷ lines) = do
+abbrev pub with_each_line : Draft → List Line → Option Draft
+with_each_line draft [] = Some draft
+with_each_line draft (line ∷ lines) = do
   next ← with_line draft line
-  with_lines next lines
+  with_each_line next lines
 
 -- the draft of no line
 abbrev pub no_lines : Draft
@@ -151,7 +151,7 @@ pub record ReadsLines (count : ℕ) (bytes : List ℕ) (draft : Draft) : Type 0 
   pub lines : List Line
   pub fit : All IsLine lines
   pub texts : kept_lines (take count (lines_of bytes)) ≡ map line_text lines
-  pub draft_is : with_lines no_lines lines ≡ Some draft
+  pub draft_is : with_each_line no_lines lines ≡ Some draft
 
 -- the line after so many doesn't
 pub record FailsAfter (count : ℕ) (bytes : List ℕ) : Type 0 where

@@ -1,5 +1,5 @@
 -- Which bytes are which script.
-pub use Rattle.rm_script.specs.Messages.{IsSubmission, IsClientAsk}
+pub use Rattle.rm_script.specs.Messages.{IsScriptSubmission, IsScriptClientAsk}
 use Rattle.std.specs.Prelude.{◌≡◌, ℕ, List, [], ◌∷◌, length, IfSome, IsSome, All}
 use Rattle.rm_types.specs.Ranges.{IsWithin}
 use Rattle.rm_types.specs.declared.messages.Message.{Message}
@@ -7,17 +7,17 @@ use Rattle.rm_types.specs.declared.scripts.Script.{Script}
 use Rattle.rm_types.specs.Limits.{greatest_stamp}
 use Rattle.rm_script.specs.Limits.{greatest_calls, greatest_image}
 use Rattle.rm_script.specs.Lines.{lines_of, kept_lines, KeepLimits}
-use Rattle.rm_script.specs.Messages.{IsMessage}
+use Rattle.rm_script.specs.Messages.{IsScriptMessage}
 use Rattle.rm_script.specs.Written.{Sent, message_of, Crashing, WrittenLife, script_of_lives}
 use Rattle.rm_script.specs.Spelling.{sent_text, script_lines}
 
 -- a message that may stand in a script: its parts are in their ranges
-abbrev pub IsRead : Message → Type 0
-IsRead message = IsMessage message
+abbrev pub IsReadMessage : Message → Type 0
+IsReadMessage message = IsScriptMessage message
 
 -- what is sent is such a message
 abbrev pub IsSent : Sent → Type 0
-IsSent sent = IsRead (message_of sent)
+IsSent sent = IsReadMessage (message_of sent)
 
 -- the line says that this is sent
 pub record IsLineOf (line : List ℕ) (sent : Sent) : Type 0 where
@@ -37,8 +37,8 @@ pub record IsLife (life : WrittenLife) : Type 0 where
   pub crash : IfSome life.crash IsCrash
 
 -- the life ends with a crash
-abbrev pub Crashes : WrittenLife → Type 0
-Crashes life = IsSome life.crash
+abbrev pub EndsByCrash : WrittenLife → Type 0
+EndsByCrash life = IsSome life.crash
 
 -- each but the last has it
 abbrev pub EachButLast : {X : Type 0} → (X → Type 0) → List X → Type 0
@@ -49,7 +49,7 @@ EachButLast P (first ∷ next ∷ more) = P first × EachButLast P (next ∷ mor
 -- the lives that a script may have: each may stand there, and each but the last crashes
 pub record AreLives (lives : List WrittenLife) : Type 0 where
   pub each : All IsLife lives
-  pub crash : EachButLast Crashes lives
+  pub crash : EachButLast EndsByCrash lives
 
 -- the lines spell the script: those that say something are the lines of lives that a script may have, and the script
 -- is what these lives tell the manager

@@ -8,11 +8,12 @@ use Rattle.rm_types.specs.declared.scripts.Life.{Life}
 use Rattle.rm_types.specs.declared.scripts.Script.{Script}
 use Rattle.rm_types.specs.Limits.{greatest_stamp, most_lines}
 use Rattle.rm_script.specs.Limits.{greatest_calls, greatest_image}
-use Rattle.rm_script.specs.Scripts.{IsRead, EachButLast}
+use Rattle.rm_script.specs.Scripts.{IsReadMessage, EachButLast}
+use Rattle.rm_types.specs.Segments.{messages_in}
 
 -- the segment settles
-abbrev pub Settles : Segment → Type 0
-Settles segment = segment.close ≡ Settle
+abbrev pub ClosesSettled : Segment → Type 0
+ClosesSettled segment = segment.close ≡ Settle
 
 -- the last segment ends in a crash, and those before it settle
 pub record EndInCrash (segments : List Segment) : Type 0 where
@@ -21,19 +22,15 @@ pub record EndInCrash (segments : List Segment) : Type 0 where
   pub calls : ℕ
   pub image : ℕ
   pub apart : segments ≡ before ++ record { messages = messages; close = Crash calls image } ∷ []
-  pub settle : All Settles before
+  pub settle : All ClosesSettled before
   pub calls_fit : IsWithin 0 greatest_calls calls
   pub image_fits : IsWithin 0 greatest_image image
-
--- how many messages are in the segments
-abbrev pub messages_in : List Segment → ℕ
-messages_in segments = sum_by (λ segment. length segment.messages) segments
 
 -- a life of a script that is read
 pub record IsToldLife (life : Life) : Type 0 where
   pub stamp : IsWithin 1 greatest_stamp life.stamp
-  pub messages : All (λ segment. All IsRead segment.messages) life.segments
-  pub closes : All Settles life.segments ⊎ EndInCrash life.segments
+  pub messages : All (λ segment. All IsReadMessage segment.messages) life.segments
+  pub closes : All ClosesSettled life.segments ⊎ EndInCrash life.segments
   pub few : messages_in life.segments ≤ most_lines
 
 -- a script that is read: each life but the last crashes

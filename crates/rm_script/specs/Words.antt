@@ -8,7 +8,7 @@ use Rattle.rm_types.specs.declared.containers.Ask.{Ask}
 use Rattle.rm_types.specs.declared.containers.Held.{Held}
 use Rattle.rm_formats.specs.IdTexts.{container_text}
 use Rattle.rm_formats.specs.Wording.{spaced}
-use Rattle.rm_script.specs.Messages.{IsList}
+use Rattle.rm_types.specs.Messages.{IsList}
 
 -- the pieces of a text between the places of a byte
 abbrev pub cut : ℕ → List ℕ → List (List ℕ)
@@ -37,13 +37,13 @@ line_front [] = None
 line_front (word ∷ words) = if bytes_eq word (codes "lose") then option_map (λ count. count + 1) (message_front words) else message_front (word ∷ words)
 
 -- words of which those behind the first so many are one
-abbrev pub with_text : Option ℕ → List (List ℕ) → List (List ℕ)
-with_text None words = words
-with_text (Some count) words = take count words ++ as_one (drop count words)
+abbrev pub with_last_text : Option ℕ → List (List ℕ) → List (List ℕ)
+with_last_text None words = words
+with_last_text (Some count) words = take count words ++ as_one (drop count words)
 
 -- the words of a line, with one space between each two; a text at its end in which spaces may stand is one word
 abbrev pub words_of : List ℕ → List (List ℕ)
-words_of line = with_text (line_front (cut 32 line)) (cut 32 line)
+words_of line = with_last_text (line_front (cut 32 line)) (cut 32 line)
 
 -- what stands after the label that a word begins with
 abbrev pub after_label : List ℕ → List ℕ → Option (List ℕ)

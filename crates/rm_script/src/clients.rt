@@ -2,7 +2,7 @@ ghost use Rattle.std.specs.Prelude.{ℕ, List, ◌∷◌, [], map, codes};
 ghost use Rattle.rm_types.specs.Ranges.{IsText};
 ghost use Rattle.rm_types.specs.declared.texts.TextKind.TheVariants.{AclText};
 ghost use Rattle.rm_formats.specs.Wording.{text_word, submission_words, client_words, message_words};
-ghost use Rattle.rm_script.specs.Messages.{IsSubmission, IsClientAsk, IsMessage};
+ghost use Rattle.rm_script.specs.Messages.{IsScriptSubmission, IsScriptClientAsk, IsScriptMessage};
 ghost use Rattle.rm_script.specs.Results.{Finds, IsOf};
 
 use crate::errors::LineError;
@@ -50,7 +50,7 @@ fn submission_of_fields(
     attempts: &[u8],
     more: &[&[u8]],
 ) -> Result<Submission, LineError>
-    ensures { Finds result (IsOf submission_words (IsSubmission user.now) (queue.now ∷ name.now ∷ memory.now ∷ vcores.now ∷ attempts.now ∷ map (λ word. word.now) more.now)) }
+    ensures { Finds result (IsOf submission_words (IsScriptSubmission user.now) (queue.now ∷ name.now ∷ memory.now ∷ vcores.now ∷ attempts.now ∷ map (λ word. word.now) more.now)) }
 {
     let queue = text_field(alloc, queue, "queue=", Part::Queue, TextKind::Queue)?;
     let name = text_field(alloc, name, "name=", Part::Name, TextKind::Name)?;
@@ -70,7 +70,7 @@ fn submission_of_fields(
 
 /// What the user submits.
 fn submission_of(alloc: Global, user: &[u8], fields: &[&[u8]]) -> Result<Submission, LineError>
-    ensures { Finds result (IsOf submission_words (IsSubmission user.now) (map (λ field. field.now) fields.now)) }
+    ensures { Finds result (IsOf submission_words (IsScriptSubmission user.now) (map (λ field. field.now) fields.now)) }
 {
     match fields {
         [queue, name, memory, vcores, attempts, more @ ..] => submission_of_fields(
@@ -87,7 +87,7 @@ fn submit_ask(
     app: &[u8],
     fields: &[&[u8]],
 ) -> Result<ClientAsk, LineError>
-    ensures { Finds result (IsOf client_words (IsClientAsk user.now) (codes "submit" ∷ app.now ∷ map (λ field. field.now) fields.now)) }
+    ensures { Finds result (IsOf client_words (IsScriptClientAsk user.now) (codes "submit" ∷ app.now ∷ map (λ field. field.now) fields.now)) }
 {
     let id = app_id(app)?;
     let submission = submission_of(alloc, user, fields)?;
@@ -96,7 +96,7 @@ fn submit_ask(
 
 /// An ask for an application with nothing but its id.
 fn bare_ask(verb: &[u8], app: &[u8]) -> Result<ClientAsk, LineError>
-    ensures { (user : List ℕ) → Finds result (IsOf client_words (IsClientAsk user) (verb.now ∷ app.now ∷ [])) }
+    ensures { (user : List ℕ) → Finds result (IsOf client_words (IsScriptClientAsk user) (verb.now ∷ app.now ∷ [])) }
 {
     if verb == "report".as_bytes() {
         Ok(ClientAsk::Report(app_id(app)?))
@@ -115,7 +115,7 @@ fn ask_for_app(
     app: &[u8],
     fields: &[&[u8]],
 ) -> Result<ClientAsk, LineError>
-    ensures { Finds result (IsOf client_words (IsClientAsk user.now) (verb.now ∷ app.now ∷ map (λ field. field.now) fields.now)) }
+    ensures { Finds result (IsOf client_words (IsScriptClientAsk user.now) (verb.now ∷ app.now ∷ map (λ field. field.now) fields.now)) }
 {
     if verb == "submit".as_bytes() {
         return submit_ask(alloc, user, app, fields);
@@ -128,7 +128,7 @@ fn ask_for_app(
 
 /// An ask of one word.
 fn lone_ask(verb: &[u8]) -> Result<ClientAsk, LineError>
-    ensures { (user : List ℕ) → Finds result (IsOf client_words (IsClientAsk user) (verb.now ∷ [])) }
+    ensures { (user : List ℕ) → Finds result (IsOf client_words (IsScriptClientAsk user) (verb.now ∷ [])) }
 {
     if verb == "new".as_bytes() {
         Ok(ClientAsk::New)
@@ -144,7 +144,7 @@ fn client_ask(
     verb: &[u8],
     words: &[&[u8]],
 ) -> Result<ClientAsk, LineError>
-    ensures { Finds result (IsOf client_words (IsClientAsk user.now) (verb.now ∷ map (λ word. word.now) words.now)) }
+    ensures { Finds result (IsOf client_words (IsScriptClientAsk user.now) (verb.now ∷ map (λ word. word.now) words.now)) }
 {
     match words {
         [] => lone_ask(verb),
@@ -159,7 +159,7 @@ fn message_of(
     verb: &[u8],
     words: &[&[u8]],
 ) -> Result<Message, LineError>
-    ensures { Finds result (IsOf message_words IsMessage (codes "client" ∷ user.now ∷ verb.now ∷ map (λ word. word.now) words.now)) }
+    ensures { Finds result (IsOf message_words IsScriptMessage (codes "client" ∷ user.now ∷ verb.now ∷ map (λ word. word.now) words.now)) }
 {
     let name = text(alloc, user, Part::User, TextKind::Name)?;
     let ask = client_ask(alloc, name.bytes(), verb, words)?;
@@ -168,7 +168,7 @@ fn message_of(
 
 /// The message of a client, by the words after `client`.
 pub(crate) fn client_message(alloc: Global, words: &[&[u8]]) -> Result<Message, LineError>
-    ensures { Finds result (IsOf message_words IsMessage (codes "client" ∷ map (λ word. word.now) words.now)) }
+    ensures { Finds result (IsOf message_words IsScriptMessage (codes "client" ∷ map (λ word. word.now) words.now)) }
 {
     match words {
         [user, verb, more @ ..] => message_of(alloc, user, verb, more),

@@ -1,6 +1,6 @@
 ghost use Rattle.std.specs.Prelude.{◌∷◌, [], map, codes};
 ghost use Rattle.rm_formats.specs.Wording.{clock_words, message_words};
-ghost use Rattle.rm_script.specs.Messages.{IsClockAsk, IsMessage};
+ghost use Rattle.rm_script.specs.Messages.{IsScriptClockAsk, IsScriptMessage};
 ghost use Rattle.rm_script.specs.Results.{Finds, IsOf};
 
 use crate::errors::LineError;
@@ -13,7 +13,7 @@ use std::alloc::Global;
 
 /// So many milliseconds go by, by the words after `tick`.
 fn tick(words: &[&[u8]]) -> Result<ClockAsk, LineError>
-    ensures { Finds result (IsOf clock_words IsClockAsk (codes "tick" ∷ map (λ word. word.now) words.now)) }
+    ensures { Finds result (IsOf clock_words IsScriptClockAsk (codes "tick" ∷ map (λ word. word.now) words.now)) }
 {
     match words {
         [] => Err(LineError::Refused(LineFault::Form)),
@@ -24,14 +24,14 @@ fn tick(words: &[&[u8]]) -> Result<ClockAsk, LineError>
 
 /// The same by their number.
 fn tick_of(time: &[u8]) -> Result<ClockAsk, LineError>
-    ensures { Finds result (IsOf clock_words IsClockAsk (codes "tick" ∷ time.now ∷ [])) }
+    ensures { Finds result (IsOf clock_words IsScriptClockAsk (codes "tick" ∷ time.now ∷ [])) }
 {
     Ok(ClockAsk::Tick(long_number(time, Part::Time, 1, GREATEST_TICK)?))
 }
 
 /// A lease runs out, by the words after `expire`.
 fn expiry(alloc: Global, words: &[&[u8]]) -> Result<ClockAsk, LineError>
-    ensures { Finds result (IsOf clock_words IsClockAsk (codes "expire" ∷ map (λ word. word.now) words.now)) }
+    ensures { Finds result (IsOf clock_words IsScriptClockAsk (codes "expire" ∷ map (λ word. word.now) words.now)) }
 {
     match words {
         [] => Err(LineError::Refused(LineFault::Form)),
@@ -41,7 +41,7 @@ fn expiry(alloc: Global, words: &[&[u8]]) -> Result<ClockAsk, LineError>
 
 /// The lease of a node or a master runs out, by the words after that.
 fn lease(alloc: Global, whose: &[u8], words: &[&[u8]]) -> Result<ClockAsk, LineError>
-    ensures { Finds result (IsOf clock_words IsClockAsk (codes "expire" ∷ whose.now ∷ map (λ word. word.now) words.now)) }
+    ensures { Finds result (IsOf clock_words IsScriptClockAsk (codes "expire" ∷ whose.now ∷ map (λ word. word.now) words.now)) }
 {
     match words {
         [] => Err(LineError::Refused(LineFault::Form)),
@@ -52,7 +52,7 @@ fn lease(alloc: Global, whose: &[u8], words: &[&[u8]]) -> Result<ClockAsk, LineE
 
 /// The same by the node's name or the attempt.
 fn lease_of(alloc: Global, whose: &[u8], name: &[u8]) -> Result<ClockAsk, LineError>
-    ensures { Finds result (IsOf clock_words IsClockAsk (codes "expire" ∷ whose.now ∷ name.now ∷ [])) }
+    ensures { Finds result (IsOf clock_words IsScriptClockAsk (codes "expire" ∷ whose.now ∷ name.now ∷ [])) }
 {
     if whose == "node".as_bytes() {
         Ok(ClockAsk::ExpireNode(text(alloc, name, Part::Node, TextKind::Node)?))
@@ -65,7 +65,7 @@ fn lease_of(alloc: Global, whose: &[u8], name: &[u8]) -> Result<ClockAsk, LineEr
 
 /// What the clock says, by the word that says it and the words after that.
 fn clock_ask(alloc: Global, verb: &[u8], words: &[&[u8]]) -> Result<ClockAsk, LineError>
-    ensures { Finds result (IsOf clock_words IsClockAsk (verb.now ∷ map (λ word. word.now) words.now)) }
+    ensures { Finds result (IsOf clock_words IsScriptClockAsk (verb.now ∷ map (λ word. word.now) words.now)) }
 {
     if verb == "tick".as_bytes() {
         tick(words)
@@ -78,14 +78,14 @@ fn clock_ask(alloc: Global, verb: &[u8], words: &[&[u8]]) -> Result<ClockAsk, Li
 
 /// The message of the clock, by the word that says it and the words after that.
 fn message_of(alloc: Global, verb: &[u8], words: &[&[u8]]) -> Result<Message, LineError>
-    ensures { Finds result (IsOf message_words IsMessage (codes "clock" ∷ verb.now ∷ map (λ word. word.now) words.now)) }
+    ensures { Finds result (IsOf message_words IsScriptMessage (codes "clock" ∷ verb.now ∷ map (λ word. word.now) words.now)) }
 {
     Ok(Message::Clock(clock_ask(alloc, verb, words)?))
 }
 
 /// The message of the clock, by the words after `clock`.
 pub(crate) fn clock_message(alloc: Global, words: &[&[u8]]) -> Result<Message, LineError>
-    ensures { Finds result (IsOf message_words IsMessage (codes "clock" ∷ map (λ word. word.now) words.now)) }
+    ensures { Finds result (IsOf message_words IsScriptMessage (codes "clock" ∷ map (λ word. word.now) words.now)) }
 {
     match words {
         [] => Err(LineError::Refused(LineFault::Form)),

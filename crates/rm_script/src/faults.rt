@@ -1,5 +1,5 @@
-use crate::limits::{MOST_BYTES, MOST_LINE_BYTES, MOST_LISTED};
-use rm_types::{MOST_LINES, TextKind};
+use crate::limits::{MOST_BYTES, MOST_LINE_BYTES};
+use rm_types::{MOST_LINES, MOST_LISTED, TextKind};
 use std::fmt;
 use std::fmt::InlineText;
 use thiserror::Error;

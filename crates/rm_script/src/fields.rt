@@ -2,7 +2,7 @@ ghost use Rattle.std.specs.Prelude.{◌++◌, ◌∷◌, [], codes};
 ghost use Rattle.std.specs.Fmt.{decimal};
 ghost use Rattle.rm_types.specs.Ranges.{IsText, IsAppId, IsAttemptId, IsContainerId};
 ghost use Rattle.rm_formats.specs.IdTexts.{app_text, attempt_text, container_text};
-ghost use Rattle.rm_script.specs.Messages.{IsSize};
+ghost use Rattle.rm_types.specs.Messages.{IsSize};
 ghost use Rattle.rm_script.specs.Results.{Finds, IsOf};
 
 use crate::errors::LineError;

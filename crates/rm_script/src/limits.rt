@@ -14,15 +14,6 @@ pub(crate) const GREATEST_CALLS: u32 = 1_000_000;
 /// The greatest number of an image that the device falls to.
 pub(crate) const GREATEST_IMAGE: u32 = u32::MAX;
 
-/// How many items a list has at most.
-pub(crate) const MOST_LISTED: usize = 1000;
-
-/// The greatest priority of an ask; 1 is the least.
-pub(crate) const GREATEST_PRIORITY: u32 = 1000;
-
-/// How many containers one ask is for at most.
-pub(crate) const GREATEST_COUNT: u32 = 1000;
-
 /// The greatest response id that a master or a node names.
 pub(crate) const GREATEST_RESPONSE: u32 = u32::MAX - 1;
 

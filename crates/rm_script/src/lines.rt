@@ -3,7 +3,7 @@ ghost use Rattle.std.specs.List.{list_all};
 ghost use Rattle.rm_types.specs.Texts.{is_printable};
 ghost use Rattle.rm_formats.specs.Wording.{message_words};
 ghost use Rattle.rm_script.specs.Lines.{lines_of, is_skipped};
-ghost use Rattle.rm_script.specs.Messages.{IsMessage};
+ghost use Rattle.rm_script.specs.Messages.{IsScriptMessage};
 ghost use Rattle.rm_script.specs.Results.{Finds, IsOf};
 ghost use Rattle.rm_script.specs.Reading.{line_words, IsLine, IsLineAs};
 
@@ -105,7 +105,7 @@ fn crash_line(words: &[&[u8]]) -> Result<Line, LineError>
 
 /// The message of a sender, by the words after it.
 fn message_from(alloc: Global, sender: &[u8], words: &[&[u8]]) -> Result<Message, LineError>
-    ensures { Finds result (IsOf message_words IsMessage (sender.now ∷ map (λ word. word.now) words.now)) }
+    ensures { Finds result (IsOf message_words IsScriptMessage (sender.now ∷ map (λ word. word.now) words.now)) }
 {
     if sender == "client".as_bytes() {
         client_message(alloc, words)

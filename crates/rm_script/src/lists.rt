@@ -2,7 +2,7 @@ ghost use Rattle.std.specs.Prelude.{◌≡◌, ◌<◌, ℕ, List, [], ◌∷◌
 ghost use Rattle.rm_types.specs.Ranges.{IsContainerId};
 ghost use Rattle.rm_formats.specs.IdTexts.{container_text};
 ghost use Rattle.rm_formats.specs.Wording.{listed, list_word, held_text, ask_text};
-ghost use Rattle.rm_script.specs.Messages.{IsList, IsHeld, IsAsk};
+ghost use Rattle.rm_types.specs.Messages.{IsList, IsHeld, IsAsk};
 ghost use Rattle.rm_script.specs.Results.{Finds, IsOf};
 ghost use Rattle.rm_script.specs.Words.{after_label, held_parts, ask_parts, IsSomeList};
 ghost use Rattle.rm_script.specs.Laws.{HasNoComma, container_lacks_comma, held_lacks_comma, ask_lacks_comma};
@@ -10,10 +10,9 @@ ghost use Rattle.rm_script.specs.Laws.{HasNoComma, container_lacks_comma, held_l
 use crate::errors::LineError;
 use crate::faults::{LineFault, Part};
 use crate::fields::{container_id, size};
-use crate::limits::{GREATEST_COUNT, GREATEST_PRIORITY, MOST_LISTED};
 use crate::numbers::number;
 use crate::words::{after_label, pieces};
-use rm_types::{Ask, ContainerId, Held, Items};
+use rm_types::{Ask, ContainerId, GREATEST_COUNT, GREATEST_PRIORITY, Held, Items, MOST_LISTED};
 use std::alloc::Global;
 
 /// What may stand in a list, with a comma between each two.

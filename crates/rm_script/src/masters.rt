@@ -1,6 +1,6 @@
 ghost use Rattle.std.specs.Prelude.{◌∷◌, [], map, codes};
 ghost use Rattle.rm_formats.specs.Wording.{master_words, message_words};
-ghost use Rattle.rm_script.specs.Messages.{IsMasterAsk, IsMessage};
+ghost use Rattle.rm_script.specs.Messages.{IsScriptMasterAsk, IsScriptMessage};
 ghost use Rattle.rm_script.specs.Results.{Finds, IsOf};
 
 use crate::errors::LineError;
@@ -14,7 +14,7 @@ use std::alloc::Global;
 
 /// What a master asks that registers, by the words after `register`: there are none.
 fn register_ask(words: &[&[u8]]) -> Result<MasterAsk, LineError>
-    ensures { Finds result (IsOf master_words IsMasterAsk (codes "register" ∷ map (λ word. word.now) words.now)) }
+    ensures { Finds result (IsOf master_words IsScriptMasterAsk (codes "register" ∷ map (λ word. word.now) words.now)) }
 {
     match words {
         [] => Ok(MasterAsk::Register),
@@ -24,7 +24,7 @@ fn register_ask(words: &[&[u8]]) -> Result<MasterAsk, LineError>
 
 /// What a master asks that ends, by what it says: one byte at least.
 fn last_word(alloc: Global, note: &[u8]) -> Result<MasterAsk, LineError>
-    ensures { Finds result (IsOf master_words IsMasterAsk (codes "finish" ∷ note.now ∷ [])) }
+    ensures { Finds result (IsOf master_words IsScriptMasterAsk (codes "finish" ∷ note.now ∷ [])) }
 {
     if note.is_empty() {
         return Err(LineError::Refused(LineFault::Text {
@@ -39,7 +39,7 @@ fn last_word(alloc: Global, note: &[u8]) -> Result<MasterAsk, LineError>
 
 /// What a master asks that ends, by the words after `finish`.
 fn finish_ask(alloc: Global, words: &[&[u8]]) -> Result<MasterAsk, LineError>
-    ensures { Finds result (IsOf master_words IsMasterAsk (codes "finish" ∷ map (λ word. word.now) words.now)) }
+    ensures { Finds result (IsOf master_words IsScriptMasterAsk (codes "finish" ∷ map (λ word. word.now) words.now)) }
 {
     match words {
         [] => Err(LineError::Refused(LineFault::Form)),
@@ -50,7 +50,7 @@ fn finish_ask(alloc: Global, words: &[&[u8]]) -> Result<MasterAsk, LineError>
 
 /// What a master asks for and releases.
 fn allocation(alloc: Global, id: &[u8], lists: &[&[u8]]) -> Result<MasterAsk, LineError>
-    ensures { Finds result (IsOf master_words IsMasterAsk (codes "allocate" ∷ id.now ∷ map (λ word. word.now) lists.now)) }
+    ensures { Finds result (IsOf master_words IsScriptMasterAsk (codes "allocate" ∷ id.now ∷ map (λ word. word.now) lists.now)) }
 {
     let id = number(id, Part::Response, 0, GREATEST_RESPONSE)?;
     let (asks, release) = two_lists(alloc, lists, "ask=", "release=")?;
@@ -59,7 +59,7 @@ fn allocation(alloc: Global, id: &[u8], lists: &[&[u8]]) -> Result<MasterAsk, Li
 
 /// What a master asks for and releases, by the words after `allocate`.
 fn allocate_ask(alloc: Global, words: &[&[u8]]) -> Result<MasterAsk, LineError>
-    ensures { Finds result (IsOf master_words IsMasterAsk (codes "allocate" ∷ map (λ word. word.now) words.now)) }
+    ensures { Finds result (IsOf master_words IsScriptMasterAsk (codes "allocate" ∷ map (λ word. word.now) words.now)) }
 {
     match words {
         [id, lists @ ..] => allocation(alloc, id, lists),
@@ -69,7 +69,7 @@ fn allocate_ask(alloc: Global, words: &[&[u8]]) -> Result<MasterAsk, LineError>
 
 /// What a master asks, by the word that says it and the words after that.
 fn master_ask(alloc: Global, verb: &[u8], words: &[&[u8]]) -> Result<MasterAsk, LineError>
-    ensures { Finds result (IsOf master_words IsMasterAsk (verb.now ∷ map (λ word. word.now) words.now)) }
+    ensures { Finds result (IsOf master_words IsScriptMasterAsk (verb.now ∷ map (λ word. word.now) words.now)) }
 {
     if verb == "register".as_bytes() {
         register_ask(words)
@@ -89,7 +89,7 @@ fn message_of(
     verb: &[u8],
     words: &[&[u8]],
 ) -> Result<Message, LineError>
-    ensures { Finds result (IsOf message_words IsMessage (codes "master" ∷ attempt.now ∷ verb.now ∷ map (λ word. word.now) words.now)) }
+    ensures { Finds result (IsOf message_words IsScriptMessage (codes "master" ∷ attempt.now ∷ verb.now ∷ map (λ word. word.now) words.now)) }
 {
     let attempt = attempt_id(attempt)?;
     let ask = master_ask(alloc, verb, words)?;
@@ -98,7 +98,7 @@ fn message_of(
 
 /// The message of a master, by the words after `master`.
 pub(crate) fn master_message(alloc: Global, words: &[&[u8]]) -> Result<Message, LineError>
-    ensures { Finds result (IsOf message_words IsMessage (codes "master" ∷ map (λ word. word.now) words.now)) }
+    ensures { Finds result (IsOf message_words IsScriptMessage (codes "master" ∷ map (λ word. word.now) words.now)) }
 {
     match words {
         [attempt, verb, more @ ..] => message_of(alloc, attempt, verb, more),

@@ -1,6 +1,6 @@
 ghost use Rattle.std.specs.Prelude.{◌∷◌, map, codes};
 ghost use Rattle.rm_formats.specs.Wording.{node_words, message_words};
-ghost use Rattle.rm_script.specs.Messages.{IsNodeAsk, IsMessage};
+ghost use Rattle.rm_script.specs.Messages.{IsScriptNodeAsk, IsScriptMessage};
 ghost use Rattle.rm_script.specs.Results.{Finds, IsOf};
 
 use crate::errors::LineError;
@@ -20,7 +20,7 @@ fn registration(
     vcores: &[u8],
     lists: &[&[u8]],
 ) -> Result<NodeAsk, LineError>
-    ensures { Finds result (IsOf node_words IsNodeAsk (codes "register" ∷ turn.now ∷ memory.now ∷ vcores.now ∷ map (λ word. word.now) lists.now)) }
+    ensures { Finds result (IsOf node_words IsScriptNodeAsk (codes "register" ∷ turn.now ∷ memory.now ∷ vcores.now ∷ map (λ word. word.now) lists.now)) }
 {
     let turn = number(turn, Part::Turn, 1, GREATEST_TURN)?;
     let capability = size_fields(memory, vcores)?;
@@ -34,7 +34,7 @@ fn registration(
 
 /// What a node says that registers, by the words after `register`.
 fn register_ask(alloc: Global, words: &[&[u8]]) -> Result<NodeAsk, LineError>
-    ensures { Finds result (IsOf node_words IsNodeAsk (codes "register" ∷ map (λ word. word.now) words.now)) }
+    ensures { Finds result (IsOf node_words IsScriptNodeAsk (codes "register" ∷ map (λ word. word.now) words.now)) }
 {
     match words {
         [turn, memory, vcores, lists @ ..] => registration(alloc, turn, memory, vcores, lists),
@@ -44,7 +44,7 @@ fn register_ask(alloc: Global, words: &[&[u8]]) -> Result<NodeAsk, LineError>
 
 /// What a node says in a beat, by its id and the words that may say what runs on it and what is done.
 fn beat(alloc: Global, id: &[u8], lists: &[&[u8]]) -> Result<NodeAsk, LineError>
-    ensures { Finds result (IsOf node_words IsNodeAsk (codes "beat" ∷ id.now ∷ map (λ word. word.now) lists.now)) }
+    ensures { Finds result (IsOf node_words IsScriptNodeAsk (codes "beat" ∷ id.now ∷ map (λ word. word.now) lists.now)) }
 {
     let id = number(id, Part::Response, 0, GREATEST_RESPONSE)?;
     let (running, done) = two_lists(alloc, lists, "running=", "done=")?;
@@ -53,7 +53,7 @@ fn beat(alloc: Global, id: &[u8], lists: &[&[u8]]) -> Result<NodeAsk, LineError>
 
 /// What a node says in a beat, by the words after `beat`.
 fn beat_ask(alloc: Global, words: &[&[u8]]) -> Result<NodeAsk, LineError>
-    ensures { Finds result (IsOf node_words IsNodeAsk (codes "beat" ∷ map (λ word. word.now) words.now)) }
+    ensures { Finds result (IsOf node_words IsScriptNodeAsk (codes "beat" ∷ map (λ word. word.now) words.now)) }
 {
     match words {
         [id, lists @ ..] => beat(alloc, id, lists),
@@ -63,7 +63,7 @@ fn beat_ask(alloc: Global, words: &[&[u8]]) -> Result<NodeAsk, LineError>
 
 /// What a node says, by the word that says it and the words after that.
 fn node_ask(alloc: Global, verb: &[u8], words: &[&[u8]]) -> Result<NodeAsk, LineError>
-    ensures { Finds result (IsOf node_words IsNodeAsk (verb.now ∷ map (λ word. word.now) words.now)) }
+    ensures { Finds result (IsOf node_words IsScriptNodeAsk (verb.now ∷ map (λ word. word.now) words.now)) }
 {
     if verb == "register".as_bytes() {
         register_ask(alloc, words)
@@ -81,7 +81,7 @@ fn message_of(
     verb: &[u8],
     words: &[&[u8]],
 ) -> Result<Message, LineError>
-    ensures { Finds result (IsOf message_words IsMessage (codes "node" ∷ node.now ∷ verb.now ∷ map (λ word. word.now) words.now)) }
+    ensures { Finds result (IsOf message_words IsScriptMessage (codes "node" ∷ node.now ∷ verb.now ∷ map (λ word. word.now) words.now)) }
 {
     let node = text(alloc, node, Part::Node, TextKind::Node)?;
     let ask = node_ask(alloc, verb, words)?;
@@ -90,7 +90,7 @@ fn message_of(
 
 /// The message of a node, by the words after `node`.
 pub(crate) fn node_message(alloc: Global, words: &[&[u8]]) -> Result<Message, LineError>
-    ensures { Finds result (IsOf message_words IsMessage (codes "node" ∷ map (λ word. word.now) words.now)) }
+    ensures { Finds result (IsOf message_words IsScriptMessage (codes "node" ∷ map (λ word. word.now) words.now)) }
 {
     match words {
         [node, verb, more @ ..] => message_of(alloc, node, verb, more),

@@ -1,7 +1,7 @@
 ghost use Rattle.std.specs.Prelude.{◌≡◌, ◌++◌};
 ghost use Rattle.std.specs.Fmt.{decimal};
 ghost use Rattle.rm_types.specs.Ranges.{IsWithin};
-ghost use Rattle.rm_script.specs.Numbers.{digit_after, number_after, number_of, number_within, number_in};
+ghost use Rattle.rm_script.specs.Numbers.{digit_after, number_after, number_of, number_within, number_between};
 ghost use Rattle.rm_script.specs.Results.{Finds, IsOf};
 
 use crate::errors::LineError;
@@ -56,7 +56,7 @@ fn number_within(number: u64, least: u64, greatest: u64) -> Option<u64>
 /// The number that the text writes in decimal digits, with no zero before them, where it is neither below the least nor above the
 /// greatest; `None` where it writes no such number.
 pub fn number_in(text: &[u8], least: u64, greatest: u64) -> Option<u64>
-    ensures { result ≡ number_in least greatest text.now }
+    ensures { result ≡ number_between least greatest text.now }
 {
     let number = number_of(text)?;
     number_within(number, least, greatest)

@@ -3,7 +3,7 @@ use Rattle.std.proofs.Common.{◌≡◌, ℕ, zero, suc, ◌+◌, ◌-◌, ◌�
 use Rattle.std.specs.List.{flat_map, range_with_len, AllByRecursion}
 use Rattle.std.proofs.lemmas.List.{append-nil, map-append}
 use Rattle.std.proofs.lemmas.List.Concat.{flat_map-append}
-use Rattle.rm_soak.specs.Scripts.{app_messages, messages_of, registration, settled}
+use Rattle.rm_soak.specs.Scripts.{app_messages, messages_of, registration, own_segment}
 
 range-suc : (first count : ℕ) → range_with_len first (suc count) ≡ range_with_len first count ++ (first + count) ∷ []
 range-suc first zero = ap (λ last. last ∷ []) (omega arith)
@@ -23,14 +23,14 @@ apps-suc stamp k =
     ap (λ more. registration ∷ more) (numbers ∙ parts ∙ ap (λ last. flat_map (app_messages stamp) (range_with_len 1 k) ++ last) (append-nil (app_messages stamp (1 + k))))
 
 -- the segments of one more application
-pub settled-more : (stamp k : ℕ) → 1 ≤ k → map settled (messages_of stamp (k - 1)) ++ map settled (app_messages stamp k) ≡ map settled (messages_of stamp ((k + 1) - 1))
+pub settled-more : (stamp k : ℕ) → 1 ≤ k → map own_segment (messages_of stamp (k - 1)) ++ map own_segment (app_messages stamp k) ≡ map own_segment (messages_of stamp ((k + 1) - 1))
 settled-more stamp zero some = absurd (omega arith)
 settled-more stamp (suc before) some =
     let less : suc before - 1 ≡ before = omega arith in
     let more : (suc before + 1) - 1 ≡ suc before = omega arith in
     let place : 1 + before ≡ suc before = omega arith in
-    ap (λ k. map settled (messages_of stamp k) ++ map settled (app_messages stamp (suc before))) less
-    ∙ sym (map-append settled (messages_of stamp before) (app_messages stamp (suc before)))
-    ∙ ap (λ k. map settled (messages_of stamp before ++ app_messages stamp k)) (sym place)
-    ∙ ap (map settled) (sym (apps-suc stamp before))
-    ∙ ap (λ k. map settled (messages_of stamp k)) (sym more)
+    ap (λ k. map own_segment (messages_of stamp k) ++ map own_segment (app_messages stamp (suc before))) less
+    ∙ sym (map-append own_segment (messages_of stamp before) (app_messages stamp (suc before)))
+    ∙ ap (λ k. map own_segment (messages_of stamp before ++ app_messages stamp k)) (sym place)
+    ∙ ap (map own_segment) (sym (apps-suc stamp before))
+    ∙ ap (λ k. map own_segment (messages_of stamp k)) (sym more)

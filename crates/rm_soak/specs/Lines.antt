@@ -8,6 +8,8 @@ use Rattle.rm_types.specs.declared.operations.How.TheVariants.{Finished}
 use Rattle.rm_types.specs.declared.operations.Op.{Op}
 use Rattle.rm_types.specs.declared.operations.Op.TheVariants.{AppEnd}
 use Rattle.rm_types.specs.Lists.{is_nil}
+use Rattle.rm_types.specs.Records.{is_finished}
+use Rattle.rm_types.specs.Entries.{granted_count}
 
 -- the entry begins a life
 abbrev pub is_opened : Entry → Bool
@@ -20,28 +22,18 @@ is_served (Served sender message reply) = true
 is_served entry = false
 
 -- the entry keeps an operation
-abbrev pub is_kept : Entry → Bool
-is_kept (Kept op) = true
-is_kept entry = false
-
--- the containers that the entry grants
-abbrev pub granted_in : Entry → ℕ
-granted_in (Pass node grants) = length grants
-granted_in entry = 0
-
--- it ended as finished
-abbrev pub is_finish : How → Bool
-is_finish Finished = true
-is_finish how = false
+abbrev pub keeps_op : Entry → Bool
+keeps_op (Kept op) = true
+keeps_op entry = false
 
 -- the operation says that an application finished
-abbrev pub is_finished : Op → Bool
-is_finished (AppEnd id how text) = is_finish how
-is_finished op = false
+abbrev pub finishes_app : Op → Bool
+finishes_app (AppEnd id how text) = is_finished how
+finishes_app op = false
 
 -- the entry keeps such an operation
 abbrev pub keeps_finished : Entry → Bool
-keeps_finished (Kept op) = is_finished op
+keeps_finished (Kept op) = finishes_app op
 keeps_finished entry = false
 
 -- the line of a soak of so many applications: the lives that were opened, the messages that were served, the containers
@@ -51,9 +43,9 @@ soak_line number log =
     codes "soak " ++ decimal number
     ++ codes " lives=" ++ decimal (count_by is_opened log)
     ++ codes " served=" ++ decimal (count_by is_served log)
-    ++ codes " grants=" ++ decimal (sum_by granted_in log)
+    ++ codes " grants=" ++ decimal (sum_by granted_count log)
     ++ codes " finished=" ++ decimal (count_by keeps_finished log)
-    ++ codes " kept=" ++ decimal (count_by is_kept log)
+    ++ codes " kept=" ++ decimal (count_by keeps_op log)
     ++ codes "\n"
 
 -- what a soak writes: its line, and nothing where the log is empty

@@ -38,8 +38,8 @@ abbrev pub user_of : ℕ → List ℕ
 user_of k = codes "u" ++ decimal (k % 7)
 
 -- what is submitted
-abbrev pub submission_of : ℕ → Submission
-submission_of k =
+abbrev pub soak_submission : ℕ → Submission
+soak_submission k =
     record { user = user_of k; queue = codes "root.default"; name = codes "job"; master = container_size; attempts = 0; modify = [] }
 
 -- its user asks
@@ -70,7 +70,7 @@ two_containers = record { priority = 1; count = 2; size = container_size }
 abbrev pub start_messages : ℕ → ℕ → List Message
 start_messages stamp k =
     client_asks k clients.New
-    ∷ client_asks k (clients.Submit (app_of stamp k) (submission_of k))
+    ∷ client_asks k (clients.Submit (app_of stamp k) (soak_submission k))
     ∷ beat (first_beat k)
     ∷ beat (first_beat k + 1)
     ∷ master_asks stamp k masters.Register
@@ -104,26 +104,26 @@ abbrev pub messages_of : ℕ → ℕ → List Message
 messages_of stamp apps = registration ∷ flat_map (app_messages stamp) (range_with_len 1 apps)
 
 -- a message in a segment of its own, which settles
-abbrev pub settled : Message → Segment
-settled message = record { messages = message ∷ []; close = Settle }
+abbrev pub own_segment : Message → Segment
+own_segment message = record { messages = message ∷ []; close = Settle }
 
 -- a crash right after what settled: no device call passes, and what wasn't synced is lost
-abbrev pub crashed : Segment
-crashed = record { messages = []; close = Crash 0 0 }
+abbrev pub crash_segment : Segment
+crash_segment = record { messages = []; close = Crash 0 0 }
 
 -- no life follows
-abbrev pub is_last : ℕ → ℕ → Bool
-is_last number life = life + 1 == lives_of number
+abbrev pub is_last_life : ℕ → ℕ → Bool
+is_last_life number life = life + 1 == lives_of number
 
 -- how a life ends
 abbrev pub ending_of : ℕ → ℕ → List Segment
-ending_of number life = if is_last number life then [] else crashed ∷ []
+ending_of number life = if is_last_life number life then [] else crash_segment ∷ []
 
 -- a life of a soak of so many applications: each message settles, and the stamp rises by one from life to life
-abbrev pub life_of : ℕ → ℕ → Life
-life_of number life =
-    record { stamp = first_stamp; segments = map settled (messages_of (first_stamp + life) (apps_in number life)) ++ ending_of number life }
+abbrev pub soak_life : ℕ → ℕ → Life
+soak_life number life =
+    record { stamp = first_stamp; segments = map own_segment (messages_of (first_stamp + life) (apps_in number life)) ++ ending_of number life }
 
 -- the script of a soak of so many applications
 abbrev pub soak_of : ℕ → Script
-soak_of number = record { lives = map (life_of number) (range_with_len 0 (lives_of number)) }
+soak_of number = record { lives = map (soak_life number) (range_with_len 0 (lives_of number)) }

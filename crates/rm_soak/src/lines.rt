@@ -1,5 +1,6 @@
 ghost use Rattle.std.specs.Prelude.{◌≡◌, ◌++◌, codes, decimal, count_by, sum_by, OnOk, IfOk};
-ghost use Rattle.rm_soak.specs.Lines.{is_opened, is_served, is_finished, is_kept, keeps_finished, granted_in, soak_line, soak_page};
+ghost use Rattle.rm_soak.specs.Lines.{is_opened, is_served, finishes_app, keeps_op, keeps_finished, soak_line, soak_page};
+ghost use Rattle.rm_types.specs.Entries.{granted_count};
 
 use itoa::{Buffer, Integer};
 use rm_types::{Entry, How, Items, NoMemory, Op};
@@ -86,7 +87,7 @@ fn finished_in(entries: &[Entry]) -> usize
 
 /// How many operations they keep.
 fn kept_in(entries: &[Entry]) -> usize
-    ensures { result ≡ count_by is_kept entries.now }
+    ensures { result ≡ count_by keeps_op entries.now }
 {
     let mut kept = 0;
     'kept: for entry in entries {
@@ -100,7 +101,7 @@ fn kept_in(entries: &[Entry]) -> usize
 /// How many containers they grant. The number of entries and that of the containers of one are below
 /// 2^64 each.
 fn grants_in(entries: &[Entry]) -> u128
-    ensures { result ≡ sum_by granted_in entries.now }
+    ensures { result ≡ sum_by granted_count entries.now }
 {
     let mut granted = 0;
     'granted: for entry in entries {
@@ -111,7 +112,7 @@ fn grants_in(entries: &[Entry]) -> u128
 
 /// How many containers the entry grants.
 fn granted_in(entry: &Entry) -> usize
-    ensures { result ≡ granted_in entry.now }
+    ensures { result ≡ granted_count entry.now }
 {
     match entry {
         Entry::Pass { node: _, grants } => grants.get().len(),
@@ -135,7 +136,7 @@ fn is_served(entry: &Entry) -> bool
 
 /// The entry keeps an operation.
 fn is_kept(entry: &Entry) -> bool
-    ensures { result ≡ is_kept entry.now }
+    ensures { result ≡ keeps_op entry.now }
 {
     matches!(entry, Entry::Kept { .. })
 }
@@ -152,7 +153,7 @@ fn keeps_finished(entry: &Entry) -> bool
 
 /// The operation says that an application finished.
 fn is_finished(op: &Op) -> bool
-    ensures { result ≡ is_finished op.now }
+    ensures { result ≡ finishes_app op.now }
 {
     match op {
         Op::AppEnd {

@@ -1,6 +1,6 @@
 ghost use Rattle.std.specs.Prelude.{◌≡◌, [], ◌∷◌, codes, IfOk};
 ghost use Rattle.rm_types.specs.declared.messages.MasterAsk.TheVariants as masters;
-ghost use Rattle.rm_soak.specs.Scripts.{beat, client_asks, registration, submission_of, two_containers, user_of};
+ghost use Rattle.rm_soak.specs.Scripts.{beat, client_asks, registration, soak_submission, two_containers, user_of};
 
 use itoa::Buffer;
 use rm_types::{
@@ -35,7 +35,7 @@ pub fn client_asks(alloc: Global, k: u32, ask: ClientAsk) -> Result<Message, NoM
 
 /// What is submitted for the k-th application.
 pub fn submission_of(alloc: Global, k: u32) -> Result<Submission, NoMemory>
-    ensures { IfOk result (λ submission. submission ≡ submission_of k) }
+    ensures { IfOk result (λ submission. submission ≡ soak_submission k) }
 {
     let user = user_of(alloc, k)?;
     let queue = Text::from_bytes(alloc, b"root.default")?;

@@ -1,7 +1,7 @@
 ghost use Rattle.std.specs.Prelude.{◌≡◌, ◌≤◌, ◌<◌, [], ◌∷◌, ◌++◌, map, IfOk, OnOk};
 ghost use Rattle.rm_script.specs.Values.{IsToldScript};
 ghost use Rattle.rm_soak.specs.Limits.{most_in_life, most_soaked};
-ghost use Rattle.rm_soak.specs.Scripts.{app_messages, apps_in, crashed, life_of, lives_of, messages_of, settled, soak_of, start_messages, work_messages};
+ghost use Rattle.rm_soak.specs.Scripts.{app_messages, apps_in, crash_segment, soak_life, lives_of, messages_of, own_segment, soak_of, start_messages, work_messages};
 
 use crate::limits::{FIRST_STAMP, MOST_IN_LIFE};
 use crate::messages::{
@@ -50,7 +50,7 @@ fn apps_in(number: u32, life: u32) -> u32
 fn life_of(alloc: Global, number: u32, life: u32) -> Result<Life, NoMemory>
     requires few { number ≤ most_soaked }
     requires among { life < lives_of number }
-    ensures { IfOk result (λ told. told ≡ life_of number life) }
+    ensures { IfOk result (λ told. told ≡ soak_life number life) }
 {
     let mut segments = settled_in(alloc, FIRST_STAMP + u64::from(life), apps_in(number, life))?;
     if life + 1 != lives_of(number) {
@@ -64,7 +64,7 @@ fn life_of(alloc: Global, number: u32, life: u32) -> Result<Life, NoMemory>
 
 /// A crash right after what settled.
 fn crashed(alloc: Global) -> Segment
-    ensures { result ≡ crashed }
+    ensures { result ≡ crash_segment }
 {
     Segment {
         messages: Items::new(alloc),
@@ -75,7 +75,7 @@ fn crashed(alloc: Global) -> Segment
 /// The segments of a life with the stamp and so many applications, without the one that crashes.
 fn settled_in(alloc: Global, stamp: u64, apps: u32) -> Result<Items<Segment>, NoMemory>
     requires { apps ≤ most_in_life }
-    ensures { IfOk result (λ segments. segments ≡ map settled (messages_of stamp apps)) }
+    ensures { IfOk result (λ segments. segments ≡ map own_segment (messages_of stamp apps)) }
 {
     let mut segments = Items::new(alloc);
     push_settled(alloc, registration(alloc)?, &mut segments)?;
@@ -94,7 +94,7 @@ fn push_app(
 ) -> Result<(), NoMemory>
     requires first { 1 ≤ k }
     requires last { k ≤ most_in_life }
-    ensures { OnOk result (segments.new ≡ segments.old ++ map settled (app_messages stamp k)) }
+    ensures { OnOk result (segments.new ≡ segments.old ++ map own_segment (app_messages stamp k)) }
 {
     push_start(alloc, stamp, k, segments)?;
     push_work(alloc, stamp, k, segments)?;
@@ -110,7 +110,7 @@ fn push_start(
 ) -> Result<(), NoMemory>
     requires first { 1 ≤ k }
     requires last { k ≤ most_in_life }
-    ensures { OnOk result (segments.new ≡ segments.old ++ map settled (start_messages stamp k)) }
+    ensures { OnOk result (segments.new ≡ segments.old ++ map own_segment (start_messages stamp k)) }
 {
     let id = AppId { stamp, number: k };
     let attempt = AttemptId { app: id, number: 1 };
@@ -136,7 +136,7 @@ fn push_work(
 ) -> Result<(), NoMemory>
     requires first { 1 ≤ k }
     requires last { k ≤ most_in_life }
-    ensures { OnOk result (segments.new ≡ segments.old ++ map settled (work_messages stamp k)) }
+    ensures { OnOk result (segments.new ≡ segments.old ++ map own_segment (work_messages stamp k)) }
 {
     let id = AppId { stamp, number: k };
     let attempt = AttemptId { app: id, number: 1 };
@@ -158,7 +158,7 @@ fn push_settled(
     message: Message,
     segments: &mut Items<Segment>,
 ) -> Result<(), NoMemory>
-    ensures { OnOk result (segments.new ≡ segments.old ++ settled message ∷ []) }
+    ensures { OnOk result (segments.new ≡ segments.old ++ own_segment message ∷ []) }
 {
     let mut messages = Items::new(alloc);
     messages.push(message)?;

@@ -15,7 +15,7 @@ use Rattle.rm_tree.specs.Shows.{shows}
 use Rattle.rm_areas.specs.Areas.{HasLayout}
 use Rattle.rm_folding.specs.Amounts.{Amounts, amounts}
 use Rattle.rm_types.specs.Folded.{folded, stays}
-use Rattle.rm_types.specs.Alike.{IsAlike, bare}
+use Rattle.rm_types.specs.Alike.{IsAlike, without_end_order}
 use Rattle.rm_folding.proofs.Folded.{fits_told, folded_none_stray, folded_again, bare_found}
 use Rattle.rm_folding.proofs.Ordering.{tells_all, same_amounts, alike}
 use Rattle.rm_store.specs.Content.{ReadsAs, DeviceHolds, half_of}
@@ -29,36 +29,36 @@ fits_same content ops op same =
     ∙ sym (fits_told (records ops) (amounts ops) op (tells_all ops))
 
 -- an operation shows or not, whatever the numbers are
-shows_bare : (r : Records) (op : Op) → shows r op ≡ shows (record { next_epoch = r.next_epoch; stamp = r.stamp; apps = map bare r.apps; applied = 0 }) op
+shows_bare : (r : Records) (op : Op) → shows r op ≡ shows (record { next_epoch = r.next_epoch; stamp = r.stamp; apps = map without_end_order r.apps; applied = 0 }) op
 shows_bare r (Epoch next stamp) = refl
 shows_bare r (App id submission) = rw (bare_found r.apps id) (by (record_of r.apps id))
   where
-    by : (o : Option AppRecord) → is_some o ≡ is_some (option_map bare o)
+    by : (o : Option AppRecord) → is_some o ≡ is_some (option_map without_end_order o)
     by None = refl
     by (Some app) = refl
 shows_bare r (Attempt id master node) = rw (bare_found r.apps id.app) (by (record_of r.apps id.app))
   where
-    by : (o : Option AppRecord) → is_some_and (λ app. not (nat_lt (length app.attempts) id.number)) o ≡ is_some_and (λ app. not (nat_lt (length app.attempts) id.number)) (option_map bare o)
+    by : (o : Option AppRecord) → is_some_and (λ app. not (nat_lt (length app.attempts) id.number)) o ≡ is_some_and (λ app. not (nat_lt (length app.attempts) id.number)) (option_map without_end_order o)
     by None = refl
     by (Some app) = refl
 shows_bare r (AttemptEnd id how text) = rw (bare_found r.apps id.app) (by (record_of r.apps id.app))
   where
-    by : (o : Option AppRecord) → is_some_and (λ app. not (is_nil app.attempts) && not (is_unended_last id app)) o ≡ is_some_and (λ app. not (is_nil app.attempts) && not (is_unended_last id app)) (option_map bare o)
+    by : (o : Option AppRecord) → is_some_and (λ app. not (is_nil app.attempts) && not (is_unended_last id app)) o ≡ is_some_and (λ app. not (is_nil app.attempts) && not (is_unended_last id app)) (option_map without_end_order o)
     by None = refl
     by (Some app) = refl
 shows_bare r (AppEnd id how text) = rw (bare_found r.apps id) (by (record_of r.apps id))
   where
-    by : (o : Option AppRecord) → is_some_and (λ app. is_some app.ending) o ≡ is_some_and (λ app. is_some app.ending) (option_map bare o)
+    by : (o : Option AppRecord) → is_some_and (λ app. is_some app.ending) o ≡ is_some_and (λ app. is_some app.ending) (option_map without_end_order o)
     by None = refl
     by (Some app) = refl
 shows_bare r (Remove id) = rw (bare_found r.apps id) (by (record_of r.apps id))
   where
-    by : (o : Option AppRecord) → is_none o ≡ is_none (option_map bare o)
+    by : (o : Option AppRecord) → is_none o ≡ is_none (option_map without_end_order o)
     by None = refl
     by (Some app) = refl
 
 shows_like : (r s : Records) (op : Op) → IsAlike r s → shows r op ≡ shows s op
-shows_like r s op l = shows_bare r op ∙ parts r.next_epoch s.next_epoch r.stamp s.stamp (map bare r.apps) (map bare s.apps) l.epoch l.stamp l.apps ∙ sym (shows_bare s op)
+shows_like r s op l = shows_bare r op ∙ parts r.next_epoch s.next_epoch r.stamp s.stamp (map without_end_order r.apps) (map without_end_order s.apps) l.epoch l.stamp l.apps ∙ sym (shows_bare s op)
   where
     parts : (e f t u : ℕ) (x y : List AppRecord) → e ≡ f → t ≡ u → x ≡ y → shows (record { next_epoch = e; stamp = t; apps = x; applied = 0 }) op ≡ shows (record { next_epoch = f; stamp = u; apps = y; applied = 0 }) op
     parts e f t u x y a b c = rw (a, b, c) refl

@@ -19,7 +19,7 @@ use Rattle.rm_store.proofs.Framed.{reads_frames, reads_more, reads_one}
 use Rattle.rm_store.proofs.Contents.{unchanged, added, refolded, framed_left, folded_twice}
 use Rattle.rm_folding.proofs.Folded.{folded_none_stray}
 use Rattle.rm_disk.proofs.Views.{told_after, told_before}
-use Rattle.rm_areas.specs.Areas.{AreasAt, AreasInvariant, AreasHold, HasLayout, HoldsPayloads, LeavesEither, head_of}
+use Rattle.rm_areas.specs.Areas.{AreasAt, AreasInvariant, AreasHold, HasLayout, HoldsPayloads, LeavesEitherLayout, head_of}
 use Rattle.rm_areas.proofs.Unique.{one_layout}
 use Rattle.rm_areas.proofs.Moments.{at_once, moment_of, moment_on}
 use Rattle.rm_areas.proofs.Steps.{each_has, layout}
@@ -88,7 +88,7 @@ module _ (payloads : List (List ℕ)) (content ops : List Op) (op : Op) (reads :
   added_holds : (half : ℕ) (image : List ℕ) → HasLayout half (payloads ++ frame op ∷ []) image → DeviceHolds image (ops ++ op ∷ [])
   added_holds half image there = added image payloads content ops op reads none same can fits (own_half half (payloads ++ frame op ∷ []) image there)
 
-  pub put_leaves : (v0 v1 : DiskView) (half : ℕ) → LeavesEither v0 v1 half payloads (payloads ++ frame op ∷ []) → LeavesOps v0 v1 ops op
+  pub put_leaves : (v0 v1 : DiskView) (half : ℕ) → LeavesEitherLayout v0 v1 half payloads (payloads ++ frame op ∷ []) → LeavesOps v0 v1 ops op
   put_leaves v0 v1 half at = moment_of (λ image. HasLayout half payloads image ⊎ HasLayout half (payloads ++ frame op ∷ []) image) (λ image. DeviceHolds image ops ⊎ DeviceHolds image (ops ++ op ∷ [])) v0 v1 either at
     where
       either : (image : List ℕ) → HasLayout half payloads image ⊎ HasLayout half (payloads ++ frame op ∷ []) image → DeviceHolds image ops ⊎ DeviceHolds image (ops ++ op ∷ [])
@@ -130,7 +130,7 @@ ops_same v a content kept reads op can ops has fits =
 
 -- before any call
 pub put_same : (v : DiskView) (a : AreasAt) → AreasInvariant v a → a.is_broken ≡ false → ((bytes : List ℕ) → v.told ≡ Some bytes → v.images bytes) → (more : List ℕ)
-    → IfTold v (λ bytes. (payloads : List (List ℕ)) → AreasHold a payloads bytes → LeavesEither v v a.half payloads (payloads ++ more ∷ []))
+    → IfTold v (λ bytes. (payloads : List (List ℕ)) → AreasHold a payloads bytes → LeavesEitherLayout v v a.half payloads (payloads ++ more ∷ []))
 put_same v a stands sound reads more bytes told payloads has =
     moment_of (AreasHold a payloads) (λ image. HasLayout a.half payloads image ⊎ HasLayout a.half (payloads ++ more ∷ []) image) v v (λ image h. inl (layout a payloads image h))
     (at_once (AreasHold a payloads) v (each_has v a stands sound reads bytes payloads told has))
@@ -167,7 +167,7 @@ kept_more v w a b content more op can framed stands sound no_build is goes had p
 
 -- an area changes, or doesn't
 pub refold_only : (v0 v1 : DiskView) (a : AreasAt) (content left : List Op) (op : Op) → IsOperation op → IsKept v0 a content → left ≡ folded content → (ops : List Op) → HasOps v0 ops → fits_records (records ops) op ≡ true
-    → IfTold v0 (λ bytes. (payloads : List (List ℕ)) → AreasHold a payloads bytes → LeavesEither v0 v1 a.half payloads (map frame left)) → LeavesOps v0 v1 ops op
+    → IfTold v0 (λ bytes. (payloads : List (List ℕ)) → AreasHold a payloads bytes → LeavesEitherLayout v0 v1 a.half payloads (map frame left)) → LeavesOps v0 v1 ops op
 refold_only v0 v1 a content left op can kept is ops has fits at =
     let t = there_is v0 a content ops kept has in
     moment_of (λ image. DeviceHolds image ops) (λ image. DeviceHolds image ops ⊎ DeviceHolds image (ops ++ op ∷ [])) v0 v1 (λ image h. inl h)
@@ -189,8 +189,8 @@ module _ (v0 v1 v2 : DiskView) (a a1 : AreasAt) (content left : List Op) (op : O
     left_none : stray left ≡ None
     left_none = ap stray is ∙ folded_none_stray content there.none
 
-    pub both_leave : IfTold v0 (λ bytes. (payloads : List (List ℕ)) → AreasHold a payloads bytes → LeavesEither v0 v1 a.half payloads (map frame left))
-        → IfTold v1 (λ bytes. (payloads : List (List ℕ)) → AreasHold a1 payloads bytes → LeavesEither v1 v2 a1.half payloads (payloads ++ frame op ∷ [])) → LeavesOps v0 v2 ops op
+    pub both_leave : IfTold v0 (λ bytes. (payloads : List (List ℕ)) → AreasHold a payloads bytes → LeavesEitherLayout v0 v1 a.half payloads (map frame left))
+        → IfTold v1 (λ bytes. (payloads : List (List ℕ)) → AreasHold a1 payloads bytes → LeavesEitherLayout v1 v2 a1.half payloads (payloads ++ frame op ∷ [])) → LeavesOps v0 v2 ops op
     both_leave at second =
         let t = there in
         let b = told_after v0 v1 goes t.bytes t.told in

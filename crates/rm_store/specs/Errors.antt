@@ -20,24 +20,24 @@ IsOpenError NeedsReopen = ⊥
 IsOpenError _ = Unit {0}
 
 -- An append gives up with one of these.
-abbrev pub IsAppendError : StoreError → Type 0
-IsAppendError (Damaged _) = ⊥
-IsAppendError (Stray _ _) = ⊥
-IsAppendError _ = Unit {0}
+abbrev pub IsStoreAppendError : StoreError → Type 0
+IsStoreAppendError (Damaged _) = ⊥
+IsStoreAppendError (Stray _ _) = ⊥
+IsStoreAppendError _ = Unit {0}
 
 -- A whole store gives up with one of these.
 abbrev pub IsWriteError : StoreError → Type 0
 IsWriteError NeedsReopen = ⊥
-IsWriteError error = IsAppendError error
+IsWriteError error = IsStoreAppendError error
 
 -- These an append answers before it touches anything.
-abbrev pub IsRefusal : StoreError → Type 0
-IsRefusal NeedsReopen = Unit {0}
-IsRefusal (Full _ _) = Unit {0}
-IsRefusal _ = ⊥
+abbrev pub IsStoreRefusal : StoreError → Type 0
+IsStoreRefusal NeedsReopen = Unit {0}
+IsStoreRefusal (Full _ _) = Unit {0}
+IsStoreRefusal _ = ⊥
 
 -- An append that fails on the disk, or finds no memory, breaks the store.
-abbrev pub broken_after : {T : Type 0} → Result T StoreError → Bool → Bool
-broken_after (Err DiskFault) was = true
-broken_after (Err Memory) was = true
-broken_after _ was = was
+abbrev pub store_broken_after : {T : Type 0} → Result T StoreError → Bool → Bool
+store_broken_after (Err DiskFault) was = true
+store_broken_after (Err Memory) was = true
+store_broken_after _ was = was

@@ -8,7 +8,7 @@ ghost use Rattle.rm_formats.specs.Frames.{frame};
 ghost use Rattle.rm_disk.specs.Disk.{IfTold, IsLaterView};
 ghost use Rattle.rm_journal.specs.declared.journal.TheConstants.{CALLS_OF_APPEND};
 ghost use Rattle.rm_areas.specs.declared.areas.TheConstants.{GENERATION_RECORD};
-ghost use Rattle.rm_areas.specs.Areas.{AreasInvariant, AreasHold, HoldsPayloads, LeavesEither};
+ghost use Rattle.rm_areas.specs.Areas.{AreasInvariant, AreasHold, HoldsPayloads, LeavesEitherLayout};
 ghost use Rattle.rm_store.specs.Changing.{IsChangeError};
 ghost use Rattle.rm_store.specs.Content.{room_for};
 ghost use Rattle.rm_store.specs.Kept.{IsKept, HasOps, LeavesOps, AddsOp, IsFull, IsPutError, needed_for, room_here, told_room, calls_of_change};
@@ -40,7 +40,7 @@ fn put<D: Disk>(
     ensures stands { AreasInvariant (D.view disk.new) areas.new }
     ensures unbroken { OnOk result (areas.new.is_broken ≡ false) }
     ensures no_build { areas.new.build ≡ None }
-    ensures any_moment { IfTold (D.view disk.old) (λ bytes. (payloads : List (List ℕ)) → AreasHold areas.old payloads bytes → LeavesEither (D.view disk.old) (D.view disk.new) areas.old.half payloads (payloads ++ frame op.now ∷ [])) }
+    ensures any_moment { IfTold (D.view disk.old) (λ bytes. (payloads : List (List ℕ)) → AreasHold areas.old payloads bytes → LeavesEitherLayout (D.view disk.old) (D.view disk.new) areas.old.half payloads (payloads ++ frame op.now ∷ [])) }
     ensures added { OnOk result (IfTold (D.view disk.old) (λ bytes. (payloads : List (List ℕ)) → AreasHold areas.old payloads bytes → HoldsPayloads (D.view disk.new) areas.old.half (payloads ++ frame op.now ∷ []))) }
     ensures now { OnOk result (IfTold (D.view disk.old) (λ bytes. (payloads : List (List ℕ)) → AreasHold areas.old payloads bytes → IfTold (D.view disk.new) (AreasHold areas.new (payloads ++ frame op.now ∷ [])))) }
     ensures kept { D.keeps (is_ok result) disk.old disk.new }

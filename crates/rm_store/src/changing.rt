@@ -5,7 +5,7 @@ ghost use Rattle.rm_formats.specs.Frames.{frame};
 ghost use Rattle.rm_formats.specs.Device.{journal_records};
 ghost use Rattle.rm_disk.specs.Disk.{IfTold, EachImage, IsLaterView};
 ghost use Rattle.rm_areas.specs.declared.areas.TheConstants.{GENERATION_RECORD};
-ghost use Rattle.rm_areas.specs.Areas.{AreasInvariant, AreasHold, IsBuilt, LeavesEither, other_end, head_of};
+ghost use Rattle.rm_areas.specs.Areas.{AreasInvariant, AreasHold, IsBuilt, LeavesEitherLayout, other_end, head_of};
 ghost use Rattle.rm_store.specs.Changing.{KeepsPayloads, TellsPayloads, IsChangeError};
 ghost use Rattle.rm_store.specs.Store.{KeepsOwn};
 
@@ -88,7 +88,7 @@ pub fn change_area<D: Disk>(
     ensures half { areas.new.half ≡ areas.old.half }
     ensures fresh { OnOk result ((areas.new.is_broken ≡ false) × (areas.new.build ≡ None) × (areas.new.generation ≡ areas.old.generation + 1)) }
     ensures room { OnOk result (areas.new.journal.end - areas.new.journal.gate ≡ areas.old.half - length (journal_records (head_of (suc areas.old.generation) ++ map frame ops.now))) }
-    ensures any_moment { IfTold (D.view disk.old) (λ bytes. (payloads : List (List ℕ)) → AreasHold areas.old payloads bytes → LeavesEither (D.view disk.old) (D.view disk.new) areas.old.half payloads (map frame ops.now)) }
+    ensures any_moment { IfTold (D.view disk.old) (λ bytes. (payloads : List (List ℕ)) → AreasHold areas.old payloads bytes → LeavesEitherLayout (D.view disk.old) (D.view disk.new) areas.old.half payloads (map frame ops.now)) }
     ensures now { OnOk result (IfTold (D.view disk.new) (AreasHold areas.new (map frame ops.now)) × EachImage (D.view disk.new) (AreasHold areas.new (map frame ops.now))) }
     ensures own { (areas.old.generation ≡ 0 → ops.now ≡ []) → KeepsOwn (D.view disk.old) (D.view disk.new) }
     ensures kept { D.keeps (is_ok result) disk.old disk.new }

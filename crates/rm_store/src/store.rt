@@ -7,7 +7,7 @@ ghost use Rattle.rm_disk.specs.Fuse.{FaultedFuse, KeepsFuse};
 ghost use Rattle.rm_journal.specs.declared.journal.TheConstants.{CALLS_OF_APPEND};
 ghost use Rattle.rm_store.specs.Causes.{IsWhy, IsFaultless};
 ghost use Rattle.rm_store.specs.Content.{HasContent};
-ghost use Rattle.rm_store.specs.Errors.{IsOpenError, IsAppendError, IsRefusal, broken_after};
+ghost use Rattle.rm_store.specs.Errors.{IsOpenError, IsStoreAppendError, IsStoreRefusal, store_broken_after};
 ghost use Rattle.rm_store.specs.Kept.{HasOps, LeavesOps, AddsOp, IsFull, needed_for, room_here, told_room, calls_of_change};
 ghost use Rattle.rm_store.specs.Store.{with_disk, seen, StoreInvariant, IsBelowLast, AreRead, LooksOwn, StaysOwn, room_behind};
 
@@ -113,7 +113,7 @@ impl<D: Disk> Store<D> {
         requires op { IsOperation op.now }
 
         ensures sound { StoreInvariant D.view self.new }
-        ensures broken { self.new.is_broken ≡ broken_after result self.old.is_broken }
+        ensures broken { self.new.is_broken ≡ store_broken_after result self.old.is_broken }
 
         // A crash at any moment leaves the operations from before, or these and the new one.
         ensures any_moment { self.old.is_broken ≡ false → (ops : List AnyOp) → HasOps (seen D.view self.old.disk) ops → fits_records (records ops) op.now ≡ true → LeavesOps (seen D.view self.old.disk) (seen D.view self.new.disk) ops op.now }
@@ -127,8 +127,8 @@ impl<D: Disk> Store<D> {
         ensures own { (ops : List AnyOp) → HasOps (seen D.view self.old.disk) ops → LooksOwn (seen D.view self.old.disk) → StaysOwn (seen D.view self.old.disk) (seen D.view self.new.disk) }
 
         // When each error comes, and what it leaves.
-        ensures errors { IfErr result IsAppendError }
-        ensures refused { IfErr result (λ error. IsRefusal error → self.new ≡ self.old) }
+        ensures errors { IfErr result IsStoreAppendError }
+        ensures refused { IfErr result (λ error. IsStoreRefusal error → self.new ≡ self.old) }
         ensures reopen { (result ≡ Err StoreError.NeedsReopen) ↔ (self.old.is_broken ≡ true) }
         ensures full { self.old.is_broken ≡ false → IsFull self.old.areas self.old.content op.now → (result ≡ Err (StoreError.Full (needed_for op.now) (told_room self.old.areas self.old.content))) ⊎ (result ≡ Err StoreError.Memory) }
         ensures only_full { (needed room : ℕ) → result ≡ Err (StoreError.Full needed room) → (needed ≡ needed_for op.now) × (room < needed) × IsFull self.old.areas self.old.content op.now × (room ≡ told_room self.old.areas self.old.content) }
@@ -177,7 +177,7 @@ impl<D: Disk> Store<D> {
 
 /// Whether an append with this outcome leaves it open what the disk holds.
 fn breaks(outcome: &Result<(), StoreError>) -> bool
-    ensures { result ≡ broken_after outcome.now false }
+    ensures { result ≡ store_broken_after outcome.now false }
 {
     matches!(outcome, Err(StoreError::DiskFault | StoreError::Memory))
 }

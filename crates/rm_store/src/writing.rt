@@ -5,7 +5,7 @@ ghost use Rattle.rm_types.specs.Records.{records, fits_records};
 ghost use Rattle.rm_disk.specs.Disk.{IsLaterView};
 ghost use Rattle.rm_journal.specs.declared.journal.TheConstants.{CALLS_OF_APPEND};
 ghost use Rattle.rm_areas.specs.Areas.{AreasInvariant};
-ghost use Rattle.rm_store.specs.Errors.{IsWriteError, broken_after};
+ghost use Rattle.rm_store.specs.Errors.{IsWriteError, store_broken_after};
 ghost use Rattle.rm_store.specs.Kept.{IsKept, HasOps, LeavesOps, AddsOp, IsFull, needed_for, room_here, told_room, calls_of_change};
 ghost use Rattle.rm_store.specs.Store.{KeepsOwn};
 
@@ -30,7 +30,7 @@ pub fn write_op<D: Disk>(
     requires op { IsOperation op.now }
 
     ensures stands { AreasInvariant (D.view disk.new) areas.new }
-    ensures stays { broken_after result false ≡ false → IsKept (D.view disk.new) areas.new content.new }
+    ensures stays { store_broken_after result false ≡ false → IsKept (D.view disk.new) areas.new content.new }
     ensures any_moment { (ops : List AnyOp) → HasOps (D.view disk.old) ops → fits_records (records ops) op.now ≡ true → LeavesOps (D.view disk.old) (D.view disk.new) ops op.now }
     ensures added { OnOk result ((ops : List AnyOp) → HasOps (D.view disk.old) ops → fits_records (records ops) op.now ≡ true → AddsOp (D.view disk.new) ops op.now) }
     ensures kept { D.keeps (is_ok result) disk.old disk.new }

@@ -15,7 +15,8 @@ use Rattle.rm_types.specs.Ids.{is_attempt}
 use Rattle.rm_types.specs.Passes.{total_of}
 use Rattle.rm_types.specs.Records.{is_some_and, last_attempt, record_of}
 use Rattle.rm_types.specs.Resources.{difference_of, fits}
-use Rattle.rm_book.specs.Books.{BookOf, capability_of, ids_on, is_held, row_of as book_row_of, with_taken}
+use Rattle.rm_book.specs.Books.{BookOf, capability_of, node_containers, book_row as book_row_of, book_with_taken}
+use Rattle.rm_types.specs.Containers.{is_held}
 use Rattle.rm_model.specs.Facts.{attempts_in}
 use Rattle.rm_tables.specs.declared.nodes.NodeChange.TheVariants.{Absorb, Unlaunch}
 use Rattle.rm_tables.specs.declared.nodes.NodeRow.{NodeRow}
@@ -23,7 +24,7 @@ use Rattle.rm_tables.specs.declared.rows.AppRow.{AppRow}
 use Rattle.rm_tables.specs.declared.tables.Tables.{Tables}
 use Rattle.rm_tables.specs.Actions.{sched_quiet}
 use Rattle.rm_tables.specs.Leaving.{told_all}
-use Rattle.rm_tables.specs.Nodes.{changed_row, is_waiting, with_node}
+use Rattle.rm_tables.specs.Nodes.{changed_row, is_waiting_row, with_node}
 use Rattle.rm_tables.specs.Rows.{row_of}
 
 -- the attempt was kept when the life began
@@ -54,29 +55,29 @@ is_elsewhere name None = false
 is_elsewhere name (Some row) = not (bytes_eq row.node name)
 
 -- what is left of what the node offers beside what was taken so far
-abbrev pub left_beside : Resource → List Held → Resource
-left_beside capability taken = difference_of capability (total_of (map (λ held. held.size) taken))
+abbrev pub capability_left : Resource → List Held → Resource
+capability_left capability taken = difference_of capability (total_of (map (λ held. held.size) taken))
 
 -- a container that counts may be taken
-abbrev pub may_take : Tables → List ℕ → Resource → List Held → Held → Bool
-may_take t name capability taken held =
+abbrev pub tables_may_take : Tables → List ℕ → Resource → List Held → Held → Bool
+tables_may_take t name capability taken held =
     not (is_held taken held.id)
     && (is_current_in t.tree.apps held.id.attempt
     && (not (is_elsewhere name (book_row_of t.book held.id))
-    && fits held.size (left_beside capability taken)))
+    && fits held.size (capability_left capability taken)))
 
 -- what was taken so far and, where it counts and may be taken, one more
-abbrev pub with_counted : Tables → List ℕ → Resource → List Held → Option Held → List Held
-with_counted t name capability taken None = taken
-with_counted t name capability taken (Some held) = if may_take t name capability taken held then taken ++ held ∷ [] else taken
+abbrev pub tables_with_counted : Tables → List ℕ → Resource → List Held → Option Held → List Held
+tables_with_counted t name capability taken None = taken
+tables_with_counted t name capability taken (Some held) = if tables_may_take t name capability taken held then taken ++ held ∷ [] else taken
 
 -- the containers that are taken of a node's report, in its order
 abbrev pub taken_in : Tables → List ℕ → NodeRow → List Held
-taken_in t name row = fold (λ taken held. with_counted t name row.capability taken (counted_in t name held)) [] row.running
+taken_in t name row = fold (λ taken held. tables_with_counted t name row.capability taken (counted_in t name held)) [] row.running
 
 -- what stood on the node and isn't taken
-abbrev pub not_taken : BookOf → List ℕ → List Held → List ContainerId
-not_taken book name taken = filter (λ id. not (is_held taken id)) (ids_on book name)
+abbrev pub book_not_taken : BookOf → List ℕ → List Held → List ContainerId
+book_not_taken book name taken = filter (λ id. not (is_held taken id)) (node_containers book name)
 
 -- the nodes without the launch of a container of one, and without those of these
 abbrev pub unlaunched_here : List ℕ → List (List ℕ × NodeRow) → ContainerId → List (List ℕ × NodeRow)
@@ -90,20 +91,20 @@ unlaunched_on name nodes ids = fold (unlaunched_here name) nodes ids
 abbrev pub absorbed_with : List ℕ → Resource → List Held → List ContainerId → Tables → Tables
 absorbed_with name capability taken ended t =
     record (told_all Gone ended t) {
-      book = with_taken t.book name capability taken ended;
+      book = book_with_taken t.book name capability taken ended;
       nodes = with_node (changed_row Absorb) name (unlaunched_on name t.nodes ended);
     }
 
 -- NodeAdded: where the node waits and this is its last registration, its report is absorbed, and these end
-abbrev pub absorbs : List ℕ → Resource → List Held → List ContainerId → Tables → Entry × Tables
-absorbs name capability taken ended t = (Absorbed name taken ended, absorbed_with name capability taken ended t)
+abbrev pub absorption_step : List ℕ → Resource → List Held → List ContainerId → Tables → Entry × Tables
+absorption_step name capability taken ended t = (Absorbed name taken ended, absorbed_with name capability taken ended t)
 
 -- where the node waits and this is its last registration, its report is absorbed; else nothing is done
 abbrev pub absorbed_if : Bool → List ℕ → NodeRow → List ContainerId → Tables → Entry × Tables
-absorbed_if true name row ended t = absorbs name row.capability (taken_in t name row) ended t
+absorbed_if true name row ended t = absorption_step name row.capability (taken_in t name row) ended t
 absorbed_if false name row ended t = sched_quiet t
 
 -- NodeAdded, by the row of the node: where there is none, nothing is done
 abbrev pub absorbed_by : Option NodeRow → List ℕ → ℕ → List ContainerId → Tables → Entry × Tables
 absorbed_by None name turn ended t = sched_quiet t
-absorbed_by (Some row) name turn ended t = absorbed_if (is_waiting row.state && (row.turn == turn)) name row ended t
+absorbed_by (Some row) name turn ended t = absorbed_if (is_waiting_row row.state && (row.turn == turn)) name row ended t

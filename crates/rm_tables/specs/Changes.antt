@@ -7,12 +7,12 @@ use Rattle.rm_types.specs.declared.operations.How.TheVariants as ways
 use Rattle.rm_types.specs.declared.operations.Submission.{Submission}
 use Rattle.rm_app.specs.declared.states.AppState.{AppState}
 use Rattle.rm_app.specs.declared.states.AppEvent.TheVariants as app_events
-use Rattle.rm_app.specs.Table.{next_state}
-use Rattle.rm_model.specs.Attempts.{is_finished}
+use Rattle.rm_app.specs.Table.{next_app_state}
+use Rattle.rm_types.specs.Records.{is_finished}
 use Rattle.rm_attempt.specs.declared.states.AttemptState.{AttemptState}
 use Rattle.rm_attempt.specs.declared.states.AttemptState.TheVariants as attempts
 use Rattle.rm_attempt.specs.declared.states.AttemptEvent.TheVariants as attempt_events
-use Rattle.rm_attempt.specs.Table.{next_state as next_attempt_state}
+use Rattle.rm_attempt.specs.Table.{next_attempt_state as next_attempt_state}
 use Rattle.rm_tables.specs.declared.rows.AppRow.{AppRow}
 use Rattle.rm_tables.specs.declared.rows.Current.{Current}
 use Rattle.rm_tables.specs.declared.rows.Dialogue.{Dialogue}
@@ -23,7 +23,7 @@ use Rattle.rm_tables.specs.declared.changes.AttemptChange.TheVariants as of_atte
 
 -- the state of an application after the kept end of its attempt: a failure is an event of it
 abbrev pub after_failure : How → AppState → AppState
-after_failure ways.Failed state = next_state state app_events.Failed
+after_failure ways.Failed state = next_app_state state app_events.Failed
 after_failure _ state = state
 
 -- the state of an application after something happened to its current attempt
@@ -32,16 +32,16 @@ state_with (of_attempt.KeepEnd how) state = after_failure how state
 state_with _ state = state
 
 -- the state of an application after a change: where the row of the change's event leads, if there is one
-abbrev pub state_after : RowChange → AppState → AppState
-state_after Issue state = next_state state app_events.Start
-state_after Keep state = next_state state app_events.Kept
-state_after Wish state = state
-state_after Kill state = next_state state app_events.Kill
-state_after (Schedule number) state = next_state state app_events.Accept
-state_after Register state = next_state state app_events.Register
-state_after End state = next_state state app_events.End
-state_after (KeepEnd how) state = next_state state (app_events.EndKept how)
-state_after (OfAttempt change) state = state_with change state
+abbrev pub changed_state : RowChange → AppState → AppState
+changed_state Issue state = next_app_state state app_events.Start
+changed_state Keep state = next_app_state state app_events.Kept
+changed_state Wish state = state
+changed_state Kill state = next_app_state state app_events.Kill
+changed_state (Schedule number) state = next_app_state state app_events.Accept
+changed_state Register state = next_app_state state app_events.Register
+changed_state End state = next_app_state state app_events.End
+changed_state (KeepEnd how) state = next_app_state state (app_events.EndKept how)
+changed_state (OfAttempt change) state = state_with change state
 
 -- a wish to kill it stays until its life is over
 abbrev pub wish_after : RowChange → Bool → Bool
@@ -111,7 +111,7 @@ dialogue_after _ dialogue = dialogue
 abbrev pub changed : RowChange → AppRow → AppRow
 changed change row =
     record {
-      state = state_after change row.state;
+      state = changed_state change row.state;
       wish = wish_after change row.wish;
       pending = pending_after change row.pending;
       current = current_after change row.current;

@@ -14,7 +14,7 @@ use Rattle.rm_types.specs.declared.records.AppRecord.{AppRecord}
 use Rattle.rm_types.specs.declared.records.AttemptRecord.{AttemptRecord}
 use Rattle.rm_types.specs.Ids.{is_attempt, is_container}
 use Rattle.rm_types.specs.Records.{record_of}
-use Rattle.rm_book.specs.Books.{BookOf, row_of as book_row_of, without_rows}
+use Rattle.rm_book.specs.Books.{BookOf, book_row as book_row_of, without_rows}
 use Rattle.rm_tables.specs.declared.events.MainEvent.{MainEvent}
 use Rattle.rm_tables.specs.declared.events.MainEvent.TheVariants as mains
 use Rattle.rm_tables.specs.declared.nodes.NodeChange.TheVariants as of_node

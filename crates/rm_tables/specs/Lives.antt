@@ -78,8 +78,8 @@ begun tree stamp t =
     }
 
 -- a life goes down: what is recorded and what awaits is left of it, and whether the store refused an operation of it
-abbrev pub gone_down : Tables → Tables
-gone_down t = record (cleared t) { alive = false; blown = t.blown }
+abbrev pub tables_gone_down : Tables → Tables
+tables_gone_down t = record (cleared t) { alive = false; blown = t.blown }
 
 -- the first awaiting operation is with the store
 abbrev pub handed_out : Tables → Tables
@@ -90,17 +90,17 @@ abbrev pub refused : Tables → Tables
 refused t = record t { handed = false; blown = true }
 
 -- a lane has something to do, whatever the script says
-abbrev pub is_ready : Tables → Lane → Bool
-is_ready t lanes.Client = t.alive && (t.is_open || t.blown)
-is_ready t lanes.Master = t.alive && (t.is_open || t.blown)
-is_ready t lanes.Node = t.alive && (t.is_open || t.blown)
-is_ready t lanes.Clock = t.alive && (t.is_open || t.blown)
-is_ready t lanes.Main = not (is_nil t.main)
-is_ready t lanes.Sched = not (is_nil t.sched)
-is_ready t lanes.Hand = t.alive && (not (is_nil t.awaiting) && (not t.handed && not t.blown))
-is_ready t lanes.Write = t.alive && t.handed
-is_ready t lanes.End = t.alive && (is_nil t.main && (is_nil t.sched && is_nil t.awaiting))
-is_ready t lanes.Begin = not t.alive
+abbrev pub is_ready_lane : Tables → Lane → Bool
+is_ready_lane t lanes.Client = t.alive && (t.is_open || t.blown)
+is_ready_lane t lanes.Master = t.alive && (t.is_open || t.blown)
+is_ready_lane t lanes.Node = t.alive && (t.is_open || t.blown)
+is_ready_lane t lanes.Clock = t.alive && (t.is_open || t.blown)
+is_ready_lane t lanes.Main = not (is_nil t.main)
+is_ready_lane t lanes.Sched = not (is_nil t.sched)
+is_ready_lane t lanes.Hand = t.alive && (not (is_nil t.awaiting) && (not t.handed && not t.blown))
+is_ready_lane t lanes.Write = t.alive && t.handed
+is_ready_lane t lanes.End = t.alive && (is_nil t.main && (is_nil t.sched && is_nil t.awaiting))
+is_ready_lane t lanes.Begin = not t.alive
 
 -- a life may go down: it stands, and no operation is with the store
 abbrev pub may_go_down : Tables → Bool

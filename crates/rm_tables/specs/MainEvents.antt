@@ -16,7 +16,7 @@ use Rattle.rm_types.specs.declared.records.AppRecord.{AppRecord}
 use Rattle.rm_types.specs.declared.settings.Settings.{Settings}
 use Rattle.rm_types.specs.Ids.{is_container}
 use Rattle.rm_types.specs.Records.{is_some_and, last_attempt}
-use Rattle.rm_book.specs.Books.{BookOf, row_of as book_row_of}
+use Rattle.rm_book.specs.Books.{BookOf, book_row as book_row_of}
 use Rattle.rm_model.specs.Facts.{attempts_in, reaches_bound}
 use Rattle.rm_model.specs.Issuing.{expired_text, killed_text, lost_text}
 use Rattle.rm_app.specs.declared.states.AppState.{AppState}

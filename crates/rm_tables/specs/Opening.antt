@@ -9,7 +9,7 @@ use Rattle.rm_types.specs.declared.records.AttemptRecord.{AttemptRecord}
 use Rattle.rm_types.specs.Records.{last_attempt}
 use Rattle.rm_app.specs.declared.states.AppState.{AppState}
 use Rattle.rm_app.specs.declared.states.AppState.TheVariants as apps
-use Rattle.rm_app.specs.Table.{state_of}
+use Rattle.rm_app.specs.Table.{end_state}
 use Rattle.rm_attempt.specs.declared.states.AttemptState.TheVariants as attempts
 use Rattle.rm_tables.specs.declared.events.MainEvent.{MainEvent}
 use Rattle.rm_tables.specs.declared.events.MainEvent.TheVariants as mains
@@ -35,7 +35,7 @@ recovered_attempt one =
 abbrev pub recovered_state : Option (How × List ℕ) → Option AttemptRecord → AppState
 recovered_state None None = apps.Submitted
 recovered_state None (Some last) = apps.Accepted
-recovered_state (Some end) last = state_of end.0
+recovered_state (Some end) last = end_state end.0
 
 -- the row of a recorded application
 abbrev pub recovered_row : AppRecord → AppRow

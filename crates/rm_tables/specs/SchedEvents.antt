@@ -13,8 +13,8 @@ use Rattle.rm_types.specs.declared.messages.Lane.TheVariants as lanes
 use Rattle.rm_types.specs.declared.records.AppRecord.{AppRecord}
 use Rattle.rm_types.specs.Ids.{is_attempt}
 use Rattle.rm_types.specs.Order.{Ascend}
-use Rattle.rm_book.specs.AskTables.{AsksOf, asks_of, asks_set, with_asks_of}
-use Rattle.rm_book.specs.Books.{has_row, ids_of, ids_on, row_of as book_row_of}
+use Rattle.rm_book.specs.AskTables.{AsksOf, attempt_asks, asks_set, with_asks_of}
+use Rattle.rm_book.specs.Books.{has_row, attempt_containers, node_containers, book_row as book_row_of}
 use Rattle.rm_model.specs.Containers.{once}
 use Rattle.rm_attempt.specs.declared.states.AttemptState.{AttemptState}
 use Rattle.rm_attempt.specs.declared.states.AttemptState.TheVariants as attempts
@@ -25,10 +25,10 @@ use Rattle.rm_tables.specs.declared.nodes.NodeRow.{NodeRow}
 use Rattle.rm_tables.specs.declared.rows.AppRow.{AppRow}
 use Rattle.rm_tables.specs.declared.rows.Current.{Current}
 use Rattle.rm_tables.specs.declared.tables.Tables.{Tables}
-use Rattle.rm_tables.specs.Absorbing.{absorbed_by, not_taken, taken_in}
+use Rattle.rm_tables.specs.Absorbing.{absorbed_by, book_not_taken, taken_in}
 use Rattle.rm_tables.specs.Actions.{found_in, sched_quiet}
 use Rattle.rm_tables.specs.Leaving.{ended_by, is_masters_in}
-use Rattle.rm_tables.specs.Nodes.{is_waiting, node_of}
+use Rattle.rm_tables.specs.Nodes.{is_waiting_row, node_row}
 use Rattle.rm_tables.specs.Passing.{updated_by}
 use Rattle.rm_tables.specs.Rows.{row_of}
 
@@ -40,7 +40,7 @@ added_by id t = (Quiet lanes.Sched, record t { main = t.main ++ mains.AppAccepte
 abbrev pub master_asked : AttemptId → Option AppRecord → List AsksOf → List AsksOf
 master_asked id None asks = asks
 master_asked id (Some app) asks =
-    with_asks_of id (asks_set (record { priority = 0; count = 1; size = app.submission.master }) (asks_of asks id)) asks
+    with_asks_of id (asks_set (record { priority = 0; count = 1; size = app.submission.master }) (attempt_asks asks id)) asks
 
 -- AttemptAdded, by the state of the attempt and whether it is the current one
 abbrev pub queued_at : AttemptState → Bool → AttemptId → Tables → Entry × Tables
@@ -68,8 +68,8 @@ abbrev pub is_released : AttemptId → Tables → ContainerId → Bool
 is_released attempt t id = has_row t.book id && (is_attempt id.attempt attempt && not (is_masters_in t.tree.apps id))
 
 -- Release: those end of the list that the attempt may release, each once
-abbrev pub released_by : AttemptId → List ContainerId → Tables → Entry × Tables
-released_by attempt list t = ended_by causes.Released (once (filter (is_released attempt t) list)) t
+abbrev pub release_step : AttemptId → List ContainerId → Tables → Entry × Tables
+release_step attempt list t = ended_by causes.Released (once (filter (is_released attempt t) list)) t
 
 -- NodeDone: the containers that a node reported as done end which live on it, in the order of its list, each once
 abbrev pub done_by : List ℕ → List ContainerId → Tables → Entry × Tables
@@ -78,20 +78,20 @@ done_by name list t = ended_by causes.Done (once (filter (λ id. is_on name (boo
 -- which containers end by an event whose list is in ascending order: those of an attempt that is over, those that stand on a node that is
 -- lost, and those that stand on a node that is absorbed and aren't taken
 abbrev pub EndsIf : Bool → List ℕ → NodeRow → Tables → List ContainerId → Type 0
-EndsIf true name row t list = Ascend (not_taken t.book name (taken_in t name row)) list
+EndsIf true name row t list = Ascend (book_not_taken t.book name (taken_in t name row)) list
 EndsIf false name row t list = Unit {0}
 
 -- which containers end where a node is absorbed, by its row
 abbrev pub EndsAbsorbed : Option NodeRow → List ℕ → ℕ → Tables → List ContainerId → Type 0
 EndsAbsorbed None name turn t list = Unit {0}
-EndsAbsorbed (Some row) name turn t list = EndsIf (is_waiting row.state && (row.turn == turn)) name row t list
+EndsAbsorbed (Some row) name turn t list = EndsIf (is_waiting_row row.state && (row.turn == turn)) name row t list
 
 -- which containers end by an event: those of an attempt that is over, or on a node that is lost or is absorbed
-abbrev pub EndsBy : SchedEvent → Tables → List ContainerId → Type 0
-EndsBy (scheds.AttemptRemoved id) t list = Ascend (ids_of t.book id) list
-EndsBy (scheds.NodeLost node) t list = Ascend (ids_on t.book node) list
-EndsBy (scheds.NodeAdded node turn) t list = EndsAbsorbed (node_of t.nodes node) node turn t list
-EndsBy _ t list = Unit {0}
+abbrev pub EndsByEvent : SchedEvent → Tables → List ContainerId → Type 0
+EndsByEvent (scheds.AttemptRemoved id) t list = Ascend (attempt_containers t.book id) list
+EndsByEvent (scheds.NodeLost node) t list = Ascend (node_containers t.book node) list
+EndsByEvent (scheds.NodeAdded node turn) t list = EndsAbsorbed (node_row t.nodes node) node turn t list
+EndsByEvent _ t list = Unit {0}
 
 -- what an event of the scheduler's queue logs, and the tables after it, where these containers end. An attempt that lives needs nothing
 -- when it is recovered
@@ -100,12 +100,12 @@ sched_step (scheds.AppAdded id) list t = added_by id t
 sched_step (scheds.AttemptRecovered id) list t = sched_quiet t
 sched_step (scheds.AttemptAdded id) list t = queued_by (row_of t.rows id.app) id t
 sched_step (scheds.AttemptRemoved id) list t = ended_by causes.Attempt list t
-sched_step (scheds.Release attempt released) list t = released_by attempt released t
-sched_step (scheds.NodeAdded node turn) list t = absorbed_by (node_of t.nodes node) node turn list t
+sched_step (scheds.Release attempt released) list t = release_step attempt released t
+sched_step (scheds.NodeAdded node turn) list t = absorbed_by (node_row t.nodes node) node turn list t
 sched_step (scheds.NodeDone node done) list t = done_by node done t
-sched_step (scheds.NodeUpdate node) list t = updated_by (node_of t.nodes node) node t
+sched_step (scheds.NodeUpdate node) list t = updated_by (node_row t.nodes node) node t
 sched_step (scheds.NodeLost node) list t = ended_by causes.Node list t
 
 -- what an event does
 abbrev pub SchedDoes : SchedEvent → Tables → Entry × Tables → Type 0
-SchedDoes event t done = (list : List ContainerId) × EndsBy event t list × (done ≡ sched_step event list t)
+SchedDoes event t done = (list : List ContainerId) × EndsByEvent event t list × (done ≡ sched_step event list t)

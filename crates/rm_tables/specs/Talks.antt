@@ -27,8 +27,8 @@ abbrev pub told_row : (Option Dialogue → Option Dialogue) → (List Closing �
 told_row talk tell row = record row { dialogue = talk row.dialogue; closings = tell row.closings }
 
 -- the dialogue with a master that registered and was answered so
-abbrev pub begun : Reply → Option Dialogue → Option Dialogue
-begun reply dialogue = Some (record { last_id = 0; last_reply = reply; finishing = None })
+abbrev pub dialogue_begun : Reply → Option Dialogue → Option Dialogue
+dialogue_begun reply dialogue = Some (record { last_id = 0; last_reply = reply; finishing = None })
 
 -- a dialogue in which the master said this as it finished
 abbrev pub with_text : List ℕ → Option Dialogue → Option Dialogue
@@ -44,6 +44,6 @@ without_closings attempt closings = filter (λ one. not (is_attempt one.id.attem
 
 -- a row after something was said
 abbrev pub talked : Talk → AppRow → AppRow
-talked (Register reply) row = registered_row (begun reply) row
+talked (Register reply) row = registered_row (dialogue_begun reply) row
 talked (Finish text) row = said_row (with_text text) row
 talked (Answer attempt id reply) row = told_row (with_answer id reply) (without_closings attempt) row

@@ -1,7 +1,7 @@
 ghost use Rattle.std.specs.Prelude.{◌≡◌};
-ghost use Rattle.rm_app.specs.Table.{next_state, state_of};
-ghost use Rattle.rm_attempt.specs.Table.{next_state as next_attempt_state};
-ghost use Rattle.rm_tables.specs.Changes.{state_with, state_after, scheduled, granted, attempt_after, current_with, current_after, changed};
+ghost use Rattle.rm_app.specs.Table.{next_app_state, end_state};
+ghost use Rattle.rm_attempt.specs.Table.{next_attempt_state as next_attempt_state};
+ghost use Rattle.rm_tables.specs.Changes.{state_with, changed_state, scheduled, granted, attempt_after, current_with, current_after, changed};
 
 use crate::rows::{AppRow, Current};
 use rm_app::{AppEvent, AppState};
@@ -54,7 +54,7 @@ pub enum AttemptChange {
 
 /// The state of an application whose end is kept.
 pub fn state_of(how: How) -> AppState
-    ensures { result ≡ state_of how }
+    ensures { result ≡ end_state how }
 {
     match how {
         How::Finished => AppState::Finished,
@@ -65,7 +65,7 @@ pub fn state_of(how: How) -> AppState
 
 /// The state of an application after an event: where the row of the two leads, and the same where there is none.
 fn next_state(state: AppState, event: AppEvent) -> AppState
-    ensures { result ≡ next_state state event }
+    ensures { result ≡ next_app_state state event }
 {
     match rm_app::step(state, event) {
         Some((next, _action)) => next,
@@ -93,7 +93,7 @@ fn state_with(change: AttemptChange, state: AppState) -> AppState
 }
 
 fn state_after(change: RowChange, state: AppState) -> AppState
-    ensures { result ≡ state_after change state }
+    ensures { result ≡ changed_state change state }
 {
     match change {
         RowChange::Issue => next_state(state, AppEvent::Start),

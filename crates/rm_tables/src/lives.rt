@@ -1,5 +1,5 @@
 ghost use Rattle.std.specs.Prelude.{◌≡◌, OnOk, OnErr};
-ghost use Rattle.rm_tables.specs.Lives.{no_life, cleared, begun, gone_down, handed_out, refused, is_ready, may_go_down};
+ghost use Rattle.rm_tables.specs.Lives.{no_life, cleared, begun, tables_gone_down, handed_out, refused, is_ready_lane, may_go_down};
 
 use crate::completed::ended_in;
 use crate::events::MainEvent;
@@ -69,7 +69,7 @@ impl Tables {
 
     /// A life goes down: what is recorded and what awaits is left of it, and whether the store refused an operation of it.
     pub fn go_down(&mut self)
-        ensures { self.new ≡ gone_down self.old }
+        ensures { self.new ≡ tables_gone_down self.old }
     {
         let blown = self.blown;
         self.clear();
@@ -115,7 +115,7 @@ impl Tables {
 
     /// Whether a lane has something to do, whatever the script says.
     pub fn is_ready(&self, lane: Lane) -> bool
-        ensures { result ≡ is_ready self.now lane }
+        ensures { result ≡ is_ready_lane self.now lane }
     {
         match lane {
             Lane::Client | Lane::Master | Lane::Node | Lane::Clock => {

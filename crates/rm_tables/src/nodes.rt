@@ -1,8 +1,8 @@
 ghost use Rattle.std.specs.Prelude.{◌≡◌, [], ◌∷◌, ◌++◌, None, not, IfOk, OnOk, OnErr};
 ghost use Rattle.std.specs.Option.{option_copied};
 ghost use Rattle.rm_types.specs.Ids.{is_container};
-ghost use Rattle.rm_node.specs.Table.{next_state};
-ghost use Rattle.rm_tables.specs.Nodes.{beaten_row, changed_row, new_row, node_of, ordered_row, registered_row, with_node};
+ghost use Rattle.rm_node.specs.Table.{next_node_state};
+ghost use Rattle.rm_tables.specs.Nodes.{beaten_row, changed_row, new_node_row, node_row, ordered_row, registered_node_row, with_node};
 
 use indexmap::IndexMap;
 use rm_node::{NodeEvent, NodeState};
@@ -73,14 +73,14 @@ impl Nodes {
 
     /// The row of a node. `None` comes exactly where it didn't register in this life.
     pub fn find(&self, name: &Text) -> Option<&NodeRow>
-        ensures { option_copied result ≡ node_of self.now name.now }
+        ensures { option_copied result ≡ node_row self.now name.now }
     {
         self.map.get(name)
     }
 
     /// Adds the row of a node that has none. `NoMemory` leaves the nodes as they were; the row is then dropped.
     pub fn add(&mut self, name: Text, row: NodeRow) -> Result<(), NoMemory>
-        requires { node_of self.old name ≡ None }
+        requires { node_row self.old name ≡ None }
         ensures ok { OnOk result (self.new ≡ self.old ++ (name, row) ∷ []) }
         ensures err { OnErr result (self.new ≡ self.old) }
     {
@@ -90,7 +90,7 @@ impl Nodes {
 
     /// A node that has a row registers again, and is answered. It takes no memory.
     pub fn register(&mut self, name: &Text, registration: Registration, reply: Boxed<Reply>)
-        ensures { self.new ≡ with_node (registered_row registration.turn registration.capability registration.running reply) name.now self.old }
+        ensures { self.new ≡ with_node (registered_node_row registration.turn registration.capability registration.running reply) name.now self.old }
     {
         if let Some(row) = self.map.get_mut(name) {
             row.register(registration, reply);
@@ -135,7 +135,7 @@ impl Nodes {
 
 /// The state of a node after an event: where the row of the two leads, and the same where there is none.
 fn next_state(state: NodeState, event: NodeEvent) -> NodeState
-    ensures { result ≡ next_state state event }
+    ensures { result ≡ next_node_state state event }
 {
     match rm_node::step(state, event) {
         Some((next, _action)) => next,
@@ -147,7 +147,7 @@ impl NodeRow {
     /// The row of a node that registers for the first time in a life.
     pub fn new(registration: Registration, reply: Boxed<Reply>, none: Items<ContainerId>) -> NodeRow
         requires { none ≡ [] }
-        ensures { result ≡ new_row registration.turn registration.capability registration.running reply }
+        ensures { result ≡ new_node_row registration.turn registration.capability registration.running reply }
     {
         NodeRow {
             turn: registration.turn,
@@ -161,7 +161,7 @@ impl NodeRow {
     }
 
     fn register(&mut self, registration: Registration, reply: Boxed<Reply>)
-        ensures { self.new ≡ registered_row registration.turn registration.capability registration.running reply self.old }
+        ensures { self.new ≡ registered_node_row registration.turn registration.capability registration.running reply self.old }
     {
         self.turn = registration.turn;
         self.capability = registration.capability;

@@ -1,6 +1,6 @@
 ghost use Rattle.std.specs.Prelude.{◌≡◌, ◌++◌, cond, is_none, IfOk, OnOk};
 ghost use Rattle.std.specs.Option.{option_copied};
-ghost use Rattle.rm_app.specs.Table.{state_of};
+ghost use Rattle.rm_app.specs.Table.{end_state};
 ghost use Rattle.rm_types.specs.Records.{last_attempt};
 ghost use Rattle.rm_tables.specs.Opening.{recovered_attempt, recovered_row, recovered_rows, going_in, main_of, sched_of, opening_main, opening_sched};
 

@@ -15,15 +15,16 @@ use Rattle.rm_page_reader.specs.declared.errors.PageError.{PageError}
 use Rattle.rm_page_reader.specs.declared.errors.PageError.TheVariants as pages
 use Rattle.rm_report.specs.declared.errors.ReportError.{ReportError}
 use Rattle.rm_report.specs.declared.errors.ReportError.TheVariants as reports
-use Rattle.rm_tool.specs.Outcomes.{IsBeforePage, after_page, of_fault, of_page, of_report}
+use Rattle.rm_tool.specs.Outcomes.{IsBeforePage, after_page, of_fault, outcome_of_page, of_report}
 use Rattle.rm_types.specs.Ranges.{IsText}
 use Rattle.rm_types.specs.declared.texts.TextKind.TheVariants as kinds
 use Rattle.rm_page_reader.specs.Told.{IsNoPage}
 use Rattle.rm_outside.specs.declared.shelves.TheConstants.{MOST_READ}
-use Rattle.rm_tool.specs.Runs.{Checks, Comes, Follows, IsNotReadWhole, Reports, Told, WereRead}
-use Rattle.rm_tool.specs.Words.{Asked, Check, Convert, Salvage, Summary, Follow, Draw}
+use Rattle.rm_tool.specs.Runs.{Checks, Comes, FollowsReport, IsNotReadWhole, Reports}
+use Rattle.rm_outside.specs.Shelves.{ShelfTells, WereRead}
+use Rattle.rm_tool.specs.Words.{ToolRequest, Check, Convert, Salvage, Summary, Follow, Draw}
 
-pub comes_after : (told : Told) (asked : Asked) (new : DiskView) (outcome : ToolOutcome) (w : Written) → Comes told (Some asked) new outcome → Comes told (Some asked) new (after_page outcome w)
+pub comes_after : (told : ShelfTells) (asked : ToolRequest) (new : DiskView) (outcome : ToolOutcome) (w : Written) → Comes told (Some asked) new outcome → Comes told (Some asked) new (after_page outcome w)
 comes_after told asked new outcome written.All comes = comes
 comes_after told (Check file) new outcome written.Fault comes = tt
 comes_after told (Check file) new outcome written.Nothing comes = tt
@@ -81,7 +82,7 @@ unread_not_done told NotAnId unread is = unread
 unread_not_done told Memory unread is = cc
 
 -- nor is one whose page was not read
-pub page_not_done : (error : PageError) → of_page error ≡ Done → ⊥
+pub page_not_done : (error : PageError) → outcome_of_page error ≡ Done → ⊥
 page_not_done (pages.NotAPage line) is = cc
 page_not_done pages.Memory is = cc
 
@@ -92,13 +93,13 @@ report_not_done reports.NotAnId is = cc
 report_not_done reports.Memory is = cc
 
 -- a page that was not read comes to what a report may, where it is refused only as no page
-pub page_refused : (told : Option (List ℕ)) (bytes : List ℕ) (error : PageError) → WereRead told bytes → length bytes < MOST_READ → ((line : ℕ) → error ≡ pages.NotAPage line → IsNoPage bytes) → Reports told (of_page error)
+pub page_refused : (told : Option (List ℕ)) (bytes : List ℕ) (error : PageError) → WereRead told bytes → length bytes < MOST_READ → ((line : ℕ) → error ≡ pages.NotAPage line → IsNoPage bytes) → Reports told (outcome_of_page error)
 page_refused told bytes (pages.NotAPage line) read whole cause = record { bytes = bytes; read = read; whole = whole; none = cause line refl }
 page_refused told bytes pages.Memory read whole cause = tt
 
 -- and so does a report that was not made
 pub report_refused : (told : Option (List ℕ)) (id bytes : List ℕ) (error : ReportError) → WereRead told bytes → length bytes < MOST_READ → (error ≡ reports.NotAnId → IsText kinds.Node id → ⊥) → ((line : ℕ) → error ≡ reports.NotAPage line → IsNoPage bytes)
-    → Follows told id (of_report error)
+    → FollowsReport told id (of_report error)
 report_refused told id bytes (reports.NotAPage line) read whole no_id cause = record { bytes = bytes; read = read; whole = whole; none = cause line refl }
 report_refused told id bytes reports.NotAnId read whole no_id cause = no_id refl
 report_refused told id bytes reports.Memory read whole no_id cause = tt
@@ -121,7 +122,7 @@ unread_reports told (NotAPage line) unread = absurd unread
 unread_reports told NotAnId unread = absurd unread
 
 -- and to what a report of an id may
-pub unread_follows : (told : Option (List ℕ)) (id : List ℕ) (outcome : ToolOutcome) → IsNotReadWhole told outcome → Follows told id outcome
+pub unread_follows : (told : Option (List ℕ)) (id : List ℕ) (outcome : ToolOutcome) → IsNotReadWhole told outcome → FollowsReport told id outcome
 unread_follows told id ReadFault unread = tt
 unread_follows told id Memory unread = tt
 unread_follows told id Done unread = absurd unread

@@ -9,15 +9,17 @@ use Rattle.clap.specs.Simple.{HasMatchesOf, Shape, built, entered, matches_of}
 use Rattle.clap.specs.Takes.{default_passes, entered_passes, is_valid, settle_passes, takes, turn_passes, walk_passes}
 use Rattle.clap.specs.declared.parser.matches.ArgMatches.{ArgMatches}
 use Rattle.clap.proofs.WalkLemmas.{raw_values-rows}
-use Rattle.rm_tool.specs.Words.{are_names, is_flag}
-use Rattle.rm_tool.specs.Reading.{MatchesWords, listed, program}
+use Rattle.rm_tool.specs.Words.{are_names}
+use Rattle.rm_types.specs.Texts.{is_flag}
+use Rattle.rm_tool.specs.Reading.{MatchesNames, tool_command}
+use Rattle.rm_types.specs.Lists.{unless_empty}
 use Rattle.rm_tool.proofs.Rows.{name_used, names_listed, names_rule, rows_of_names}
 
 abbrev pub rules : List Rule
 rules = names_rule ∷ []
 
 abbrev pub top : Shape
-top = (built program).top
+top = (built tool_command).top
 
 -- what takes a next word, by the name that was met last
 abbrev pub waits : Option Text → Waiting
@@ -96,14 +98,14 @@ whole words names = all_passed words (eqb-true _ _ names) [] None [] refl
 
 abbrev ends_well : List Text → Walk → Bool
 ends_well words w =
-    entered_passes (built program) w.stopped && (walk_passes top [] (at [] None) words && (settle_passes rules false w.held
-    && (list_all default_passes rules && is_valid top (finished rules w.held) (is_some (entered (built program) w.stopped)))))
+    entered_passes (built tool_command) w.stopped && (walk_passes top [] (at [] None) words && (settle_passes rules false w.held
+    && (list_all default_passes rules && is_valid top (finished rules w.held) (is_some (entered (built tool_command) w.stopped)))))
 
 end_passes : (words : List Text) (rows : List Row) (name : Option Text) → walk_passes top [] (at [] None) words ≡ true → ends_well words (at rows name) ≡ true
 end_passes words rows None passes = rw passes refl
 end_passes words rows (Some name) passes = rw passes refl
 
-pub is_taken : (words : List Text) → are_names words ≡ true → takes program words ≡ true
+pub is_taken : (words : List Text) → are_names words ≡ true → takes tool_command words ≡ true
 is_taken words none =
     let w = whole words none in
     ap (ends_well words) w.walk ∙ end_passes words w.rows_then w.name_then w.passes
@@ -112,7 +114,7 @@ end_rows : (rows : List Row) (name : Option Text) → finished rules (at rows na
 end_rows rows None = refl
 end_rows rows (Some name) = refl
 
-pub is_read : (words : List Text) (matches : ArgMatches) → are_names words ≡ true → HasMatchesOf program words matches → MatchesWords matches words
+pub is_read : (words : List Text) (matches : ArgMatches) → are_names words ≡ true → HasMatchesOf tool_command words matches → MatchesNames matches words
 is_read words matches none has =
     let w = whole words none in
     let are : rows_of (found_of matches) ≡ with_default (rows_of_names words) names_rule =

@@ -10,7 +10,7 @@ use Rattle.clap.specs.declared.builder.value_parser.Reading.{Reading}
 use Rattle.clap.specs.declared.builder.value_parser.ValueParser.TheVariants as parser
 use Rattle.clap.specs.declared.parser.matches.ValueSource.{ValueSource}
 use Rattle.clap.specs.declared.parser.matches.ValueSource.TheVariants.{CommandLine}
-use Rattle.rm_tool.specs.Reading.{listed}
+use Rattle.rm_types.specs.Lists.{unless_empty}
 
 -- the names as building fills them in
 abbrev pub names_rule : Rule
@@ -31,6 +31,6 @@ pub name_used : (names : List Text) (name : Text) → used names_rule (name ∷ 
 name_used [] name = refl
 name_used (first ∷ names) name = refl
 
-pub names_listed : (names : List Text) → all_of (codes "names") (with_default (rows_of_names names) names_rule) ≡ listed names
+pub names_listed : (names : List Text) → all_of (codes "names") (with_default (rows_of_names names) names_rule) ≡ unless_empty names
 names_listed [] = refl
 names_listed (name ∷ names) = refl

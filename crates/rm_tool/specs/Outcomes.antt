@@ -13,21 +13,21 @@ use Rattle.rm_tool.specs.declared.outcomes.ToolOutcome.{ToolOutcome}
 use Rattle.rm_tool.specs.declared.outcomes.ToolOutcome.TheVariants.{Done, Usage, ReadFault, WriteFault, OtherLength, TooLong, OtherForm, Faulty, DiskFault, NotNew, Full, NotAPage, NotAnId, Memory}
 
 -- the status with which the tool ends
-abbrev pub status_of : ToolOutcome → ℕ
-status_of Done = 0
-status_of Usage = 1
-status_of ReadFault = 2
-status_of (WriteFault took_nothing) = 3
-status_of (OtherLength length) = 8
-status_of TooLong = 5
-status_of OtherForm = 8
-status_of (Faulty fault) = 8
-status_of DiskFault = 7
-status_of NotNew = 7
-status_of (Full size) = 9
-status_of (NotAPage line) = 5
-status_of NotAnId = 1
-status_of Memory = 11
+abbrev pub tool_status : ToolOutcome → ℕ
+tool_status Done = 0
+tool_status Usage = 1
+tool_status ReadFault = 2
+tool_status (WriteFault took_nothing) = 3
+tool_status (OtherLength length) = 8
+tool_status TooLong = 5
+tool_status OtherForm = 8
+tool_status (Faulty fault) = 8
+tool_status DiskFault = 7
+tool_status NotNew = 7
+tool_status (Full size) = 9
+tool_status (NotAPage line) = 5
+tool_status NotAnId = 1
+tool_status Memory = 11
 
 -- what a call came to whose store was not written
 abbrev pub of_write : WriteError → ToolOutcome
@@ -38,9 +38,9 @@ of_write (errors.Full size) = Full size
 of_write errors.Memory = Memory
 
 -- what a call came to whose page was not read
-abbrev pub of_page : PageError → ToolOutcome
-of_page (pages.NotAPage line) = NotAPage line
-of_page pages.Memory = Memory
+abbrev pub outcome_of_page : PageError → ToolOutcome
+outcome_of_page (pages.NotAPage line) = NotAPage line
+outcome_of_page pages.Memory = Memory
 
 -- what a call came to whose report was not made
 abbrev pub of_report : ReportError → ToolOutcome

@@ -10,7 +10,7 @@ use Rattle.rm_types.specs.declared.texts.TextKind.TheVariants as kinds
 use Rattle.rm_page_reader.specs.Told.{IsNoPage}
 use Rattle.rm_report.specs.Following.{IsFollowed}
 use Rattle.rm_report.specs.Summaries.{IsSummary}
-use Rattle.rm_outside.specs.Shelves.{bytes_read}
+use Rattle.rm_outside.specs.Shelves.{bytes_read, ShelfTells, WereRead}
 use Rattle.rm_outside.specs.declared.shelves.TheConstants.{MOST_READ}
 use Rattle.rm_salvage.specs.declared.checks.Fault.{Fault}
 use Rattle.rm_salvage.specs.declared.forms.Form.{Form}
@@ -23,15 +23,7 @@ use Rattle.rm_salvage.specs.Writes.{HoldsAll}
 use Rattle.rm_tool.specs.declared.outcomes.ToolOutcome.{ToolOutcome}
 use Rattle.rm_tool.specs.declared.outcomes.ToolOutcome.TheVariants.{Done, Usage, ReadFault, WriteFault, OtherLength, TooLong, OtherForm, Faulty, DiskFault, NotNew, Full, NotAPage, NotAnId, Memory}
 use Rattle.rm_tool.specs.declared.store_files.TheConstants.{STORE_SIZE}
-use Rattle.rm_tool.specs.Words.{Asked, Check, Convert, Salvage, Summary, Follow, Draw}
-
--- what a shelf tells of each name
-abbrev pub Told : Type 0
-Told = List ℕ → Option (List ℕ)
-
--- these bytes were read of a file: where the shelf tells the file's bytes, they are what a read gives of them
-abbrev pub WereRead : Option (List ℕ) → List ℕ → Type 0
-WereRead told bytes = IfSome told (λ all. bytes ≡ bytes_read all)
+use Rattle.rm_tool.specs.Words.{ToolRequest, Check, Convert, Salvage, Summary, Follow, Draw}
 
 -- bytes brought to the size of a store: what is behind is left out, and zeros stand for what is missing
 abbrev pub brought_to_size : List ℕ → List ℕ
@@ -45,10 +37,10 @@ pub record HasOtherLength (told : Option (List ℕ)) (many : ℕ) : Type 0 where
   pub other : many ≡ STORE_SIZE → ⊥
 
 -- a file was not read with one of these
-abbrev pub IsUnread : ToolOutcome → Type 0
-IsUnread ReadFault = Unit {0}
-IsUnread Memory = Unit {0}
-IsUnread _ = ⊥
+abbrev pub ToolIsUnread : ToolOutcome → Type 0
+ToolIsUnread ReadFault = Unit {0}
+ToolIsUnread Memory = Unit {0}
+ToolIsUnread _ = ⊥
 
 -- the file is longer than what is read of a page whole
 pub record IsLongFile (told : Option (List ℕ)) : Type 0 where
@@ -189,34 +181,34 @@ Reports told Memory = Unit {0}
 Reports told _ = ⊥
 
 -- the same where it is of an id: it is refused only where it is no id and can't be a node's name
-abbrev pub Follows : Option (List ℕ) → List ℕ → ToolOutcome → Type 0
-Follows told id NotAnId = IsText kinds.Node id → ⊥
-Follows told id outcome = Reports told outcome
+abbrev pub FollowsReport : Option (List ℕ) → List ℕ → ToolOutcome → Type 0
+FollowsReport told id NotAnId = IsText kinds.Node id → ⊥
+FollowsReport told id outcome = Reports told outcome
 
 -- what a call comes to, by what was asked for
-abbrev pub Comes : Told → Option Asked → DiskView → ToolOutcome → Type 0
+abbrev pub Comes : ShelfTells → Option ToolRequest → DiskView → ToolOutcome → Type 0
 Comes told None new outcome = (outcome ≡ Usage) ⊎ (outcome ≡ Memory)
 Comes told (Some (Check file)) new outcome = Checks (told file) outcome
 Comes told (Some (Convert old target)) new outcome = Converts (told old) new outcome
 Comes told (Some (Salvage file target)) new outcome = Salvages (told file) new outcome
 Comes told (Some (Summary page)) new outcome = Reports (told page) outcome
-Comes told (Some (Follow page id)) new outcome = Follows (told page) id outcome
+Comes told (Some (Follow page id)) new outcome = FollowsReport (told page) id outcome
 Comes told (Some (Draw page)) new outcome = Reports (told page) outcome
 
 -- a text is a report of the page in a file, of all its bytes
-pub record IsReport (told : Option (List ℕ)) (IsOf : List ℕ → List ℕ → Type 0) (text : List ℕ) : Type 0 where
+pub record IsPageFileReport (told : Option (List ℕ)) (IsOf : List ℕ → List ℕ → Type 0) (text : List ℕ) : Type 0 where
   pub bytes : List ℕ
   pub read : WereRead told bytes
   pub whole : length bytes < MOST_READ
   pub is : IsOf bytes text
 
 -- what a call that is Done wrote, by what was asked for: the summary of the page, or what the page tells of an id
-abbrev pub IsWritten : Told → Asked → List ℕ → Type 0
-IsWritten told (Summary page) text = IsReport (told page) (λ bytes report. IsSummary bytes report) text
-IsWritten told (Follow page id) text = IsReport (told page) (λ bytes report. IsFollowed bytes id report) text
-IsWritten told _ text = Unit {0}
+abbrev pub IsToolText : ShelfTells → ToolRequest → List ℕ → Type 0
+IsToolText told (Summary page) text = IsPageFileReport (told page) (λ bytes report. IsSummary bytes report) text
+IsToolText told (Follow page id) text = IsPageFileReport (told page) (λ bytes report. IsFollowed bytes id report) text
+IsToolText told _ text = Unit {0}
 
 -- the sink took exactly what was to be written
-abbrev pub Writes : Told → Option Asked → Option (List ℕ) → Option (List ℕ) → Type 0
-Writes told None old new = ⊥
-Writes told (Some asked) old new = (text : List ℕ) × IsWritten told asked text × Appends old new text
+abbrev pub ToolWrites : ShelfTells → Option ToolRequest → Option (List ℕ) → Option (List ℕ) → Type 0
+ToolWrites told None old new = ⊥
+ToolWrites told (Some asked) old new = (text : List ℕ) × IsToolText told asked text × Appends old new text

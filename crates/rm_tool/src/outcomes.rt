@@ -1,5 +1,5 @@
 ghost use Rattle.std.specs.Prelude.{◌≡◌};
-ghost use Rattle.rm_tool.specs.Outcomes.{after_page, of_fault, of_page, of_report, of_write, status_of};
+ghost use Rattle.rm_tool.specs.Outcomes.{after_page, of_fault, outcome_of_page, of_report, of_write, tool_status};
 
 use rm_outside::Written;
 use rm_page_reader::PageError;
@@ -56,7 +56,7 @@ pub enum ToolOutcome {
 
 /// The exit status of an outcome.
 pub fn status_of(outcome: ToolOutcome) -> u8
-    ensures { result ≡ status_of outcome }
+    ensures { result ≡ tool_status outcome }
 {
     match outcome {
         ToolOutcome::Done => 0,
@@ -91,7 +91,7 @@ pub(crate) fn of_write(error: WriteError) -> ToolOutcome
 
 /// What a call comes to whose page was not read.
 pub(crate) fn of_page(error: PageError) -> ToolOutcome
-    ensures { result ≡ of_page error }
+    ensures { result ≡ outcome_of_page error }
 {
     match error {
         PageError::NotAPage { line } => ToolOutcome::NotAPage { line },

@@ -1,7 +1,7 @@
 ghost use Rattle.std.specs.Prelude.{◌≡◌, IfErr, IfOk, true, map, string_bytes};
 ghost use Rattle.clap.specs.Words.{app_of, kind_of};
 ghost use Rattle.rm_tool.specs.Words.{are_names};
-ghost use Rattle.rm_tool.specs.Reading.{MatchesWords, program};
+ghost use Rattle.rm_tool.specs.Reading.{MatchesNames, tool_command};
 
 use clap::error::ErrorKind;
 use clap::{Arg, ArgAction, ArgMatches, Command, Error};
@@ -10,7 +10,7 @@ use std::alloc::{AllocError, Global};
 
 /// The command that the words are read by: any number of names.
 fn program<'a>(alloc: Global) -> Result<Command<'a>, AllocError>
-    ensures { IfOk result (λ command. app_of command ≡ program) }
+    ensures { IfOk result (λ command. app_of command ≡ tool_command) }
 {
     let names = Arg::new(alloc, "names").action(ArgAction::Append);
     Command::new(alloc, "yewendro_tool")
@@ -22,7 +22,7 @@ fn program<'a>(alloc: Global) -> Result<Command<'a>, AllocError>
 /// The matches of words without a flag, which `clap` refuses for want of memory alone.
 fn matches_of<'a>(alloc: Global, words: &'a [String]) -> Result<ArgMatches<'a>, Error>
     requires { are_names (map string_bytes words.now) ≡ true }
-    ensures ok { IfOk result (λ matches. MatchesWords matches (map string_bytes words.now)) }
+    ensures ok { IfOk result (λ matches. MatchesNames matches (map string_bytes words.now)) }
     ensures err { IfErr result (λ error. kind_of error ≡ ErrorKind.OutOfMemory) }
 {
     program(alloc)?.try_get_matches_from(words)
@@ -31,7 +31,7 @@ fn matches_of<'a>(alloc: Global, words: &'a [String]) -> Result<ArgMatches<'a>, 
 /// What stands among words without a flag: the names in their order.
 pub(crate) fn read_words<'a>(alloc: Global, words: &'a [String]) -> Result<ArgMatches<'a>, NoMemory>
     requires { are_names (map string_bytes words.now) ≡ true }
-    ensures { IfOk result (λ matches. MatchesWords matches (map string_bytes words.now)) }
+    ensures { IfOk result (λ matches. MatchesNames matches (map string_bytes words.now)) }
 {
     match matches_of(alloc, words) {
         Ok(matches) => Ok(matches),

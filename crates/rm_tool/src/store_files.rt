@@ -51,7 +51,7 @@ impl<R: Files + AllocGlobal> Shelf for StoreShelf<R>
 where
     R::File: HeldFile,
 {
-    ghost use Rattle.rm_outside.specs.Shelves.{faults_after};
+    ghost use Rattle.rm_outside.specs.Shelves.{shelf_faults};
 
     ghost bytes_of = { λ _ _. None };
 
@@ -63,7 +63,7 @@ where
     /// bytes.
     fn read(&mut self, name: &str) -> Result<Vec<u8>, ShelfError>
         ensures most { IfOk result (λ bytes. length bytes.items ≤ MOST_READ) }
-        ensures after { self.new ≡ faults_after self.old result }
+        ensures after { self.new ≡ shelf_faults self.old result }
         ensures one { Unit {0} }
         ensures never_falls { self.old ≤ self.new }
     {

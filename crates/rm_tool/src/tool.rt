@@ -1,10 +1,11 @@
 ghost use Rattle.std.specs.Prelude.{◌≡◌, ◌⊎◌, ◌<◌, true, false, Err, IfErr, IfOk, Some, length, map, string_bytes};
 ghost use Rattle.rm_types.specs.Counts.{Rose};
 ghost use Rattle.rm_tool.specs.Outcomes.{IsBeforePage};
-ghost use Rattle.rm_tool.specs.Runs.{Checks, Comes, Converts, Follows, IsNotRead, IsNotReadWhole, IsReport, IsUnread, IsWritten, KeepsStore, Reports, Salvages, WereRead, Writes};
+ghost use Rattle.rm_tool.specs.Runs.{Checks, Comes, Converts, FollowsReport, IsNotRead, IsNotReadWhole, IsPageFileReport, ToolIsUnread, IsToolText, KeepsStore, Reports, Salvages, ToolWrites};
+ghost use Rattle.rm_outside.specs.Shelves.{WereRead};
 ghost use Rattle.rm_report.specs.Following.{IsFollowed};
 ghost use Rattle.rm_report.specs.Summaries.{IsSummary};
-ghost use Rattle.rm_tool.specs.Words.{asked, mode_of};
+ghost use Rattle.rm_tool.specs.Words.{requested, request_of};
 
 use crate::outcomes::{ToolOutcome, after_page, of_fault, of_page, of_report, of_write};
 use crate::pages::{check_page, convert_page, salvage_page};
@@ -40,8 +41,8 @@ pub fn top<F: Shelf, K: Sink, D: Disk>(
     sink: &mut K,
     new: &mut D,
 ) -> ToolOutcome
-    ensures comes { Comes (F.bytes_of shelf.old) (mode_of (map string_bytes words.now)) (D.view new.new) result }
-    ensures writes { result ≡ ToolOutcome.Done → Writes (F.bytes_of shelf.old) (mode_of (map string_bytes words.now)) (K.taken sink.old) (K.taken sink.new) }
+    ensures comes { Comes (F.bytes_of shelf.old) (request_of (map string_bytes words.now)) (D.view new.new) result }
+    ensures writes { result ≡ ToolOutcome.Done → ToolWrites (F.bytes_of shelf.old) (request_of (map string_bytes words.now)) (K.taken sink.old) (K.taken sink.new) }
     ensures told { F.bytes_of shelf.new ≡ F.bytes_of shelf.old }
     ensures read_fault { result ≡ ToolOutcome.ReadFault → Rose (F.faults shelf.old) (F.faults shelf.new) }
     ensures write_fault { result ≡ ToolOutcome.WriteFault false → Rose (K.faults sink.old) (K.faults sink.new) }
@@ -88,8 +89,8 @@ fn with_page(alloc: Global, page: Result<Vec<u8>, NoMemory>, outcome: ToolOutcom
 /// Does what a mode asks for, up to its page.
 #[tactic(auto, using(crate::proofs::Moments::store_untouched, crate::proofs::Moments::store_written))]
 fn make<F: Shelf, D: Disk>(alloc: Global, mode: Mode<'_>, shelf: &mut F, new: &mut D) -> Made
-    ensures comes { Comes (F.bytes_of shelf.old) (Some (asked mode.entry)) (D.view new.new) result.outcome }
-    ensures written { result.outcome ≡ ToolOutcome.Done → IsWritten (F.bytes_of shelf.old) (asked mode.entry) result.page.items }
+    ensures comes { Comes (F.bytes_of shelf.old) (Some (requested mode.entry)) (D.view new.new) result.outcome }
+    ensures written { result.outcome ≡ ToolOutcome.Done → IsToolText (F.bytes_of shelf.old) (requested mode.entry) result.page.items }
     ensures told { F.bytes_of shelf.new ≡ F.bytes_of shelf.old }
     ensures read_fault { result.outcome ≡ ToolOutcome.ReadFault → Rose (F.faults shelf.old) (F.faults shelf.new) }
     ensures not_written { IsBeforePage result.outcome }
@@ -110,7 +111,7 @@ fn make<F: Shelf, D: Disk>(alloc: Global, mode: Mode<'_>, shelf: &mut F, new: &m
 fn read<F: Shelf>(shelf: &mut F, name: &str) -> Result<Vec<u8>, ToolOutcome>
     ensures bytes { IfOk result (λ bytes. WereRead (F.bytes_of shelf.old name.now) bytes.items) }
     ensures told { F.bytes_of shelf.new ≡ F.bytes_of shelf.old }
-    ensures errors { IfErr result IsUnread }
+    ensures errors { IfErr result ToolIsUnread }
     ensures failed { result ≡ Err ToolOutcome.ReadFault → Rose (F.faults shelf.old) (F.faults shelf.new) }
 {
     match shelf.read(name) {
@@ -242,7 +243,7 @@ fn salvage_file<F: Shelf, D: Disk>(alloc: Global, shelf: &mut F, file: &str, new
 /// Tells in short what the page in a file tells.
 fn summarize_file<F: Shelf>(alloc: Global, shelf: &mut F, page: &str) -> Made
     ensures comes { Reports (F.bytes_of shelf.old page.now) result.outcome }
-    ensures written { result.outcome ≡ ToolOutcome.Done → IsReport (F.bytes_of shelf.old page.now) (λ bytes report. IsSummary bytes report) result.page.items }
+    ensures written { result.outcome ≡ ToolOutcome.Done → IsPageFileReport (F.bytes_of shelf.old page.now) (λ bytes report. IsSummary bytes report) result.page.items }
     ensures told { F.bytes_of shelf.new ≡ F.bytes_of shelf.old }
     ensures read_fault { result.outcome ≡ ToolOutcome.ReadFault → Rose (F.faults shelf.old) (F.faults shelf.new) }
     ensures not_written { IsBeforePage result.outcome }
@@ -262,8 +263,8 @@ fn summarize_file<F: Shelf>(alloc: Global, shelf: &mut F, page: &str) -> Made
 
 /// Tells the lines of the page in a file that name an id.
 fn follow_file<F: Shelf>(alloc: Global, shelf: &mut F, page: &str, id: &str) -> Made
-    ensures comes { Follows (F.bytes_of shelf.old page.now) id.now result.outcome }
-    ensures written { result.outcome ≡ ToolOutcome.Done → IsReport (F.bytes_of shelf.old page.now) (λ bytes report. IsFollowed bytes id.now report) result.page.items }
+    ensures comes { FollowsReport (F.bytes_of shelf.old page.now) id.now result.outcome }
+    ensures written { result.outcome ≡ ToolOutcome.Done → IsPageFileReport (F.bytes_of shelf.old page.now) (λ bytes report. IsFollowed bytes id.now report) result.page.items }
     ensures told { F.bytes_of shelf.new ≡ F.bytes_of shelf.old }
     ensures read_fault { result.outcome ≡ ToolOutcome.ReadFault → Rose (F.faults shelf.old) (F.faults shelf.new) }
     ensures not_written { IsBeforePage result.outcome }

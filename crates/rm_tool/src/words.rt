@@ -1,7 +1,8 @@
 ghost use Rattle.std.specs.Prelude.{◌≡◌, [], ◌∷◌, Some, None, IfErr, IfNone, IfOk, IfSome, true, map, string_bytes};
 ghost use Rattle.std.specs.List.{count_by};
 ghost use Rattle.clap.specs.Walk.{texts};
-ghost use Rattle.rm_tool.specs.Words.{are_names, asked, asked_by, is_flag, mode_of};
+ghost use Rattle.rm_tool.specs.Words.{are_names, requested, request_named, request_of};
+ghost use Rattle.rm_types.specs.Texts.{is_flag};
 
 use crate::reading::read_words;
 use rm_types::NoMemory;
@@ -27,8 +28,8 @@ pub enum Mode<'a> {
 /// What the words ask for: `check FILE`, `convert OLD NEW`, `salvage FILE NEW`, `summary PAGE`, `follow PAGE ID` or `draw PAGE`, of which none begins with `-`. The answer is `None` exactly
 /// where they are of another form. Want of memory may come on any words but those that begin with `-`.
 pub fn mode_of<'a>(alloc: Global, words: &'a [String]) -> Result<Option<Mode<'a>>, NoMemory>
-    ensures some { IfOk result (λ answer. IfSome answer (λ mode. mode_of (map string_bytes words.now) ≡ Some (asked mode))) }
-    ensures none { IfOk result (λ answer. IfNone answer (mode_of (map string_bytes words.now) ≡ None)) }
+    ensures some { IfOk result (λ answer. IfSome answer (λ mode. request_of (map string_bytes words.now) ≡ Some (requested mode))) }
+    ensures none { IfOk result (λ answer. IfNone answer (request_of (map string_bytes words.now) ≡ None)) }
     ensures err { IfErr result (λ _. are_names (map string_bytes words.now) ≡ true) }
 {
     if !are_names(words) {
@@ -67,8 +68,8 @@ fn are_names(words: &[String]) -> bool
 
 /// The mode that these names ask for.
 fn mode_by<'a>(names: &[&'a str]) -> Option<Mode<'a>>
-    ensures some { IfSome result (λ mode. asked_by (texts names.now) ≡ Some (asked mode)) }
-    ensures none { IfNone result (asked_by (texts names.now) ≡ None) }
+    ensures some { IfSome result (λ mode. request_named (texts names.now) ≡ Some (requested mode)) }
+    ensures none { IfNone result (request_named (texts names.now) ≡ None) }
 {
     match names {
         [mode, file] => mode_of_two(mode, file),
@@ -79,8 +80,8 @@ fn mode_by<'a>(names: &[&'a str]) -> Option<Mode<'a>>
 
 /// The mode that two names ask for.
 fn mode_of_two<'a>(mode: &str, file: &'a str) -> Option<Mode<'a>>
-    ensures some { IfSome result (λ asks. asked_by (mode.now ∷ file.now ∷ []) ≡ Some (asked asks)) }
-    ensures none { IfNone result (asked_by (mode.now ∷ file.now ∷ []) ≡ None) }
+    ensures some { IfSome result (λ asks. request_named (mode.now ∷ file.now ∷ []) ≡ Some (requested asks)) }
+    ensures none { IfNone result (request_named (mode.now ∷ file.now ∷ []) ≡ None) }
 {
     if mode == "check" {
         Some(Mode::Check { file })
@@ -95,8 +96,8 @@ fn mode_of_two<'a>(mode: &str, file: &'a str) -> Option<Mode<'a>>
 
 /// The mode that three names ask for.
 fn mode_of_three<'a>(mode: &str, file: &'a str, new: &'a str) -> Option<Mode<'a>>
-    ensures some { IfSome result (λ asks. asked_by (mode.now ∷ file.now ∷ new.now ∷ []) ≡ Some (asked asks)) }
-    ensures none { IfNone result (asked_by (mode.now ∷ file.now ∷ new.now ∷ []) ≡ None) }
+    ensures some { IfSome result (λ asks. request_named (mode.now ∷ file.now ∷ new.now ∷ []) ≡ Some (requested asks)) }
+    ensures none { IfNone result (request_named (mode.now ∷ file.now ∷ new.now ∷ []) ≡ None) }
 {
     if mode == "convert" {
         Some(Mode::Convert { old: file, new })

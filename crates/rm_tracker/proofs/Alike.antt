@@ -6,28 +6,28 @@ use Rattle.rm_types.specs.declared.containers.BookRow.{BookRow}
 use Rattle.rm_types.specs.declared.containers.ContainerState.{ContainerState}
 use Rattle.rm_types.specs.declared.containers.ContainerState.TheVariants.{Acquired, Running}
 use Rattle.rm_types.specs.declared.ids.ContainerId.{ContainerId}
-use Rattle.rm_book.specs.Books.{AreApart, BookOf}
+use Rattle.rm_book.specs.Books.{BookRowsAreApart, BookOf}
 use Rattle.rm_model.specs.State.{Row}
-use Rattle.rm_model.specs.Containers.{is_granted}
+use Rattle.rm_types.specs.Containers.{is_granted}
 use Rattle.rm_model.specs.Facts.{has_container}
 use Rattle.rm_model.specs.NodeReplies.{row_beaten}
 use Rattle.rm_refinement.specs.Agreement.{PlainRow, SameRows, bare_row, plain_row}
-use Rattle.rm_tracker.specs.Answers.{beaten_book, brought_all, is_on, is_untold}
+use Rattle.rm_tracker.specs.Answers.{beaten_book, brought_all, is_row_on, is_untold_row}
 use Rattle.rm_tracker.proofs.Rows.{all_at_once, apart_brought, brought_row}
 use Rattle.rm_book.proofs.Lists.{map_view}
 
 -- a row of the tables after a beat of its node
 abbrev pub beaten_at_once : List ℕ → List ContainerId → List ContainerId → BookRow → BookRow
-beaten_at_once name running launched row = brought_row (is_on name) Running running (brought_row (is_untold name) Acquired launched row)
+beaten_at_once name running launched row = brought_row (is_row_on name) Running running (brought_row (is_untold_row name) Acquired launched row)
 
-pub book_at_once : (name : List ℕ) (running launched : List ContainerId) (book : BookOf) → AreApart book.rows
+pub book_at_once : (name : List ℕ) (running launched : List ContainerId) (book : BookOf) → BookRowsAreApart book.rows
     → beaten_book name running launched book ≡ record book { rows = map (beaten_at_once name running launched) book.rows }
 book_at_once name running launched book apart =
-    ap (λ (b : BookOf). brought_all (is_on name) Running b running) (all_at_once (is_untold name) Acquired launched book apart)
-    ∙ all_at_once (is_on name) Running running (record book { rows = map (brought_row (is_untold name) Acquired launched) book.rows }) (apart_brought (is_untold name) Acquired launched book.rows apart)
+    ap (λ (b : BookOf). brought_all (is_row_on name) Running b running) (all_at_once (is_untold_row name) Acquired launched book apart)
+    ∙ all_at_once (is_row_on name) Running running (record book { rows = map (brought_row (is_untold_row name) Acquired launched) book.rows }) (apart_brought (is_untold_row name) Acquired launched book.rows apart)
     ∙ ap (λ (rows : List BookRow). record book { rows = rows }) (twice book.rows)
   where
-    twice : (xs : List BookRow) → map (brought_row (is_on name) Running running) (map (brought_row (is_untold name) Acquired launched) xs) ≡ map (beaten_at_once name running launched) xs
+    twice : (xs : List BookRow) → map (brought_row (is_row_on name) Running running) (map (brought_row (is_untold_row name) Acquired launched) xs) ≡ map (beaten_at_once name running launched) xs
     twice [] = refl
     twice (x ∷ xs) = ap (λ (l : List BookRow). beaten_at_once name running launched x ∷ l) (twice xs)
 

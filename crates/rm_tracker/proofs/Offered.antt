@@ -16,14 +16,14 @@ use Rattle.rm_types.specs.declared.replies.Reply.TheVariants.{Beat as TellBeat, 
 use Rattle.rm_types.specs.declared.resources.Resource.{Resource}
 use Rattle.rm_types.specs.Records.{is_some_and}
 use Rattle.rm_types.proofs.TestLemmas.{same_text}
-use Rattle.rm_book.specs.Books.{BookOf, capability_in, row_of, with_state}
+use Rattle.rm_book.specs.Books.{BookOf, capability_in, book_row, with_state}
 use Rattle.rm_book.specs.declared.plain.NodeCapability.{NodeCapability}
 use Rattle.rm_model.specs.NodeReplies.{reported}
 use Rattle.rm_tables.specs.declared.nodes.NodeChange.TheVariants as of_node
 use Rattle.rm_tables.specs.declared.nodes.NodeRow.{NodeRow}
 use Rattle.rm_tables.specs.declared.tables.Tables.{Tables}
-use Rattle.rm_tables.specs.Nodes.{beaten_row, changed_row, new_row, node_of as node_in, registered_row, with_node}
-use Rattle.rm_tracker.specs.Answers.{after_clock, after_node, beaten_book, beaten_with, brought_all, brought_one, is_new_beat, is_on, is_untold, launched_by, registered_by, registered_later}
+use Rattle.rm_tables.specs.Nodes.{beaten_row, changed_row, new_node_row, node_row as node_in, registered_node_row, with_node}
+use Rattle.rm_tracker.specs.Answers.{after_clock, after_node, beaten_book, beaten_with, brought_all, brought_one, is_next_beat, is_row_on, is_untold_row, launched_by, registered_by, registered_later}
 use Rattle.rm_tracker.specs.Offers.{OnlyNodesOffer}
 use Rattle.rm_refinement.proofs.Found.{other_row, own_row}
 
@@ -52,7 +52,7 @@ none_changed f n rows q none = by (bytes_eq n q) refl
 -- what nodes offer stays where containers change their states
 brought_offers : (passes : BookRow → Bool) (state : ContainerState) (ids : List ContainerId) (book : BookOf) → (brought_all passes state book ids).nodes ≡ book.nodes
 brought_offers passes state [] book = refl
-brought_offers passes state (id ∷ ids) book = brought_offers passes state ids (brought_one passes state book id) ∙ one (is_some_and passes (row_of book id))
+brought_offers passes state (id ∷ ids) book = brought_offers passes state ids (brought_one passes state book id) ∙ one (is_some_and passes (book_row book id))
   where
     one : (b : Bool) → (if b then with_state book id state else book).nodes ≡ book.nodes
     one true = refl
@@ -60,7 +60,7 @@ brought_offers passes state (id ∷ ids) book = brought_offers passes state ids 
 
 beaten_offers : (name : List ℕ) (running launched : List ContainerId) (book : BookOf) → (beaten_book name running launched book).nodes ≡ book.nodes
 beaten_offers name running launched book =
-    brought_offers (is_on name) Running running (brought_all (is_untold name) Acquired book launched) ∙ brought_offers (is_untold name) Acquired launched book
+    brought_offers (is_row_on name) Running running (brought_all (is_untold_row name) Acquired book launched) ∙ brought_offers (is_untold_row name) Acquired launched book
 
 beaten_kept : (name : List ℕ) (id : ℕ) (running : List Held) (done : List ContainerId) (reply : Reply) (t : Tables) → OnlyNodesOffer t → OnlyNodesOffer (beaten_with name id running done reply t)
 beaten_kept name id running done reply t offer = λ q none.
@@ -69,17 +69,17 @@ beaten_kept name id running done reply t offer = λ q none.
 
 register_kept : (r : Option NodeRow) (name : List ℕ) (turn : ℕ) (capability : Resource) (running : List Held) (reply : Reply) (t : Tables) → OnlyNodesOffer t
     → OnlyNodesOffer (registered_by r name turn capability running reply t)
-register_kept None name turn capability running reply t offer = λ q none. offer q (none_added (name, new_row turn capability running reply) t.nodes q none)
+register_kept None name turn capability running reply t offer = λ q none. offer q (none_added (name, new_node_row turn capability running reply) t.nodes q none)
 register_kept (Some row) name turn capability running reply t offer = by (nat_lt row.turn turn)
   where
     by : (b : Bool) → OnlyNodesOffer (if b then registered_later name turn capability running reply t else t)
-    by true = λ q none. offer q (none_changed (registered_row turn capability running reply) name t.nodes q none)
+    by true = λ q none. offer q (none_changed (registered_node_row turn capability running reply) name t.nodes q none)
     by false = offer
 
 -- after a node was answered
 pub node_offers : (name : List ℕ) (ask : NodeAsk) (reply : Reply) (t : Tables) → OnlyNodesOffer t → OnlyNodesOffer (after_node name ask reply t)
 node_offers name (AskRegister turn capability running) reply t offer = register_kept (node_in t.nodes name) name turn capability running reply t offer
-node_offers name (AskBeat id running done) (TellBeat next launched clean) t offer = by (is_new_beat id (node_in t.nodes name))
+node_offers name (AskBeat id running done) (TellBeat next launched clean) t offer = by (is_next_beat id (node_in t.nodes name))
   where
     by : (b : Bool) → OnlyNodesOffer (if b then beaten_with name id running done (TellBeat next launched clean) t else t)
     by true = beaten_kept name id running done (TellBeat next launched clean) t offer

@@ -13,16 +13,16 @@ use Rattle.rm_book.specs.Books.{BookOf}
 use Rattle.rm_model.specs.State.{NodeState, Row, Scene}
 use Rattle.rm_model.specs.Containers.{lives_on, once}
 use Rattle.rm_model.specs.NodeReplies.{beat_reply, may_expire, node_register_reply, reported, strangers}
-use Rattle.rm_model.specs.Nodes.{is_ready as is_ready_told, is_waiting, node_of as node_told}
+use Rattle.rm_model.specs.Nodes.{is_ready as is_ready_told, is_waiting, judged_node as node_told}
 use Rattle.rm_node.specs.declared.states.NodeState.{NodeState as NodePhase}
 use Rattle.rm_node.specs.declared.states.NodeState.TheVariants as states
-use Rattle.rm_node.specs.Table.{is_registered}
+use Rattle.rm_node.specs.Table.{is_known_node}
 use Rattle.rm_tables.specs.declared.nodes.NodeRow.{NodeRow}
 use Rattle.rm_tables.specs.declared.tables.Tables.{Tables}
-use Rattle.rm_tables.specs.Nodes.{is_ready, node_of as node_in}
+use Rattle.rm_tables.specs.Nodes.{is_ready_row, node_row as node_in}
 use Rattle.rm_refinement.specs.Agreement.{PlainNode, PlainRow, SameRows, bare_node, phase_of, plain_node}
 use Rattle.rm_refinement.specs.Services.{RefinesLife}
-use Rattle.rm_tracker.specs.Told.{beat_told, is_lost, lives_at, may_expire_in, register_told, strangers_in}
+use Rattle.rm_tracker.specs.Told.{beat_told, is_lost, lives_at, may_expire_in, node_register_told, strangers_in}
 use Rattle.rm_refinement.proofs.Rows.{any_alike}
 
 -- a container lives on a node by both books
@@ -48,14 +48,14 @@ named_so (one ∷ nodes) name node found = by (bytes_eq one.name name) refl (nam
     by false e rest = rest (rw e at found)
 
 -- how a node stands, by its row and by the judge
-pub phases : (state : NodePhase) → (is_registered state ≡ (is_waiting (phase_of state) || is_ready_told (phase_of state))) × (is_ready state ≡ is_ready_told (phase_of state))
+pub phases : (state : NodePhase) → (is_known_node state ≡ (is_waiting (phase_of state) || is_ready_told (phase_of state))) × (is_ready_row state ≡ is_ready_told (phase_of state))
 phases states.Absent = (refl, refl)
 phases states.Waiting = (refl, refl)
 phases states.Ready = (refl, refl)
 phases states.Lost = (refl, refl)
 
 registered_alike : (book : BookOf) (name : List ℕ) (row : NodeRow) (node : NodeState) → bare_node book name row ≡ plain_node node
-    → is_registered row.state ≡ (is_waiting node.phase || is_ready_told node.phase)
+    → is_known_node row.state ≡ (is_waiting node.phase || is_ready_told node.phase)
 registered_alike book name row node same =
     (phases row.state).0 ∙ ap (λ (p : PlainNode). is_waiting p.phase || is_ready_told p.phase) same
 
@@ -63,11 +63,11 @@ pub lost_alike : (book : BookOf) (name : List ℕ) (row : NodeRow) (node : NodeS
     → is_lost row.state ≡ not (is_waiting node.phase || is_ready_told node.phase)
 lost_alike book name row node same = ap not (registered_alike book name row node same)
 
-pub ready_alike : (book : BookOf) (name : List ℕ) (row : NodeRow) (node : NodeState) → bare_node book name row ≡ plain_node node → is_ready row.state ≡ is_ready_told node.phase
+pub ready_alike : (book : BookOf) (name : List ℕ) (row : NodeRow) (node : NodeState) → bare_node book name row ≡ plain_node node → is_ready_row row.state ≡ is_ready_told node.phase
 ready_alike book name row node same = (phases row.state).1 ∙ ap (λ (p : PlainNode). is_ready_told p.phase) same
 
 register_by : (m : Scene) (book : BookOf) (name : List ℕ) (turn : ℕ) (row : Option NodeRow) (node : Option NodeState) → option_map (bare_node book name) row ≡ option_map plain_node node
-    → register_told m.life.epoch turn row ≡ node_register_reply m turn node
+    → node_register_told m.life.epoch turn row ≡ node_register_reply m turn node
 register_by m book name turn None None e = refl
 register_by m book name turn None (Some node) e = cc
 register_by m book name turn (Some row) None e = cc
@@ -77,7 +77,7 @@ register_by m book name turn (Some row) (Some node) e =
     rw last refl
 
 -- a registration is answered as the judge does
-pub register_answer : (m : Scene) (t : Tables) (name : List ℕ) (turn : ℕ) → RefinesLife m t → register_told t.epoch turn (node_in t.nodes name) ≡ node_register_reply m turn (node_told m.life.nodes name)
+pub register_answer : (m : Scene) (t : Tables) (name : List ℕ) (turn : ℕ) → RefinesLife m t → node_register_told t.epoch turn (node_in t.nodes name) ≡ node_register_reply m turn (node_told m.life.nodes name)
 register_answer m t name turn shows =
     rw (sym shows.epoch) (register_by m t.book name turn (node_in t.nodes name) (node_told m.life.nodes name) (shows.nodes name))
 
@@ -95,10 +95,10 @@ beat_by m book name id running (Some row) (Some node) rows e named =
     let reply : row.last_reply ≡ node.last_reply = ap (λ (x : PlainNode). x.last_reply) same in
     let launches : row.launches ≡ node.launches = ap (λ (x : PlainNode). x.launches) same in
     let clean : strangers_in book name running ≡ strangers m node.name running = rw (named node refl) (strangers_alike m book name running rows) in
-    answer_by (is_lost row.state) (id + 1 == row.last_id) (id == row.last_id) (is_ready row.state) refl refl refl refl lost ready last reply launches clean
+    answer_by (is_lost row.state) (id + 1 == row.last_id) (id == row.last_id) (is_ready_row row.state) refl refl refl refl lost ready last reply launches clean
   where
-    answer_by : (a b c d : Bool) → is_lost row.state ≡ a → (id + 1 == row.last_id) ≡ b → (id == row.last_id) ≡ c → is_ready row.state ≡ d
-        → is_lost row.state ≡ not (is_waiting node.phase || is_ready_told node.phase) → is_ready row.state ≡ is_ready_told node.phase → row.last_id ≡ node.last_id
+    answer_by : (a b c d : Bool) → is_lost row.state ≡ a → (id + 1 == row.last_id) ≡ b → (id == row.last_id) ≡ c → is_ready_row row.state ≡ d
+        → is_lost row.state ≡ not (is_waiting node.phase || is_ready_told node.phase) → is_ready_row row.state ≡ is_ready_told node.phase → row.last_id ≡ node.last_id
         → row.last_reply ≡ node.last_reply → row.launches ≡ node.launches → strangers_in book name running ≡ strangers m node.name running
         → beat_told book name id running (Some row) ≡ beat_reply m id running (Some node)
     answer_by true b c d ea eb ec ed lost ready last reply launches clean = let ja = sym lost ∙ ea in rw (ea, ja) refl

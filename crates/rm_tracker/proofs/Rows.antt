@@ -9,11 +9,11 @@ use Rattle.rm_types.specs.declared.containers.ContainerState.TheVariants.{Grante
 use Rattle.rm_types.specs.declared.ids.ContainerId.{ContainerId}
 use Rattle.rm_types.specs.Records.{is_some_and}
 use Rattle.rm_types.proofs.IdLemmas.{container_back, same_container}
-use Rattle.rm_book.specs.Books.{AreApart, BookOf, is_of, row_of, with_state}
+use Rattle.rm_book.specs.Books.{BookRowsAreApart, BookOf, is_of, book_row, with_state}
 use Rattle.rm_book.specs.Granted.{may_be_told}
-use Rattle.rm_model.specs.Containers.{is_granted}
+use Rattle.rm_types.specs.Containers.{is_granted}
 use Rattle.rm_model.specs.Facts.{has_container}
-use Rattle.rm_tracker.specs.Answers.{brought_all, brought_one, is_untold}
+use Rattle.rm_tracker.specs.Answers.{brought_all, brought_one, is_untold_row}
 
 -- the row of a container in another state, where it is one of these and passes
 abbrev pub brought_row : (BookRow → Bool) → ContainerState → List ContainerId → BookRow → BookRow
@@ -41,7 +41,7 @@ others_keep passes state id (row ∷ rows) none = by (is_of id row) refl (others
     by false e rest = rw e (ap (λ l. row ∷ l) (rest (rw e at none)))
 
 -- one container, found by its first row, is brought to another state
-one_row : (passes : BookRow → Bool) (state : ContainerState) (id : ContainerId) (rows : List BookRow) → AreApart rows
+one_row : (passes : BookRow → Bool) (state : ContainerState) (id : ContainerId) (rows : List BookRow) → BookRowsAreApart rows
     → (if is_some_and passes (find (is_of id) rows) then map (λ row. if is_of id row then record row { state = state } else row) rows else rows) ≡ map (brought_if passes state id) rows
 one_row passes state id [] apart = refl
 one_row passes state id (row ∷ rows) apart = by (is_of id row) (passes row) refl refl (one_row passes state id rows apart.1)
@@ -62,16 +62,16 @@ one_row passes state id (row ∷ rows) apart = by (is_of id row) (passes row) re
         rw (e, f, others_keep passes state id rows none) refl
     by false p e f rest = rw e (up _ row _ rows ∙ ap (λ l. row ∷ l) rest)
 
-one_book : (passes : BookRow → Bool) (state : ContainerState) (book : BookOf) (id : ContainerId) → AreApart book.rows
+one_book : (passes : BookRow → Bool) (state : ContainerState) (book : BookOf) (id : ContainerId) → BookRowsAreApart book.rows
     → brought_one passes state book id ≡ record book { rows = map (brought_if passes state id) book.rows }
-one_book passes state book id apart = into (is_some_and passes (row_of book id)) ∙ ap (λ (rows : List BookRow). record book { rows = rows }) (one_row passes state id book.rows apart)
+one_book passes state book id apart = into (is_some_and passes (book_row book id)) ∙ ap (λ (rows : List BookRow). record book { rows = rows }) (one_row passes state id book.rows apart)
   where
     into : (b : Bool) → (if b then with_state book id state else book)
         ≡ record book { rows = if b then map (λ row. if is_of id row then record row { state = state } else row) book.rows else book.rows }
     into true = refl
     into false = refl
 
-still_apart : (passes : BookRow → Bool) (state : ContainerState) (id : ContainerId) (rows : List BookRow) → AreApart rows → AreApart (map (brought_if passes state id) rows)
+still_apart : (passes : BookRow → Bool) (state : ContainerState) (id : ContainerId) (rows : List BookRow) → BookRowsAreApart rows → BookRowsAreApart (map (brought_if passes state id) rows)
 still_apart passes state id [] apart = tt
 still_apart passes state id (row ∷ rows) apart = (same_ids rows ∙ apart.0, still_apart passes state id rows apart.1)
   where
@@ -106,7 +106,7 @@ none_brought passes state [] = refl
 none_brought passes state (row ∷ rows) = ap (λ l. row ∷ l) (none_brought passes state rows)
 
 -- containers that are brought to a state one by one are brought there all at once
-pub all_at_once : (passes : BookRow → Bool) (state : ContainerState) (ids : List ContainerId) (book : BookOf) → AreApart book.rows
+pub all_at_once : (passes : BookRow → Bool) (state : ContainerState) (ids : List ContainerId) (book : BookOf) → BookRowsAreApart book.rows
     → brought_all passes state book ids ≡ record book { rows = map (brought_row passes state ids) book.rows }
 all_at_once passes state [] book apart = ap (λ (rows : List BookRow). record book { rows = rows }) (none_brought passes state book.rows)
 all_at_once passes state (id ∷ ids) book apart =
@@ -118,7 +118,7 @@ all_at_once passes state (id ∷ ids) book apart =
     rows_again [] = refl
     rows_again (x ∷ xs) = rw (row_again passes state id ids x) (ap (λ (l : List BookRow). brought_row passes state (id ∷ ids) x ∷ l) (rows_again xs))
 
-pub apart_brought : (passes : BookRow → Bool) (state : ContainerState) (ids : List ContainerId) (rows : List BookRow) → AreApart rows → AreApart (map (brought_row passes state ids) rows)
+pub apart_brought : (passes : BookRow → Bool) (state : ContainerState) (ids : List ContainerId) (rows : List BookRow) → BookRowsAreApart rows → BookRowsAreApart (map (brought_row passes state ids) rows)
 apart_brought passes state ids [] apart = tt
 apart_brought passes state ids (row ∷ rows) apart = (same_ids rows ∙ apart.0, apart_brought passes state ids rows apart.1)
   where
@@ -127,7 +127,7 @@ apart_brought passes state ids (row ∷ rows) apart = (same_ids rows ∙ apart.0
     same_ids (x ∷ xs) = ap (λ b. is_of row.id x || b) (same_ids xs)
 
 -- somebody may be told of a container that nobody was told of yet
-pub untold_may : (name : List ℕ) (o : Option BookRow) → is_some_and (is_untold name) o ≡ true → IfSome o (λ row. may_be_told row.state ≡ true)
+pub untold_may : (name : List ℕ) (o : Option BookRow) → is_some_and (is_untold_row name) o ≡ true → IfSome o (λ row. may_be_told row.state ≡ true)
 untold_may name None e = tt
 untold_may name (Some row) e = by (bytes_eq row.node name) row.state e
   where

@@ -15,25 +15,25 @@ use Rattle.rm_types.specs.declared.replies.Reply.TheVariants.{NodeRegistered, Re
 use Rattle.rm_types.specs.declared.resources.Resource.{Resource}
 use Rattle.rm_types.specs.Ids.{is_container}
 use Rattle.rm_types.proofs.IdLemmas.{container_itself}
-use Rattle.rm_book.specs.Books.{BookOf, AreApart, IsBook}
+use Rattle.rm_book.specs.Books.{BookOf, BookRowsAreApart, IsBook}
 use Rattle.rm_model.specs.State.{LifeState, NodeState, Row, Scene, Lost, Waiting}
 use Rattle.rm_model.specs.Attempts.{is_live}
 use Rattle.rm_model.specs.Facts.{has_container}
-use Rattle.rm_model.specs.NodeReplies.{beat_reply, beaten, beaten_reply, beats, clock_reply, expired, is_new_to_node, life_after_clock, life_after_node, may_expire, new_node, node_register_reply, node_reply, registered, reported, strangers}
-use Rattle.rm_model.specs.Nodes.{is_ready as is_ready_told, is_waiting, node_of as node_told}
+use Rattle.rm_model.specs.NodeReplies.{beat_reply, beaten, beaten_reply, beats, clock_reply, expired, is_new_to_node, life_after_clock, life_after_node, may_expire, new_node, node_register_reply, node_reply, node_after_registration, reported, strangers}
+use Rattle.rm_model.specs.Nodes.{is_ready as is_ready_told, is_waiting, judged_node as node_told}
 use Rattle.rm_node.specs.declared.states.NodeState.{NodeState as NodePhase}
 use Rattle.rm_node.specs.declared.states.NodeState.TheVariants as states
 use Rattle.rm_node.specs.declared.states.NodeEvent.TheVariants as node_events
-use Rattle.rm_node.specs.Table.{next_state as next_node_state}
+use Rattle.rm_node.specs.Table.{next_node_state as next_node_state}
 use Rattle.rm_refinement.specs.Agreement.{phase_of}
 use Rattle.rm_tables.specs.declared.events.SchedEvent.{SchedEvent}
 use Rattle.rm_tables.specs.declared.nodes.NodeChange.TheVariants as of_node
 use Rattle.rm_tables.specs.declared.nodes.NodeRow.{NodeRow}
 use Rattle.rm_tables.specs.declared.tables.Tables.{Tables}
-use Rattle.rm_tables.specs.Nodes.{beaten_row, changed_row, is_ready, new_row, node_of as node_in, registered_row, with_node}
+use Rattle.rm_tables.specs.Nodes.{beaten_row, changed_row, is_ready_row, new_node_row, node_row as node_in, registered_node_row, with_node}
 use Rattle.rm_refinement.specs.Agreement.{PlainNode, SameNodes, SameRows, bare_node, plain_node}
 use Rattle.rm_refinement.specs.Services.{RefinesLife}
-use Rattle.rm_tracker.specs.Answers.{after_clock, after_node, beat_events, beaten_with, is_new_beat, launched_by, registered_by, registered_first}
+use Rattle.rm_tracker.specs.Answers.{after_clock, after_node, beat_events, beaten_with, is_next_beat, launched_by, registered_by, registered_first}
 use Rattle.rm_tracker.specs.Offers.{OnlyNodesOffer}
 use Rattle.rm_refinement.proofs.Nodes.{added_same, tidied_same, with_same}
 use Rattle.rm_tracker.proofs.Alike.{book_at_once, rows_beaten_same}
@@ -69,9 +69,9 @@ register_by m t name turn capability running reply (Some row) None shows offer i
 register_by m t name turn capability running reply None None shows offer in_tables told e is =
     subst (λ (one : Reply). RefinesLife (living m (life_after_node m name (AskRegister turn capability running) one)) (registered_first name turn capability running one t)) (sym is)
     (rw told
-    (again m t t.book (t.nodes ++ (name, new_row turn capability running (NodeRegistered turn m.life.epoch)) ∷ []) _ m.life.book _ shows shows.rows
+    (again m t t.book (t.nodes ++ (name, new_node_row turn capability running (NodeRegistered turn m.life.epoch)) ∷ []) _ m.life.book _ shows shows.rows
     (tidied_same t.book _ m.life.book _
-    (added_same t.book name (new_row turn capability running (NodeRegistered turn m.life.epoch)) (new_node name (record { turn = turn; capability = capability; running = running }) (NodeRegistered turn m.life.epoch))
+    (added_same t.book name (new_node_row turn capability running (NodeRegistered turn m.life.epoch)) (new_node name (record { turn = turn; capability = capability; running = running }) (NodeRegistered turn m.life.epoch))
     t.nodes m.life.nodes refl shows.nodes in_tables told (rw (offer name in_tables) refl)))))
 register_by m t name turn capability running reply (Some row) (Some node) shows offer in_tables told e is =
     let alike : bare_node t.book name row ≡ plain_node node = cc in
@@ -85,10 +85,10 @@ register_by m t name turn capability running reply (Some row) (Some node) shows 
         let answer : reply ≡ NodeRegistered turn m.life.epoch = rw later at is in
         subst (λ (one : Reply). RefinesLife (living m (life_after_node m name (AskRegister turn capability running) one)) (registered_by (Some row) name turn capability running one t)) (sym answer)
         (rw (told, later, later_row)
-        (again m t t.book (with_node (registered_row turn capability running (NodeRegistered turn m.life.epoch)) name t.nodes) _ m.life.book _ shows shows.rows
+        (again m t t.book (with_node (registered_node_row turn capability running (NodeRegistered turn m.life.epoch)) name t.nodes) _ m.life.book _ shows shows.rows
         (tidied_same t.book _ m.life.book _
-        (with_same t.book name (registered_row turn capability running (NodeRegistered turn m.life.epoch))
-        (registered (record { turn = turn; capability = capability; running = running }) (NodeRegistered turn m.life.epoch)) t.nodes m.life.nodes (λ one. refl) shows.nodes
+        (with_same t.book name (registered_node_row turn capability running (NodeRegistered turn m.life.epoch))
+        (node_after_registration (record { turn = turn; capability = capability; running = running }) (NodeRegistered turn m.life.epoch)) t.nodes m.life.nodes (λ one. refl) shows.nodes
         (λ r o a b alike. ap
         (λ (x : PlainNode). record x { last = record { turn = turn; capability = capability; running = running }; phase = Waiting; last_id = 0; last_reply = NodeRegistered turn m.life.epoch })
         alike)))))
@@ -108,7 +108,7 @@ register_same m t name turn capability running reply shows offer is =
 -- BEATS
 
 -- a beat that isn't new changes nothing, whatever it is answered
-old_beat : (m : Scene) (t : Tables) (name : List ℕ) (id : ℕ) (running : List Held) (done : List ContainerId) (reply : Reply) → RefinesLife m t → is_new_beat id (node_in t.nodes name) ≡ false
+old_beat : (m : Scene) (t : Tables) (name : List ℕ) (id : ℕ) (running : List Held) (done : List ContainerId) (reply : Reply) → RefinesLife m t → is_next_beat id (node_in t.nodes name) ≡ false
     → is_new_to_node m name id ≡ false → RefinesLife (living m (life_after_node m name (AskBeat id running done) reply)) (after_node name (AskBeat id running done) reply t)
 old_beat m t name id running done (TellBeat next launched clean) shows new told = rw (new, told) shows
 old_beat m t name id running done _ shows new told = shows
@@ -134,9 +134,9 @@ all_left [] = refl
 all_left (id ∷ launches) = ap (λ l. id ∷ l) (all_left launches)
 
 -- a new beat
-new_beat : (m : Scene) (t : Tables) (name : List ℕ) (id : ℕ) (running : List Held) (done : List ContainerId) (reply : Reply) (row : NodeRow) (node : NodeState) → RefinesLife m t → AreApart t.book.rows
+new_beat : (m : Scene) (t : Tables) (name : List ℕ) (id : ℕ) (running : List Held) (done : List ContainerId) (reply : Reply) (row : NodeRow) (node : NodeState) → RefinesLife m t → BookRowsAreApart t.book.rows
     → node_in t.nodes name ≡ Some row → node_told m.life.nodes name ≡ Some node → id ≡ node.last_id
-    → (if is_ready row.state then [] else row.launches) ≡ filter (λ one. not (has_container (launched_by reply) one)) node.launches
+    → (if is_ready_row row.state then [] else row.launches) ≡ filter (λ one. not (has_container (launched_by reply) one)) node.launches
     → RefinesLife (living m (beats m name running done (launched_by reply) reply)) (beaten_with name id running done reply t)
 new_beat m t name id running done reply row node shows apart in_tables told last launches =
     subst (λ (book : BookOf). RefinesLife (living m (beats m name running done (launched_by reply) reply)) (record t { book = book; nodes = with_node (beaten_row (id + 1) reply) name t.nodes; sched = t.sched ++ beat_events name done }))
@@ -155,12 +155,12 @@ new_beat m t name id running done reply row node shows apart in_tables told last
         → bare_node t.book name (beaten_row (id + 1) reply r) ≡ plain_node (beaten (launched_by reply) done reply o)
     beaten_alike r o own own_told alike =
         let next : id + 1 ≡ o.last_id + 1 = rw (own_told, last) refl in
-        let left : (if is_ready r.state then [] else r.launches) ≡ filter (λ one. not (has_container (launched_by reply) one)) o.launches = rw (own, own_told) launches in
-        ap (λ (x : PlainNode). record x { last_id = id + 1; last_reply = reply; launches = if is_ready r.state then [] else r.launches }) alike
-        ∙ ap (λ (n : ℕ). record (plain_node o) { last_id = n; last_reply = reply; launches = if is_ready r.state then [] else r.launches }) next
+        let left : (if is_ready_row r.state then [] else r.launches) ≡ filter (λ one. not (has_container (launched_by reply) one)) o.launches = rw (own, own_told) launches in
+        ap (λ (x : PlainNode). record x { last_id = id + 1; last_reply = reply; launches = if is_ready_row r.state then [] else r.launches }) alike
+        ∙ ap (λ (n : ℕ). record (plain_node o) { last_id = n; last_reply = reply; launches = if is_ready_row r.state then [] else r.launches }) next
         ∙ ap (λ (l : List ContainerId). record (plain_node o) { last_id = o.last_id + 1; last_reply = reply; launches = l }) left
 
-beat_by : (m : Scene) (t : Tables) (name : List ℕ) (id : ℕ) (running : List Held) (done : List ContainerId) (reply : Reply) (r : Option NodeRow) (o : Option NodeState) → RefinesLife m t → AreApart t.book.rows
+beat_by : (m : Scene) (t : Tables) (name : List ℕ) (id : ℕ) (running : List Held) (done : List ContainerId) (reply : Reply) (r : Option NodeRow) (o : Option NodeState) → RefinesLife m t → BookRowsAreApart t.book.rows
     → node_in t.nodes name ≡ r → node_told m.life.nodes name ≡ o → option_map (bare_node t.book name) r ≡ option_map plain_node o → reply ≡ beat_reply m id running o
     → RefinesLife (living m (life_after_node m name (AskBeat id running done) reply)) (after_node name (AskBeat id running done) reply t)
 beat_by m t name id running done reply None (Some node) shows apart in_tables told e is = cc
@@ -176,36 +176,36 @@ beat_by m t name id running done reply (Some row) (Some node) shows apart in_tab
     not_again : id ≡ node.last_id → (id + 1 == node.last_id) ≡ false
     not_again last = grind (arith, nat_tests)
 
-    by_phase : (r : Bool) → is_ready_told node.phase ≡ r → (id == node.last_id) ≡ true → (id == row.last_id) ≡ true → row.launches ≡ node.launches → is_ready row.state ≡ is_ready_told node.phase
+    by_phase : (r : Bool) → is_ready_told node.phase ≡ r → (id == node.last_id) ≡ true → (id == row.last_id) ≡ true → row.launches ≡ node.launches → is_ready_row row.state ≡ is_ready_told node.phase
         → reply ≡ beaten_reply m node running
         → RefinesLife (living m (life_after_node m name (AskBeat id running done) reply)) (after_node name (AskBeat id running done) reply t)
-    by_phase true up new new_row launches ready is =
+    by_phase true up new new_node_row launches ready is =
         let answer : reply ≡ TellBeat (node.last_id + 1) node.launches (strangers m node.name running) = rw up at is in
         let new_told : is_new_to_node m name id ≡ true = rw told new in
-        let new_in : is_new_beat id (node_in t.nodes name) ≡ true = rw in_tables new_row in
-        let gone : (if is_ready row.state then [] else row.launches) ≡ filter (λ one. not (has_container node.launches one)) node.launches = rw (ready, up) (none_left [] node.launches) in
+        let new_in : is_next_beat id (node_in t.nodes name) ≡ true = rw in_tables new_node_row in
+        let gone : (if is_ready_row row.state then [] else row.launches) ≡ filter (λ one. not (has_container node.launches one)) node.launches = rw (ready, up) (none_left [] node.launches) in
         subst (λ (one : Reply). RefinesLife (living m (life_after_node m name (AskBeat id running done) one)) (after_node name (AskBeat id running done) one t)) (sym answer)
         (rw (new_told, new_in)
         (new_beat m t name id running done (TellBeat (node.last_id + 1) node.launches (strangers m node.name running)) row node shows apart in_tables told (eqb-true id node.last_id new) gone))
-    by_phase false up new new_row launches ready is =
+    by_phase false up new new_node_row launches ready is =
         let answer : reply ≡ TellBeat (node.last_id + 1) [] [] = rw up at is in
         let new_told : is_new_to_node m name id ≡ true = rw told new in
-        let new_in : is_new_beat id (node_in t.nodes name) ≡ true = rw in_tables new_row in
-        let kept : (if is_ready row.state then [] else row.launches) ≡ filter (λ one. not (has_container [] one)) node.launches = rw (ready, up, launches) (all_left node.launches) in
+        let new_in : is_next_beat id (node_in t.nodes name) ≡ true = rw in_tables new_node_row in
+        let kept : (if is_ready_row row.state then [] else row.launches) ≡ filter (λ one. not (has_container [] one)) node.launches = rw (ready, up, launches) (all_left node.launches) in
         subst (λ (one : Reply). RefinesLife (living m (life_after_node m name (AskBeat id running done) one)) (after_node name (AskBeat id running done) one t)) (sym answer)
         (rw (new_told, new_in)
         (new_beat m t name id running done (TellBeat (node.last_id + 1) [] []) row node shows apart in_tables told (eqb-true id node.last_id new) kept))
 
     by_lease : (l : Bool) → not (is_waiting node.phase || is_ready_told node.phase) ≡ l → (id == node.last_id) ≡ true → (id == row.last_id) ≡ true → row.launches ≡ node.launches
-        → is_ready row.state ≡ is_ready_told node.phase → reply ≡ beat_reply m id running (Some node)
+        → is_ready_row row.state ≡ is_ready_told node.phase → reply ≡ beat_reply m id running (Some node)
         → RefinesLife (living m (life_after_node m name (AskBeat id running done) reply)) (after_node name (AskBeat id running done) reply t)
-    by_lease true lost new new_row launches ready is =
+    by_lease true lost new new_node_row launches ready is =
         let answer : reply ≡ Resync = rw lost at is in
         subst (λ (one : Reply). RefinesLife (living m (life_after_node m name (AskBeat id running done) one)) (after_node name (AskBeat id running done) one t)) (sym answer) shows
-    by_lease false lost new new_row launches ready is =
-        by_phase (is_ready_told node.phase) refl new new_row launches ready (rw (lost, not_again (eqb-true id node.last_id new), new) at is)
+    by_lease false lost new new_node_row launches ready is =
+        by_phase (is_ready_told node.phase) refl new new_node_row launches ready (rw (lost, not_again (eqb-true id node.last_id new), new) at is)
 
-    by_id : (b : Bool) → (id == node.last_id) ≡ b → (id == row.last_id) ≡ (id == node.last_id) → row.launches ≡ node.launches → is_ready row.state ≡ is_ready_told node.phase
+    by_id : (b : Bool) → (id == node.last_id) ≡ b → (id == row.last_id) ≡ (id == node.last_id) → row.launches ≡ node.launches → is_ready_row row.state ≡ is_ready_told node.phase
         → reply ≡ beat_reply m id running (Some node)
         → RefinesLife (living m (life_after_node m name (AskBeat id running done) reply)) (after_node name (AskBeat id running done) reply t)
     by_id true new same launches ready is =

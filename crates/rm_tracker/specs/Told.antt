@@ -16,9 +16,9 @@ use Rattle.rm_book.specs.Books.{BookOf}
 use Rattle.rm_model.specs.Containers.{once}
 use Rattle.rm_model.specs.NodeReplies.{reported}
 use Rattle.rm_node.specs.declared.states.NodeState.{NodeState}
-use Rattle.rm_node.specs.Table.{is_registered}
+use Rattle.rm_node.specs.Table.{is_known_node}
 use Rattle.rm_tables.specs.declared.nodes.NodeRow.{NodeRow}
-use Rattle.rm_tables.specs.Nodes.{is_ready}
+use Rattle.rm_tables.specs.Nodes.{is_ready_row}
 
 -- the response id that a node says it was answered last, where it beats
 abbrev pub beat_id : NodeAsk → ℕ
@@ -33,12 +33,12 @@ elapsed (ExpireMaster attempt) = 0
 
 -- a node isn't registered: it never was, or its lease ran out
 abbrev pub is_lost : NodeState → Bool
-is_lost state = not (is_registered state)
+is_lost state = not (is_known_node state)
 
 -- what a registration is answered, of a node that has no row, and of one that has
-abbrev pub register_told : ℕ → ℕ → Option NodeRow → Reply
-register_told epoch turn None = NodeRegistered turn epoch
-register_told epoch turn (Some row) = NodeRegistered (if nat_lt row.turn turn then turn else row.turn) epoch
+abbrev pub node_register_told : ℕ → ℕ → Option NodeRow → Reply
+node_register_told epoch turn None = NodeRegistered turn epoch
+node_register_told epoch turn (Some row) = NodeRegistered (if nat_lt row.turn turn then turn else row.turn) epoch
 
 -- a row of the book is of this container, and on this node
 abbrev pub is_there : List ℕ → ContainerId → BookRow → Bool
@@ -54,11 +54,11 @@ strangers_in book name running = once (filter (λ id. not (lives_at book name id
 
 -- what a node is told to launch at a new beat, and what to clean: one that is ready all that it is to, and one that waits nothing
 abbrev pub launch_told : NodeRow → List ContainerId
-launch_told row = if is_ready row.state then row.launches else []
+launch_told row = if is_ready_row row.state then row.launches else []
 
 -- what a node is told to clean at a new beat: where it is ready, what it reports as running that is not in the book
 abbrev pub clean_told : BookOf → List ℕ → List Held → NodeRow → List ContainerId
-clean_told book name running row = if is_ready row.state then strangers_in book name running else []
+clean_told book name running row = if is_ready_row row.state then strangers_in book name running else []
 
 -- what a new beat is answered
 abbrev pub new_beat_told : BookOf → List ℕ → ℕ → List Held → NodeRow → Reply
@@ -75,4 +75,4 @@ beat_told book name id running (Some row) =
 -- a node may expire that has a row and isn't lost
 abbrev pub may_expire_in : Option NodeRow → Bool
 may_expire_in None = false
-may_expire_in (Some row) = is_registered row.state
+may_expire_in (Some row) = is_known_node row.state

@@ -3,12 +3,12 @@ ghost use Rattle.std.specs.Prelude.{◌≡◌, ◌+◌, ◌<◌, ◌^◌, [], �
 ghost use Rattle.rm_types.specs.declared.containers.ContainerState.{ContainerState as Stage};
 ghost use Rattle.rm_types.specs.declared.messages.NodeAsk.{NodeAsk as Ask};
 ghost use Rattle.rm_types.specs.Records.{is_some_and};
-ghost use Rattle.rm_book.specs.Books.{IsBook, row_of};
+ghost use Rattle.rm_book.specs.Books.{IsBook, book_row};
 ghost use Rattle.rm_model.specs.NodeReplies.{reported};
 ghost use Rattle.rm_model.specs.Facts.{has_container};
 ghost use Rattle.rm_tables.specs.declared.events.SchedEvent.{SchedEvent as Event};
-ghost use Rattle.rm_tables.specs.Nodes.{node_of};
-ghost use Rattle.rm_tracker.specs.Answers.{after_node, beat_events, beaten_with, brought_all, brought_one, is_on, is_untold};
+ghost use Rattle.rm_tables.specs.Nodes.{node_row};
+ghost use Rattle.rm_tracker.specs.Answers.{after_node, beat_events, beaten_with, brought_all, brought_one, is_row_on, is_untold_row};
 ghost use Rattle.rm_tracker.specs.Told.{beat_told, lives_at, new_beat_told, strangers_in};
 
 use rm_book::Book;
@@ -21,7 +21,7 @@ use std::alloc::Global;
 
 /// Whether a container's row is on a node.
 fn is_on(book: &Book, name: &Text, id: ContainerId) -> bool
-    ensures { result ≡ is_some_and (is_on name.now) (row_of book.now id) }
+    ensures { result ≡ is_some_and (is_row_on name.now) (book_row book.now id) }
 {
     match book.get(id) {
         Some(row) => row.node.is_same(name),
@@ -90,7 +90,7 @@ fn answer_new(
 
 /// Whether a container's row is on a node, and nobody was told of it yet.
 fn is_untold(book: &Book, name: &Text, id: ContainerId) -> bool
-    ensures { result ≡ is_some_and (is_untold name.now) (row_of book.now id) }
+    ensures { result ≡ is_some_and (is_untold_row name.now) (book_row book.now id) }
 {
     match book.get(id) {
         Some(row) => row.node.is_same(name) && row.state == ContainerState::Granted,
@@ -100,7 +100,7 @@ fn is_untold(book: &Book, name: &Text, id: ContainerId) -> bool
 
 /// A container that a node reports runs there.
 fn run_one(book: &mut Book, name: &Text, id: ContainerId)
-    ensures { book.new ≡ brought_one (is_on name.now) Stage.Running book.old id }
+    ensures { book.new ≡ brought_one (is_row_on name.now) Stage.Running book.old id }
 {
     if is_on(book, name, id) {
         book.run(id);
@@ -108,7 +108,7 @@ fn run_one(book: &mut Book, name: &Text, id: ContainerId)
 }
 
 fn run_all(book: &mut Book, name: &Text, running: &[Held])
-    ensures { book.new ≡ brought_all (is_on name.now) Stage.Running book.old (reported running.now) }
+    ensures { book.new ≡ brought_all (is_row_on name.now) Stage.Running book.old (reported running.now) }
 {
     'running: for held in running {
         run_one(book, name, held.id);
@@ -117,7 +117,7 @@ fn run_all(book: &mut Book, name: &Text, running: &[Held])
 
 /// A container that a node is told to launch is acquired.
 fn acquire_one(book: &mut Book, name: &Text, id: ContainerId)
-    ensures { book.new ≡ brought_one (is_untold name.now) Stage.Acquired book.old id }
+    ensures { book.new ≡ brought_one (is_untold_row name.now) Stage.Acquired book.old id }
 {
     if is_untold(book, name, id) {
         book.tell(id);
@@ -125,7 +125,7 @@ fn acquire_one(book: &mut Book, name: &Text, id: ContainerId)
 }
 
 fn acquire_all(book: &mut Book, name: &Text, launched: &[ContainerId])
-    ensures { book.new ≡ brought_all (is_untold name.now) Stage.Acquired book.old launched.now }
+    ensures { book.new ≡ brought_all (is_untold_row name.now) Stage.Acquired book.old launched.now }
 {
     'launched: for id in launched {
         acquire_one(book, name, *id);
@@ -185,7 +185,7 @@ pub fn beat(
 ) -> Result<Reply, NoMemory>
     requires id { id + 1 < 2 ^ 32 }
     requires book { IsBook t.old.book }
-    ensures reply { IfOk result (λ reply. reply ≡ beat_told t.old.book name.now id running.now (node_of t.old.nodes name.now)) }
+    ensures reply { IfOk result (λ reply. reply ≡ beat_told t.old.book name.now id running.now (node_row t.old.nodes name.now)) }
     ensures changed { IfOk result (λ reply. t.new ≡ after_node name.now (Ask.Beat id running.now done.now) reply t.old) }
     ensures err { OnErr result (t.new ≡ t.old) }
 {

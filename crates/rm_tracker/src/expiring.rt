@@ -3,7 +3,7 @@ ghost use Rattle.std.specs.Prelude.{◌≡◌, IfOk, OnErr, if◌then◌else◌}
 ghost use Rattle.rm_types.specs.declared.messages.ClockAsk.{ClockAsk as Ask};
 ghost use Rattle.rm_types.specs.declared.replies.Reply.{Reply as Told};
 ghost use Rattle.rm_refinement.specs.Services.{lives_by};
-ghost use Rattle.rm_tables.specs.Nodes.{node_of};
+ghost use Rattle.rm_tables.specs.Nodes.{node_row};
 ghost use Rattle.rm_tables.specs.Rows.{row_of};
 ghost use Rattle.rm_tracker.specs.Answers.{after_clock};
 ghost use Rattle.rm_tracker.specs.Told.{may_expire_in};
@@ -14,7 +14,7 @@ use rm_types::{AttemptId, Duplicate, NoMemory, Reply, Text};
 
 /// Whether a node may expire.
 fn may_expire(nodes: &Nodes, name: &Text) -> bool
-    ensures { result ≡ may_expire_in (node_of nodes.now name.now) }
+    ensures { result ≡ may_expire_in (node_row nodes.now name.now) }
 {
     match nodes.find(name) {
         Some(row) => is_registered(row.state),
@@ -24,7 +24,7 @@ fn may_expire(nodes: &Nodes, name: &Text) -> bool
 
 /// A node's lease ran out; where it isn't lost, it is from now on.
 pub fn expire_node(t: &mut Tables, name: &Text) -> Result<Reply, NoMemory>
-    ensures reply { IfOk result (λ reply. reply ≡ (if may_expire_in (node_of t.old.nodes name.now) then Told.Ok else Told.Unknown)) }
+    ensures reply { IfOk result (λ reply. reply ≡ (if may_expire_in (node_row t.old.nodes name.now) then Told.Ok else Told.Unknown)) }
     ensures changed { IfOk result (λ reply. t.new ≡ after_clock (Ask.ExpireNode name.now) reply t.old) }
     ensures err { OnErr result (t.new ≡ t.old) }
 {

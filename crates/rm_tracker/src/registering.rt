@@ -1,9 +1,9 @@
 //! A node registers.
 ghost use Rattle.std.specs.Prelude.{◌≡◌, [], ◌∷◌, ◌++◌, None, IfOk, OnOk, OnErr};
 ghost use Rattle.rm_tables.specs.declared.events.SchedEvent.{SchedEvent as Event};
-ghost use Rattle.rm_tables.specs.Nodes.{node_of};
+ghost use Rattle.rm_tables.specs.Nodes.{node_row};
 ghost use Rattle.rm_tracker.specs.Answers.{registered_by, registered_first, registered_later};
-ghost use Rattle.rm_tracker.specs.Told.{register_told};
+ghost use Rattle.rm_tracker.specs.Told.{node_register_told};
 
 use rm_tables::{NodeRow, Nodes, Registration, SchedEvent, Tables};
 use rm_types::{Boxed, Duplicate, Held, Items, NoMemory, Queue, Reply, Resource, Text};
@@ -47,7 +47,7 @@ fn register_first(
     capability: Resource,
     running: &Items<Held>,
 ) -> Result<(), NoMemory>
-    requires { node_of t.old.nodes name.now ≡ None }
+    requires { node_row t.old.nodes name.now ≡ None }
     ensures ok { OnOk result (t.new ≡ registered_first name.now turn capability running.now (Reply.NodeRegistered turn t.old.epoch) t.old) }
     ensures err { OnErr result (t.new ≡ t.old) }
 {
@@ -57,7 +57,7 @@ fn register_first(
     t.sched.push_made(
         &mut t.nodes,
         |nodes: &mut Nodes| -> Result<SchedEvent, NoMemory>
-            requires { node_of nodes.old key ≡ None }
+            requires { node_row nodes.old key ≡ None }
             ensures event { IfOk result (λ made. made ≡ Event.NodeAdded node turn) }
             ensures ok { OnOk result (nodes.new ≡ nodes.old ++ (key, row) ∷ []) }
             ensures err { OnErr result (nodes.new ≡ nodes.old) }
@@ -93,8 +93,8 @@ pub fn register(
     capability: Resource,
     running: &Items<Held>,
 ) -> Result<Reply, NoMemory>
-    ensures reply { IfOk result (λ reply. reply ≡ register_told t.old.epoch turn (node_of t.old.nodes name.now)) }
-    ensures changed { IfOk result (λ reply. t.new ≡ registered_by (node_of t.old.nodes name.now) name.now turn capability running.now reply t.old) }
+    ensures reply { IfOk result (λ reply. reply ≡ node_register_told t.old.epoch turn (node_row t.old.nodes name.now)) }
+    ensures changed { IfOk result (λ reply. t.new ≡ registered_by (node_row t.old.nodes name.now) name.now turn capability running.now reply t.old) }
     ensures err { OnErr result (t.new ≡ t.old) }
 {
     let epoch = t.epoch;

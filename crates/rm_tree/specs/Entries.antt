@@ -5,8 +5,8 @@ use Rattle.rm_types.specs.declared.records.AppRecord.{AppRecord}
 use Rattle.rm_tree.specs.Numbers.{AreAttemptsFrom}
 
 -- an id, and the record under it
-abbrev pub Entry : Type 0
-Entry = AppId × AppRecord
+abbrev pub RecordEntry : Type 0
+RecordEntry = AppId × AppRecord
 
 -- the record is of this application, and its attempts are numbered
 pub record IsRecordOf (id : AppId) (app : AppRecord) : Type 0 where
@@ -14,6 +14,6 @@ pub record IsRecordOf (id : AppId) (app : AppRecord) : Type 0 where
   pub numbered : AreAttemptsFrom id 0 app.attempts
 
 -- each record is of the application whose id it stands under
-abbrev pub AreOwn : List Entry → Type 0
+abbrev pub AreOwn : List RecordEntry → Type 0
 AreOwn [] = Unit
 AreOwn (entry ∷ entries) = IsRecordOf entry.0 entry.1 × AreOwn entries

@@ -6,8 +6,8 @@ use Rattle.rm_types.specs.declared.records.AppRecord.{AppRecord}
 use Rattle.rm_types.specs.Records.{Records, record_of}
 
 -- a record without the number of its end
-abbrev pub bare : AppRecord → AppRecord
-bare app = record app { end_order = 0 }
+abbrev pub without_end_order : AppRecord → AppRecord
+without_end_order app = record app { end_order = 0 }
 
 -- the number of an application's end, where it has one
 abbrev pub end_number : Option AppRecord → Option ℕ
@@ -28,5 +28,5 @@ ends_before apps first next = is_lower (end_number (record_of apps first)) (end_
 pub record IsAlike (one other : Records) : Type 0 where
   pub epoch : one.next_epoch ≡ other.next_epoch
   pub stamp : one.stamp ≡ other.stamp
-  pub apps : map bare one.apps ≡ map bare other.apps
+  pub apps : map without_end_order one.apps ≡ map without_end_order other.apps
   pub order : (first next : AppId) → ends_before one.apps first next ≡ ends_before other.apps first next

@@ -1,11 +1,14 @@
 pub mod AclTexts
 pub mod Alike
+pub mod Containers
 pub mod Counts
+pub mod Entries
 pub mod Folded
 pub mod Ids
 pub mod Lanes
 pub mod Limits
 pub mod Lists
+pub mod Messages
 pub mod Order
 pub mod Passes
 pub mod Ranges
@@ -13,4 +16,5 @@ pub mod Records
 pub mod Refusals
 pub mod Resources
 pub mod Rights
+pub mod Segments
 pub mod Texts

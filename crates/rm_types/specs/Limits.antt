@@ -1,7 +1,7 @@
 -- The greatest values that sizes, counts and stamps have wherever they stand: in a cluster file, a script, a message or a
 -- store. This project's own.
 use Rattle.std.specs.Prelude.{ℕ}
-use Rattle.rm_types.specs.declared.limits.TheConstants.{GREATEST_MEMORY_MB, GREATEST_VCORES, GREATEST_ATTEMPTS, GREATEST_STAMP, MOST_LINES}
+use Rattle.rm_types.specs.declared.limits.TheConstants.{GREATEST_MEMORY_MB, GREATEST_VCORES, GREATEST_ATTEMPTS, GREATEST_STAMP, MOST_LINES, MOST_LISTED, GREATEST_PRIORITY, GREATEST_COUNT}
 
 -- the most memory, in megabytes, of a container or a node: 16 TiB
 abbrev pub greatest_memory_mb : ℕ
@@ -26,3 +26,15 @@ most_lines = MOST_LINES
 -- how many messages are served in one life at most: each is a line of the script
 abbrev pub most_served : ℕ
 most_served = most_lines
+
+-- how many items a list of a message has at most
+abbrev pub most_listed : ℕ
+most_listed = MOST_LISTED
+
+-- the greatest priority of an ask; 1 is the least
+abbrev pub greatest_priority : ℕ
+greatest_priority = GREATEST_PRIORITY
+
+-- how many containers one ask is for at most
+abbrev pub greatest_count : ℕ
+greatest_count = GREATEST_COUNT

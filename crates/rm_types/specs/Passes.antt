@@ -40,13 +40,13 @@ abbrev pub seq_after : Turn → List Grant → ℕ
 seq_after turn grants = turn.next_seq + count_by (λ grant. is_attempt grant.id.attempt turn.attempt) grants
 
 -- one grant of a turn
-abbrev pub grant_of : PassNode → Turn → Resource → ℕ → Grant
-grant_of pass turn size seq = record { id = record { attempt = turn.attempt; epoch = pass.epoch; seq = seq }; node = pass.node; size = size }
+abbrev pub turn_grant : PassNode → Turn → Resource → ℕ → Grant
+turn_grant pass turn size seq = record { id = record { attempt = turn.attempt; epoch = pass.epoch; seq = seq }; node = pass.node; size = size }
 
 -- the grants so far and those for one ask: as many as are asked for and fit
 abbrev pub with_granted : PassNode → Turn → List Grant → Ask → List Grant
 with_granted pass turn grants ask =
-    grants ++ map (grant_of pass turn ask.size) (range_with_len (seq_after turn grants) (fitting ask.count ask.size (left_of pass grants)))
+    grants ++ map (turn_grant pass turn ask.size) (range_with_len (seq_after turn grants) (fitting ask.count ask.size (left_of pass grants)))
 
 -- an ask among others by priority: behind those with a lesser number, before all others, which were asked later
 abbrev pub put_by_priority : Ask → List Ask → List Ask

@@ -1,11 +1,12 @@
 -- What a list of store operations amounts to: the epoch of the next life, the stamp of the last one, and a record of
 -- each application. After YARN's documentation: an application is saved when it is submitted, and its end when it ends;
 -- which operations there are, and which of them are stray, is this project's own.
-use Rattle.std.specs.Prelude.{ℕ, ◌+◌, List, [], ◌∷◌, ◌++◌, Bool, false, ◌&&◌, not, ◌==◌, nat_lt, Option, None, Some, is_some, is_none, if◌then◌else◌, find, fold, filter, map, length}
+use Rattle.std.specs.Prelude.{ℕ, ◌+◌, List, [], ◌∷◌, ◌++◌, Bool, true, false, ◌&&◌, not, ◌==◌, nat_lt, Option, None, Some, is_some, is_none, if◌then◌else◌, find, fold, filter, map, length}
 use Rattle.std.specs.List.{list_all}
 use Rattle.rm_types.specs.declared.ids.AppId.{AppId}
 use Rattle.rm_types.specs.declared.ids.AttemptId.{AttemptId}
 use Rattle.rm_types.specs.declared.operations.How.{How}
+use Rattle.rm_types.specs.declared.operations.How.TheVariants.{Finished, Failed, Killed}
 use Rattle.rm_types.specs.declared.operations.Submission.{Submission}
 use Rattle.rm_types.specs.declared.operations.Op.{Op}
 use Rattle.rm_types.specs.declared.operations.Op.TheVariants.{Epoch, App, Attempt, AttemptEnd, AppEnd, Remove}
@@ -120,3 +121,9 @@ stray_from r (op ∷ ops) = if fits_records r op then stray_from (recorded r op)
 -- the number, from 0, of the first operation that is stray, if one is
 abbrev pub stray : List Op → Option ℕ
 stray ops = stray_from no_records ops
+
+-- it ended FINISHED
+abbrev pub is_finished : How → Bool
+is_finished Finished = true
+is_finished Failed = false
+is_finished Killed = false

@@ -1,5 +1,5 @@
 -- The five kinds of text: the bytes that may stand in each, and how many. This project's own.
-use Rattle.std.specs.Prelude.{ℕ, List, length, take, Bool, ◌&&◌, ◌||◌, not, ◌==◌, nat_le, nat_lt, Option, Some, position, unwrap_or, if◌then◌else◌, codes}
+use Rattle.std.specs.Prelude.{ℕ, List, [], ◌∷◌, length, take, Bool, false, ◌&&◌, ◌||◌, not, ◌==◌, nat_le, nat_lt, Option, Some, position, unwrap_or, if◌then◌else◌, codes}
 use Rattle.std.specs.List.{list_any}
 use Rattle.rm_types.specs.declared.texts.TextKind.{TextKind}
 use Rattle.rm_types.specs.declared.texts.TextKind.TheVariants.{Name, Node, Queue, Note, AclText}
@@ -67,3 +67,8 @@ fault_of kind bytes =
     if nat_lt (length bytes) (least_length kind) then Some 0 else
     (if nat_le (length bytes) (greatest_length kind) then first_not_allowed kind bytes
     else Some (unwrap_or (first_not_allowed kind (take (greatest_length kind) bytes)) (greatest_length kind)))
+
+-- a word that begins with `-`
+abbrev pub is_flag : List ℕ → Bool
+is_flag [] = false
+is_flag (byte ∷ bytes) = byte == 45

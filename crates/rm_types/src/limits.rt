@@ -15,6 +15,15 @@ pub const GREATEST_STAMP: u64 = 1_000_000_000_000_000;
 /// How many lines a script may have.
 pub const MOST_LINES: u32 = 100_000;
 
+/// How many items a list of a message has at most.
+pub const MOST_LISTED: usize = 1000;
+
+/// The greatest priority of an ask; 1 is the least.
+pub const GREATEST_PRIORITY: u32 = 1000;
+
+/// How many containers one ask is for at most.
+pub const GREATEST_COUNT: u32 = 1000;
+
 /// The epochs of lives are below it: a container's number has 24 bits for them, as YARN's has.
 pub const EPOCHS: u32 = 1 << 24;
 

@@ -7,18 +7,18 @@ use Rattle.clap.specs.Simple.{HasMatchesOf, built, entered, matches_of}
 use Rattle.clap.specs.Takes.{default_passes, entered_passes, is_valid, settle_passes, takes, walk_passes}
 use Rattle.clap.specs.declared.parser.matches.ArgMatches.{ArgMatches}
 use Rattle.clap.proofs.WalkLemmas.{both, one_text-rows, raw_values-rows}
-use Rattle.rm_words.specs.Words.{has_flags, is_unknown, names, times}
+use Rattle.rm_words.specs.Words.{has_flags, is_unknown, names, times_said}
 use Rattle.rm_words.specs.Reading.{MatchesWords, program}
 use Rattle.rm_words.proofs.Uses.{file_told, moves_told, names_listed, with_defaults}
 use Rattle.rm_words.proofs.Walks.{Walked, all_passed, at, counted_as, rules, settled_with, top}
 
 -- the walk over all the words
-whole : (words : List Text) → has_flags words ≡ true → Walked [] None words (names words) (times (codes "--file") words) (times (codes "--moves") words)
+whole : (words : List Text) → has_flags words ≡ true → Walked [] None words (names words) (times_said (codes "--file") words) (times_said (codes "--moves") words)
 whole words right =
     let parts = both (count_by is_unknown words == 0) _ right in
     let once = both _ _ parts.1 in
-    let file_once : times (codes "--file") words < 2 = ltb-true _ _ once.0 in
-    let moves_once : times (codes "--moves") words < 2 = ltb-true _ _ once.1 in
+    let file_once : times_said (codes "--file") words < 2 = ltb-true _ _ once.0 in
+    let moves_once : times_said (codes "--moves") words < 2 = ltb-true _ _ once.1 in
     counted_as [] None words _ _ _ _ _ _ refl (omega arith) (omega arith)
     (all_passed words (eqb-true _ _ parts.0) [] None [] 0 0 (record { file = refl; moves = refl; named = refl }) (omega arith) (omega arith))
 

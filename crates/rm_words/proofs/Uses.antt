@@ -7,7 +7,8 @@ use Rattle.clap.specs.Words.{new_rule}
 use Rattle.clap.specs.declared.builder.action.ArgAction.TheVariants.{Append, SetTrue}
 use Rattle.clap.specs.declared.builder.value_parser.ValueParser.TheVariants as parser
 use Rattle.clap.specs.declared.parser.matches.ValueSource.TheVariants.{CommandLine, DefaultValue}
-use Rattle.rm_words.specs.Reading.{listed, told}
+use Rattle.rm_words.specs.Reading.{flag_value}
+use Rattle.rm_types.specs.Lists.{unless_empty}
 use Rattle.rm_words.proofs.Rows.{has_row_is, joined, nothing_without, row, row_joined, row_kept}
 
 -- a flag as building fills it in
@@ -94,7 +95,7 @@ name_used rows names files moves name holds = record {
 
 -- with its default a flag tells whether it was used, and the row of another id stays
 default_told : (id : Text) (times : ℕ) (rows : List Row) → bytes_eq id id ≡ true → row id rows ≡ flag_row_of id times
-    → option_and_then row_text (row id (with_default rows (flag_rule id))) ≡ Some (told (not (times == 0)))
+    → option_and_then row_text (row id (with_default rows (flag_rule id))) ≡ Some (flag_value (not (times == 0)))
 default_told id zero rows same none =
     let missing : has_row id rows ≡ false = has_row_is id rows ∙ ap is_some none in
     rw missing (ap (option_and_then row_text) (row_joined id (reading_by (flag_rule id)) DefaultValue (codes "false" ∷ []) rows same
@@ -123,22 +124,22 @@ names_default rows = go (has_row (codes "names") rows)
 abbrev pub with_defaults : List Row → List Row
 with_defaults rows = with_default (with_default (with_default rows (flag_rule (codes "file"))) (flag_rule (codes "moves"))) names_rule
 
-pub file_told : (rows : List Row) (names : List Text) (files moves : ℕ) → RowsHold rows names files moves → one_of (codes "file") (with_defaults rows) ≡ Some (told (not (files == 0)))
+pub file_told : (rows : List Row) (names : List Text) (files moves : ℕ) → RowsHold rows names files moves → one_of (codes "file") (with_defaults rows) ≡ Some (flag_value (not (files == 0)))
 file_told rows names files moves holds =
     ap (λ (others : List Row). one_of (codes "file") others) (names_default (with_default (with_default rows (flag_rule (codes "file"))) (flag_rule (codes "moves"))))
     ∙ ap (option_and_then row_text) (default_keeps (codes "moves") (codes "file") (with_default rows (flag_rule (codes "file"))) refl)
     ∙ default_told (codes "file") files rows refl holds.file
 
-pub moves_told : (rows : List Row) (names : List Text) (files moves : ℕ) → RowsHold rows names files moves → one_of (codes "moves") (with_defaults rows) ≡ Some (told (not (moves == 0)))
+pub moves_told : (rows : List Row) (names : List Text) (files moves : ℕ) → RowsHold rows names files moves → one_of (codes "moves") (with_defaults rows) ≡ Some (flag_value (not (moves == 0)))
 moves_told rows names files moves holds =
     ap (λ (others : List Row). one_of (codes "moves") others) (names_default (with_default (with_default rows (flag_rule (codes "file"))) (flag_rule (codes "moves"))))
     ∙ default_told (codes "moves") moves (with_default rows (flag_rule (codes "file"))) refl (default_keeps (codes "file") (codes "moves") rows refl ∙ holds.moves)
 
-values_listed : (names : List Text) → option_map (λ (r : Row). r.values) (names_row_of names) ≡ listed names
+values_listed : (names : List Text) → option_map (λ (r : Row). r.values) (names_row_of names) ≡ unless_empty names
 values_listed [] = refl
 values_listed (name ∷ names) = refl
 
-pub names_listed : (rows : List Row) (names : List Text) (files moves : ℕ) → RowsHold rows names files moves → all_of (codes "names") (with_defaults rows) ≡ listed names
+pub names_listed : (rows : List Row) (names : List Text) (files moves : ℕ) → RowsHold rows names files moves → all_of (codes "names") (with_defaults rows) ≡ unless_empty names
 names_listed rows names files moves holds =
     ap (λ (others : List Row). all_of (codes "names") others) (names_default (with_default (with_default rows (flag_rule (codes "file"))) (flag_rule (codes "moves"))))
     ∙ ap (option_map (λ (r : Row). r.values)) (default_keeps (codes "moves") (codes "names") (with_default rows (flag_rule (codes "file"))) refl

@@ -8,7 +8,8 @@ use Rattle.std.proofs.lemmas.List.Sums.{sum_by-cons}
 use Rattle.clap.specs.Walk.{Row, Rule, Text, Waiting, Walk, idle, has_row, positional, used, walked}
 use Rattle.clap.specs.Simple.{Shape, built}
 use Rattle.clap.specs.Takes.{turn_passes, walk_passes}
-use Rattle.rm_words.specs.Words.{is_flag, is_unknown, names, times}
+use Rattle.rm_words.specs.Words.{is_unknown, names, times_said}
+use Rattle.rm_types.specs.Texts.{is_flag}
 use Rattle.rm_words.specs.Reading.{program}
 use Rattle.rm_words.proofs.Rows.{has_row_is}
 use Rattle.rm_words.proofs.Uses.{RowsHold, file_used, flag_row_of, flag_rule, moves_used, name_used, names_row_of, names_rule}
@@ -98,7 +99,7 @@ known_first word words none = go (is_unknown word) refl (sym (sum_by-cons (λ (w
     go true e sum = absurd (omega arith)
     go false e sum = (e, omega arith)
 
-times_first : (word one : Text) (words : List Text) → times word (one ∷ words) ≡ cond (bytes_eq one word) 1 0 + times word words
+times_first : (word one : Text) (words : List Text) → times_said word (one ∷ words) ≡ cond (bytes_eq one word) 1 0 + times_said word words
 times_first word one words = sum_by-cons (λ (w : Text). cond (bytes_eq w word) 1 0) one words
 
 -- a name is neither flag
@@ -147,13 +148,13 @@ one_more rows rows_next name name_next word words met files moves next passes w 
 -- from rows that hold what was met so far, the walk over the words adds what stands among them
 abbrev AllPassed : List Text → Type 0
 AllPassed words = (rows : List Row) (name : Option Text) (met : List Text) (files moves : ℕ) → RowsHold (settled_with rows name) met files moves
-    → files + times (codes "--file") words < 2 → moves + times (codes "--moves") words < 2
-    → Walked rows name words (met ++ names words) (files + times (codes "--file") words) (moves + times (codes "--moves") words)
+    → files + times_said (codes "--file") words < 2 → moves + times_said (codes "--moves") words < 2
+    → Walked rows name words (met ++ names words) (files + times_said (codes "--file") words) (moves + times_said (codes "--moves") words)
 
 file_first : (words : List Text) → AllPassed words → AllPassed (codes "--file" ∷ words)
 file_first words rest rows name met files moves holds file_once moves_once =
-    let one : times (codes "--file") (codes "--file" ∷ words) ≡ 1 + times (codes "--file") words = times_first (codes "--file") (codes "--file") words in
-    let other : times (codes "--moves") (codes "--file" ∷ words) ≡ 0 + times (codes "--moves") words = times_first (codes "--moves") (codes "--file") words in
+    let one : times_said (codes "--file") (codes "--file" ∷ words) ≡ 1 + times_said (codes "--file") words = times_first (codes "--file") (codes "--file") words in
+    let other : times_said (codes "--moves") (codes "--file" ∷ words) ≡ 0 + times_said (codes "--moves") words = times_first (codes "--moves") (codes "--file") words in
     let unused : files ≡ 0 = omega arith in
     let before : RowsHold (settled_with rows name) met 0 moves = subst (λ (n : ℕ). RowsHold (settled_with rows name) met n moves) unused holds in
     one_more rows _ name None (codes "--file") words _ _ _ (file_walked rows name) (file_passes rows name (has_row_is (codes "file") (settled_with rows name) ∙ ap is_some before.file))
@@ -162,8 +163,8 @@ file_first words rest rows name met files moves holds file_once moves_once =
 
 moves_first : (words : List Text) → AllPassed words → AllPassed (codes "--moves" ∷ words)
 moves_first words rest rows name met files moves holds file_once moves_once =
-    let one : times (codes "--moves") (codes "--moves" ∷ words) ≡ 1 + times (codes "--moves") words = times_first (codes "--moves") (codes "--moves") words in
-    let other : times (codes "--file") (codes "--moves" ∷ words) ≡ 0 + times (codes "--file") words = times_first (codes "--file") (codes "--moves") words in
+    let one : times_said (codes "--moves") (codes "--moves" ∷ words) ≡ 1 + times_said (codes "--moves") words = times_first (codes "--moves") (codes "--moves") words in
+    let other : times_said (codes "--file") (codes "--moves" ∷ words) ≡ 0 + times_said (codes "--file") words = times_first (codes "--file") (codes "--moves") words in
     let unused : moves ≡ 0 = omega arith in
     let before : RowsHold (settled_with rows name) met files 0 = subst (λ (n : ℕ). RowsHold (settled_with rows name) met files n) unused holds in
     one_more rows _ name None (codes "--moves") words _ _ _ (moves_walked rows name) (moves_passes rows name (has_row_is (codes "moves") (settled_with rows name) ∙ ap is_some before.moves))
@@ -172,8 +173,8 @@ moves_first words rest rows name met files moves holds file_once moves_once =
 
 named_first : (word : Text) (words : List Text) → is_flag word ≡ false → AllPassed words → AllPassed (word ∷ words)
 named_first word words plain rest rows name met files moves holds file_once moves_once =
-    let file : times (codes "--file") (word ∷ words) ≡ 0 + times (codes "--file") words = times_first (codes "--file") word words ∙ ap (λ (b : Bool). cond b 1 0 + times (codes "--file") words) (no_file word plain) in
-    let other : times (codes "--moves") (word ∷ words) ≡ 0 + times (codes "--moves") words = times_first (codes "--moves") word words ∙ ap (λ (b : Bool). cond b 1 0 + times (codes "--moves") words) (no_moves word plain) in
+    let file : times_said (codes "--file") (word ∷ words) ≡ 0 + times_said (codes "--file") words = times_first (codes "--file") word words ∙ ap (λ (b : Bool). cond b 1 0 + times_said (codes "--file") words) (no_file word plain) in
+    let other : times_said (codes "--moves") (word ∷ words) ≡ 0 + times_said (codes "--moves") words = times_first (codes "--moves") word words ∙ ap (λ (b : Bool). cond b 1 0 + times_said (codes "--moves") words) (no_moves word plain) in
     one_more rows _ name (Some word) word words _ _ _ (name_walked rows name word plain) (name_passes rows name word plain)
     (counted_as _ (Some word) words _ _ _ _ _ _ (append_assoc met (word ∷ []) (names words) ∙ ap (λ (more : List Text). met ++ more) (sym (name_first word words plain))) (omega arith) (omega arith)
     (rest (settled_with rows name) (Some word) (met ++ word ∷ []) files moves (name_used (settled_with rows name) met files moves word holds) (omega arith) (omega arith)))

@@ -5,6 +5,7 @@ use Rattle.clap.specs.Simple.{new_shape}
 use Rattle.clap.specs.declared.builder.action.ArgAction.TheVariants.{Append, SetTrue}
 use Rattle.clap.specs.declared.parser.matches.ArgMatches.{ArgMatches}
 use Rattle.rm_words.specs.Words.{is_in_file, names, shows_moves}
+use Rattle.rm_types.specs.Lists.{unless_empty}
 
 -- a flag, which takes no value
 abbrev pub flag : Text → Rule
@@ -15,25 +16,20 @@ abbrev pub named : Rule
 named = record (new_rule (codes "names")) { action = Some Append }
 
 -- a command whose words are its arguments alone, and which has no flag for help
-abbrev pub bare : App
-bare = record { top = record (new_shape (codes "yewendro")) { no_binary_name = true; disable_help_flag = true }; subs = [] }
+abbrev pub bare_program : App
+bare_program = record { top = record (new_shape (codes "yewendro")) { no_binary_name = true; disable_help_flag = true }; subs = [] }
 
 -- the command that the words are read by: the two flags, and any number of names
 abbrev pub program : App
-program = with_rule (with_rule (with_rule bare (flag (codes "file"))) (flag (codes "moves"))) named
-
--- the values that there are, as matches tell them: none where the list is empty
-abbrev pub listed : List Text → Option (List Text)
-listed [] = None
-listed (value ∷ values) = Some (value ∷ values)
+program = with_rule (with_rule (with_rule bare_program (flag (codes "file"))) (flag (codes "moves"))) named
 
 -- a flag, as matches tell it
-abbrev pub told : Bool → Text
-told true = codes "true"
-told false = codes "false"
+abbrev pub flag_value : Bool → Text
+flag_value true = codes "true"
+flag_value false = codes "false"
 
 -- the matches hold the names among the words in their order, and whether each flag stands among them
 pub record MatchesWords (matches : ArgMatches) (words : List Text) : Type 0 where
-  pub named : option_map raw_values (matched_of (found_of matches) (codes "names")) ≡ listed (names words)
-  pub moves : one_text (found_of matches) (codes "moves") ≡ Some (told (shows_moves words))
-  pub file : one_text (found_of matches) (codes "file") ≡ Some (told (is_in_file words))
+  pub named : option_map raw_values (matched_of (found_of matches) (codes "names")) ≡ unless_empty (names words)
+  pub moves : one_text (found_of matches) (codes "moves") ≡ Some (flag_value (shows_moves words))
+  pub file : one_text (found_of matches) (codes "file") ≡ Some (flag_value (is_in_file words))

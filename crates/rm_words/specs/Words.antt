@@ -3,10 +3,11 @@ use Rattle.std.specs.Prelude.{ℕ, List, [], ◌∷◌, filter, Bool, false, ◌
 use Rattle.std.specs.List.{count_by}
 use Rattle.std.specs.Str.{bytes_eq}
 use Rattle.rm_types.specs.Ranges.{IsWithin}
-use Rattle.rm_script.specs.Numbers.{number_in}
+use Rattle.rm_script.specs.Numbers.{number_between}
 use Rattle.rm_soak.specs.Limits.{most_soaked}
 use Rattle.rm_words.specs.declared.modes.Mode.{Mode}
 use Rattle.rm_words.specs.declared.modes.Mode.TheVariants as modes
+use Rattle.rm_types.specs.Texts.{is_flag}
 
 -- who moves the lanes of a run: one thread, or seven workers in threads of their own
 pub data Mover : Type 0 where
@@ -33,18 +34,13 @@ abbrev pub IsWithinSoak : Mode → Type 0
 IsWithinSoak (modes.Soak number) = IsWithin 1 most_soaked number
 IsWithinSoak mode = Unit {0}
 
--- a word that begins with `-`
-abbrev pub is_flag : List ℕ → Bool
-is_flag [] = false
-is_flag (byte ∷ bytes) = byte == 45
-
 -- the words that name something: those that are no flags
 abbrev pub names : List (List ℕ) → List (List ℕ)
 names words = filter (λ word. not (is_flag word)) words
 
 -- how often a word stands among the words
-abbrev pub times : List ℕ → List (List ℕ) → ℕ
-times word words = count_by (λ one. bytes_eq one word) words
+abbrev pub times_said : List ℕ → List (List ℕ) → ℕ
+times_said word words = count_by (λ one. bytes_eq one word) words
 
 -- a word that begins with `-` and is none of the two flags that there are
 abbrev pub is_unknown : List ℕ → Bool
@@ -52,7 +48,7 @@ is_unknown word = is_flag word && not (bytes_eq word (codes "--file") || bytes_e
 
 -- a word stands once at most
 abbrev pub stands_once : List ℕ → List (List ℕ) → Bool
-stands_once word words = nat_lt (times word words) 2
+stands_once word words = nat_lt (times_said word words) 2
 
 -- no flag is unknown, and each stands once at most; where among the words is free
 abbrev pub has_flags : List (List ℕ) → Bool
@@ -60,11 +56,11 @@ has_flags words = (count_by is_unknown words == 0) && (stands_once (codes "--fil
 
 -- whether the page of a run is to show its moves
 abbrev pub shows_moves : List (List ℕ) → Bool
-shows_moves words = not (times (codes "--moves") words == 0)
+shows_moves words = not (times_said (codes "--moves") words == 0)
 
 -- whether the device is to be one in a file
 abbrev pub is_in_file : List (List ℕ) → Bool
-is_in_file words = not (times (codes "--file") words == 0)
+is_in_file words = not (times_said (codes "--file") words == 0)
 
 -- what names ask for: `plain` and two others a run, `threads` and two others one by workers, `replay` and three others one by a schedule, `soak` and a
 -- number, from 1 to the most and with no zero before it, a soak, and `store` alone a listing; these two have no moves
@@ -73,7 +69,7 @@ asked_by moves (mode ∷ cluster ∷ script ∷ schedule ∷ []) = if bytes_eq m
 asked_by moves (mode ∷ cluster ∷ script ∷ []) =
     if bytes_eq mode (codes "plain") then Some (Run cluster script None OneThread) else if bytes_eq mode (codes "threads") then Some (Run cluster script None Workers) else None
 asked_by moves (mode ∷ number ∷ []) =
-    if bytes_eq mode (codes "soak") && not moves then option_map (λ n. Soak n) (number_in 1 most_soaked number) else None
+    if bytes_eq mode (codes "soak") && not moves then option_map (λ n. Soak n) (number_between 1 most_soaked number) else None
 asked_by moves (mode ∷ []) = if bytes_eq mode (codes "store") && not moves then Some Listing else None
 asked_by moves _ = None
 

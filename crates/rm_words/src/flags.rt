@@ -1,6 +1,7 @@
 ghost use Rattle.std.specs.Prelude.{◌≡◌, [], map, slice_get, string_bytes, unwrap_or};
 ghost use Rattle.std.specs.List.{count_by};
-ghost use Rattle.rm_words.specs.Words.{has_flags, is_flag, is_unknown, names, stands_once, times};
+ghost use Rattle.rm_words.specs.Words.{has_flags, is_unknown, names, stands_once, times_said};
+ghost use Rattle.rm_types.specs.Texts.{is_flag};
 
 /// Whether a word begins with `-`.
 pub(crate) fn is_flag(word: &str) -> bool
@@ -21,7 +22,7 @@ pub(crate) fn is_unknown(word: &str) -> bool
 
 /// How often a word stands among the words.
 fn times(word: &str, words: &[String]) -> usize
-    ensures { result ≡ times word.now (map string_bytes words.now) }
+    ensures { result ≡ times_said word.now (map string_bytes words.now) }
 {
     words.iter().filter(|one| one.as_str() == word).count()
 }

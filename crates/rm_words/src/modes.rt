@@ -1,6 +1,6 @@
 ghost use Rattle.std.specs.Prelude.{◌≡◌, [], ◌∷◌, Some, None, IfSome, IfNone, true};
 ghost use Rattle.clap.specs.Walk.{texts};
-ghost use Rattle.rm_script.specs.Numbers.{number_in};
+ghost use Rattle.rm_script.specs.Numbers.{number_between};
 ghost use Rattle.rm_soak.specs.Limits.{most_soaked};
 ghost use Rattle.rm_types.specs.Ranges.{IsWithin};
 ghost use Rattle.rm_words.specs.Words.{IsWithinSoak, asked, asked_by};
@@ -50,7 +50,7 @@ fn mode_of_one<'a>(mode: &str, moves: bool) -> Option<Mode<'a>>
 
 /// The number of applications that a word says a soak is to have.
 fn soaked(number: &str) -> Option<u32>
-    ensures read { result ≡ number_in 1 most_soaked number.now }
+    ensures read { result ≡ number_between 1 most_soaked number.now }
     ensures within { IfSome result (λ n. IsWithin 1 most_soaked n) }
 {
     let number = number_in(number.as_bytes(), 1, u64::from(MOST_SOAKED))?;

@@ -19,7 +19,7 @@ use Rattle.rm_workers.specs.Still.{SameLife, Still}
 use Rattle.rm_workers.proofs.CommonEntryLemmas.{close_still, state_still}
 use Rattle.rm_plain.specs.declared.halts.Halt.{Halt}
 use Rattle.rm_plain.specs.declared.halts.Halt.TheVariants.{DiskFault, Full, Schedule, Memory}
-use Rattle.rm_plain.specs.Keeping.{IsFull, KeepsOn, LeavesOn, armed_by, blown_in, has_blown}
+use Rattle.rm_plain.specs.Keeping.{IsFullFor, KeepsOn, LeavesOn, armed_by, blown_in, has_blown}
 use Rattle.rm_plain.specs.Survives.{HoldsKept, HoldsWithin}
 use Rattle.rm_plain.proofs.Stored.{holds_on, within_longer}
 use Rattle.rm_workers.specs.declared.turns.End.{End}
@@ -27,7 +27,7 @@ use Rattle.rm_workers.specs.declared.turns.End.TheVariants as ends
 use Rattle.rm_workers.specs.Began.{Began, seen_then}
 use Rattle.rm_workers.specs.Came.{Came, blown_on, came, come_on, falls_on, stands_on}
 use Rattle.rm_workers.specs.Turns.{EndFact}
-use Rattle.rm_workers.specs.Work.{Awaits, Halting, IsWhy, IsWithStore, Owing, Refused, Serving, ContinuesLife, Sunk, Tried, Wrote}
+use Rattle.rm_workers.specs.Work.{Awaits, Halting, IsWhyHalted, IsWithStore, Owing, Refused, Serving, ContinuesLife, Sunk, Tried, Wrote}
 use Rattle.rm_workers.proofs.MoveLemmas.{came_more}
 
 -- HOW FAR THE LIFE HAS COME
@@ -142,7 +142,7 @@ module _ (opening : List Op) (old new : List Entry) (adds : AddsCommon old new) 
   handed_still op h =
       record { first = is_still.first op h.first; handed = still_handed (state_after opening old).life (state_after opening new).life is_still.life h.handed }
 
-  full_still : (known : Type 0) (size needed room : ℕ) → IsFull known opening old size needed room → IsFull known opening new size needed room
+  full_still : (known : Type 0) (size needed room : ℕ) → IsFullFor known opening old size needed room → IsFullFor known opening new size needed room
   full_still known size needed room full =
       record {
         op = full.op;
@@ -158,7 +158,7 @@ module _ (began : Began) (old new : List Entry) (adds : AddsCommon old new) wher
   awaits_lasts : (op : Op) → Awaits began old op → Awaits began new op
   awaits_lasts op next = λ opening k. next_still opening old new adds op (next opening k)
 
-  why_lasts : (inner : DiskView) (halt : Halt) → IsWhy began inner old halt → IsWhy began inner new halt
+  why_lasts : (inner : DiskView) (halt : Halt) → IsWhyHalted began inner old halt → IsWhyHalted began inner new halt
   why_lasts inner DiskFault why = (why.0, λ opening k. let h = why.1 opening k in (h.0, handed_still opening old new adds h.0 h.1))
   why_lasts inner (Full needed room) why = λ opening k. full_still opening old new adds _ _ _ _ (why opening k)
   why_lasts inner (Schedule place) why = why

@@ -27,7 +27,7 @@ use Rattle.rm_workers.specs.Began.{Began, began_with, seen_then}
 use Rattle.rm_workers.specs.Came.{Went}
 use Rattle.rm_workers.specs.Ends.{Ended, Halted, Rested, WentDown}
 use Rattle.rm_workers.specs.Turns.{EndFact}
-use Rattle.rm_workers.specs.Work.{Halting, IsWhy, Serving, Stays, Sunk}
+use Rattle.rm_workers.specs.Work.{Halting, IsWhyHalted, Serving, Stays, Sunk}
 use Rattle.rm_workers.proofs.MoveLemmas.{went_same}
 use Rattle.rm_workers.proofs.TurnLemmas.{alive_at, serves_at}
 
@@ -135,7 +135,7 @@ module _ {D : Type 0} (view : D → DiskView) (d new : DeskView) (store now : St
   ended_halts (Ok end) e = tt
   ended_halts (Err halt) e = record { goes = e.goes; why = by halt e.why; left = λ opening is k has. e.left opening k has }
     where
-      by : (halt : Halt) → IsWhy began (view now.disk.inner) new.core.log halt → IsHaltedBy any_order view (λ opening. Unit {0}) (λ opening. IsKeptOn opening d.core.log (seen view store.disk)) d new store.disk now.disk halt
+      by : (halt : Halt) → IsWhyHalted began (view now.disk.inner) new.core.log halt → IsHaltedBy any_order view (λ opening. Unit {0}) (λ opening. IsKeptOn opening d.core.log (seen view store.disk)) d new store.disk now.disk halt
       by DiskFault why = (why.0, λ opening is k. why.1 opening k)
       by (Full needed room) why = λ opening is k. why opening k
       by (Schedule place) why = absurd why

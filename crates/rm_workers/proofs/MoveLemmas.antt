@@ -17,8 +17,8 @@ use Rattle.rm_model.specs.Place.{Place, close_left, moved}
 use Rattle.rm_tables.specs.declared.events.Refused.{Refused}
 use Rattle.rm_core.specs.Seen.{IsToBeKept, StandsFor}
 use Rattle.rm_core.specs.Words.{handed_of, has_rest, is_blown, stands}
-use Rattle.rm_desk.specs.Effects.{Blows, LaneEffect, EffectBy, IsEntryOf}
-use Rattle.rm_desk.specs.Lanes.{HasNoWork, IsStep, is_ready_at, stands_after}
+use Rattle.rm_desk.specs.Effects.{StoreBlows, LaneEffect, EffectBy, IsEntryOf}
+use Rattle.rm_desk.specs.Lanes.{HasNoWork, IsStep, is_ready_at, life_goes_on}
 use Rattle.rm_desk.specs.Runs.{IsPlaceSound}
 use Rattle.rm_desk.specs.View.{DeskView}
 use Rattle.rm_plain.specs.Falls.{fall}
@@ -125,7 +125,7 @@ plain_still Down plain = let x = plain in cc
 plain_still _ plain = record { blown = λ b. refl; standing = λ b. refl; falls = λ close b. refl }
 
 -- a move by such an entry
-still_went : (began d next : DeskView) (kind : Entry → Type 0) (lane : Lane) (does : EffectBy kind (is_blown d.core) lane d next) → Went began d → IsStill does.adds.entry → stands_after lane (close_left d.place.segments) ≡ true
+still_went : (began d next : DeskView) (kind : Entry → Type 0) (lane : Lane) (does : EffectBy kind (is_blown d.core) lane d next) → Went began d → IsStill does.adds.entry → life_goes_on lane (close_left d.place.segments) ≡ true
     → ExtendsRun any_order [] d next → Went began next
 still_went began d next kind lane does went still stays goes =
     let e = does.adds.entry in
@@ -143,13 +143,13 @@ module _ (began d next : DeskView) (went : Went began d) (tells : TellsAll d) (t
     settled_went : close_left d.place.segments ≡ Some Settle → Went began next
     settled_went c =
         let is : does.adds.entry ≡ Settled = rw c at does.adds.of_kind in
-        still_went began d next (IsEntryOf End d) End does went (is_still does.adds.entry Settled is refl) (ap (stands_after End) c) (settle_goes d next does tells told may c).0
+        still_went began d next (IsEntryOf End d) End does went (is_still does.adds.entry Settled is refl) (ap (life_goes_on End) c) (settle_goes d next does tells told may c).0
 
     down_went : (calls image : ℕ) → close_left d.place.segments ≡ Some (Crash calls image) → Went began next
     down_went calls image c =
         let e = does.adds.entry in
         let is : e ≡ Down = rw c at does.adds.of_kind in
-        let gone : stands next.core ≡ false = does.standing ∙ ap (stands_after End) c in
+        let gone : stands next.core ≡ false = does.standing ∙ ap (life_goes_on End) c in
         let falls : falls_on (close_left d.place.segments) (is_blown d.core) e ≡ fall calls image (is_blown d.core) ∷ [] =
         ap (λ (x : Entry). falls_on (close_left d.place.segments) (is_blown d.core) x) is ∙ ap (λ (close : Option Close). fall_by close (is_blown d.core)) c in
         went_on began d next e went does.stood does.adds.added does.adds.place (does.blown ∙ sym (ap (blown_on (is_blown d.core)) is)) (gone ∙ sym (ap (stands_on true) is))
@@ -191,7 +191,7 @@ kept_went began d next went does ready =
     still_went began d next (IsEntryOf Write d) Write does went still refl (kept_goes d next does (may_write d ready))
 
 -- or refused
-blown_went : (began d next : DeskView) (passed : ℕ) → Went began d → Blows passed d next → is_ready_at d Write ≡ true → Went began next
+blown_went : (began d next : DeskView) (passed : ℕ) → Went began d → StoreBlows passed d next → is_ready_at d Write ≡ true → Went began next
 blown_went began d next passed went does ready =
     let e = does.adds.entry in
     let is : e ≡ Blown passed = does.adds.of_kind in
@@ -219,7 +219,7 @@ pub learned_both : (began d next : DeskView) (made : Result (Unit {0}) Refused) 
 learned_both began d next (Ok x) went does ready = (went, kept_went began d next went does ready)
 learned_both began d next (Err x) went does ready = tt
 
-pub refused_both : (began d next : DeskView) (passed : ℕ) (made : Result (Unit {0}) Refused) → Went began d → OnOk made (Blows passed d next) → OnOk made (is_ready_at d Write ≡ true) → OnOk made (Went began d × Went began next)
+pub refused_both : (began d next : DeskView) (passed : ℕ) (made : Result (Unit {0}) Refused) → Went began d → OnOk made (StoreBlows passed d next) → OnOk made (is_ready_at d Write ≡ true) → OnOk made (Went began d × Went began next)
 refused_both began d next passed (Ok x) went does ready = (went, blown_went began d next passed went does ready)
 refused_both began d next passed (Err x) went does ready = tt
 
@@ -238,7 +238,7 @@ learned_says d next op (Ok x) does is to_keep = λ opening k.
     (op, to_keep opening k, does.adds.added ∙ ap (λ (e : Entry). d.core.log ++ e ∷ []) (does.adds.of_kind.2 ∙ ap (λ (one : Op). Kept one) same))
 learned_says d next op (Err x) does is to_keep = tt
 
-pub refused_went : (began d next : DeskView) (passed : ℕ) (made : Result (Unit {0}) Refused) → Went began d → OnOk made (Blows passed d next) → OnOk made (is_ready_at d Write ≡ true) → OnErr made (next ≡ d) → Went began next
+pub refused_went : (began d next : DeskView) (passed : ℕ) (made : Result (Unit {0}) Refused) → Went began d → OnOk made (StoreBlows passed d next) → OnOk made (is_ready_at d Write ≡ true) → OnErr made (next ≡ d) → Went began next
 refused_went began d next passed (Ok x) went does ready same = blown_went began d next passed went does ready
 refused_went began d next passed (Err x) went does ready same = stays_went began d next went same
 

@@ -22,8 +22,8 @@ use Rattle.rm_store.specs.Kept.{AddsOp, HasOps, LeavesOps, needed_for}
 use Rattle.rm_store.specs.Store.{StoreState, StoreInvariant, IsBelowLast, room_behind, seen}
 use Rattle.rm_core.specs.Seen.{StandsFor, IsToBeKept}
 use Rattle.rm_core.specs.Words.{has_rest, is_blown, stands}
-use Rattle.rm_desk.specs.Effects.{Blows, LaneEffect, HasHanded, IsHanded}
-use Rattle.rm_desk.specs.Lanes.{stands_after}
+use Rattle.rm_desk.specs.Effects.{StoreBlows, LaneEffect, HasHanded, IsHanded}
+use Rattle.rm_desk.specs.Lanes.{life_goes_on}
 use Rattle.rm_desk.specs.Runs.{HasBlown}
 use Rattle.rm_desk.specs.View.{DeskView}
 use Rattle.rm_plain.specs.declared.halts.Halt.TheVariants.{Memory}
@@ -39,7 +39,7 @@ use Rattle.rm_plain.proofs.Stored.{blown_stores, has_kept, keeps_trans, op_store
 use Rattle.rm_workers.specs.AnyOrder.{any_order}
 use Rattle.rm_workers.specs.Began.{Began, seen_then}
 use Rattle.rm_workers.specs.Came.{Moves, Went, came}
-use Rattle.rm_workers.specs.Work.{Halting, IsWhy, IsWithStore, Owing, Refused, Serving, ContinuesLife, Stays, Sunk, Tried, Wrote}
+use Rattle.rm_workers.specs.Work.{Halting, IsWhyHalted, IsWithStore, Owing, Refused, Serving, ContinuesLife, Stays, Sunk, Tried, Wrote}
 use Rattle.rm_workers.proofs.MoveLemmas.{down_falls, may_any, rest_idle}
 
 -- a life of which an operation is with the store, and none was refused
@@ -203,7 +203,7 @@ module _ {D : Type 0} (view : D → DiskView) (began : Began) where
             let settled = settle_goes d next does tells told may_end settles in
             let unkept : IsUnkept d next = settled.1 in
             record {
-              stands = stands_next next further (does.standing ∙ ap (λ (c : Option Close). stands_after End c) settles);
+              stands = stands_next next further (does.standing ∙ ap (λ (c : Option Close). life_goes_on End c) settles);
               stays = stays_armed;
               why = tt;
               left = λ opening k has.
@@ -218,7 +218,7 @@ module _ {D : Type 0} (view : D → DiskView) (began : Began) where
         record {
           more = further.more;
           grows = further.grows;
-          down = sym further.standing ∙ does.standing ∙ ap (λ (c : Option Close). stands_after End c) crash;
+          down = sym further.standing ∙ does.standing ∙ ap (λ (c : Option Close). life_goes_on End c) crash;
           stays = s.stays;
           sound = s.sound;
           calls = calls;
@@ -269,7 +269,7 @@ module _ {D : Type 0} (view : D → DiskView) (began : Began) where
       spends (close_left (came began.desk log).place.segments) passed (sym r.tried.owing.serving.armed ∙ sym r.tried.armed ∙ r.spent ∙ ap (λ (n : ℕ). Some n) r.passes)
 
   -- or that it was refused
-  pub refused_on : (d next : DeskView) (store : StoreState D) (passed : ℕ) → Went began.desk d → Went began.desk next → Refused view began store passed d.core.log → Blows passed d next → Serving view began store next.core.log
+  pub refused_on : (d next : DeskView) (store : StoreState D) (passed : ℕ) → Went began.desk d → Went began.desk next → Refused view began store passed d.core.log → StoreBlows passed d next → Serving view began store next.core.log
   refused_on d next store passed went further r does =
       let before = r.tried.before in
       let o = r.tried.owing in
@@ -363,7 +363,7 @@ module _ {D : Type 0} (view : D → DiskView) (keeps : D → D → Type 0) (bega
 
     why : (error : StoreError) → (error ≡ store.DiskFault → Rose (view old.disk.inner).faults (view new.disk.inner).faults)
         → ((needed room : ℕ) → error ≡ store.Full needed room → (needed ≡ needed_for op) × (room < needed) × ((ops : List Op) → HasOps (seen view old.disk) ops → IsBelowLast (view new.disk.inner) → room ≡ room_behind (seen view old.disk).size ops))
-        → IsWhy began (view new.disk.inner) log (halt_of error)
+        → IsWhyHalted began (view new.disk.inner) log (halt_of error)
     why store.DiskFault rose full = (let r = rose refl in let before = o.serving.stays.faults in omega (arith, r, before), λ opening k. (op, is_handed opening k))
     why (store.Full needed room) rose full = λ opening k.
         let told = full needed room refl in

@@ -12,7 +12,7 @@ use Rattle.rm_plain.specs.Goes.{ExtendsRun, IsOver}
 use Rattle.rm_plain.specs.Keeping.{KeepsOn, LeavesOn}
 use Rattle.rm_workers.specs.AnyOrder.{any_order}
 use Rattle.rm_workers.specs.Began.{Began, seen_then}
-use Rattle.rm_workers.specs.Work.{IsWhy, OverBegan, Stays}
+use Rattle.rm_workers.specs.Work.{IsWhyHalted, OverBegan, Stays}
 
 module _ {D : Type 0} (view : D → DiskView) (began : Began) (d : DeskView) (store : StoreState D) where
   -- the store is whole, and has what is kept
@@ -45,7 +45,7 @@ module _ {D : Type 0} (view : D → DiskView) (began : Began) (d : DeskView) (st
   pub record Halted (halt : Halt) : Type 0 where
     pub goes : ExtendsRun any_order [] began.desk d
     pub stays : Stays view began store
-    pub why : IsWhy began (view store.disk.inner) d.core.log halt
+    pub why : IsWhyHalted began (view store.disk.inner) d.core.log halt
     pub left : OverBegan began (λ opening. LeavesOn opening began.desk.core.log d.core.log (seen_then began) (seen view store.disk))
 
   abbrev pub Ended : Result LifeEnd Halt → Type 0

@@ -19,7 +19,7 @@ use Rattle.rm_baton.specs.Views.{IsIdle, view}
 use Rattle.rm_plain.specs.declared.halts.Halt.{Halt}
 use Rattle.rm_plain.specs.declared.halts.Halt.TheVariants.{DiskFault, Full, Schedule, Memory}
 use Rattle.rm_plain.specs.Falls.{fall}
-use Rattle.rm_plain.specs.Keeping.{IsFull, IsKeptOn, KeepsOn, LeavesOn, armed_by, has_blown}
+use Rattle.rm_plain.specs.Keeping.{IsFullFor, IsKeptOn, KeepsOn, LeavesOn, armed_by, has_blown}
 use Rattle.rm_workers.specs.Began.{Began, seen_then}
 use Rattle.rm_workers.specs.Came.{came}
 
@@ -58,12 +58,12 @@ abbrev pub Awaits : Began → List Entry → Op → Type 0
 Awaits began log op = (opening : List Op) → StandsFor opening began.desk.core → IsWithStore opening log op
 
 -- why a worker halted the life: the disk inside the fuse counted a fault since it began, while an operation was with the store; or it was full
-abbrev pub IsWhy : Began → DiskView → List Entry → Halt → Type 0
-IsWhy began inner log DiskFault = Rose began.inner.faults inner.faults × ((opening : List Op) → StandsFor opening began.desk.core → (op : Op) × IsHanded opening log op)
-IsWhy began inner log (Full needed room) =
-    (opening : List Op) → StandsFor opening began.desk.core → IsFull (IsKeptOn opening began.desk.core.log (seen_then began) × IsBelowLast inner) opening log inner.size needed room
-IsWhy began inner log (Schedule place) = ⊥
-IsWhy began inner log Memory = Unit {0}
+abbrev pub IsWhyHalted : Began → DiskView → List Entry → Halt → Type 0
+IsWhyHalted began inner log DiskFault = Rose began.inner.faults inner.faults × ((opening : List Op) → StandsFor opening began.desk.core → (op : Op) × IsHanded opening log op)
+IsWhyHalted began inner log (Full needed room) =
+    (opening : List Op) → StandsFor opening began.desk.core → IsFullFor (IsKeptOn opening began.desk.core.log (seen_then began) × IsBelowLast inner) opening log inner.size needed room
+IsWhyHalted began inner log (Schedule place) = ⊥
+IsWhyHalted began inner log Memory = Unit {0}
 
 -- the log goes on from the one with which the life began, and the life stands behind it
 pub record ContinuesLife (began : Began) (log : List Entry) : Type 0 where
@@ -102,7 +102,7 @@ module _ {D : Type 0} (view : D → DiskView) (began : Began) (store : StoreStat
   pub record Halting (halt : Halt) (log : List Entry) : Type 0 where
     pub stands : ContinuesLife began log
     pub stays : Stays
-    pub why : IsWhy began (view store.disk.inner) log halt
+    pub why : IsWhyHalted began (view store.disk.inner) log halt
     pub left : OverBegan began (λ opening. LeavesOn opening began.desk.core.log log (seen_then began) (seen view store.disk))
 
   -- the life went down, and the device is to fall to the image

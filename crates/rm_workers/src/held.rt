@@ -7,7 +7,7 @@ ghost use Rattle.rm_model.specs.Place.{close_left};
 ghost use Rattle.rm_core.specs.Seen.{StandsFor, IsToBeKept};
 ghost use Rattle.rm_core.specs.Words.{has_rest, is_blown, stands};
 ghost use Rattle.rm_tables.specs.declared.events.Refused.{Refused};
-ghost use Rattle.rm_desk.specs.Effects.{Blows, LaneEffect};
+ghost use Rattle.rm_desk.specs.Effects.{StoreBlows, LaneEffect};
 ghost use Rattle.rm_desk.specs.Lanes.{IsStep, is_ready_at};
 ghost use Rattle.rm_desk.specs.Runs.{IsScriptOver};
 ghost use Rattle.rm_workers.specs.Came.{Moves, Went, came};
@@ -189,7 +189,7 @@ impl<S: Since> Held<S> {
     pub(crate) fn blown(&mut self, passed: u32) -> Result<(), Refused>
         requires closes { (image : ℕ) × (close_left (came S.began.desk self.old.desk.core.log).place.segments ≡ Some (Close.Crash passed image)) }
         ensures not_ready { IsErrOf result Refused.NotReady → is_ready_at self.old.desk Lane.Write ≡ false }
-        ensures does { OnOk result (Blows passed self.old.desk self.new.desk) }
+        ensures does { OnOk result (StoreBlows passed self.old.desk self.new.desk) }
         ensures went { OnOk result (Went S.began.desk self.old.desk × Went S.began.desk self.new.desk) }
         ensures halt { OnOk result (self.new.halt ≡ self.old.halt) }
         ensures err { OnErr result (self.new ≡ self.old) }

@@ -20,7 +20,7 @@ ghost use Rattle.rm_plain.specs.Keeping.{IsFoundOn};
 ghost use Rattle.rm_plain.specs.Later.{FirstTo, LaterTo};
 ghost use Rattle.rm_plain.specs.Opens.{StartsOver};
 ghost use Rattle.rm_plain.specs.Order.{AllReady};
-ghost use Rattle.rm_plain.specs.Starts.{DiskStays, IsAtEase, Leaves, LivesTo};
+ghost use Rattle.rm_plain.specs.Starts.{DiskStays, IsAtEase, LeavesAtEnd, LivesTo};
 ghost use Rattle.rm_plain.specs.Stops.{IsDue, IsStoppedBy};
 ghost use Rattle.rm_plain.specs.Survives.{SurvivesAll, SurvivesNow};
 ghost use Rattle.rm_plain.specs.Whole.{AllLived};
@@ -134,7 +134,7 @@ struct First<D: Disk> {
 /// What a life left that ended so.
 fn left<D: Disk>(desk: Desk, store: Store<D>, ended: Result<LifeEnd, Halt>) -> Lived<D>
     ensures desk { result.desk ≡ desk }
-    ensures leaves { Leaves D.view D.falls_to store.disk result.disk ended result.ended }
+    ensures leaves { LeavesAtEnd D.view D.falls_to store.disk result.disk ended result.ended }
 {
     let rm_plain::Lived { disk, ended } = leave(store, ended);
     Lived { desk, disk, ended }

@@ -1,6 +1,6 @@
 //! What no clause says: small passes by hand.
 ghost use Rattle.std.specs.Prelude.{IsTrue};
-ghost use Rattle.rm_fit.specs.Conditions.{AreApart, are_early};
+ghost use Rattle.rm_fit.specs.Conditions.{TurnsAreApart, are_early};
 
 use crate::helpers::{FIRST, SECOND, ask, size, text, wants, wants_words};
 use rm_book::{Asks, Book};
@@ -32,7 +32,7 @@ fn asked<R: Abort>(rt: &R, alloc: Global, lines: &[(AttemptId, u32, u32, u32)]) 
 
 /// The grants of a pass on the node, where the attempts have these turns.
 fn pass<R: Abort>(rt: &R, alloc: Global, book: &Book, asks: &Asks, turns: &[Turn]) -> Items<Grant>
-    requires attempts { AreApart turns.now }
+    requires attempts { TurnsAreApart turns.now }
     requires sequences { IsTrue (are_early turns.now) }
 {
     let node = text(rt, alloc, NODE);
@@ -76,7 +76,7 @@ fn see_pass<R: Abort>(
     turns: &[Turn],
     wanted: &str,
 )
-    requires attempts { AreApart turns.now }
+    requires attempts { TurnsAreApart turns.now }
     requires sequences { IsTrue (are_early turns.now) }
 {
     let asks = asked(rt, alloc, lines);

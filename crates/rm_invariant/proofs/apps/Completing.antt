@@ -11,7 +11,7 @@ use Rattle.rm_types.proofs.IdLemmas.{same_app, app_itself}
 use Rattle.rm_tables.specs.declared.events.MainEvent.{MainEvent}
 use Rattle.rm_tables.specs.declared.tables.Tables.{Tables}
 use Rattle.rm_tables.specs.Opening.{going_in}
-use Rattle.rm_invariant.specs.apps.Completed.{AllLater, Completes, InOrder, is_retire, order_in, order_of}
+use Rattle.rm_invariant.specs.apps.Completed.{AllLater, Completes, InOrder, is_retire, order_in, completion_order}
 use Rattle.rm_invariant.specs.apps.View.{changed_if, gone_if, one_if, put_if}
 use Rattle.rm_invariant.proofs.apps.Counts.{at_end, at_front}
 use Rattle.rm_invariant.proofs.apps.Found.{found_gone, record_put}
@@ -44,29 +44,29 @@ completes_still t next c tree ended settings more =
     record { once = rw tree c.once; in_order = rw (tree, ended) c.in_order; early = rw tree c.early; retires = rw (ended, settings) (λ many. more (c.retires many)) }
 
 -- THE ORDER OF ENDS
-later_same : (apps others : List AppRecord) → (n : ℕ) (ids : List AppId) → ((q : AppId) → 1 ≤ count_by (λ id. is_app id q) ids → order_of others q ≡ order_of apps q) → AllLater apps n ids → AllLater others n ids
+later_same : (apps others : List AppRecord) → (n : ℕ) (ids : List AppId) → ((q : AppId) → 1 ≤ count_by (λ id. is_app id q) ids → completion_order others q ≡ completion_order apps q) → AllLater apps n ids → AllLater others n ids
 later_same apps others n [] same l = tt
 later_same apps others n (id ∷ ids) same l =
-    let here : order_of others id ≡ order_of apps id = same id (let g : count_by (λ (x : AppId). is_app x id) (id ∷ ids) ≡ suc (count_by (λ (x : AppId). is_app x id) ids) = at_front (λ (x : AppId). is_app x id) id ids ∙ rw (app_itself id) refl in omega (arith, g)) in
+    let here : completion_order others id ≡ completion_order apps id = same id (let g : count_by (λ (x : AppId). is_app x id) (id ∷ ids) ≡ suc (count_by (λ (x : AppId). is_app x id) ids) = at_front (λ (x : AppId). is_app x id) id ids ∙ rw (app_itself id) refl in omega (arith, g)) in
     (rw here l.0, later_same apps others n ids (λ q some. same q (let g = at_front (λ (x : AppId). is_app x q) id ids in let m = one_at_least (is_app id q) (count_by (λ (x : AppId). is_app x q) ids) in omega (arith, some, g, m))) l.1)
 
-pub order_same : (apps others : List AppRecord) (ids : List AppId) → ((q : AppId) → 1 ≤ count_by (λ id. is_app id q) ids → order_of others q ≡ order_of apps q) → InOrder apps ids → InOrder others ids
+pub order_same : (apps others : List AppRecord) (ids : List AppId) → ((q : AppId) → 1 ≤ count_by (λ id. is_app id q) ids → completion_order others q ≡ completion_order apps q) → InOrder apps ids → InOrder others ids
 order_same apps others [] same o = tt
 order_same apps others (id ∷ ids) same o =
-    let here : order_of others id ≡ order_of apps id = same id (let g : count_by (λ (x : AppId). is_app x id) (id ∷ ids) ≡ suc (count_by (λ (x : AppId). is_app x id) ids) = at_front (λ (x : AppId). is_app x id) id ids ∙ rw (app_itself id) refl in omega (arith, g)) in
-    let under : (q : AppId) → 1 ≤ count_by (λ (x : AppId). is_app x q) ids → order_of others q ≡ order_of apps q = λ q some. same q (let g = at_front (λ (x : AppId). is_app x q) id ids in let m = one_at_least (is_app id q) (count_by (λ (x : AppId). is_app x q) ids) in omega (arith, some, g, m)) in
-    (rw here (later_same apps others (order_of apps id) ids under o.0), order_same apps others ids under o.1)
+    let here : completion_order others id ≡ completion_order apps id = same id (let g : count_by (λ (x : AppId). is_app x id) (id ∷ ids) ≡ suc (count_by (λ (x : AppId). is_app x id) ids) = at_front (λ (x : AppId). is_app x id) id ids ∙ rw (app_itself id) refl in omega (arith, g)) in
+    let under : (q : AppId) → 1 ≤ count_by (λ (x : AppId). is_app x q) ids → completion_order others q ≡ completion_order apps q = λ q some. same q (let g = at_front (λ (x : AppId). is_app x q) id ids in let m = one_at_least (is_app id q) (count_by (λ (x : AppId). is_app x q) ids) in omega (arith, some, g, m)) in
+    (rw here (later_same apps others (completion_order apps id) ids under o.0), order_same apps others ids under o.1)
 
-later_push : (apps : List AppRecord) (n : ℕ) (ids : List AppId) (id : AppId) → AllLater apps n ids → n ≤ order_of apps id → AllLater apps n (ids ++ id ∷ [])
+later_push : (apps : List AppRecord) (n : ℕ) (ids : List AppId) (id : AppId) → AllLater apps n ids → n ≤ completion_order apps id → AllLater apps n (ids ++ id ∷ [])
 later_push apps n [] id l m = (m, tt)
 later_push apps n (one ∷ ids) id l m = (l.0, later_push apps n ids id l.1 m)
 
-order_push : (apps : List AppRecord) (ids : List AppId) (id : AppId) → InOrder apps ids → ((q : AppId) → order_of apps q ≤ order_of apps id) → InOrder apps (ids ++ id ∷ [])
+order_push : (apps : List AppRecord) (ids : List AppId) (id : AppId) → InOrder apps ids → ((q : AppId) → completion_order apps q ≤ completion_order apps id) → InOrder apps (ids ++ id ∷ [])
 order_push apps [] id o last = (tt, tt)
-order_push apps (one ∷ ids) id o last = (later_push apps (order_of apps one) ids id o.0 (last one), order_push apps ids id o.1 last)
+order_push apps (one ∷ ids) id o last = (later_push apps (completion_order apps one) ids id o.0 (last one), order_push apps ids id o.1 last)
 
 -- A NEW RECORD has no end
-pub order_new : (apps : List AppRecord) (id q : AppId) (s : Submission) → order_of (apps ++ new_record id s ∷ []) q ≡ order_of apps q
+pub order_new : (apps : List AppRecord) (id q : AppId) (s : Submission) → completion_order (apps ++ new_record id s ∷ []) q ≡ completion_order apps q
 order_new apps id q s = ap order_in (record_put (new_record id s) q apps) ∙ by (is_app id q) (record_of apps q)
   where
     by : (b : Bool) (o : Option AppRecord) → order_in (put_if b (new_record id s) o) ≡ order_in o
@@ -201,25 +201,25 @@ completes_ended t next id how text c there none found once applied ended retires
     ended_at None e = cc
     ended_at (Some one) e = refl
 
-    last : order_of next.tree.apps id ≡ t.tree.applied
+    last : completion_order next.tree.apps id ≡ t.tree.applied
     last = ap order_in (found id) ∙ rw (app_itself id) (ended_at (record_of t.tree.apps id) there)
 
-    same : (q : AppId) → 1 ≤ count_by (λ one. is_app one q) t.ended → order_of next.tree.apps q ≡ order_of t.tree.apps q
+    same : (q : AppId) → 1 ≤ count_by (λ one. is_app one q) t.ended → completion_order next.tree.apps q ≡ completion_order t.tree.apps q
     same q some = ap order_in (found q) ∙ by (is_app id q) refl
       where
-        by : (b : Bool) → is_app id q ≡ b → order_in (changed_if b (with_end_at how text t.tree.applied) (record_of t.tree.apps q)) ≡ order_of t.tree.apps q
+        by : (b : Bool) → is_app id q ≡ b → order_in (changed_if b (with_end_at how text t.tree.applied) (record_of t.tree.apps q)) ≡ completion_order t.tree.apps q
         by true e = absurd (let n : count_by (λ (one : AppId). is_app one q) t.ended ≡ 0 = subst (λ (x : AppId). count_by (λ (one : AppId). is_app one x) t.ended ≡ 0) (same_app id q e) none in omega (arith, n, some))
         by false e = refl
 
-    low : (q : AppId) → order_of next.tree.apps q ≤ t.tree.applied
+    low : (q : AppId) → completion_order next.tree.apps q ≤ t.tree.applied
     low q = by (is_app id q) refl
       where
-        by : (b : Bool) → is_app id q ≡ b → order_of next.tree.apps q ≤ t.tree.applied
+        by : (b : Bool) → is_app id q ≡ b → completion_order next.tree.apps q ≤ t.tree.applied
         by true e =
-            let here : order_of next.tree.apps q ≡ t.tree.applied = subst (λ (x : AppId). order_of next.tree.apps x ≡ t.tree.applied) (same_app id q e) last in
+            let here : completion_order next.tree.apps q ≡ t.tree.applied = subst (λ (x : AppId). completion_order next.tree.apps x ≡ t.tree.applied) (same_app id q e) last in
             omega (arith, here)
         by false e =
-            let here : order_of next.tree.apps q ≡ order_of t.tree.apps q = ap order_in (found q) ∙ rw e refl in
+            let here : completion_order next.tree.apps q ≡ completion_order t.tree.apps q = ap order_in (found q) ∙ rw e refl in
             let old = c.early q in
             omega (arith, here, old)
 
@@ -256,20 +256,20 @@ completes_removed t next id c none apps applied ended settings more =
     found : (q : AppId) → record_of (filter (λ app. not (is_app app.id id)) t.tree.apps) q ≡ gone_if (is_app id q) (record_of t.tree.apps q)
     found q = found_gone (λ (one : AppRecord). one.id) id q t.tree.apps
 
-    same : (q : AppId) → 1 ≤ count_by (λ one. is_app one q) t.ended → order_of (filter (λ app. not (is_app app.id id)) t.tree.apps) q ≡ order_of t.tree.apps q
+    same : (q : AppId) → 1 ≤ count_by (λ one. is_app one q) t.ended → completion_order (filter (λ app. not (is_app app.id id)) t.tree.apps) q ≡ completion_order t.tree.apps q
     same q some = ap order_in (found q) ∙ by (is_app id q) refl
       where
-        by : (b : Bool) → is_app id q ≡ b → order_in (gone_if b (record_of t.tree.apps q)) ≡ order_of t.tree.apps q
+        by : (b : Bool) → is_app id q ≡ b → order_in (gone_if b (record_of t.tree.apps q)) ≡ completion_order t.tree.apps q
         by true e = absurd (let n : count_by (λ (one : AppId). is_app one q) t.ended ≡ 0 = subst (λ (x : AppId). count_by (λ (one : AppId). is_app one x) t.ended ≡ 0) (same_app id q e) none in omega (arith, n, some))
         by false e = refl
 
-    low : (q : AppId) → order_of (filter (λ app. not (is_app app.id id)) t.tree.apps) q ≤ next.tree.applied
+    low : (q : AppId) → completion_order (filter (λ app. not (is_app app.id id)) t.tree.apps) q ≤ next.tree.applied
     low q = by (is_app id q) refl
       where
-        by : (b : Bool) → is_app id q ≡ b → order_of (filter (λ app. not (is_app app.id id)) t.tree.apps) q ≤ next.tree.applied
-        by true e = let here : order_of (filter (λ app. not (is_app app.id id)) t.tree.apps) q ≡ 0 = ap order_in (found q) ∙ rw e refl in omega (arith, here)
+        by : (b : Bool) → is_app id q ≡ b → completion_order (filter (λ app. not (is_app app.id id)) t.tree.apps) q ≤ next.tree.applied
+        by true e = let here : completion_order (filter (λ app. not (is_app app.id id)) t.tree.apps) q ≡ 0 = ap order_in (found q) ∙ rw e refl in omega (arith, here)
         by false e =
-            let here : order_of (filter (λ app. not (is_app app.id id)) t.tree.apps) q ≡ order_of t.tree.apps q = ap order_in (found q) ∙ rw e refl in
+            let here : completion_order (filter (λ app. not (is_app app.id id)) t.tree.apps) q ≡ completion_order t.tree.apps q = ap order_in (found q) ∙ rw e refl in
             let old = c.early q in
             omega (arith, here, old, applied)
 

@@ -9,7 +9,7 @@ use Rattle.rm_types.specs.Records.{is_some_and, record_of}
 use Rattle.rm_types.proofs.IdLemmas.{app_itself}
 use Rattle.rm_tables.specs.declared.completed.Completion.{Completion}
 use Rattle.rm_tables.specs.Completed.{completion_of, completions_in, ended_in, put_completion, with_completed}
-use Rattle.rm_invariant.specs.apps.Completed.{AllLater, InOrder, order_of}
+use Rattle.rm_invariant.specs.apps.Completed.{AllLater, InOrder, completion_order}
 use Rattle.rm_invariant.specs.apps.Recovered.{has_ended}
 use Rattle.rm_invariant.specs.apps.View.{one_if}
 use Rattle.rm_invariant.proofs.apps.Completing.{kept_at}
@@ -152,9 +152,9 @@ all_rise (app ∷ apps) so_far h = by (is_some app.ending) refl (all_rise apps (
 -- each completion is that of a record
 abbrev AllOf : List AppRecord → List Completion → Type 0
 AllOf all [] = Unit {0}
-AllOf all (x ∷ xs) = (order_of all x.id ≡ x.order) × AllOf all xs
+AllOf all (x ∷ xs) = (completion_order all x.id ≡ x.order) × AllOf all xs
 
-put_of : (all : List AppRecord) (one : Completion) (xs : List Completion) → order_of all one.id ≡ one.order → AllOf all xs → AllOf all (put_completion one xs)
+put_of : (all : List AppRecord) (one : Completion) (xs : List Completion) → completion_order all one.id ≡ one.order → AllOf all xs → AllOf all (put_completion one xs)
 put_of all one [] l h = (l, tt)
 put_of all one (x ∷ xs) l h = by (nat_le x.order one.order) refl (put_of all one xs l h.1)
   where

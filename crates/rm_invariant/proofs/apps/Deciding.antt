@@ -27,7 +27,7 @@ use Rattle.rm_tables.specs.declared.tables.Tables.{Tables}
 use Rattle.rm_tables.specs.MainEvents.{end_with, last_end_in}
 use Rattle.rm_refinement.specs.History.{History, abstract_scene}
 use Rattle.rm_invariant.specs.apps.View.{View, view, is_attempt_op_of, is_attempt_end_op_of}
-use Rattle.rm_invariant.specs.apps.Invariant.{RowInvariant, StateInvariant, ActiveInvariant, AllHaveEnded, LastIsOpen, MayFollow, is_active, ops_of}
+use Rattle.rm_invariant.specs.apps.Invariant.{RowInvariant, StateInvariant, ActiveInvariant, AllHaveEnded, LastIsOpen, MayFollowInView, is_active, ops_of}
 use Rattle.rm_invariant.proofs.apps.Counts.{none_under}
 use Rattle.rm_invariant.proofs.apps.Own.{active_row}
 
@@ -106,7 +106,7 @@ submitted_facts settings q row v is good =
 -- of an active one, by its current attempt
 pub record Unsaved (settings : Settings) (row : AppRow) (current : Current) (v : View) : Type 0 where
   pub may : MayStop v
-  pub follows : MayFollow settings current.number v
+  pub follows : MayFollowInView settings current.number v
   pub wished : v.wished ≡ row.wish
 
 pub record Living (q : AttemptId) (row : AppRow) (current : Current) (v : View) : Type 0 where
@@ -158,7 +158,7 @@ none_last : (attempts : List AttemptRecord) → length attempts ≡ 0 → Unfini
 none_last [] e = tt
 none_last (one ∷ more) e = absurd (omega (arith, e))
 
-pub unfinished : (settings : Settings) (number : ℕ) (v : View) → MayFollow settings number v → Unfinished (last_end_in v.found)
+pub unfinished : (settings : Settings) (number : ℕ) (v : View) → MayFollowInView settings number v → Unfinished (last_end_in v.found)
 unfinished settings number v (n, inl first) = let one = first.0 in none_last (attempts_in v.found) (omega (arith, n, one))
 unfinished settings number v (n, inr failed) = failed_last (last_attempt (attempts_in v.found)) failed.0
 

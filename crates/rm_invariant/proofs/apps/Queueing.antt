@@ -33,7 +33,7 @@ use Rattle.rm_tables.specs.Rows.{row_of}
 use Rattle.rm_tables.specs.SchedEvents.{added_by, master_asked, queued_at, queued_with, queued_by}
 use Rattle.rm_refinement.specs.History.{History, abstract_scene}
 use Rattle.rm_invariant.specs.apps.View.{View, view, counts, main_view, sched_view, one_if, is_ask, is_attempt_op_of}
-use Rattle.rm_invariant.specs.apps.Invariant.{RowInvariant, StateInvariant, ActiveInvariant, AllHaveEnded, MayFollow, is_active, ops_of}
+use Rattle.rm_invariant.specs.apps.Invariant.{RowInvariant, StateInvariant, ActiveInvariant, AllHaveEnded, MayFollowInView, is_active, ops_of}
 use Rattle.rm_invariant.specs.Step.{AppsInvariant, Step}
 use Rattle.rm_invariant.proofs.apps.Counts.{at_end, none_under}
 use Rattle.rm_invariant.proofs.apps.Effects.{sched_taken, main_posted}
@@ -95,7 +95,7 @@ module _ (settings : Settings) (q : AttemptId) (id : AttemptId) (v : View) where
 -- what is said of an attempt that may be queued
 pub record MayQueueIt (settings : Settings) (id : AttemptId) (v : View) : Type 0 where
   pub stopped : AllHaveEnded v.found
-  pub follows : MayFollow settings id.number v
+  pub follows : MayFollowInView settings id.number v
   pub none_await : ops_of v.count ≡ 0
   pub none_ask : v.count.asks ≡ 0
   pub not_held : v.held ≡ false

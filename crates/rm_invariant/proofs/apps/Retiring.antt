@@ -14,7 +14,7 @@ use Rattle.rm_types.specs.Ids.{is_app}
 use Rattle.rm_types.specs.Records.{is_some_and, record_of}
 use Rattle.rm_types.proofs.IdLemmas.{same_app, app_itself}
 use Rattle.rm_model.specs.Facts.{completed, end_in, is_completed, is_remove_op}
-use Rattle.rm_model.specs.Issuing.{MayIssueRemove, is_before}
+use Rattle.rm_model.specs.Issuing.{MayIssueRemove, is_completed_before}
 use Rattle.rm_app.specs.declared.states.AppState.{AppState}
 use Rattle.rm_tables.specs.declared.events.MainEvent.{MainEvent}
 use Rattle.rm_tables.specs.declared.events.MainEvent.TheVariants as mains
@@ -30,7 +30,7 @@ use Rattle.rm_invariant.proofs.apps.Effects.{main_end, main_taken, op_end}
 use Rattle.rm_invariant.proofs.apps.Found.{same_test}
 use Rattle.rm_invariant.proofs.apps.Keeping.{in_scene}
 use Rattle.rm_invariant.proofs.opening.Apps.{if_true, posted}
-use Rattle.rm_invariant.specs.apps.Completed.{AllLater, Completes, order_of}
+use Rattle.rm_invariant.specs.apps.Completed.{AllLater, Completes, completion_order}
 use Rattle.rm_invariant.proofs.apps.AtStates.{remove_issued}
 use Rattle.rm_invariant.proofs.apps.Completions.{swap}
 
@@ -189,11 +189,11 @@ known_all (app ∷ apps) once =
         let g : count_by (λ (x : AppRecord). is_app x.id q) (app ∷ apps) ≡ count_by (λ (x : AppRecord). is_app x.id q) apps = at_front (λ (x : AppRecord). is_app x.id q) app apps ∙ rw e refl in
         omega (arith, g, o)
 
-later_than : (apps : List AppRecord) (n : ℕ) (ids : List AppId) (q : AppId) → AllLater apps n ids → 1 ≤ count_of q ids → n ≤ order_of apps q
+later_than : (apps : List AppRecord) (n : ℕ) (ids : List AppId) (q : AppId) → AllLater apps n ids → 1 ≤ count_of q ids → n ≤ completion_order apps q
 later_than apps n [] q l c = absurd (omega (arith, c))
 later_than apps n (id ∷ ids) q l c = by (is_app id q) refl (later_than apps n ids q l.1)
   where
-    by : (b : Bool) → is_app id q ≡ b → (1 ≤ count_of q ids → n ≤ order_of apps q) → n ≤ order_of apps q
+    by : (b : Bool) → is_app id q ≡ b → (1 ≤ count_of q ids → n ≤ completion_order apps q) → n ≤ completion_order apps q
     by true e rest = let same : id ≡ q = same_app id q e in rw (← same) l.0
     by false e rest =
         let g : count_of q (id ∷ ids) ≡ count_of q ids = at_front (λ (x : AppId). is_app x q) id ids ∙ rw e refl in
@@ -201,28 +201,28 @@ later_than apps n (id ∷ ids) q l c = by (is_app id q) refl (later_than apps n 
 
 -- a completed application is before no other that comes later
 module _ (settings : Settings) (h : History) (t : Tables) (k : AppsInvariant settings h t) (c : Completes t) (id : AppId) (more : List AppId) (front : t.ended ≡ id ∷ more) where
-  ordered_front : AllLater t.tree.apps (order_of t.tree.apps id) more
+  ordered_front : AllLater t.tree.apps (completion_order t.tree.apps id) more
   ordered_front = let o = rw front at c.in_order in o.0
 
-  not_before : (one : AppRecord) → record_of t.tree.apps one.id ≡ Some one → is_completed (abstract_scene h t) one ≡ true → order_of t.tree.apps id ≤ one.end_order
+  not_before : (one : AppRecord) → record_of t.tree.apps one.id ≡ Some one → is_completed (abstract_scene h t) one ≡ true → completion_order t.tree.apps id ≤ one.end_order
   not_before one f n =
       let there : count_of one.id t.ended ≡ 1 = ended_is settings h t k c one.id ∙ rw (f, n) refl in
       let split : count_of one.id t.ended ≡ one_if (is_app id one.id) (count_of one.id more) = rw front (at_front (λ (x : AppId). is_app x one.id) id more) in
       by (is_app id one.id) refl split there
     where
-      order_is : order_of t.tree.apps one.id ≡ one.end_order
+      order_is : completion_order t.tree.apps one.id ≡ one.end_order
       order_is = rw f refl
 
-      by : (b : Bool) → is_app id one.id ≡ b → count_of one.id t.ended ≡ one_if b (count_of one.id more) → count_of one.id t.ended ≡ 1 → order_of t.tree.apps id ≤ one.end_order
+      by : (b : Bool) → is_app id one.id ≡ b → count_of one.id t.ended ≡ one_if b (count_of one.id more) → count_of one.id t.ended ≡ 1 → completion_order t.tree.apps id ≤ one.end_order
       by true e g n = let here : id ≡ one.id = same_app id one.id e in let o = order_is in rw here (omega (arith, o))
-      by false e g n = let o = order_is in let l = later_than t.tree.apps (order_of t.tree.apps id) more one.id ordered_front (omega (arith, g, n)) in omega (arith, o, l)
+      by false e g n = let o = order_is in let l = later_than t.tree.apps (completion_order t.tree.apps id) more one.id ordered_front (omega (arith, g, n)) in omega (arith, o, l)
 
   -- each of some records that are found by their ids is one that the application is before
-  before_all : (app : AppRecord) → order_of t.tree.apps id ≡ app.end_order → (some : List AppRecord) → AllKnown t.tree.apps some → list_all (is_before (abstract_scene h t) app) some ≡ true
+  before_all : (app : AppRecord) → completion_order t.tree.apps id ≡ app.end_order → (some : List AppRecord) → AllKnown t.tree.apps some → list_all (is_completed_before (abstract_scene h t) app) some ≡ true
   before_all app o [] known = refl
   before_all app o (one ∷ some) known = by (is_completed (abstract_scene h t) one) refl (before_all app o some known.1)
     where
-      by : (b : Bool) → is_completed (abstract_scene h t) one ≡ b → list_all (is_before (abstract_scene h t) app) some ≡ true → list_all (is_before (abstract_scene h t) app) (one ∷ some) ≡ true
+      by : (b : Bool) → is_completed (abstract_scene h t) one ≡ b → list_all (is_completed_before (abstract_scene h t) app) some ≡ true → list_all (is_completed_before (abstract_scene h t) app) (one ∷ some) ≡ true
       by true e rest =
           let l = not_before one known.0 e in
           let le : nat_le app.end_order one.end_order ≡ true = grind (arith, nat_tests) in
@@ -240,14 +240,14 @@ module _ (settings : Settings) (h : History) (t : Tables) (k : AppsInvariant set
           let split : count_of id t.ended ≡ suc (count_of id more) = rw front (at_front (λ (x : AppId). is_app x id) id more ∙ rw (app_itself id) refl) in
           omega (arith, same, split)
 
-      by : (found : Option AppRecord) → record_of t.tree.apps id ≡ found → is_some_and (λ app. is_completed (abstract_scene h t) app && list_all (is_before (abstract_scene h t) app) t.tree.apps) (record_of t.tree.apps id) ≡ true
+      by : (found : Option AppRecord) → record_of t.tree.apps id ≡ found → is_some_and (λ app. is_completed (abstract_scene h t) app && list_all (is_completed_before (abstract_scene h t) app) t.tree.apps) (record_of t.tree.apps id) ≡ true
       by None e = absurd (let x = rw e at here in omega (arith, x))
       by (Some app) e = at_test (is_completed (abstract_scene h t) app) refl
         where
-          order : order_of t.tree.apps id ≡ app.end_order
+          order : completion_order t.tree.apps id ≡ app.end_order
           order = rw e refl
 
-          at_test : (b : Bool) → is_completed (abstract_scene h t) app ≡ b → is_some_and (λ app. is_completed (abstract_scene h t) app && list_all (is_before (abstract_scene h t) app) t.tree.apps) (record_of t.tree.apps id) ≡ true
+          at_test : (b : Bool) → is_completed (abstract_scene h t) app ≡ b → is_some_and (λ app. is_completed (abstract_scene h t) app && list_all (is_completed_before (abstract_scene h t) app) t.tree.apps) (record_of t.tree.apps id) ≡ true
           at_test true f =
               let all = before_all app order t.tree.apps (known_all t.tree.apps c.once) in
               rw (e, f, all) refl

@@ -17,10 +17,9 @@ use Rattle.rm_types.specs.declared.operations.Submission.{Submission}
 use Rattle.rm_types.specs.declared.records.AppRecord.{AppRecord}
 use Rattle.rm_types.specs.declared.settings.Settings.{Settings}
 use Rattle.rm_types.specs.Ids.{is_app, is_attempt}
-use Rattle.rm_types.specs.Records.{new_record, record_of, with_end, with_record}
+use Rattle.rm_types.specs.Records.{new_record, record_of, with_end, with_record, is_finished}
 use Rattle.rm_types.proofs.IdLemmas.{same_attempt, same_app, app_itself}
-use Rattle.rm_book.specs.AskTables.{asks_of, without_asks_of}
-use Rattle.rm_model.specs.Attempts.{is_finished}
+use Rattle.rm_book.specs.AskTables.{attempt_asks, without_asks_of}
 use Rattle.rm_model.specs.Changes.{after}
 use Rattle.rm_model.specs.Facts.{end_in, has_app, is_app_op}
 use Rattle.rm_model.specs.MasterReplies.{is_finished_op}
@@ -30,7 +29,7 @@ use Rattle.rm_app.specs.declared.states.AppState.TheVariants as apps
 use Rattle.rm_attempt.specs.declared.states.AttemptState.{AttemptState}
 use Rattle.rm_attempt.specs.declared.states.AttemptState.TheVariants as attempts
 use Rattle.rm_attempt.specs.declared.states.AttemptEvent.TheVariants as attempt_events
-use Rattle.rm_attempt.specs.Table.{next_state as next_attempt_state}
+use Rattle.rm_attempt.specs.Table.{next_attempt_state as next_attempt_state}
 use Rattle.rm_tables.specs.declared.changes.AttemptChange.TheVariants as of_attempt
 use Rattle.rm_tables.specs.declared.changes.RowChange.{RowChange}
 use Rattle.rm_tables.specs.declared.changes.RowChange.TheVariants as of_app
@@ -45,7 +44,7 @@ use Rattle.rm_tables.specs.KeptOps.{dropped_at, dropped_by, dropped_of, kept}
 use Rattle.rm_tables.specs.Opening.{going_in}
 use Rattle.rm_tables.specs.Rows.{is_empty_slot, is_retired, row_of, slot_of, with_row, without_row, without_slot}
 use Rattle.rm_refinement.specs.Services.{finishes_by, finishes_with}
-use Rattle.rm_invariant.specs.apps.Completed.{Completes, is_retire, order_in, order_of}
+use Rattle.rm_invariant.specs.apps.Completed.{Completes, is_retire, order_in, completion_order}
 use Rattle.rm_invariant.specs.apps.Invariant.{is_active, ActiveInvariant, EndKeptInvariant, EndIssuedInvariant, RowInvariant, StateInvariant}
 use Rattle.rm_invariant.specs.apps.Submissions.{Lists, saving, starting, submitted_ids}
 use Rattle.rm_refinement.specs.History.{History, abstract_scene, live_state}
@@ -69,7 +68,7 @@ use Rattle.rm_invariant.proofs.events.Firsts.{firsts_with}
 use Rattle.rm_invariant.proofs.events.Moving.{own_gone}
 use Rattle.rm_invariant.proofs.events.Silent.{MayChange, rows_silent}
 use Rattle.rm_invariant.specs.auxiliary.Parts.{FixedParts, fixed_parts}
-use Rattle.rm_invariant.specs.auxiliary.Invariant.{IsUnfinished, NoneFirst, AuxInvariant, goes_by, goes_numbered}
+use Rattle.rm_invariant.specs.auxiliary.Invariant.{HasNotFinished, NoneFirst, AuxInvariant, goes_by, goes_numbered}
 use Rattle.rm_invariant.proofs.auxiliary.MainEvents.{finishes_none, firsts_same, less_others, less_single}
 use Rattle.rm_invariant.proofs.auxiliary.Parts.{parts_after}
 use Rattle.rm_invariant.proofs.auxiliary.Rows.{kept_goes, over_before, goes_every, each_with, every_with, finishes_with_row, goes_on, none_first_with, retired_with, same_with, served_append}
@@ -92,8 +91,8 @@ module _ (change : RowChange) (none : current_after change None ≡ None) (some 
   pub finishes_stays : (q : AttemptId) (row : AppRow) → finishes_by q (Some (changed change row)) ≡ finishes_by q (Some row)
   finishes_stays q row = ap (finishes_with q) (current_stays row)
 
-  pub unfinished_stays : (row : AppRow) → IsUnfinished row.current → IsUnfinished (changed change row).current
-  unfinished_stays row u = subst IsUnfinished (sym (current_stays row)) u
+  pub unfinished_stays : (row : AppRow) → HasNotFinished row.current → HasNotFinished (changed change row).current
+  unfinished_stays row u = subst HasNotFinished (sym (current_stays row)) u
 
 -- WHAT STAYS OF THE RECORDS
 
@@ -127,7 +126,7 @@ completes_changed t next change id keeps ends c records applied ended settings r
       retires = rw (ended, settings) (λ many. retire (c.retires many));
     }
   where
-    same : (q : AppId) → order_of (with_record change id t.tree.apps) q ≡ order_of t.tree.apps q
+    same : (q : AppId) → completion_order (with_record change id t.tree.apps) q ≡ completion_order t.tree.apps q
     same q = ap order_in (record_changed change keeps id q t.tree.apps) ∙ by (is_app id q) (record_of t.tree.apps q)
       where
         by : (b : Bool) (o : Option AppRecord) → order_in (changed_if b change o) ≡ order_in o
@@ -236,7 +235,7 @@ module _ (h : History) (t : Tables) (w : CoreInvariant t.settings h t) (sides : 
           offers = sides.offers;
           lists = app_lists s.next (ap (λ (p : FixedParts). p.submitted) same);
           finishes = λ q. front_finishes q (ops.App id submission) rest t.awaiting front refl ∙ sides.finishes q ∙ sym (same_with (finishes_by q) (changed of_app.Keep) id q.app t.rows (finishes_stays of_app.Keep keep_none keep_some q));
-          unfinished = every_with (λ (r : AppRow). IsUnfinished r.current) (changed of_app.Keep) id t.rows (unfinished_stays of_app.Keep keep_none keep_some) sides.unfinished;
+          unfinished = every_with (λ (r : AppRow). HasNotFinished r.current) (changed of_app.Keep) id t.rows (unfinished_stays of_app.Keep keep_none keep_some) sides.unfinished;
           retired = rw retired (retired_with h.apps.retired (changed of_app.Keep) id t.rows sides.retired);
         }
       where
@@ -305,7 +304,7 @@ module _ (h : History) (t : Tables) (w : CoreInvariant t.settings h t) (sides : 
                 (sides.lists.going ∙ ap (λ n. length h.apps.submitted + n) (sym (going_same (λ app. record app { attempts = app.attempts ++ record { id = id; master = master; node = node; ending = None } ∷ [] }) (λ app. refl) id.app t.tree.apps)));
           };
           finishes = attempt_finishes;
-          unfinished = each_with (changed lives) id.app t.rows saves.one saves.is (λ (r : AppRow). IsUnfinished r.current) (λ u. let f = rw c at u in rw c (λ o. f (rw st refl))) sides.unfinished;
+          unfinished = each_with (changed lives) id.app t.rows saves.one saves.is (λ (r : AppRow). HasNotFinished r.current) (λ u. let f = rw c at u in rw c (λ o. f (rw st refl))) sides.unfinished;
           retired = rw retired (retired_with h.apps.retired (changed lives) id.app t.rows sides.retired);
         }
       where
@@ -417,7 +416,7 @@ module _ (h : History) (t : Tables) (w : CoreInvariant t.settings h t) (sides : 
             ∙ sym (finishes_with_row (changed over) id.app t.rows ends.one ends.is q (λ app. row_over q ∙ sym (other_row e app)))
 
     -- another attempt that asks for something is of another application
-    end_others : (q : AttemptId) → asks_others (asks_of (without_asks_of id t.asks) q) ≡ true → goes_by q.number (row_of (with_row (changed over) id.app t.rows) q.app) ≡ true
+    end_others : (q : AttemptId) → asks_others (attempt_asks (without_asks_of id t.asks) q) ≡ true → goes_by q.number (row_of (with_row (changed over) id.app t.rows) q.app) ≡ true
     end_others q some = ap (goes_by q.number) (row_changed (changed over) id.app q.app t.rows) ∙ by (is_app id.app q.app) refl
       where
         before : goes_by q.number (row_of t.rows q.app) ≡ true
@@ -425,7 +424,7 @@ module _ (h : History) (t : Tables) (w : CoreInvariant t.settings h t) (sides : 
 
         not_own : is_attempt id q ≡ true → ⊥
         not_own same =
-            let none : asks_others (asks_of (without_asks_of id t.asks) q) ≡ false = subst (λ (a : AttemptId). asks_others (asks_of (without_asks_of id t.asks) a) ≡ false) (same_attempt id q same) (ap asks_others (own_gone id t.asks)) in
+            let none : asks_others (attempt_asks (without_asks_of id t.asks) q) ≡ false = subst (λ (a : AttemptId). asks_others (attempt_asks (without_asks_of id t.asks) a) ≡ false) (same_attempt id q same) (ap asks_others (own_gone id t.asks)) in
             false≢true (sym none ∙ some)
 
         by : (b : Bool) → is_app id.app q.app ≡ b → goes_by q.number (changed_if b (changed over) (row_of t.rows q.app)) ≡ true
@@ -463,7 +462,7 @@ module _ (h : History) (t : Tables) (w : CoreInvariant t.settings h t) (sides : 
             going = rw submitted (sides.lists.going ∙ ap (λ n. length h.apps.submitted + n) (sym (going_same (λ app. record app { attempts = map (with_end id how text) app.attempts }) (λ app. refl) id.app t.tree.apps)));
           };
           finishes = end_finishes;
-          unfinished = every_with (λ (r : AppRow). IsUnfinished r.current) (changed over) id.app t.rows (λ row u. ended_row row.current u) sides.unfinished;
+          unfinished = every_with (λ (r : AppRow). HasNotFinished r.current) (changed over) id.app t.rows (λ row u. ended_row row.current u) sides.unfinished;
           retired = rw retired (retired_with h.apps.retired (changed over) id.app t.rows sides.retired);
         }
       where
@@ -471,7 +470,7 @@ module _ (h : History) (t : Tables) (w : CoreInvariant t.settings h t) (sides : 
         silent_end None = tt
         silent_end (Some c) = tt
 
-        ended_row : (o : Option Current) → IsUnfinished o → IsUnfinished (current_after over o)
+        ended_row : (o : Option Current) → HasNotFinished o → HasNotFinished (current_after over o)
         ended_row None u = tt
         ended_row (Some c) u = λ o. u (over_before c.state o)
 
@@ -586,7 +585,7 @@ module _ (h : History) (t : Tables) (w : CoreInvariant t.settings h t) (sides : 
             going = rw submitted (going_after (record_of t.tree.apps id) refl waits.there waits.goes);
           };
           finishes = λ q. front_finishes q (ops.AppEnd id how text) rest t.awaiting front refl ∙ sides.finishes q ∙ sym (same_with (finishes_by q) (changed ends_so) id q.app t.rows (finishes_stays ends_so refl (λ c. refl) q));
-          unfinished = every_with (λ (r : AppRow). IsUnfinished r.current) (changed ends_so) id t.rows (unfinished_stays ends_so refl (λ c. refl)) sides.unfinished;
+          unfinished = every_with (λ (r : AppRow). HasNotFinished r.current) (changed ends_so) id t.rows (unfinished_stays ends_so refl (λ c. refl)) sides.unfinished;
           retired = rw retired (retired_with h.apps.retired (changed ends_so) id t.rows sides.retired);
         }
       where
@@ -646,7 +645,7 @@ module _ (h : History) (t : Tables) (w : CoreInvariant t.settings h t) (sides : 
         by true e x y = cc
         by false e x y = sides.none_first q x y
 
-    removed_others : (q : AttemptId) → asks_others (asks_of t.asks q) ≡ true → goes_by q.number (row_of (without_row id t.rows) q.app) ≡ true
+    removed_others : (q : AttemptId) → asks_others (attempt_asks t.asks q) ≡ true → goes_by q.number (row_of (without_row id t.rows) q.app) ≡ true
     removed_others q some = ap (goes_by q.number) (row_gone id q.app t.rows) ∙ by (is_app id q.app) refl
       where
         before : goes_by q.number (row_of t.rows q.app) ≡ true

@@ -13,10 +13,9 @@ use Rattle.rm_types.specs.declared.operations.How.{How}
 use Rattle.rm_types.specs.declared.operations.How.TheVariants as ways
 use Rattle.rm_types.specs.declared.operations.Op.TheVariants as ops
 use Rattle.rm_types.specs.Ids.{is_app, is_attempt}
-use Rattle.rm_types.specs.Records.{Records}
-use Rattle.rm_book.specs.AskTables.{asks_of, without_asks_of}
+use Rattle.rm_types.specs.Records.{Records, is_finished}
+use Rattle.rm_book.specs.AskTables.{attempt_asks, without_asks_of}
 use Rattle.rm_book.specs.Books.{capability_of}
-use Rattle.rm_model.specs.Attempts.{is_finished}
 use Rattle.rm_model.specs.Changes.{after}
 use Rattle.rm_model.specs.MasterReplies.{is_finished_op}
 use Rattle.rm_model.specs.State.{Release}
@@ -36,7 +35,7 @@ use Rattle.rm_tables.specs.declared.tables.Tables.{Tables}
 use Rattle.rm_tables.specs.Actions.{main_worked}
 use Rattle.rm_tables.specs.Changes.{changed, current_after, dropped_state, killed_state, scheduled}
 use Rattle.rm_tables.specs.MainEvents.{main_step}
-use Rattle.rm_tables.specs.Nodes.{node_of, ordered_row}
+use Rattle.rm_tables.specs.Nodes.{node_row, ordered_row}
 use Rattle.rm_tables.specs.Rows.{row_of, with_row}
 use Rattle.rm_model.specs.Issuing.{killed_text}
 use Rattle.rm_invariant.proofs.apps.Found.{row_changed}
@@ -46,7 +45,7 @@ use Rattle.rm_invariant.specs.Step.{AppsInvariant}
 use Rattle.rm_refinement.specs.History.{History, abstract_scene, live_state}
 use Rattle.rm_invariant.specs.apps.View.{view}
 use Rattle.rm_invariant.proofs.apps.Events.{at}
-use Rattle.rm_invariant.specs.events.Outcomes.{IsCurrentOf, Outcome, MayEnd, accepts, adds, delays, ends, ends_one, follows, idles, issues, kills, loses, orders, removes, requeues, rests_at, saves, waits_at}
+use Rattle.rm_invariant.specs.events.Outcomes.{IsCurrentOf, Outcome, MayEndApp, accepts, adds, delays, ends, ends_one, follows, idles, issues, kills, loses, orders, removes, requeues, rests_at, saves, is_past_grant}
 use Rattle.rm_invariant.proofs.events.Outcomes.{main_outcome}
 use Rattle.rm_invariant.specs.events.Asking.{asks_others}
 use Rattle.rm_invariant.specs.events.Here.{AreServed, FirstsKnown, NoneAbsent}
@@ -68,7 +67,7 @@ use Rattle.rm_invariant.specs.apps.Submissions.{Lists, saving, starting, submitt
 use Rattle.rm_types.specs.declared.operations.Op.{Op}
 use Rattle.rm_types.proofs.IdLemmas.{same_attempt}
 use Rattle.rm_tables.specs.MainEvents.{start_of_submission}
-use Rattle.rm_invariant.specs.auxiliary.Invariant.{AreUnfinished, FinishesKnown, IsUnfinished, MastersSingle, NoneFirst, OthersGo, RetiredKnown, AuxInvariant, goes_by, goes_numbered, is_over}
+use Rattle.rm_invariant.specs.auxiliary.Invariant.{AreUnfinished, FinishesKnown, HasNotFinished, MastersSingle, NoneFirst, OthersGo, RetiredKnown, AuxInvariant, goes_by, goes_numbered, end_is_issued}
 use Rattle.rm_invariant.proofs.auxiliary.Rows.{each_with, finishes_with_row, goes_on, goes_with_row, killed_goes, none_finished, none_first_with, retired_with, served_append, still_node}
 
 -- what the life remembers stays
@@ -156,7 +155,7 @@ module _ (t : Tables) where
   main_present before done (removes id more first many) = before
 
   -- only a node that registered offers something
-  main_offers : ((name : List ℕ) → node_of t.nodes name ≡ None → capability_of t.book name ≡ None) → (done : Entry × Tables) → Outcome t done → (name : List ℕ) → node_of done.1.nodes name ≡ None → capability_of done.1.book name ≡ None
+  main_offers : ((name : List ℕ) → node_row t.nodes name ≡ None → capability_of t.book name ≡ None) → (done : Entry × Tables) → Outcome t done → (name : List ℕ) → node_row done.1.nodes name ≡ None → capability_of done.1.book name ≡ None
   main_offers before done idles = before
   main_offers before done (saves id row submission rest found waits front) = before
   main_offers before done (adds id row behind found state at_front) = before
@@ -173,20 +172,20 @@ module _ (t : Tables) where
   main_offers before done (removes id more first many) = before
 
   -- what is asked for besides masters, of an attempt whose asks go or stay
-  pub less_others : (id q : AttemptId) → asks_others (asks_of (without_asks_of id t.asks) q) ≡ true → asks_others (asks_of t.asks q) ≡ true
+  pub less_others : (id q : AttemptId) → asks_others (attempt_asks (without_asks_of id t.asks) q) ≡ true → asks_others (attempt_asks t.asks q) ≡ true
   less_others id q e = by (is_attempt id q) refl
     where
-      by : (b : Bool) → is_attempt id q ≡ b → asks_others (asks_of t.asks q) ≡ true
+      by : (b : Bool) → is_attempt id q ≡ b → asks_others (attempt_asks t.asks q) ≡ true
       by true same =
-          let none : asks_others (asks_of (without_asks_of id t.asks) q) ≡ false = subst (λ (a : AttemptId). asks_others (asks_of (without_asks_of id t.asks) a) ≡ false) (same_attempt id q same) (ap asks_others (own_gone id t.asks)) in
+          let none : asks_others (attempt_asks (without_asks_of id t.asks) q) ≡ false = subst (λ (a : AttemptId). asks_others (attempt_asks (without_asks_of id t.asks) a) ≡ false) (same_attempt id q same) (ap asks_others (own_gone id t.asks)) in
           absurd (false≢true (sym none ∙ e))
       by false apart = sym (ap asks_others (other_gone id q apart t.asks)) ∙ e
 
-  pub less_single : (id : AttemptId) → MastersSingle t → (q : AttemptId) → are_single (asks_of (without_asks_of id t.asks) q) ≡ true
+  pub less_single : (id : AttemptId) → MastersSingle t → (q : AttemptId) → are_single (attempt_asks (without_asks_of id t.asks) q) ≡ true
   less_single id single q = by (is_attempt id q) refl
     where
-      by : (b : Bool) → is_attempt id q ≡ b → are_single (asks_of (without_asks_of id t.asks) q) ≡ true
-      by true same = subst (λ (a : AttemptId). are_single (asks_of (without_asks_of id t.asks) a) ≡ true) (same_attempt id q same) (ap are_single (own_gone id t.asks))
+      by : (b : Bool) → is_attempt id q ≡ b → are_single (attempt_asks (without_asks_of id t.asks) q) ≡ true
+      by true same = subst (λ (a : AttemptId). are_single (attempt_asks (without_asks_of id t.asks) a) ≡ true) (same_attempt id q same) (ap are_single (own_gone id t.asks))
       by false apart = ap are_single (other_gone id q apart t.asks) ∙ single q
 
   main_single : MastersSingle t → (done : Entry × Tables) → Outcome t done → MastersSingle done.1
@@ -245,7 +244,7 @@ module _ (t : Tables) where
   alive_killed attempts.Ended e = cc
   alive_killed attempts.Dropped e = cc
 
-  waits_killed : (s : AttemptState) → waits_at s ≡ true → killed_state s ≡ s
+  waits_killed : (s : AttemptState) → is_past_grant s ≡ true → killed_state s ≡ s
   waits_killed attempts.Scheduled e = cc
   waits_killed attempts.Granted e = cc
   waits_killed attempts.Saving e = refl
@@ -285,7 +284,7 @@ module _ (t : Tables) where
         by apps.Failed says = no says.1
         by apps.Killed says = no says.1
 
-    stopped_not : (id : AppId) (row : AppRow) → row_of t.rows id ≡ Some row → MayEnd row → (n : ℕ) → goes_by n (Some row) ≡ true → ⊥
+    stopped_not : (id : AppId) (row : AppRow) → row_of t.rows id ≡ Some row → MayEndApp row → (n : ℕ) → goes_by n (Some row) ≡ true → ⊥
     stopped_not id row found (inl state) n goes = none_going n row (none_submitted id row found state) goes
     stopped_not id row found (inr (g, (current, is, rests))) n goes = not_going n row current is (rests_not current.state rests) goes
 
@@ -323,13 +322,13 @@ module _ (t : Tables) where
     main_unfinished : AreUnfinished t.rows → (done : Entry × Tables) → Outcome t done → AreUnfinished done.1.rows
     main_unfinished before done idles = before
     main_unfinished before done (saves id row submission rest found waits front) =
-        each_with (changed of_app.Issue) id t.rows row found (λ (r : AppRow). IsUnfinished r.current) (λ e. let none = none_waiting id row submission found waits in rw none tt) before
+        each_with (changed of_app.Issue) id t.rows row found (λ (r : AppRow). HasNotFinished r.current) (λ e. let none = none_waiting id row submission found waits in rw none tt) before
     main_unfinished before done (adds id row behind found state at_front) = before
-    main_unfinished before done (accepts id row found state) = each_with (changed (of_app.Schedule 1)) id t.rows row found (λ (r : AppRow). IsUnfinished r.current) (λ e o. refl) before
+    main_unfinished before done (accepts id row found state) = each_with (changed (of_app.Schedule 1)) id t.rows row found (λ (r : AppRow). HasNotFinished r.current) (λ e o. refl) before
     main_unfinished before done (ends id row how text found stopped said) =
-        each_with (changed of_app.End) id t.rows row found (λ (r : AppRow). IsUnfinished r.current) (dropped row.current) before
+        each_with (changed of_app.End) id t.rows row found (λ (r : AppRow). HasNotFinished r.current) (dropped row.current) before
       where
-        state : (c : Current) (s : AttemptState) → c.state ≡ s → IsUnfinished (Some c) → IsUnfinished (Some (record c { state = dropped_state s }))
+        state : (c : Current) (s : AttemptState) → c.state ≡ s → HasNotFinished (Some c) → HasNotFinished (Some (record c { state = dropped_state s }))
         state c attempts.Scheduled is e = λ o. e (rw is refl)
         state c attempts.Granted is e = λ o. e (rw is refl)
         state c attempts.Saving is e = λ o. e (rw is refl)
@@ -340,25 +339,25 @@ module _ (t : Tables) where
         state c attempts.Ended is e = λ o. cc
         state c attempts.Dropped is e = λ o. e (rw is refl)
 
-        dropped : (o : Option Current) → IsUnfinished o → IsUnfinished (current_after of_app.End o)
+        dropped : (o : Option Current) → HasNotFinished o → HasNotFinished (current_after of_app.End o)
         dropped None e = tt
         dropped (Some c) e = state c c.state refl e
     main_unfinished before done (kills id row current is number alive goes) =
-        each_with (changed of_app.Kill) id.app t.rows row is.found (λ (r : AppRow). IsUnfinished r.current) (λ e. let c = is.is in let now = alive_killed current.state alive in rw (c, now) (λ o. cc)) before
+        each_with (changed of_app.Kill) id.app t.rows row is.found (λ (r : AppRow). HasNotFinished r.current) (λ e. let c = is.is in let now = alive_killed current.state alive in rw (c, now) (λ o. cc)) before
     main_unfinished before done (delays id row current is waits goes) =
-        each_with (changed of_app.Kill) id t.rows row is.found (λ (r : AppRow). IsUnfinished r.current) (λ e. let c = is.is in let now = waits_killed current.state waits in rw (c, now) (rw c at e)) before
+        each_with (changed of_app.Kill) id t.rows row is.found (λ (r : AppRow). HasNotFinished r.current) (λ e. let c = is.is in let now = waits_killed current.state waits in rw (c, now) (rw c at e)) before
     main_unfinished before done (issues container node row current is state number mine on) =
-        each_with (changed (of_app.OfAttempt of_attempt.Issue)) container.attempt.app t.rows row is.found (λ (r : AppRow). IsUnfinished r.current)
+        each_with (changed (of_app.OfAttempt of_attempt.Issue)) container.attempt.app t.rows row is.found (λ (r : AppRow). HasNotFinished r.current)
         (λ e. let c = is.is in let f = rw c at e in rw c (λ o. f (rw state refl))) before
     main_unfinished before done (requeues container row current behind is state number mine on at_front) =
-        each_with (changed (of_app.OfAttempt of_attempt.Requeue)) container.attempt.app t.rows row is.found (λ (r : AppRow). IsUnfinished r.current) (λ e. let c = is.is in rw c (λ o. refl)) before
+        each_with (changed (of_app.OfAttempt of_attempt.Requeue)) container.attempt.app t.rows row is.found (λ (r : AppRow). HasNotFinished r.current) (λ e. let c = is.is in rw c (λ o. refl)) before
     main_unfinished before done (orders id container node row current is number alive master on) = before
     main_unfinished before done (ends_one id row current how text is number alive said) =
-        each_with (changed (of_app.OfAttempt (of_attempt.End how))) id.app t.rows row is.found (λ (r : AppRow). IsUnfinished r.current) (λ e. let c = is.is in let now = alive_killed current.state alive in rw (c, now) (λ o. cc)) before
+        each_with (changed (of_app.OfAttempt (of_attempt.End how))) id.app t.rows row is.found (λ (r : AppRow). HasNotFinished r.current) (λ e. let c = is.is in let now = alive_killed current.state alive in rw (c, now) (λ o. cc)) before
     main_unfinished before done (loses container row current is state number mine) =
-        each_with (changed (of_app.OfAttempt of_attempt.Lose)) container.attempt.app t.rows row is.found (λ (r : AppRow). IsUnfinished r.current) (λ e. let c = is.is in let f = rw c at e in rw c f) before
+        each_with (changed (of_app.OfAttempt of_attempt.Lose)) container.attempt.app t.rows row is.found (λ (r : AppRow). HasNotFinished r.current) (λ e. let c = is.is in let f = rw c at e in rw c f) before
     main_unfinished before done (follows id row current is goes state none) =
-        each_with (changed (of_app.Schedule _)) id t.rows row is.found (λ (r : AppRow). IsUnfinished r.current) (λ e o. refl) before
+        each_with (changed (of_app.Schedule _)) id t.rows row is.found (λ (r : AppRow). HasNotFinished r.current) (λ e o. refl) before
     main_unfinished before done (removes id more first many) = before
 
   -- an attempt whose end isn't issued says of no end that it awaits
@@ -387,7 +386,7 @@ module _ (t : Tables) where
   alive_not attempts.Ended e = refl
   alive_not attempts.Dropped e = refl
 
-  pub alive_over : (s : AttemptState) → is_alive s ≡ true → is_over s ≡ false
+  pub alive_over : (s : AttemptState) → is_alive s ≡ true → end_is_issued s ≡ false
   alive_over attempts.Scheduled e = refl
   alive_over attempts.Granted e = refl
   alive_over attempts.Saving e = refl
@@ -410,7 +409,7 @@ module _ (t : Tables) where
   rests_ending attempts.Dropped e = cc
 
   module _ (settings : Settings) (h : History) (k : AppsInvariant settings h t) (unfinished : AreUnfinished t.rows) where
-    stopped_finishes : (id : AppId) (row : AppRow) → row_of t.rows id ≡ Some row → MayEnd row → (q : AttemptId) → finishes_by q (Some (changed of_app.End row)) ≡ finishes_by q (Some row)
+    stopped_finishes : (id : AppId) (row : AppRow) → row_of t.rows id ≡ Some row → MayEndApp row → (q : AttemptId) → finishes_by q (Some (changed of_app.End row)) ≡ finishes_by q (Some row)
     stopped_finishes id row found (inl state) q = let none = none_submitted settings h k id row found state in rw none refl
     stopped_finishes id row found (inr (g, (current, is, rests))) q =
         let x = rests_ending current.state rests in

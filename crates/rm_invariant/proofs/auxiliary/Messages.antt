@@ -28,14 +28,14 @@ use Rattle.rm_types.specs.declared.replies.Reply.TheVariants as replies
 use Rattle.rm_types.specs.declared.resources.Resource.{Resource}
 use Rattle.rm_types.specs.Ids.{is_app, is_attempt}
 use Rattle.rm_types.specs.Records.{record_of}
-use Rattle.rm_book.specs.AskTables.{AsksOf, asks_of, asks_set, is_for, renewed}
+use Rattle.rm_book.specs.AskTables.{AsksOf, attempt_asks, asks_set, is_for, renewed_ask}
 use Rattle.rm_book.specs.ManyAsks.{all_asked, asks_after, one_asked}
 use Rattle.rm_model.specs.Changes.{after}
 use Rattle.rm_model.specs.Facts.{has_app, is_known}
 use Rattle.rm_model.specs.State.{Release, Scene}
 use Rattle.rm_attempt.specs.declared.states.AttemptState.TheVariants as attempts
 use Rattle.rm_attempt.specs.declared.states.AttemptEvent.TheVariants as attempt_events
-use Rattle.rm_attempt.specs.Table.{next_state as next_attempt_state, is_alive}
+use Rattle.rm_attempt.specs.Table.{next_attempt_state as next_attempt_state, is_alive}
 use Rattle.rm_tables.specs.declared.changes.RowChange.TheVariants as of_app
 use Rattle.rm_tables.specs.declared.events.MainEvent.{MainEvent}
 use Rattle.rm_tables.specs.declared.events.MainEvent.TheVariants as mains
@@ -47,17 +47,17 @@ use Rattle.rm_tables.specs.declared.rows.Current.{Current}
 use Rattle.rm_tables.specs.declared.rows.Dialogue.{Dialogue}
 use Rattle.rm_tables.specs.declared.tables.Tables.{Tables}
 use Rattle.rm_tables.specs.Changes.{changed, current_after}
-use Rattle.rm_tables.specs.Nodes.{node_of}
+use Rattle.rm_tables.specs.Nodes.{node_row}
 use Rattle.rm_tables.specs.Opening.{going_in}
 use Rattle.rm_tables.specs.Rows.{is_retired, row_of, with_row}
 use Rattle.rm_tables.specs.Absorbing.{was_first}
 use Rattle.rm_model.specs.Attempts.{attempt_was_first}
-use Rattle.rm_tables.specs.Talks.{begun, registered_row, said_row, told_row, with_answer, with_text, without_closings}
+use Rattle.rm_tables.specs.Talks.{dialogue_begun, registered_row, said_row, told_row, with_answer, with_text, without_closings}
 use Rattle.rm_refinement.specs.Services.{finishes_by, lives_by, lives_with}
-use Rattle.rm_client.specs.Answers.{after_client, joined, new_row}
+use Rattle.rm_client.specs.Answers.{after_client, with_submission, submitted_row}
 use Rattle.rm_master.specs.Answers.{after_master, allocated_with, is_new_to, registered, release_events, said}
 use Rattle.rm_master.specs.Told.{goes_on as talks_on, spoken_by}
-use Rattle.rm_tracker.specs.Answers.{after_clock, after_node, beat_events, is_new_beat, registered_by}
+use Rattle.rm_tracker.specs.Answers.{after_clock, after_node, beat_events, is_next_beat, registered_by}
 use Rattle.rm_tracker.specs.Offers.{OnlyNodesOffer}
 use Rattle.rm_tracker.proofs.Offered.{clock_offers, node_offers}
 use Rattle.rm_invariant.specs.apps.Completed.{is_retire}
@@ -69,7 +69,7 @@ use Rattle.rm_invariant.proofs.apps.Counts.{count_append}
 use Rattle.rm_invariant.proofs.apps.Found.{retired_put, row_put}
 use Rattle.rm_invariant.proofs.masters.Allocating.{AllOrdinary}
 use Rattle.rm_invariant.specs.events.Asking.{asks_others}
-use Rattle.rm_invariant.specs.events.Here.{AreServed, FirstsKnown, IsServed, NoneAbsent}
+use Rattle.rm_invariant.specs.events.Here.{AreServed, FirstsKnown, IsServedRelease, NoneAbsent}
 use Rattle.rm_invariant.specs.events.MainFacts.{IsSilent}
 use Rattle.rm_invariant.specs.events.Masters.{are_single, is_single}
 use Rattle.rm_invariant.specs.Core.{CoreInvariant, PreservesCore}
@@ -77,7 +77,7 @@ use Rattle.rm_invariant.proofs.events.Answered.{other_asks, own_asks}
 use Rattle.rm_invariant.proofs.events.Firsts.{firsts_with}
 use Rattle.rm_invariant.proofs.messages.Present.{clock_present, node_present}
 use Rattle.rm_model.specs.NodeReplies.{is_later_turn, is_new_to_node, life_after_clock, life_after_node}
-use Rattle.rm_model.specs.Nodes.{node_of as node_told}
+use Rattle.rm_model.specs.Nodes.{judged_node as node_told}
 use Rattle.rm_model.specs.State.{scene}
 use Rattle.std.specs.Prelude.{All}
 use Rattle.std.specs.List.{AllByRecursion}
@@ -89,9 +89,10 @@ use Rattle.rm_model.specs.ClientReplies.{client_reply, is_given}
 use Rattle.rm_model.specs.MasterReplies.{is_new_to_master, life_after_master, master_reply, register_reply}
 use Rattle.rm_model.specs.State.{MasterState}
 use Rattle.rm_refinement.specs.Agreement.{CurrentAgrees, NumberAgrees, PlainDialogue, RowAgrees, bare_dialogue, session_of, plain_dialogue}
-use Rattle.rm_invariant.specs.messages.Ranges.{IsAsk, IsMasterAsk}
+use Rattle.rm_invariant.specs.messages.Ranges.{IsMasterAsk}
+use Rattle.rm_types.specs.Messages.{IsAsk}
 use Rattle.rm_invariant.specs.auxiliary.Parts.{FixedParts, life_parts, fixed_parts, parts_in}
-use Rattle.rm_invariant.specs.auxiliary.Invariant.{FinishesKnown, IsUnfinished, MastersSingle, NoneFirst, OthersGo, AuxInvariant, goes_by, goes_numbered}
+use Rattle.rm_invariant.specs.auxiliary.Invariant.{FinishesKnown, HasNotFinished, MastersSingle, NoneFirst, OthersGo, AuxInvariant, goes_by, goes_numbered}
 use Rattle.rm_invariant.proofs.auxiliary.KeptOps.{finishes_stays, goes_stays, unfinished_stays}
 use Rattle.rm_invariant.proofs.auxiliary.MainEvents.{alive_not, alive_over, finishes_none, firsts_same}
 use Rattle.rm_invariant.proofs.auxiliary.Parts.{parts_after}
@@ -181,10 +182,10 @@ module _ (h : History) (t : Tables) (sides : AuxInvariant h t) (n : ℕ) where
       by false e = rw e (idle_same t.given t.clock)
 
   node_same : (name : List ℕ) (ask : NodeAsk) (reply : Reply) → Same t (record (after_node name ask reply t) { served = n })
-  node_same name (nodes.Register turn capability running) reply = registered_same (node_of t.nodes name) name turn capability running reply
-  node_same name (nodes.Beat id running done) (replies.Beat next launched clean) = by (is_new_beat id (node_of t.nodes name)) refl
+  node_same name (nodes.Register turn capability running) reply = registered_same (node_row t.nodes name) name turn capability running reply
+  node_same name (nodes.Beat id running done) (replies.Beat next launched clean) = by (is_next_beat id (node_row t.nodes name)) refl
     where
-      by : (b : Bool) → is_new_beat id (node_of t.nodes name) ≡ b → Same t (record (after_node name (nodes.Beat id running done) (replies.Beat next launched clean) t) { served = n })
+      by : (b : Bool) → is_next_beat id (node_row t.nodes name) ≡ b → Same t (record (after_node name (nodes.Beat id running done) (replies.Beat next launched clean) t) { served = n })
       by true e = rw e (record { tree = refl; settings = refl; ended = refl; waits = refl; awaiting = refl; going = refl; rows = refl; asks = refl; more = []; main = sym (append-nil t.main); starts = refl; events = beat_events name done; sched = refl; quiet = beat_quiet name done })
       by false e = rw e (idle_same t.given t.clock)
   node_same name (nodes.Beat id running done) _ = idle_same t.given t.clock
@@ -243,27 +244,27 @@ module _ (h : History) (t : Tables) (sides : AuxInvariant h t) (n : ℕ) where
   -- a submission joins: its application has no row and wasn't removed
   module _ (id : AppId) (submission : Submission) (found : row_of t.rows id ≡ None) (unretired : has_app h.apps.retired id ≡ false) where
     abbrev joined_now : Tables
-    joined_now = record (joined id submission t) { served = n }
+    joined_now = record (with_submission id submission t) { served = n }
 
     fresh : is_retired t.rows id ≡ false
     fresh = sides.retired id ∙ unretired
 
     abbrev rows_now : List (AppId × Option AppRow)
-    rows_now = t.rows ++ (id, Some (new_row submission)) ∷ []
+    rows_now = t.rows ++ (id, Some (submitted_row submission)) ∷ []
 
-    row_now : (q : AppId) → row_of rows_now q ≡ put_if (is_app id q) (new_row submission) (row_of t.rows q)
-    row_now q = row_put id q (new_row submission) t.rows fresh
+    row_now : (q : AppId) → row_of rows_now q ≡ put_if (is_app id q) (submitted_row submission) (row_of t.rows q)
+    row_now q = row_put id q (submitted_row submission) t.rows fresh
 
     -- where the application is this one, there was no row
     was_none : (q : AppId) → is_app id q ≡ true → row_of t.rows q ≡ None
     was_none q e = subst (λ (a : AppId). row_of t.rows a ≡ None) (same_app id q e) found
 
     -- what holds of the new row holds of each
-    each_put : (P : AppId → AppRow → Type 0) → ((q : AppId) → is_app id q ≡ true → P q (new_row submission)) → ((q : AppId) (row : AppRow) → row_of t.rows q ≡ Some row → P q row) → (q : AppId) (row : AppRow) → row_of rows_now q ≡ Some row → P q row
+    each_put : (P : AppId → AppRow → Type 0) → ((q : AppId) → is_app id q ≡ true → P q (submitted_row submission)) → ((q : AppId) (row : AppRow) → row_of t.rows q ≡ Some row → P q row) → (q : AppId) (row : AppRow) → row_of rows_now q ≡ Some row → P q row
     each_put P new before q row there = by (is_app id q) refl (row_of t.rows q) refl (sym (row_now q) ∙ there)
       where
-        by : (b : Bool) → is_app id q ≡ b → (o : Option AppRow) → row_of t.rows q ≡ o → put_if b (new_row submission) o ≡ Some row → P q row
-        by true e None is x = let same : new_row submission ≡ row = cc in subst (P q) same (new q e)
+        by : (b : Bool) → is_app id q ≡ b → (o : Option AppRow) → row_of t.rows q ≡ o → put_if b (submitted_row submission) o ≡ Some row → P q row
+        by true e None is x = let same : submitted_row submission ≡ row = cc in subst (P q) same (new q e)
         by true e (Some one) is x = let y : None ≡ Some one = sym (was_none q e) ∙ is in cc
         by false e o is x = before q row (is ∙ x)
 
@@ -280,9 +281,9 @@ module _ (h : History) (t : Tables) (sides : AuxInvariant h t) (n : ℕ) where
         tests true e = none_first e
         tests false e = refl
 
-        by : (b : Bool) → is_app id q.app ≡ b → (o : Option AppRow) → row_of t.rows q.app ≡ o → put_if b (new_row submission) o ≡ Some row → attempt_was_first (abstract_scene h t) q ≡ was_first q (Some row)
+        by : (b : Bool) → is_app id q.app ≡ b → (o : Option AppRow) → row_of t.rows q.app ≡ o → put_if b (submitted_row submission) o ≡ Some row → attempt_was_first (abstract_scene h t) q ≡ was_first q (Some row)
         by true e None is x =
-            let same : new_row submission ≡ row = cc in
+            let same : submitted_row submission ≡ row = cc in
             let out : has_app h.apps.retired q.app ≡ false = subst (λ (a : AppId). has_app h.apps.retired a ≡ false) (same_app id q.app e) unretired in
             let unrecorded = sides.none_first q.app (was_none q.app e) out in
             subst (λ (r : AppRow). attempt_was_first (abstract_scene h t) q ≡ was_first q (Some r)) same (rw unrecorded (sym (tests (nat_lt 0 q.number) refl)))
@@ -292,7 +293,7 @@ module _ (h : History) (t : Tables) (sides : AuxInvariant h t) (n : ℕ) where
     join_others : OthersGo joined_now
     join_others q some = ap (goes_by q.number) (row_now q.app) ∙ by (is_app id q.app) refl (row_of t.rows q.app) refl (sides.others q some)
       where
-        by : (b : Bool) → is_app id q.app ≡ b → (o : Option AppRow) → row_of t.rows q.app ≡ o → goes_by q.number o ≡ true → goes_by q.number (put_if b (new_row submission) o) ≡ true
+        by : (b : Bool) → is_app id q.app ≡ b → (o : Option AppRow) → row_of t.rows q.app ≡ o → goes_by q.number o ≡ true → goes_by q.number (put_if b (submitted_row submission) o) ≡ true
         by true e None is g = cc
         by true e (Some one) is g = let y : None ≡ Some one = sym (was_none q.app e) ∙ is in cc
         by false e o is g = g
@@ -300,7 +301,7 @@ module _ (h : History) (t : Tables) (sides : AuxInvariant h t) (n : ℕ) where
     join_finishes : FinishesKnown joined_now
     join_finishes q = sides.finishes q ∙ sym (ap (finishes_by q) (row_now q.app) ∙ by (is_app id q.app) refl (row_of t.rows q.app) refl)
       where
-        by : (b : Bool) → is_app id q.app ≡ b → (o : Option AppRow) → row_of t.rows q.app ≡ o → finishes_by q (put_if b (new_row submission) o) ≡ finishes_by q o
+        by : (b : Bool) → is_app id q.app ≡ b → (o : Option AppRow) → row_of t.rows q.app ≡ o → finishes_by q (put_if b (submitted_row submission) o) ≡ finishes_by q o
         by true e None is = refl
         by true e (Some one) is = refl
         by false e o is = refl
@@ -308,7 +309,7 @@ module _ (h : History) (t : Tables) (sides : AuxInvariant h t) (n : ℕ) where
     join_none : NoneFirst h.first h.apps.retired rows_now
     join_none q none out = by (is_app id q) (row_of t.rows q) refl (sym (row_now q) ∙ none)
       where
-        by : (b : Bool) (o : Option AppRow) → row_of t.rows q ≡ o → put_if b (new_row submission) o ≡ None → record_of h.first.apps q ≡ None
+        by : (b : Bool) (o : Option AppRow) → row_of t.rows q ≡ o → put_if b (submitted_row submission) o ≡ None → record_of h.first.apps q ≡ None
         by true None is x = cc
         by true (Some one) is x = cc
         by false o is x = sides.none_first q (is ∙ x) out
@@ -342,8 +343,8 @@ module _ (h : History) (t : Tables) (sides : AuxInvariant h t) (n : ℕ) where
           offers = sides.offers;
           lists = record { order = rw submitted join_order; going = rw submitted join_going };
           finishes = join_finishes;
-          unfinished = each_put (λ q row. IsUnfinished row.current) (λ q e. tt) sides.unfinished;
-          retired = rw retired (λ q. retired_put id q (new_row submission) t.rows ∙ sides.retired q);
+          unfinished = each_put (λ q row. HasNotFinished row.current) (λ q e. tt) sides.unfinished;
+          retired = rw retired (λ q. retired_put id q (submitted_row submission) t.rows ∙ sides.retired q);
         }
 
   -- a kill is wished for the first time
@@ -371,7 +372,7 @@ module _ (h : History) (t : Tables) (sides : AuxInvariant h t) (n : ℕ) where
           offers = sides.offers;
           lists = record { order = rw submitted (more_main h t wished_now (mains.AppKill id ∷ []) refl refl refl sides.lists); going = rw submitted sides.lists.going };
           finishes = λ q. sides.finishes q ∙ sym (same_with (finishes_by q) (changed of_app.Wish) id q.app t.rows (finishes_stays of_app.Wish refl (λ c. refl) q));
-          unfinished = every_with (λ (r : AppRow). IsUnfinished r.current) (changed of_app.Wish) id t.rows (unfinished_stays of_app.Wish refl (λ c. refl)) sides.unfinished;
+          unfinished = every_with (λ (r : AppRow). HasNotFinished r.current) (changed of_app.Wish) id t.rows (unfinished_stays of_app.Wish refl (λ c. refl)) sides.unfinished;
           retired = rw retired (retired_with h.apps.retired (changed of_app.Wish) id t.rows sides.retired);
         }
       where
@@ -488,7 +489,7 @@ module _ (h : History) (t : Tables) (sides : AuxInvariant h t) (n : ℕ) where
     talked_finishes : (q : AttemptId) → finishes_by q (Some (f lives.row)) ≡ finishes_by q (Some lives.row)
     talked_finishes q = finishes_none t q (f lives.row) d now (alive_not t d.state alive) ∙ sym (finishes_none t q lives.row lives.current lives.is (alive_not t lives.current.state lives.alive))
 
-    talked_unfinished : IsUnfinished lives.row.current → IsUnfinished (f lives.row).current
+    talked_unfinished : HasNotFinished lives.row.current → HasNotFinished (f lives.row).current
     talked_unfinished u =
         let c = lives.is in
         let early = rw c at u in
@@ -515,18 +516,18 @@ module _ (h : History) (t : Tables) (sides : AuxInvariant h t) (n : ℕ) where
           offers = rw (nodes, book) sides.offers;
           lists = record { order = rw submitted (more_main h t next more main starts awaiting sides.lists); going = rw (going, submitted, tree) sides.lists.going };
           finishes = rw (awaiting, rows) (λ q. sides.finishes q ∙ sym (finishes_with_row f attempt.app t.rows lives.row lives.found q (λ e. talked_finishes q)));
-          unfinished = rw rows (each_with f attempt.app t.rows lives.row lives.found (λ (r : AppRow). IsUnfinished r.current) talked_unfinished sides.unfinished);
+          unfinished = rw rows (each_with f attempt.app t.rows lives.row lives.found (λ (r : AppRow). HasNotFinished r.current) talked_unfinished sides.unfinished);
           retired = rw (retired, rows) (retired_with h.apps.retired f attempt.app t.rows sides.retired);
         }
 
   -- what an attempt asks for after many asks, and what others do
-  other_many : (attempt q : AttemptId) → is_attempt attempt q ≡ false → (new : List Ask) (table : List AsksOf) → asks_of (all_asked attempt table new) q ≡ asks_of table q
+  other_many : (attempt q : AttemptId) → is_attempt attempt q ≡ false → (new : List Ask) (table : List AsksOf) → attempt_asks (all_asked attempt table new) q ≡ attempt_asks table q
   other_many attempt q apart [] table = refl
-  other_many attempt q apart (ask ∷ new) table = other_many attempt q apart new (one_asked attempt table ask) ∙ other_asks attempt q apart (asks_set ask (asks_of table attempt)) table
+  other_many attempt q apart (ask ∷ new) table = other_many attempt q apart new (one_asked attempt table ask) ∙ other_asks attempt q apart (asks_set ask (attempt_asks table attempt)) table
 
-  own_many : (attempt : AttemptId) (new : List Ask) (table : List AsksOf) → asks_of (all_asked attempt table new) attempt ≡ asks_after (asks_of table attempt) new
+  own_many : (attempt : AttemptId) (new : List Ask) (table : List AsksOf) → attempt_asks (all_asked attempt table new) attempt ≡ asks_after (attempt_asks table attempt) new
   own_many attempt [] table = refl
-  own_many attempt (ask ∷ new) table = own_many attempt new (one_asked attempt table ask) ∙ ap (λ (asks : List Ask). asks_after asks new) (own_asks attempt (asks_set ask (asks_of table attempt)) table)
+  own_many attempt (ask ∷ new) table = own_many attempt new (one_asked attempt table ask) ∙ ap (λ (asks : List Ask). asks_after asks new) (own_asks attempt (asks_set ask (attempt_asks table attempt)) table)
 
   -- an ask that isn't for a master leaves each of those for one
   filter_single : (p : Ask → Bool) (asks : List Ask) → are_single asks ≡ true → are_single (filter p asks) ≡ true
@@ -540,11 +541,11 @@ module _ (h : History) (t : Tables) (sides : AuxInvariant h t) (n : ℕ) where
   ordinary_single : (ask : Ask) → (ask.priority == 0) ≡ false → is_single ask ≡ true
   ordinary_single ask o = rw o refl
 
-  renewed_single : (ask : Ask) → (ask.priority == 0) ≡ false → (asks : List Ask) → are_single asks ≡ true → are_single (map (renewed ask) asks) ≡ true
+  renewed_single : (ask : Ask) → (ask.priority == 0) ≡ false → (asks : List Ask) → are_single asks ≡ true → are_single (map (renewed_ask ask) asks) ≡ true
   renewed_single ask o [] e = refl
   renewed_single ask o (one ∷ asks) e = by (is_for ask.priority ask.size one) refl (and_parts (is_single one) (are_single asks) e) (renewed_single ask o asks)
     where
-      by : (b : Bool) → is_for ask.priority ask.size one ≡ b → (is_single one ≡ true) × (are_single asks ≡ true) → (are_single asks ≡ true → are_single (map (renewed ask) asks) ≡ true) → are_single (map (renewed ask) (one ∷ asks)) ≡ true
+      by : (b : Bool) → is_for ask.priority ask.size one ≡ b → (is_single one ≡ true) × (are_single asks ≡ true) → (are_single asks ≡ true → are_single (map (renewed_ask ask) asks) ≡ true) → are_single (map (renewed_ask ask) (one ∷ asks)) ≡ true
       by true f x rest = let own = ordinary_single ask o in rw (f, own) (rest x.1)
       by false f x rest = let here = x.0 in rw (f, here) (rest x.1)
 
@@ -555,7 +556,7 @@ module _ (h : History) (t : Tables) (sides : AuxInvariant h t) (n : ℕ) where
   set_single : (ask : Ask) → (ask.priority == 0) ≡ false → (asks : List Ask) → are_single asks ≡ true → are_single (asks_set ask asks) ≡ true
   set_single ask o asks e = by (ask.count == 0) (list_any (is_for ask.priority ask.size) asks)
     where
-      by : (b c : Bool) → are_single (if b then filter (λ one. not (is_for ask.priority ask.size one)) asks else (if c then map (renewed ask) asks else asks ++ ask ∷ [])) ≡ true
+      by : (b c : Bool) → are_single (if b then filter (λ one. not (is_for ask.priority ask.size one)) asks else (if c then map (renewed_ask ask) asks else asks ++ ask ∷ [])) ≡ true
       by true c = filter_single (λ one. not (is_for ask.priority ask.size one)) asks e
       by false true = renewed_single ask o asks e
       by false false = added_single ask o asks e
@@ -569,7 +570,7 @@ module _ (h : History) (t : Tables) (sides : AuxInvariant h t) (n : ℕ) where
   served_more releases one [] e = tt
   served_more releases one (scheds.Release attempt list ∷ xs) e = (is_more releases e.0, served_more releases one xs e.1)
     where
-      is_more : (releases : List Release) → IsServed (record { attempt = attempt; list = list }) releases → IsServed (record { attempt = attempt; list = list }) (releases ++ one ∷ [])
+      is_more : (releases : List Release) → IsServedRelease (record { attempt = attempt; list = list }) releases → IsServedRelease (record { attempt = attempt; list = list }) (releases ++ one ∷ [])
       is_more [] e = absurd e
       is_more (x ∷ releases) (inl e) = inl e
       is_more (x ∷ releases) (inr e) = inr (is_more releases e)
@@ -582,7 +583,7 @@ module _ (h : History) (t : Tables) (sides : AuxInvariant h t) (n : ℕ) where
   served_more releases one (scheds.NodeUpdate node ∷ xs) e = served_more releases one xs e
   served_more releases one (scheds.NodeLost node ∷ xs) e = served_more releases one xs e
 
-  served_last : (one : Release) (releases : List Release) → IsServed one (releases ++ one ∷ [])
+  served_last : (one : Release) (releases : List Release) → IsServedRelease one (releases ++ one ∷ [])
   served_last one [] = inl refl
   served_last one (x ∷ releases) = inr (served_last one releases)
 
@@ -621,10 +622,10 @@ module _ (h : History) (t : Tables) (sides : AuxInvariant h t) (n : ℕ) where
     allocated_single : MastersSingle allocated_now
     allocated_single q = by (is_attempt attempt q) refl
       where
-        by : (b : Bool) → is_attempt attempt q ≡ b → are_single (asks_of (all_asked attempt t.asks asks) q) ≡ true
+        by : (b : Bool) → is_attempt attempt q ≡ b → are_single (attempt_asks (all_asked attempt t.asks asks) q) ≡ true
         by true same =
-            subst (λ (a : AttemptId). are_single (asks_of (all_asked attempt t.asks asks) a) ≡ true) (same_attempt attempt q same)
-            (ap are_single (own_many attempt asks t.asks) ∙ after_single asks ordinary (asks_of t.asks attempt) (sides.single attempt))
+            subst (λ (a : AttemptId). are_single (attempt_asks (all_asked attempt t.asks asks) a) ≡ true) (same_attempt attempt q same)
+            (ap are_single (own_many attempt asks t.asks) ∙ after_single asks ordinary (attempt_asks t.asks attempt) (sides.single attempt))
         by false apart = ap are_single (other_many attempt q apart asks t.asks) ∙ sides.single q
 
     allocated_sides : (g : History) → fixed_parts g ≡ record (fixed_parts h) { releases = h.endings.releases ++ record { attempt = attempt; list = release } ∷ [] } → AuxInvariant g allocated_now
@@ -649,7 +650,7 @@ module _ (h : History) (t : Tables) (sides : AuxInvariant h t) (n : ℕ) where
           offers = sides.offers;
           lists = record { order = rw submitted sides.lists.order; going = rw submitted sides.lists.going };
           finishes = λ q. sides.finishes q ∙ sym (same_with (finishes_by q) told_so attempt.app q.app t.rows (λ row. refl));
-          unfinished = every_with (λ (r : AppRow). IsUnfinished r.current) told_so attempt.app t.rows (λ row u. u) sides.unfinished;
+          unfinished = every_with (λ (r : AppRow). HasNotFinished r.current) told_so attempt.app t.rows (λ row u. u) sides.unfinished;
           retired = rw retired (retired_with h.apps.retired told_so attempt.app t.rows sides.retired);
         }
 
@@ -708,7 +709,7 @@ module _ (h : History) (t : Tables) (sides : AuxInvariant h t) (n : ℕ) where
         let alive_now = register_lives lives.current.state lives.alive in
         let issued = alive_issued (next_attempt_state lives.current.state attempt_events.Register) alive_now in
         let d : Current = record lives.current { state = next_attempt_state lives.current.state attempt_events.Register; registered = true } in
-        talked_sides attempt lives (registered_row (begun replies.MasterRegistered)) (λ r. refl) d (rw c refl) refl alive_now refl (rw c (λ e. absurd (let x = rw issued at e in cc))) s.next
+        talked_sides attempt lives (registered_row (dialogue_begun replies.MasterRegistered)) (λ r. refl) d (rw c refl) refl alive_now refl (rw c (λ e. absurd (let x = rw issued at e in cc))) s.next
         (record (registered attempt replies.MasterRegistered t) { served = n }) refl (parts_of Register replies.MasterRegistered (fixed_parts h) refl s) refl refl refl refl refl refl refl [] (sym (append-nil t.main)) refl refl refl refl
     register_master reply is s = quiet_master Register reply refl refl s
 

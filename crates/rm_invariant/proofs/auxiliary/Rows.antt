@@ -11,7 +11,7 @@ use Rattle.rm_model.specs.MasterReplies.{is_finished_op}
 use Rattle.rm_attempt.specs.declared.states.AttemptState.{AttemptState}
 use Rattle.rm_attempt.specs.declared.states.AttemptState.TheVariants as attempts
 use Rattle.rm_attempt.specs.declared.states.AttemptEvent.TheVariants as attempt_events
-use Rattle.rm_attempt.specs.Table.{next_state as next_attempt_state, is_alive}
+use Rattle.rm_attempt.specs.Table.{next_attempt_state as next_attempt_state, is_alive}
 use Rattle.rm_invariant.specs.events.MainFacts.{is_unissued}
 use Rattle.rm_tables.specs.declared.rows.AppRow.{AppRow}
 use Rattle.rm_tables.specs.declared.rows.Current.{Current}
@@ -35,10 +35,10 @@ use Rattle.rm_tables.specs.declared.changes.AttemptChange.TheVariants as of_atte
 use Rattle.rm_tables.specs.declared.changes.RowChange.TheVariants as of_app
 use Rattle.rm_tables.specs.declared.nodes.NodeRow.{NodeRow}
 use Rattle.rm_tables.specs.Leaving.{closed, closed_in, closed_one}
-use Rattle.rm_tables.specs.Nodes.{node_of, with_node}
-use Rattle.rm_tables.specs.Passing.{row_granted}
+use Rattle.rm_tables.specs.Nodes.{node_row, with_node}
+use Rattle.rm_tables.specs.Passing.{rows_after_grant}
 use Rattle.rm_refinement.proofs.Found.{other_row, own_row}
-use Rattle.rm_invariant.specs.auxiliary.Invariant.{NoneFirst, RetiredKnown, goes_by, goes_numbered, is_over}
+use Rattle.rm_invariant.specs.auxiliary.Invariant.{NoneFirst, RetiredKnown, goes_by, goes_numbered, end_is_issued}
 
 -- an application is without a row after a change only where it was before
 pub still_none : (f : AppRow → AppRow) (id q : AppId) (rows : List (AppId × Option AppRow)) → row_of (with_row f id rows) q ≡ None → row_of rows q ≡ None
@@ -128,7 +128,7 @@ alive_issued s e = grind arith
 pub kept_goes : (s : AttemptState) → (is_alive s || is_ending s) ≡ true → (is_alive (next_attempt_state s attempt_events.Kept) || is_ending (next_attempt_state s attempt_events.Kept)) ≡ true
 kept_goes s e = grind arith
 
-pub over_before : (s : AttemptState) → is_over (next_attempt_state s attempt_events.EndKept) ≡ false → is_over s ≡ false
+pub over_before : (s : AttemptState) → end_is_issued (next_attempt_state s attempt_events.EndKept) ≡ false → end_is_issued s ≡ false
 over_before s e = grind arith
 
 -- no end that awaits is FINISHED of one more operation than before, where that isn't such an end
@@ -153,18 +153,18 @@ served_append releases (scheds.NodeUpdate node ∷ xs) ys before more = served_a
 served_append releases (scheds.NodeLost node ∷ xs) ys before more = served_append releases xs ys before more
 
 -- a node is there after a change of one exactly where it was
-pub still_node : (f : NodeRow → NodeRow) (name q : List ℕ) (nodes : List (List ℕ × NodeRow)) → node_of (with_node f name nodes) q ≡ None → node_of nodes q ≡ None
+pub still_node : (f : NodeRow → NodeRow) (name q : List ℕ) (nodes : List (List ℕ × NodeRow)) → node_row (with_node f name nodes) q ≡ None → node_row nodes q ≡ None
 still_node f name q nodes e = by (bytes_eq name q) refl
   where
     mapped : (o : Option NodeRow) → option_map f o ≡ None → o ≡ None
     mapped None x = refl
     mapped (Some row) x = cc
 
-    by : (b : Bool) → bytes_eq name q ≡ b → node_of nodes q ≡ None
+    by : (b : Bool) → bytes_eq name q ≡ b → node_row nodes q ≡ None
     by true same =
         let is : name ≡ q = same_text name q same in
-        let here : node_of (with_node f name nodes) name ≡ None = subst (λ (n : List ℕ). node_of (with_node f name nodes) n ≡ None) (sym is) e in
-        subst (λ (n : List ℕ). node_of nodes n ≡ None) is (mapped (node_of nodes name) (sym (own_row f name nodes) ∙ here))
+        let here : node_row (with_node f name nodes) name ≡ None = subst (λ (n : List ℕ). node_row (with_node f name nodes) n ≡ None) (sym is) e in
+        subst (λ (n : List ℕ). node_row nodes n ≡ None) is (mapped (node_row nodes name) (sym (own_row f name nodes) ∙ here))
     by false apart = sym (other_row f name q nodes apart) ∙ e
 
 -- what each change of a row keeps is kept where endings are to be told, and where containers are granted
@@ -175,9 +175,9 @@ closed_keeps R keeps (one ∷ closings) rows before = closed_keeps R keeps closi
 
 pub granted_keeps : (R : List (AppId × Option AppRow) → Type 0)
     → ((id : ContainerId) (rows : List (AppId × Option AppRow)) → R rows → R (with_row (changed (of_app.OfAttempt (of_attempt.Grant id))) id.attempt.app rows))
-    → (grants : List Grant) (rows : List (AppId × Option AppRow)) → R rows → R (fold row_granted rows grants)
+    → (grants : List Grant) (rows : List (AppId × Option AppRow)) → R rows → R (fold rows_after_grant rows grants)
 granted_keeps R keeps [] rows before = before
-granted_keeps R keeps (grant ∷ grants) rows before = granted_keeps R keeps grants (row_granted rows grant) (keeps grant.id rows before)
+granted_keeps R keeps (grant ∷ grants) rows before = granted_keeps R keeps grants (rows_after_grant rows grant) (keeps grant.id rows before)
 
 -- what holds of each row, whichever changes
 pub every_with : (P : AppRow → Type 0) (f : AppRow → AppRow) (id : AppId) (rows : List (AppId × Option AppRow)) → ((row : AppRow) → P row → P (f row)) → ((q : AppId) (one : AppRow) → row_of rows q ≡ Some one → P one)

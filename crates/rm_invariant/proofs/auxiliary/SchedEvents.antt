@@ -14,7 +14,7 @@ use Rattle.rm_types.specs.declared.ids.AppId.{AppId}
 use Rattle.rm_types.specs.declared.ids.AttemptId.{AttemptId}
 use Rattle.rm_types.specs.declared.ids.ContainerId.{ContainerId}
 use Rattle.rm_types.proofs.TestLemmas.{same_text}
-use Rattle.rm_book.specs.Books.{BookOf, capability_of, row_of as book_row_of}
+use Rattle.rm_book.specs.Books.{BookOf, capability_of, book_row as book_row_of}
 use Rattle.rm_book.proofs.Nodes.{capability_in-with_capability}
 use Rattle.rm_model.specs.Changes.{after}
 use Rattle.rm_model.specs.Containers.{once}
@@ -36,7 +36,7 @@ use Rattle.rm_tables.specs.Actions.{sched_worked}
 use Rattle.rm_tables.specs.Changes.{changed, current_after, granted}
 use Rattle.rm_model.specs.MasterReplies.{is_finished_op}
 use Rattle.rm_tables.specs.Leaving.{closed, closings_of, ended_by, losts_of, unlaunched, unlaunched_at, unlaunched_one, is_masters_in}
-use Rattle.rm_tables.specs.Nodes.{changed_row, is_waiting, node_of, with_node}
+use Rattle.rm_tables.specs.Nodes.{changed_row, is_waiting_row, node_row, with_node}
 use Rattle.rm_tables.specs.Passing.{grants_on, masters_granted, updated_by, waits_for_master}
 use Rattle.rm_tables.specs.Rows.{row_of, with_row}
 use Rattle.rm_tables.specs.SchedEvents.{is_on, is_released, queued_at, queued_by, queued_with, sched_step}
@@ -54,7 +54,7 @@ use Rattle.rm_invariant.specs.Core.{PreservesCore}
 use Rattle.rm_invariant.proofs.events.SchedFacts.{sched_facts}
 use Rattle.rm_invariant.proofs.events.SilentSched.{sched_silent}
 use Rattle.rm_invariant.specs.auxiliary.Parts.{FixedParts, fixed_parts, parts_in}
-use Rattle.rm_invariant.specs.auxiliary.Invariant.{AreUnfinished, IsUnfinished, MastersSingle, NoneFirst, OthersGo, RetiredKnown, AuxInvariant, goes_by, goes_numbered}
+use Rattle.rm_invariant.specs.auxiliary.Invariant.{AreUnfinished, HasNotFinished, MastersSingle, NoneFirst, OthersGo, RetiredKnown, AuxInvariant, goes_by, goes_numbered}
 use Rattle.rm_invariant.proofs.auxiliary.Parts.{parts_after}
 use Rattle.rm_invariant.proofs.auxiliary.Rows.{closed_keeps, every_with, granted_keeps, none_first_with, retired_with, same_with, still_node}
 
@@ -89,10 +89,10 @@ asks_join t once current q some = goes_join q.number (row_of t.rows q.app) (curr
 -- THE ROWS
 
 -- an attempt to which a container is granted is over, and finishes, exactly where it was and did
-granted_over : (id : ContainerId) (c : Current) → IsUnfinished (Some c) → IsUnfinished (Some (granted id c))
+granted_over : (id : ContainerId) (c : Current) → HasNotFinished (Some c) → HasNotFinished (Some (granted id c))
 granted_over id c e = by c.state refl
   where
-    by : (s : AttemptState) → c.state ≡ s → IsUnfinished (Some (granted id c))
+    by : (s : AttemptState) → c.state ≡ s → HasNotFinished (Some (granted id c))
     by attempts.Scheduled is = rw is (λ o. e (rw is refl))
     by attempts.Granted is = rw is (λ o. e (rw is refl))
     by attempts.Saving is = rw is (λ o. e (rw is refl))
@@ -146,7 +146,7 @@ module _ (t : Tables) where
 
     absorbed_rows : (o : Option NodeRow) (name : List ℕ) (turn : ℕ) (list : List ContainerId) → R (absorbed_by o name turn list t).1.rows
     absorbed_rows None name turn list = before
-    absorbed_rows (Some row) name turn list = by (is_waiting row.state && (row.turn == turn))
+    absorbed_rows (Some row) name turn list = by (is_waiting_row row.state && (row.turn == turn))
       where
         by : (b : Bool) → R (absorbed_if b name row list t).1.rows
         by true = closed_keeps R closes (closings_of t.tree.apps causes.Gone list) t.rows before
@@ -162,9 +162,9 @@ module _ (t : Tables) where
     sched_rows (scheds.AttemptAdded id) list = queued_rows (row_of t.rows id.app) id
     sched_rows (scheds.AttemptRemoved id) list = ended_rows causes.Attempt list
     sched_rows (scheds.Release attempt released) list = ended_rows causes.Released (once (filter (is_released attempt t) released))
-    sched_rows (scheds.NodeAdded node turn) list = absorbed_rows (node_of t.nodes node) node turn list
+    sched_rows (scheds.NodeAdded node turn) list = absorbed_rows (node_row t.nodes node) node turn list
     sched_rows (scheds.NodeDone node done) list = ended_rows causes.Done (once (filter (λ id. is_on node (book_row_of t.book id)) done))
-    sched_rows (scheds.NodeUpdate node) list = updated_rows (node_of t.nodes node) node
+    sched_rows (scheds.NodeUpdate node) list = updated_rows (node_row t.nodes node) node
     sched_rows (scheds.NodeLost node) list = ended_rows causes.Node list
 
   -- what an event leaves as it is, and what it posts to the manager
@@ -224,7 +224,7 @@ module _ (t : Tables) where
 
   absorbed_still : (o : Option NodeRow) (name : List ℕ) (turn : ℕ) (list : List ContainerId) → Still (absorbed_by o name turn list t).1
   absorbed_still None name turn list = still_main t refl refl refl refl refl refl refl
-  absorbed_still (Some row) name turn list = by (is_waiting row.state && (row.turn == turn))
+  absorbed_still (Some row) name turn list = by (is_waiting_row row.state && (row.turn == turn))
     where
       by : (b : Bool) → Still (absorbed_if b name row list t).1
       by true = record { tree = refl; ended = refl; settings = refl; waits = refl; awaiting = refl; going = refl; more = losts_of t.tree.apps list; main = refl; starts = losts_start list }
@@ -241,21 +241,21 @@ module _ (t : Tables) where
   sched_still (scheds.AttemptAdded id) list = queued_still (row_of t.rows id.app) id
   sched_still (scheds.AttemptRemoved id) list = ended_still causes.Attempt list
   sched_still (scheds.Release attempt released) list = ended_still causes.Released (once (filter (is_released attempt t) released))
-  sched_still (scheds.NodeAdded node turn) list = absorbed_still (node_of t.nodes node) node turn list
+  sched_still (scheds.NodeAdded node turn) list = absorbed_still (node_row t.nodes node) node turn list
   sched_still (scheds.NodeDone node done) list = ended_still causes.Done (once (filter (λ id. is_on node (book_row_of t.book id)) done))
-  sched_still (scheds.NodeUpdate node) list = updated_still (node_of t.nodes node) node
+  sched_still (scheds.NodeUpdate node) list = updated_still (node_row t.nodes node) node
   sched_still (scheds.NodeLost node) list = ended_still causes.Node list
 
   -- only a node that registered offers something
-  left_nodes : (book : BookOf) (ids : List ContainerId) (nodes : List (List ℕ × NodeRow)) (q : List ℕ) → node_of (unlaunched book nodes ids) q ≡ None → node_of nodes q ≡ None
+  left_nodes : (book : BookOf) (ids : List ContainerId) (nodes : List (List ℕ × NodeRow)) (q : List ℕ) → node_row (unlaunched book nodes ids) q ≡ None → node_row nodes q ≡ None
   left_nodes book [] nodes q none = none
   left_nodes book (id ∷ ids) nodes q none = by (book_row_of book id) (left_nodes book ids (unlaunched_one book nodes id) q none)
     where
-      by : (o : Option _) → node_of (unlaunched_at o id nodes) q ≡ None → node_of nodes q ≡ None
+      by : (o : Option _) → node_row (unlaunched_at o id nodes) q ≡ None → node_row nodes q ≡ None
       by None e = e
       by (Some row) e = still_node (changed_row (Unlaunch id)) row.node q nodes e
 
-  here_nodes : (name : List ℕ) (ids : List ContainerId) (nodes : List (List ℕ × NodeRow)) (q : List ℕ) → node_of (unlaunched_on name nodes ids) q ≡ None → node_of nodes q ≡ None
+  here_nodes : (name : List ℕ) (ids : List ContainerId) (nodes : List (List ℕ × NodeRow)) (q : List ℕ) → node_row (unlaunched_on name nodes ids) q ≡ None → node_row nodes q ≡ None
   here_nodes name [] nodes q none = none
   here_nodes name (id ∷ ids) nodes q none = still_node (changed_row (Unlaunch id)) name q nodes (here_nodes name ids (unlaunched_here name nodes id) q none)
 
@@ -277,20 +277,20 @@ module _ (t : Tables) where
         with_current None = offers
         with_current (Some current) = at_state current.state (current.number == id.number)
 
-    absorbed_offers : (o : Option NodeRow) (name : List ℕ) (turn : ℕ) (list : List ContainerId) → node_of t.nodes name ≡ o → OnlyNodesOffer (absorbed_by o name turn list t).1
+    absorbed_offers : (o : Option NodeRow) (name : List ℕ) (turn : ℕ) (list : List ContainerId) → node_row t.nodes name ≡ o → OnlyNodesOffer (absorbed_by o name turn list t).1
     absorbed_offers None name turn list found = offers
-    absorbed_offers (Some row) name turn list found = by (is_waiting row.state && (row.turn == turn))
+    absorbed_offers (Some row) name turn list found = by (is_waiting_row row.state && (row.turn == turn))
       where
-        none_after : (q : List ℕ) → node_of (with_node (changed_row Absorb) name (unlaunched_on name t.nodes list)) q ≡ None → node_of t.nodes q ≡ None
+        none_after : (q : List ℕ) → node_row (with_node (changed_row Absorb) name (unlaunched_on name t.nodes list)) q ≡ None → node_row t.nodes q ≡ None
         none_after q none = here_nodes name list t.nodes q (still_node (changed_row Absorb) name q (unlaunched_on name t.nodes list) none)
 
         by : (b : Bool) → OnlyNodesOffer (absorbed_if b name row list t).1
         by false = offers
         by true = λ q none. at_name q (bytes_eq name q) refl (none_after q none)
           where
-            at_name : (q : List ℕ) (d : Bool) → bytes_eq name q ≡ d → node_of t.nodes q ≡ None → capability_of (absorbed_if true name row list t).1.book q ≡ None
+            at_name : (q : List ℕ) (d : Bool) → bytes_eq name q ≡ d → node_row t.nodes q ≡ None → capability_of (absorbed_if true name row list t).1.book q ≡ None
             at_name q true same none =
-                let here : node_of t.nodes name ≡ None = subst (λ (n : List ℕ). node_of t.nodes n ≡ None) (sym (same_text name q same)) none in
+                let here : node_row t.nodes name ≡ None = subst (λ (n : List ℕ). node_row t.nodes n ≡ None) (sym (same_text name q same)) none in
                 let x : Some row ≡ None = sym found ∙ here in
                 cc
             at_name q false apart none = capability_in-with_capability name q row.capability t.book.nodes ∙ rw apart (offers q none)
@@ -305,9 +305,9 @@ module _ (t : Tables) where
     sched_offers (scheds.AttemptAdded id) list = queued_offers (row_of t.rows id.app) id
     sched_offers (scheds.AttemptRemoved id) list = ended_offers causes.Attempt list
     sched_offers (scheds.Release attempt released) list = ended_offers causes.Released (once (filter (is_released attempt t) released))
-    sched_offers (scheds.NodeAdded node turn) list = absorbed_offers (node_of t.nodes node) node turn list refl
+    sched_offers (scheds.NodeAdded node turn) list = absorbed_offers (node_row t.nodes node) node turn list refl
     sched_offers (scheds.NodeDone node done) list = ended_offers causes.Done (once (filter (λ id. is_on node (book_row_of t.book id)) done))
-    sched_offers (scheds.NodeUpdate node) list = updated_offers (node_of t.nodes node) node
+    sched_offers (scheds.NodeUpdate node) list = updated_offers (node_row t.nodes node) node
     sched_offers (scheds.NodeLost node) list = ended_offers causes.Node list
 
 module _ (h : History) (t : Tables) where
@@ -341,7 +341,7 @@ module _ (h : History) (t : Tables) where
 
   absorbed_parts : (o : Option NodeRow) (name : List ℕ) (turn : ℕ) (list : List ContainerId) → Remembers (absorbed_by o name turn list t).0
   absorbed_parts None name turn list = refl
-  absorbed_parts (Some row) name turn list = by (is_waiting row.state && (row.turn == turn))
+  absorbed_parts (Some row) name turn list = by (is_waiting_row row.state && (row.turn == turn))
     where
       by : (b : Bool) → Remembers (absorbed_if b name row list t).0
       by true = refl
@@ -357,9 +357,9 @@ module _ (h : History) (t : Tables) where
   sched_parts (scheds.AttemptAdded id) list = queued_parts (row_of t.rows id.app) id
   sched_parts (scheds.AttemptRemoved id) list = ended_parts causes.Attempt list
   sched_parts (scheds.Release attempt released) list = ended_parts causes.Released (once (filter (is_released attempt t) released))
-  sched_parts (scheds.NodeAdded node turn) list = absorbed_parts (node_of t.nodes node) node turn list
+  sched_parts (scheds.NodeAdded node turn) list = absorbed_parts (node_row t.nodes node) node turn list
   sched_parts (scheds.NodeDone node done) list = ended_parts causes.Done (once (filter (λ id. is_on node (book_row_of t.book id)) done))
-  sched_parts (scheds.NodeUpdate node) list = updated_parts (node_of t.nodes node) node
+  sched_parts (scheds.NodeUpdate node) list = updated_parts (node_row t.nodes node) node
   sched_parts (scheds.NodeLost node) list = ended_parts causes.Node list
 
 -- all of it after an event of the scheduler's queue
@@ -403,13 +403,13 @@ module _ (h : History) (t : Tables) (sides : AuxInvariant h t) (facts : SchedFac
             ∙ sched_rows t (λ (rows : List (AppId × Option AppRow)). list_any (is_finished_op q) t.awaiting ≡ finishes_by q (row_of rows q.app))
             (λ one rows before. before ∙ sym (same_with (finishes_by q) (closed one) one.id.attempt.app q.app rows (λ row. refl)))
             (λ id rows before. before ∙ sym (same_with (finishes_by q) (changed (of_app.OfAttempt (of_attempt.Grant id))) id.attempt.app q.app rows (granted_finishes id q))) (sides.finishes q) e list;
-        unfinished = sched_rows t AreUnfinished (λ one rows before. every_with (λ (r : AppRow). IsUnfinished r.current) (closed one) one.id.attempt.app rows (λ row u. u) before)
-            (λ id rows before. every_with (λ (r : AppRow). IsUnfinished r.current) (changed (of_app.OfAttempt (of_attempt.Grant id))) id.attempt.app rows (λ row u. granted_row id row.current u) before) sides.unfinished e list;
+        unfinished = sched_rows t AreUnfinished (λ one rows before. every_with (λ (r : AppRow). HasNotFinished r.current) (closed one) one.id.attempt.app rows (λ row u. u) before)
+            (λ id rows before. every_with (λ (r : AppRow). HasNotFinished r.current) (changed (of_app.OfAttempt (of_attempt.Grant id))) id.attempt.app rows (λ row u. granted_row id row.current u) before) sides.unfinished e list;
         retired = rw retired
             (sched_rows t (RetiredKnown h.apps.retired) (λ one rows before. retired_with h.apps.retired (closed one) one.id.attempt.app rows before)
             (λ id rows before. retired_with h.apps.retired (changed (of_app.OfAttempt (of_attempt.Grant id))) id.attempt.app rows before) sides.retired e list);
       }
     where
-      granted_row : (id : ContainerId) (o : Option Current) → IsUnfinished o → IsUnfinished (current_after (of_app.OfAttempt (of_attempt.Grant id)) o)
+      granted_row : (id : ContainerId) (o : Option Current) → HasNotFinished o → HasNotFinished (current_after (of_app.OfAttempt (of_attempt.Grant id)) o)
       granted_row id None u = tt
       granted_row id (Some c) u = granted_over id c u

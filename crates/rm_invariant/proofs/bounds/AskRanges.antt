@@ -11,10 +11,10 @@ use Rattle.rm_types.specs.declared.resources.Resource.{Resource}
 use Rattle.rm_types.specs.Ids.{is_attempt}
 use Rattle.rm_types.specs.Passes.{by_priority, put_by_priority}
 use Rattle.rm_types.proofs.IdLemmas.{same_attempt}
-use Rattle.rm_book.specs.AskTables.{AsksOf, asks_granted, asks_of, asks_set, granted_in, is_for, one_less, renewed, with_asks_of, without_asks_of}
+use Rattle.rm_book.specs.AskTables.{AsksOf, asks_granted, attempt_asks, asks_set, table_granted, is_for, one_less, renewed_ask, with_asks_of, without_asks_of}
 use Rattle.rm_book.specs.ManyAsks.{all_asked, one_asked}
 use Rattle.rm_model.specs.Containers.{is_size}
-use Rattle.rm_tables.specs.Passing.{answered, without_granted}
+use Rattle.rm_tables.specs.Passing.{asks_after_answer, table_without_granted}
 use Rattle.rm_tables.specs.SchedEvents.{master_asked}
 use Rattle.rm_invariant.specs.nodes.Book.{All}
 use Rattle.rm_invariant.proofs.nodes.Holds.{all_append, all_filter, all_map}
@@ -40,9 +40,9 @@ by_priority_asked (ask ∷ asks) all = put_asked ask (by_priority asks) all.0 (b
 pub asked_with : (attempt : AttemptId) (asks : List Ask) (table : List AsksOf) → All IsAsked asks → AreAsked table → AreAsked (with_asks_of attempt asks table)
 asked_with attempt asks table all are = record { each = λ q. by q (is_attempt attempt q) refl }
   where
-    by : (q : AttemptId) (b : Bool) → is_attempt attempt q ≡ b → All IsAsked (asks_of (with_asks_of attempt asks table) q)
+    by : (q : AttemptId) (b : Bool) → is_attempt attempt q ≡ b → All IsAsked (attempt_asks (with_asks_of attempt asks table) q)
     by q true e =
-        subst (λ (a : AttemptId). All IsAsked (asks_of (with_asks_of attempt asks table) a)) (same_attempt attempt q e)
+        subst (λ (a : AttemptId). All IsAsked (attempt_asks (with_asks_of attempt asks table) a)) (same_attempt attempt q e)
         (subst (λ (l : List Ask). All IsAsked l) (sym (own_asks attempt asks table)) all)
     by q false e = subst (λ (l : List Ask). All IsAsked l) (sym (other_asks attempt q e asks table)) (are.each q)
 
@@ -50,28 +50,28 @@ asked_with attempt asks table all are = record { each = λ q. by q (is_attempt a
 pub asked_without : (attempt : AttemptId) (table : List AsksOf) → AreAsked table → AreAsked (without_asks_of attempt table)
 asked_without attempt table are = record { each = λ q. by q (is_attempt attempt q) refl }
   where
-    own_gone : (rows : List AsksOf) → asks_of (without_asks_of attempt rows) attempt ≡ []
+    own_gone : (rows : List AsksOf) → attempt_asks (without_asks_of attempt rows) attempt ≡ []
     own_gone [] = refl
     own_gone (one ∷ rows) = at (is_attempt one.attempt attempt) refl (own_gone rows)
       where
-        at : (b : Bool) → is_attempt one.attempt attempt ≡ b → asks_of (without_asks_of attempt rows) attempt ≡ [] → asks_of (without_asks_of attempt (one ∷ rows)) attempt ≡ []
+        at : (b : Bool) → is_attempt one.attempt attempt ≡ b → attempt_asks (without_asks_of attempt rows) attempt ≡ [] → attempt_asks (without_asks_of attempt (one ∷ rows)) attempt ≡ []
         at true e rest = rw e rest
         at false e rest = rw (e, e) rest
 
-    other_gone : (q : AttemptId) → is_attempt attempt q ≡ false → (rows : List AsksOf) → asks_of (without_asks_of attempt rows) q ≡ asks_of rows q
+    other_gone : (q : AttemptId) → is_attempt attempt q ≡ false → (rows : List AsksOf) → attempt_asks (without_asks_of attempt rows) q ≡ attempt_asks rows q
     other_gone q apart [] = refl
     other_gone q apart (one ∷ rows) = at (is_attempt one.attempt attempt) refl (is_attempt one.attempt q) refl (other_gone q apart rows)
       where
-        at : (b : Bool) → is_attempt one.attempt attempt ≡ b → (c : Bool) → is_attempt one.attempt q ≡ c → asks_of (without_asks_of attempt rows) q ≡ asks_of rows q
-            → asks_of (without_asks_of attempt (one ∷ rows)) q ≡ asks_of (one ∷ rows) q
+        at : (b : Bool) → is_attempt one.attempt attempt ≡ b → (c : Bool) → is_attempt one.attempt q ≡ c → attempt_asks (without_asks_of attempt rows) q ≡ attempt_asks rows q
+            → attempt_asks (without_asks_of attempt (one ∷ rows)) q ≡ attempt_asks (one ∷ rows) q
         at true e true f rest = absurd (false≢true (sym apart ∙ subst (λ (a : AttemptId). is_attempt a q ≡ true) (same_attempt one.attempt attempt e) f))
         at true e false f rest = rw (e, f) rest
         at false e true f rest = rw (e, f) refl
         at false e false f rest = rw (e, f) rest
 
-    by : (q : AttemptId) (b : Bool) → is_attempt attempt q ≡ b → All IsAsked (asks_of (without_asks_of attempt table) q)
+    by : (q : AttemptId) (b : Bool) → is_attempt attempt q ≡ b → All IsAsked (attempt_asks (without_asks_of attempt table) q)
     by q true e =
-        subst (λ (a : AttemptId). All IsAsked (asks_of (without_asks_of attempt table) a)) (same_attempt attempt q e) (subst (λ (l : List Ask). All IsAsked l) (sym (own_gone table)) tt)
+        subst (λ (a : AttemptId). All IsAsked (attempt_asks (without_asks_of attempt table) a)) (same_attempt attempt q e) (subst (λ (l : List Ask). All IsAsked l) (sym (own_gone table)) tt)
     by q false e = subst (λ (l : List Ask). All IsAsked l) (sym (other_gone q e table)) (are.each q)
 
 -- MORE IS ASKED FOR
@@ -79,20 +79,20 @@ asked_without attempt table are = record { each = λ q. by q (is_attempt attempt
 pub set_asked : (ask : Ask) (asks : List Ask) → IsAsked ask → All IsAsked asks → All IsAsked (asks_set ask asks)
 set_asked ask asks own all = by (ask.count == 0) (list_any (is_for ask.priority ask.size) asks)
   where
-    again : (one : Ask) → IsAsked one → IsAsked (renewed ask one)
+    again : (one : Ask) → IsAsked one → IsAsked (renewed_ask ask one)
     again one is = at (is_for ask.priority ask.size one)
       where
         at : (b : Bool) → IsAsked (if b then ask else one)
         at true = own
         at false = is
 
-    by : (b c : Bool) → All IsAsked (if b then filter (λ one. not (is_for ask.priority ask.size one)) asks else (if c then map (renewed ask) asks else asks ++ ask ∷ []))
+    by : (b c : Bool) → All IsAsked (if b then filter (λ one. not (is_for ask.priority ask.size one)) asks else (if c then map (renewed_ask ask) asks else asks ++ ask ∷ []))
     by true c = all_filter IsAsked (λ one. not (is_for ask.priority ask.size one)) asks all
-    by false true = all_map IsAsked IsAsked (renewed ask) again asks all
+    by false true = all_map IsAsked IsAsked (renewed_ask ask) again asks all
     by false false = all_append IsAsked asks (ask ∷ []) all (own, tt)
 
 pub asked_one : (attempt : AttemptId) (ask : Ask) (table : List AsksOf) → IsAsked ask → AreAsked table → AreAsked (one_asked attempt table ask)
-asked_one attempt ask table own are = asked_with attempt (asks_set ask (asks_of table attempt)) table (set_asked ask (asks_of table attempt) own (are.each attempt)) are
+asked_one attempt ask table own are = asked_with attempt (asks_set ask (attempt_asks table attempt)) table (set_asked ask (attempt_asks table attempt) own (are.each attempt)) are
 
 pub asked_all : (attempt : AttemptId) (asks : List Ask) (table : List AsksOf) → All IsAsked asks → AreAsked table → AreAsked (all_asked attempt table asks)
 asked_all attempt [] table all are = are
@@ -115,17 +115,17 @@ asked_less priority size asks all = all_filter IsAsked (λ ask. nat_lt 0 ask.cou
         at true = is
         at false = is
 
-pub asked_granted : (grants : List Grant) (table : List AsksOf) → AreAsked table → AreAsked (fold without_granted table grants)
+pub asked_granted : (grants : List Grant) (table : List AsksOf) → AreAsked table → AreAsked (fold table_without_granted table grants)
 asked_granted [] table are = are
-asked_granted (grant ∷ grants) table are = asked_granted grants (without_granted table grant) (by (find (λ one. is_size one.size grant.size) (by_priority (asks_of table grant.id.attempt))))
+asked_granted (grant ∷ grants) table are = asked_granted grants (table_without_granted table grant) (by (find (λ one. is_size one.size grant.size) (by_priority (attempt_asks table grant.id.attempt))))
   where
-    at : (ask : Ask) (q : AttemptId) (b : Bool) → is_attempt grant.id.attempt q ≡ b → All IsAsked (asks_of (granted_in grant.id.attempt ask.priority grant.size table) q)
+    at : (ask : Ask) (q : AttemptId) (b : Bool) → is_attempt grant.id.attempt q ≡ b → All IsAsked (attempt_asks (table_granted grant.id.attempt ask.priority grant.size table) q)
     at ask q true e =
-        subst (λ (a : AttemptId). All IsAsked (asks_of (granted_in grant.id.attempt ask.priority grant.size table) a)) (same_attempt grant.id.attempt q e)
+        subst (λ (a : AttemptId). All IsAsked (attempt_asks (table_granted grant.id.attempt ask.priority grant.size table) a)) (same_attempt grant.id.attempt q e)
         (subst (λ (l : List Ask). All IsAsked l) (sym (own_granted grant.id.attempt ask.priority grant.size table))
-        (asked_less ask.priority grant.size (asks_of table grant.id.attempt) (are.each grant.id.attempt)))
+        (asked_less ask.priority grant.size (attempt_asks table grant.id.attempt) (are.each grant.id.attempt)))
     at ask q false e = subst (λ (l : List Ask). All IsAsked l) (sym (other_granted grant.id.attempt q e ask.priority grant.size table)) (are.each q)
 
-    by : (o : Option Ask) → AreAsked (answered table grant o)
+    by : (o : Option Ask) → AreAsked (asks_after_answer table grant o)
     by None = are
     by (Some ask) = record { each = λ q. at ask q (is_attempt grant.id.attempt q) refl }

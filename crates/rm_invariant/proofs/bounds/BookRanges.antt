@@ -16,17 +16,18 @@ use Rattle.rm_types.specs.Ids.{is_container}
 use Rattle.rm_types.specs.Ranges.{IsContainerId, IsText}
 use Rattle.rm_types.specs.Records.{is_some_and}
 use Rattle.rm_book.specs.declared.plain.NodeCapability.{NodeCapability}
-use Rattle.rm_book.specs.Books.{BookOf, capability_of, entering, granted_rows, has_row, is_held, is_node, is_of, row_of as book_row_of, row_taken, taken_rows, with_capability, with_grants, with_state, with_taken, without_rows}
+use Rattle.rm_book.specs.Books.{BookOf, capability_of, entering, granted_rows, has_row, is_node, is_of, book_row as book_row_of, book_row_taken, taken_rows, with_capability, with_grants, with_state, book_with_taken, without_rows}
+use Rattle.rm_types.specs.Containers.{is_held}
 use Rattle.rm_model.specs.Facts.{has_container}
 use Rattle.rm_tables.specs.declared.nodes.NodeRow.{NodeRow}
 use Rattle.rm_tables.specs.declared.tables.Tables.{Tables}
-use Rattle.rm_tables.specs.Absorbing.{booked_at, counted_in, may_take, reported_in, taken_in, was_first, with_counted}
+use Rattle.rm_tables.specs.Absorbing.{booked_at, counted_in, tables_may_take, reported_in, taken_in, was_first, tables_with_counted}
 use Rattle.rm_tables.specs.Rows.{row_of}
 use Rattle.rm_master.specs.Answers.{acquired, acquired_row}
-use Rattle.rm_tracker.specs.Answers.{beaten_book, brought_all, brought_one, is_on, is_untold}
+use Rattle.rm_tracker.specs.Answers.{beaten_book, brought_all, brought_one, is_row_on, is_untold_row}
 use Rattle.rm_invariant.specs.nodes.Book.{All}
 use Rattle.rm_invariant.proofs.nodes.Holds.{all_append, all_filter, all_map}
-use Rattle.rm_invariant.specs.messages.Ranges.{IsHeld, IsList, IsSize}
+use Rattle.rm_types.specs.Messages.{IsSize, IsList, IsHeld}
 use Rattle.rm_invariant.specs.bounds.InBounds.{IsBooked, IsOffer}
 
 -- what holds of each of a list
@@ -78,7 +79,7 @@ booked_all passes state (id ∷ ids) book all = booked_all passes state ids (bro
 
 pub booked_beaten : (name : List ℕ) (running launched : List ContainerId) (book : BookOf) → All IsBooked book.rows → All IsBooked (beaten_book name running launched book).rows
 booked_beaten name running launched book all =
-    booked_all (is_on name) Running running (brought_all (is_untold name) Acquired book launched) (booked_all (is_untold name) Acquired launched book all)
+    booked_all (is_row_on name) Running running (brought_all (is_untold_row name) Acquired book launched) (booked_all (is_untold_row name) Acquired launched book all)
 
 -- nodes offer the same
 offers_brought : (passes : BookRow → Bool) (state : ContainerState) (ids : List ContainerId) (book : BookOf) → All IsOffer book.nodes → All IsOffer (brought_all passes state book ids).nodes
@@ -91,7 +92,7 @@ offers_brought passes state (id ∷ ids) book all = offers_brought passes state 
 
 pub offers_beaten : (name : List ℕ) (running launched : List ContainerId) (book : BookOf) → All IsOffer book.nodes → All IsOffer (beaten_book name running launched book).nodes
 offers_beaten name running launched book all =
-    offers_brought (is_on name) Running running (brought_all (is_untold name) Acquired book launched) (offers_brought (is_untold name) Acquired launched book all)
+    offers_brought (is_row_on name) Running running (brought_all (is_untold_row name) Acquired book launched) (offers_brought (is_untold_row name) Acquired launched book all)
 
 -- A REPORT IS ABSORBED
 
@@ -121,17 +122,17 @@ held_counted t name held booked own o e one is = by (is_some (capability_of t.bo
 pub held_taken : (t : Tables) (name : List ℕ) (row : NodeRow) → All IsBooked t.book.rows → IsList IsHeld row.running → All IsHeld (taken_in t name row)
 held_taken t name row booked list = by row.running [] (each_of IsHeld row.running list.each) tt
   where
-    more : (taken : List Held) (held : Held) → IsHeld held → All IsHeld taken → (o : Option Held) → counted_in t name held ≡ o → All IsHeld (with_counted t name row.capability taken o)
+    more : (taken : List Held) (held : Held) → IsHeld held → All IsHeld taken → (o : Option Held) → counted_in t name held ≡ o → All IsHeld (tables_with_counted t name row.capability taken o)
     more taken held own all None e = all
-    more taken held own all (Some one) e = at (may_take t name row.capability taken one)
+    more taken held own all (Some one) e = at (tables_may_take t name row.capability taken one)
       where
         at : (b : Bool) → All IsHeld (if b then taken ++ one ∷ [] else taken)
         at true = all_append IsHeld taken (one ∷ []) all (held_counted t name held booked own (counted_in t name held) refl one e, tt)
         at false = all
 
-    by : (report taken : List Held) → All IsHeld report → All IsHeld taken → All IsHeld (fold (λ so_far held. with_counted t name row.capability so_far (counted_in t name held)) taken report)
+    by : (report taken : List Held) → All IsHeld report → All IsHeld taken → All IsHeld (fold (λ so_far held. tables_with_counted t name row.capability so_far (counted_in t name held)) taken report)
     by [] taken report all = all
-    by (held ∷ rest) taken report all = by rest (with_counted t name row.capability taken (counted_in t name held)) report.1 (more taken held report.0 all (counted_in t name held) refl)
+    by (held ∷ rest) taken report all = by rest (tables_with_counted t name row.capability taken (counted_in t name held)) report.1 (more taken held report.0 all (counted_in t name held) refl)
 
 -- stands on the node
 taken_booked : (added : ℕ) (name : List ℕ) (taken : List Held) → IsText Node name → All IsHeld taken → All IsBooked (taken_rows added name taken)
@@ -139,10 +140,10 @@ taken_booked added name [] is all = tt
 taken_booked added name (held ∷ taken) is all = (record { id = all.0.id; node = is; size = all.0.size }, taken_booked (added + 1) name taken is all.1)
 
 pub booked_taken : (book : BookOf) (name : List ℕ) (capability : Resource) (taken : List Held) (ended : List ContainerId) → IsText Node name → All IsHeld taken → All IsBooked book.rows
-    → All IsBooked (with_taken book name capability taken ended).rows
+    → All IsBooked (book_with_taken book name capability taken ended).rows
 booked_taken book name capability taken ended is held all =
-    all_append IsBooked (map (row_taken taken) (filter (λ row. not (list_any (λ id. is_container id row.id) ended)) book.rows)) (taken_rows book.added name (entering book taken))
-    (all_map IsBooked IsBooked (row_taken taken) (λ row own. one row own (is_held taken row.id)) (filter (λ row. not (list_any (λ id. is_container id row.id) ended)) book.rows)
+    all_append IsBooked (map (book_row_taken taken) (filter (λ row. not (list_any (λ id. is_container id row.id) ended)) book.rows)) (taken_rows book.added name (entering book taken))
+    (all_map IsBooked IsBooked (book_row_taken taken) (λ row own. one row own (is_held taken row.id)) (filter (λ row. not (list_any (λ id. is_container id row.id) ended)) book.rows)
     (all_filter IsBooked (λ row. not (list_any (λ id. is_container id row.id) ended)) book.rows all))
     (taken_booked book.added name (entering book taken) is (all_filter IsHeld (λ one. not (has_row book one.id)) taken held))
   where

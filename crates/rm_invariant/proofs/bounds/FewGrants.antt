@@ -9,7 +9,7 @@ use Rattle.rm_types.specs.declared.ids.AttemptId.{AttemptId}
 use Rattle.rm_types.specs.declared.resources.Resource.{Resource}
 use Rattle.rm_types.specs.Passes.{PassNode, by_priority, pass_list, total_of}
 use Rattle.rm_types.specs.Resources.{difference_of}
-use Rattle.rm_book.specs.AskTables.{asks_of}
+use Rattle.rm_book.specs.AskTables.{attempt_asks}
 use Rattle.rm_book.specs.Books.{capability_of, sizes_on}
 use Rattle.rm_book.proofs.LineOrders.{all_by_priority}
 use Rattle.rm_fit.specs.Conditions.{are_some_sizes, have_sizes, is_some_size}
@@ -17,7 +17,7 @@ use Rattle.rm_fit.specs.Turns.{Spot, turn_grants, turn_left}
 use Rattle.rm_fit.proofs.Passing.{pass_grants, pass_whole, turn_within}
 use Rattle.rm_tables.specs.declared.nodes.NodeRow.{NodeRow}
 use Rattle.rm_tables.specs.declared.tables.Tables.{Tables}
-use Rattle.rm_tables.specs.Nodes.{is_ready}
+use Rattle.rm_tables.specs.Nodes.{is_ready_row}
 use Rattle.rm_tables.specs.Passing.{fitted_on, grants_on, still_waits, turns_in}
 use Rattle.rm_sched.specs.CanWork.{CanPass}
 
@@ -43,7 +43,7 @@ turns_cores node epoch asks (turn ∷ turns) left some =
 
 -- a pass on any node grants at most 256
 pub pass_few : (t : Tables) → CanPass t → (name : List ℕ) (row : NodeRow) → length (grants_on name row t) ≤ 256
-pass_few t can name row = by (is_ready row.state && not (still_waits t)) (capability_of t.book name) refl
+pass_few t can name row = by (is_ready_row row.state && not (still_waits t)) (capability_of t.book name) refl
   where
     by : (b : Bool) (o : Option Resource) → capability_of t.book name ≡ o → length (if b then fitted_on name o t else []) ≤ 256
     by false o e = omega arith
@@ -51,8 +51,8 @@ pass_few t can name row = by (is_ready row.state && not (still_waits t)) (capabi
     by true (Some capability) e =
         let pass : PassNode = record { node = name; capability = capability; sizes = sizes_on name t.book.rows; epoch = t.epoch } in
         let left : Resource = difference_of capability (total_of (sizes_on name t.book.rows)) in
-        let whole : pass_list pass (asks_of t.asks) (turns_in t) ≡ pass_grants name t.epoch (asks_of t.asks) left (turns_in t) = pass_whole pass (asks_of t.asks) (turns_in t) can.apart in
-        let few : length (pass_list pass (asks_of t.asks) (turns_in t)) ≤ left.vcores =
-        subst (λ (grants : List Grant). length grants ≤ left.vcores) (sym whole) (turns_cores name t.epoch (asks_of t.asks) (turns_in t) left can.sizes) in
+        let whole : pass_list pass (attempt_asks t.asks) (turns_in t) ≡ pass_grants name t.epoch (attempt_asks t.asks) left (turns_in t) = pass_whole pass (attempt_asks t.asks) (turns_in t) can.apart in
+        let few : length (pass_list pass (attempt_asks t.asks) (turns_in t)) ≤ left.vcores =
+        subst (λ (grants : List Grant). length grants ≤ left.vcores) (sym whole) (turns_cores name t.epoch (attempt_asks t.asks) (turns_in t) left can.sizes) in
         let room = can.room name capability e in
         omega (arith, few, room)

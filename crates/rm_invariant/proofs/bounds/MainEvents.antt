@@ -18,7 +18,7 @@ use Rattle.rm_types.specs.declared.texts.TextKind.TheVariants.{Node, Note}
 use Rattle.rm_types.specs.Ranges.{IsAppId, IsAttemptId, IsContainerId, IsOperation, IsSubmission, IsText, IsWithin}
 use Rattle.rm_types.specs.Records.{last_attempt}
 use Rattle.rm_book.specs.AskTables.{AsksOf, without_asks_of}
-use Rattle.rm_book.specs.Books.{BookOf, is_of, row_of as book_row_of}
+use Rattle.rm_book.specs.Books.{BookOf, is_of, book_row as book_row_of}
 use Rattle.rm_app.specs.declared.states.AppState.{AppState}
 use Rattle.rm_app.specs.declared.states.AppState.TheVariants as apps
 use Rattle.rm_attempt.specs.declared.states.AttemptState.TheVariants as attempts

@@ -36,17 +36,18 @@ use Rattle.rm_tables.specs.declared.nodes.NodeRow.{NodeRow}
 use Rattle.rm_tables.specs.declared.rows.AppRow.{AppRow}
 use Rattle.rm_tables.specs.declared.tables.Tables.{Tables}
 use Rattle.rm_tables.specs.Changes.{changed}
-use Rattle.rm_tables.specs.Nodes.{beaten_row, changed_row, new_row, node_of, registered_row as node_registered, with_node}
+use Rattle.rm_tables.specs.Nodes.{beaten_row, changed_row, new_node_row, node_row, registered_node_row as node_registered, with_node}
 use Rattle.rm_tables.specs.Rows.{row_of, with_row}
-use Rattle.rm_tables.specs.Talks.{begun, registered_row, said_row, told_row, with_answer, with_text, without_closings}
-use Rattle.rm_client.specs.Answers.{after_client, new_row as row_new, taken_by, wished_by}
-use Rattle.rm_master.specs.Answers.{acquired, after_master, is_new_to, release_events, told_by}
+use Rattle.rm_tables.specs.Talks.{dialogue_begun, registered_row, said_row, told_row, with_answer, with_text, without_closings}
+use Rattle.rm_client.specs.Answers.{after_client, submitted_row as row_new, taken_by, wished_by}
+use Rattle.rm_master.specs.Answers.{acquired, after_master, is_new_to, release_events, containers_told}
 use Rattle.rm_master.specs.Told.{goes_on, spoken_by}
-use Rattle.rm_tracker.specs.Answers.{after_clock, after_node, beat_events, beaten_book, is_new_beat, launched_by, registered_by}
+use Rattle.rm_tracker.specs.Answers.{after_clock, after_node, beat_events, beaten_book, is_next_beat, launched_by, registered_by}
 use Rattle.rm_refinement.specs.History.{History, abstract_scene}
 use Rattle.rm_invariant.proofs.apps.Counts.{count_append}
 use Rattle.rm_invariant.specs.nodes.Book.{All}
-use Rattle.rm_invariant.specs.messages.Ranges.{IsAsk, IsClientAsk, IsClockAsk, IsHeld, IsList, IsMasterAsk, IsNodeAsk, IsSize}
+use Rattle.rm_invariant.specs.messages.Ranges.{IsClientAsk, IsClockAsk, IsMasterAsk, IsNodeAsk}
+use Rattle.rm_types.specs.Messages.{IsSize, IsList, IsHeld, IsAsk}
 use Rattle.rm_invariant.specs.bounds.InBounds.{AreAsked, AreGrants, AreNodes, AreRows, IsAsked, IsBooked, IsOffer, InBounds, is_update}
 use Rattle.rm_invariant.proofs.bounds.AskRanges.{asked_all}
 use Rattle.rm_invariant.proofs.bounds.BookRanges.{booked_acquired, booked_beaten, each_of, offers_beaten}
@@ -157,21 +158,21 @@ module _ (t : Tables) (r : InBounds t) (few : t.served < most_served) where
   allocated_ranged : (attempt : AttemptId) (id : ℕ) (asks : List Ask) (release : List ContainerId) (reply : Reply) → IsList IsAsk asks → (b : Bool)
       → InBounds (served_after t (if b then record t {
         rows = with_row (told_row (with_answer (id + 1) reply) (without_closings attempt)) attempt.app t.rows;
-        book = acquired (told_by reply) t.book;
+        book = acquired (containers_told reply) t.book;
         asks = all_asked attempt t.asks asks;
         sched = t.sched ++ release_events attempt release;
       } else t))
   allocated_ranged attempt id asks release reply list false = served_same
   allocated_ranged attempt id asks release reply list true =
       let rows = with_row (told_row (with_answer (id + 1) reply) (without_closings attempt)) attempt.app t.rows in
-      served_parts rows (all_asked attempt t.asks asks) (acquired (told_by reply) t.book) t.nodes t.going t.given t.clock t.main (t.sched ++ release_events attempt release)
+      served_parts rows (all_asked attempt t.asks asks) (acquired (containers_told reply) t.book) t.nodes t.going t.given t.clock t.main (t.sched ++ release_events attempt release)
       (rows_answered attempt (id + 1) reply attempt.app t.rows r.rows) (more_grants rows (release_events attempt release) (few_releases attempt release) (grants_answered attempt (id + 1) reply attempt.app t.rows))
-      (asked_all attempt asks t.asks (asked_sizes asks (each_of IsAsk asks list.each)) r.asks) (booked_acquired (told_by reply) t.book r.book) r.offers r.nodes given_less (omega arith)
+      (asked_all attempt asks t.asks (asked_sizes asks (each_of IsAsk asks list.each)) r.asks) (booked_acquired (containers_told reply) t.book r.book) r.offers r.nodes given_less (omega arith)
 
   -- a master is answered
   pub master_served : (attempt : AttemptId) (ask : MasterAsk) (reply : Reply) → IsMasterAsk ask → InBounds (served_after t (after_master attempt ask reply t))
   master_served attempt masters.Register replies.MasterRegistered is =
-      served_rows (with_row (registered_row (begun replies.MasterRegistered)) attempt.app t.rows) t.going t.main (rows_registered replies.MasterRegistered attempt.app t.rows r.rows)
+      served_rows (with_row (registered_row (dialogue_begun replies.MasterRegistered)) attempt.app t.rows) t.going t.main (rows_registered replies.MasterRegistered attempt.app t.rows r.rows)
       (grants_registered replies.MasterRegistered attempt.app t.rows)
   master_served attempt masters.Register _ is = served_same
   master_served attempt (masters.Finish text) replies.Finishing is = by (goes_on (spoken_by attempt (row_of t.rows attempt.app)))
@@ -190,9 +191,9 @@ module _ (t : Tables) (r : InBounds t) (few : t.served < most_served) where
   registered_ranged : (name : List ℕ) (turn : ℕ) (capability : Resource) (running : List Held) (reply : Reply) → IsText Node name → IsSize capability → IsList IsHeld running → (o : Option NodeRow)
       → InBounds (served_after t (registered_by o name turn capability running reply t))
   registered_ranged name turn capability running reply is size list None =
-      served_parts t.rows t.asks t.book (t.nodes ++ (name, new_row turn capability running reply) ∷ []) t.going t.given t.clock t.main (t.sched ++ scheds.NodeAdded name turn ∷ []) r.rows
+      served_parts t.rows t.asks t.book (t.nodes ++ (name, new_node_row turn capability running reply) ∷ []) t.going t.given t.clock t.main (t.sched ++ scheds.NodeAdded name turn ∷ []) r.rows
       (more_grants t.rows (scheds.NodeAdded name turn ∷ []) (omega arith) (λ q. omega arith)) r.asks r.book r.offers
-      (nodes_put name (new_row turn capability running reply) t.nodes (record { named = is; size = size; running = list }) r.nodes) given_less (omega arith)
+      (nodes_put name (new_node_row turn capability running reply) t.nodes (record { named = is; size = size; running = list }) r.nodes) given_less (omega arith)
   registered_ranged name turn capability running reply is size list (Some row) = by (nat_lt row.turn turn)
     where
       by : (b : Bool)
@@ -220,8 +221,8 @@ module _ (t : Tables) (r : InBounds t) (few : t.served < most_served) where
 
   -- a node is answered
   pub node_served : (name : List ℕ) (ask : NodeAsk) (reply : Reply) → IsText Node name → IsNodeAsk ask → InBounds (served_after t (after_node name ask reply t))
-  node_served name (nodes.Register turn capability running) reply named is = registered_ranged name turn capability running reply named is.0 is.1 (node_of t.nodes name)
-  node_served name (nodes.Beat id running done) (replies.Beat next launched clean) named is = beaten_ranged name id running done (replies.Beat next launched clean) (is_new_beat id (node_of t.nodes name))
+  node_served name (nodes.Register turn capability running) reply named is = registered_ranged name turn capability running reply named is.0 is.1 (node_row t.nodes name)
+  node_served name (nodes.Beat id running done) (replies.Beat next launched clean) named is = beaten_ranged name id running done (replies.Beat next launched clean) (is_next_beat id (node_row t.nodes name))
   node_served name (nodes.Beat id running done) _ named is = served_same
 
   -- THE CLOCK

@@ -7,30 +7,30 @@ use Rattle.rm_types.specs.declared.ids.ContainerId.{ContainerId}
 use Rattle.rm_types.specs.declared.replies.Reply.{Reply}
 use Rattle.rm_types.specs.declared.resources.Resource.{Resource}
 use Rattle.rm_types.proofs.TestLemmas.{same_text}
-use Rattle.rm_book.specs.Books.{BookOf, row_of as book_row_of}
+use Rattle.rm_book.specs.Books.{BookOf, book_row as book_row_of}
 use Rattle.rm_tables.specs.declared.nodes.NodeChange.{NodeChange}
 use Rattle.rm_tables.specs.declared.nodes.NodeChange.TheVariants.{Absorb, Lose, Unlaunch}
 use Rattle.rm_tables.specs.declared.nodes.NodeRow.{NodeRow}
 use Rattle.rm_tables.specs.Absorbing.{unlaunched_here, unlaunched_on}
 use Rattle.rm_tables.specs.Leaving.{unlaunched, unlaunched_at, unlaunched_one}
-use Rattle.rm_tables.specs.Nodes.{beaten_row, changed_row, node_of, ordered_row, registered_row, with_node}
+use Rattle.rm_tables.specs.Nodes.{beaten_row, changed_row, node_row, ordered_row, registered_node_row, with_node}
 use Rattle.rm_refinement.proofs.Found.{other_row, own_row}
-use Rattle.rm_invariant.specs.messages.Ranges.{IsHeld, IsList, IsSize}
+use Rattle.rm_types.specs.Messages.{IsSize, IsList, IsHeld}
 use Rattle.rm_invariant.specs.bounds.InBounds.{AreNodes, IsNode}
 
 -- the row of a node changes
-pub nodes_with : (f : NodeRow → NodeRow) (name : List ℕ) (nodes : List (List ℕ × NodeRow)) → ((row : NodeRow) → node_of nodes name ≡ Some row → IsNode name row → IsNode name (f row)) → AreNodes nodes → AreNodes (with_node f name nodes)
+pub nodes_with : (f : NodeRow → NodeRow) (name : List ℕ) (nodes : List (List ℕ × NodeRow)) → ((row : NodeRow) → node_row nodes name ≡ Some row → IsNode name row → IsNode name (f row)) → AreNodes nodes → AreNodes (with_node f name nodes)
 nodes_with f name nodes keeps are = record { each = λ q row found. by q row (bytes_eq name q) refl found }
   where
-    at : (o : Option NodeRow) (row : NodeRow) → node_of nodes name ≡ o → option_map f o ≡ Some row → IsNode name row
+    at : (o : Option NodeRow) (row : NodeRow) → node_row nodes name ≡ o → option_map f o ≡ Some row → IsNode name row
     at None row e is = cc
     at (Some one) row e is = let same : f one ≡ row = cc in subst (IsNode name) same (keeps one e (are.each name one e))
 
-    by : (q : List ℕ) (row : NodeRow) (b : Bool) → bytes_eq name q ≡ b → node_of (with_node f name nodes) q ≡ Some row → IsNode q row
+    by : (q : List ℕ) (row : NodeRow) (b : Bool) → bytes_eq name q ≡ b → node_row (with_node f name nodes) q ≡ Some row → IsNode q row
     by q row true e found =
         let same : name ≡ q = same_text name q e in
-        let here : node_of (with_node f name nodes) name ≡ Some row = ap (node_of (with_node f name nodes)) same ∙ found in
-        subst (λ (n : List ℕ). IsNode n row) same (at (node_of nodes name) row refl (sym (own_row f name nodes) ∙ here))
+        let here : node_row (with_node f name nodes) name ≡ Some row = ap (node_row (with_node f name nodes)) same ∙ found in
+        subst (λ (n : List ℕ). IsNode n row) same (at (node_row nodes name) row refl (sym (own_row f name nodes) ∙ here))
     by q row false e found = are.each q row (sym (other_row f name q nodes e) ∙ found)
 
 -- by a change that keeps what it offers and reports
@@ -47,28 +47,28 @@ nodes_beaten id reply name nodes are = nodes_with (beaten_row id reply) name nod
 
 -- and by a registration
 pub nodes_registered : (turn : ℕ) (capability : Resource) (running : List Held) (reply : Reply) (name : List ℕ) (nodes : List (List ℕ × NodeRow)) → IsSize capability → IsList IsHeld running → AreNodes nodes
-    → AreNodes (with_node (registered_row turn capability running reply) name nodes)
+    → AreNodes (with_node (registered_node_row turn capability running reply) name nodes)
 nodes_registered turn capability running reply name nodes size list are =
-    nodes_with (registered_row turn capability running reply) name nodes (λ row found own. record { named = own.named; size = size; running = list }) are
+    nodes_with (registered_node_row turn capability running reply) name nodes (λ row found own. record { named = own.named; size = size; running = list }) are
 
 -- the row of a node is one of the old ones, or is the new one
-node_more : (name q : List ℕ) (new row : NodeRow) (nodes : List (List ℕ × NodeRow)) → node_of (nodes ++ (name, new) ∷ []) q ≡ Some row → (node_of nodes q ≡ Some row) ⊎ ((name ≡ q) × (new ≡ row))
+node_more : (name q : List ℕ) (new row : NodeRow) (nodes : List (List ℕ × NodeRow)) → node_row (nodes ++ (name, new) ∷ []) q ≡ Some row → (node_row nodes q ≡ Some row) ⊎ ((name ≡ q) × (new ≡ row))
 node_more name q new row [] e = by (bytes_eq q name) refl e
   where
-    by : (b : Bool) → bytes_eq q name ≡ b → (if b then Some new else None) ≡ Some row → (node_of [] q ≡ Some row) ⊎ ((name ≡ q) × (new ≡ row))
+    by : (b : Bool) → bytes_eq q name ≡ b → (if b then Some new else None) ≡ Some row → (node_row [] q ≡ Some row) ⊎ ((name ≡ q) × (new ≡ row))
     by true f is = let same : new ≡ row = cc in inr (sym (same_text q name f), same)
     by false f is = cc
 node_more name q new row (one ∷ nodes) e = by (bytes_eq q one.0) refl (node_more name q new row nodes)
   where
-    by : (b : Bool) → bytes_eq q one.0 ≡ b → (node_of (nodes ++ (name, new) ∷ []) q ≡ Some row → (node_of nodes q ≡ Some row) ⊎ ((name ≡ q) × (new ≡ row)))
-        → (node_of (one ∷ nodes) q ≡ Some row) ⊎ ((name ≡ q) × (new ≡ row))
+    by : (b : Bool) → bytes_eq q one.0 ≡ b → (node_row (nodes ++ (name, new) ∷ []) q ≡ Some row → (node_row nodes q ≡ Some row) ⊎ ((name ≡ q) × (new ≡ row)))
+        → (node_row (one ∷ nodes) q ≡ Some row) ⊎ ((name ≡ q) × (new ≡ row))
     by true f rest = rw f (inl (rw f at e))
     by false f rest = rw f (rest (rw f at e))
 
 pub nodes_put : (name : List ℕ) (new : NodeRow) (nodes : List (List ℕ × NodeRow)) → IsNode name new → AreNodes nodes → AreNodes (nodes ++ (name, new) ∷ [])
 nodes_put name new nodes is are = record { each = λ q row found. by q row (node_more name q new row nodes found) }
   where
-    by : (q : List ℕ) (row : NodeRow) → (node_of nodes q ≡ Some row) ⊎ ((name ≡ q) × (new ≡ row)) → IsNode q row
+    by : (q : List ℕ) (row : NodeRow) → (node_row nodes q ≡ Some row) ⊎ ((name ≡ q) × (new ≡ row)) → IsNode q row
     by q row (inl old) = are.each q row old
     by q row (inr both) = subst (IsNode q) both.1 (subst (λ (n : List ℕ). IsNode n new) both.0 is)
 

@@ -18,9 +18,9 @@ use Rattle.rm_types.specs.declared.settings.Settings.{Settings}
 use Rattle.rm_types.specs.Ids.{is_app, is_attempt}
 use Rattle.rm_types.specs.Records.{record_of}
 use Rattle.rm_types.proofs.IdLemmas.{same_attempt}
-use Rattle.rm_book.specs.AskTables.{asks_of}
+use Rattle.rm_book.specs.AskTables.{attempt_asks}
 use Rattle.rm_book.specs.Books.{capability_in, is_node}
-use Rattle.rm_fit.specs.Conditions.{AreApart, are_past, are_some_sizes, has_turn, have_sizes, is_past, is_some_size}
+use Rattle.rm_fit.specs.Conditions.{TurnsAreApart, are_past, are_some_sizes, has_turn, have_sizes, is_past, is_some_size}
 use Rattle.rm_model.specs.Attempts.{attempt_at}
 use Rattle.rm_model.specs.Facts.{attempts_in}
 use Rattle.rm_model.specs.State.{LifeState, Row}
@@ -38,7 +38,7 @@ use Rattle.rm_invariant.specs.events.SchedFacts.{SchedFacts}
 use Rattle.rm_invariant.specs.Core.{Nothing, CoreInvariant}
 use Rattle.rm_invariant.proofs.events.Askers.{askers_current}
 use Rattle.rm_invariant.proofs.events.Turns.{first_seq}
-use Rattle.rm_invariant.specs.messages.Ranges.{IsSize}
+use Rattle.rm_types.specs.Messages.{IsSize}
 use Rattle.rm_invariant.specs.bounds.InBounds.{AreAsked, AreRecords, IsAppRecord, IsAsked, IsAttemptRecord, IsOffer, InBounds}
 
 -- WHAT A NODE OFFERS
@@ -69,10 +69,10 @@ sizes_some (ask ∷ asks) all =
     and_from (nat_le 1 ask.size.memory_mb) (nat_le 1 ask.size.vcores) a b in
     and_from (is_some_size ask.size) (are_some_sizes asks) first (sizes_some asks all.1)
 
-turns_sized : (t : Tables) → AreAsked t.asks → (turns : List Turn) → have_sizes (asks_of t.asks) turns ≡ true
+turns_sized : (t : Tables) → AreAsked t.asks → (turns : List Turn) → have_sizes (attempt_asks t.asks) turns ≡ true
 turns_sized t asked [] = refl
 turns_sized t asked (turn ∷ turns) =
-    and_from (are_some_sizes (asks_of t.asks turn.attempt)) (have_sizes (asks_of t.asks) turns) (sizes_some (asks_of t.asks turn.attempt) (asked.each turn.attempt)) (turns_sized t asked turns)
+    and_from (are_some_sizes (attempt_asks t.asks turn.attempt)) (have_sizes (attempt_asks t.asks) turns) (sizes_some (attempt_asks t.asks turn.attempt) (asked.each turn.attempt)) (turns_sized t asked turns)
 
 -- TURNS DIFFER
 
@@ -101,7 +101,7 @@ no_turn t attempt (app ∷ apps) none = by (is_app app.id attempt.app) refl (at_
 
 -- so no two turns are of one attempt
 turns_apart : (t : Tables) (apps : List AppRecord) → ((id : AppId) → count_by (λ (app : AppRecord). is_app app.id id) apps ≤ 1)
-    → AreApart (map (turn_in t.rows) (filter (asks_some t.asks) (map attempt_at apps)))
+    → TurnsAreApart (map (turn_in t.rows) (filter (asks_some t.asks) (map attempt_at apps)))
 turns_apart t [] once = tt
 turns_apart t (app ∷ apps) once = by (asks_some t.asks (attempt_at app)) (turns_apart t apps fewer)
   where
@@ -121,8 +121,8 @@ turns_apart t (app ∷ apps) once = by (asks_some t.asks (attempt_at app)) (turn
         let few = once app.id in
         omega (arith, first, few)
 
-    by : (b : Bool) → AreApart (map (turn_in t.rows) (filter (asks_some t.asks) (map attempt_at apps)))
-        → AreApart (map (turn_in t.rows) (cond b (attempt_at app ∷ filter (asks_some t.asks) (map attempt_at apps)) (filter (asks_some t.asks) (map attempt_at apps))))
+    by : (b : Bool) → TurnsAreApart (map (turn_in t.rows) (filter (asks_some t.asks) (map attempt_at apps)))
+        → TurnsAreApart (map (turn_in t.rows) (cond b (attempt_at app ∷ filter (asks_some t.asks) (map attempt_at apps)) (filter (asks_some t.asks) (map attempt_at apps))))
     by true rest = (no_turn t (attempt_at app) apps none, rest)
     by false rest = rest
 

@@ -24,9 +24,9 @@ use Rattle.rm_tables.specs.declared.rows.Dialogue.{Dialogue}
 use Rattle.rm_tables.specs.Changes.{attempt_after, changed, current_after, dialogue_after, granted_at, pending_after}
 use Rattle.rm_tables.specs.Leaving.{closed, closed_in, closed_one}
 use Rattle.rm_tables.specs.MainEvents.{finishing_in}
-use Rattle.rm_tables.specs.Passing.{granted_by, granted_to}
+use Rattle.rm_tables.specs.Passing.{granted_number, granted_to}
 use Rattle.rm_tables.specs.Rows.{row_in, row_of, with_row, without_row}
-use Rattle.rm_tables.specs.Talks.{begun, registered_row, said_row, told_row, with_answer, with_text, without_closings}
+use Rattle.rm_tables.specs.Talks.{dialogue_begun, registered_row, said_row, told_row, with_answer, with_text, without_closings}
 use Rattle.rm_invariant.specs.apps.View.{changed_if, gone_if}
 use Rattle.rm_invariant.proofs.apps.Found.{row_changed}
 use Rattle.rm_invariant.proofs.apps.Removing.{row_gone}
@@ -49,7 +49,7 @@ rows_with f id rows keeps are = record { each = λ q row found. by q row (is_app
 
 -- nothing more is granted in these rows
 abbrev pub NoMoreGranted : List (AppId × Option AppRow) → List (AppId × Option AppRow) → Type 0
-NoMoreGranted rows now = (q : AttemptId) → granted_by q.number (row_of now q.app) ≤ granted_by q.number (row_of rows q.app)
+NoMoreGranted rows now = (q : AttemptId) → granted_number q.number (row_of now q.app) ≤ granted_number q.number (row_of rows q.app)
 
 abbrev pub GrantsNoMore : (AppRow → AppRow) → Type 0
 GrantsNoMore f = (row : AppRow) (number : ℕ) → granted_to number (f row).current ≤ granted_to number row.current
@@ -57,10 +57,10 @@ GrantsNoMore f = (row : AppRow) (number : ℕ) → granted_to number (f row).cur
 pub grants_with : (f : AppRow → AppRow) (id : AppId) (rows : List (AppId × Option AppRow)) → GrantsNoMore f → NoMoreGranted rows (with_row f id rows)
 grants_with f id rows less q =
     let here = by (is_app id q.app) (row_of rows q.app) in
-    let same : granted_by q.number (row_of (with_row f id rows) q.app) ≡ granted_by q.number (changed_if (is_app id q.app) f (row_of rows q.app)) = ap (granted_by q.number) (row_changed f id q.app rows) in
+    let same : granted_number q.number (row_of (with_row f id rows) q.app) ≡ granted_number q.number (changed_if (is_app id q.app) f (row_of rows q.app)) = ap (granted_number q.number) (row_changed f id q.app rows) in
     omega (arith, here, same)
   where
-    by : (b : Bool) (o : Option AppRow) → granted_by q.number (changed_if b f o) ≤ granted_by q.number o
+    by : (b : Bool) (o : Option AppRow) → granted_number q.number (changed_if b f o) ≤ granted_number q.number o
     by true None = omega arith
     by true (Some row) = less row q.number
     by false o = omega arith
@@ -241,9 +241,9 @@ grants_closed (closing ∷ closings) rows q =
 
 -- WHAT IS SAID TO A MASTER AND BY IT
 
-pub rows_registered : (reply : Reply) (id : AppId) (rows : List (AppId × Option AppRow)) → AreRows rows → AreRows (with_row (registered_row (begun reply)) id rows)
+pub rows_registered : (reply : Reply) (id : AppId) (rows : List (AppId × Option AppRow)) → AreRows rows → AreRows (with_row (registered_row (dialogue_begun reply)) id rows)
 rows_registered reply id rows are =
-    rows_with (registered_row (begun reply)) id rows (λ row found own. record { named = own.named; pending = own.pending; current = current_is of_app.Register row.current tt own.current; said = tt }) are
+    rows_with (registered_row (dialogue_begun reply)) id rows (λ row found own. record { named = own.named; pending = own.pending; current = current_is of_app.Register row.current tt own.current; said = tt }) are
 
 pub rows_said : (text : List ℕ) → IsText Note text → (id : AppId) (rows : List (AppId × Option AppRow)) → AreRows rows → AreRows (with_row (said_row (with_text text)) id rows)
 rows_said text is id rows are =
@@ -264,8 +264,8 @@ rows_answered attempt next reply id rows are =
     by None is = tt
     by (Some one) is = is
 
-pub grants_registered : (reply : Reply) (id : AppId) (rows : List (AppId × Option AppRow)) → NoMoreGranted rows (with_row (registered_row (begun reply)) id rows)
-grants_registered reply id rows = grants_with (registered_row (begun reply)) id rows (λ row number. current_less of_app.Register row.current number refl)
+pub grants_registered : (reply : Reply) (id : AppId) (rows : List (AppId × Option AppRow)) → NoMoreGranted rows (with_row (registered_row (dialogue_begun reply)) id rows)
+grants_registered reply id rows = grants_with (registered_row (dialogue_begun reply)) id rows (λ row number. current_less of_app.Register row.current number refl)
 
 pub grants_said : (text : List ℕ) (id : AppId) (rows : List (AppId × Option AppRow)) → NoMoreGranted rows (with_row (said_row (with_text text)) id rows)
 grants_said text id rows = grants_with (said_row (with_text text)) id rows (λ row number. current_less (of_app.OfAttempt of_attempt.Finish) row.current number refl)
@@ -285,11 +285,11 @@ rows_gone id rows are = record { each = λ q row found. by q row (is_app id q) (
 
 pub grants_gone : (id : AppId) (rows : List (AppId × Option AppRow)) → NoMoreGranted rows (without_row id rows)
 grants_gone id rows q =
-    let same : granted_by q.number (row_of (without_row id rows) q.app) ≡ granted_by q.number (gone_if (is_app id q.app) (row_of rows q.app)) = ap (granted_by q.number) (row_gone id q.app rows) in
+    let same : granted_number q.number (row_of (without_row id rows) q.app) ≡ granted_number q.number (gone_if (is_app id q.app) (row_of rows q.app)) = ap (granted_number q.number) (row_gone id q.app rows) in
     let here = by (is_app id q.app) (row_of rows q.app) in
     omega (arith, same, here)
   where
-    by : (b : Bool) (o : Option AppRow) → granted_by q.number (gone_if b o) ≤ granted_by q.number o
+    by : (b : Bool) (o : Option AppRow) → granted_number q.number (gone_if b o) ≤ granted_number q.number o
     by true o = omega arith
     by false o = omega arith
 
@@ -317,12 +317,12 @@ rows_put id new rows is are = record { each = λ q row found. by q row (row_more
 pub grants_put : (id : AppId) (new : AppRow) (rows : List (AppId × Option AppRow)) → new.current ≡ None → NoMoreGranted rows (rows ++ (id, Some new) ∷ [])
 grants_put id new rows none q = by (row_of (rows ++ (id, Some new) ∷ []) q.app) refl
   where
-    by : (o : Option AppRow) → row_of (rows ++ (id, Some new) ∷ []) q.app ≡ o → granted_by q.number o ≤ granted_by q.number (row_of rows q.app)
+    by : (o : Option AppRow) → row_of (rows ++ (id, Some new) ∷ []) q.app ≡ o → granted_number q.number o ≤ granted_number q.number (row_of rows q.app)
     by None e = omega arith
     by (Some row) e = at (row_more id q.app new row rows e)
       where
-        at : (row_of rows q.app ≡ Some row) ⊎ ((id ≡ q.app) × (new ≡ row)) → granted_by q.number (Some row) ≤ granted_by q.number (row_of rows q.app)
-        at (inl old) = let same : granted_by q.number (row_of rows q.app) ≡ granted_by q.number (Some row) = ap (granted_by q.number) old in omega (arith, same)
+        at : (row_of rows q.app ≡ Some row) ⊎ ((id ≡ q.app) × (new ≡ row)) → granted_number q.number (Some row) ≤ granted_number q.number (row_of rows q.app)
+        at (inl old) = let same : granted_number q.number (row_of rows q.app) ≡ granted_number q.number (Some row) = ap (granted_number q.number) old in omega (arith, same)
         at (inr both) =
             let nothing : granted_to q.number row.current ≡ 0 = ap (granted_to q.number) (ap (λ (r : AppRow). r.current) (sym both.1) ∙ none) in
             omega (arith, nothing)

@@ -16,8 +16,8 @@ use Rattle.rm_types.specs.Passes.{by_priority}
 use Rattle.rm_types.specs.Ranges.{IsAttemptId, IsContainerId, IsText, IsWithin}
 use Rattle.rm_attempt.specs.declared.states.AttemptState.{AttemptState}
 use Rattle.rm_attempt.specs.declared.states.AttemptState.TheVariants as attempts
-use Rattle.rm_book.specs.AskTables.{AsksOf, asks_of}
-use Rattle.rm_book.specs.Books.{BookOf, row_of as book_row_of, with_grants, with_taken, without_rows}
+use Rattle.rm_book.specs.AskTables.{AsksOf, attempt_asks}
+use Rattle.rm_book.specs.Books.{BookOf, book_row as book_row_of, with_grants, book_with_taken, without_rows}
 use Rattle.rm_model.specs.Containers.{once}
 use Rattle.rm_tables.specs.declared.changes.AttemptChange.TheVariants as of_attempt
 use Rattle.rm_tables.specs.declared.changes.RowChange.TheVariants as of_app
@@ -34,8 +34,8 @@ use Rattle.rm_tables.specs.Absorbing.{absorbed_by, absorbed_if, taken_in, unlaun
 use Rattle.rm_tables.specs.Actions.{found_in, sched_popped, sched_worked}
 use Rattle.rm_tables.specs.Changes.{changed, granted_at}
 use Rattle.rm_tables.specs.Leaving.{closed_in, closings_of, ended_by, losts_of, unlaunched}
-use Rattle.rm_tables.specs.Nodes.{changed_row, is_waiting, node_of, with_node}
-use Rattle.rm_tables.specs.Passing.{granted_by, granted_to, grants_on, masters_granted, row_granted, turns_in, updated_by, without_granted}
+use Rattle.rm_tables.specs.Nodes.{changed_row, is_waiting_row, node_row, with_node}
+use Rattle.rm_tables.specs.Passing.{granted_number, granted_to, grants_on, masters_granted, rows_after_grant, turns_in, updated_by, table_without_granted}
 use Rattle.rm_tables.specs.Rows.{row_of}
 use Rattle.rm_tables.specs.SchedEvents.{is_on, is_released, master_asked, queued_at, queued_by, queued_with, sched_step}
 use Rattle.rm_refinement.specs.Agreement.{grants_of}
@@ -45,14 +45,14 @@ use Rattle.rm_invariant.proofs.apps.Counts.{at_end, at_front}
 use Rattle.rm_invariant.proofs.apps.Found.{row_changed}
 use Rattle.rm_invariant.specs.nodes.Book.{All}
 use Rattle.rm_invariant.proofs.nodes.Entries.{AllOn}
-use Rattle.rm_invariant.specs.events.Asking.{AreNext, is_current, is_numbered, is_numbered_in}
+use Rattle.rm_invariant.specs.events.Asking.{AreNext, is_current_number, is_numbered, is_numbered_in}
 use Rattle.rm_invariant.specs.events.SchedFacts.{SchedFacts}
 use Rattle.rm_invariant.specs.Core.{CoreInvariant}
 use Rattle.rm_invariant.proofs.events.Askers.{askers_current}
 use Rattle.rm_invariant.proofs.events.Next.{grants_next}
 use Rattle.rm_invariant.proofs.events.OnNode.{EachAsk, all_now, all_on, grants_each, pass_at}
 use Rattle.rm_invariant.proofs.events.Turns.{first_seq}
-use Rattle.rm_invariant.specs.messages.Ranges.{IsSize}
+use Rattle.rm_types.specs.Messages.{IsSize}
 use Rattle.rm_invariant.specs.bounds.InBounds.{AreAsked, AreGrants, AreNodes, AreRows, IfThere, IsAsked, IsBooked, IsCurrent, IsNode, IsOffer, InBounds, is_update}
 use Rattle.rm_invariant.proofs.bounds.AskRanges.{asked_granted, asked_master, by_priority_asked}
 use Rattle.rm_invariant.proofs.bounds.BookRanges.{IsGrant, booked_granted, booked_taken, booked_without, held_taken, offers_with}
@@ -136,16 +136,16 @@ module _ (t : Tables) (r : InBounds t) where
       (booked_without t.book (id ∷ ids) r.book) r.offers (nodes_unlaunched t.book (id ∷ ids) t.nodes r.nodes)
 
   -- a report is absorbed
-  absorbed_ranged : (name : List ℕ) (turn : ℕ) (ended : List ContainerId) (o : Option NodeRow) → node_of t.nodes name ≡ o → InBounds (sched_popped (absorbed_by o name turn ended t).1)
+  absorbed_ranged : (name : List ℕ) (turn : ℕ) (ended : List ContainerId) (o : Option NodeRow) → node_row t.nodes name ≡ o → InBounds (sched_popped (absorbed_by o name turn ended t).1)
   absorbed_ranged name turn ended None found = quiet_ranged
-  absorbed_ranged name turn ended (Some row) found = by (is_waiting row.state && (row.turn == turn))
+  absorbed_ranged name turn ended (Some row) found = by (is_waiting_row row.state && (row.turn == turn))
     where
       by : (b : Bool) → InBounds (sched_popped (absorbed_if b name row ended t).1)
       by false = quiet_ranged
       by true =
           let own = r.nodes.each name row found in
           let closings = closings_of t.tree.apps causes.Gone ended in
-          worked t r (closed_in t.rows closings) t.asks (with_taken t.book name row.capability (taken_in t name row) ended) (with_node (changed_row Absorb) name (unlaunched_on name t.nodes ended))
+          worked t r (closed_in t.rows closings) t.asks (book_with_taken t.book name row.capability (taken_in t name row) ended) (with_node (changed_row Absorb) name (unlaunched_on name t.nodes ended))
           (t.main ++ losts_of t.tree.apps ended) (drop 1 t.sched) (rows_closed closings t.rows r.rows) (popped_grants t.rows (closed_in t.rows closings) t.sched t.served (grants_closed closings t.rows) r.grants) r.asks
           (booked_taken t.book name row.capability (taken_in t name row) ended own.named (held_taken t name row r.book own.running) r.book) (offers_with name row.capability t.book.nodes own.named own.size r.offers)
           (nodes_changed Absorb name (unlaunched_on name t.nodes ended) (nodes_unlaunched_on name ended t.nodes r.nodes))
@@ -153,7 +153,7 @@ module _ (t : Tables) (r : InBounds t) where
 -- A PASS
 
 -- the sequences of what is granted in order
-next_bound : (rows : List (AppId × Option AppRow)) (top bound : ℕ) (grants : List Grant) (granted : List ContainerId) → ((a : AttemptId) → is_current rows a ≡ true → grants_of granted a ≤ bound)
+next_bound : (rows : List (AppId × Option AppRow)) (top bound : ℕ) (grants : List Grant) (granted : List ContainerId) → ((a : AttemptId) → is_current_number rows a ≡ true → grants_of granted a ≤ bound)
     → bound + length grants ≤ top → AreNext rows granted grants → All (λ grant. IsWithin 1 top grant.id.seq) grants
 next_bound rows top bound [] granted few room next = tt
 next_bound rows top bound (grant ∷ grants) granted few room next =
@@ -165,11 +165,11 @@ next_bound rows top bound (grant ∷ grants) granted few room next =
     by a true e old = omega (arith, e, old)
     by a false e old = omega (arith, e, old)
 
-    more : (a : AttemptId) → is_current rows a ≡ true → grants_of (granted ++ grant.id ∷ []) a ≤ bound + 1
+    more : (a : AttemptId) → is_current_number rows a ≡ true → grants_of (granted ++ grant.id ∷ []) a ≤ bound + 1
     more a is = by a (is_attempt grant.id.attempt a) (at_end (λ (one : ContainerId). is_attempt one.attempt a) granted grant.id) (few a is)
 
 -- a current attempt has its parts in their ranges
-current_ranged : (rows : List (AppId × Option AppRow)) → AreRows rows → (a : AttemptId) → is_current rows a ≡ true → IsAttemptId a
+current_ranged : (rows : List (AppId × Option AppRow)) → AreRows rows → (a : AttemptId) → is_current_number rows a ≡ true → IsAttemptId a
 current_ranged rows are a is = by (row_of rows a.app) refl is
   where
     at : (o : Option Current) → IfThere IsCurrent o → is_numbered a.number o ≡ true → IsWithin 1 (2 ^ 31 - 1) a.number
@@ -197,16 +197,16 @@ grants_are name is (grant ∷ grants) ids sizes on =
     (record { id = ids.0; node = subst (IsText Node) (sym on.0) is; size = sizes.0 }, grants_are name is grants ids.1 sizes.1 on.1)
 
 -- the rows after the grants
-rows_granted : (grants : List Grant) (rows : List (AppId × Option AppRow)) → All (λ grant. IsContainerId grant.id) grants → AreRows rows → AreRows (fold row_granted rows grants)
+rows_granted : (grants : List Grant) (rows : List (AppId × Option AppRow)) → All (λ grant. IsContainerId grant.id) grants → AreRows rows → AreRows (fold rows_after_grant rows grants)
 rows_granted [] rows ids are = are
 rows_granted (grant ∷ grants) rows ids are =
-    rows_granted grants (row_granted rows grant) ids.1 (rows_changed (of_app.OfAttempt (of_attempt.Grant grant.id)) grant.id.attempt.app rows ids.0 are)
+    rows_granted grants (rows_after_grant rows grant) ids.1 (rows_changed (of_app.OfAttempt (of_attempt.Grant grant.id)) grant.id.attempt.app rows ids.0 are)
 
 -- and how many are granted then
-granted_most : (top : ℕ) (grants : List Grant) (rows : List (AppId × Option AppRow)) → All (λ grant. IsWithin 1 top grant.id.seq) grants → ((q : AttemptId) → granted_by q.number (row_of rows q.app) ≤ top)
-    → (q : AttemptId) → granted_by q.number (row_of (fold row_granted rows grants) q.app) ≤ top
+granted_most : (top : ℕ) (grants : List Grant) (rows : List (AppId × Option AppRow)) → All (λ grant. IsWithin 1 top grant.id.seq) grants → ((q : AttemptId) → granted_number q.number (row_of rows q.app) ≤ top)
+    → (q : AttemptId) → granted_number q.number (row_of (fold rows_after_grant rows grants) q.app) ≤ top
 granted_most top [] rows seqs few q = few q
-granted_most top (grant ∷ grants) rows seqs few q = granted_most top grants (row_granted rows grant) seqs.1 more q
+granted_most top (grant ∷ grants) rows seqs few q = granted_most top grants (rows_after_grant rows grant) seqs.1 more q
   where
     pick : (b : Bool) (n : ℕ) → n ≤ top → (if b then n else 0) ≤ top
     pick true n less = less
@@ -223,19 +223,19 @@ granted_most top (grant ∷ grants) rows seqs few q = granted_most top grants (r
     at attempts.Ended current number = pick (current.number == number) grant.id.seq seqs.0.1
     at attempts.Dropped current number = pick (current.number == number) grant.id.seq seqs.0.1
 
-    with : (row : AppRow) (o : Option Current) → row.current ≡ o → (number : ℕ) → granted_by number (Some (changed (of_app.OfAttempt (of_attempt.Grant grant.id)) row)) ≤ top
+    with : (row : AppRow) (o : Option Current) → row.current ≡ o → (number : ℕ) → granted_number number (Some (changed (of_app.OfAttempt (of_attempt.Grant grant.id)) row)) ≤ top
     with row None e number = rw e (omega arith)
     with row (Some current) e number = rw e (at current.state current number)
 
-    by : (a : AttemptId) (b : Bool) (o : Option AppRow) → granted_by a.number o ≤ top → granted_by a.number (changed_if b (changed (of_app.OfAttempt (of_attempt.Grant grant.id))) o) ≤ top
+    by : (a : AttemptId) (b : Bool) (o : Option AppRow) → granted_number a.number o ≤ top → granted_number a.number (changed_if b (changed (of_app.OfAttempt (of_attempt.Grant grant.id))) o) ≤ top
     by a true None less = less
     by a true (Some row) less = with row row.current refl a.number
     by a false o less = less
 
-    more : (a : AttemptId) → granted_by a.number (row_of (row_granted rows grant) a.app) ≤ top
+    more : (a : AttemptId) → granted_number a.number (row_of (rows_after_grant rows grant) a.app) ≤ top
     more a =
-        let same : granted_by a.number (row_of (row_granted rows grant) a.app) ≡ granted_by a.number (changed_if (is_app grant.id.attempt.app a.app) (changed (of_app.OfAttempt (of_attempt.Grant grant.id))) (row_of rows a.app)) =
-        ap (granted_by a.number) (row_changed (changed (of_app.OfAttempt (of_attempt.Grant grant.id))) grant.id.attempt.app a.app rows) in
+        let same : granted_number a.number (row_of (rows_after_grant rows grant) a.app) ≡ granted_number a.number (changed_if (is_app grant.id.attempt.app a.app) (changed (of_app.OfAttempt (of_attempt.Grant grant.id))) (row_of rows a.app)) =
+        ap (granted_number a.number) (row_changed (changed (of_app.OfAttempt (of_attempt.Grant grant.id))) grant.id.attempt.app a.app rows) in
         let less = by a (is_app grant.id.attempt.app a.app) (row_of rows a.app) (few a) in
         omega (arith, same, less)
 
@@ -248,16 +248,16 @@ module _ (settings : Settings) (h : History) (t : Tables) (w : CoreInvariant set
       asked capability turn [] all = tt
       asked capability turn (ask ∷ asks) all = ((λ seq. all.0), asked capability turn asks all.1)
 
-      by : (capability : _) (turns : List _) → All (λ turn. EachAsk (λ grant. IsSize grant.size) (pass_at t name row capability) turn (by_priority (asks_of t.asks turn.attempt))) turns
+      by : (capability : _) (turns : List _) → All (λ turn. EachAsk (λ grant. IsSize grant.size) (pass_at t name row capability) turn (by_priority (attempt_asks t.asks turn.attempt))) turns
       by capability [] = tt
       by capability (turn ∷ turns) =
-          (asked capability turn (by_priority (asks_of t.asks turn.attempt)) (by_priority_asked (asks_of t.asks turn.attempt) (r.asks.each turn.attempt)), by capability turns)
+          (asked capability turn (by_priority (attempt_asks t.asks turn.attempt)) (by_priority_asked (attempt_asks t.asks turn.attempt) (r.asks.each turn.attempt)), by capability turns)
 
   -- a pass answers a beat
-  pub update_ranged : (name : List ℕ) (rest : List SchedEvent) → t.sched ≡ scheds.NodeUpdate name ∷ rest → (o : Option NodeRow) → node_of t.nodes name ≡ o → InBounds (sched_popped (updated_by o name t).1)
+  pub update_ranged : (name : List ℕ) (rest : List SchedEvent) → t.sched ≡ scheds.NodeUpdate name ∷ rest → (o : Option NodeRow) → node_row t.nodes name ≡ o → InBounds (sched_popped (updated_by o name t).1)
   update_ranged name rest front None found = quiet_ranged t r
   update_ranged name rest front (Some row) found =
-      worked t r (fold row_granted t.rows grants) (fold without_granted t.asks grants) (with_grants t.book grants) t.nodes (t.main ++ masters_granted t.rows grants) (drop 1 t.sched)
+      worked t r (fold rows_after_grant t.rows grants) (fold table_without_granted t.asks grants) (with_grants t.book grants) t.nodes (t.main ++ masters_granted t.rows grants) (drop 1 t.sched)
       (rows_granted grants t.rows ids r.rows) (record { each = λ q. let most = granted_most top grants t.rows seqs all_few q in let low = room in omega (arith, most, low) })
       (asked_granted grants t.asks r.asks) (booked_granted t.book grants (grants_are name own.named grants ids (grants_sized name row) (all_on t name row)) r.book) r.offers r.nodes
     where
@@ -283,13 +283,13 @@ module _ (settings : Settings) (h : History) (t : Tables) (w : CoreInvariant set
       room : top + 256 * updates ≤ 256 * t.served
       room = let all = r.grants.each none in let is = counted in omega (arith, all, is)
 
-      all_few : (q : AttemptId) → granted_by q.number (row_of t.rows q.app) ≤ top
+      all_few : (q : AttemptId) → granted_number q.number (row_of t.rows q.app) ≤ top
       all_few q = let all = r.grants.each q in let is = counted in omega (arith, all, is)
 
       next : AreNext t.rows h.granted grants
       next = grants_next (abstract_life h t) t w.agrees (askers_current settings h t w.keeps.all w.agrees.asks f.current) name row
 
-      before : (a : AttemptId) → is_current t.rows a ≡ true → grants_of h.granted a ≤ 256 * t.served - 256 * suc updates
+      before : (a : AttemptId) → is_current_number t.rows a ≡ true → grants_of h.granted a ≤ 256 * t.served - 256 * suc updates
       before a is =
           let first = first_seq (abstract_life h t) t w.agrees a is in
           let all = r.grants.each a in
@@ -316,7 +316,7 @@ module _ (settings : Settings) (h : History) (t : Tables) (w : CoreInvariant set
   sched_ranged (scheds.AttemptAdded id) rest front list = queued_ranged t r id (row_of t.rows id.app)
   sched_ranged (scheds.AttemptRemoved id) rest front list = ended_ranged t r causes.Attempt list
   sched_ranged (scheds.Release attempt released) rest front list = ended_ranged t r causes.Released (once (filter (is_released attempt t) released))
-  sched_ranged (scheds.NodeAdded node turn) rest front list = absorbed_ranged t r node turn list (node_of t.nodes node) refl
+  sched_ranged (scheds.NodeAdded node turn) rest front list = absorbed_ranged t r node turn list (node_row t.nodes node) refl
   sched_ranged (scheds.NodeDone node done) rest front list = ended_ranged t r causes.Done (once (filter (λ id. is_on node (book_row_of t.book id)) done))
-  sched_ranged (scheds.NodeUpdate node) rest front list = update_ranged node rest front (node_of t.nodes node) refl
+  sched_ranged (scheds.NodeUpdate node) rest front list = update_ranged node rest front (node_row t.nodes node) refl
   sched_ranged (scheds.NodeLost node) rest front list = ended_ranged t r causes.Node list

@@ -14,11 +14,12 @@ use Rattle.rm_types.specs.Ids.{is_container}
 use Rattle.rm_types.specs.Order.{Ascend}
 use Rattle.rm_types.proofs.IdLemmas.{container_itself}
 use Rattle.rm_types.proofs.TestLemmas.{text_itself, same_text}
-use Rattle.rm_book.specs.Books.{row_of as book_row_of}
-use Rattle.rm_model.specs.Absorbing.{absorbs, is_held, taken_of, with_taken}
+use Rattle.rm_book.specs.Books.{book_row as book_row_of}
+use Rattle.rm_model.specs.Absorbing.{absorbs, taken_of, with_taken}
+use Rattle.rm_types.specs.Containers.{is_held}
 use Rattle.rm_model.specs.Containers.{ids_on, is_living, leave}
 use Rattle.rm_model.specs.Facts.{has_container}
-use Rattle.rm_model.specs.Nodes.{is_waiting as waits_told, node_of as node_told}
+use Rattle.rm_model.specs.Nodes.{is_waiting as waits_told, judged_node as node_told}
 use Rattle.rm_model.specs.Rules.{MayAbsorb}
 use Rattle.rm_model.specs.State.{LifeState, NodeState}
 use Rattle.rm_node.specs.declared.states.NodeState.{NodeState as NodePhase}
@@ -27,10 +28,10 @@ use Rattle.rm_tables.specs.declared.events.SchedEvent.{SchedEvent}
 use Rattle.rm_tables.specs.declared.events.SchedEvent.TheVariants as scheds
 use Rattle.rm_tables.specs.declared.nodes.NodeRow.{NodeRow}
 use Rattle.rm_tables.specs.declared.tables.Tables.{Tables}
-use Rattle.rm_tables.specs.Absorbing.{absorbed_by, absorbed_if, absorbed_with, not_taken, taken_in}
+use Rattle.rm_tables.specs.Absorbing.{absorbed_by, absorbed_if, absorbed_with, book_not_taken, taken_in}
 use Rattle.rm_tables.specs.Actions.{sched_popped, sched_quiet, sched_worked}
-use Rattle.rm_tables.specs.Nodes.{is_waiting, node_of}
-use Rattle.rm_tables.specs.SchedEvents.{EndsAbsorbed, EndsBy, EndsIf, is_on, sched_step}
+use Rattle.rm_tables.specs.Nodes.{is_waiting_row, node_row}
+use Rattle.rm_tables.specs.SchedEvents.{EndsAbsorbed, EndsByEvent, EndsIf, is_on, sched_step}
 use Rattle.rm_refinement.specs.Agreement.{PlainNode, bare_node, phase_of, plain_node}
 use Rattle.rm_refinement.specs.History.{History, abstract_scene}
 use Rattle.rm_invariant.specs.nodes.Invariant.{NodesInvariant}
@@ -44,7 +45,7 @@ use Rattle.rm_invariant.specs.masters.Preserves.{PreservesContainers}
 use Rattle.rm_invariant.proofs.masters.Absorbed.{absorbed_joins, absorbing, unabsorbed_joins}
 use Rattle.rm_invariant.proofs.masters.LeavingEvents.{lives_there, of_passing, same_ids_on}
 use Rattle.rm_invariant.specs.events.Refines.{Refines}
-use Rattle.rm_invariant.specs.events.Here.{FirstsKnown, NoneAbsent, are_on}
+use Rattle.rm_invariant.specs.events.Here.{FirstsKnown, NoneAbsent, are_containers_on}
 use Rattle.rm_invariant.specs.Core.{Nothing, CoreInvariant, PreservesCore}
 use Rattle.rm_invariant.proofs.events.Absorbing.{absorbed_agrees, none_taken}
 use Rattle.rm_invariant.proofs.events.Knowing.{launches_here, on_node, rows_apart, rows_know}
@@ -52,7 +53,7 @@ use Rattle.rm_invariant.proofs.events.Leaving.{all_of, at_event, idle_whole, que
 use Rattle.rm_invariant.proofs.events.Taken.{taken_same}
 
 -- a node that registered waits in the tables where it does for the judge
-waits_same : (s : NodePhase) → s ≢ states.Absent → is_waiting s ≡ waits_told (phase_of s)
+waits_same : (s : NodePhase) → s ≢ states.Absent → is_waiting_row s ≡ waits_told (phase_of s)
 waits_same states.Absent some = absurd (some refl)
 waits_same states.Waiting some = refl
 waits_same states.Ready some = refl
@@ -99,7 +100,7 @@ module _ (settings : Settings) (h : History) (t : Tables) (w : CoreInvariant set
   stands : (node : NodeState) × (node_told h.nodes name ≡ Some node)
   stands = known_node h.nodes h.book t.sched name (scheds.NodeAdded name turn) rest front (text_itself name) w.nodes
 
-  module _ (row : NodeRow) (found : node_of t.nodes name ≡ Some row) (node : NodeState) (there : node_told h.nodes name ≡ Some node) where
+  module _ (row : NodeRow) (found : node_row t.nodes name ≡ Some row) (node : NodeState) (there : node_told h.nodes name ≡ Some node) where
     alike : bare_node t.book name row ≡ plain_node node
     alike = let x : Some (bare_node t.book name row) ≡ Some (plain_node node) = let y = w.agrees.nodes name in rw (found, there) at y in cc
 
@@ -107,16 +108,16 @@ module _ (settings : Settings) (h : History) (t : Tables) (w : CoreInvariant set
     named = same_text node.name name (name_of h.nodes name node there)
 
     abbrev waits : Bool
-    waits = is_waiting row.state && (row.turn == turn)
+    waits = is_waiting_row row.state && (row.turn == turn)
 
     idle_same : (not (turn == node.last.turn) || not (waits_told node.phase)) ≡ not waits
     idle_same =
         let phase : phase_of row.state ≡ node.phase = ap (λ (x : PlainNode). x.phase) alike in
         let last : row.turn ≡ node.last.turn = ap (λ (x : PlainNode). x.last.turn) alike in
-        let same : is_waiting row.state ≡ waits_told node.phase = waits_same row.state (registered name row found) ∙ ap waits_told phase in
+        let same : is_waiting_row row.state ≡ waits_told node.phase = waits_same row.state (registered name row found) ∙ ap waits_told phase in
         ap (λ (n : ℕ). not (turn == n) || not (waits_told node.phase)) (sym last)
         ∙ ap (λ (b : Bool). not (turn == row.turn) || not b) (sym same)
-        ∙ idle_turned (is_waiting row.state) turn row.turn
+        ∙ idle_turned (is_waiting_row row.state) turn row.turn
 
     -- there is nothing to do
     quiet_whole : waits ≡ false → PreservesCore settings h t (sched_worked (sched_quiet t))
@@ -125,7 +126,7 @@ module _ (settings : Settings) (h : History) (t : Tables) (w : CoreInvariant set
         (added_quiet_good h.nodes h.book t.sched name turn rest node front there (idle_same ∙ ap not none) w.nodes)
 
     -- the report is absorbed, and these end
-    module _ (some : waits ≡ true) (list : List ContainerId) (ends : Ascend (not_taken t.book name (taken_in t name row)) list) where
+    module _ (some : waits ≡ true) (list : List ContainerId) (ends : Ascend (book_not_taken t.book name (taken_in t name row)) list) where
       abbrev taken : List Held
       taken = taken_in t name row
 
@@ -159,7 +160,7 @@ module _ (settings : Settings) (h : History) (t : Tables) (w : CoreInvariant set
           of_passing (λ one. not (is_held taken one)) (ids_on h.book name) id
           (permuted_has list (filter (λ one. not (is_held taken one)) (ids_on h.book name)) id (IsPermutation-sym (filter (λ one. not (is_held taken one)) (ids_on h.book name)) list told.same) among)
 
-      on : are_on t.book name list ≡ true
+      on : are_containers_on t.book name list ≡ true
       on =
           all_pass (λ id. is_on name (book_row_of t.book id)) list
           (λ id among. sym (on_node t.book.rows h.book name id w.agrees.rows (rows_apart t.book.rows h.book w.agrees.rows w.book.apart)) ∙ lives_is h.book name id ∙ (stood id among).0)
@@ -182,8 +183,8 @@ module _ (settings : Settings) (h : History) (t : Tables) (w : CoreInvariant set
           tidied_holds (with_taken name taken (leave (at_event settings h t w (scheds.NodeAdded name turn) rest front) Gone list)) Nothing
           (taken_holds (at_event settings h t w (scheds.NodeAdded name turn) rest front) Nothing name node there taken list takes_standing living stay (all_held Nothing taken (λ id held. tt)) w.book)
 
-      both_first : (is_waiting row.state && (row.turn == turn)) ≡ true → is_waiting row.state ≡ true
-      both_first e = by (is_waiting row.state) e
+      both_first : (is_waiting_row row.state && (row.turn == turn)) ≡ true → is_waiting_row row.state ≡ true
+      both_first e = by (is_waiting_row row.state) e
         where
           by : (b : Bool) → (b && (row.turn == turn)) ≡ true → b ≡ true
           by true e = refl
@@ -207,10 +208,10 @@ module _ (settings : Settings) (h : History) (t : Tables) (w : CoreInvariant set
     by_test list true e ends = some_whole e list ends
     by_test list false e ends = quiet_whole e
 
-  by_row : (list : List ContainerId) (o : Option NodeRow) → node_of t.nodes name ≡ o → EndsAbsorbed o name turn t list → PreservesCore settings h t (sched_worked (absorbed_by o name turn list t))
+  by_row : (list : List ContainerId) (o : Option NodeRow) → node_row t.nodes name ≡ o → EndsAbsorbed o name turn t list → PreservesCore settings h t (sched_worked (absorbed_by o name turn list t))
   by_row list None e ends = let there = stands.1 in absurd (let y = w.agrees.nodes name in let z = rw (e, there) at y in cc)
-  by_row list (Some row) e ends = by_test row e stands.0 stands.1 list (is_waiting row.state && (row.turn == turn)) refl ends
+  by_row list (Some row) e ends = by_test row e stands.0 stands.1 list (is_waiting_row row.state && (row.turn == turn)) refl ends
 
   -- NodeAdded
-  pub added_whole : (list : List ContainerId) → EndsBy (scheds.NodeAdded name turn) t list → PreservesCore settings h t (sched_worked (sched_step (scheds.NodeAdded name turn) list t))
-  added_whole list ends = by_row list (node_of t.nodes name) refl ends
+  pub added_whole : (list : List ContainerId) → EndsByEvent (scheds.NodeAdded name turn) t list → PreservesCore settings h t (sched_worked (sched_step (scheds.NodeAdded name turn) list t))
+  added_whole list ends = by_row list (node_row t.nodes name) refl ends

@@ -13,30 +13,30 @@ use Rattle.rm_types.specs.Ids.{is_attempt}
 use Rattle.rm_types.specs.Passes.{by_priority}
 use Rattle.rm_types.proofs.IdLemmas.{same_attempt, attempt_itself}
 use Rattle.rm_types.proofs.TestLemmas.{found_passes}
-use Rattle.rm_book.specs.AskTables.{AsksOf, asks_granted, asks_of, granted_in, is_for, one_less, with_asks_of}
+use Rattle.rm_book.specs.AskTables.{AsksOf, asks_granted, attempt_asks, table_granted, is_for, one_less, with_asks_of}
 use Rattle.rm_model.specs.Containers.{is_same_ask, is_size}
 use Rattle.rm_model.specs.Passing.{ask_lessened, asks_lessened, asks_of as asks_told, without_granted as without_told}
-use Rattle.rm_tables.specs.Passing.{answered, without_granted}
+use Rattle.rm_tables.specs.Passing.{asks_after_answer, table_without_granted}
 use Rattle.rm_refinement.specs.Agreement.{SameAsks}
 
 -- THE TABLES
 
 module _ (attempt : AttemptId) where
   -- what the attempt asks for in a table with other asks in the place of its own, what others do, and what it does where it has none
-  pub own_asks : (asks : List Ask) (table : List AsksOf) → asks_of (with_asks_of attempt asks table) attempt ≡ asks
+  pub own_asks : (asks : List Ask) (table : List AsksOf) → attempt_asks (with_asks_of attempt asks table) attempt ≡ asks
   own_asks asks [] = let own = attempt_itself attempt in rw own refl
   own_asks asks (one ∷ table) = by (is_attempt one.attempt attempt) refl (own_asks asks table)
     where
-      by : (b : Bool) → is_attempt one.attempt attempt ≡ b → asks_of (with_asks_of attempt asks table) attempt ≡ asks → asks_of (with_asks_of attempt asks (one ∷ table)) attempt ≡ asks
+      by : (b : Bool) → is_attempt one.attempt attempt ≡ b → attempt_asks (with_asks_of attempt asks table) attempt ≡ asks → attempt_asks (with_asks_of attempt asks (one ∷ table)) attempt ≡ asks
       by true e rest = rw (e, e) refl
       by false e rest = rw (e, e) rest
 
-  pub other_asks : (q : AttemptId) → is_attempt attempt q ≡ false → (asks : List Ask) (table : List AsksOf) → asks_of (with_asks_of attempt asks table) q ≡ asks_of table q
+  pub other_asks : (q : AttemptId) → is_attempt attempt q ≡ false → (asks : List Ask) (table : List AsksOf) → attempt_asks (with_asks_of attempt asks table) q ≡ attempt_asks table q
   other_asks q apart asks [] = rw apart refl
   other_asks q apart asks (one ∷ table) = by (is_attempt one.attempt attempt) refl (is_attempt one.attempt q) refl (other_asks q apart asks table)
     where
-      by : (b : Bool) → is_attempt one.attempt attempt ≡ b → (c : Bool) → is_attempt one.attempt q ≡ c → asks_of (with_asks_of attempt asks table) q ≡ asks_of table q
-          → asks_of (with_asks_of attempt asks (one ∷ table)) q ≡ asks_of (one ∷ table) q
+      by : (b : Bool) → is_attempt one.attempt attempt ≡ b → (c : Bool) → is_attempt one.attempt q ≡ c → attempt_asks (with_asks_of attempt asks table) q ≡ attempt_asks table q
+          → attempt_asks (with_asks_of attempt asks (one ∷ table)) q ≡ attempt_asks (one ∷ table) q
       by true e true f rest =
           let also : is_attempt attempt q ≡ true = subst (λ (a : AttemptId). is_attempt a q ≡ true) (same_attempt one.attempt attempt e) f in
           absurd (false≢true (sym apart ∙ also))
@@ -44,28 +44,28 @@ module _ (attempt : AttemptId) where
       by false e true f rest = rw (e, f) refl
       by false e false f rest = rw (e, f) rest
 
-  no_asks : (table : List AsksOf) → list_any (λ one. is_attempt one.attempt attempt) table ≡ false → asks_of table attempt ≡ []
+  no_asks : (table : List AsksOf) → list_any (λ one. is_attempt one.attempt attempt) table ≡ false → attempt_asks table attempt ≡ []
   no_asks [] none = refl
   no_asks (one ∷ table) none = by (is_attempt one.attempt attempt) refl (no_asks table)
     where
-      by : (b : Bool) → is_attempt one.attempt attempt ≡ b → (list_any (λ other. is_attempt other.attempt attempt) table ≡ false → asks_of table attempt ≡ []) → asks_of (one ∷ table) attempt ≡ []
+      by : (b : Bool) → is_attempt one.attempt attempt ≡ b → (list_any (λ other. is_attempt other.attempt attempt) table ≡ false → attempt_asks table attempt ≡ []) → attempt_asks (one ∷ table) attempt ≡ []
       by true e rest = absurd (let some : true ≡ false = rw e at none in false≢true (sym some))
       by false e rest = rw e (rest (rw e at none))
 
   -- the asks of the grant's own attempt, and of any other
-  pub own_granted : (priority : ℕ) (size : Resource) (table : List AsksOf) → asks_of (granted_in attempt priority size table) attempt ≡ asks_granted priority size (asks_of table attempt)
+  pub own_granted : (priority : ℕ) (size : Resource) (table : List AsksOf) → attempt_asks (table_granted attempt priority size table) attempt ≡ asks_granted priority size (attempt_asks table attempt)
   own_granted priority size table = by (list_any (λ one. is_attempt one.attempt attempt) table) refl
     where
       by : (b : Bool) → list_any (λ one. is_attempt one.attempt attempt) table ≡ b
-          → asks_of (if b then with_asks_of attempt (asks_granted priority size (asks_of table attempt)) table else table) attempt ≡ asks_granted priority size (asks_of table attempt)
-      by true e = own_asks (asks_granted priority size (asks_of table attempt)) table
+          → attempt_asks (if b then with_asks_of attempt (asks_granted priority size (attempt_asks table attempt)) table else table) attempt ≡ asks_granted priority size (attempt_asks table attempt)
+      by true e = own_asks (asks_granted priority size (attempt_asks table attempt)) table
       by false e = let none = no_asks table e in none ∙ sym (ap (asks_granted priority size) none)
 
-  pub other_granted : (q : AttemptId) → is_attempt attempt q ≡ false → (priority : ℕ) (size : Resource) (table : List AsksOf) → asks_of (granted_in attempt priority size table) q ≡ asks_of table q
+  pub other_granted : (q : AttemptId) → is_attempt attempt q ≡ false → (priority : ℕ) (size : Resource) (table : List AsksOf) → attempt_asks (table_granted attempt priority size table) q ≡ attempt_asks table q
   other_granted q apart priority size table = by (list_any (λ one. is_attempt one.attempt attempt) table)
     where
-      by : (b : Bool) → asks_of (if b then with_asks_of attempt (asks_granted priority size (asks_of table attempt)) table else table) q ≡ asks_of table q
-      by true = other_asks q apart (asks_granted priority size (asks_of table attempt)) table
+      by : (b : Bool) → attempt_asks (if b then with_asks_of attempt (asks_granted priority size (attempt_asks table attempt)) table else table) q ≡ attempt_asks table q
+      by true = other_asks q apart (asks_granted priority size (attempt_asks table attempt)) table
       by false = refl
 
   -- THE JUDGE
@@ -106,29 +106,29 @@ less_same ask size is one = ap (λ (b : Bool). if b then record one { count = on
     tests = grind (arith, nat_tests)
 
 -- each attempt asks for the same after a grant
-one_answered : (table : List AsksOf) (asks : List AskOf) (grant : Grant) → SameAsks table asks → SameAsks (without_granted table grant) (without_told asks grant)
+one_answered : (table : List AsksOf) (asks : List AskOf) (grant : Grant) → SameAsks table asks → SameAsks (table_without_granted table grant) (without_told asks grant)
 one_answered table asks grant same =
-    subst (λ (o : Option Ask). SameAsks (without_granted table grant) (asks_lessened attempt asks o)) (ap (λ (l : List Ask). find (λ one. is_size one.size grant.size) (by_priority l)) (same attempt))
-    (by (find (λ one. is_size one.size grant.size) (by_priority (asks_of table attempt))) refl)
+    subst (λ (o : Option Ask). SameAsks (table_without_granted table grant) (asks_lessened attempt asks o)) (ap (λ (l : List Ask). find (λ one. is_size one.size grant.size) (by_priority l)) (same attempt))
+    (by (find (λ one. is_size one.size grant.size) (by_priority (attempt_asks table attempt))) refl)
   where
     attempt : AttemptId
     attempt = grant.id.attempt
 
     some : (ask : Ask) → is_size ask.size grant.size ≡ true → (q : AttemptId) (b : Bool) → is_attempt attempt q ≡ b
-        → asks_of (granted_in attempt ask.priority grant.size table) q ≡ asks_told (asks_lessened attempt asks (Some ask)) q
+        → attempt_asks (table_granted attempt ask.priority grant.size table) q ≡ asks_told (asks_lessened attempt asks (Some ask)) q
     some ask is q true e =
-        subst (λ (a : AttemptId). asks_of (granted_in attempt ask.priority grant.size table) a ≡ asks_told (asks_lessened attempt asks (Some ask)) a) (same_attempt attempt q e)
+        subst (λ (a : AttemptId). attempt_asks (table_granted attempt ask.priority grant.size table) a ≡ asks_told (asks_lessened attempt asks (Some ask)) a) (same_attempt attempt q e)
         (own_granted attempt ask.priority grant.size table
         ∙ ap (asks_granted ask.priority grant.size) (same attempt)
         ∙ ap (λ (less : Ask → Ask). filter (λ one. nat_lt 0 one.count) (map less (asks_told asks attempt))) (λ i one. less_same ask grant.size is one i)
         ∙ sym (own_lessened attempt ask asks))
     some ask is q false e = other_granted attempt q e ask.priority grant.size table ∙ same q ∙ sym (other_lessened attempt q e ask asks)
 
-    by : (o : Option Ask) → find (λ one. is_size one.size grant.size) (by_priority (asks_of table attempt)) ≡ o → SameAsks (answered table grant o) (asks_lessened attempt asks o)
+    by : (o : Option Ask) → find (λ one. is_size one.size grant.size) (by_priority (attempt_asks table attempt)) ≡ o → SameAsks (asks_after_answer table grant o) (asks_lessened attempt asks o)
     by None e = same
-    by (Some ask) e = λ q. some ask (found_passes (λ one. is_size one.size grant.size) (by_priority (asks_of table attempt)) ask e) q (is_attempt attempt q) refl
+    by (Some ask) e = λ q. some ask (found_passes (λ one. is_size one.size grant.size) (by_priority (attempt_asks table attempt)) ask e) q (is_attempt attempt q) refl
 
 -- and after all
-pub asks_answered : (grants : List Grant) (table : List AsksOf) (asks : List AskOf) → SameAsks table asks → SameAsks (fold without_granted table grants) (fold without_told asks grants)
+pub asks_answered : (grants : List Grant) (table : List AsksOf) (asks : List AskOf) → SameAsks table asks → SameAsks (fold table_without_granted table grants) (fold without_told asks grants)
 asks_answered [] table asks same = same
-asks_answered (grant ∷ grants) table asks same = asks_answered grants (without_granted table grant) (without_told asks grant) (one_answered table asks grant same)
+asks_answered (grant ∷ grants) table asks same = asks_answered grants (table_without_granted table grant) (without_told asks grant) (one_answered table asks grant same)

@@ -16,7 +16,7 @@ use Rattle.rm_types.specs.declared.records.AppRecord.{AppRecord}
 use Rattle.rm_types.specs.declared.resources.Resource.{Resource}
 use Rattle.rm_types.specs.Ids.{is_app, is_attempt}
 use Rattle.rm_types.proofs.IdLemmas.{same_attempt}
-use Rattle.rm_book.specs.AskTables.{AsksOf, asks_of, asks_set, is_for, renewed, with_asks_of}
+use Rattle.rm_book.specs.AskTables.{AsksOf, attempt_asks, asks_set, is_for, renewed_ask, with_asks_of}
 use Rattle.rm_attempt.specs.declared.states.AttemptState.{AttemptState}
 use Rattle.rm_attempt.specs.declared.states.AttemptState.TheVariants as attempts
 use Rattle.rm_tables.specs.declared.events.SchedEvent.{SchedEvent}
@@ -28,13 +28,13 @@ use Rattle.rm_tables.specs.declared.tables.Tables.{Tables}
 use Rattle.rm_tables.specs.Absorbing.{absorbed_by, absorbed_if}
 use Rattle.rm_tables.specs.Actions.{found_in, sched_worked}
 use Rattle.rm_tables.specs.Leaving.{closed, closed_in, closed_one, closings_of, ended_by}
-use Rattle.rm_tables.specs.Nodes.{is_waiting, node_of}
+use Rattle.rm_tables.specs.Nodes.{is_waiting_row, node_row}
 use Rattle.rm_tables.specs.Passing.{grants_on, updated_by}
 use Rattle.rm_tables.specs.Rows.{row_of}
 use Rattle.rm_tables.specs.SchedEvents.{master_asked, queued_at, queued_by, queued_with, sched_step}
 use Rattle.rm_invariant.specs.apps.View.{changed_if}
 use Rattle.rm_invariant.proofs.apps.Found.{row_changed}
-use Rattle.rm_invariant.specs.events.Asking.{OthersCurrent, asks_others, is_current, is_numbered_in}
+use Rattle.rm_invariant.specs.events.Asking.{OthersCurrent, asks_others, is_current_number, is_numbered_in}
 use Rattle.rm_invariant.specs.events.Masters.{AppsOnce, MastersAskOnce, are_single, goes_in, is_single}
 use Rattle.rm_invariant.proofs.events.AskedOnce.{apps_kept, once_kept, others_kept}
 use Rattle.rm_invariant.proofs.events.Answered.{other_asks, own_asks}
@@ -62,14 +62,14 @@ rows_told f same (closing ∷ closings) rows id =
 told_apt : (t next : Tables) (closings : List Closing) → next.asks ≡ t.asks → next.rows ≡ closed_in t.rows closings → next.tree ≡ t.tree → AsksApt t → AsksApt next
 told_apt t next closings asks rows tree apt = (
   record {
-    single = λ q. ap (λ (table : List AsksOf). are_single (asks_of table q)) asks ∙ apt.0.single q;
+    single = λ q. ap (λ (table : List AsksOf). are_single (attempt_asks table q)) asks ∙ apt.0.single q;
     others = λ q some.
         ap (λ (one : List (AppId × Option AppRow)). goes_in (row_of one q.app)) rows ∙ rows_told goes_in (λ closing row. refl) closings t.rows q.app
-        ∙ apt.0.others q (sym (ap (λ (table : List AsksOf). asks_others (asks_of table q)) asks) ∙ some);
+        ∙ apt.0.others q (sym (ap (λ (table : List AsksOf). asks_others (attempt_asks table q)) asks) ∙ some);
   },
   (λ q some.
-      ap (λ (one : List (AppId × Option AppRow)). is_current one q) rows ∙ rows_told (is_numbered_in q.number) (λ closing row. refl) closings t.rows q.app
-      ∙ apt.1 q (sym (ap (λ (table : List AsksOf). asks_others (asks_of table q)) asks) ∙ some)),
+      ap (λ (one : List (AppId × Option AppRow)). is_current_number one q) rows ∙ rows_told (is_numbered_in q.number) (λ closing row. refl) closings t.rows q.app
+      ∙ apt.1 q (sym (ap (λ (table : List AsksOf). asks_others (attempt_asks table q)) asks) ∙ some)),
   subst (λ tree. (id : AppId) → count_by (λ app. is_app app.id id) tree.apps ≤ 1) (sym tree) apt.2,
 )
 
@@ -82,20 +82,20 @@ ended_apt cause (id ∷ ids) t apt = told_apt t (sched_worked (ended_by cause (i
 
 -- the ask for a master changes nothing else
 module _ (size : Resource) where
-  renewed_others : (asks : List Ask) → asks_others (map (renewed (line_of size)) asks) ≡ asks_others asks
+  renewed_others : (asks : List Ask) → asks_others (map (renewed_ask (line_of size)) asks) ≡ asks_others asks
   renewed_others [] = refl
   renewed_others (one ∷ asks) = by (is_for 0 size one) refl (renewed_others asks)
     where
-      by : (b : Bool) → is_for 0 size one ≡ b → asks_others (map (renewed (line_of size)) asks) ≡ asks_others asks → asks_others (map (renewed (line_of size)) (one ∷ asks)) ≡ asks_others (one ∷ asks)
+      by : (b : Bool) → is_for 0 size one ≡ b → asks_others (map (renewed_ask (line_of size)) asks) ≡ asks_others asks → asks_others (map (renewed_ask (line_of size)) (one ∷ asks)) ≡ asks_others (one ∷ asks)
       by true e rest = let zero : (one.priority == 0) ≡ true = grind (arith, nat_tests) in rw (e, zero) rest
       by false e rest = rw (e, rest) refl
 
-  renewed_single : (asks : List Ask) → are_single asks ≡ true → are_single (map (renewed (line_of size)) asks) ≡ true
+  renewed_single : (asks : List Ask) → are_single asks ≡ true → are_single (map (renewed_ask (line_of size)) asks) ≡ true
   renewed_single [] single = refl
   renewed_single (one ∷ asks) single = by (is_single one) refl (is_for 0 size one) refl (renewed_single asks)
     where
-      by : (b : Bool) → is_single one ≡ b → (c : Bool) → is_for 0 size one ≡ c → (are_single asks ≡ true → are_single (map (renewed (line_of size)) asks) ≡ true)
-          → are_single (map (renewed (line_of size)) (one ∷ asks)) ≡ true
+      by : (b : Bool) → is_single one ≡ b → (c : Bool) → is_for 0 size one ≡ c → (are_single asks ≡ true → are_single (map (renewed_ask (line_of size)) asks) ≡ true)
+          → are_single (map (renewed_ask (line_of size)) (one ∷ asks)) ≡ true
       by true e true f rest = rw f (rest (rw e at single))
       by true e false f rest = rw (f, e) (rest (rw e at single))
       by false e c f rest = absurd (let x : false ≡ true = rw e at single in false≢true x)
@@ -115,36 +115,36 @@ module _ (size : Resource) where
   set_others : (asks : List Ask) → asks_others (asks_set (line_of size) asks) ≡ asks_others asks
   set_others asks = by (list_any (is_for 0 size) asks)
     where
-      by : (b : Bool) → asks_others (if b then map (renewed (line_of size)) asks else asks ++ line_of size ∷ []) ≡ asks_others asks
+      by : (b : Bool) → asks_others (if b then map (renewed_ask (line_of size)) asks else asks ++ line_of size ∷ []) ≡ asks_others asks
       by true = renewed_others asks
       by false = added_others asks
 
   set_single : (asks : List Ask) → are_single asks ≡ true → are_single (asks_set (line_of size) asks) ≡ true
   set_single asks single = by (list_any (is_for 0 size) asks)
     where
-      by : (b : Bool) → are_single (if b then map (renewed (line_of size)) asks else asks ++ line_of size ∷ []) ≡ true
+      by : (b : Bool) → are_single (if b then map (renewed_ask (line_of size)) asks else asks ++ line_of size ∷ []) ≡ true
       by true = renewed_single asks single
       by false = added_single asks single
 
-asked_others : (id : AttemptId) (o : Option AppRecord) (table : List AsksOf) (q : AttemptId) → asks_others (asks_of (master_asked id o table) q) ≡ asks_others (asks_of table q)
+asked_others : (id : AttemptId) (o : Option AppRecord) (table : List AsksOf) (q : AttemptId) → asks_others (attempt_asks (master_asked id o table) q) ≡ asks_others (attempt_asks table q)
 asked_others id None table q = refl
 asked_others id (Some app) table q = by (is_attempt id q) refl
   where
-    by : (b : Bool) → is_attempt id q ≡ b → asks_others (asks_of (with_asks_of id (asks_set (line_of app.submission.master) (asks_of table id)) table) q) ≡ asks_others (asks_of table q)
+    by : (b : Bool) → is_attempt id q ≡ b → asks_others (attempt_asks (with_asks_of id (asks_set (line_of app.submission.master) (attempt_asks table id)) table) q) ≡ asks_others (attempt_asks table q)
     by true e =
-        subst (λ (a : AttemptId). asks_others (asks_of (with_asks_of id (asks_set (line_of app.submission.master) (asks_of table id)) table) a) ≡ asks_others (asks_of table a)) (same_attempt id q e)
-        (ap asks_others (own_asks id (asks_set (line_of app.submission.master) (asks_of table id)) table) ∙ set_others app.submission.master (asks_of table id))
-    by false e = ap asks_others (other_asks id q e (asks_set (line_of app.submission.master) (asks_of table id)) table)
+        subst (λ (a : AttemptId). asks_others (attempt_asks (with_asks_of id (asks_set (line_of app.submission.master) (attempt_asks table id)) table) a) ≡ asks_others (attempt_asks table a)) (same_attempt id q e)
+        (ap asks_others (own_asks id (asks_set (line_of app.submission.master) (attempt_asks table id)) table) ∙ set_others app.submission.master (attempt_asks table id))
+    by false e = ap asks_others (other_asks id q e (asks_set (line_of app.submission.master) (attempt_asks table id)) table)
 
-asked_single : (id : AttemptId) (o : Option AppRecord) (table : List AsksOf) → ((q : AttemptId) → are_single (asks_of table q) ≡ true) → (q : AttemptId) → are_single (asks_of (master_asked id o table) q) ≡ true
+asked_single : (id : AttemptId) (o : Option AppRecord) (table : List AsksOf) → ((q : AttemptId) → are_single (attempt_asks table q) ≡ true) → (q : AttemptId) → are_single (attempt_asks (master_asked id o table) q) ≡ true
 asked_single id None table single q = single q
 asked_single id (Some app) table single q = by (is_attempt id q) refl
   where
-    by : (b : Bool) → is_attempt id q ≡ b → are_single (asks_of (with_asks_of id (asks_set (line_of app.submission.master) (asks_of table id)) table) q) ≡ true
+    by : (b : Bool) → is_attempt id q ≡ b → are_single (attempt_asks (with_asks_of id (asks_set (line_of app.submission.master) (attempt_asks table id)) table) q) ≡ true
     by true e =
-        subst (λ (a : AttemptId). are_single (asks_of (with_asks_of id (asks_set (line_of app.submission.master) (asks_of table id)) table) a) ≡ true) (same_attempt id q e)
-        (ap are_single (own_asks id (asks_set (line_of app.submission.master) (asks_of table id)) table) ∙ set_single app.submission.master (asks_of table id) (single id))
-    by false e = ap are_single (other_asks id q e (asks_set (line_of app.submission.master) (asks_of table id)) table) ∙ single q
+        subst (λ (a : AttemptId). are_single (attempt_asks (with_asks_of id (asks_set (line_of app.submission.master) (attempt_asks table id)) table) a) ≡ true) (same_attempt id q e)
+        (ap are_single (own_asks id (asks_set (line_of app.submission.master) (attempt_asks table id)) table) ∙ set_single app.submission.master (attempt_asks table id) (single id))
+    by false e = ap are_single (other_asks id q e (asks_set (line_of app.submission.master) (attempt_asks table id)) table) ∙ single q
 
 -- ALL EVENTS
 
@@ -171,7 +171,7 @@ module _ (t : Tables) (apt : AsksApt t) where
 
   absorbed_apt : (name : List ℕ) (turn : ℕ) (list : List ContainerId) (o : Option NodeRow) → AsksApt (sched_worked (absorbed_by o name turn list t)).1
   absorbed_apt name turn list None = still (sched_worked (absorbed_by None name turn list t)).1 refl refl refl
-  absorbed_apt name turn list (Some row) = by (is_waiting row.state && (row.turn == turn))
+  absorbed_apt name turn list (Some row) = by (is_waiting_row row.state && (row.turn == turn))
     where
       by : (b : Bool) → AsksApt (sched_worked (absorbed_if b name row list t)).1
       by true = told_apt t (sched_worked (absorbed_if true name row list t)).1 (closings_of t.tree.apps Gone list) refl refl refl apt
@@ -188,7 +188,7 @@ module _ (t : Tables) (apt : AsksApt t) where
   sched_apt (scheds.AttemptAdded id) list = queued_apt id (row_of t.rows id.app)
   sched_apt (scheds.AttemptRemoved id) list = ended_apt _ list t apt
   sched_apt (scheds.Release attempt released) list = ended_apt _ _ t apt
-  sched_apt (scheds.NodeAdded node turn) list = absorbed_apt node turn list (node_of t.nodes node)
+  sched_apt (scheds.NodeAdded node turn) list = absorbed_apt node turn list (node_row t.nodes node)
   sched_apt (scheds.NodeDone node done) list = ended_apt _ _ t apt
-  sched_apt (scheds.NodeUpdate node) list = updated_apt node (node_of t.nodes node)
+  sched_apt (scheds.NodeUpdate node) list = updated_apt node (node_row t.nodes node)
   sched_apt (scheds.NodeLost node) list = ended_apt _ list t apt

@@ -11,7 +11,7 @@ use Rattle.rm_types.specs.declared.resources.Resource.{Resource}
 use Rattle.rm_types.specs.Ids.{is_app, is_attempt}
 use Rattle.rm_types.specs.Passes.{by_priority}
 use Rattle.rm_types.proofs.IdLemmas.{same_attempt}
-use Rattle.rm_book.specs.AskTables.{AsksOf, asks_granted, asks_of, granted_in, is_for, one_less}
+use Rattle.rm_book.specs.AskTables.{AsksOf, asks_granted, attempt_asks, table_granted, is_for, one_less}
 use Rattle.rm_attempt.specs.declared.states.AttemptState.{AttemptState}
 use Rattle.rm_attempt.specs.declared.states.AttemptState.TheVariants as attempts
 use Rattle.rm_attempt.specs.Table.{is_alive}
@@ -21,7 +21,7 @@ use Rattle.rm_tables.specs.declared.rows.Current.{Current}
 use Rattle.rm_tables.specs.declared.tables.Tables.{Tables}
 use Rattle.rm_tables.specs.Actions.{sched_popped}
 use Rattle.rm_tables.specs.Changes.{granted_at}
-use Rattle.rm_tables.specs.Passing.{answered, passed_with, row_granted, without_granted}
+use Rattle.rm_tables.specs.Passing.{asks_after_answer, passed_with, rows_after_grant, table_without_granted}
 use Rattle.rm_tables.specs.Rows.{row_of}
 use Rattle.rm_refinement.specs.Services.{is_ending}
 use Rattle.rm_invariant.specs.apps.View.{changed_if}
@@ -66,29 +66,29 @@ single_granted priority size (one ∷ asks) single = by (is_single one) refl (si
     by true e rest = kept (one_less priority size one) (lessened e (is_for priority size one) refl) (rest (rw e at single))
     by false e rest = absurd (let x : false ≡ true = rw e at single in false≢true x)
 
-single_answered : (table : List AsksOf) (grant : Grant) (q : AttemptId) → are_single (asks_of table q) ≡ true → are_single (asks_of (without_granted table grant) q) ≡ true
-single_answered table grant q single = by (find (λ one. is_size one.size grant.size) (by_priority (asks_of table grant.id.attempt)))
+single_answered : (table : List AsksOf) (grant : Grant) (q : AttemptId) → are_single (attempt_asks table q) ≡ true → are_single (attempt_asks (table_without_granted table grant) q) ≡ true
+single_answered table grant q single = by (find (λ one. is_size one.size grant.size) (by_priority (attempt_asks table grant.id.attempt)))
   where
-    at : (ask : Ask) (b : Bool) → is_attempt grant.id.attempt q ≡ b → are_single (asks_of (granted_in grant.id.attempt ask.priority grant.size table) q) ≡ true
+    at : (ask : Ask) (b : Bool) → is_attempt grant.id.attempt q ≡ b → are_single (attempt_asks (table_granted grant.id.attempt ask.priority grant.size table) q) ≡ true
     at ask true e =
         let is : grant.id.attempt ≡ q = same_attempt grant.id.attempt q e in
-        let own : asks_of (granted_in grant.id.attempt ask.priority grant.size table) q ≡ asks_granted ask.priority grant.size (asks_of table q) =
-        subst (λ (a : AttemptId). asks_of (granted_in grant.id.attempt ask.priority grant.size table) a ≡ asks_granted ask.priority grant.size (asks_of table a)) is (own_granted grant.id.attempt ask.priority grant.size table) in
-        ap are_single own ∙ single_granted ask.priority grant.size (asks_of table q) single
+        let own : attempt_asks (table_granted grant.id.attempt ask.priority grant.size table) q ≡ asks_granted ask.priority grant.size (attempt_asks table q) =
+        subst (λ (a : AttemptId). attempt_asks (table_granted grant.id.attempt ask.priority grant.size table) a ≡ asks_granted ask.priority grant.size (attempt_asks table a)) is (own_granted grant.id.attempt ask.priority grant.size table) in
+        ap are_single own ∙ single_granted ask.priority grant.size (attempt_asks table q) single
     at ask false e = ap are_single (other_granted grant.id.attempt q e ask.priority grant.size table) ∙ single
 
-    by : (o : Option Ask) → are_single (asks_of (answered table grant o) q) ≡ true
+    by : (o : Option Ask) → are_single (attempt_asks (asks_after_answer table grant o) q) ≡ true
     by None = single
     by (Some ask) = at ask (is_attempt grant.id.attempt q) refl
 
-single_passed : (grants : List Grant) (table : List AsksOf) (q : AttemptId) → are_single (asks_of table q) ≡ true → are_single (asks_of (fold without_granted table grants) q) ≡ true
+single_passed : (grants : List Grant) (table : List AsksOf) (q : AttemptId) → are_single (attempt_asks table q) ≡ true → are_single (attempt_asks (fold table_without_granted table grants) q) ≡ true
 single_passed [] table q single = single
-single_passed (grant ∷ grants) table q single = single_passed grants (without_granted table grant) q (single_answered table grant q single)
+single_passed (grant ∷ grants) table q single = single_passed grants (table_without_granted table grant) q (single_answered table grant q single)
 
 -- THE ROWS
 
 -- what goes on goes on after a grant
-goes_granted : (grant : Grant) (rows : List (AppId × Option AppRow)) (id : AppId) → goes_in (row_of rows id) ≡ true → goes_in (row_of (row_granted rows grant) id) ≡ true
+goes_granted : (grant : Grant) (rows : List (AppId × Option AppRow)) (id : AppId) → goes_in (row_of rows id) ≡ true → goes_in (row_of (rows_after_grant rows grant) id) ≡ true
 goes_granted grant rows id goes = ap goes_in (row_changed (counting grant) grant.id.attempt.app id rows) ∙ by (is_app grant.id.attempt.app id) (row_of rows id) goes
   where
     at : (s : AttemptState) (one : Current) → one.state ≡ s → (is_alive s || is_ending s) ≡ true → (is_alive (granted_at s grant.id one).state || is_ending (granted_at s grant.id one).state) ≡ true
@@ -111,9 +111,9 @@ goes_granted grant rows id goes = ap goes_in (row_changed (counting grant) grant
     by true (Some row) e = with row row.current refl e
     by false o e = e
 
-goes_passed : (grants : List Grant) (rows : List (AppId × Option AppRow)) (id : AppId) → goes_in (row_of rows id) ≡ true → goes_in (row_of (fold row_granted rows grants) id) ≡ true
+goes_passed : (grants : List Grant) (rows : List (AppId × Option AppRow)) (id : AppId) → goes_in (row_of rows id) ≡ true → goes_in (row_of (fold rows_after_grant rows grants) id) ≡ true
 goes_passed [] rows id goes = goes
-goes_passed (grant ∷ grants) rows id goes = goes_passed grants (row_granted rows grant) id (goes_granted grant rows id goes)
+goes_passed (grant ∷ grants) rows id goes = goes_passed grants (rows_after_grant rows grant) id (goes_granted grant rows id goes)
 
 -- WHAT A PASS KEEPS
 
@@ -127,10 +127,10 @@ module _ (t : Tables) (grants : List Grant) where
   once_kept once =
       record {
         single = λ q. single_passed grants t.asks q (once.single q);
-        others = λ q some. goes_passed grants t.rows q.app (by q (asks_others (asks_of t.asks q)) refl some);
+        others = λ q some. goes_passed grants t.rows q.app (by q (asks_others (attempt_asks t.asks q)) refl some);
       }
     where
-      by : (q : AttemptId) (b : Bool) → asks_others (asks_of t.asks q) ≡ b → asks_others (asks_of (fold without_granted t.asks grants) q) ≡ true → goes_in (row_of t.rows q.app) ≡ true
+      by : (q : AttemptId) (b : Bool) → asks_others (attempt_asks t.asks q) ≡ b → asks_others (attempt_asks (fold table_without_granted t.asks grants) q) ≡ true → goes_in (row_of t.rows q.app) ≡ true
       by q true e some = once.others q e
       by q false e some = absurd (false≢true (sym (none_passed grants t.asks q e) ∙ some))
 

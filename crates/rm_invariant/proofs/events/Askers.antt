@@ -14,7 +14,7 @@ use Rattle.rm_types.specs.Ids.{is_attempt}
 use Rattle.rm_types.specs.Lists.{is_nil}
 use Rattle.rm_types.specs.Passes.{by_priority}
 use Rattle.rm_types.proofs.IdLemmas.{same_attempt}
-use Rattle.rm_book.specs.AskTables.{AsksOf, asks_granted, asks_of, granted_in, is_for, one_less}
+use Rattle.rm_book.specs.AskTables.{AsksOf, asks_granted, attempt_asks, table_granted, is_for, one_less}
 use Rattle.rm_book.proofs.Lists.{any_filter}
 use Rattle.rm_app.specs.declared.states.AppState.{AppState}
 use Rattle.rm_app.specs.declared.states.AppState.TheVariants as apps
@@ -24,14 +24,14 @@ use Rattle.rm_model.specs.Passing.{asks_of as asks_told}
 use Rattle.rm_tables.specs.declared.rows.AppRow.{AppRow}
 use Rattle.rm_tables.specs.declared.rows.Current.{Current}
 use Rattle.rm_tables.specs.declared.tables.Tables.{Tables}
-use Rattle.rm_tables.specs.Passing.{answered, passed_with, row_granted, without_granted}
+use Rattle.rm_tables.specs.Passing.{asks_after_answer, passed_with, rows_after_grant, table_without_granted}
 use Rattle.rm_tables.specs.Rows.{row_of}
 use Rattle.rm_refinement.specs.Agreement.{SameAsks}
 use Rattle.rm_invariant.specs.apps.Invariant.{ActiveInvariant, AttemptsInvariant, AttemptCounts, EndIssuedInvariant, RowInvariant, StateInvariant}
 use Rattle.rm_refinement.specs.History.{History}
 use Rattle.rm_invariant.specs.apps.View.{View, is_ask, view}
 use Rattle.rm_invariant.proofs.apps.Counts.{passes_once}
-use Rattle.rm_invariant.specs.events.Asking.{AskersCurrent, OthersCurrent, asks_others, is_current, is_numbered, is_numbered_in}
+use Rattle.rm_invariant.specs.events.Asking.{AskersCurrent, OthersCurrent, asks_others, is_current_number, is_numbered, is_numbered_in}
 use Rattle.rm_invariant.proofs.events.Answered.{other_granted, own_granted}
 use Rattle.rm_invariant.proofs.events.Granting.{still_current}
 
@@ -81,7 +81,7 @@ asks_master attempt (one ∷ asks) some = by (is_attempt one.attempt attempt) re
 
 -- each attempt that asks for something is current
 pub askers_current : (settings : Settings) (h : History) (t : Tables) → AttemptsInvariant settings h t → SameAsks t.asks h.asks → OthersCurrent t → AskersCurrent t
-askers_current settings h t all same others place app found some = by (list_any (λ one. one.priority == 0) (asks_of t.asks attempt)) refl
+askers_current settings h t all same others place app found some = by (list_any (λ one. one.priority == 0) (attempt_asks t.asks attempt)) refl
   where
     attempt : AttemptId
     attempt = attempt_at app
@@ -94,11 +94,11 @@ askers_current settings h t all same others place app found some = by (list_any 
         first true e = absurd (false≢true (let f : true ≡ false = rw e at none in sym f))
         first false e = rw e refl
 
-    by : (b : Bool) → list_any (λ one. one.priority == 0) (asks_of t.asks attempt) ≡ b → is_current t.rows attempt ≡ true
+    by : (b : Bool) → list_any (λ one. one.priority == 0) (attempt_asks t.asks attempt) ≡ b → is_current_number t.rows attempt ≡ true
     by true e =
         let asked : list_any (is_ask attempt) h.asks ≡ true = asks_master attempt h.asks (sym (ap (list_any (λ one. one.priority == 0)) (same attempt)) ∙ e) in
         master_asker settings attempt (row_of t.rows attempt.app) (view h t attempt) (all attempt) (passes_once (is_ask attempt) h.asks asked)
-    by false e = others attempt (other (asks_of t.asks attempt) some e)
+    by false e = others attempt (other (attempt_asks t.asks attempt) some e)
 
 -- A PASS
 
@@ -121,35 +121,35 @@ none_granted priority size asks none = any_filter (λ (one : Ask). not (one.prio
         more false e rest = absurd (false≢true (sym (let f : true ≡ false = rw e at none in f)))
 
 -- where an attempt asks for nothing else, it doesn't after a grant
-none_answered : (table : List AsksOf) (grant : Grant) (q : AttemptId) → asks_others (asks_of table q) ≡ false → asks_others (asks_of (without_granted table grant) q) ≡ false
-none_answered table grant q none = by (find (λ one. is_size one.size grant.size) (by_priority (asks_of table grant.id.attempt)))
+none_answered : (table : List AsksOf) (grant : Grant) (q : AttemptId) → asks_others (attempt_asks table q) ≡ false → asks_others (attempt_asks (table_without_granted table grant) q) ≡ false
+none_answered table grant q none = by (find (λ one. is_size one.size grant.size) (by_priority (attempt_asks table grant.id.attempt)))
   where
-    at : (ask : Ask) (b : Bool) → is_attempt grant.id.attempt q ≡ b → asks_others (asks_of (granted_in grant.id.attempt ask.priority grant.size table) q) ≡ false
+    at : (ask : Ask) (b : Bool) → is_attempt grant.id.attempt q ≡ b → asks_others (attempt_asks (table_granted grant.id.attempt ask.priority grant.size table) q) ≡ false
     at ask true e =
         let is : grant.id.attempt ≡ q = same_attempt grant.id.attempt q e in
-        let own : asks_of (granted_in grant.id.attempt ask.priority grant.size table) q ≡ asks_granted ask.priority grant.size (asks_of table q) =
-        subst (λ (a : AttemptId). asks_of (granted_in grant.id.attempt ask.priority grant.size table) a ≡ asks_granted ask.priority grant.size (asks_of table a)) is (own_granted grant.id.attempt ask.priority grant.size table) in
-        ap asks_others own ∙ none_granted ask.priority grant.size (asks_of table q) none
+        let own : attempt_asks (table_granted grant.id.attempt ask.priority grant.size table) q ≡ asks_granted ask.priority grant.size (attempt_asks table q) =
+        subst (λ (a : AttemptId). attempt_asks (table_granted grant.id.attempt ask.priority grant.size table) a ≡ asks_granted ask.priority grant.size (attempt_asks table a)) is (own_granted grant.id.attempt ask.priority grant.size table) in
+        ap asks_others own ∙ none_granted ask.priority grant.size (attempt_asks table q) none
     at ask false e = ap asks_others (other_granted grant.id.attempt q e ask.priority grant.size table) ∙ none
 
-    by : (o : Option Ask) → asks_others (asks_of (answered table grant o) q) ≡ false
+    by : (o : Option Ask) → asks_others (attempt_asks (asks_after_answer table grant o) q) ≡ false
     by None = none
     by (Some ask) = at ask (is_attempt grant.id.attempt q) refl
 
 -- and after all
-pub none_passed : (grants : List Grant) (table : List AsksOf) (q : AttemptId) → asks_others (asks_of table q) ≡ false → asks_others (asks_of (fold without_granted table grants) q) ≡ false
+pub none_passed : (grants : List Grant) (table : List AsksOf) (q : AttemptId) → asks_others (attempt_asks table q) ≡ false → asks_others (attempt_asks (fold table_without_granted table grants) q) ≡ false
 none_passed [] table q none = none
-none_passed (grant ∷ grants) table q none = none_passed grants (without_granted table grant) q (none_answered table grant q none)
+none_passed (grant ∷ grants) table q none = none_passed grants (table_without_granted table grant) q (none_answered table grant q none)
 
 -- the same attempts are current after grants
-pub current_passed : (grants : List Grant) (rows : List (AppId × Option AppRow)) (attempt : AttemptId) → is_current (fold row_granted rows grants) attempt ≡ is_current rows attempt
+pub current_passed : (grants : List Grant) (rows : List (AppId × Option AppRow)) (attempt : AttemptId) → is_current_number (fold rows_after_grant rows grants) attempt ≡ is_current_number rows attempt
 current_passed [] rows attempt = refl
-current_passed (grant ∷ grants) rows attempt = current_passed grants (row_granted rows grant) attempt ∙ still_current grant rows attempt
+current_passed (grant ∷ grants) rows attempt = current_passed grants (rows_after_grant rows grant) attempt ∙ still_current grant rows attempt
 
 -- a pass keeps that those which ask for something else are current
 pub others_passed : (t : Tables) (grants : List Grant) → OthersCurrent t → OthersCurrent (passed_with grants t)
-others_passed t grants others attempt some = current_passed grants t.rows attempt ∙ by (asks_others (asks_of t.asks attempt)) refl
+others_passed t grants others attempt some = current_passed grants t.rows attempt ∙ by (asks_others (attempt_asks t.asks attempt)) refl
   where
-    by : (b : Bool) → asks_others (asks_of t.asks attempt) ≡ b → is_current t.rows attempt ≡ true
+    by : (b : Bool) → asks_others (attempt_asks t.asks attempt) ≡ b → is_current_number t.rows attempt ≡ true
     by true e = others attempt e
     by false e = absurd (false≢true (sym (none_passed grants t.asks attempt e) ∙ some))

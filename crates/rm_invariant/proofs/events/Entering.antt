@@ -10,7 +10,7 @@ use Rattle.rm_types.specs.declared.resources.Resource.{Resource}
 use Rattle.rm_types.specs.Ids.{is_attempt, is_container}
 use Rattle.rm_types.proofs.IdLemmas.{attempt_itself, container_itself, same_container}
 use Rattle.rm_model.specs.Containers.{is_living, lives_on}
-use Rattle.rm_model.specs.Nodes.{node_of, with_node}
+use Rattle.rm_model.specs.Nodes.{judged_node, with_judged_node}
 use Rattle.rm_model.specs.Passing.{passed, passes, row_granted}
 use Rattle.rm_model.specs.State.{LifeState, NodeState, Row, Scene}
 use Rattle.rm_refinement.specs.Agreement.{grants_of}
@@ -18,7 +18,7 @@ use Rattle.rm_refinement.proofs.Found.{found_each}
 use Rattle.rm_tables.specs.declared.rows.AppRow.{AppRow}
 use Rattle.rm_invariant.specs.apps.View.{one_if, set_if}
 use Rattle.rm_invariant.proofs.apps.Counts.{at_end}
-use Rattle.rm_invariant.specs.nodes.Book.{All, AreApart, AreLaunches, BookInvariant, IsAbsorbed, IsGranted, BookRowInvariant}
+use Rattle.rm_invariant.specs.nodes.Book.{All, LivingRowsAreApart, AreLaunches, BookInvariant, IsAbsorbed, IsGranted, BookRowInvariant}
 use Rattle.rm_invariant.proofs.nodes.Entries.{at_name}
 use Rattle.rm_invariant.proofs.nodes.Holds.{IsNew, all_append, all_map, not_left, not_living}
 use Rattle.rm_invariant.proofs.masters.Tests.{any_end}
@@ -27,11 +27,11 @@ use Rattle.rm_invariant.specs.Core.{Nothing}
 use Rattle.rm_invariant.proofs.events.Leaving.{tidied_holds}
 
 -- a row behind others is apart from them
-apart_end : (row : Row) (book : List Row) → is_living book row.id ≡ false → AreApart book → AreApart (book ++ row ∷ [])
+apart_end : (row : Row) (book : List Row) → is_living book row.id ≡ false → LivingRowsAreApart book → LivingRowsAreApart (book ++ row ∷ [])
 apart_end row [] none apart = (refl, tt)
 apart_end row (one ∷ book) none apart = by (is_container one.id row.id) refl (apart_end row book)
   where
-    by : (b : Bool) → is_container one.id row.id ≡ b → (is_living book row.id ≡ false → AreApart book → AreApart (book ++ row ∷ [])) → AreApart (one ∷ book ++ row ∷ [])
+    by : (b : Bool) → is_container one.id row.id ≡ b → (is_living book row.id ≡ false → LivingRowsAreApart book → LivingRowsAreApart (book ++ row ∷ [])) → LivingRowsAreApart (one ∷ book ++ row ∷ [])
     by true e rest = absurd (false≢true (sym (let x : true ≡ false = rw e at none in x)))
     by false e rest =
         let none_here : is_living book row.id ≡ false = rw e at none in
@@ -119,11 +119,11 @@ all_enter rows (grant ∷ grants) life holds next now absorbed =
     (all_enter rows grants (with_one life grant) (one_enters life grant holds now.0 next.1 absorbed.0) next.2 now.1 absorbed.1))
 
 -- a beat that is worked off is nothing to the book
-worked_holds : (life : LifeState) (name : List ℕ) → BookInvariant life Nothing → BookInvariant (record life { nodes = with_node passed name life.nodes }) Nothing
+worked_holds : (life : LifeState) (name : List ℕ) → BookInvariant life Nothing → BookInvariant (record life { nodes = with_judged_node passed name life.nodes }) Nothing
 worked_holds life name h =
     record {
       apart = h.apart;
-      rows = all_weaker (BookRowInvariant life Nothing) (BookRowInvariant (record life { nodes = with_node passed name life.nodes }) Nothing) (λ row is. (absorbed row.node is.0, is.1, is.2, is.3)) life.book h.rows;
+      rows = all_weaker (BookRowInvariant life Nothing) (BookRowInvariant (record life { nodes = with_judged_node passed name life.nodes }) Nothing) (λ row is. (absorbed row.node is.0, is.1, is.2, is.3)) life.book h.rows;
       left = h.left;
       launches = all_map (AreLaunches life.book) (AreLaunches life.book) change (λ node are. still node (bytes_eq node.name name) are) life.nodes h.launches;
     }
@@ -139,8 +139,8 @@ worked_holds life name h =
     offers node true = refl
     offers node false = refl
 
-    absorbed : (q : List ℕ) → IsAbsorbed life.nodes q → IsAbsorbed (with_node passed name life.nodes) q
-    absorbed q is = rw (found_each change q life.nodes (at_name name passed (λ node. refl))) (by (node_of life.nodes q) is)
+    absorbed : (q : List ℕ) → IsAbsorbed life.nodes q → IsAbsorbed (with_judged_node passed name life.nodes) q
+    absorbed q is = rw (found_each change q life.nodes (at_name name passed (λ node. refl))) (by (judged_node life.nodes q) is)
       where
         by : (o : Option NodeState) → is_some (option_and_then (λ (node : NodeState). node.capability) o) ≡ true
             → is_some (option_and_then (λ (node : NodeState). node.capability) (option_map change o)) ≡ true
@@ -152,5 +152,5 @@ pub passed_holds : (m : Scene) (name : List ℕ) (rows : List (AppId × Option A
     → All (λ grant. grant.id.epoch ≡ m.life.epoch) grants → All (λ grant. IsAbsorbed m.life.nodes grant.node) grants → BookInvariant (passes m name grants) Nothing
 passed_holds m name rows grants holds next now absorbed =
     let entered : BookInvariant (with_all m.life grants) Nothing = all_enter rows grants m.life holds next now absorbed in
-    let worked : BookInvariant (record (with_all m.life grants) { nodes = with_node passed name m.life.nodes }) Nothing = worked_holds (with_all m.life grants) name entered in
+    let worked : BookInvariant (record (with_all m.life grants) { nodes = with_judged_node passed name m.life.nodes }) Nothing = worked_holds (with_all m.life grants) name entered in
     tidied_holds _ Nothing (record { apart = worked.apart; rows = worked.rows; left = worked.left; launches = worked.launches })

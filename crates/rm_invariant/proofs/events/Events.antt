@@ -11,22 +11,22 @@ use Rattle.rm_types.specs.declared.ids.ContainerId.{ContainerId}
 use Rattle.rm_types.specs.declared.settings.Settings.{Settings}
 use Rattle.rm_types.specs.Lists.{is_nil}
 use Rattle.rm_types.specs.Order.{Ascend}
-use Rattle.rm_book.specs.Books.{row_of as book_row_of}
+use Rattle.rm_book.specs.Books.{book_row as book_row_of}
 use Rattle.rm_model.specs.Attempts.{is_masters}
 use Rattle.rm_model.specs.Containers.{is_living, released_by as released_told, ids_of, ids_on, lives_on, once}
 use Rattle.rm_model.specs.Facts.{has_container}
 use Rattle.rm_model.specs.Rules.{Allowed}
 use Rattle.rm_model.specs.Ending.{MayEnd}
-use Rattle.rm_model.specs.Nodes.{node_of}
+use Rattle.rm_model.specs.Nodes.{judged_node}
 use Rattle.rm_tables.specs.declared.events.SchedEvent.{SchedEvent}
 use Rattle.rm_tables.specs.declared.events.SchedEvent.TheVariants as scheds
 use Rattle.rm_tables.specs.declared.tables.Tables.{Tables}
 use Rattle.rm_tables.specs.Actions.{sched_worked}
 use Rattle.rm_tables.specs.Leaving.{ended_by}
-use Rattle.rm_tables.specs.SchedEvents.{EndsBy, is_on, is_released, sched_step}
+use Rattle.rm_tables.specs.SchedEvents.{EndsByEvent, is_on, is_released, sched_step}
 use Rattle.rm_refinement.specs.History.{History, abstract_scene, live_state}
 use Rattle.rm_invariant.proofs.apps.Keeping.{in_scene}
-use Rattle.rm_invariant.specs.nodes.Invariant.{NodesInvariant, RegisteredInvariant, NodeInvariant, NodeView, UpdatesFollow, are_turns, events_of, pending, view_of}
+use Rattle.rm_invariant.specs.nodes.Invariant.{NodesInvariant, RegisteredInvariant, NodeInvariant, NodeView, UpdatesFollow, are_turns, events_of, pending, node_view}
 use Rattle.rm_invariant.proofs.nodes.Ascending.{permuted_has}
 use Rattle.rm_invariant.proofs.nodes.Entries.{done_good, done_lawful, done_list, ended_good, known_node, lost_good, lost_lawful, lost_quiet_good, quiet_good}
 use Rattle.rm_invariant.proofs.nodes.Lists.{lives_is}
@@ -40,7 +40,7 @@ use Rattle.std.specs.Prelude.{Contains}
 use Rattle.rm_types.specs.Ids.{is_attempt}
 use Rattle.rm_types.proofs.IdLemmas.{container_itself}
 use Rattle.rm_types.proofs.TestLemmas.{text_itself}
-use Rattle.rm_invariant.specs.events.Here.{AreServed, IsServed}
+use Rattle.rm_invariant.specs.events.Here.{AreServed, IsServedRelease}
 use Rattle.rm_invariant.specs.Core.{CoreInvariant, PreservesCore}
 use Rattle.rm_invariant.proofs.events.Knowing.{on_node, rows_apart}
 use Rattle.rm_invariant.proofs.events.Leaving.{at_event, ended_whole, idle_whole, left_life}
@@ -74,10 +74,10 @@ done_quiet v node list more e none a =
 module _ (settings : Settings) (h : History) (t : Tables) (w : CoreInvariant settings h t) where
   -- an event of no node leaves the nodes as they are
   pub still_good : (e : SchedEvent) (rest : List SchedEvent) → t.sched ≡ e ∷ rest → ((q : List ℕ) → events_of q (e ∷ rest) ≡ events_of q rest) → NodesInvariant h.nodes h.book rest
-  still_good e rest front none = λ q. subst (λ (events : List SchedEvent). NodeInvariant (node_of h.nodes q) events (ids_on h.book q)) (ap (events_of q) front ∙ none q) (w.nodes q)
+  still_good e rest front none = λ q. subst (λ (events : List SchedEvent). NodeInvariant (judged_node h.nodes q) events (ids_on h.book q)) (ap (events_of q) front ∙ none q) (w.nodes q)
 
   -- AttemptRemoved
-  pub removed_whole : (id : AttemptId) (rest : List SchedEvent) → t.sched ≡ scheds.AttemptRemoved id ∷ rest → (list : List ContainerId) → EndsBy (scheds.AttemptRemoved id) t list
+  pub removed_whole : (id : AttemptId) (rest : List SchedEvent) → t.sched ≡ scheds.AttemptRemoved id ∷ rest → (list : List ContainerId) → EndsByEvent (scheds.AttemptRemoved id) t list
       → PreservesCore settings h t (sched_worked (sched_step (scheds.AttemptRemoved id) list t))
   removed_whole id rest front list ends =
       let told : Ascend (ids_of h.book id) list = subst (λ (ids : List ContainerId). Ascend ids list) (same_ids id t.book.rows h.book w.agrees.rows) ends in
@@ -106,13 +106,13 @@ module _ (settings : Settings) (h : History) (t : Tables) (w : CoreInvariant set
     same_release : released_told (abstract_scene h t) one_release ≡ given_back
     same_release = ap once (sym (filter_agree (is_released attempt t) (λ id. is_living h.book id && (is_attempt id.attempt attempt && not (is_masters (abstract_scene h t) id))) tests_same released))
 
-    told_served : (releases : List Release) → IsServed one_release releases → Contains (map (released_told (abstract_scene h t)) releases) (released_told (abstract_scene h t) one_release)
+    told_served : (releases : List Release) → IsServedRelease one_release releases → Contains (map (released_told (abstract_scene h t)) releases) (released_told (abstract_scene h t) one_release)
     told_served [] none = absurd none
     told_served (one ∷ more) (inl same) =
         subst (λ (x : Release). Contains (map (released_told (abstract_scene h t)) (one ∷ more)) (released_told (abstract_scene h t) x)) same (Contains-first (released_told (abstract_scene h t) one) (map (released_told (abstract_scene h t)) more))
     told_served (one ∷ more) (inr later) = Contains-more (released_told (abstract_scene h t) one_release) (released_told (abstract_scene h t) one) (map (released_told (abstract_scene h t)) more) (told_served more later)
 
-    is_served : IsServed one_release h.endings.releases
+    is_served : IsServedRelease one_release h.endings.releases
     is_served = (subst (λ (sched : List SchedEvent). AreServed h.endings.releases sched) front served).0
 
     released_allowed : (list : List ContainerId) → given_back ≡ list → Allowed settings (live_state h t) (ended_by causes.Released list t).0
@@ -166,7 +166,7 @@ module _ (settings : Settings) (h : History) (t : Tables) (w : CoreInvariant set
         let off : list_any (lives_on h.book name) done ≡ false = none_passes (lives_on h.book name) done (none_once _ (listed ∙ none)) in
         let gone : list_any (has_container (ids_on h.book name)) done ≡ false = subst (λ (b : Bool). b ≡ false) (any_agree (lives_on h.book name) (has_container (ids_on h.book name)) (lives_is h.book name) done) off in
         quiet_good h.nodes h.book t.sched name (scheds.NodeDone name done) rest front (λ q apart. apart) (text_itself name) k.0 k.1
-        (done_quiet (view_of k.0 (scheds.NodeDone name done ∷ events_of name rest) (ids_on h.book name)) name done (events_of name rest) refl gone) w.nodes
+        (done_quiet (node_view k.0 (scheds.NodeDone name done ∷ events_of name rest) (ids_on h.book name)) name done (events_of name rest) refl gone) w.nodes
 
     pub done_whole : (list : List ContainerId) → PreservesCore settings h t (sched_worked (sched_step (scheds.NodeDone name done) list t))
     done_whole list =
@@ -180,7 +180,7 @@ module _ (settings : Settings) (h : History) (t : Tables) (w : CoreInvariant set
         (done_good (at_event settings h t w (scheds.NodeDone name done) rest front) t.sched name done rest front w.nodes))
 
   -- NodeLost
-  module _ (name : List ℕ) (rest : List SchedEvent) (front : t.sched ≡ scheds.NodeLost name ∷ rest) (list : List ContainerId) (ends : EndsBy (scheds.NodeLost name) t list) where
+  module _ (name : List ℕ) (rest : List SchedEvent) (front : t.sched ≡ scheds.NodeLost name ∷ rest) (list : List ContainerId) (ends : EndsByEvent (scheds.NodeLost name) t list) where
     told : Ascend (ids_on h.book name) list
     told = subst (λ (ids : List ContainerId). Ascend ids list) (same_ids_on name t.book.rows h.book w.agrees.rows) ends
 

@@ -15,7 +15,7 @@ use Rattle.rm_types.specs.Ids.{is_app}
 use Rattle.rm_types.specs.Records.{Records}
 use Rattle.rm_attempt.specs.declared.states.AttemptState.{AttemptState}
 use Rattle.rm_attempt.specs.declared.states.AttemptState.TheVariants as attempts
-use Rattle.rm_book.specs.Books.{row_of as book_row_of}
+use Rattle.rm_book.specs.Books.{book_row as book_row_of}
 use Rattle.rm_model.specs.Attempts.{attempt_was_first}
 use Rattle.rm_model.specs.Changes.{after}
 use Rattle.rm_model.specs.Containers.{once}
@@ -32,8 +32,8 @@ use Rattle.rm_tables.specs.Absorbing.{absorbed_by, absorbed_if, was_first}
 use Rattle.rm_tables.specs.Actions.{sched_worked}
 use Rattle.rm_tables.specs.Changes.{changed}
 use Rattle.rm_tables.specs.Leaving.{closed, closed_in, closed_one, closings_of, ended_by}
-use Rattle.rm_tables.specs.Nodes.{is_waiting, node_of}
-use Rattle.rm_tables.specs.Passing.{grants_on, row_granted, updated_by}
+use Rattle.rm_tables.specs.Nodes.{is_waiting_row, node_row}
+use Rattle.rm_tables.specs.Passing.{grants_on, rows_after_grant, updated_by}
 use Rattle.rm_tables.specs.Rows.{row_of, with_row}
 use Rattle.rm_tables.specs.SchedEvents.{is_on, is_released, queued_at, queued_by, queued_with, sched_step}
 use Rattle.rm_refinement.specs.History.{History, abstract_scene, live_state}
@@ -67,10 +67,10 @@ module _ (m : Scene) where
   firsts_closed (closing ∷ more) rows before = firsts_closed more (closed_one rows closing) (firsts_with (closed closing) closing.id.attempt.app rows (λ row. refl) before)
 
   -- containers are granted
-  pub firsts_granted : (grants : List Grant) (rows : List (AppId × Option AppRow)) → FirstsKnown m rows → FirstsKnown m (fold row_granted rows grants)
+  pub firsts_granted : (grants : List Grant) (rows : List (AppId × Option AppRow)) → FirstsKnown m rows → FirstsKnown m (fold rows_after_grant rows grants)
   firsts_granted [] rows before = before
   firsts_granted (grant ∷ grants) rows before =
-      firsts_granted grants (row_granted rows grant) (firsts_with (changed (of_app.OfAttempt (of_attempt.Grant grant.id))) grant.id.attempt.app rows (λ row. refl) before)
+      firsts_granted grants (rows_after_grant rows grant) (firsts_with (changed (of_app.OfAttempt (of_attempt.Grant grant.id))) grant.id.attempt.app rows (λ row. refl) before)
 
 -- EVENTS
 
@@ -89,7 +89,7 @@ module _ (h : History) (t : Tables) (before : FirstsKnown (abstract_scene h t) t
 
   absorbed_firsts : (o : Option NodeRow) (name : List ℕ) (turn : ℕ) (ended : List ContainerId) → StillKnown (absorbed_by o name turn ended t)
   absorbed_firsts None name turn ended = (refl, before)
-  absorbed_firsts (Some row) name turn ended = by (is_waiting row.state && (row.turn == turn))
+  absorbed_firsts (Some row) name turn ended = by (is_waiting_row row.state && (row.turn == turn))
     where
       by : (b : Bool) → StillKnown (absorbed_if b name row ended t)
       by true = (refl, firsts_closed (abstract_scene h t) (closings_of t.tree.apps causes.Gone ended) t.rows before)
@@ -118,9 +118,9 @@ module _ (h : History) (t : Tables) (before : FirstsKnown (abstract_scene h t) t
   step_firsts (scheds.AttemptAdded id) list = queued_firsts (row_of t.rows id.app) id
   step_firsts (scheds.AttemptRemoved id) list = ended_firsts causes.Attempt list
   step_firsts (scheds.Release attempt released) list = ended_firsts causes.Released (once (filter (is_released attempt t) released))
-  step_firsts (scheds.NodeAdded node turn) list = absorbed_firsts (node_of t.nodes node) node turn list
+  step_firsts (scheds.NodeAdded node turn) list = absorbed_firsts (node_row t.nodes node) node turn list
   step_firsts (scheds.NodeDone node done) list = ended_firsts causes.Done (once (filter (λ id. is_on node (book_row_of t.book id)) done))
-  step_firsts (scheds.NodeUpdate node) list = updated_firsts (node_of t.nodes node) node
+  step_firsts (scheds.NodeUpdate node) list = updated_firsts (node_row t.nodes node) node
   step_firsts (scheds.NodeLost node) list = ended_firsts causes.Node list
 
   -- after a whole step of the scheduler the rows know it still

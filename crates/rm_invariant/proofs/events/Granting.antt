@@ -16,7 +16,7 @@ use Rattle.rm_types.proofs.TestLemmas.{same_text}
 use Rattle.rm_book.specs.Books.{BookOf, granted_rows, with_grants}
 use Rattle.rm_attempt.specs.declared.states.AttemptState.{AttemptState}
 use Rattle.rm_attempt.specs.declared.states.AttemptState.TheVariants as attempts
-use Rattle.rm_model.specs.Nodes.{node_of as node_told, with_node as with_told}
+use Rattle.rm_model.specs.Nodes.{judged_node as node_told, with_judged_node as with_told}
 use Rattle.rm_model.specs.Passing.{passed, row_granted as row_told}
 use Rattle.rm_model.specs.State.{MasterState, NodeState, Row}
 use Rattle.rm_tables.specs.declared.changes.AttemptChange.TheVariants as of_attempt
@@ -25,14 +25,14 @@ use Rattle.rm_tables.specs.declared.nodes.NodeRow.{NodeRow}
 use Rattle.rm_tables.specs.declared.rows.AppRow.{AppRow}
 use Rattle.rm_tables.specs.declared.rows.Current.{Current}
 use Rattle.rm_tables.specs.Changes.{changed, current_after, granted, granted_at}
-use Rattle.rm_tables.specs.Passing.{row_granted}
+use Rattle.rm_tables.specs.Passing.{rows_after_grant}
 use Rattle.rm_tables.specs.Rows.{row_of}
 use Rattle.rm_refinement.specs.Agreement.{AttemptAgrees, ClosingsAgree, NumberAgrees, RowAgrees, SameNodes, SameRows, bare_row, grants_of, plain_row, plain_node}
 use Rattle.rm_refinement.proofs.Found.{other_told, own_told}
 use Rattle.rm_invariant.specs.apps.View.{changed_if, one_if}
 use Rattle.rm_invariant.proofs.apps.Counts.{at_end}
 use Rattle.rm_invariant.proofs.apps.Found.{row_changed}
-use Rattle.rm_invariant.specs.events.Asking.{AreNext, is_current, is_numbered, is_numbered_in}
+use Rattle.rm_invariant.specs.events.Asking.{AreNext, is_current_number, is_numbered, is_numbered_in}
 
 -- CONTAINERS
 
@@ -72,15 +72,15 @@ nodes_passed book nodes told name grants same = λ q. same q ∙ sym (by q (byte
 abbrev pub counting : Grant → AppRow → AppRow
 counting grant row = changed (of_app.OfAttempt (of_attempt.Grant grant.id)) row
 
-found_counting : (grant : Grant) (rows : List (AppId × Option AppRow)) (id : AppId) → row_of (row_granted rows grant) id ≡ changed_if (is_app grant.id.attempt.app id) (counting grant) (row_of rows id)
+found_counting : (grant : Grant) (rows : List (AppId × Option AppRow)) (id : AppId) → row_of (rows_after_grant rows grant) id ≡ changed_if (is_app grant.id.attempt.app id) (counting grant) (row_of rows id)
 found_counting grant rows id = row_changed (counting grant) grant.id.attempt.app id rows
 
 -- they tell the same endings
 pub closings_passed : (outbox : List Closing) (id : AppId) (retired : Bool) (grants : List Grant) (rows : List (AppId × Option AppRow)) → ClosingsAgree outbox id retired (row_of rows id)
-    → ClosingsAgree outbox id retired (row_of (fold row_granted rows grants) id)
+    → ClosingsAgree outbox id retired (row_of (fold rows_after_grant rows grants) id)
 closings_passed outbox id retired [] rows same = same
 closings_passed outbox id retired (grant ∷ grants) rows same =
-    closings_passed outbox id retired grants (row_granted rows grant)
+    closings_passed outbox id retired grants (rows_after_grant rows grant)
     (subst (λ (o : Option AppRow). ClosingsAgree outbox id retired o) (sym (found_counting grant rows id)) (by (is_app grant.id.attempt.app id) (row_of rows id) same))
   where
     by : (b : Bool) (o : Option AppRow) → ClosingsAgree outbox id retired o → ClosingsAgree outbox id retired (changed_if b (counting grant) o)
@@ -102,7 +102,7 @@ granted_keeps attempts.Ended id one = (refl, refl, refl)
 granted_keeps attempts.Dropped id one = (refl, refl, refl)
 
 -- the same attempts are current
-pub still_current : (grant : Grant) (rows : List (AppId × Option AppRow)) (attempt : AttemptId) → is_current (row_granted rows grant) attempt ≡ is_current rows attempt
+pub still_current : (grant : Grant) (rows : List (AppId × Option AppRow)) (attempt : AttemptId) → is_current_number (rows_after_grant rows grant) attempt ≡ is_current_number rows attempt
 still_current grant rows attempt = ap (is_numbered_in attempt.number) (found_counting grant rows attempt.app) ∙ by (is_app grant.id.attempt.app attempt.app) (row_of rows attempt.app)
   where
     current : (o : Option Current) → is_numbered attempt.number (current_after (of_app.OfAttempt (of_attempt.Grant grant.id)) o) ≡ is_numbered attempt.number o
@@ -115,7 +115,7 @@ still_current grant rows attempt = ap (is_numbered_in attempt.number) (found_cou
     by false o = refl
 
 -- so the same grants are next
-still_next : (new old : List (AppId × Option AppRow)) → ((attempt : AttemptId) → is_current new attempt ≡ is_current old attempt) → (granted : List ContainerId) (grants : List Grant) → AreNext old granted grants
+still_next : (new old : List (AppId × Option AppRow)) → ((attempt : AttemptId) → is_current_number new attempt ≡ is_current_number old attempt) → (granted : List ContainerId) (grants : List Grant) → AreNext old granted grants
     → AreNext new granted grants
 still_next new old still granted [] next = tt
 still_next new old still granted (grant ∷ grants) next = (still grant.id.attempt ∙ next.0, next.1, still_next new old still (granted ++ grant.id ∷ []) grants next.2)
@@ -173,8 +173,8 @@ module _ (registered : List MasterState) (retired : Bool) (attempt : AttemptId) 
         at_number new r g false e false same = tt
 
     -- the rows after one grant
-    one_counts : (rows : List (AppId × Option AppRow)) → is_current rows grant.id.attempt ≡ true → RowAgrees registered so_far retired attempt (row_of rows attempt.app)
-        → RowAgrees registered now retired attempt (row_of (row_granted rows grant) attempt.app)
+    one_counts : (rows : List (AppId × Option AppRow)) → is_current_number rows grant.id.attempt ≡ true → RowAgrees registered so_far retired attempt (row_of rows attempt.app)
+        → RowAgrees registered now retired attempt (row_of (rows_after_grant rows grant) attempt.app)
     one_counts rows current same =
         subst (λ (o : Option AppRow). RowAgrees registered now retired attempt o) (sym (found_counting grant rows attempt.app)) (by (is_app grant.id.attempt.app attempt.app) refl)
       where
@@ -194,9 +194,9 @@ module _ (registered : List MasterState) (retired : Bool) (attempt : AttemptId) 
 
   -- it agrees after all grants
   pub masters_passed : (grants : List Grant) (so_far : List ContainerId) (rows : List (AppId × Option AppRow)) → AreNext rows so_far grants → RowAgrees registered so_far retired attempt (row_of rows attempt.app)
-      → RowAgrees registered (so_far ++ map (λ grant. grant.id) grants) retired attempt (row_of (fold row_granted rows grants) attempt.app)
+      → RowAgrees registered (so_far ++ map (λ grant. grant.id) grants) retired attempt (row_of (fold rows_after_grant rows grants) attempt.app)
   masters_passed [] so_far rows next same = subst (λ (ids : List ContainerId). RowAgrees registered ids retired attempt (row_of rows attempt.app)) (sym (append-nil so_far)) same
   masters_passed (grant ∷ grants) so_far rows next same =
-      subst (λ (ids : List ContainerId). RowAgrees registered ids retired attempt (row_of (fold row_granted rows (grant ∷ grants)) attempt.app)) (append_assoc so_far (grant.id ∷ []) (map (λ one. one.id) grants))
-      (masters_passed grants (so_far ++ grant.id ∷ []) (row_granted rows grant) (still_next (row_granted rows grant) rows (still_current grant rows) (so_far ++ grant.id ∷ []) grants next.2)
+      subst (λ (ids : List ContainerId). RowAgrees registered ids retired attempt (row_of (fold rows_after_grant rows (grant ∷ grants)) attempt.app)) (append_assoc so_far (grant.id ∷ []) (map (λ one. one.id) grants))
+      (masters_passed grants (so_far ++ grant.id ∷ []) (rows_after_grant rows grant) (still_next (rows_after_grant rows grant) rows (still_current grant rows) (so_far ++ grant.id ∷ []) grants next.2)
       (one_counts so_far grant next.1 rows next.0 same))

@@ -15,7 +15,7 @@ use Rattle.rm_types.specs.Records.{fits_records}
 use Rattle.rm_book.specs.AskTables.{without_asks_of}
 use Rattle.rm_model.specs.Changes.{life_keeps}
 use Rattle.rm_model.specs.Containers.{ids_on}
-use Rattle.rm_model.specs.Nodes.{node_of}
+use Rattle.rm_model.specs.Nodes.{judged_node}
 use Rattle.rm_model.specs.State.{LifeState}
 use Rattle.rm_tables.specs.declared.changes.AttemptChange.TheVariants as of_attempt
 use Rattle.rm_tables.specs.declared.changes.RowChange.TheVariants as of_app
@@ -27,7 +27,7 @@ use Rattle.rm_tables.specs.KeptOps.{dropped_at, dropped_by, dropped_of, kept}
 use Rattle.rm_refinement.specs.Agreement.{ClosingsAgree, RowAgrees}
 use Rattle.rm_refinement.specs.History.{History, abstract_life}
 use Rattle.rm_invariant.proofs.apps.Found.{row_changed}
-use Rattle.rm_invariant.specs.nodes.Invariant.{NodesInvariant, NodeInvariant, events_of, is_of}
+use Rattle.rm_invariant.specs.nodes.Invariant.{NodesInvariant, NodeInvariant, events_of, is_nodes_event}
 use Rattle.rm_invariant.proofs.masters.KeptApps.{app_end_kept_joins, app_kept_joins, attempt_end_kept_joins, remove_kept_joins}
 use Rattle.rm_invariant.proofs.masters.KeptAttempts.{attempt_kept_joins}
 use Rattle.rm_invariant.proofs.apps.Removing.{row_gone}
@@ -48,7 +48,7 @@ use Rattle.rm_invariant.proofs.events.Moving.{asks_gone}
 -- events of no node at the end of the queue are nothing to the nodes
 pub posted_good : (h : History) (sched more : List SchedEvent) → ((q : List ℕ) → events_of q more ≡ []) → NodesInvariant h.nodes h.book sched → NodesInvariant h.nodes h.book (sched ++ more)
 posted_good h sched more none good = λ q.
-    subst (λ (events : List SchedEvent). NodeInvariant (node_of h.nodes q) events (ids_on h.book q)) (sym (filter-append (is_of q) sched more ∙ ap (λ l. events_of q sched ++ l) (none q) ∙ append-nil (events_of q sched))) (good q)
+    subst (λ (events : List SchedEvent). NodeInvariant (judged_node h.nodes q) events (ids_on h.book q)) (sym (filter-append (is_nodes_event q) sched more ∙ ap (λ l. events_of q sched ++ l) (none q) ∙ append-nil (events_of q sched))) (good q)
 
 module _ (settings : Settings) (h : History) (t : Tables) (w : CoreInvariant settings h t) (handed : t.handed ≡ true) where
   -- the life after an operation is kept

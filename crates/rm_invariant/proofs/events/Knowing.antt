@@ -10,9 +10,9 @@ use Rattle.rm_types.specs.declared.settings.Settings.{Settings}
 use Rattle.rm_types.specs.Ids.{is_container}
 use Rattle.rm_types.specs.Records.{is_some_and}
 use Rattle.rm_types.proofs.TestLemmas.{same_text}
-use Rattle.rm_book.specs.Books.{AreApart as ApartRows, BookOf, is_of}
+use Rattle.rm_book.specs.Books.{BookRowsAreApart as ApartRows, BookOf, is_of}
 use Rattle.rm_model.specs.Containers.{lives_on}
-use Rattle.rm_model.specs.Nodes.{node_of as node_told}
+use Rattle.rm_model.specs.Nodes.{judged_node as node_told}
 use Rattle.rm_model.specs.State.{NodeState, Row}
 use Rattle.rm_tables.specs.declared.nodes.NodeRow.{NodeRow}
 use Rattle.rm_tables.specs.declared.tables.Tables.{Tables}
@@ -23,8 +23,8 @@ use Rattle.rm_invariant.specs.Step.{AppsInvariant}
 use Rattle.rm_invariant.specs.apps.Invariant.{RowInvariant}
 use Rattle.rm_refinement.specs.History.{History}
 use Rattle.rm_invariant.specs.apps.View.{view}
-use Rattle.rm_invariant.specs.nodes.Book.{All, AreApart, AreLaunches}
-use Rattle.rm_invariant.specs.events.Here.{LaunchesHere, RowsKnow, are_on}
+use Rattle.rm_invariant.specs.nodes.Book.{All, LivingRowsAreApart, AreLaunches}
+use Rattle.rm_invariant.specs.events.Here.{LaunchesHere, RowsKnow, are_containers_on}
 
 -- an application without a row has no record
 pub rows_know : (settings : Settings) (h : History) (t : Tables) → AppsInvariant settings h t → RowsKnow t
@@ -34,7 +34,7 @@ rows_know settings h t k id none =
     says.no_record
 
 -- the rows of the tables are apart where the judge's are
-pub rows_apart : (rows : List BookRow) (book : List Row) → SameRows rows book → AreApart book → ApartRows rows
+pub rows_apart : (rows : List BookRow) (book : List Row) → SameRows rows book → LivingRowsAreApart book → ApartRows rows
 rows_apart [] [] same apart = tt
 rows_apart [] (one ∷ book) same apart = cc
 rows_apart (row ∷ rows) [] same apart = cc
@@ -69,21 +69,21 @@ found_in P (one ∷ nodes) name node found all = by (bytes_eq one.name name) ref
     by false e rest = rest (rw e at found) all.1
 
 -- what is to be launched on a node stands there
-pub launches_here : (book : BookOf) (told : List Row) (rows : List (List ℕ × NodeRow)) (nodes : List NodeState) → SameRows book.rows told → AreApart told → SameNodes book rows nodes
+pub launches_here : (book : BookOf) (told : List Row) (rows : List (List ℕ × NodeRow)) (nodes : List NodeState) → SameRows book.rows told → LivingRowsAreApart told → SameNodes book rows nodes
     → All (AreLaunches told) nodes → LaunchesHere book rows
 launches_here book told rows nodes same apart alike launches name row found = by (node_told nodes name) refl
   where
-    all_on : (ids : List ContainerId) → All (λ id. lives_on told name id ≡ true) ids → are_on book name ids ≡ true
+    all_on : (ids : List ContainerId) → All (λ id. lives_on told name id ≡ true) ids → are_containers_on book name ids ≡ true
     all_on [] all = refl
     all_on (id ∷ ids) all =
         let on : is_on name (find (is_of id) book.rows) ≡ true = sym (on_node book.rows told name id same (rows_apart book.rows told same apart)) ∙ all.0 in
-        and_from _ (are_on book name ids) on (all_on ids all.1)
+        and_from _ (are_containers_on book name ids) on (all_on ids all.1)
 
-    by : (o : Option NodeState) → node_told nodes name ≡ o → are_on book name row.launches ≡ true
+    by : (o : Option NodeState) → node_told nodes name ≡ o → are_containers_on book name row.launches ≡ true
     by None e = absurd (let x = alike name in let y = rw (found, e) at x in cc)
     by (Some node) e =
         let x : Some (bare_node book name row) ≡ Some (plain_node node) = let y = alike name in rw (found, e) at y in
         let is : bare_node book name row ≡ plain_node node = cc in
         let here = found_in (AreLaunches told) nodes name node e launches in
         let on : All (λ id. lives_on told name id ≡ true) node.launches = subst (λ (n : List ℕ). All (λ id. lives_on told n id ≡ true) node.launches) here.1 here.0 in
-        subst (λ (ids : List ContainerId). are_on book name ids ≡ true) (sym (ap (λ (x : PlainNode). x.launches) is)) (all_on node.launches on)
+        subst (λ (ids : List ContainerId). are_containers_on book name ids ≡ true) (sym (ap (λ (x : PlainNode). x.launches) is)) (all_on node.launches on)

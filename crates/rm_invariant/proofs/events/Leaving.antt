@@ -12,7 +12,7 @@ use Rattle.rm_types.proofs.IdLemmas.{container_itself}
 use Rattle.rm_model.specs.Changes.{after}
 use Rattle.rm_model.specs.Containers.{is_living, leave}
 use Rattle.rm_model.specs.Facts.{has_container}
-use Rattle.rm_model.specs.Nodes.{node_of, tidied, tidied_node}
+use Rattle.rm_model.specs.Nodes.{judged_node, tidied, tidied_node}
 use Rattle.rm_model.specs.State.{LifeState, Manager, NodeState, Row, Scene, scene}
 use Rattle.rm_tables.specs.declared.events.MainEvent.{MainEvent}
 use Rattle.rm_tables.specs.declared.events.SchedEvent.{SchedEvent}
@@ -56,14 +56,14 @@ tidied_holds life more h =
       launches = all_map (AreLaunches life.book) (AreLaunches life.book) (tidied_node life.book) (λ node l. l) life.nodes h.launches;
     }
   where
-    absorbed : (name : List ℕ) (o : Option NodeState) → node_of life.nodes name ≡ o → is_some (option_and_then (λ (node : NodeState). node.capability) o) ≡ true
-        → is_some (option_and_then (λ (node : NodeState). node.capability) (node_of (map (tidied_node life.book) life.nodes) name)) ≡ true
+    absorbed : (name : List ℕ) (o : Option NodeState) → judged_node life.nodes name ≡ o → is_some (option_and_then (λ (node : NodeState). node.capability) o) ≡ true
+        → is_some (option_and_then (λ (node : NodeState). node.capability) (judged_node (map (tidied_node life.book) life.nodes) name)) ≡ true
     absorbed name None e h = cc
     absorbed name (Some node) e h = let found = found_each (tidied_node life.book) name life.nodes (λ one. refl) in rw (found, e) h
 
     all_rows : (rows : List Row) → All (BookRowInvariant life more) rows → All (BookRowInvariant (tidied life) more) rows
     all_rows [] k = tt
-    all_rows (row ∷ rows) k = ((absorbed row.node (node_of life.nodes row.node) refl k.0.0, k.0.1, k.0.2, k.0.3), all_rows rows k.1)
+    all_rows (row ∷ rows) k = ((absorbed row.node (judged_node life.nodes row.node) refl k.0.0, k.0.1, k.0.2, k.0.3), all_rows rows k.1)
 
 -- tables that differ in their queues agree alike
 pub queues_agree : (life : LifeState) (t : Tables) (main : List MainEvent) (sched : List SchedEvent) → Refines life t → Refines life (record t { main = main; sched = sched })

@@ -16,10 +16,10 @@ use Rattle.rm_types.specs.declared.settings.Settings.{Settings}
 use Rattle.rm_types.specs.Ids.{is_attempt}
 use Rattle.rm_types.specs.Records.{Records}
 use Rattle.rm_types.proofs.IdLemmas.{same_attempt}
-use Rattle.rm_book.specs.AskTables.{AsksOf, asks_of, without_asks_of}
+use Rattle.rm_book.specs.AskTables.{AsksOf, attempt_asks, without_asks_of}
 use Rattle.rm_model.specs.Changes.{after, asks_without, life_issues}
 use Rattle.rm_model.specs.Containers.{ids_on}
-use Rattle.rm_model.specs.Nodes.{node_of}
+use Rattle.rm_model.specs.Nodes.{judged_node}
 use Rattle.rm_model.specs.Passing.{asks_of as asks_told}
 use Rattle.rm_model.specs.State.{Applications, LifeState, scene}
 use Rattle.rm_tables.specs.declared.changes.RowChange.{RowChange}
@@ -35,7 +35,7 @@ use Rattle.rm_tables.specs.Rows.{row_of, with_row}
 use Rattle.rm_refinement.specs.Agreement.{SameAsks}
 use Rattle.rm_refinement.specs.History.{History, abstract_life, live_state}
 use Rattle.rm_invariant.proofs.apps.Found.{row_changed}
-use Rattle.rm_invariant.specs.nodes.Invariant.{NodeInvariant, events_of, is_of}
+use Rattle.rm_invariant.specs.nodes.Invariant.{NodeInvariant, events_of, is_nodes_event}
 use Rattle.rm_invariant.specs.masters.Preserves.{PreservesContainersTo}
 use Rattle.rm_invariant.specs.masters.Sound.{RecordsAreSound}
 use Rattle.rm_invariant.specs.events.Refines.{Refines}
@@ -47,19 +47,19 @@ use Rattle.rm_invariant.proofs.events.Leaving.{queues_agree, stepped_whole}
 
 module _ (id : AttemptId) where
   -- in the tables, of its own asks and of those of others
-  pub own_gone : (table : List AsksOf) → asks_of (without_asks_of id table) id ≡ []
+  pub own_gone : (table : List AsksOf) → attempt_asks (without_asks_of id table) id ≡ []
   own_gone [] = refl
   own_gone (one ∷ table) = by (is_attempt one.attempt id) refl (own_gone table)
     where
-      by : (b : Bool) → is_attempt one.attempt id ≡ b → asks_of (without_asks_of id table) id ≡ [] → asks_of (without_asks_of id (one ∷ table)) id ≡ []
+      by : (b : Bool) → is_attempt one.attempt id ≡ b → attempt_asks (without_asks_of id table) id ≡ [] → attempt_asks (without_asks_of id (one ∷ table)) id ≡ []
       by true e rest = rw e rest
       by false e rest = rw (e, e) rest
 
-  pub other_gone : (q : AttemptId) → is_attempt id q ≡ false → (table : List AsksOf) → asks_of (without_asks_of id table) q ≡ asks_of table q
+  pub other_gone : (q : AttemptId) → is_attempt id q ≡ false → (table : List AsksOf) → attempt_asks (without_asks_of id table) q ≡ attempt_asks table q
   other_gone q apart [] = refl
   other_gone q apart (one ∷ table) = by (is_attempt one.attempt id) refl (is_attempt one.attempt q) refl (other_gone q apart table)
     where
-      by : (b : Bool) → is_attempt one.attempt id ≡ b → (c : Bool) → is_attempt one.attempt q ≡ c → asks_of (without_asks_of id table) q ≡ asks_of table q → asks_of (without_asks_of id (one ∷ table)) q ≡ asks_of (one ∷ table) q
+      by : (b : Bool) → is_attempt one.attempt id ≡ b → (c : Bool) → is_attempt one.attempt q ≡ c → attempt_asks (without_asks_of id table) q ≡ attempt_asks table q → attempt_asks (without_asks_of id (one ∷ table)) q ≡ attempt_asks (one ∷ table) q
       by true e true f rest =
           let also : is_attempt id q ≡ true = subst (λ (a : AttemptId). is_attempt a q ≡ true) (same_attempt one.attempt id e) f in
           absurd (false≢true (sym apart ∙ also))
@@ -92,16 +92,16 @@ module _ (id : AttemptId) where
   pub asks_gone : (table : List AsksOf) (asks : List AskOf) → SameAsks table asks → SameAsks (without_asks_of id table) (asks_without id asks)
   asks_gone table asks same = λ q. by q (is_attempt id q) refl
     where
-      by : (q : AttemptId) (b : Bool) → is_attempt id q ≡ b → asks_of (without_asks_of id table) q ≡ asks_told (asks_without id asks) q
+      by : (q : AttemptId) (b : Bool) → is_attempt id q ≡ b → attempt_asks (without_asks_of id table) q ≡ asks_told (asks_without id asks) q
       by q true e =
-          subst (λ (a : AttemptId). asks_of (without_asks_of id table) a ≡ asks_told (asks_without id asks) a) (same_attempt id q e) (own_gone table ∙ sym (own_told_gone asks))
+          subst (λ (a : AttemptId). attempt_asks (without_asks_of id table) a ≡ asks_told (asks_without id asks) a) (same_attempt id q e) (own_gone table ∙ sym (own_told_gone asks))
       by q false e = other_gone q e table ∙ same q ∙ sym (other_told_gone q e asks)
 
 -- an event of no node at the end of the scheduler's queue is nothing to a node
-pub posted_still : (q : List ℕ) (sched : List SchedEvent) (e : SchedEvent) → is_of q e ≡ false → events_of q (sched ++ e ∷ []) ≡ events_of q sched
-posted_still q sched e none = filter-append (is_of q) sched (e ∷ []) ∙ last ∙ append-nil (events_of q sched)
+pub posted_still : (q : List ℕ) (sched : List SchedEvent) (e : SchedEvent) → is_nodes_event q e ≡ false → events_of q (sched ++ e ∷ []) ≡ events_of q sched
+posted_still q sched e none = filter-append (is_nodes_event q) sched (e ∷ []) ∙ last ∙ append-nil (events_of q sched)
   where
-    last : events_of q sched ++ filter (is_of q) (e ∷ []) ≡ events_of q sched ++ []
+    last : events_of q sched ++ filter (is_nodes_event q) (e ∷ []) ≡ events_of q sched ++ []
     last = rw none refl
 
 module _ (settings : Settings) (h : History) (t : Tables) (w : CoreInvariant settings h t) where
@@ -111,7 +111,7 @@ module _ (settings : Settings) (h : History) (t : Tables) (w : CoreInvariant set
       → ((q : List ℕ) → events_of q next.sched ≡ events_of q t.sched) → PreservesCore settings h t (entry, next)
   same_whole entry next asks applications joins was tree agrees events =
       stepped_whole settings h t entry next (record (abstract_life h t) { asks = asks; apps = applications }) joins was (subst (λ (r : Records). RecordsAreSound r.apps) (sym tree) w.sound) agrees
-      (λ q. subst (λ (list : List SchedEvent). NodeInvariant (node_of h.nodes q) list (ids_on h.book q)) (sym (events q)) (w.nodes q))
+      (λ q. subst (λ (list : List SchedEvent). NodeInvariant (judged_node h.nodes q) list (ids_on h.book q)) (sym (events q)) (w.nodes q))
       (record { apart = w.book.apart; rows = w.book.rows; left = w.book.left; launches = w.book.launches })
 
   -- there is nothing to do

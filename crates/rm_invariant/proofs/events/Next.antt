@@ -11,22 +11,22 @@ use Rattle.rm_types.specs.declared.ids.ContainerId.{ContainerId}
 use Rattle.rm_types.specs.declared.records.AppRecord.{AppRecord}
 use Rattle.rm_types.specs.declared.resources.Resource.{Resource}
 use Rattle.rm_types.specs.Ids.{is_attempt}
-use Rattle.rm_types.specs.Passes.{PassNode, by_priority, fitting, grant_of, left_of, seq_after, with_granted, with_turn}
+use Rattle.rm_types.specs.Passes.{PassNode, by_priority, fitting, turn_grant, left_of, seq_after, with_granted, with_turn}
 use Rattle.rm_types.proofs.IdLemmas.{attempt_itself}
-use Rattle.rm_book.specs.AskTables.{AsksOf, asks_of}
+use Rattle.rm_book.specs.AskTables.{AsksOf, attempt_asks}
 use Rattle.rm_book.specs.Books.{capability_of, sizes_on}
 use Rattle.rm_model.specs.Attempts.{attempt_at}
 use Rattle.rm_model.specs.State.{LifeState}
 use Rattle.rm_tables.specs.declared.nodes.NodeRow.{NodeRow}
 use Rattle.rm_tables.specs.declared.rows.AppRow.{AppRow}
 use Rattle.rm_tables.specs.declared.tables.Tables.{Tables}
-use Rattle.rm_tables.specs.Nodes.{is_ready}
+use Rattle.rm_tables.specs.Nodes.{is_ready_row}
 use Rattle.rm_tables.specs.Passing.{asks_some, fitted_on, grants_on, still_waits, turn_in}
 use Rattle.rm_refinement.specs.Agreement.{grants_of}
 use Rattle.rm_invariant.specs.apps.View.{one_if}
 use Rattle.rm_invariant.proofs.apps.Counts.{at_end, at_front, count_append}
 use Rattle.rm_invariant.specs.events.Refines.{Refines}
-use Rattle.rm_invariant.specs.events.Asking.{AreNext, AskersCurrent, is_current}
+use Rattle.rm_invariant.specs.events.Asking.{AreNext, AskersCurrent, is_current_number}
 use Rattle.rm_invariant.proofs.events.Turns.{first_seq}
 
 -- how many of these grants are an attempt's
@@ -48,11 +48,11 @@ module _ (rows : List (AppId × Option AppRow)) where
   )
 
   -- the grants of one ask
-  module _ (pass : PassNode) (turn : Turn) (current : is_current rows turn.attempt ≡ true) where
-    run_next : (size : Resource) (count seq : ℕ) (so_far : List ContainerId) → seq ≡ grants_of so_far turn.attempt + 1 → AreNext rows so_far (map (grant_of pass turn size) (range_with_len seq count))
+  module _ (pass : PassNode) (turn : Turn) (current : is_current_number rows turn.attempt ≡ true) where
+    run_next : (size : Resource) (count seq : ℕ) (so_far : List ContainerId) → seq ≡ grants_of so_far turn.attempt + 1 → AreNext rows so_far (map (turn_grant pass turn size) (range_with_len seq count))
     run_next size zero seq so_far first = tt
     run_next size (suc count) seq so_far first =
-        let id : ContainerId = (grant_of pass turn size seq).id in
+        let id : ContainerId = (turn_grant pass turn size seq).id in
         let own : is_attempt turn.attempt turn.attempt ≡ true = attempt_itself turn.attempt in
         let more : grants_of (so_far ++ id ∷ []) turn.attempt ≡ suc (grants_of so_far turn.attempt) =
         at_end (λ (one : ContainerId). is_attempt one.attempt turn.attempt) so_far id ∙ ap (λ (b : Bool). one_if b (grants_of so_far turn.attempt)) own in
@@ -71,7 +71,7 @@ module _ (rows : List (AppId × Option AppRow)) where
       asks_next (ask ∷ asks) grants next =
           let count : ℕ = fitting ask.count ask.size (left_of pass grants) in
           asks_next asks (with_granted pass turn grants ask)
-          (next_append grants (map (grant_of pass turn ask.size) (range_with_len (seq_after turn grants) count)) granted next
+          (next_append grants (map (turn_grant pass turn ask.size) (range_with_len (seq_after turn grants) count)) granted next
           (run_next ask.size count (seq_after turn grants) (granted ++ map (λ grant. grant.id) grants) (seq_next grants)))
 
 -- all turns
@@ -80,32 +80,32 @@ module _ (rows : List (AppId × Option AppRow)) (asks : List AsksOf) (granted : 
   abbrev TurnsNext : List AppRecord → Type 0
   TurnsNext apps =
       (place : ℕ) (app : AppRecord) → slice_get apps place ≡ Some app → asks_some asks (attempt_at app) ≡ true
-      → (is_current rows (attempt_at app) ≡ true) × ((turn_in rows (attempt_at app)).next_seq ≡ grants_of granted (attempt_at app) + 1)
+      → (is_current_number rows (attempt_at app) ≡ true) × ((turn_in rows (attempt_at app)).next_seq ≡ grants_of granted (attempt_at app) + 1)
 
   turns_next : (apps : List AppRecord) → TurnsNext apps → (grants : List Grant) → AreNext rows granted grants
-      → AreNext rows granted (fold (with_turn pass (asks_of asks)) grants (map (turn_in rows) (filter (asks_some asks) (map attempt_at apps))))
+      → AreNext rows granted (fold (with_turn pass (attempt_asks asks)) grants (map (turn_in rows) (filter (asks_some asks) (map attempt_at apps))))
   turns_next [] own grants next = next
   turns_next (app ∷ apps) own grants next = by (asks_some asks (attempt_at app)) refl (turns_next apps (λ place one e. own (suc place) one e))
     where
       ours : List Grant → List Grant
-      ours so_far = fold (with_turn pass (asks_of asks)) so_far (map (turn_in rows) (filter (asks_some asks) (map attempt_at apps)))
+      ours so_far = fold (with_turn pass (attempt_asks asks)) so_far (map (turn_in rows) (filter (asks_some asks) (map attempt_at apps)))
 
       by : (b : Bool) → asks_some asks (attempt_at app) ≡ b → ((so_far : List Grant) → AreNext rows granted so_far → AreNext rows granted (ours so_far))
-          → AreNext rows granted (fold (with_turn pass (asks_of asks)) grants (map (turn_in rows) (cond b (attempt_at app ∷ filter (asks_some asks) (map attempt_at apps)) (filter (asks_some asks) (map attempt_at apps)))))
+          → AreNext rows granted (fold (with_turn pass (attempt_asks asks)) grants (map (turn_in rows) (cond b (attempt_at app ∷ filter (asks_some asks) (map attempt_at apps)) (filter (asks_some asks) (map attempt_at apps)))))
       by true e rest =
           let turn : Turn = turn_in rows (attempt_at app) in
           let here = own 0 app refl e in
-          rest (with_turn pass (asks_of asks) grants turn) (asks_next rows pass turn here.0 granted here.1 (by_priority (asks_of asks (attempt_at app))) grants next)
+          rest (with_turn pass (attempt_asks asks) grants turn) (asks_next rows pass turn here.0 granted here.1 (by_priority (attempt_asks asks (attempt_at app))) grants next)
       by false e rest = rest grants next
 
 -- what a pass grants on a node
 pub grants_next : (life : LifeState) (t : Tables) → Refines life t → AskersCurrent t → (name : List ℕ) (row : NodeRow) → AreNext t.rows life.granted (grants_on name row t)
-grants_next life t same current name row = by (is_ready row.state && not (still_waits t)) (capability_of t.book name)
+grants_next life t same current name row = by (is_ready_row row.state && not (still_waits t)) (capability_of t.book name)
   where
     own : (place : ℕ) (app : AppRecord) → slice_get t.tree.apps place ≡ Some app → asks_some t.asks (attempt_at app) ≡ true
-        → (is_current t.rows (attempt_at app) ≡ true) × ((turn_in t.rows (attempt_at app)).next_seq ≡ grants_of life.granted (attempt_at app) + 1)
+        → (is_current_number t.rows (attempt_at app) ≡ true) × ((turn_in t.rows (attempt_at app)).next_seq ≡ grants_of life.granted (attempt_at app) + 1)
     own place app e some =
-        let at : is_current t.rows (attempt_at app) ≡ true = current place app e some in
+        let at : is_current_number t.rows (attempt_at app) ≡ true = current place app e some in
         (at, first_seq life t same (attempt_at app) at)
 
     by : (b : Bool) (capability : Option Resource) → AreNext t.rows life.granted (if b then fitted_on name capability t else [])

@@ -7,23 +7,23 @@ use Rattle.rm_types.specs.declared.containers.Grant.{Grant}
 use Rattle.rm_types.specs.declared.containers.Turn.{Turn}
 use Rattle.rm_types.specs.declared.ids.AttemptId.{AttemptId}
 use Rattle.rm_types.specs.declared.resources.Resource.{Resource}
-use Rattle.rm_types.specs.Passes.{PassNode, by_priority, fitting, grant_of, left_of, seq_after, with_granted, with_turn}
-use Rattle.rm_book.specs.AskTables.{asks_of}
+use Rattle.rm_types.specs.Passes.{PassNode, by_priority, fitting, turn_grant, left_of, seq_after, with_granted, with_turn}
+use Rattle.rm_book.specs.AskTables.{attempt_asks}
 use Rattle.rm_book.specs.Books.{capability_of, sizes_on}
 use Rattle.rm_invariant.specs.nodes.Book.{All}
 use Rattle.rm_invariant.proofs.nodes.Entries.{AllOn}
 use Rattle.rm_invariant.proofs.nodes.Holds.{all_append}
 use Rattle.rm_tables.specs.declared.nodes.NodeRow.{NodeRow}
 use Rattle.rm_tables.specs.declared.tables.Tables.{Tables}
-use Rattle.rm_tables.specs.Nodes.{is_ready}
+use Rattle.rm_tables.specs.Nodes.{is_ready_row}
 use Rattle.rm_tables.specs.Passing.{fitted_on, grants_on, still_waits, turns_in}
 
 module _ (P : Grant → Type 0) (pass : PassNode) where
   -- what holds of each grant for these asks of a turn
   abbrev pub EachAsk : Turn → List Ask → Type 0
-  EachAsk turn asks = All (λ ask. (seq : ℕ) → P (grant_of pass turn ask.size seq)) asks
+  EachAsk turn asks = All (λ ask. (seq : ℕ) → P (turn_grant pass turn ask.size seq)) asks
 
-  run_each : (turn : Turn) (size : Resource) → ((seq : ℕ) → P (grant_of pass turn size seq)) → (count seq : ℕ) → All P (map (grant_of pass turn size) (range_with_len seq count))
+  run_each : (turn : Turn) (size : Resource) → ((seq : ℕ) → P (turn_grant pass turn size seq)) → (count seq : ℕ) → All P (map (turn_grant pass turn size) (range_with_len seq count))
   run_each turn size each zero seq = tt
   run_each turn size each (suc count) seq = (each seq, run_each turn size each count (seq + 1))
 
@@ -32,7 +32,7 @@ module _ (P : Grant → Type 0) (pass : PassNode) where
   asks_each turn (ask ∷ asks) each grants so_far =
       let count : ℕ = fitting ask.count ask.size (left_of pass grants) in
       let seq : ℕ = seq_after turn grants in
-      asks_each turn asks each.1 (with_granted pass turn grants ask) (all_append P grants (map (grant_of pass turn ask.size) (range_with_len seq count)) so_far (run_each turn ask.size each.0 count seq))
+      asks_each turn asks each.1 (with_granted pass turn grants ask) (all_append P grants (map (turn_grant pass turn ask.size) (range_with_len seq count)) so_far (run_each turn ask.size each.0 count seq))
 
   -- holds of all that is granted
   pub turns_each : (asks : AttemptId → List Ask) (turns : List Turn) → All (λ turn. EachAsk turn (by_priority (asks turn.attempt))) turns → (grants : List Grant) → All P grants
@@ -52,19 +52,19 @@ module _ (t : Tables) (name : List ℕ) (row : NodeRow) where
   pass_at capability = record { node = name; capability = capability; sizes = sizes_on name t.book.rows; epoch = t.epoch }
 
   -- what holds of each grant that its turn may get holds of those that the tables make
-  pub grants_each : (P : Grant → Type 0) → ((capability : Resource) → All (λ turn. EachAsk P (pass_at capability) turn (by_priority (asks_of t.asks turn.attempt))) (turns_in t)) → All P (grants_on name row t)
-  grants_each P each = by (is_ready row.state && not (still_waits t)) (capability_of t.book name)
+  pub grants_each : (P : Grant → Type 0) → ((capability : Resource) → All (λ turn. EachAsk P (pass_at capability) turn (by_priority (attempt_asks t.asks turn.attempt))) (turns_in t)) → All P (grants_on name row t)
+  grants_each P each = by (is_ready_row row.state && not (still_waits t)) (capability_of t.book name)
     where
       by : (b : Bool) (capability : Option Resource) → All P (if b then fitted_on name capability t else [])
       by true None = tt
-      by true (Some capability) = turns_each P (pass_at capability) (asks_of t.asks) (turns_in t) (each capability) [] tt
+      by true (Some capability) = turns_each P (pass_at capability) (attempt_asks t.asks) (turns_in t) (each capability) [] tt
       by false capability = tt
 
   -- and so what holds of any
-  pub grants_any : (P : Grant → Type 0) → ((capability : Resource) (turn : Turn) (size : Resource) (seq : ℕ) → P (grant_of (pass_at capability) turn size seq)) → All P (grants_on name row t)
+  pub grants_any : (P : Grant → Type 0) → ((capability : Resource) (turn : Turn) (size : Resource) (seq : ℕ) → P (turn_grant (pass_at capability) turn size seq)) → All P (grants_on name row t)
   grants_any P each =
-      grants_each P (λ capability. all_each (λ turn. EachAsk P (pass_at capability) turn (by_priority (asks_of t.asks turn.attempt)))
-      (λ turn. all_each (λ ask. (seq : ℕ) → P (grant_of (pass_at capability) turn ask.size seq)) (λ ask seq. each capability turn ask.size seq) (by_priority (asks_of t.asks turn.attempt))) (turns_in t))
+      grants_each P (λ capability. all_each (λ turn. EachAsk P (pass_at capability) turn (by_priority (attempt_asks t.asks turn.attempt)))
+      (λ turn. all_each (λ ask. (seq : ℕ) → P (turn_grant (pass_at capability) turn ask.size seq)) (λ ask seq. each capability turn ask.size seq) (by_priority (attempt_asks t.asks turn.attempt))) (turns_in t))
 
   -- each is on the node
   pub all_on : AllOn name (grants_on name row t)

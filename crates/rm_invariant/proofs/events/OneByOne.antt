@@ -15,7 +15,7 @@ use Rattle.rm_tables.specs.declared.events.MainEvent.{MainEvent}
 use Rattle.rm_tables.specs.declared.events.MainEvent.TheVariants as mains
 use Rattle.rm_tables.specs.declared.rows.AppRow.{AppRow}
 use Rattle.rm_tables.specs.declared.tables.Tables.{Tables}
-use Rattle.rm_tables.specs.Passing.{masters_granted, row_granted, waits_for_master}
+use Rattle.rm_tables.specs.Passing.{masters_granted, rows_after_grant, waits_for_master}
 use Rattle.rm_tables.specs.Rows.{row_of}
 use Rattle.rm_invariant.specs.apps.Invariant.{AttemptsInvariant}
 use Rattle.rm_refinement.specs.History.{History, abstract_life}
@@ -52,7 +52,7 @@ module _ (rows : List (AppId × Option AppRow)) (grant : Grant) (grants : List G
       (none_under (λ (one : Grant). is_app grant.id.attempt.app one.id.attempt.app) (λ (one : Grant). is_app grant.id.attempt.app one.id.attempt.app) (λ one e. e) grants (omega (arith, few, first)))
 
   -- and the others are still at most one
-  once_more : MastersOnce (row_granted rows grant) grants
+  once_more : MastersOnce (rows_after_grant rows grant) grants
   once_more id waits =
       let few = once id (waited grant rows id waits) in
       let first = at_front (λ (one : Grant). is_app id one.id.attempt.app) grant grants in
@@ -85,15 +85,15 @@ masters_front rows grant grants = by (waits_for_master (row_of rows grant.id.att
     by true e = rw e refl
     by false e = rw e refl
 
-masters_still : (rows : List (AppId × Option AppRow)) (asks : List AskOf) (grant : Grant) (grants : List Grant) → All (Still rows asks grant) grants → masters_granted (row_granted rows grant) grants ≡ masters_granted rows grants
+masters_still : (rows : List (AppId × Option AppRow)) (asks : List AskOf) (grant : Grant) (grants : List Grant) → All (Still rows asks grant) grants → masters_granted (rows_after_grant rows grant) grants ≡ masters_granted rows grants
 masters_still rows asks grant [] still = refl
 masters_still rows asks grant (next ∷ grants) still =
-    masters_front (row_granted rows grant) next grants
-    ∙ ap (λ (b : Bool). map (λ one. mains.MasterGranted one.id) (cond b (next ∷ []) []) ++ masters_granted (row_granted rows grant) grants) still.0.waits
+    masters_front (rows_after_grant rows grant) next grants
+    ∙ ap (λ (b : Bool). map (λ one. mains.MasterGranted one.id) (cond b (next ∷ []) []) ++ masters_granted (rows_after_grant rows grant) grants) still.0.waits
     ∙ ap (λ (l : List MainEvent). masters_granted rows (next ∷ []) ++ l) (masters_still rows asks grant grants still.1)
     ∙ sym (masters_front rows next grants)
 
-still_all : (rows : List (AppId × Option AppRow)) (asks : List AskOf) (grant : Grant) (grants : List Grant) → All (Still rows asks grant) grants → All (IsReady (row_granted rows grant) (without_told asks grant)) grants
+still_all : (rows : List (AppId × Option AppRow)) (asks : List AskOf) (grant : Grant) (grants : List Grant) → All (Still rows asks grant) grants → All (IsReady (rows_after_grant rows grant) (without_told asks grant)) grants
 still_all rows asks grant [] still = tt
 still_all rows asks grant (next ∷ grants) still = (still.0.ready, still_all rows asks grant grants still.1)
 
@@ -102,7 +102,7 @@ abbrev pub history_after : History → List Grant → History
 history_after h grants = record h { granted = h.granted ++ map (λ grant. grant.id) grants; asks = fold without_told h.asks grants; book = h.book ++ map row_told grants }
 
 abbrev pub tables_after : Tables → List Grant → Tables
-tables_after t grants = record t { rows = fold row_granted t.rows grants; main = t.main ++ masters_granted t.rows grants }
+tables_after t grants = record t { rows = fold rows_after_grant t.rows grants; main = t.main ++ masters_granted t.rows grants }
 
 -- all that is said of attempts and of containers
 abbrev pub BothSay : Settings → History → Tables → Type 0
@@ -126,11 +126,11 @@ module _ (settings : Settings) (at : List (AppId × Option AppRow)) where
       let entered = book_with h t grant (one_enters (abstract_life h t) grant book now.0 next.1 absorbed.0) in
       let rest : BothSay settings (history_after (history_with h t grant) grants) (tables_after (tables_with h t grant) grants) =
       all_say grants (history_with h t grant) (tables_with h t grant) first entered next.2 now.1 absorbed.1 (still_all t.rows h.asks grant grants still) (once_more t.rows grant grants once) in
-      let events : (t.main ++ masters_granted t.rows (grant ∷ [])) ++ masters_granted (row_granted t.rows grant) grants ≡ t.main ++ masters_granted t.rows (grant ∷ grants) =
-      append_assoc t.main (masters_granted t.rows (grant ∷ [])) (masters_granted (row_granted t.rows grant) grants)
+      let events : (t.main ++ masters_granted t.rows (grant ∷ [])) ++ masters_granted (rows_after_grant t.rows grant) grants ≡ t.main ++ masters_granted t.rows (grant ∷ grants) =
+      append_assoc t.main (masters_granted t.rows (grant ∷ [])) (masters_granted (rows_after_grant t.rows grant) grants)
       ∙ ap (λ (l : List MainEvent). t.main ++ (masters_granted t.rows (grant ∷ []) ++ l)) (masters_still t.rows h.asks grant grants still)
       ∙ ap (λ (l : List MainEvent). t.main ++ l) (sym (masters_front t.rows grant grants)) in
-      subst (λ (events : List MainEvent). BothSay settings (history_after h (grant ∷ grants)) (record t { rows = fold row_granted t.rows (grant ∷ grants); main = events })) events
+      subst (λ (events : List MainEvent). BothSay settings (history_after h (grant ∷ grants)) (record t { rows = fold rows_after_grant t.rows (grant ∷ grants); main = events })) events
       (subst (λ (rows : List Row). BothSay settings (record h { granted = h.granted ++ map (λ one. one.id) (grant ∷ grants); asks = fold without_told h.asks (grant ∷ grants); book = rows }) (tables_after (tables_with h t grant) grants))
       (append_assoc h.book (row_told grant ∷ []) (map row_told grants))
       (subst (λ (granted : List ContainerId). BothSay settings (record h { granted = granted; asks = fold without_told h.asks (grant ∷ grants); book = (h.book ++ row_told grant ∷ []) ++ map row_told grants }) (tables_after (tables_with h t grant) grants))

@@ -27,7 +27,7 @@ use Rattle.rm_tables.specs.declared.rows.AppRow.{AppRow}
 use Rattle.rm_tables.specs.declared.rows.Current.{Current}
 use Rattle.rm_tables.specs.declared.tables.Tables.{Tables}
 use Rattle.rm_tables.specs.Changes.{granted, granted_at}
-use Rattle.rm_tables.specs.Passing.{masters_granted, row_granted, waits_at, waits_for_master, waits_with}
+use Rattle.rm_tables.specs.Passing.{masters_granted, rows_after_grant, waits_at, waits_for_master, waits_with}
 use Rattle.rm_tables.specs.Rows.{row_of}
 use Rattle.rm_refinement.specs.Agreement.{grants_of}
 use Rattle.rm_invariant.specs.apps.Invariant.{AttemptsInvariant, RowInvariant}
@@ -140,7 +140,7 @@ going_state id one s (inl (inr (inr e))) is = rw e (is ∙ e)
 going_state id one s (inr e) is = rw e (is ∙ e)
 
 -- one that waits after a grant waited before it
-pub waited : (grant : Grant) (rows : List (AppId × Option AppRow)) (id : AppId) → waits_for_master (row_of (row_granted rows grant) id) ≡ true → waits_for_master (row_of rows id) ≡ true
+pub waited : (grant : Grant) (rows : List (AppId × Option AppRow)) (id : AppId) → waits_for_master (row_of (rows_after_grant rows grant) id) ≡ true → waits_for_master (row_of rows id) ≡ true
 waited grant rows id e = by (is_app grant.id.attempt.app id) (row_of rows id) (sym (ap waits_for_master (row_changed (counting grant) grant.id.attempt.app id rows)) ∙ e)
   where
     at : (s : AttemptState) (one : Current) → one.state ≡ s → waits_at (granted_at s grant.id one).state ≡ true → waits_at s ≡ true
@@ -165,14 +165,14 @@ waited grant rows id e = by (is_app grant.id.attempt.app id) (row_of rows id) (s
 
 -- an attempt that is ready after another's grant, and whether it waits
 pub record Still (rows : List (AppId × Option AppRow)) (asks : List AskOf) (grant next : Grant) : Type 0 where
-  pub ready : IsReady (row_granted rows grant) (without_told asks grant) next
-  pub waits : waits_for_master (row_of (row_granted rows grant) next.id.attempt.app) ≡ waits_for_master (row_of rows next.id.attempt.app)
+  pub ready : IsReady (rows_after_grant rows grant) (without_told asks grant) next
+  pub waits : waits_for_master (row_of (rows_after_grant rows grant) next.id.attempt.app) ≡ waits_for_master (row_of rows next.id.attempt.app)
 
 pub still_ready : (rows : List (AppId × Option AppRow)) (asks : List AskOf) (grant next : Grant) → IsReady rows asks grant → IsReady rows asks next
     → (waits_for_master (row_of rows grant.id.attempt.app) ≡ true → is_app grant.id.attempt.app next.id.attempt.app ≡ false) → Still rows asks grant next
 still_ready rows asks grant next own r apart = by (is_app grant.id.attempt.app next.id.attempt.app) refl
   where
-    after : row_of (row_granted rows grant) next.id.attempt.app ≡ changed_if (is_app grant.id.attempt.app next.id.attempt.app) (counting grant) (row_of rows next.id.attempt.app)
+    after : row_of (rows_after_grant rows grant) next.id.attempt.app ≡ changed_if (is_app grant.id.attempt.app next.id.attempt.app) (counting grant) (row_of rows next.id.attempt.app)
     after = row_changed (counting grant) grant.id.attempt.app next.id.attempt.app rows
 
     goes : (b : Bool) → waits_for_master (row_of rows grant.id.attempt.app) ≡ b → is_app grant.id.attempt.app next.id.attempt.app ≡ true → Alive own.current.state ⊎ (own.current.state ≡ attempts.Ending)
@@ -187,7 +187,7 @@ still_ready rows asks grant next own r apart = by (is_app grant.id.attempt.app n
 
     by : (b : Bool) → is_app grant.id.attempt.app next.id.attempt.app ≡ b → Still rows asks grant next
     by false e =
-        let row : row_of (row_granted rows grant) next.id.attempt.app ≡ row_of rows next.id.attempt.app = after ∙ ap (λ (b : Bool). changed_if b (counting grant) (row_of rows next.id.attempt.app)) e in
+        let row : row_of (rows_after_grant rows grant) next.id.attempt.app ≡ row_of rows next.id.attempt.app = after ∙ ap (λ (b : Bool). changed_if b (counting grant) (row_of rows next.id.attempt.app)) e in
         let other : is_attempt grant.id.attempt next.id.attempt ≡ false = rw e refl in
         record {
           ready =
@@ -203,7 +203,7 @@ still_ready rows asks grant next own r apart = by (is_app grant.id.attempt.app n
         let state : Alive r.current.state ⊎ (r.current.state ≡ attempts.Ending) =
         subst (λ (x : Current). Alive x.state ⊎ (x.state ≡ attempts.Ending)) current (goes (waits_for_master (row_of rows grant.id.attempt.app)) refl e) in
         let now : (granted grant.id r.current).state ≡ r.current.state = going_state grant.id r.current r.current.state state refl in
-        let found : row_of (row_granted rows grant) next.id.attempt.app ≡ Some (counting grant r.row) =
+        let found : row_of (rows_after_grant rows grant) next.id.attempt.app ≡ Some (counting grant r.row) =
         after ∙ ap (λ (b : Bool). changed_if b (counting grant) (row_of rows next.id.attempt.app)) e ∙ ap (changed_if true (counting grant)) r.found in
         let is : (counting grant r.row).current ≡ Some (granted grant.id r.current) = rw r.is refl in
         record {
@@ -227,7 +227,7 @@ module _ (h : History) (t : Tables) (grant : Grant) where
   history_with = record h { granted = h.granted ++ grant.id ∷ []; asks = without_told h.asks grant; book = h.book ++ row_told grant ∷ [] }
 
   abbrev pub tables_with : Tables
-  tables_with = record t { rows = row_granted t.rows grant; main = t.main ++ masters_granted t.rows (grant ∷ []) }
+  tables_with = record t { rows = rows_after_grant t.rows grant; main = t.main ++ masters_granted t.rows (grant ∷ []) }
 
   module _ (settings : Settings) (says : AttemptsInvariant settings h t) (all : ContainersInvariant h t) (book : BookInvariant (abstract_life h t) Nothing) (epoch : grant.id.epoch ≡ t.epoch)
       (seq : grant.id.seq ≡ grants_of h.granted grant.id.attempt + 1) (ready : IsReady t.rows h.asks grant) where
@@ -249,7 +249,7 @@ module _ (h : History) (t : Tables) (grant : Grant) where
             let fresh = not_left (abstract_life h t) h.endings.left grant.id new book.left in
             let asked = asked_master h.asks grant w.line in
             subst (λ (events : List MainEvent).
-            AttemptsInvariant settings history_with (record t { rows = row_granted t.rows grant; main = t.main ++ events }) × ContainersInvariant history_with (record t { rows = row_granted t.rows grant; main = t.main ++ events })) (sym posted) (
+            AttemptsInvariant settings history_with (record t { rows = rows_after_grant t.rows grant; main = t.main ++ events }) × ContainersInvariant history_with (record t { rows = rows_after_grant t.rows grant; main = t.main ++ events })) (sym posted) (
               master_says settings h t says all (row_told grant) (without_told h.asks grant) (h.granted ++ grant.id ∷ []) ready.row ready.found ready.current ready.is ready.numbered w.is asked fresh,
               master_marks settings h t says all (row_told grant) (without_told h.asks grant) (h.granted ++ grant.id ∷ []) ready.row ready.found ready.current ready.is ready.numbered w.is asked fresh,
             )
@@ -260,7 +260,7 @@ module _ (h : History) (t : Tables) (grant : Grant) where
             let living = not_living (abstract_life h t) Nothing h.book grant.id new book.rows in
             let asked = asked_more h.asks grant (none state) in
             subst (λ (events : List MainEvent).
-            AttemptsInvariant settings history_with (record t { rows = row_granted t.rows grant; main = events }) × ContainersInvariant history_with (record t { rows = row_granted t.rows grant; main = events })) (sym same) (
+            AttemptsInvariant settings history_with (record t { rows = rows_after_grant t.rows grant; main = events }) × ContainersInvariant history_with (record t { rows = rows_after_grant t.rows grant; main = events })) (sym same) (
               granted_says settings h t says all (row_told grant) (without_told h.asks grant) (h.granted ++ grant.id ∷ []) ready.row ready.found ready.current ready.is ready.numbered state asked (inl (living, left)),
               granted_more_marks settings h t says all (row_told grant) (without_told h.asks grant) (h.granted ++ grant.id ∷ []) ready.row ready.found ready.current ready.is ready.numbered state asked (inl (living, left)),
             )

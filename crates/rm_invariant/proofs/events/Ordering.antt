@@ -13,7 +13,7 @@ use Rattle.rm_types.proofs.TestLemmas.{same_text}
 use Rattle.rm_model.specs.Changes.{orders}
 use Rattle.rm_model.specs.Containers.{ids_on, lives_on}
 use Rattle.rm_model.specs.Issuing.{killed_text, lost_text}
-use Rattle.rm_model.specs.Nodes.{node_of, with_node}
+use Rattle.rm_model.specs.Nodes.{judged_node, with_judged_node}
 use Rattle.rm_model.specs.State.{LifeState, NodeState, Row}
 use Rattle.rm_tables.specs.declared.events.MainEvent.{MainEvent}
 use Rattle.rm_tables.specs.declared.events.MainEvent.TheVariants as mains
@@ -52,18 +52,18 @@ module _ (c : ContainerId) (name : List ℕ) where
   launching_good None events on good = good
   launching_good (Some node) events on good = good
 
-  nodes_good : (nodes : List NodeState) (book : List Row) (sched : List SchedEvent) → NodesInvariant nodes book sched → NodesInvariant (with_node launching name nodes) book sched
+  nodes_good : (nodes : List NodeState) (book : List Row) (sched : List SchedEvent) → NodesInvariant nodes book sched → NodesInvariant (with_judged_node launching name nodes) book sched
   nodes_good nodes book sched good = λ q. by q (bytes_eq name q) refl
     where
-      by : (q : List ℕ) (b : Bool) → bytes_eq name q ≡ b → NodeInvariant (node_of (with_node launching name nodes) q) (events_of q sched) (ids_on book q)
+      by : (q : List ℕ) (b : Bool) → bytes_eq name q ≡ b → NodeInvariant (judged_node (with_judged_node launching name nodes) q) (events_of q sched) (ids_on book q)
       by q true e =
-          let here : NodeInvariant (node_of (with_node launching name nodes) name) (events_of name sched) (ids_on book name) =
-          subst (λ (o : Option NodeState). NodeInvariant o (events_of name sched) (ids_on book name)) (sym (own_told launching name nodes (λ one. refl))) (launching_good (node_of nodes name) (events_of name sched) (ids_on book name) (good name)) in
-          subst (λ (z : List ℕ). NodeInvariant (node_of (with_node launching name nodes) z) (events_of z sched) (ids_on book z)) (same_text name q e) here
+          let here : NodeInvariant (judged_node (with_judged_node launching name nodes) name) (events_of name sched) (ids_on book name) =
+          subst (λ (o : Option NodeState). NodeInvariant o (events_of name sched) (ids_on book name)) (sym (own_told launching name nodes (λ one. refl))) (launching_good (judged_node nodes name) (events_of name sched) (ids_on book name) (good name)) in
+          subst (λ (z : List ℕ). NodeInvariant (judged_node (with_judged_node launching name nodes) z) (events_of z sched) (ids_on book z)) (same_text name q e) here
       by q false e = subst (λ (o : Option NodeState). NodeInvariant o (events_of q sched) (ids_on book q)) (sym (other_told launching name q nodes (λ one. refl) e)) (good q)
 
   -- what each node is to launch stands on it
-  launches_stand : (book : List Row) → lives_on book name c ≡ true → (nodes : List NodeState) → All (AreLaunches book) nodes → All (AreLaunches book) (with_node launching name nodes)
+  launches_stand : (book : List Row) → lives_on book name c ≡ true → (nodes : List NodeState) → All (AreLaunches book) nodes → All (AreLaunches book) (with_judged_node launching name nodes)
   launches_stand book on nodes all = all_map (AreLaunches book) (AreLaunches book) (λ node. if bytes_eq node.name name then launching node else node) (λ node here. by node (bytes_eq node.name name) refl here) nodes all
     where
       by : (node : NodeState) (b : Bool) → bytes_eq node.name name ≡ b → AreLaunches book node → AreLaunches book (if b then launching node else node)
@@ -74,17 +74,17 @@ module _ (c : ContainerId) (name : List ℕ) where
       by node false e here = here
 
   -- a node offers what it did
-  offers_still : (nodes : List NodeState) (q : List ℕ) → option_and_then (λ (node : NodeState). node.capability) (node_of (with_node launching name nodes) q) ≡ option_and_then (λ (node : NodeState). node.capability) (node_of nodes q)
+  offers_still : (nodes : List NodeState) (q : List ℕ) → option_and_then (λ (node : NodeState). node.capability) (judged_node (with_judged_node launching name nodes) q) ≡ option_and_then (λ (node : NodeState). node.capability) (judged_node nodes q)
   offers_still nodes q = by (bytes_eq name q) refl
     where
       of : (o : Option NodeState) → option_and_then (λ (node : NodeState). node.capability) (option_map launching o) ≡ option_and_then (λ (node : NodeState). node.capability) o
       of None = refl
       of (Some node) = refl
 
-      by : (b : Bool) → bytes_eq name q ≡ b → option_and_then (λ (node : NodeState). node.capability) (node_of (with_node launching name nodes) q) ≡ option_and_then (λ (node : NodeState). node.capability) (node_of nodes q)
+      by : (b : Bool) → bytes_eq name q ≡ b → option_and_then (λ (node : NodeState). node.capability) (judged_node (with_judged_node launching name nodes) q) ≡ option_and_then (λ (node : NodeState). node.capability) (judged_node nodes q)
       by true e =
-          subst (λ (z : List ℕ). option_and_then (λ (node : NodeState). node.capability) (node_of (with_node launching name nodes) z) ≡ option_and_then (λ (node : NodeState). node.capability) (node_of nodes z)) (same_text name q e)
-          (ap (λ (o : Option NodeState). option_and_then (λ (node : NodeState). node.capability) o) (own_told launching name nodes (λ one. refl)) ∙ of (node_of nodes name))
+          subst (λ (z : List ℕ). option_and_then (λ (node : NodeState). node.capability) (judged_node (with_judged_node launching name nodes) z) ≡ option_and_then (λ (node : NodeState). node.capability) (judged_node nodes z)) (same_text name q e)
+          (ap (λ (o : Option NodeState). option_and_then (λ (node : NodeState). node.capability) o) (own_told launching name nodes (λ one. refl)) ∙ of (judged_node nodes name))
       by false e = ap (λ (o : Option NodeState). option_and_then (λ (node : NodeState). node.capability) o) (other_told launching name q nodes (λ one. refl) e)
 
   -- the book holds

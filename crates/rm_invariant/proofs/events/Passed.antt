@@ -3,7 +3,7 @@ use Rattle.std.proofs.Common.{ℕ, List, ◌++◌, map}
 use Rattle.rm_types.specs.declared.containers.Grant.{Grant}
 use Rattle.rm_book.specs.Books.{with_grants}
 use Rattle.rm_model.specs.Facts.{has_app}
-use Rattle.rm_model.specs.Nodes.{with_node as with_told}
+use Rattle.rm_model.specs.Nodes.{with_judged_node as with_told}
 use Rattle.rm_model.specs.Passing.{passed, passes, row_granted as row_told}
 use Rattle.rm_model.specs.State.{Scene}
 use Rattle.rm_tables.specs.declared.tables.Tables.{Tables}

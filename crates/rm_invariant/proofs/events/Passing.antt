@@ -11,18 +11,18 @@ use Rattle.rm_types.specs.declared.resources.Resource.{Resource}
 use Rattle.rm_types.specs.declared.settings.Settings.{Settings}
 use Rattle.rm_types.specs.Passes.{pass_list}
 use Rattle.rm_types.proofs.TestLemmas.{found_passes, same_text}
-use Rattle.rm_book.specs.AskTables.{asks_of}
+use Rattle.rm_book.specs.AskTables.{attempt_asks}
 use Rattle.rm_book.specs.Books.{sizes_on}
 use Rattle.rm_book.proofs.Lists.{filter_view}
 use Rattle.rm_model.specs.Containers.{rows_on}
-use Rattle.rm_model.specs.Nodes.{is_ready as ready_told, node_of as node_told}
+use Rattle.rm_model.specs.Nodes.{is_ready as ready_told, judged_node as node_told}
 use Rattle.rm_model.specs.Passing.{asks_of as asks_told, first_fit_on, pass_of, turns, waits_for_nodes}
 use Rattle.rm_model.specs.State.{NodeState, Row, Scene}
 use Rattle.rm_node.specs.declared.states.NodeState.{NodeState as NodePhase}
 use Rattle.rm_node.specs.declared.states.NodeState.TheVariants as states
 use Rattle.rm_tables.specs.declared.nodes.NodeRow.{NodeRow}
 use Rattle.rm_tables.specs.declared.tables.Tables.{Tables}
-use Rattle.rm_tables.specs.Nodes.{is_ready, node_of}
+use Rattle.rm_tables.specs.Nodes.{is_ready_row, node_row}
 use Rattle.rm_tables.specs.Passing.{fitted_on, grants_on, still_waits}
 use Rattle.rm_refinement.specs.Agreement.{PlainNode, PlainRow, SameRows, bare_row, bare_node, phase_of, plain_row, plain_node}
 use Rattle.rm_invariant.specs.events.Refines.{Refines}
@@ -47,7 +47,7 @@ pub found_name : (name : List ℕ) (nodes : List NodeState) (node : NodeState) �
 found_name name nodes node found = same_text node.name name (found_passes (λ one. bytes_eq one.name name) nodes node found)
 
 -- it is ready on both sides, or on neither
-pub ready_same : (state : NodePhase) → is_ready state ≡ ready_told (phase_of state)
+pub ready_same : (state : NodePhase) → is_ready_row state ≡ ready_told (phase_of state)
 ready_same states.Absent = refl
 ready_same states.Waiting = refl
 ready_same states.Ready = refl
@@ -63,16 +63,16 @@ module _ (settings : Settings) (m : Scene) (t : Tables) (recorded : m.records �
       ∙ ap (λ (sizes : List Resource). pass_list (record { node = name; capability = capability; sizes = sizes; epoch = t.epoch }) (asks_told m.life.asks) (turns m)) (sizes_same name t.book.rows m.life.book same.rows)
       ∙ ap (λ (n : ℕ). pass_list (record { node = name; capability = capability; sizes = map (λ row. row.size) (rows_on m.life.book name); epoch = n }) (asks_told m.life.asks) (turns m)) (sym epoch)
     where
-      alike : asks_of t.asks ≡ asks_told m.life.asks
+      alike : attempt_asks t.asks ≡ asks_told m.life.asks
       alike = λ i attempt. same.asks attempt i
 
   -- the tables grant what the judge grants
-  pub pass_same : (name : List ℕ) (row : NodeRow) (node : NodeState) → still_waits t ≡ waits_for_nodes settings m → node_of t.nodes name ≡ Some row → node_told m.life.nodes name ≡ Some node
+  pub pass_same : (name : List ℕ) (row : NodeRow) (node : NodeState) → still_waits t ≡ waits_for_nodes settings m → node_row t.nodes name ≡ Some row → node_told m.life.nodes name ≡ Some node
       → grants_on name row t ≡ pass_of settings m node
   pass_same name row node waits found told =
-      ap (λ (capability : Option Resource). if is_ready row.state && not (still_waits t) then fitted_on name capability t else []) (ap (λ (n : PlainNode). n.capability) alike)
-      ∙ ap (λ (grants : List Grant). if is_ready row.state && not (still_waits t) then grants else []) (fitted_same name node.capability)
-      ∙ ap (λ (n : List ℕ). if is_ready row.state && not (still_waits t) then first_fit_on m n node.capability else []) (sym (found_name name m.life.nodes node told))
+      ap (λ (capability : Option Resource). if is_ready_row row.state && not (still_waits t) then fitted_on name capability t else []) (ap (λ (n : PlainNode). n.capability) alike)
+      ∙ ap (λ (grants : List Grant). if is_ready_row row.state && not (still_waits t) then grants else []) (fitted_same name node.capability)
+      ∙ ap (λ (n : List ℕ). if is_ready_row row.state && not (still_waits t) then first_fit_on m n node.capability else []) (sym (found_name name m.life.nodes node told))
       ∙ ap (λ (b : Bool). if b && not (still_waits t) then first_fit_on m node.name node.capability else []) (ready_same row.state ∙ ap (λ (n : PlainNode). ready_told n.phase) alike)
       ∙ ap (λ (b : Bool). if ready_told node.phase && not b then first_fit_on m node.name node.capability else []) waits
     where

@@ -17,7 +17,7 @@ use Rattle.rm_types.specs.declared.settings.Settings.{Settings}
 use Rattle.rm_types.specs.Ids.{is_attempt}
 use Rattle.rm_types.specs.Records.{record_of}
 use Rattle.rm_types.proofs.IdLemmas.{same_attempt, app_itself}
-use Rattle.rm_book.specs.AskTables.{AsksOf, asks_of, asks_set, is_for}
+use Rattle.rm_book.specs.AskTables.{AsksOf, attempt_asks, asks_set, is_for}
 use Rattle.rm_model.specs.Changes.{master_ask}
 use Rattle.std.specs.Prelude.{if◌then◌else◌}
 use Rattle.rm_model.specs.Passing.{asks_of as asks_told}
@@ -80,15 +80,15 @@ asks_queued table asks id app same none = λ q. by q (is_attempt id q) refl
     ask : Ask
     ask = record { priority = 0; count = 1; size = app.submission.master }
 
-    set : asks_set ask (asks_of table id) ≡ asks_told asks id ++ ask ∷ []
+    set : asks_set ask (attempt_asks table id) ≡ asks_told asks id ++ ask ∷ []
     set = rw (same id) (let x = none_for id app.submission.master asks none in rw x refl)
 
-    by : (q : AttemptId) (b : Bool) → is_attempt id q ≡ b → asks_of (master_asked id (Some app) table) q ≡ asks_told (asks ++ master_ask id (Some app.submission)) q
+    by : (q : AttemptId) (b : Bool) → is_attempt id q ≡ b → attempt_asks (master_asked id (Some app) table) q ≡ asks_told (asks ++ master_ask id (Some app.submission)) q
     by q true e =
-        subst (λ (x : AttemptId). asks_of (master_asked id (Some app) table) x ≡ asks_told (asks ++ master_ask id (Some app.submission)) x) (same_attempt id q e)
-        (own_asks id (asks_set ask (asks_of table id)) table ∙ set ∙ sym (told_more asks (record { attempt = id; ask = ask }) id true (let own : is_attempt id id ≡ true = grind (arith, nat_tests) in own)))
+        subst (λ (x : AttemptId). attempt_asks (master_asked id (Some app) table) x ≡ asks_told (asks ++ master_ask id (Some app.submission)) x) (same_attempt id q e)
+        (own_asks id (asks_set ask (attempt_asks table id)) table ∙ set ∙ sym (told_more asks (record { attempt = id; ask = ask }) id true (let own : is_attempt id id ≡ true = grind (arith, nat_tests) in own)))
     by q false e =
-        other_asks id q e (asks_set ask (asks_of table id)) table ∙ same q ∙ sym (append-nil (asks_told asks q)) ∙ sym (told_more asks (record { attempt = id; ask = ask }) q false e)
+        other_asks id q e (asks_set ask (attempt_asks table id)) table ∙ same q ∙ sym (append-nil (asks_told asks q)) ∙ sym (told_more asks (record { attempt = id; ask = ask }) q false e)
 
 module _ (settings : Settings) (h : History) (t : Tables) (w : CoreInvariant settings h t) where
   -- AppAdded

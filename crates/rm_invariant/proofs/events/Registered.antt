@@ -9,13 +9,13 @@ use Rattle.rm_types.specs.declared.ids.ContainerId.{ContainerId}
 use Rattle.rm_types.proofs.TestLemmas.{same_text}
 use Rattle.rm_attempt.specs.declared.states.AttemptState.{AttemptState}
 use Rattle.rm_attempt.specs.declared.states.AttemptState.TheVariants as attempts
-use Rattle.rm_book.specs.Books.{BookOf, row_of as book_row_of}
+use Rattle.rm_book.specs.Books.{BookOf, book_row as book_row_of}
 use Rattle.rm_model.specs.Containers.{once}
 use Rattle.rm_node.specs.declared.states.NodeState.TheVariants as states
 use Rattle.rm_node.specs.declared.states.NodeState.{NodeState}
 use Rattle.rm_node.specs.declared.states.NodeEvent.{NodeEvent}
 use Rattle.rm_node.specs.declared.states.NodeEvent.TheVariants as events
-use Rattle.rm_node.specs.Table.{next_state}
+use Rattle.rm_node.specs.Table.{next_node_state}
 use Rattle.rm_tables.specs.declared.events.SchedEvent.{SchedEvent}
 use Rattle.rm_tables.specs.declared.events.SchedEvent.TheVariants as scheds
 use Rattle.rm_tables.specs.declared.nodes.NodeChange.{NodeChange}
@@ -27,7 +27,7 @@ use Rattle.rm_tables.specs.declared.tables.Tables.{Tables}
 use Rattle.rm_tables.specs.Absorbing.{absorbed_by, absorbed_if, unlaunched_here, unlaunched_on}
 use Rattle.rm_tables.specs.Actions.{sched_worked}
 use Rattle.rm_tables.specs.Leaving.{ended_by, unlaunched, unlaunched_at, unlaunched_one}
-use Rattle.rm_tables.specs.Nodes.{changed_row, is_waiting, node_of, with_node}
+use Rattle.rm_tables.specs.Nodes.{changed_row, is_waiting_row, node_row, with_node}
 use Rattle.rm_tables.specs.Passing.{updated_by}
 use Rattle.rm_tables.specs.Rows.{row_of}
 use Rattle.rm_tables.specs.SchedEvents.{is_on, is_released, queued_at, queued_by, queued_with, sched_step}
@@ -42,29 +42,29 @@ LeavesNoneAbsent f = (row : NodeRow) → row.state ≢ states.Absent → (f row)
 pub registered_with : (f : NodeRow → NodeRow) (name : List ℕ) (nodes : List (List ℕ × NodeRow)) → LeavesNoneAbsent f → NoneAbsent nodes → NoneAbsent (with_node f name nodes)
 registered_with f name nodes keeps before q row found = by (bytes_eq name q) refl
   where
-    changed : (o : Option NodeRow) → node_of nodes name ≡ o → option_map f o ≡ Some row → row.state ≢ states.Absent
+    changed : (o : Option NodeRow) → node_row nodes name ≡ o → option_map f o ≡ Some row → row.state ≢ states.Absent
     changed None e is = cc
     changed (Some r) e is = let same : f r ≡ row = cc in subst (λ (x : NodeRow). x.state ≢ states.Absent) same (keeps r (before name r e))
 
     by : (b : Bool) → bytes_eq name q ≡ b → row.state ≢ states.Absent
     by true e =
-        let here : node_of (with_node f name nodes) name ≡ Some row = subst (λ (n : List ℕ). node_of (with_node f name nodes) n ≡ Some row) (sym (same_text name q e)) found in
-        changed (node_of nodes name) refl (sym (own_row f name nodes) ∙ here)
+        let here : node_row (with_node f name nodes) name ≡ Some row = subst (λ (n : List ℕ). node_row (with_node f name nodes) n ≡ Some row) (sym (same_text name q e)) found in
+        changed (node_row nodes name) refl (sym (own_row f name nodes) ∙ here)
     by false e = before q row (sym (other_row f name q nodes e) ∙ found)
 
 -- a row is added
-pub registered_more : (name : List ℕ) (row : NodeRow) (nodes : List (List ℕ × NodeRow)) → node_of nodes name ≡ None → row.state ≢ states.Absent → NoneAbsent nodes → NoneAbsent (nodes ++ (name, row) ∷ [])
+pub registered_more : (name : List ℕ) (row : NodeRow) (nodes : List (List ℕ × NodeRow)) → node_row nodes name ≡ None → row.state ≢ states.Absent → NoneAbsent nodes → NoneAbsent (nodes ++ (name, row) ∷ [])
 registered_more name row nodes none some before q one found = by (bytes_eq name q) refl
   where
     by : (b : Bool) → bytes_eq name q ≡ b → one.state ≢ states.Absent
     by true e =
-        let here : node_of (nodes ++ (name, row) ∷ []) name ≡ Some one = subst (λ (n : List ℕ). node_of (nodes ++ (name, row) ∷ []) n ≡ Some one) (sym (same_text name q e)) found in
+        let here : node_row (nodes ++ (name, row) ∷ []) name ≡ Some one = subst (λ (n : List ℕ). node_row (nodes ++ (name, row) ∷ []) n ≡ Some one) (sym (same_text name q e)) found in
         let own : Some row ≡ Some one = sym (own_added name row nodes none) ∙ here in
         let same : row ≡ one = cc in subst (λ (x : NodeRow). x.state ≢ states.Absent) same some
     by false e = before q one (sym (other_added name q row nodes e) ∙ found)
 
 -- no event makes a node absent
-pub still_registered : (event : NodeEvent) (s : NodeState) → s ≢ states.Absent → next_state s event ≢ states.Absent
+pub still_registered : (event : NodeEvent) (s : NodeState) → s ≢ states.Absent → next_node_state s event ≢ states.Absent
 still_registered event s some = grind arith
 
 -- a change that the manager does leaves none absent
@@ -95,7 +95,7 @@ ended_registered cause (id ∷ ids) t before = unlaunched_registered t.book (id 
 -- a report is absorbed, or nothing is to be done
 pub absorbed_registered : (o : Option NodeRow) (name : List ℕ) (turn : ℕ) (ended : List ContainerId) (t : Tables) → NoneAbsent t.nodes → NoneAbsent (absorbed_by o name turn ended t).1.nodes
 absorbed_registered None name turn ended t before = before
-absorbed_registered (Some row) name turn ended t before = by (is_waiting row.state && (row.turn == turn))
+absorbed_registered (Some row) name turn ended t before = by (is_waiting_row row.state && (row.turn == turn))
   where
     by : (b : Bool) → NoneAbsent (absorbed_if b name row ended t).1.nodes
     by true = registered_with (changed_row Absorb) name (unlaunched_on name t.nodes ended) (changes_registered Absorb) (here_registered name ended t.nodes before)
@@ -121,9 +121,9 @@ sched_registered (scheds.AttemptAdded id) list t before = by (row_of t.rows id.a
     by (Some row) = with_current row.current
 sched_registered (scheds.AttemptRemoved id) list t before = ended_registered causes.Attempt list t before
 sched_registered (scheds.Release attempt released) list t before = ended_registered causes.Released (once (filter (is_released attempt t) released)) t before
-sched_registered (scheds.NodeAdded node turn) list t before = absorbed_registered (node_of t.nodes node) node turn list t before
+sched_registered (scheds.NodeAdded node turn) list t before = absorbed_registered (node_row t.nodes node) node turn list t before
 sched_registered (scheds.NodeDone node done) list t before = ended_registered causes.Done (once (filter (λ id. is_on node (book_row_of t.book id)) done)) t before
-sched_registered (scheds.NodeUpdate node) list t before = by (node_of t.nodes node)
+sched_registered (scheds.NodeUpdate node) list t before = by (node_row t.nodes node)
   where
     by : (o : Option NodeRow) → NoneAbsent (updated_by o node t).1.nodes
     by None = before

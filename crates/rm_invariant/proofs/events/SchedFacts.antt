@@ -9,7 +9,7 @@ use Rattle.rm_types.specs.declared.ids.AttemptId.{AttemptId}
 use Rattle.rm_types.specs.declared.ids.ContainerId.{ContainerId}
 use Rattle.rm_types.specs.Records.{Records}
 use Rattle.rm_types.specs.declared.settings.Settings.{Settings}
-use Rattle.rm_book.specs.Books.{row_of as book_row_of}
+use Rattle.rm_book.specs.Books.{book_row as book_row_of}
 use Rattle.rm_model.specs.Changes.{after}
 use Rattle.rm_model.specs.Containers.{once}
 use Rattle.rm_model.specs.State.{LifeState, Manager, Release}
@@ -24,7 +24,7 @@ use Rattle.rm_tables.specs.declared.tables.Tables.{Tables}
 use Rattle.rm_tables.specs.Absorbing.{absorbed_by, absorbed_if}
 use Rattle.rm_tables.specs.Actions.{sched_worked}
 use Rattle.rm_tables.specs.Leaving.{ended_by}
-use Rattle.rm_tables.specs.Nodes.{is_waiting, node_of}
+use Rattle.rm_tables.specs.Nodes.{is_waiting_row, node_row}
 use Rattle.rm_tables.specs.Passing.{still_waits, updated_by}
 use Rattle.rm_tables.specs.Rows.{row_of}
 use Rattle.rm_tables.specs.SchedEvents.{is_on, is_released, queued_at, queued_by, queued_with, sched_step}
@@ -55,7 +55,7 @@ module _ (h : History) (t : Tables) where
 
   absorbed_leaves : (o : Option NodeRow) (name : List ℕ) (turn : ℕ) (ended : List ContainerId) → KeepsSchedFacts h t (absorbed_by o name turn ended t)
   absorbed_leaves None name turn ended = record { first = refl; releases = refl; sched = refl; waits = refl; clock = refl }
-  absorbed_leaves (Some row) name turn ended = by (is_waiting row.state && (row.turn == turn))
+  absorbed_leaves (Some row) name turn ended = by (is_waiting_row row.state && (row.turn == turn))
     where
       by : (b : Bool) → KeepsSchedFacts h t (absorbed_if b name row ended t)
       by true = record { first = refl; releases = refl; sched = refl; waits = refl; clock = refl }
@@ -84,9 +84,9 @@ module _ (h : History) (t : Tables) where
   step_leaves (scheds.AttemptAdded id) list = queued_leaves (row_of t.rows id.app) id
   step_leaves (scheds.AttemptRemoved id) list = ended_leaves causes.Attempt list
   step_leaves (scheds.Release attempt released) list = ended_leaves causes.Released (once (filter (is_released attempt t) released))
-  step_leaves (scheds.NodeAdded node turn) list = absorbed_leaves (node_of t.nodes node) node turn list
+  step_leaves (scheds.NodeAdded node turn) list = absorbed_leaves (node_row t.nodes node) node turn list
   step_leaves (scheds.NodeDone node done) list = ended_leaves causes.Done (once (filter (λ id. is_on node (book_row_of t.book id)) done))
-  step_leaves (scheds.NodeUpdate node) list = updated_leaves (node_of t.nodes node) node
+  step_leaves (scheds.NodeUpdate node) list = updated_leaves (node_row t.nodes node) node
   step_leaves (scheds.NodeLost node) list = ended_leaves causes.Node list
 
 -- what is on its way behind the first event was served

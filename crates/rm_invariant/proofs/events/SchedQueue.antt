@@ -7,7 +7,7 @@ use Rattle.rm_tables.specs.declared.events.SchedEvent.{SchedEvent}
 use Rattle.rm_tables.specs.declared.events.SchedEvent.TheVariants as scheds
 use Rattle.rm_tables.specs.declared.tables.Tables.{Tables}
 use Rattle.rm_tables.specs.Actions.{sched_worked}
-use Rattle.rm_tables.specs.SchedEvents.{EndsBy, SchedDoes, sched_step}
+use Rattle.rm_tables.specs.SchedEvents.{EndsByEvent, SchedDoes, sched_step}
 use Rattle.rm_refinement.specs.History.{History}
 use Rattle.rm_invariant.specs.events.SchedFacts.{SchedFacts}
 use Rattle.rm_invariant.specs.Core.{CoreInvariant, PreservesCore}
@@ -18,7 +18,7 @@ use Rattle.rm_invariant.proofs.events.Updated.{pass_whole}
 
 module _ (settings : Settings) (h : History) (t : Tables) (w : CoreInvariant settings h t) (f : SchedFacts settings h t) where
   -- where these containers end
-  by_event : (e : SchedEvent) (rest : List SchedEvent) → t.sched ≡ e ∷ rest → (list : List ContainerId) → EndsBy e t list → PreservesCore settings h t (sched_worked (sched_step e list t))
+  by_event : (e : SchedEvent) (rest : List SchedEvent) → t.sched ≡ e ∷ rest → (list : List ContainerId) → EndsByEvent e t list → PreservesCore settings h t (sched_worked (sched_step e list t))
   by_event (scheds.AppAdded id) rest front list ends = app_added_whole settings h t w id rest front list
   by_event (scheds.AttemptRecovered id) rest front list ends = recovered_whole settings h t w id rest front list
   by_event (scheds.AttemptAdded id) rest front list ends = queued_whole settings h t w id rest front list

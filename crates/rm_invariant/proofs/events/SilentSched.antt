@@ -9,7 +9,7 @@ use Rattle.rm_types.specs.declared.ids.AppId.{AppId}
 use Rattle.rm_types.specs.declared.ids.AttemptId.{AttemptId}
 use Rattle.rm_types.specs.declared.ids.ContainerId.{ContainerId}
 use Rattle.rm_types.specs.Ids.{is_app}
-use Rattle.rm_book.specs.Books.{row_of as book_row_of}
+use Rattle.rm_book.specs.Books.{book_row as book_row_of}
 use Rattle.rm_model.specs.Containers.{once}
 use Rattle.rm_attempt.specs.declared.states.AttemptState.{AttemptState}
 use Rattle.rm_attempt.specs.declared.states.AttemptState.TheVariants as attempts
@@ -24,8 +24,8 @@ use Rattle.rm_tables.specs.declared.tables.Tables.{Tables}
 use Rattle.rm_tables.specs.Absorbing.{absorbed_by, absorbed_if}
 use Rattle.rm_tables.specs.Actions.{sched_worked}
 use Rattle.rm_tables.specs.Leaving.{closed, closed_in, closed_one, closings_of, ended_by}
-use Rattle.rm_tables.specs.Nodes.{is_waiting, node_of}
-use Rattle.rm_tables.specs.Passing.{grants_on, row_granted, updated_by}
+use Rattle.rm_tables.specs.Nodes.{is_waiting_row, node_row}
+use Rattle.rm_tables.specs.Passing.{grants_on, rows_after_grant, updated_by}
 use Rattle.rm_tables.specs.Rows.{row_of}
 use Rattle.rm_tables.specs.SchedEvents.{is_on, is_released, queued_at, queued_by, queued_with, sched_step}
 use Rattle.rm_invariant.specs.apps.View.{changed_if}
@@ -34,10 +34,10 @@ use Rattle.rm_invariant.specs.events.MainFacts.{AreSilent, IsSilent, UnissuedSil
 use Rattle.rm_invariant.proofs.events.Silent.{MayChange, rows_silent}
 
 -- containers are granted
-grants_silent : (grants : List Grant) (rows : List (AppId × Option AppRow)) → AreSilent rows → AreSilent (fold row_granted rows grants)
+grants_silent : (grants : List Grant) (rows : List (AppId × Option AppRow)) → AreSilent rows → AreSilent (fold rows_after_grant rows grants)
 grants_silent [] rows silent = silent
 grants_silent (grant ∷ grants) rows silent =
-    grants_silent grants (row_granted rows grant) (rows_silent rows grant.id.attempt.app (of_app.OfAttempt (of_attempt.Grant grant.id)) (λ row found. may row.current) silent)
+    grants_silent grants (rows_after_grant rows grant) (rows_silent rows grant.id.attempt.app (of_app.OfAttempt (of_attempt.Grant grant.id)) (λ row found. may row.current) silent)
   where
     may : (o : Option Current) → MayChange (of_app.OfAttempt (of_attempt.Grant grant.id)) o
     may None = tt
@@ -93,7 +93,7 @@ module _ (t : Tables) (silent : UnissuedSilent t) where
 
   absorbed_silent : (o : Option NodeRow) (name : List ℕ) (turn : ℕ) (list : List ContainerId) → StaysSilent (absorbed_by o name turn list t)
   absorbed_silent None name turn list = silent
-  absorbed_silent (Some row) name turn list = absorbed_test (is_waiting row.state && (row.turn == turn)) name row list
+  absorbed_silent (Some row) name turn list = absorbed_test (is_waiting_row row.state && (row.turn == turn)) name row list
 
   updated_silent : (o : Option NodeRow) (name : List ℕ) → StaysSilent (updated_by o name t)
   updated_silent None name = silent
@@ -106,7 +106,7 @@ module _ (t : Tables) (silent : UnissuedSilent t) where
   sched_silent (scheds.AttemptAdded id) list = queued_silent (row_of t.rows id.app) id
   sched_silent (scheds.AttemptRemoved id) list = ended_silent causes.Attempt list
   sched_silent (scheds.Release attempt released) list = ended_silent causes.Released (once (filter (is_released attempt t) released))
-  sched_silent (scheds.NodeAdded node turn) list = absorbed_silent (node_of t.nodes node) node turn list
+  sched_silent (scheds.NodeAdded node turn) list = absorbed_silent (node_row t.nodes node) node turn list
   sched_silent (scheds.NodeDone node done) list = ended_silent causes.Done (once (filter (λ id. is_on node (book_row_of t.book id)) done))
-  sched_silent (scheds.NodeUpdate node) list = updated_silent (node_of t.nodes node) node
+  sched_silent (scheds.NodeUpdate node) list = updated_silent (node_row t.nodes node) node
   sched_silent (scheds.NodeLost node) list = ended_silent causes.Node list

@@ -8,22 +8,22 @@ use Rattle.rm_types.specs.declared.containers.Held.{Held}
 use Rattle.rm_types.specs.declared.ids.ContainerId.{ContainerId}
 use Rattle.rm_types.specs.Ids.{is_container}
 use Rattle.rm_types.specs.Records.{is_some_and}
-use Rattle.rm_book.specs.Books.{AreApart, capability_of, is_of}
+use Rattle.rm_book.specs.Books.{BookRowsAreApart, capability_of, is_of}
 use Rattle.rm_model.specs.Absorbing.{as_booked, as_counted, as_reported, may_take as may_take_told, taken_of, with_counted as with_told}
-use Rattle.rm_model.specs.Absorbing.{is_held}
+use Rattle.rm_types.specs.Containers.{is_held}
 use Rattle.rm_model.specs.Attempts.{attempt_was_first, is_current}
-use Rattle.rm_model.specs.Containers.{lives_elsewhere, lives_on, row_of as row_told}
+use Rattle.rm_model.specs.Containers.{lives_elsewhere, lives_on, judged_row as row_told}
 use Rattle.rm_model.specs.State.{NodeState, Row, Scene}
 use Rattle.rm_tables.specs.declared.nodes.NodeRow.{NodeRow}
 use Rattle.rm_tables.specs.declared.rows.AppRow.{AppRow}
 use Rattle.rm_tables.specs.declared.tables.Tables.{Tables}
-use Rattle.rm_tables.specs.Absorbing.{booked_at, counted_in, is_current_in, is_elsewhere, may_take, reported_in, taken_in, was_first, with_counted}
+use Rattle.rm_tables.specs.Absorbing.{booked_at, counted_in, is_current_in, is_elsewhere, tables_may_take, reported_in, taken_in, was_first, tables_with_counted}
 use Rattle.rm_tables.specs.Rows.{row_of}
 use Rattle.rm_refinement.specs.Agreement.{PlainNode, PlainRow, SameRows, bare_row, bare_node, plain_row, plain_node}
 use Rattle.rm_refinement.proofs.Rows.{any_alike, first_alone, found_alike}
 use Rattle.rm_invariant.specs.events.Here.{FirstsKnown, RowsKnow}
 
-module _ (m : Scene) (t : Tables) (name : List ℕ) (row : NodeRow) (node : NodeState) (recorded : m.records ≡ t.tree) (epoch : m.life.epoch ≡ t.epoch) (same : SameRows t.book.rows m.life.book) (apart : AreApart t.book.rows)
+module _ (m : Scene) (t : Tables) (name : List ℕ) (row : NodeRow) (node : NodeState) (recorded : m.records ≡ t.tree) (epoch : m.life.epoch ≡ t.epoch) (same : SameRows t.book.rows m.life.book) (apart : BookRowsAreApart t.book.rows)
     (know : RowsKnow t) (firsts : FirstsKnown m t.rows) (named : node.name ≡ name) (alike : bare_node t.book name row ≡ plain_node node) where
   -- WHERE A CONTAINER STANDS
 
@@ -109,15 +109,15 @@ module _ (m : Scene) (t : Tables) (name : List ℕ) (row : NodeRow) (node : Node
           rw (e, epoch, first) refl
 
   -- one that counts may be taken by both
-  may_same : (taken : List Held) (held : Held) → may_take t name row.capability taken held ≡ may_take_told m node taken held
+  may_same : (taken : List Held) (held : Held) → tables_may_take t name row.capability taken held ≡ may_take_told m node taken held
   may_same taken held = rw (current_same held, elsewhere_same held.id, capability) refl
 
-  both_take : (taken : List Held) (o : Option Held) → with_counted t name row.capability taken o ≡ with_told m node taken o
+  both_take : (taken : List Held) (o : Option Held) → tables_with_counted t name row.capability taken o ≡ with_told m node taken o
   both_take taken None = refl
   both_take taken (Some held) = rw (may_same taken held) refl
 
   -- one of an attempt that doesn't go on is taken by neither
-  not_in_tables : (taken : List Held) (held : Held) → is_current m held.id.attempt ≡ false → (b : Bool) → with_counted t name row.capability taken (if b then Some held else None) ≡ taken
+  not_in_tables : (taken : List Held) (held : Held) → is_current m held.id.attempt ≡ false → (b : Bool) → tables_with_counted t name row.capability taken (if b then Some held else None) ≡ taken
   not_in_tables taken held over false = refl
   not_in_tables taken held over true = let none = current_same held ∙ over in rw none (by (not (is_held taken held.id)))
     where
@@ -133,24 +133,24 @@ module _ (m : Scene) (t : Tables) (name : List ℕ) (row : NodeRow) (node : Node
       by true = refl
       by false = refl
 
-  reported_taken : (taken : List Held) (held : Held) (b : Bool) → is_current m held.id.attempt ≡ b → with_counted t name row.capability taken (reported_in t held) ≡ with_told m node taken (as_reported m held)
-  reported_taken taken held true e = ap (with_counted t name row.capability taken) (reported_same held e) ∙ both_take taken (as_reported m held)
+  reported_taken : (taken : List Held) (held : Held) (b : Bool) → is_current m held.id.attempt ≡ b → tables_with_counted t name row.capability taken (reported_in t held) ≡ with_told m node taken (as_reported m held)
+  reported_taken taken held true e = ap (tables_with_counted t name row.capability taken) (reported_same held e) ∙ both_take taken (as_reported m held)
   reported_taken taken held false e =
       not_in_tables taken held e (nat_lt held.id.epoch t.epoch && was_first held.id.attempt (row_of t.rows held.id.attempt.app))
       ∙ sym (not_in_life taken held e (nat_lt held.id.epoch m.life.epoch && attempt_was_first m held.id.attempt))
 
-  one_taken : (taken : List Held) (held : Held) → with_counted t name row.capability taken (counted_in t name held) ≡ with_told m node taken (as_counted m node held)
+  one_taken : (taken : List Held) (held : Held) → tables_with_counted t name row.capability taken (counted_in t name held) ≡ with_told m node taken (as_counted m node held)
   one_taken taken held = rw offered (by (is_some node.capability))
     where
-      by : (b : Bool) → with_counted t name row.capability taken (if b then booked_at name (find (is_of held.id) t.book.rows) else reported_in t held) ≡ with_told m node taken (if b then as_booked m node held else as_reported m held)
-      by true = ap (with_counted t name row.capability taken) (booked_same held) ∙ both_take taken (as_booked m node held)
+      by : (b : Bool) → tables_with_counted t name row.capability taken (if b then booked_at name (find (is_of held.id) t.book.rows) else reported_in t held) ≡ with_told m node taken (if b then as_booked m node held else as_reported m held)
+      by true = ap (tables_with_counted t name row.capability taken) (booked_same held) ∙ both_take taken (as_booked m node held)
       by false = reported_taken taken held (is_current m held.id.attempt) refl
 
   all_taken : (report taken : List Held)
-      → fold (λ taken held. with_counted t name row.capability taken (counted_in t name held)) taken report ≡ fold (λ taken held. with_told m node taken (as_counted m node held)) taken report
+      → fold (λ taken held. tables_with_counted t name row.capability taken (counted_in t name held)) taken report ≡ fold (λ taken held. with_told m node taken (as_counted m node held)) taken report
   all_taken [] taken = refl
   all_taken (held ∷ report) taken =
-      ap (λ (l : List Held). fold (λ taken held. with_counted t name row.capability taken (counted_in t name held)) l report) (one_taken taken held)
+      ap (λ (l : List Held). fold (λ taken held. tables_with_counted t name row.capability taken (counted_in t name held)) l report) (one_taken taken held)
       ∙ all_taken report (with_told m node taken (as_counted m node held))
 
   -- the same are taken of the whole report

@@ -13,16 +13,16 @@ use Rattle.rm_types.specs.declared.records.AppRecord.{AppRecord}
 use Rattle.rm_types.specs.declared.resources.Resource.{Resource}
 use Rattle.rm_types.specs.declared.settings.Settings.{Settings}
 use Rattle.rm_types.specs.Ids.{is_app}
-use Rattle.rm_types.specs.Passes.{PassNode, by_priority, fitting, grant_of, left_of, seq_after, with_granted, with_turn}
+use Rattle.rm_types.specs.Passes.{PassNode, by_priority, fitting, turn_grant, left_of, seq_after, with_granted, with_turn}
 use Rattle.rm_types.specs.Resources.{fits}
 use Rattle.rm_types.specs.Passes.{times}
 use Rattle.rm_types.proofs.IdLemmas.{same_app}
-use Rattle.rm_book.specs.AskTables.{asks_of}
+use Rattle.rm_book.specs.AskTables.{attempt_asks}
 use Rattle.rm_book.specs.Books.{capability_of}
 use Rattle.rm_model.specs.Attempts.{attempt_at}
 use Rattle.rm_tables.specs.declared.nodes.NodeRow.{NodeRow}
 use Rattle.rm_tables.specs.declared.tables.Tables.{Tables}
-use Rattle.rm_tables.specs.Nodes.{is_ready}
+use Rattle.rm_tables.specs.Nodes.{is_ready_row}
 use Rattle.rm_tables.specs.Passing.{asks_some, fitted_on, grants_on, still_waits, turn_in, turns_in, waits_for_master}
 use Rattle.rm_tables.specs.Rows.{row_of}
 use Rattle.rm_refinement.specs.Agreement.{SameAsks}
@@ -31,7 +31,7 @@ use Rattle.rm_refinement.specs.History.{History}
 use Rattle.rm_invariant.specs.apps.View.{one_if}
 use Rattle.rm_invariant.proofs.apps.Counts.{at_front, count_append}
 use Rattle.rm_invariant.specs.nodes.Book.{All}
-use Rattle.rm_invariant.specs.events.Asking.{AskersCurrent, is_current}
+use Rattle.rm_invariant.specs.events.Asking.{AskersCurrent, is_current_number}
 use Rattle.rm_invariant.specs.events.Masters.{AppsOnce, MastersAskOnce}
 use Rattle.rm_invariant.proofs.events.Entering.{all_weaker}
 use Rattle.rm_invariant.proofs.events.OneByOne.{MastersOnce}
@@ -46,11 +46,11 @@ module _ (pass : PassNode) (id : AppId) where
   is_its grant = is_app id grant.id.attempt.app
 
   -- a turn of another application grants none to this one
-  run_none : (turn : Turn) → is_app id turn.attempt.app ≡ false → (size : Resource) (count seq : ℕ) → count_by is_its (map (grant_of pass turn size) (range_with_len seq count)) ≡ 0
+  run_none : (turn : Turn) → is_app id turn.attempt.app ≡ false → (size : Resource) (count seq : ℕ) → count_by is_its (map (turn_grant pass turn size) (range_with_len seq count)) ≡ 0
   run_none turn apart size zero seq = refl
   run_none turn apart size (suc count) seq =
-      at_front is_its (grant_of pass turn size seq) (map (grant_of pass turn size) (range_with_len (seq + 1) count))
-      ∙ ap (λ (b : Bool). one_if b (count_by is_its (map (grant_of pass turn size) (range_with_len (seq + 1) count)))) apart
+      at_front is_its (turn_grant pass turn size seq) (map (turn_grant pass turn size) (range_with_len (seq + 1) count))
+      ∙ ap (λ (b : Bool). one_if b (count_by is_its (map (turn_grant pass turn size) (range_with_len (seq + 1) count)))) apart
       ∙ run_none turn apart size count (seq + 1)
 
   turn_none : (turn : Turn) → is_app id turn.attempt.app ≡ false → (asks : List Ask) (grants : List Grant) → count_by is_its (fold (with_granted pass turn) grants asks) ≡ count_by is_its grants
@@ -58,14 +58,14 @@ module _ (pass : PassNode) (id : AppId) where
   turn_none turn apart (ask ∷ asks) grants =
       let count : ℕ = fitting ask.count ask.size (left_of pass grants) in
       let seq : ℕ = seq_after turn grants in
-      let both = count_append is_its grants (map (grant_of pass turn ask.size) (range_with_len seq count)) in
+      let both = count_append is_its grants (map (turn_grant pass turn ask.size) (range_with_len seq count)) in
       let none = run_none turn apart ask.size count seq in
       turn_none turn apart asks (with_granted pass turn grants ask) ∙ omega (arith, both, none)
 
   -- a turn of one line for one container grants one at most
   turn_one : (turn : Turn) (size : Resource) (grants : List Grant) → count_by is_its (fold (with_granted pass turn) grants (line_of size ∷ [])) ≤ count_by is_its grants + 1
   turn_one turn size grants =
-      let new : List Grant = map (grant_of pass turn size) (range_with_len (seq_after turn grants) (fitting 1 size (left_of pass grants))) in
+      let new : List Grant = map (turn_grant pass turn size) (range_with_len (seq_after turn grants) (fitting 1 size (left_of pass grants))) in
       let both = count_append is_its grants new in
       let few = by (fits (times 1 size) (left_of pass grants)) in
       omega (arith, both, few)
@@ -77,10 +77,10 @@ module _ (pass : PassNode) (id : AppId) where
       one true = omega arith
       one false = omega arith
 
-      by : (b : Bool) → count_by is_its (map (grant_of pass turn size) (range_with_len (seq_after turn grants) (if b then 1 else 0))) ≤ 1
+      by : (b : Bool) → count_by is_its (map (turn_grant pass turn size) (range_with_len (seq_after turn grants) (if b then 1 else 0))) ≤ 1
       by true =
-          let first = at_front is_its (grant_of pass turn size (seq_after turn grants)) [] in
-          let few = one (is_its (grant_of pass turn size (seq_after turn grants))) in
+          let first = at_front is_its (turn_grant pass turn size (seq_after turn grants)) [] in
+          let few = one (is_its (turn_grant pass turn size (seq_after turn grants))) in
           omega (arith, first, few)
       by false = omega arith
 
@@ -145,9 +145,9 @@ turns_of t id (app ∷ apps) = by (asks_some t.asks (attempt_at app)) (turns_of 
 module _ (settings : Settings) (h : History) (t : Tables) (says : AttemptsInvariant settings h t) (same : SameAsks t.asks h.asks) (once : MastersAskOnce t) (current : AskersCurrent t) where
   -- what is said of the attempt of a turn
   abbrev IsAsker : Turn → Type 0
-  IsAsker turn = Asker (row_of t.rows turn.attempt.app) (asks_of t.asks turn.attempt) turn.attempt.number
+  IsAsker turn = Asker (row_of t.rows turn.attempt.app) (attempt_asks t.asks turn.attempt) turn.attempt.number
 
-  askers : (apps : List AppRecord) → ((place : ℕ) (app : AppRecord) → slice_get apps place ≡ Some app → asks_some t.asks (attempt_at app) ≡ true → is_current t.rows (attempt_at app) ≡ true)
+  askers : (apps : List AppRecord) → ((place : ℕ) (app : AppRecord) → slice_get apps place ≡ Some app → asks_some t.asks (attempt_at app) ≡ true → is_current_number t.rows (attempt_at app) ≡ true)
       → All IsAsker (map (turn_in t.rows) (filter (asks_some t.asks) (map attempt_at apps)))
   askers [] own = tt
   askers (app ∷ apps) own = by (asks_some t.asks (attempt_at app)) refl (askers apps (λ place one e. own (suc place) one e))
@@ -161,24 +161,24 @@ module _ (settings : Settings) (h : History) (t : Tables) (says : AttemptsInvari
   pub all_ready : (name : List ℕ) (row : NodeRow) → All (IsReady t.rows h.asks) (grants_on name row t)
   all_ready name row =
       grants_each t name row (IsReady t.rows h.asks)
-      (λ capability. all_weaker IsAsker (λ turn. EachAsk (IsReady t.rows h.asks) (pass_at t name row capability) turn (by_priority (asks_of t.asks turn.attempt)))
+      (λ capability. all_weaker IsAsker (λ turn. EachAsk (IsReady t.rows h.asks) (pass_at t name row capability) turn (by_priority (attempt_asks t.asks turn.attempt)))
       (λ turn is.
-      all_weaker (λ ask. Ready (row_of t.rows turn.attempt.app) (asks_of t.asks turn.attempt) turn.attempt.number ask.size) (λ ask. (seq : ℕ) → IsReady t.rows h.asks (grant_of (pass_at t name row capability) turn ask.size seq))
-      (λ ask ready seq. subst (λ (l : List Ask). Ready (row_of t.rows turn.attempt.app) l turn.attempt.number ask.size) (same turn.attempt) ready) (by_priority (asks_of t.asks turn.attempt)) is.each) (turns_in t) (askers t.tree.apps current))
+      all_weaker (λ ask. Ready (row_of t.rows turn.attempt.app) (attempt_asks t.asks turn.attempt) turn.attempt.number ask.size) (λ ask. (seq : ℕ) → IsReady t.rows h.asks (turn_grant (pass_at t name row capability) turn ask.size seq))
+      (λ ask ready seq. subst (λ (l : List Ask). Ready (row_of t.rows turn.attempt.app) l turn.attempt.number ask.size) (same turn.attempt) ready) (by_priority (attempt_asks t.asks turn.attempt)) is.each) (turns_in t) (askers t.tree.apps current))
 
   -- and one that waits for its master is granted one at most
   pub masters_once : AppsOnce t → (name : List ℕ) (row : NodeRow) → MastersOnce t.rows (grants_on name row t)
-  masters_once apps name row id waits = by (is_ready row.state && not (still_waits t)) (capability_of t.book name)
+  masters_once apps name row id waits = by (is_ready_row row.state && not (still_waits t)) (capability_of t.book name)
     where
-      alone : All (λ turn. is_app id turn.attempt.app ≡ true → (size : Resource) × (asks_of t.asks turn.attempt ≡ line_of size ∷ [])) (turns_in t)
+      alone : All (λ turn. is_app id turn.attempt.app ≡ true → (size : Resource) × (attempt_asks t.asks turn.attempt ≡ line_of size ∷ [])) (turns_in t)
       alone =
-          all_weaker IsAsker (λ turn. is_app id turn.attempt.app ≡ true → (size : Resource) × (asks_of t.asks turn.attempt ≡ line_of size ∷ []))
+          all_weaker IsAsker (λ turn. is_app id turn.attempt.app ≡ true → (size : Resource) × (attempt_asks t.asks turn.attempt ≡ line_of size ∷ []))
           (λ turn is e. is.alone (ap (λ (one : AppId). waits_for_master (row_of t.rows one)) (sym (same_app id turn.attempt.app e)) ∙ waits)) (turns_in t) (askers t.tree.apps current)
 
       by : (b : Bool) (capability : Option Resource) → count_by (λ grant. is_app id grant.id.attempt.app) (if b then fitted_on name capability t else []) ≤ 1
       by true None = omega arith
       by true (Some capability) =
-          let few = turns_few (pass_at t name row capability) id (asks_of t.asks) (turns_in t) alone [] in
+          let few = turns_few (pass_at t name row capability) id (attempt_asks t.asks) (turns_in t) alone [] in
           let turns = turns_of t id t.tree.apps in
           let own = apps id in
           omega (arith, few, turns, own)

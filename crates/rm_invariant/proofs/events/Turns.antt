@@ -11,7 +11,7 @@ use Rattle.rm_types.specs.declared.records.AppRecord.{AppRecord}
 use Rattle.rm_types.specs.Lists.{is_nil}
 use Rattle.rm_types.specs.Passes.{PassNode, by_priority, pass_list, with_granted, with_turn}
 use Rattle.rm_types.proofs.TestLemmas.{nil_is}
-use Rattle.rm_book.specs.AskTables.{AsksOf, asks_of}
+use Rattle.rm_book.specs.AskTables.{AsksOf, attempt_asks}
 use Rattle.rm_model.specs.Attempts.{attempt_at}
 use Rattle.rm_model.specs.Facts.{has_app}
 use Rattle.rm_model.specs.Passing.{turn_of, turns}
@@ -19,15 +19,15 @@ use Rattle.rm_model.specs.State.{LifeState, MasterState, Scene}
 use Rattle.rm_tables.specs.declared.rows.AppRow.{AppRow}
 use Rattle.rm_tables.specs.declared.rows.Current.{Current}
 use Rattle.rm_tables.specs.declared.tables.Tables.{Tables}
-use Rattle.rm_tables.specs.Passing.{asks_some, granted_by, granted_to, turn_in, turns_in}
+use Rattle.rm_tables.specs.Passing.{asks_some, granted_number, granted_to, turn_in, turns_in}
 use Rattle.rm_tables.specs.Rows.{row_of}
 use Rattle.rm_refinement.specs.Agreement.{AttemptAgrees, RowAgrees, grants_of}
 use Rattle.rm_invariant.specs.events.Refines.{Refines}
-use Rattle.rm_invariant.specs.events.Asking.{AskersCurrent, is_current, is_numbered, is_numbered_in}
+use Rattle.rm_invariant.specs.events.Asking.{AskersCurrent, is_current_number, is_numbered, is_numbered_in}
 
 -- the current attempt's row counts its grants
 counts_grants : (registered : List MasterState) (granted : List ContainerId) (retired : Bool) (attempt : AttemptId) (o : Option AppRow) → is_numbered_in attempt.number o ≡ true
-    → RowAgrees registered granted retired attempt o → granted_by attempt.number o ≡ grants_of granted attempt
+    → RowAgrees registered granted retired attempt o → granted_number attempt.number o ≡ grants_of granted attempt
 counts_grants registered granted retired attempt None at same = cc
 counts_grants registered granted retired attempt (Some row) at same = by row.current at same
   where
@@ -36,7 +36,7 @@ counts_grants registered granted retired attempt (Some row) at same = by row.cur
     by (Some current) at same = rw at (let agrees = rw at at same in agrees.2)
 
 -- so its next grant is numbered on from them
-pub first_seq : (life : LifeState) (t : Tables) → Refines life t → (attempt : AttemptId) → is_current t.rows attempt ≡ true → (turn_in t.rows attempt).next_seq ≡ grants_of life.granted attempt + 1
+pub first_seq : (life : LifeState) (t : Tables) → Refines life t → (attempt : AttemptId) → is_current_number t.rows attempt ≡ true → (turn_in t.rows attempt).next_seq ≡ grants_of life.granted attempt + 1
 first_seq life t same attempt at =
     ap (λ (n : ℕ). n + 1) (counts_grants life.masters.registered life.granted (has_app life.apps.retired attempt.app) attempt (row_of t.rows attempt.app) at (same.masters attempt))
 
@@ -47,31 +47,31 @@ module _ (m : Scene) (rows : List (AppId × Option AppRow)) (asks : List AsksOf)
   SameTurns apps = (place : ℕ) (app : AppRecord) → slice_get apps place ≡ Some app → asks_some asks (attempt_at app) ≡ true → turn_in rows (attempt_at app) ≡ turn_of m (attempt_at app)
 
   turns_from : (apps : List AppRecord) → SameTurns apps → (grants : List Grant)
-      → fold (with_turn pass (asks_of asks)) grants (map (turn_in rows) (filter (asks_some asks) (map attempt_at apps)))
-      ≡ fold (with_turn pass (asks_of asks)) grants (map (λ app. turn_of m (attempt_at app)) apps)
+      → fold (with_turn pass (attempt_asks asks)) grants (map (turn_in rows) (filter (asks_some asks) (map attempt_at apps)))
+      ≡ fold (with_turn pass (attempt_asks asks)) grants (map (λ app. turn_of m (attempt_at app)) apps)
   turns_from [] same grants = refl
-  turns_from (app ∷ apps) same grants = by (is_nil (asks_of asks (attempt_at app))) refl (turns_from apps (λ place one e. same (suc place) one e))
+  turns_from (app ∷ apps) same grants = by (is_nil (attempt_asks asks (attempt_at app))) refl (turns_from apps (λ place one e. same (suc place) one e))
     where
       ours : List Grant → List Grant
-      ours so_far = fold (with_turn pass (asks_of asks)) so_far (map (turn_in rows) (filter (asks_some asks) (map attempt_at apps)))
+      ours so_far = fold (with_turn pass (attempt_asks asks)) so_far (map (turn_in rows) (filter (asks_some asks) (map attempt_at apps)))
 
-      by : (b : Bool) → is_nil (asks_of asks (attempt_at app)) ≡ b
-          → ((so_far : List Grant) → ours so_far ≡ fold (with_turn pass (asks_of asks)) so_far (map (λ one. turn_of m (attempt_at one)) apps))
-          → fold (with_turn pass (asks_of asks)) grants (map (turn_in rows) (filter (asks_some asks) (map attempt_at (app ∷ apps))))
-          ≡ fold (with_turn pass (asks_of asks)) grants (map (λ one. turn_of m (attempt_at one)) (app ∷ apps))
+      by : (b : Bool) → is_nil (attempt_asks asks (attempt_at app)) ≡ b
+          → ((so_far : List Grant) → ours so_far ≡ fold (with_turn pass (attempt_asks asks)) so_far (map (λ one. turn_of m (attempt_at one)) apps))
+          → fold (with_turn pass (attempt_asks asks)) grants (map (turn_in rows) (filter (asks_some asks) (map attempt_at (app ∷ apps))))
+          ≡ fold (with_turn pass (attempt_asks asks)) grants (map (λ one. turn_of m (attempt_at one)) (app ∷ apps))
       by true e rest =
-          let none : asks_of asks (attempt_at app) ≡ [] = nil_is (asks_of asks (attempt_at app)) e in
-          let skipped : with_turn pass (asks_of asks) grants (turn_of m (attempt_at app)) ≡ grants =
+          let none : attempt_asks asks (attempt_at app) ≡ [] = nil_is (attempt_asks asks (attempt_at app)) e in
+          let skipped : with_turn pass (attempt_asks asks) grants (turn_of m (attempt_at app)) ≡ grants =
           ap (λ (l : List Ask). fold (with_granted pass (turn_of m (attempt_at app))) grants (by_priority l)) none in
-          rw e (rest grants ∙ ap (λ (so_far : List Grant). fold (with_turn pass (asks_of asks)) so_far (map (λ one. turn_of m (attempt_at one)) apps)) (sym skipped))
+          rw e (rest grants ∙ ap (λ (so_far : List Grant). fold (with_turn pass (attempt_asks asks)) so_far (map (λ one. turn_of m (attempt_at one)) apps)) (sym skipped))
       by false e rest =
           let some : asks_some asks (attempt_at app) ≡ true = rw e refl in
-          rw e (ap (λ (turn : Turn). ours (with_turn pass (asks_of asks) grants turn)) (same 0 app refl some) ∙ rest (with_turn pass (asks_of asks) grants (turn_of m (attempt_at app))))
+          rw e (ap (λ (turn : Turn). ours (with_turn pass (attempt_asks asks) grants turn)) (same 0 app refl some) ∙ rest (with_turn pass (attempt_asks asks) grants (turn_of m (attempt_at app))))
 
 -- a pass over the turns of the tables is one over those of the judge
-pub turns_same : (m : Scene) (t : Tables) → m.records ≡ t.tree → Refines m.life t → AskersCurrent t → (pass : PassNode) → pass_list pass (asks_of t.asks) (turns_in t) ≡ pass_list pass (asks_of t.asks) (turns m)
+pub turns_same : (m : Scene) (t : Tables) → m.records ≡ t.tree → Refines m.life t → AskersCurrent t → (pass : PassNode) → pass_list pass (attempt_asks t.asks) (turns_in t) ≡ pass_list pass (attempt_asks t.asks) (turns m)
 turns_same m t recorded same current pass =
-    turns_from m t.rows t.asks pass t.tree.apps own [] ∙ ap (λ r. pass_list pass (asks_of t.asks) (map (λ app. turn_of m (attempt_at app)) r.apps)) (sym recorded)
+    turns_from m t.rows t.asks pass t.tree.apps own [] ∙ ap (λ r. pass_list pass (attempt_asks t.asks) (map (λ app. turn_of m (attempt_at app)) r.apps)) (sym recorded)
   where
     own : SameTurns m t.rows t.asks pass t.tree.apps
     own place app e some =

@@ -16,8 +16,8 @@ use Rattle.rm_tables.specs.declared.events.SchedEvent.TheVariants as scheds
 use Rattle.rm_tables.specs.declared.nodes.NodeRow.{NodeRow}
 use Rattle.rm_tables.specs.declared.tables.Tables.{Tables}
 use Rattle.rm_tables.specs.Actions.{sched_popped, sched_worked}
-use Rattle.rm_tables.specs.Nodes.{node_of}
-use Rattle.rm_tables.specs.Passing.{grants_on, passed_with, row_granted, still_waits, updated_by}
+use Rattle.rm_tables.specs.Nodes.{node_row}
+use Rattle.rm_tables.specs.Passing.{grants_on, passed_with, rows_after_grant, still_waits, updated_by}
 use Rattle.rm_tables.specs.SchedEvents.{sched_step}
 use Rattle.rm_refinement.specs.Agreement.{bare_node, plain_node}
 use Rattle.rm_invariant.specs.apps.Invariant.{RowInvariant}
@@ -52,10 +52,10 @@ module _ (settings : Settings) (h : History) (t : Tables) (w : CoreInvariant set
   current = askers_current settings h t w.keeps.all w.agrees.asks others
 
   -- the node has a row
-  pub known_row : (row : NodeRow) × (node_of t.nodes name ≡ Some row)
-  known_row = by (node_of t.nodes name) refl
+  pub known_row : (row : NodeRow) × (node_row t.nodes name ≡ Some row)
+  known_row = by (node_row t.nodes name) refl
     where
-      by : (o : Option NodeRow) → node_of t.nodes name ≡ o → (row : NodeRow) × (node_of t.nodes name ≡ Some row)
+      by : (o : Option NodeRow) → node_row t.nodes name ≡ o → (row : NodeRow) × (node_row t.nodes name ≡ Some row)
       by None e =
           let k = known_node h.nodes h.book t.sched name (scheds.NodeUpdate name) rest front (text_itself name) w.nodes in
           let same = w.agrees.nodes name in
@@ -63,7 +63,7 @@ module _ (settings : Settings) (h : History) (t : Tables) (w : CoreInvariant set
           absurd (let y = x in cc)
       by (Some row) e = (row, e)
 
-  module _ (row : NodeRow) (found : node_of t.nodes name ≡ Some row) where
+  module _ (row : NodeRow) (found : node_row t.nodes name ≡ Some row) where
     abbrev pub grants : List Grant
     grants = grants_on name row t
 
@@ -146,11 +146,11 @@ module _ (settings : Settings) (h : History) (t : Tables) (w : CoreInvariant set
                             record {
                               is_open = w.keeps.is_open;
                               recorded = w.keeps.recorded;
-                              all = λ q. subst (λ (v : View). RowInvariant settings q (row_of (fold row_granted t.rows grants) q.app) v) (views.sched_taken history_passed (passed_with grants t) q (scheds.NodeUpdate name) rest front) (both.0 q);
+                              all = λ q. subst (λ (v : View). RowInvariant settings q (row_of (fold rows_after_grant t.rows grants) q.app) v) (views.sched_taken history_passed (passed_with grants t) q (scheds.NodeUpdate name) rest front) (both.0 q);
                             };
                       };
                   marks = λ c.
-                      subst (λ (v : ContainerView). ContainerInvariant c (row_of (fold row_granted t.rows grants) c.attempt.app) v × RemovalInvariant c v) (sched_taken history_passed (passed_with grants t) c (scheds.NodeUpdate name) rest front) (both.1 c);
+                      subst (λ (v : ContainerView). ContainerInvariant c (row_of (fold rows_after_grant t.rows grants) c.attempt.app) v × RemovalInvariant c v) (sched_taken history_passed (passed_with grants t) c (scheds.NodeUpdate name) rest front) (both.1 c);
                 };
           }
 
@@ -158,5 +158,5 @@ module _ (settings : Settings) (h : History) (t : Tables) (w : CoreInvariant set
   pub pass_whole : (list : List ContainerId) → MastersAskOnce t → AppsOnce t → PreservesCore settings h t (sched_worked (sched_step (scheds.NodeUpdate name) list t))
   pass_whole list once apps =
       let k = known_row in
-      let is : updated_by (node_of t.nodes name) name t ≡ (Pass name (grants_on name k.0 t), passed_with (grants_on name k.0 t) t) = ap (λ (o : Option NodeRow). updated_by o name t) k.1 in
+      let is : updated_by (node_row t.nodes name) name t ≡ (Pass name (grants_on name k.0 t), passed_with (grants_on name k.0 t) t) = ap (λ (o : Option NodeRow). updated_by o name t) k.1 in
       subst (λ done. PreservesCore settings h t (sched_worked done)) (sym is) (passed_whole k.0 k.1 (passed_joins k.0 k.1 once apps))

@@ -10,7 +10,7 @@ use Rattle.rm_types.specs.declared.settings.Settings.{Settings}
 use Rattle.rm_types.specs.Ids.{is_attempt}
 use Rattle.rm_types.specs.Lists.{is_nil}
 use Rattle.rm_types.specs.Passes.{by_priority}
-use Rattle.rm_book.specs.AskTables.{asks_of}
+use Rattle.rm_book.specs.AskTables.{attempt_asks}
 use Rattle.rm_app.specs.declared.states.AppState.{AppState}
 use Rattle.rm_app.specs.declared.states.AppState.TheVariants as apps
 use Rattle.rm_attempt.specs.declared.states.AttemptState.{AttemptState}
@@ -30,7 +30,7 @@ use Rattle.rm_invariant.specs.apps.View.{View, is_ask, one_if, view}
 use Rattle.rm_invariant.proofs.apps.Counts.{at_front}
 use Rattle.rm_invariant.specs.nodes.Book.{All}
 use Rattle.rm_invariant.proofs.masters.Ends.{Alive}
-use Rattle.rm_invariant.specs.events.Asking.{asks_others, is_current, is_numbered, is_numbered_in}
+use Rattle.rm_invariant.specs.events.Asking.{asks_others, is_current_number, is_numbered, is_numbered_in}
 use Rattle.rm_invariant.specs.events.Masters.{MastersAskOnce, are_single, goes_in, goes_with}
 use Rattle.rm_invariant.proofs.events.OnNode.{all_each}
 
@@ -182,44 +182,44 @@ not_waiting current row o found is (inl (inr (inr e))) = rw (found, is, e) refl
 not_waiting current row o found is (inr e) = rw (found, is, e) refl
 
 module _ (settings : Settings) (h : History) (t : Tables) (says : AttemptsInvariant settings h t) (same : SameAsks t.asks h.asks) (once : MastersAskOnce t) (q : AttemptId) (some : asks_some t.asks q ≡ true)
-    (at : is_current t.rows q ≡ true) where
+    (at : is_current_number t.rows q ≡ true) where
   -- each attempt that asks for something
-  pub asker : Asker (row_of t.rows q.app) (asks_of t.asks q) q.number
+  pub asker : Asker (row_of t.rows q.app) (attempt_asks t.asks q) q.number
   asker = by (find_current q.number (row_of t.rows q.app) at)
     where
-      counted : count_by (is_ask q) h.asks ≡ count_by is_zero (asks_of t.asks q)
+      counted : count_by (is_ask q) h.asks ≡ count_by is_zero (attempt_asks t.asks q)
       counted = count_told q h.asks ∙ ap (count_by is_zero) (sym (same q))
 
-      by : Found (row_of t.rows q.app) q.number → Asker (row_of t.rows q.app) (asks_of t.asks q) q.number
+      by : Found (row_of t.rows q.app) q.number → Asker (row_of t.rows q.app) (attempt_asks t.asks q) q.number
       by f = kind (asks_say settings q f.row f.current (view h t q) f.is f.numbered (subst (λ (o : Option AppRow). RowInvariant settings q o (view h t q)) f.found (says q)))
         where
           goes : goes_in (row_of t.rows q.app) ≡ true → (is_alive f.current.state || is_ending f.current.state) ≡ true
           goes e = sym (ap goes_in f.found ∙ ap goes_with f.is) ∙ e
 
-          alive : Alive f.current.state ⊎ (f.current.state ≡ attempts.Ending) → Asker (row_of t.rows q.app) (asks_of t.asks q) q.number
+          alive : Alive f.current.state ⊎ (f.current.state ≡ attempts.Ending) → Asker (row_of t.rows q.app) (attempt_asks t.asks q) q.number
           alive state =
               record {
                 each =
-                    all_each (λ ask. Ready (row_of t.rows q.app) (asks_of t.asks q) q.number ask.size)
-                    (λ ask. record { row = f.row; found = f.found; current = f.current; is = f.is; numbered = f.numbered; kind = inr state }) (by_priority (asks_of t.asks q));
+                    all_each (λ ask. Ready (row_of t.rows q.app) (attempt_asks t.asks q) q.number ask.size)
+                    (λ ask. record { row = f.row; found = f.found; current = f.current; is = f.is; numbered = f.numbered; kind = inr state }) (by_priority (attempt_asks t.asks q));
                 alone = λ e. absurd (false≢true (sym (not_waiting f.current f.row (row_of t.rows q.app) f.found f.is state) ∙ e));
               }
 
-          scheduled : f.current.state ≡ attempts.Scheduled → (size : Resource) × (asks_of t.asks q ≡ line_of size ∷ []) → Asker (row_of t.rows q.app) (asks_of t.asks q) q.number
+          scheduled : f.current.state ≡ attempts.Scheduled → (size : Resource) × (attempt_asks t.asks q ≡ line_of size ∷ []) → Asker (row_of t.rows q.app) (attempt_asks t.asks q) q.number
           scheduled st line =
               record {
                 each =
-                    subst (λ (l : List Ask). All (λ ask. Ready (row_of t.rows q.app) (asks_of t.asks q) q.number ask.size) (by_priority l)) (sym line.1)
+                    subst (λ (l : List Ask). All (λ ask. Ready (row_of t.rows q.app) (attempt_asks t.asks q) q.number ask.size) (by_priority l)) (sym line.1)
                     (record { row = f.row; found = f.found; current = f.current; is = f.is; numbered = f.numbered; kind = inl (record { is = st; line = line.1 }) }, tt);
                 alone = λ e. line;
               }
 
-          waiting : f.current.state ≡ attempts.Scheduled → count_by (is_ask q) h.asks ≤ 1 → (b : Bool) → asks_others (asks_of t.asks q) ≡ b → Asker (row_of t.rows q.app) (asks_of t.asks q) q.number
+          waiting : f.current.state ≡ attempts.Scheduled → count_by (is_ask q) h.asks ≤ 1 → (b : Bool) → asks_others (attempt_asks t.asks q) ≡ b → Asker (row_of t.rows q.app) (attempt_asks t.asks q) q.number
           waiting st few true e =
               let busy = goes (once.others q e) in
               absurd (false≢true (sym (ap (λ (s : AttemptState). is_alive s || is_ending s) st) ∙ busy))
-          waiting st few false e = scheduled st (only_line (asks_of t.asks q) e (subst (λ (n : ℕ). n ≤ 1) counted few) (once.single q) some)
+          waiting st few false e = scheduled st (only_line (attempt_asks t.asks q) e (subst (λ (n : ℕ). n ≤ 1) counted few) (once.single q) some)
 
-          kind : ((f.current.state ≡ attempts.Scheduled) × (count_by (is_ask q) h.asks ≤ 1)) ⊎ (count_by (is_ask q) h.asks ≡ 0) → Asker (row_of t.rows q.app) (asks_of t.asks q) q.number
-          kind (inl w) = waiting w.0 w.1 (asks_others (asks_of t.asks q)) refl
-          kind (inr none) = alive (goes_at f.current.state (goes (once.others q (others_some (asks_of t.asks q) some (sym counted ∙ none)))))
+          kind : ((f.current.state ≡ attempts.Scheduled) × (count_by (is_ask q) h.asks ≤ 1)) ⊎ (count_by (is_ask q) h.asks ≡ 0) → Asker (row_of t.rows q.app) (attempt_asks t.asks q) q.number
+          kind (inl w) = waiting w.0 w.1 (asks_others (attempt_asks t.asks q)) refl
+          kind (inr none) = alive (goes_at f.current.state (goes (once.others q (others_some (attempt_asks t.asks q) some (sym counted ∙ none)))))

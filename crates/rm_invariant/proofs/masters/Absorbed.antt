@@ -22,10 +22,11 @@ use Rattle.rm_types.specs.declared.operations.How.TheVariants as ways
 use Rattle.rm_types.specs.declared.containers.Cause.TheVariants as causes
 use Rattle.rm_types.proofs.TestLemmas.{and_first}
 use Rattle.rm_types.proofs.IdLemmas.{container_itself, same_container}
-use Rattle.rm_model.specs.Absorbing.{absorbs, as_booked, as_counted, as_reported, is_held, may_take, not_taken, row_absorbed, row_taken, taken_of, with_counted}
+use Rattle.rm_model.specs.Absorbing.{absorbs, as_booked, as_counted, as_reported, may_take, not_taken, row_absorbed, row_taken, taken_of, with_counted}
+use Rattle.rm_types.specs.Containers.{is_held}
 use Rattle.rm_model.specs.Attempts.{attempt_was_first, is_current}
-use Rattle.rm_model.specs.Containers.{ids_on, is_living, lives_on, row_of as book_row_of}
-use Rattle.rm_model.specs.Nodes.{node_of}
+use Rattle.rm_model.specs.Containers.{ids_on, is_living, lives_on, judged_row as book_row_of}
+use Rattle.rm_model.specs.Nodes.{judged_node}
 use Rattle.rm_model.specs.Rules.{MayAbsorb}
 use Rattle.rm_model.specs.State.{LifeState, NodeState, Row, Scene, scene}
 use Rattle.rm_model.specs.Facts.{attempts_in, has_container}
@@ -49,7 +50,7 @@ use Rattle.rm_invariant.proofs.apps.Keeping.{in_scene}
 use Rattle.rm_invariant.specs.masters.Sound.{RecordsAreSound}
 use Rattle.rm_invariant.specs.masters.Invariant.{ContainersInvariant, ContainerInvariant, RemovalInvariant}
 use Rattle.rm_invariant.specs.masters.Preserves.{PreservesContainers}
-use Rattle.rm_invariant.specs.masters.View.{ContainerView, container_view, is_removal}
+use Rattle.rm_invariant.specs.masters.View.{ContainerView, container_view, is_attempt_removal}
 use Rattle.rm_invariant.proofs.masters.Ends.{Alive}
 use Rattle.rm_invariant.proofs.masters.Tests.{and_right}
 use Rattle.rm_invariant.proofs.masters.Living.{end_how, some_ending}
@@ -254,12 +255,12 @@ module _ (settings : Settings) (g : History) (t : Tables) (name : List ℕ) wher
       (all_enter (book ++ row_absorbed name held ∷ []) more enters.1 (one_enters book held enters.0.0 enters.0.1 both))
 
 -- the event is no AttemptRemoved
-no_removal : {X : Type 0} → (c : ContainerId) (name : List ℕ) (turn : ℕ) → is_removal c (scheds.NodeAdded name turn) ≡ true → X
+no_removal : {X : Type 0} → (c : ContainerId) (name : List ℕ) (turn : ℕ) → is_attempt_removal c (scheds.NodeAdded name turn) ≡ true → X
 no_removal c name turn x = cc
 
 module _ (settings : Settings) (h : History) (t : Tables) (k : AppsInvariant settings h t) (all : ContainersInvariant h t) (each : RecordsAreSound t.tree.apps) (name : List ℕ) (turn : ℕ) (rest : List SchedEvent) (front : t.sched ≡ scheds.NodeAdded name turn ∷ rest) where
   -- the report is absorbed
-  module _ (node : NodeState) (there : node_of h.nodes name ≡ Some node) (capability : Resource) (taken : List Held) (ended : List ContainerId) (may : MayAbsorb (abstract_scene h t) node taken ended) where
+  module _ (node : NodeState) (there : judged_node h.nodes name ≡ Some node) (capability : Resource) (taken : List Held) (ended : List ContainerId) (may : MayAbsorb (abstract_scene h t) node taken ended) where
     of_left : (c : ContainerId) → has_container ended c ≡ true → (has_container (ids_on h.book node.name) c ≡ true) × (not (is_held taken c) ≡ true)
     of_left c e =
         of_passing (λ id. not (is_held taken id)) (ids_on h.book node.name) c

@@ -39,7 +39,7 @@ use Rattle.rm_invariant.proofs.apps.Keeping.{in_scene}
 use Rattle.rm_invariant.proofs.apps.Found.{row_changed}
 use Rattle.rm_invariant.specs.masters.Invariant.{ContainersInvariant, ContainerInvariant, RemovalInvariant}
 use Rattle.rm_invariant.specs.masters.Preserves.{PreservesContainers}
-use Rattle.rm_invariant.specs.masters.View.{ContainerView, is_removal, container_view}
+use Rattle.rm_invariant.specs.masters.View.{ContainerView, is_attempt_removal, container_view}
 use Rattle.rm_invariant.proofs.masters.Talking.{IsTalking, marks_talking, same_talking, says_talking, talking}
 use Rattle.rm_invariant.proofs.masters.Finishing.{text_in}
 
@@ -178,7 +178,7 @@ module _ (settings : Settings) (h : History) (t : Tables) (k : AppsInvariant set
 
   marked : (c : ContainerId) → container_view allocating allocated c ≡ container_view h t c
   marked c =
-      let removals = releases_more (is_removal c) (λ a l. refl) t.sched events releases in
+      let removals = releases_more (is_attempt_removal c) (λ a l. refl) t.sched events releases in
       let living = allocated_any (λ d. is_container d c) (map (λ row. row.id) (untold_rows (abstract_scene h t) id)) (released_by (abstract_scene h t) (record { attempt = id; list = release })) h.book in
       let texts = same_texts id (Allocated next grants ended) c.attempt h.masters.registered in
       rw (removals, living, texts) refl

@@ -9,7 +9,7 @@ use Rattle.rm_tables.specs.Actions.{main_popped}
 use Rattle.rm_refinement.specs.History.{History}
 use Rattle.rm_invariant.specs.apps.View.{is_launch}
 use Rattle.rm_invariant.proofs.apps.Counts.{at_end, at_front}
-use Rattle.rm_invariant.specs.masters.View.{is_expiry, is_finish, is_granting, is_losing, is_removal, is_saving, container_view_main, container_view, container_view_op, container_view_sched}
+use Rattle.rm_invariant.specs.masters.View.{is_expiry, is_finish, is_granting, is_losing, is_attempt_removal, is_saving, container_view_main, container_view, container_view_op, container_view_sched}
 
 module _ (h : History) (t : Tables) (c : ContainerId) where
   -- of the main queue
@@ -23,10 +23,10 @@ module _ (h : History) (t : Tables) (c : ContainerId) where
 
   -- of the scheduler's
   pub sched_taken : (e : SchedEvent) (rest : List SchedEvent) → t.sched ≡ e ∷ rest → container_view h t c ≡ container_view_sched c e (container_view h (record t { sched = drop 1 t.sched }) c)
-  sched_taken e rest is = rw (is, at_front (is_removal c) e rest) refl
+  sched_taken e rest is = rw (is, at_front (is_attempt_removal c) e rest) refl
 
   pub sched_posted : (e : SchedEvent) → container_view h (record t { sched = t.sched ++ e ∷ [] }) c ≡ container_view_sched c e (container_view h t c)
-  sched_posted e = rw (at_end (is_removal c) t.sched e) refl
+  sched_posted e = rw (at_end (is_attempt_removal c) t.sched e) refl
 
   -- of the operations that await
   pub op_taken : (op : Op) (rest : List Op) → t.awaiting ≡ op ∷ rest → container_view h t c ≡ container_view_op c op (container_view h (record t { awaiting = drop 1 t.awaiting }) c)

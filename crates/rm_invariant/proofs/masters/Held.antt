@@ -7,7 +7,7 @@ use Rattle.rm_types.specs.Ids.{is_attempt, is_container}
 use Rattle.rm_types.specs.declared.containers.BookRow.{BookRow}
 use Rattle.rm_types.proofs.IdLemmas.{container_itself, same_container}
 use Rattle.rm_types.proofs.TestLemmas.{text_itself}
-use Rattle.rm_model.specs.Containers.{is_living, lives_on, row_of as book_row_of}
+use Rattle.rm_model.specs.Containers.{is_living, lives_on, judged_row as book_row_of}
 use Rattle.rm_model.specs.Facts.{has_container}
 use Rattle.rm_model.specs.State.{Row}
 use Rattle.rm_book.specs.Books.{BookOf, is_of}

@@ -47,7 +47,7 @@ use Rattle.rm_invariant.proofs.apps.Removing.{remove_kept_steps, removed, row_go
 use Rattle.rm_invariant.proofs.apps.Recorded.{record_changed}
 use Rattle.rm_invariant.specs.masters.Invariant.{ContainersInvariant, ContainerByCurrent, ContainerInvariant, is_final, RemovalInvariant, has_end_in}
 use Rattle.rm_invariant.specs.masters.Preserves.{PreservesContainers}
-use Rattle.rm_invariant.specs.masters.View.{ContainerView, container_view, is_removal}
+use Rattle.rm_invariant.specs.masters.View.{ContainerView, container_view, is_attempt_removal}
 use Rattle.rm_invariant.proofs.masters.Saying.{was_final, active_unended}
 use Rattle.rm_invariant.proofs.masters.Others.{ended_marks, final_marks, gone_marks, new_marks}
 use Rattle.rm_invariant.proofs.masters.Effects.{main_posted, op_taken, sched_posted}
@@ -209,8 +209,8 @@ drops id c None = false
 drops id c (Some current) = drops_at (is_dropped current.state) (record { app = id; number = current.number }) c
 
 -- what is posted of it
-dropped_count : (c : ContainerId) (id : AttemptId) (s : AttemptState) (xs : List SchedEvent) → count_by (is_removal c) (xs ++ dropped_at s id) ≡ one_if (drops_at (is_dropped s) id c) (count_by (is_removal c) xs)
-dropped_count c id attempts.Dropped xs = at_end (is_removal c) xs (scheds.AttemptRemoved id)
+dropped_count : (c : ContainerId) (id : AttemptId) (s : AttemptState) (xs : List SchedEvent) → count_by (is_attempt_removal c) (xs ++ dropped_at s id) ≡ one_if (drops_at (is_dropped s) id c) (count_by (is_attempt_removal c) xs)
+dropped_count c id attempts.Dropped xs = at_end (is_attempt_removal c) xs (scheds.AttemptRemoved id)
 dropped_count c id attempts.Scheduled xs = rw (append-nil xs) refl
 dropped_count c id attempts.Granted xs = rw (append-nil xs) refl
 dropped_count c id attempts.Saving xs = rw (append-nil xs) refl
@@ -220,7 +220,7 @@ dropped_count c id attempts.Finishing xs = rw (append-nil xs) refl
 dropped_count c id attempts.Ending xs = rw (append-nil xs) refl
 dropped_count c id attempts.Ended xs = rw (append-nil xs) refl
 
-posted_count : (c : ContainerId) (id : AppId) (o : Option Current) (xs : List SchedEvent) → count_by (is_removal c) (xs ++ dropped_of o id) ≡ one_if (drops id c o) (count_by (is_removal c) xs)
+posted_count : (c : ContainerId) (id : AppId) (o : Option Current) (xs : List SchedEvent) → count_by (is_attempt_removal c) (xs ++ dropped_of o id) ≡ one_if (drops id c o) (count_by (is_attempt_removal c) xs)
 posted_count c id None xs = rw (append-nil xs) refl
 posted_count c id (Some current) xs = dropped_count c (record { app = id; number = current.number }) current.state xs
 
@@ -264,8 +264,8 @@ module _ (settings : Settings) (h : History) (t : Tables) (k : AppsInvariant set
   over_now c =
       let taken = op_taken h t c (ops.AppEnd id how text) rest front in
       let at_row = over_waits.is in
-      let posted : count_by (is_removal c) (t.sched ++ dropped_by (row_of t.rows id) id) ≡ one_if (drops id c over_waits.one.current) (count_by (is_removal c) t.sched) = rw at_row (posted_count c id over_waits.one.current t.sched) in
-      let dropped : container_view after_over (kept (ops.AppEnd id how text) t) c ≡ record (container_view after_over (record over_recorded { main = t.main ++ mains.Retire ∷ [] }) c) { removals = one_if (drops id c over_waits.one.current) (count_by (is_removal c) t.sched) } =
+      let posted : count_by (is_attempt_removal c) (t.sched ++ dropped_by (row_of t.rows id) id) ≡ one_if (drops id c over_waits.one.current) (count_by (is_attempt_removal c) t.sched) = rw at_row (posted_count c id over_waits.one.current t.sched) in
+      let dropped : container_view after_over (kept (ops.AppEnd id how text) t) c ≡ record (container_view after_over (record over_recorded { main = t.main ++ mains.Retire ∷ [] }) c) { removals = one_if (drops id c over_waits.one.current) (count_by (is_attempt_removal c) t.sched) } =
       ap (λ (n : ℕ). record (container_view after_over (record over_recorded { main = t.main ++ mains.Retire ∷ [] }) c) { removals = n }) posted in
       let retired_ = main_posted after_over over_recorded c mains.Retire in
       let found : container_view after_over over_recorded c ≡ record (container_view h over_left c) { found = changed_if (is_app id c.attempt.app) (with_app_end how text t.tree.applied) (container_view h over_left c).found } =

@@ -23,7 +23,7 @@ use Rattle.rm_model.specs.Containers.{is_living}
 use Rattle.rm_model.specs.Facts.{is_attempt_end_op}
 use Rattle.rm_model.specs.Issuing.{EndsFor, killed_text, lost_text}
 use Rattle.rm_model.specs.State.{Row}
-use Rattle.rm_model.specs.Nodes.{with_node}
+use Rattle.rm_model.specs.Nodes.{with_judged_node}
 use Rattle.rm_model.specs.Rules.{MayOrder}
 use Rattle.rm_attempt.specs.declared.states.AttemptState.{AttemptState}
 use Rattle.rm_attempt.specs.declared.states.AttemptState.TheVariants as attempts
@@ -86,7 +86,7 @@ module _ (settings : Settings) (h : History) (t : Tables) (k : AppsInvariant set
   -- the history after the launch of a master is ordered
   abbrev pub ordering : ContainerId → List ℕ → History
   ordering c node =
-      record h { masters = record h.masters { ordered = h.masters.ordered ++ c ∷ [] }; nodes = with_node (λ one. record one { launches = one.launches ++ c ∷ [] }) node h.nodes }
+      record h { masters = record h.masters { ordered = h.masters.ordered ++ c ∷ [] }; nodes = with_judged_node (λ one. record one { launches = one.launches ++ c ∷ [] }) node h.nodes }
 
   module _ (row : AppRow) (found : row_of t.rows id.app ≡ Some row) (current : Current) (is : row.current ≡ Some current) (st : Alive current.state) (n : (current.number == id.number) ≡ true) where
     number : current.number ≡ id.number

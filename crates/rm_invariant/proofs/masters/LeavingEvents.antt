@@ -16,11 +16,11 @@ use Rattle.rm_model.specs.Containers.{ids_on, is_living, lives_on, once}
 use Rattle.rm_model.specs.Facts.{has_container}
 use Rattle.rm_model.specs.Rules.{Allowed}
 use Rattle.rm_model.specs.State.{Row}
-use Rattle.rm_book.specs.Books.{has_row, is_of, row_of as book_row_of}
+use Rattle.rm_book.specs.Books.{has_row, is_of, book_row as book_row_of}
 use Rattle.rm_tables.specs.declared.events.SchedEvent.{SchedEvent}
 use Rattle.rm_tables.specs.declared.tables.Tables.{Tables}
 use Rattle.rm_tables.specs.Leaving.{ended_by, is_masters_in}
-use Rattle.rm_tables.specs.SchedEvents.{EndsBy, done_by, is_on, is_released, released_by, sched_step}
+use Rattle.rm_tables.specs.SchedEvents.{EndsByEvent, done_by, is_on, is_released, release_step, sched_step}
 use Rattle.rm_tables.specs.Actions.{sched_worked}
 use Rattle.rm_tables.specs.declared.events.SchedEvent.TheVariants as scheds
 use Rattle.rm_refinement.specs.Agreement.{PlainRow, bare_row, plain_row, SameRows}
@@ -112,7 +112,7 @@ lives_there (row ∷ rows) name c e = by (is_container row.id c) refl (lives_the
 module _ (settings : Settings) (h : History) (t : Tables) (k : AppsInvariant settings h t) (all : ContainersInvariant h t) (each : RecordsAreSound t.tree.apps) (agree : SameRows t.book.rows h.book) where
   -- Release
   pub released_joins : (attempt : AttemptId) (released : List ContainerId) (rest : List SchedEvent) → t.sched ≡ scheds.Release attempt released ∷ rest → (list : List ContainerId)
-      → Allowed settings (live_state h t) (released_by attempt released t).0 → PreservesContainersTo settings h t (sched_worked (sched_step (scheds.Release attempt released) list t))
+      → Allowed settings (live_state h t) (release_step attempt released t).0 → PreservesContainersTo settings h t (sched_worked (sched_step (scheds.Release attempt released) list t))
   released_joins attempt released rest front list lawful =
       leaving_joins settings h t k all each (scheds.Release attempt released) rest front (λ q v. refl) causes.Released (once (filter (is_released attempt t) released))
       (λ c e.
@@ -131,7 +131,7 @@ module _ (settings : Settings) (h : History) (t : Tables) (k : AppsInvariant set
       (λ c x l. cc) lawful
 
   -- NodeLost
-  pub node_lost_joins : (name : List ℕ) (rest : List SchedEvent) → t.sched ≡ scheds.NodeLost name ∷ rest → (list : List ContainerId) → EndsBy (scheds.NodeLost name) t list
+  pub node_lost_joins : (name : List ℕ) (rest : List SchedEvent) → t.sched ≡ scheds.NodeLost name ∷ rest → (list : List ContainerId) → EndsByEvent (scheds.NodeLost name) t list
       → Allowed settings (live_state h t) (ended_by causes.Node list t).0 → PreservesContainersTo settings h t (sched_worked (sched_step (scheds.NodeLost name) list t))
   node_lost_joins name rest front list ends lawful =
       let same = same_ids_on name t.book.rows h.book agree in

@@ -21,7 +21,7 @@ use Rattle.rm_tables.specs.declared.rows.AppRow.{AppRow}
 use Rattle.rm_tables.specs.declared.events.SchedEvent.{SchedEvent}
 use Rattle.rm_tables.specs.declared.tables.Tables.{Tables}
 use Rattle.rm_tables.specs.Leaving.{ended_by}
-use Rattle.rm_tables.specs.SchedEvents.{EndsBy, sched_step}
+use Rattle.rm_tables.specs.SchedEvents.{EndsByEvent, sched_step}
 use Rattle.rm_tables.specs.Actions.{sched_worked, sched_popped}
 use Rattle.rm_tables.specs.Rows.{row_of}
 use Rattle.rm_tables.specs.declared.events.SchedEvent.TheVariants as scheds
@@ -113,7 +113,7 @@ module _ (settings : Settings) (h : History) (t : Tables) (k : AppsInvariant set
   removed_lawful (one ∷ more) a = in_scene settings h t k (Ended causes.Attempt (one ∷ more)) (record { some = λ e. cc; ends = (id, over, a) })
 
   -- AttemptRemoved, whichever containers of the attempt are left
-  pub removed_joins : (list : List ContainerId) → EndsBy (scheds.AttemptRemoved id) t list → PreservesContainersTo settings h t (sched_worked (sched_step (scheds.AttemptRemoved id) list t))
+  pub removed_joins : (list : List ContainerId) → EndsByEvent (scheds.AttemptRemoved id) t list → PreservesContainersTo settings h t (sched_worked (sched_step (scheds.AttemptRemoved id) list t))
   removed_joins list ends =
       let same = same_ids id t.book.rows h.book agree in
       let told : Ascend (ids_of h.book id) list = subst (λ (ids : List ContainerId). Ascend ids list) same ends in

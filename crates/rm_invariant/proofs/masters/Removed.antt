@@ -36,7 +36,7 @@ use Rattle.rm_invariant.proofs.apps.Effects as views
 use Rattle.rm_invariant.specs.masters.Invariant.{ContainersInvariant, ContainerByNumber, ContainerByState, ContainerByCurrent, ContainerInvariant, RemovalInvariant}
 use Rattle.rm_invariant.specs.masters.Sound.{RecordsAreSound}
 use Rattle.rm_invariant.specs.masters.Preserves.{PreservesContainers, PreservesContainersTo}
-use Rattle.rm_invariant.specs.masters.View.{ContainerView, is_expiry, is_finish, is_granting, is_losing, is_removal, container_view}
+use Rattle.rm_invariant.specs.masters.View.{ContainerView, is_expiry, is_finish, is_granting, is_losing, is_attempt_removal, container_view}
 use Rattle.rm_invariant.proofs.masters.Crossing.{IsTold, leaving_marks, left_marks, unheld}
 use Rattle.rm_invariant.proofs.masters.Leaving.{any_filter, has_append, living_filter, none_more, posts_none, posts_some}
 use Rattle.rm_invariant.proofs.masters.Masters.{is_master, masters_same}
@@ -109,7 +109,7 @@ module _ (settings : Settings) (h : History) (t : Tables) (k : AppsInvariant set
   leaving list = record h { book = (life_after list).book; nodes = (life_after list).nodes; endings = (life_after list).endings }
 
   module _ (list : List ContainerId) (lives : (c : ContainerId) → has_container list c ≡ true → is_living h.book c ≡ true)
-      (whole : (c : ContainerId) → is_removal c e ≡ true → is_living h.book c ≡ true → has_container list c ≡ true) where
+      (whole : (c : ContainerId) → is_attempt_removal c e ≡ true → is_living h.book c ≡ true → has_container list c ≡ true) where
     -- the tables after it
     abbrev pub next : Tables
     next = sched_popped (left_all cause list t)
@@ -163,17 +163,17 @@ module _ (settings : Settings) (h : History) (t : Tables) (k : AppsInvariant set
     removal_here : (c : ContainerId) → RemovalInvariant c (container_view (leaving list) next c)
     removal_here c =
         let before = subst (λ (v : ContainerView). RemovalInvariant c v) (sched_taken h t c e rest front) (all c).1 in
-        subst (λ (v : ContainerView). RemovalInvariant c v) (sym (marked c)) (removal_fewer c (container_view h (sched_popped t) c) (is_removal c e) before)
+        subst (λ (v : ContainerView). RemovalInvariant c v) (sym (marked c)) (removal_fewer c (container_view h (sched_popped t) c) (is_attempt_removal c e) before)
 
     marks_here : (c : ContainerId) → ContainerInvariant c (row_of next.rows c.attempt.app) (container_view (leaving list) next c)
     marks_here c =
         let before = subst (λ (v : ContainerView). ContainerInvariant c (row_of t.rows c.attempt.app) v) (sched_taken h t c e rest front) (all c).0 in
-        let left = leaving_marks c (record (container_view h (sched_popped t) c) { removals = one_if (is_removal c e) (container_view h (sched_popped t) c).removals }) (row_of t.rows c.attempt.app) (has_container list c) (count_by (is_losing c) posted) (lives c) (posts_none (is_masters_in t.tree.apps) list c) is_told before in
+        let left = leaving_marks c (record (container_view h (sched_popped t) c) { removals = one_if (is_attempt_removal c e) (container_view h (sched_popped t) c).removals }) (row_of t.rows c.attempt.app) (has_container list c) (count_by (is_losing c) posted) (lives c) (posts_none (is_masters_in t.tree.apps) list c) is_told before in
         marks_talking c (row_of t.rows c.attempt.app) (row_of next.rows c.attempt.app) (container_view (leaving list) next c) (rows_are c.attempt.app)
         (subst (λ (v : ContainerView). ContainerInvariant c (row_of t.rows c.attempt.app) v) (sym (marked c))
-        (removed_marks c (row_of t.rows c.attempt.app) (left_marks (has_container list c) (count_by (is_losing c) posted) (container_view h (sched_popped t) c)) (is_removal c e) (λ x. gone x (is_living h.book c) refl (has_container list c) refl) left))
+        (removed_marks c (row_of t.rows c.attempt.app) (left_marks (has_container list c) (count_by (is_losing c) posted) (container_view h (sched_popped t) c)) (is_attempt_removal c e) (λ x. gone x (is_living h.book c) refl (has_container list c) refl) left))
       where
-        gone : is_removal c e ≡ true → (a : Bool) → is_living h.book c ≡ a → (b : Bool) → has_container list c ≡ b → (is_living h.book c && not (has_container list c)) ≡ false
+        gone : is_attempt_removal c e ≡ true → (a : Bool) → is_living h.book c ≡ a → (b : Bool) → has_container list c ≡ b → (is_living h.book c && not (has_container list c)) ≡ false
         gone x true e true f = rw (e, f) refl
         gone x true e false f = absurd (let y = whole c x e in cc)
         gone x false e b f = rw e refl
@@ -196,7 +196,7 @@ module _ (settings : Settings) (h : History) (t : Tables) (k : AppsInvariant set
 
   -- where none leaves, the event may go
   pub none_joins : (entry : Entry) → Allowed settings (live_state h t) entry → after (live_state h t) entry ≡ live_state h (sched_popped t)
-      → ((c : ContainerId) → is_removal c e ≡ true → is_living h.book c ≡ true → ⊥) → PreservesContainers settings h t entry h (sched_popped t)
+      → ((c : ContainerId) → is_attempt_removal c e ≡ true → is_living h.book c ≡ true → ⊥) → PreservesContainers settings h t entry h (sched_popped t)
   none_joins entry lawful same none =
       record {
         step =
@@ -211,18 +211,18 @@ module _ (settings : Settings) (h : History) (t : Tables) (k : AppsInvariant set
                   };
             };
         marks = λ c. (
-          removed_marks c (row_of t.rows c.attempt.app) (container_view h (sched_popped t) c) (is_removal c e) (λ x. not_living c x (is_living h.book c) refl)
+          removed_marks c (row_of t.rows c.attempt.app) (container_view h (sched_popped t) c) (is_attempt_removal c e) (λ x. not_living c x (is_living h.book c) refl)
               (subst (λ (v : ContainerView). ContainerInvariant c (row_of t.rows c.attempt.app) v) (sched_taken h t c e rest front) (all c).0),
-          removal_fewer c (container_view h (sched_popped t) c) (is_removal c e) (subst (λ (v : ContainerView). RemovalInvariant c v) (sched_taken h t c e rest front) (all c).1),
+          removal_fewer c (container_view h (sched_popped t) c) (is_attempt_removal c e) (subst (λ (v : ContainerView). RemovalInvariant c v) (sched_taken h t c e rest front) (all c).1),
         );
       }
     where
-      not_living : (c : ContainerId) → is_removal c e ≡ true → (b : Bool) → is_living h.book c ≡ b → b ≡ false
+      not_living : (c : ContainerId) → is_attempt_removal c e ≡ true → (b : Bool) → is_living h.book c ≡ b → b ≡ false
       not_living c x true l = absurd (none c x l)
       not_living c x false l = refl
 
   -- these containers leave, if there are any
-  pub leaving_joins : (list : List ContainerId) → ((c : ContainerId) → has_container list c ≡ true → is_living h.book c ≡ true) → ((c : ContainerId) → is_removal c e ≡ true → is_living h.book c ≡ true → has_container list c ≡ true)
+  pub leaving_joins : (list : List ContainerId) → ((c : ContainerId) → has_container list c ≡ true → is_living h.book c ≡ true) → ((c : ContainerId) → is_attempt_removal c e ≡ true → is_living h.book c ≡ true → has_container list c ≡ true)
       → Allowed settings (live_state h t) (ended_by cause list t).0 → PreservesContainersTo settings h t (sched_worked (ended_by cause list t))
   leaving_joins [] lives whole lawful = record { next = h; joins = none_joins (ended_by cause [] t).0 lawful refl (λ c x l. let w = whole c x l in cc) }
   leaving_joins (one ∷ more) lives whole lawful = record { next = leaving (one ∷ more); joins = ended_joins (one ∷ more) lives whole lawful }

@@ -8,7 +8,7 @@ use Rattle.rm_app.specs.declared.states.AppState.{AppState}
 use Rattle.rm_app.specs.declared.states.AppState.TheVariants as apps
 use Rattle.rm_app.specs.declared.states.AppEvent.{AppEvent}
 use Rattle.rm_app.specs.declared.states.AppEvent.TheVariants as app_events
-use Rattle.rm_app.specs.Table.{next_state}
+use Rattle.rm_app.specs.Table.{next_app_state}
 use Rattle.rm_attempt.specs.declared.states.AttemptState.{AttemptState}
 use Rattle.rm_attempt.specs.declared.states.AttemptState.TheVariants as attempts
 use Rattle.rm_tables.specs.declared.rows.AppRow.{AppRow}
@@ -27,7 +27,7 @@ is_end_kept (app_events.EndKept how) = true
 is_end_kept _ = false
 
 -- no other event leads to where an end is kept
-pub was_final : (event : AppEvent) → is_end_kept event ≡ false → (s : AppState) → is_final (next_state s event) ≡ true → is_final s ≡ true
+pub was_final : (event : AppEvent) → is_end_kept event ≡ false → (s : AppState) → is_final (next_app_state s event) ≡ true → is_final s ≡ true
 was_final event other s f = grind arith
 
 -- an attempt that is on its way or lives is of an active application

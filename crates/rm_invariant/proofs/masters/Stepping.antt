@@ -28,7 +28,7 @@ use Rattle.rm_invariant.proofs.apps.Keeping.{step_own}
 use Rattle.rm_invariant.proofs.apps.Effects as views
 use Rattle.rm_invariant.specs.masters.Invariant.{ContainersInvariant, ContainerInvariant, RemovalInvariant}
 use Rattle.rm_invariant.specs.masters.Preserves.{PreservesContainers}
-use Rattle.rm_invariant.specs.masters.View.{ContainerView, container_view_main, container_view, is_expiry, is_finish, is_granting, is_losing, is_removal, is_saving}
+use Rattle.rm_invariant.specs.masters.View.{ContainerView, container_view_main, container_view, is_expiry, is_finish, is_granting, is_losing, is_attempt_removal, is_saving}
 use Rattle.rm_invariant.proofs.masters.Effects.{main_taken}
 
 -- an event is of one application: to the attempts and containers of others it is nothing
@@ -115,7 +115,7 @@ marks_in life t c =
       launches = count_by (is_launch c.attempt) t.main;
       expiries = count_by (is_expiry c) t.main;
       finishes = count_by (is_finish c) t.main;
-      removals = count_by (is_removal c) t.sched;
+      removals = count_by (is_attempt_removal c) t.sched;
       living = is_living life.book c;
       left = has_container life.endings.left c;
       ordered = has_container life.masters.ordered c;

@@ -28,9 +28,9 @@ use Rattle.rm_tables.specs.Actions.{app_changed, ends_app, ends_attempt, main_qu
 use Rattle.rm_tables.specs.Changes.{changed}
 use Rattle.rm_tables.specs.MainEvents.{with_attempt_issued, attempt_kill, with_order, with_attempt_requeued, start_of_submission}
 use Rattle.rm_tables.specs.Rows.{row_of, with_row}
-use Rattle.rm_invariant.specs.events.Outcomes.{waits_at}
+use Rattle.rm_invariant.specs.events.Outcomes.{is_past_grant}
 use Rattle.rm_invariant.specs.apps.Invariant.{is_active}
-use Rattle.rm_invariant.specs.measure.Measure.{app_end_measure, app_op_measure, app_measure, attempt_op_measure, attempt_measure, main_measure, next_measure, number_in, op_measure, row_measure, rows_measure, sched_measure, untried_measure, measure}
+use Rattle.rm_invariant.specs.measure.Measure.{app_end_measure, app_op_measure, app_measure, attempt_op_measure, attempt_measure, main_measure, next_measure, current_number, op_measure, row_measure, rows_measure, sched_measure, untried_measure, measure}
 use Rattle.rm_invariant.proofs.measure.Following.{IsFollowed}
 use Rattle.rm_invariant.proofs.measure.Rows.{kill_weighs, alive_weighs, end_falls, going_weighs, issued_falls, killed_weighs, scheduled_weighs, waiting_weighs}
 use Rattle.rm_invariant.proofs.measure.Sums.{main_front, main_push, op_push, row_changes, row_rises, sched_push}
@@ -81,11 +81,11 @@ module _ (t : Tables) (e : MainEvent) (rest : List MainEvent) (front : t.main �
         posts (with_row (changed (of_app.Schedule 1)) id t.rows) (scheds.AttemptAdded (record { app = id; number = 1 }))
         (let rows = row_changes most (changed (of_app.Schedule 1)) id t.rows row found in
         let now = scheduled_weighs most row (inl st) 1 in
-        let before : app_measure most row.state (number_in row.current) ≡ untried_measure most = rw st refl in
+        let before : app_measure most row.state (current_number row.current) ≡ untried_measure most = rw st refl in
         omega (arith, one, some, rows, now, before))
 
     -- the end of an application is issued
-    pub end_lighter : app_end_measure ≤ app_measure most row.state (number_in row.current) → (how : How) (text : List ℕ) → Decreases (ends_app id how text t)
+    pub end_lighter : app_end_measure ≤ app_measure most row.state (current_number row.current) → (how : How) (text : List ℕ) → Decreases (ends_app id how text t)
     end_lighter some how text =
         issues_op (with_row (changed of_app.End) id t.rows) (without_asks_of (next_in t id) t.asks) (ops.AppEnd id how text)
         (let rows = row_changes most (changed of_app.End) id t.rows row found in
@@ -105,7 +105,7 @@ module _ (t : Tables) (e : MainEvent) (rest : List MainEvent) (front : t.main �
           omega (arith, one, rows, now, before, going_weighs most row.state current.number going, alive_weighs current.state alive))
 
       -- an application is to be killed once its attempt is saved or has ended
-      pub delay_lighter : waits_at current.state ≡ true → is_active row.state ≡ true → Decreases (Quiet lanes.Main, app_changed of_app.Kill id t)
+      pub delay_lighter : is_past_grant current.state ≡ true → is_active row.state ≡ true → Decreases (Quiet lanes.Main, app_changed of_app.Kill id t)
       delay_lighter waits going =
           changes (with_row (changed of_app.Kill) id t.rows)
           (let rows = row_changes most (changed of_app.Kill) id t.rows row found in

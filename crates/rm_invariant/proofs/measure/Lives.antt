@@ -12,9 +12,9 @@ use Rattle.rm_tables.specs.declared.completed.Completion.{Completion}
 use Rattle.rm_tables.specs.declared.events.MainEvent.TheVariants as mains
 use Rattle.rm_tables.specs.declared.tables.Tables.{Tables}
 use Rattle.rm_tables.specs.Completed.{completion_of, completions_in, ended_in, put_completion, with_completed}
-use Rattle.rm_tables.specs.Lives.{begun, gone_down, handed_out, refused}
+use Rattle.rm_tables.specs.Lives.{begun, tables_gone_down, handed_out, refused}
 use Rattle.rm_tables.specs.Opening.{recovered_attempt, recovered_row, recovered_rows}
-use Rattle.rm_invariant.specs.measure.Measure.{begin_measure, current_measure, main_measure, number_in, row_measure, rows_measure, slot_measure, untried_measure, measure}
+use Rattle.rm_invariant.specs.measure.Measure.{begin_measure, current_measure, main_measure, current_number, row_measure, rows_measure, slot_measure, untried_measure, measure}
 use Rattle.rm_invariant.proofs.measure.Rows.{app_most}
 
 -- an operation is handed
@@ -26,7 +26,7 @@ pub blow_lighter : (t : Tables) → t.handed ≡ true → t.blown ≡ false → 
 blow_lighter t h b = rw (h, b) (omega arith)
 
 -- nothing is left to do of a life that goes down
-pub down_weighs : (t : Tables) → t.handed ≡ false → measure (gone_down t) ≤ measure t
+pub down_weighs : (t : Tables) → t.handed ≡ false → measure (tables_gone_down t) ≤ measure t
 down_weighs t h = rw h (omega arith)
 
 -- no more are completed than are recorded
@@ -68,7 +68,7 @@ recovered_rows_weigh most [] = omega arith
 recovered_rows_weigh most (app ∷ apps) =
     let more = recovered_rows_weigh most apps in
     let one : row_measure most (recovered_row app) ≤ untried_measure most + 4 =
-    omega (arith, app_most most (recovered_row app).state (number_in (recovered_row app).current), recovered_weighs (last_attempt app.attempts)) in
+    omega (arith, app_most most (recovered_row app).state (current_number (recovered_row app).current), recovered_weighs (last_attempt app.attempts)) in
     let all = sum_by-cons (slot_measure most) (Some (recovered_row app)) (values_of (recovered_rows apps)) in
     let times = mul-suc (untried_measure most + 4) (length apps) in
     omega (arith, more, one, all, times)

@@ -10,22 +10,22 @@ use Rattle.rm_tables.specs.declared.rows.AppRow.{AppRow}
 use Rattle.rm_tables.specs.declared.tables.Tables.{Tables}
 use Rattle.rm_tables.specs.Actions.{main_worked}
 use Rattle.rm_tables.specs.MainEvents.{main_step}
-use Rattle.rm_invariant.specs.events.Outcomes.{MayEnd, Outcome, accepts, adds, delays, ends, ends_one, follows, idles, issues, kills, loses, orders, removes, requeues, saves}
+use Rattle.rm_invariant.specs.events.Outcomes.{MayEndApp, Outcome, accepts, adds, delays, ends, ends_one, follows, idles, issues, kills, loses, orders, removes, requeues, saves}
 use Rattle.rm_invariant.specs.Step.{AppsInvariant}
 use Rattle.rm_refinement.specs.History.{History}
 use Rattle.rm_invariant.specs.messages.Ranges.{KeepsLimits}
 use Rattle.rm_invariant.specs.apps.Invariant.{is_active}
-use Rattle.rm_invariant.specs.measure.Measure.{app_end_measure, app_op_measure, app_measure, main_measure, number_in, measure}
+use Rattle.rm_invariant.specs.measure.Measure.{app_end_measure, app_op_measure, app_measure, main_measure, current_number, measure}
 use Rattle.rm_invariant.proofs.measure.Actions.{Decreases, accept_lighter, add_lighter, delay_lighter, end_lighter, end_one_lighter, follow_lighter, idle_lighter, issue_lighter, kill_lighter, lose_lighter, order_lighter, requeue_lighter, retire_lighter, save_lighter}
 use Rattle.rm_invariant.proofs.measure.Following.{followed}
 use Rattle.rm_invariant.proofs.measure.Rows.{going_weighs}
 use Rattle.rm_invariant.proofs.measure.Sums.{main_front, op_push}
 
 -- an application that goes on, or waits to be accepted, weighs its end
-going_ends : (most : ℕ) (row : AppRow) → is_active row.state ≡ true → app_end_measure ≤ app_measure most row.state (number_in row.current)
-going_ends most row going = omega (arith, going_weighs most row.state (number_in row.current) going)
+going_ends : (most : ℕ) (row : AppRow) → is_active row.state ≡ true → app_end_measure ≤ app_measure most row.state (current_number row.current)
+going_ends most row going = omega (arith, going_weighs most row.state (current_number row.current) going)
 
-submitted_ends : (most : ℕ) (row : AppRow) → row.state ≡ apps.Submitted → app_end_measure ≤ app_measure most row.state (number_in row.current)
+submitted_ends : (most : ℕ) (row : AppRow) → row.state ≡ apps.Submitted → app_end_measure ≤ app_measure most row.state (current_number row.current)
 submitted_ends most row is = rw is (omega arith)
 
 -- the life's first event issues its Epoch
@@ -36,7 +36,7 @@ epoch_start_lighter t rest front =
     omega (arith, f, issued)
 
 -- so does one that may come to its end
-stopped_ends : (most : ℕ) (row : AppRow) → MayEnd row → app_end_measure ≤ app_measure most row.state (number_in row.current)
+stopped_ends : (most : ℕ) (row : AppRow) → MayEndApp row → app_end_measure ≤ app_measure most row.state (current_number row.current)
 stopped_ends most row (inl submitted) = submitted_ends most row submitted
 stopped_ends most row (inr (going, more)) = going_ends most row going
 

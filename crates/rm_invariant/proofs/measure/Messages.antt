@@ -24,7 +24,7 @@ use Rattle.rm_types.specs.declared.replies.Reply.{Reply}
 use Rattle.rm_types.specs.declared.replies.Reply.TheVariants as replies
 use Rattle.rm_types.specs.declared.resources.Resource.{Resource}
 use Rattle.rm_types.specs.Records.{is_some_and}
-use Rattle.rm_book.specs.Books.{BookOf, is_of, row_of as book_row_of, with_state}
+use Rattle.rm_book.specs.Books.{BookOf, is_of, book_row as book_row_of, with_state}
 use Rattle.rm_model.specs.NodeReplies.{reported}
 use Rattle.rm_tables.specs.declared.changes.AttemptChange.TheVariants as of_attempt
 use Rattle.rm_tables.specs.declared.changes.RowChange.TheVariants as of_app
@@ -36,15 +36,15 @@ use Rattle.rm_tables.specs.declared.rows.Current.{Current}
 use Rattle.rm_tables.specs.declared.rows.Dialogue.{Dialogue}
 use Rattle.rm_tables.specs.declared.tables.Tables.{Tables}
 use Rattle.rm_tables.specs.Changes.{changed, current_after}
-use Rattle.rm_tables.specs.Nodes.{node_of}
+use Rattle.rm_tables.specs.Nodes.{node_row}
 use Rattle.rm_tables.specs.Rows.{row_of, with_row}
-use Rattle.rm_tables.specs.Talks.{begun, registered_row, said_row, told_row, with_answer, with_text, without_closings}
-use Rattle.rm_client.specs.Answers.{after_client, new_row, taken_by, wished_by}
-use Rattle.rm_master.specs.Answers.{acquired, acquired_row, after_master, allocated_with, is_new_to, registered, release_events, said, told_by}
+use Rattle.rm_tables.specs.Talks.{dialogue_begun, registered_row, said_row, told_row, with_answer, with_text, without_closings}
+use Rattle.rm_client.specs.Answers.{after_client, submitted_row, taken_by, wished_by}
+use Rattle.rm_master.specs.Answers.{acquired, acquired_row, after_master, allocated_with, is_new_to, registered, release_events, said, containers_told}
 use Rattle.rm_master.specs.Told.{goes_on, spoken_by}
-use Rattle.rm_tracker.specs.Answers.{after_clock, after_node, beat_events, beaten_book, beaten_with, brought_all, brought_one, is_new_beat, is_on, is_untold, launched_by, registered_by}
+use Rattle.rm_tracker.specs.Answers.{after_clock, after_node, beat_events, beaten_book, beaten_with, brought_all, brought_one, is_next_beat, is_row_on, is_untold_row, launched_by, registered_by}
 use Rattle.rm_invariant.specs.messages.Ranges.{KeepsLimits}
-use Rattle.rm_invariant.specs.measure.Measure.{app_measure, current_measure, message_measure, number_in, row_measure, sched_measure, measure}
+use Rattle.rm_invariant.specs.measure.Measure.{app_measure, current_measure, message_measure, current_number, row_measure, sched_measure, measure}
 use Rattle.rm_invariant.proofs.measure.Rows.{finish_weighs, row_most, wished_same}
 use Rattle.rm_invariant.proofs.measure.Sums.{main_push, row_joins, row_rises, sched_push}
 
@@ -52,8 +52,8 @@ use Rattle.rm_invariant.proofs.measure.Sums.{main_push, row_joins, row_rises, sc
 said_rises : (most : ℕ) (talk : Option Dialogue → Option Dialogue) (row : AppRow) → row_measure most (said_row talk row) ≤ row_measure most row + 4
 said_rises most talk row = by row.current
   where
-    by : (c : Option Current) → app_measure most row.state (number_in (current_after (of_app.OfAttempt of_attempt.Finish) c)) + current_measure (current_after (of_app.OfAttempt of_attempt.Finish) c)
-        ≤ app_measure most row.state (number_in c) + current_measure c + 4
+    by : (c : Option Current) → app_measure most row.state (current_number (current_after (of_app.OfAttempt of_attempt.Finish) c)) + current_measure (current_after (of_app.OfAttempt of_attempt.Finish) c)
+        ≤ app_measure most row.state (current_number c) + current_measure c + 4
     by None = omega arith
     by (Some current) = omega (arith, finish_weighs current.state)
 
@@ -77,8 +77,8 @@ brought_long passes state book (id ∷ ids) = brought_long passes state (brought
 
 beaten_long : (name : List ℕ) (running launched : List ContainerId) (book : BookOf) → length (beaten_book name running launched book).rows ≡ length book.rows
 beaten_long name running launched book =
-    let one = brought_long (is_untold name) Acquired book launched in
-    let two = brought_long (is_on name) Running (brought_all (is_untold name) Acquired book launched) running in
+    let one = brought_long (is_untold_row name) Acquired book launched in
+    let two = brought_long (is_row_on name) Running (brought_all (is_untold_row name) Acquired book launched) running in
     omega (arith, one, two)
 
 acquired_long : (told : List ContainerId) (book : BookOf) → length (acquired told book).rows ≡ length book.rows
@@ -99,7 +99,7 @@ module _ (t : Tables) (limits : KeepsLimits t.settings) where
       by : (o : Option AppRow) → AddsLittle (taken_by o id submission t)
       by None =
           let posted = main_push t.settings.max_attempts t.main (mains.AppStart id) in
-          let row = row_joins t.settings.max_attempts id (new_row submission) t.rows in
+          let row = row_joins t.settings.max_attempts id (submitted_row submission) t.rows in
           omega (arith, posted, row, limits)
       by (Some row) = stays
   client_adds (clients.Kill id) replies.Killing = by (row_of t.rows id)
@@ -128,7 +128,7 @@ module _ (t : Tables) (limits : KeepsLimits t.settings) where
 
   register_adds : (attempt : AttemptId) (reply : Reply) → AddsLittle (registered attempt reply t)
   register_adds attempt reply =
-      let rows = row_rises t.settings.max_attempts 814 (registered_row (begun reply)) attempt.app t.rows (λ row. registered_rises t.settings.max_attempts (begun reply) row limits.1) in
+      let rows = row_rises t.settings.max_attempts 814 (registered_row (dialogue_begun reply)) attempt.app t.rows (λ row. registered_rises t.settings.max_attempts (dialogue_begun reply) row limits.1) in
       omega (arith, rows)
 
   released : (attempt : AttemptId) (release : List ContainerId) → sum_by sched_measure (t.sched ++ release_events attempt release) ≤ sum_by sched_measure t.sched + 1
@@ -139,7 +139,7 @@ module _ (t : Tables) (limits : KeepsLimits t.settings) where
   allocate_adds attempt id asks release reply =
       let told : AppRow → AppRow = told_row (with_answer (id + 1) reply) (without_closings attempt) in
       let rows = row_rises t.settings.max_attempts 0 told attempt.app t.rows (told_rises t.settings.max_attempts (with_answer (id + 1) reply) (without_closings attempt)) in
-      let long = acquired_long (told_by reply) t.book in
+      let long = acquired_long (containers_told reply) t.book in
       let posted = released attempt release in
       omega (arith, rows, long, posted)
 
@@ -180,10 +180,10 @@ module _ (t : Tables) (limits : KeepsLimits t.settings) where
       omega (arith, posted, long)
 
   node_adds : (name : List ℕ) (ask : NodeAsk) (reply : Reply) → AddsLittle (after_node name ask reply t)
-  node_adds name (nodes.Register turn capability running) reply = registration_adds name turn capability running reply (node_of t.nodes name)
-  node_adds name (nodes.Beat id running done) (replies.Beat next launched clean) = by (is_new_beat id (node_of t.nodes name)) refl
+  node_adds name (nodes.Register turn capability running) reply = registration_adds name turn capability running reply (node_row t.nodes name)
+  node_adds name (nodes.Beat id running done) (replies.Beat next launched clean) = by (is_next_beat id (node_row t.nodes name)) refl
     where
-      by : (b : Bool) → is_new_beat id (node_of t.nodes name) ≡ b → AddsLittle (after_node name (nodes.Beat id running done) (replies.Beat next launched clean) t)
+      by : (b : Bool) → is_next_beat id (node_row t.nodes name) ≡ b → AddsLittle (after_node name (nodes.Beat id running done) (replies.Beat next launched clean) t)
       by true e = rw e (beat_adds name id running done (replies.Beat next launched clean))
       by false e = rw e stays
   node_adds name (nodes.Beat id running done) _ = stays

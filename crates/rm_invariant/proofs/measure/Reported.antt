@@ -25,7 +25,7 @@ use Rattle.rm_types.specs.declared.resources.Resource.{Resource}
 use Rattle.rm_types.proofs.TestLemmas.{same_text}
 use Rattle.rm_attempt.specs.declared.states.AttemptState.{AttemptState}
 use Rattle.rm_attempt.specs.declared.states.AttemptState.TheVariants as attempts
-use Rattle.rm_book.specs.Books.{BookOf, row_of as book_row_of}
+use Rattle.rm_book.specs.Books.{BookOf, book_row as book_row_of}
 use Rattle.rm_model.specs.Containers.{once}
 use Rattle.rm_tables.specs.declared.events.MainEvent.{MainEvent}
 use Rattle.rm_tables.specs.declared.events.MainEvent.TheVariants as mains
@@ -42,7 +42,7 @@ use Rattle.rm_tables.specs.Actions.{main_worked, sched_worked}
 use Rattle.rm_tables.specs.KeptOps.{kept}
 use Rattle.rm_tables.specs.Leaving.{ended_by, unlaunched, unlaunched_at, unlaunched_one}
 use Rattle.rm_tables.specs.MainEvents.{main_step}
-use Rattle.rm_tables.specs.Nodes.{beaten_row, changed_row, is_waiting, new_row, node_of, ordered_row, registered_row, with_node}
+use Rattle.rm_tables.specs.Nodes.{beaten_row, changed_row, is_waiting_row, new_node_row, node_row, ordered_row, registered_node_row, with_node}
 use Rattle.rm_tables.specs.Passing.{updated_by}
 use Rattle.rm_tables.specs.Rows.{row_of}
 use Rattle.rm_tables.specs.SchedEvents.{is_on, is_released, queued_at, queued_by, queued_with, sched_step}
@@ -50,7 +50,7 @@ use Rattle.rm_refinement.proofs.Found.{other_added, other_row, own_added, own_ro
 use Rattle.rm_client.specs.Answers.{after_client, taken_by, wished_by}
 use Rattle.rm_master.specs.Answers.{after_master, is_new_to}
 use Rattle.rm_master.specs.Told.{goes_on, spoken_by}
-use Rattle.rm_tracker.specs.Answers.{after_clock, after_node, is_new_beat, registered_by}
+use Rattle.rm_tracker.specs.Answers.{after_clock, after_node, is_next_beat, registered_by}
 use Rattle.rm_invariant.specs.messages.Ranges.{IsNodeAsk}
 use Rattle.rm_invariant.specs.events.Outcomes.{Outcome, accepts, adds, delays, ends, ends_one, follows, idles, issues, kills, loses, orders, removes, requeues, saves}
 use Rattle.rm_invariant.proofs.events.Outcomes.{main_outcome}
@@ -65,23 +65,23 @@ StaysFew f = (row : NodeRow) → length row.running ≤ most_reported → length
 few_with : (f : NodeRow → NodeRow) (name : List ℕ) (nodes : List (List ℕ × NodeRow)) → StaysFew f → ReportFew nodes → ReportFew (with_node f name nodes)
 few_with f name nodes keeps before q row found = by (bytes_eq name q) refl
   where
-    changed : (o : Option NodeRow) → node_of nodes name ≡ o → option_map f o ≡ Some row → length row.running ≤ most_reported
+    changed : (o : Option NodeRow) → node_row nodes name ≡ o → option_map f o ≡ Some row → length row.running ≤ most_reported
     changed None e is = cc
     changed (Some r) e is = let same : f r ≡ row = cc in subst (λ (x : NodeRow). length x.running ≤ most_reported) same (keeps r (before name r e))
 
     by : (b : Bool) → bytes_eq name q ≡ b → length row.running ≤ most_reported
     by true e =
-        let here : node_of (with_node f name nodes) name ≡ Some row = subst (λ (n : List ℕ). node_of (with_node f name nodes) n ≡ Some row) (sym (same_text name q e)) found in
-        changed (node_of nodes name) refl (sym (own_row f name nodes) ∙ here)
+        let here : node_row (with_node f name nodes) name ≡ Some row = subst (λ (n : List ℕ). node_row (with_node f name nodes) n ≡ Some row) (sym (same_text name q e)) found in
+        changed (node_row nodes name) refl (sym (own_row f name nodes) ∙ here)
     by false e = before q row (sym (other_row f name q nodes e) ∙ found)
 
 -- a row is added
-few_more : (name : List ℕ) (row : NodeRow) (nodes : List (List ℕ × NodeRow)) → node_of nodes name ≡ None → length row.running ≤ most_reported → ReportFew nodes → ReportFew (nodes ++ (name, row) ∷ [])
+few_more : (name : List ℕ) (row : NodeRow) (nodes : List (List ℕ × NodeRow)) → node_row nodes name ≡ None → length row.running ≤ most_reported → ReportFew nodes → ReportFew (nodes ++ (name, row) ∷ [])
 few_more name row nodes none some before q one found = by (bytes_eq name q) refl
   where
     by : (b : Bool) → bytes_eq name q ≡ b → length one.running ≤ most_reported
     by true e =
-        let here : node_of (nodes ++ (name, row) ∷ []) name ≡ Some one = subst (λ (n : List ℕ). node_of (nodes ++ (name, row) ∷ []) n ≡ Some one) (sym (same_text name q e)) found in
+        let here : node_row (nodes ++ (name, row) ∷ []) name ≡ Some one = subst (λ (n : List ℕ). node_row (nodes ++ (name, row) ∷ []) n ≡ Some one) (sym (same_text name q e)) found in
         let own : Some row ≡ Some one = sym (own_added name row nodes none) ∙ here in
         let same : row ≡ one = cc in subst (λ (x : NodeRow). length x.running ≤ most_reported) same some
     by false e = before q one (sym (other_added name q row nodes e) ∙ found)
@@ -113,7 +113,7 @@ ended_few cause (id ∷ ids) t before = unlaunched_few t.book (id ∷ ids) t.nod
 -- a report is absorbed, or nothing is to be done
 absorbed_few : (o : Option NodeRow) (name : List ℕ) (turn : ℕ) (ended : List ContainerId) (t : Tables) → ReportFew t.nodes → ReportFew (absorbed_by o name turn ended t).1.nodes
 absorbed_few None name turn ended t before = before
-absorbed_few (Some row) name turn ended t before = by (is_waiting row.state && (row.turn == turn))
+absorbed_few (Some row) name turn ended t before = by (is_waiting_row row.state && (row.turn == turn))
   where
     by : (b : Bool) → ReportFew (absorbed_if b name row ended t).1.nodes
     by true = few_with (changed_row Absorb) name (unlaunched_on name t.nodes ended) (changes_few Absorb) (here_few name ended t.nodes before)
@@ -139,9 +139,9 @@ sched_few (scheds.AttemptAdded id) list t before = by (row_of t.rows id.app)
     by (Some row) = with_current row.current
 sched_few (scheds.AttemptRemoved id) list t before = ended_few causes.Attempt list t before
 sched_few (scheds.Release attempt released) list t before = ended_few causes.Released (once (filter (is_released attempt t) released)) t before
-sched_few (scheds.NodeAdded node turn) list t before = absorbed_few (node_of t.nodes node) node turn list t before
+sched_few (scheds.NodeAdded node turn) list t before = absorbed_few (node_row t.nodes node) node turn list t before
 sched_few (scheds.NodeDone node done) list t before = ended_few causes.Done (once (filter (λ id. is_on node (book_row_of t.book id)) done)) t before
-sched_few (scheds.NodeUpdate node) list t before = by (node_of t.nodes node)
+sched_few (scheds.NodeUpdate node) list t before = by (node_row t.nodes node)
   where
     by : (o : Option NodeRow) → ReportFew (updated_by o node t).1.nodes
     by None = before
@@ -222,20 +222,20 @@ master_few attempt (masters.Allocate id some release) (replies.Allocated next gr
 master_few attempt _ _ t before = before
 
 -- of a node, whose report is in its range
-registration_few : (name : List ℕ) (turn : ℕ) (capability : Resource) (running : List Held) (reply : Reply) (t : Tables) (r : Option NodeRow) → node_of t.nodes name ≡ r → length running ≤ most_reported → ReportFew t.nodes
+registration_few : (name : List ℕ) (turn : ℕ) (capability : Resource) (running : List Held) (reply : Reply) (t : Tables) (r : Option NodeRow) → node_row t.nodes name ≡ r → length running ≤ most_reported → ReportFew t.nodes
     → ReportFew (registered_by r name turn capability running reply t).nodes
-registration_few name turn capability running reply t None found few before = few_more name (new_row turn capability running reply) t.nodes found few before
+registration_few name turn capability running reply t None found few before = few_more name (new_node_row turn capability running reply) t.nodes found few before
 registration_few name turn capability running reply t (Some row) found few before = by (nat_lt row.turn turn) refl
   where
     by : (b : Bool) → nat_lt row.turn turn ≡ b → ReportFew (registered_by (Some row) name turn capability running reply t).nodes
-    by true e = rw e (few_with (registered_row turn capability running reply) name t.nodes (λ one some. few) before)
+    by true e = rw e (few_with (registered_node_row turn capability running reply) name t.nodes (λ one some. few) before)
     by false e = rw e before
 
 pub node_few : (name : List ℕ) (ask : NodeAsk) (reply : Reply) (t : Tables) → IsNodeAsk ask → FewReported t → FewReported (after_node name ask reply t)
-node_few name (asks.Register turn capability running) reply t is before = registration_few name turn capability running reply t (node_of t.nodes name) refl is.1.few before
-node_few name (asks.Beat id running done) (replies.Beat next launched clean) t is before = by (is_new_beat id (node_of t.nodes name)) refl
+node_few name (asks.Register turn capability running) reply t is before = registration_few name turn capability running reply t (node_row t.nodes name) refl is.1.few before
+node_few name (asks.Beat id running done) (replies.Beat next launched clean) t is before = by (is_next_beat id (node_row t.nodes name)) refl
   where
-    by : (b : Bool) → is_new_beat id (node_of t.nodes name) ≡ b → ReportFew (after_node name (asks.Beat id running done) (replies.Beat next launched clean) t).nodes
+    by : (b : Bool) → is_next_beat id (node_row t.nodes name) ≡ b → ReportFew (after_node name (asks.Beat id running done) (replies.Beat next launched clean) t).nodes
     by true e = rw e (few_with (beaten_row (id + 1) (replies.Beat next launched clean)) name t.nodes (λ one some. some) before)
     by false e = rw e before
 node_few name (asks.Beat id running done) _ t is before = before

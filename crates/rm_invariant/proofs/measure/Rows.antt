@@ -5,11 +5,11 @@ use Rattle.rm_types.specs.declared.operations.How.{How}
 use Rattle.rm_types.specs.declared.operations.How.TheVariants as ways
 use Rattle.rm_app.specs.declared.states.AppState.{AppState}
 use Rattle.rm_app.specs.declared.states.AppState.TheVariants as apps
-use Rattle.rm_app.specs.Table.{state_of}
+use Rattle.rm_app.specs.Table.{end_state}
 use Rattle.rm_app.specs.declared.states.AppEvent.TheVariants as app_events
-use Rattle.rm_app.specs.Table.{next_state}
+use Rattle.rm_app.specs.Table.{next_app_state}
 use Rattle.rm_attempt.specs.declared.states.AttemptEvent.TheVariants as attempt_events
-use Rattle.rm_attempt.specs.Table.{next_state as next_attempt_state, is_alive}
+use Rattle.rm_attempt.specs.Table.{next_attempt_state as next_attempt_state, is_alive}
 use Rattle.rm_attempt.specs.declared.states.AttemptState.{AttemptState}
 use Rattle.rm_attempt.specs.declared.states.AttemptState.TheVariants as attempts
 use Rattle.rm_tables.specs.declared.changes.AttemptChange.TheVariants as of_attempt
@@ -17,9 +17,9 @@ use Rattle.rm_tables.specs.declared.changes.RowChange.TheVariants as of_app
 use Rattle.rm_tables.specs.declared.rows.AppRow.{AppRow}
 use Rattle.rm_tables.specs.declared.rows.Current.{Current}
 use Rattle.rm_tables.specs.Changes.{after_failure, changed, current_after, dropped_state, granted, granted_at, killed_state}
-use Rattle.rm_invariant.specs.events.Outcomes.{waits_at}
+use Rattle.rm_invariant.specs.events.Outcomes.{is_past_grant}
 use Rattle.rm_invariant.specs.apps.Invariant.{is_active}
-use Rattle.rm_invariant.specs.measure.Measure.{app_end_measure, app_measure, attempt_end_measure, attempt_op_measure, attempt_measure, current_measure, next_measure, number_in, row_measure, untried_measure}
+use Rattle.rm_invariant.specs.measure.Measure.{app_end_measure, app_measure, attempt_end_measure, attempt_op_measure, attempt_measure, current_measure, next_measure, current_number, row_measure, untried_measure}
 
 -- the most that an application, an attempt and a row weigh
 pub app_most : (most : ℕ) (s : AppState) (number : ℕ) → app_measure most s number ≤ untried_measure most
@@ -50,7 +50,7 @@ current_most None = omega arith
 current_most (Some current) = attempt_most current.state
 
 pub row_most : (most : ℕ) (row : AppRow) → row_measure most row ≤ untried_measure most + attempt_op_measure
-row_most most row = omega (arith, app_most most row.state (number_in row.current), current_most row.current)
+row_most most row = omega (arith, app_most most row.state (current_number row.current), current_most row.current)
 
 -- an application that goes on, by the number of its current attempt
 pub going_weighs : (most : ℕ) (s : AppState) (number : ℕ) → is_active s ≡ true → app_measure most s number ≡ app_end_measure + next_measure * (most - number)
@@ -89,7 +89,7 @@ killed_weighs attempts.Ending a = cc
 killed_weighs attempts.Ended a = cc
 killed_weighs attempts.Dropped a = cc
 
-pub waiting_weighs : (s : AttemptState) → waits_at s ≡ true → attempt_measure (killed_state s) ≡ attempt_measure s
+pub waiting_weighs : (s : AttemptState) → is_past_grant s ≡ true → attempt_measure (killed_state s) ≡ attempt_measure s
 waiting_weighs attempts.Scheduled a = cc
 waiting_weighs attempts.Granted a = cc
 waiting_weighs attempts.Saving a = refl
@@ -142,23 +142,23 @@ grant_numbers container current = by current.state
 
 -- what an event does to what an application weighs
 module _ (most number : ℕ) (s : AppState) where
-  kept_weighs : app_measure most (next_state s app_events.Kept) number ≤ app_measure most s number + untried_measure most
+  kept_weighs : app_measure most (next_app_state s app_events.Kept) number ≤ app_measure most s number + untried_measure most
   kept_weighs = grind arith
 
-  started_weighs : app_measure most (next_state s app_events.Start) number ≤ app_measure most s number
+  started_weighs : app_measure most (next_app_state s app_events.Start) number ≤ app_measure most s number
   started_weighs = grind arith
 
-  ended_weighs : app_end_measure ≤ app_measure most s number → app_measure most (next_state s app_events.End) number ≡ 0
+  ended_weighs : app_end_measure ≤ app_measure most s number → app_measure most (next_app_state s app_events.End) number ≡ 0
   ended_weighs some = grind arith
 
-  end_kept_weighs : (how : How) → app_measure most (next_state s (app_events.EndKept how)) number ≤ app_measure most s number
+  end_kept_weighs : (how : How) → app_measure most (next_app_state s (app_events.EndKept how)) number ≤ app_measure most s number
   end_kept_weighs how = grind arith
 
-  accepted_weighs : (s ≡ apps.Submitted) ⊎ (is_active s ≡ true) → (next : ℕ) → app_measure most (next_state s app_events.Accept) next ≡ app_end_measure + next_measure * (most - next)
+  accepted_weighs : (s ≡ apps.Submitted) ⊎ (is_active s ≡ true) → (next : ℕ) → app_measure most (next_app_state s app_events.Accept) next ≡ app_end_measure + next_measure * (most - next)
   accepted_weighs (inl e) next = rw e refl
   accepted_weighs (inr g) next = grind arith
 
-  pub kill_weighs : is_active s ≡ true → app_measure most (next_state s app_events.Kill) number ≡ app_end_measure + next_measure * (most - number)
+  pub kill_weighs : is_active s ≡ true → app_measure most (next_app_state s app_events.Kill) number ≡ app_end_measure + next_measure * (most - number)
   kill_weighs g = grind arith
 
 -- and to what an attempt weighs
@@ -176,8 +176,8 @@ module _ (most : ℕ) (row : AppRow) where
   pub saved_rises : row_measure most (changed of_app.Keep row) ≤ row_measure most row + untried_measure most
   saved_rises = by row.current
     where
-      by : (c : Option Current) → app_measure most (next_state row.state app_events.Kept) (number_in (current_after of_app.Keep c)) + current_measure (current_after of_app.Keep c)
-          ≤ app_measure most row.state (number_in c) + current_measure c + untried_measure most
+      by : (c : Option Current) → app_measure most (next_app_state row.state app_events.Kept) (current_number (current_after of_app.Keep c)) + current_measure (current_after of_app.Keep c)
+          ≤ app_measure most row.state (current_number c) + current_measure c + untried_measure most
       by None = omega (arith, kept_weighs most 0 row.state)
       by (Some current) = omega (arith, kept_weighs most current.number row.state)
 
@@ -185,8 +185,8 @@ module _ (most : ℕ) (row : AppRow) where
   pub issued_falls : row_measure most (changed of_app.Issue row) ≤ row_measure most row
   issued_falls = by row.current
     where
-      by : (c : Option Current) → app_measure most (next_state row.state app_events.Start) (number_in (current_after of_app.Issue c)) + current_measure (current_after of_app.Issue c)
-          ≤ app_measure most row.state (number_in c) + current_measure c
+      by : (c : Option Current) → app_measure most (next_app_state row.state app_events.Start) (current_number (current_after of_app.Issue c)) + current_measure (current_after of_app.Issue c)
+          ≤ app_measure most row.state (current_number c) + current_measure c
       by None = omega (arith, started_weighs most 0 row.state)
       by (Some current) = omega (arith, started_weighs most current.number row.state)
 
@@ -194,16 +194,16 @@ module _ (most : ℕ) (row : AppRow) where
   pub wished_same : row_measure most (changed of_app.Wish row) ≡ row_measure most row
   wished_same = by row.current
     where
-      by : (c : Option Current) → app_measure most row.state (number_in (current_after of_app.Wish c)) + current_measure (current_after of_app.Wish c) ≡ app_measure most row.state (number_in c) + current_measure c
+      by : (c : Option Current) → app_measure most row.state (current_number (current_after of_app.Wish c)) + current_measure (current_after of_app.Wish c) ≡ app_measure most row.state (current_number c) + current_measure c
       by None = refl
       by (Some current) = refl
 
   -- its end is issued
-  pub end_falls : app_end_measure ≤ app_measure most row.state (number_in row.current) → row_measure most (changed of_app.End row) ≤ current_measure row.current
+  pub end_falls : app_end_measure ≤ app_measure most row.state (current_number row.current) → row_measure most (changed of_app.End row) ≤ current_measure row.current
   end_falls some = by row.current some
     where
-      by : (c : Option Current) → app_end_measure ≤ app_measure most row.state (number_in c)
-          → app_measure most (next_state row.state app_events.End) (number_in (current_after of_app.End c)) + current_measure (current_after of_app.End c) ≤ current_measure c
+      by : (c : Option Current) → app_end_measure ≤ app_measure most row.state (current_number c)
+          → app_measure most (next_app_state row.state app_events.End) (current_number (current_after of_app.End c)) + current_measure (current_after of_app.End c) ≤ current_measure c
       by None some = omega (arith, ended_weighs most 0 row.state some)
       by (Some current) some = omega (arith, ended_weighs most current.number row.state some, dropped_weighs current.state)
 
@@ -211,8 +211,8 @@ module _ (most : ℕ) (row : AppRow) where
   pub end_kept_falls : (how : How) → row_measure most (changed (of_app.KeepEnd how) row) ≤ row_measure most row
   end_kept_falls how = by row.current
     where
-      by : (c : Option Current) → app_measure most (next_state row.state (app_events.EndKept how)) (number_in (current_after (of_app.KeepEnd how) c)) + current_measure (current_after (of_app.KeepEnd how) c)
-          ≤ app_measure most row.state (number_in c) + current_measure c
+      by : (c : Option Current) → app_measure most (next_app_state row.state (app_events.EndKept how)) (current_number (current_after (of_app.KeepEnd how) c)) + current_measure (current_after (of_app.KeepEnd how) c)
+          ≤ app_measure most row.state (current_number c) + current_measure c
       by None = omega (arith, end_kept_weighs most 0 row.state how)
       by (Some current) = omega (arith, end_kept_weighs most current.number row.state how)
 
@@ -221,7 +221,7 @@ module _ (most : ℕ) (row : AppRow) where
       → row_measure most (changed (of_app.Schedule number) row) ≡ (app_end_measure + next_measure * (most - number)) + attempt_op_measure
   scheduled_weighs starts number = by row.current
     where
-      by : (c : Option Current) → app_measure most (next_state row.state app_events.Accept) (number_in (current_after (of_app.Schedule number) c)) + current_measure (current_after (of_app.Schedule number) c)
+      by : (c : Option Current) → app_measure most (next_app_state row.state app_events.Accept) (current_number (current_after (of_app.Schedule number) c)) + current_measure (current_after (of_app.Schedule number) c)
           ≡ (app_end_measure + next_measure * (most - number)) + attempt_op_measure
       by None = rw (accepted_weighs most 0 row.state starts number) refl
       by (Some current) = rw (accepted_weighs most 0 row.state starts number) refl
@@ -230,8 +230,8 @@ module _ (most : ℕ) (row : AppRow) where
   pub attempt_rises : row_measure most (changed (of_app.OfAttempt of_attempt.Keep) row) ≤ row_measure most row + attempt_end_measure
   attempt_rises = by row.current
     where
-      by : (c : Option Current) → app_measure most row.state (number_in (current_after (of_app.OfAttempt of_attempt.Keep) c)) + current_measure (current_after (of_app.OfAttempt of_attempt.Keep) c)
-          ≤ app_measure most row.state (number_in c) + current_measure c + attempt_end_measure
+      by : (c : Option Current) → app_measure most row.state (current_number (current_after (of_app.OfAttempt of_attempt.Keep) c)) + current_measure (current_after (of_app.OfAttempt of_attempt.Keep) c)
+          ≤ app_measure most row.state (current_number c) + current_measure c + attempt_end_measure
       by None = omega arith
       by (Some current) = omega (arith, live_weighs current.state)
 
@@ -253,8 +253,8 @@ module _ (most : ℕ) (row : AppRow) where
       state ways.Failed apps.Failed number = refl
       state ways.Failed apps.Killed number = refl
 
-      by : (c : Option Current) → app_measure most (after_failure how row.state) (number_in (current_after (of_app.OfAttempt (of_attempt.KeepEnd how)) c)) + current_measure (current_after (of_app.OfAttempt (of_attempt.KeepEnd how)) c)
-          ≤ app_measure most row.state (number_in c) + current_measure c
+      by : (c : Option Current) → app_measure most (after_failure how row.state) (current_number (current_after (of_app.OfAttempt (of_attempt.KeepEnd how)) c)) + current_measure (current_after (of_app.OfAttempt (of_attempt.KeepEnd how)) c)
+          ≤ app_measure most row.state (current_number c) + current_measure c
       by None = omega (arith, state how row.state 0)
       by (Some current) = omega (arith, state how row.state current.number, over_weighs current.state)
 
@@ -262,7 +262,7 @@ module _ (most : ℕ) (row : AppRow) where
   pub granted_same : (container : ContainerId) → row_measure most (changed (of_app.OfAttempt (of_attempt.Grant container)) row) ≡ row_measure most row
   granted_same container = by row.current
     where
-      by : (c : Option Current) → app_measure most row.state (number_in (current_after (of_app.OfAttempt (of_attempt.Grant container)) c)) + current_measure (current_after (of_app.OfAttempt (of_attempt.Grant container)) c)
-          ≡ app_measure most row.state (number_in c) + current_measure c
+      by : (c : Option Current) → app_measure most row.state (current_number (current_after (of_app.OfAttempt (of_attempt.Grant container)) c)) + current_measure (current_after (of_app.OfAttempt (of_attempt.Grant container)) c)
+          ≡ app_measure most row.state (current_number c) + current_measure c
       by None = refl
       by (Some current) = rw (grant_numbers container current, grant_weighs container current) refl

@@ -21,7 +21,8 @@ use Rattle.rm_types.proofs.TestLemmas.{and_first}
 use Rattle.rm_attempt.specs.declared.states.AttemptState.{AttemptState}
 use Rattle.rm_attempt.specs.declared.states.AttemptState.TheVariants as attempts
 use Rattle.rm_book.specs.AskTables.{AsksOf}
-use Rattle.rm_book.specs.Books.{entering, granted_rows, has_row, is_held, is_of, row_of as book_row_of, row_taken, taken_rows}
+use Rattle.rm_book.specs.Books.{entering, granted_rows, has_row, is_of, book_row as book_row_of, book_row_taken, taken_rows}
+use Rattle.rm_types.specs.Containers.{is_held}
 use Rattle.rm_model.specs.Containers.{once}
 use Rattle.rm_tables.specs.declared.changes.AttemptChange.TheVariants as of_attempt
 use Rattle.rm_tables.specs.declared.changes.RowChange.TheVariants as of_app
@@ -32,14 +33,14 @@ use Rattle.rm_tables.specs.declared.nodes.NodeRow.{NodeRow}
 use Rattle.rm_tables.specs.declared.rows.AppRow.{AppRow}
 use Rattle.rm_tables.specs.declared.rows.Current.{Current}
 use Rattle.rm_tables.specs.declared.tables.Tables.{Tables}
-use Rattle.rm_tables.specs.Absorbing.{absorbed_by, absorbed_if, counted_in, may_take, taken_in, with_counted}
+use Rattle.rm_tables.specs.Absorbing.{absorbed_by, absorbed_if, counted_in, tables_may_take, taken_in, tables_with_counted}
 use Rattle.rm_tables.specs.Actions.{found_in, sched_popped, sched_quiet, sched_worked}
 use Rattle.rm_tables.specs.Changes.{changed}
 use Rattle.rm_tables.specs.Leaving.{closings_of, ended_by, is_masters_in, losts_of}
-use Rattle.rm_tables.specs.Nodes.{is_waiting, node_of}
-use Rattle.rm_tables.specs.Passing.{grants_on, masters_granted, row_granted, updated_by, waits_for_master}
+use Rattle.rm_tables.specs.Nodes.{is_waiting_row, node_row}
+use Rattle.rm_tables.specs.Passing.{grants_on, masters_granted, rows_after_grant, updated_by, waits_for_master}
 use Rattle.rm_tables.specs.Rows.{row_of}
-use Rattle.rm_tables.specs.SchedEvents.{EndsAbsorbed, EndsBy, EndsIf, is_on, is_released, master_asked, queued_at, queued_by, queued_with, sched_step}
+use Rattle.rm_tables.specs.SchedEvents.{EndsAbsorbed, EndsByEvent, EndsIf, is_on, is_released, master_asked, queued_at, queued_by, queued_with, sched_step}
 use Rattle.rm_invariant.specs.measure.Reports.{FewGranted, FewReported}
 use Rattle.rm_invariant.specs.measure.Measure.{main_measure, most_grants, most_reported, rows_measure, sched_measure, measure}
 use Rattle.rm_invariant.proofs.measure.Leaving.{all_leave, closed_weighs, each_leaves, left_of, losts_weigh, once_leave, passing_have}
@@ -59,20 +60,20 @@ filtered_ids r p (row ∷ rows) = by (p row) (r row.id) refl refl (filtered_ids 
     by false b e f rest = rw e rest
 
 -- no more are taken than a node reports, and no more enter than are taken
-few_counted : (t : Tables) (name : List ℕ) (capability : Resource) (taken : List Held) (o : Option Held) → length (with_counted t name capability taken o) ≤ length taken + 1
+few_counted : (t : Tables) (name : List ℕ) (capability : Resource) (taken : List Held) (o : Option Held) → length (tables_with_counted t name capability taken o) ≤ length taken + 1
 few_counted t name capability taken None = omega arith
-few_counted t name capability taken (Some held) = by (may_take t name capability taken held)
+few_counted t name capability taken (Some held) = by (tables_may_take t name capability taken held)
   where
     by : (b : Bool) → length (if b then taken ++ held ∷ [] else taken) ≤ length taken + 1
     by true = omega (arith, length-append taken (held ∷ []))
     by false = omega arith
 
 few_taken : (t : Tables) (name : List ℕ) (row : NodeRow) (taken running : List Held)
-    → length (fold (λ taken held. with_counted t name row.capability taken (counted_in t name held)) taken running) ≤ length taken + length running
+    → length (fold (λ taken held. tables_with_counted t name row.capability taken (counted_in t name held)) taken running) ≤ length taken + length running
 few_taken t name row taken [] = omega arith
 few_taken t name row taken (held ∷ running) =
     let one = few_counted t name row.capability taken (counted_in t name held) in
-    let more = few_taken t name row (with_counted t name row.capability taken (counted_in t name held)) running in
+    let more = few_taken t name row (tables_with_counted t name row.capability taken (counted_in t name held)) running in
     omega (arith, one, more)
 
 few_filtered : {X : Type 0} (p : X → Bool) (xs : List X) → length (filter p xs) ≤ length xs
@@ -101,11 +102,11 @@ granted_weigh most rows (grant ∷ grants) = by (waits_for_master (row_of rows g
     by true e rest = rw e (omega (arith, rest, sum_by-cons (main_measure most) (mains.MasterGranted grant.id) (masters_granted rows grants)))
     by false e rest = rw e (omega (arith, rest))
 
-rows_granted : (most : ℕ) (rows : List (AppId × Option AppRow)) (grants : List Grant) → rows_measure most (fold row_granted rows grants) ≤ rows_measure most rows
+rows_granted : (most : ℕ) (rows : List (AppId × Option AppRow)) (grants : List Grant) → rows_measure most (fold rows_after_grant rows grants) ≤ rows_measure most rows
 rows_granted most rows [] = omega arith
 rows_granted most rows (grant ∷ grants) =
     let one = row_rises most 0 (changed (of_app.OfAttempt (of_attempt.Grant grant.id))) grant.id.attempt.app rows (λ row. omega (arith, granted_same most row grant.id)) in
-    let more = rows_granted most (row_granted rows grant) grants in
+    let more = rows_granted most (rows_after_grant rows grant) grants in
     omega (arith, one, more)
 
 -- a container that stands on a node has a row
@@ -175,22 +176,22 @@ module _ (t : Tables) (e : SchedEvent) (rest : List SchedEvent) (front : t.sched
       let posted = sum_by-append (main_measure t.settings.max_attempts) t.main (losts_of t.tree.apps list) in
       let losts = losts_weigh t.settings.max_attempts t.tree.apps list in
       let rows = closed_weighs t.settings.max_attempts t.rows (closings_of t.tree.apps causes.Gone list) in
-      let stays = length-map (left_of list t.book.rows) (row_taken taken) in
+      let stays = length-map (left_of list t.book.rows) (book_row_taken taken) in
       let enters = long_taken t.book.added name (entering t.book taken) in
-      let both = length-append (map (row_taken taken) (left_of list t.book.rows)) (taken_rows t.book.added name (entering t.book taken)) in
+      let both = length-append (map (book_row_taken taken) (left_of list t.book.rows)) (taken_rows t.book.added name (entering t.book taken)) in
       let some : length (entering t.book taken) ≤ length taken = few_filtered (λ held. not (has_row t.book held.id)) taken in
       let reported : length taken ≤ length row.running = omega (arith, few_taken t name row [] row.running) in
       let same = filtered_ids (λ id. not (is_held taken id)) (λ one. bytes_eq one.node name) t.book.rows in
       let go = all_leave (λ one. bytes_eq one.node name && not (is_held taken one.id)) t.book.rows list (rw same at ends.same) in
       omega (arith, f, so, few, posted, losts, rows, stays, enters, both, some, reported, go)
 
-  absorbs_by : (name : List ℕ) (turn : ℕ) (list : List ContainerId) → sched_measure e ≡ 1 + most_reported → FewReported t → (o : Option NodeRow) → node_of t.nodes name ≡ o → EndsAbsorbed o name turn t list
+  absorbs_by : (name : List ℕ) (turn : ℕ) (list : List ContainerId) → sched_measure e ≡ 1 + most_reported → FewReported t → (o : Option NodeRow) → node_row t.nodes name ≡ o → EndsAbsorbed o name turn t list
       → Decreases (absorbed_by o name turn list t)
   absorbs_by name turn list so few None found ends = quiet (omega (arith, so))
-  absorbs_by name turn list so few (Some row) found ends = absorbs name row list so (few name row found) (is_waiting row.state && (row.turn == turn)) ends
+  absorbs_by name turn list so few (Some row) found ends = absorbs name row list so (few name row found) (is_waiting_row row.state && (row.turn == turn)) ends
 
   -- NodeUpdate
-  passes : (name : List ℕ) → sched_measure e ≡ 1 + 3 * most_grants → FewGranted t → (o : Option NodeRow) → node_of t.nodes name ≡ o → Decreases (updated_by o name t)
+  passes : (name : List ℕ) → sched_measure e ≡ 1 + 3 * most_grants → FewGranted t → (o : Option NodeRow) → node_row t.nodes name ≡ o → Decreases (updated_by o name t)
   passes name so few None found = quiet (omega (arith, so))
   passes name so few (Some row) found =
       let f = sched_front t.sched e rest front in
@@ -204,7 +205,7 @@ module _ (t : Tables) (e : SchedEvent) (rest : List SchedEvent) (front : t.sched
       omega (arith, f, so, posted, granted, rows, enters, both, limit)
 
 -- each event
-pub sched_lighter : (t : Tables) → FewReported t → FewGranted t → (e : SchedEvent) (rest : List SchedEvent) → t.sched ≡ e ∷ rest → (list : List ContainerId) → EndsBy e t list
+pub sched_lighter : (t : Tables) → FewReported t → FewGranted t → (e : SchedEvent) (rest : List SchedEvent) → t.sched ≡ e ∷ rest → (list : List ContainerId) → EndsByEvent e t list
     → measure (sched_worked (sched_step e list t)).1 < measure t
 sched_lighter t reported granted (scheds.AppAdded id) rest front list ends =
     let f = sched_front t.sched (scheds.AppAdded id) rest front in omega (arith, f, main_push t.settings.max_attempts t.main (mains.AppAccepted id))
@@ -216,9 +217,9 @@ sched_lighter t reported granted (scheds.Release attempt released) rest front li
     ended_once t (scheds.Release attempt released) rest front causes.Released (is_released attempt t) released (omega arith)
     (λ id h. and_first (has_row t.book id) (is_attempt id.attempt attempt && not (is_masters_in t.tree.apps id)) h)
 sched_lighter t reported granted (scheds.NodeAdded node turn) rest front list ends =
-    absorbs_by t (scheds.NodeAdded node turn) rest front node turn list refl reported (node_of t.nodes node) refl ends
+    absorbs_by t (scheds.NodeAdded node turn) rest front node turn list refl reported (node_row t.nodes node) refl ends
 sched_lighter t reported granted (scheds.NodeDone node done) rest front list ends =
     ended_once t (scheds.NodeDone node done) rest front causes.Done (λ id. is_on node (book_row_of t.book id)) done (omega arith) (λ id h. on_has node id t.book.rows h)
-sched_lighter t reported granted (scheds.NodeUpdate node) rest front list ends = passes t (scheds.NodeUpdate node) rest front node refl granted (node_of t.nodes node) refl
+sched_lighter t reported granted (scheds.NodeUpdate node) rest front list ends = passes t (scheds.NodeUpdate node) rest front node refl granted (node_row t.nodes node) refl
 sched_lighter t reported granted (scheds.NodeLost node) rest front list ends =
     ended t (scheds.NodeLost node) rest front causes.Node list (omega arith) (all_leave (λ row. bytes_eq row.node node) t.book.rows list ends.same)

@@ -31,7 +31,7 @@ use Rattle.rm_invariant.proofs.apps.Counts.{count_append}
 use Rattle.rm_invariant.proofs.apps.Keeping.{in_scene}
 use Rattle.rm_invariant.specs.nodes.Invariant.{NodesInvariant}
 use Rattle.rm_invariant.specs.nodes.Book.{BookInvariant}
-use Rattle.rm_invariant.specs.masters.View.{is_removal, container_view}
+use Rattle.rm_invariant.specs.masters.View.{is_attempt_removal, container_view}
 use Rattle.rm_invariant.specs.masters.Invariant.{ContainersInvariant}
 use Rattle.rm_invariant.specs.masters.Sound.{RecordsAreSound}
 use Rattle.rm_invariant.proofs.masters.Stepping.{marks_stay}
@@ -47,7 +47,7 @@ if_open false answer refusal e = cc
 pub record OfNodes (events : List SchedEvent) : Type 0 where
   pub adds : (q : AttemptId) → count_by (is_add q.app) events ≡ 0
   pub queueings : (q : AttemptId) → count_by (is_queueing q) events ≡ 0
-  pub removals : (c : ContainerId) → count_by (is_removal c) events ≡ 0
+  pub removals : (c : ContainerId) → count_by (is_attempt_removal c) events ≡ 0
 
 -- the same containers are held and live
 pub record SameHeld (before after : List Row) : Type 0 where
@@ -110,7 +110,7 @@ module _ (settings : Settings) (h : History) (t : Tables) (w : CoreInvariant set
 
     counts_stay : OfNodes events → SameHeld h.book rows → (c : ContainerId) → container_view changed_history changed_tables c ≡ container_view h t c
     counts_stay none same c =
-        let removals = none_more (is_removal c) t.sched events (none.removals c) in
+        let removals = none_more (is_attempt_removal c) t.sched events (none.removals c) in
         let living = same.living c in
         rw (removals, living) refl
 

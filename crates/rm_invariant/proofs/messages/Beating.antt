@@ -17,13 +17,13 @@ use Rattle.rm_types.specs.declared.settings.Settings.{Settings}
 use Rattle.rm_book.specs.Books.{BookOf}
 use Rattle.rm_model.specs.Facts.{has_container}
 use Rattle.rm_model.specs.NodeReplies.{beat_reply, beaten, beaten_reply, is_new_to_node, life_after_node, node_reply, reported, row_beaten, strangers}
-use Rattle.rm_model.specs.Nodes.{is_ready as is_ready_told, is_waiting, node_of as node_told, with_node as with_told}
+use Rattle.rm_model.specs.Nodes.{is_ready as is_ready_told, is_waiting, judged_node as node_told, with_judged_node as with_told}
 use Rattle.rm_model.specs.State.{NodeState, Row}
 use Rattle.rm_tables.specs.declared.events.SchedEvent.{SchedEvent}
 use Rattle.rm_tables.specs.declared.nodes.NodeRow.{NodeRow}
 use Rattle.rm_tables.specs.declared.tables.Tables.{Tables}
-use Rattle.rm_tables.specs.Nodes.{beaten_row, is_ready, node_of as node_in, with_node}
-use Rattle.rm_tracker.specs.Answers.{after_node, beat_events, beaten_book, is_new_beat}
+use Rattle.rm_tables.specs.Nodes.{beaten_row, is_ready_row, node_row as node_in, with_node}
+use Rattle.rm_tracker.specs.Answers.{after_node, beat_events, beaten_book, is_next_beat}
 use Rattle.rm_tracker.specs.Offers.{OnlyNodesOffer}
 use Rattle.rm_tracker.proofs.Alike.{book_at_once, rows_beaten_same}
 use Rattle.rm_tracker.proofs.Replies.{ready_alike}
@@ -55,7 +55,7 @@ module _ (settings : Settings) (h : History) (t : Tables) (w : CoreInvariant set
 
   -- a new beat
   module _ (row : NodeRow) (node : NodeState) (in_tables : node_in t.nodes name ≡ Some row) (told : node_told h.nodes name ≡ Some node) (last : id ≡ node.last_id) (next : ℕ) (launched clean : List ContainerId)
-      (launches : (if is_ready row.state then [] else row.launches) ≡ filter (λ one. not (has_container launched one)) node.launches) where
+      (launches : (if is_ready_row row.state then [] else row.launches) ≡ filter (λ one. not (has_container launched one)) node.launches) where
     abbrev answer : Reply
     answer = TellBeat next launched clean
 
@@ -74,9 +74,9 @@ module _ (settings : Settings) (h : History) (t : Tables) (w : CoreInvariant set
     beaten_alike : (r : NodeRow) (o : NodeState) → r ≡ row → o ≡ node → bare_node t.book name r ≡ plain_node o → bare_node t.book name (beaten_row (id + 1) answer r) ≡ plain_node (beaten launched done answer o)
     beaten_alike r o own own_told alike =
         let after : id + 1 ≡ o.last_id + 1 = rw (own_told, last) refl in
-        let left : (if is_ready r.state then [] else r.launches) ≡ filter (λ one. not (has_container launched one)) o.launches = rw (own, own_told) launches in
-        ap (λ (x : PlainNode). record x { last_id = id + 1; last_reply = answer; launches = if is_ready r.state then [] else r.launches }) alike
-        ∙ ap (λ (n : ℕ). record (plain_node o) { last_id = n; last_reply = answer; launches = if is_ready r.state then [] else r.launches }) after
+        let left : (if is_ready_row r.state then [] else r.launches) ≡ filter (λ one. not (has_container launched one)) o.launches = rw (own, own_told) launches in
+        ap (λ (x : PlainNode). record x { last_id = id + 1; last_reply = answer; launches = if is_ready_row r.state then [] else r.launches }) alike
+        ∙ ap (λ (n : ℕ). record (plain_node o) { last_id = n; last_reply = answer; launches = if is_ready_row r.state then [] else r.launches }) after
         ∙ ap (λ (l : List ContainerId). record (plain_node o) { last_id = o.last_id + 1; last_reply = answer; launches = l }) left
 
     rows_same : SameRows book_now.rows rows_now
@@ -97,7 +97,7 @@ module _ (settings : Settings) (h : History) (t : Tables) (w : CoreInvariant set
         → PreservesCore settings h t (Served senders.Node (messages.Node name beats_so) answer, after_node name beats_so answer t)
     new_whole new new_row is =
         let new_told : is_new_to_node (abstract_scene h t) name id ≡ true = rw told new in
-        let new_in : is_new_beat id (node_in t.nodes name) ≡ true = rw in_tables new_row in
+        let new_in : is_next_beat id (node_in t.nodes name) ≡ true = rw in_tables new_row in
         rw new_in
         (changed_whole settings h t w (messages.Node name beats_so) answer (rw told is) rows_now (with_told (beaten launched done answer) name h.nodes) book_now (with_node (beaten_row (id + 1) answer) name t.nodes)
         (beat_events name done) (rw new_told refl) (events_none name done) (beaten_held name (reported running) launched h.book) rows_same nodes_same good_now
@@ -105,7 +105,7 @@ module _ (settings : Settings) (h : History) (t : Tables) (w : CoreInvariant set
         record { apart = holds.apart; rows = holds.rows; left = holds.left; launches = holds.launches }))
 
   -- a beat that isn't new changes nothing, whatever it is answered
-  tables_stay : (reply : Reply) → is_new_beat id (node_in t.nodes name) ≡ false → after_node name beats_so reply t ≡ t
+  tables_stay : (reply : Reply) → is_next_beat id (node_in t.nodes name) ≡ false → after_node name beats_so reply t ≡ t
   tables_stay (TellBeat next launched clean) new = rw new refl
   tables_stay _ new = refl
 
@@ -113,7 +113,7 @@ module _ (settings : Settings) (h : History) (t : Tables) (w : CoreInvariant set
   life_stays (TellBeat next launched clean) new = rw new refl
   life_stays _ new = refl
 
-  old_whole : (reply : Reply) → is_new_beat id (node_in t.nodes name) ≡ false → is_new_to_node (abstract_scene h t) name id ≡ false → reply ≡ node_reply (abstract_scene h t) name beats_so
+  old_whole : (reply : Reply) → is_next_beat id (node_in t.nodes name) ≡ false → is_new_to_node (abstract_scene h t) name id ≡ false → reply ≡ node_reply (abstract_scene h t) name beats_so
       → PreservesCore settings h t (Served senders.Node (messages.Node name beats_so) reply, after_node name beats_so reply t)
   old_whole reply new told is =
       subst (λ (next : Tables). PreservesCore settings h t (Served senders.Node (messages.Node name beats_so) reply, next)) (sym (tables_stay reply new))
@@ -137,26 +137,26 @@ module _ (settings : Settings) (h : History) (t : Tables) (w : CoreInvariant set
     launches_alike : row.launches ≡ node.launches
     launches_alike = ap (λ (x : PlainNode). x.launches) alike
 
-    by_phase : (r : Bool) → is_ready_told node.phase ≡ r → (id == node.last_id) ≡ true → (id == row.last_id) ≡ true → is_ready row.state ≡ is_ready_told node.phase → reply ≡ beaten_reply (abstract_scene h t) node running
+    by_phase : (r : Bool) → is_ready_told node.phase ≡ r → (id == node.last_id) ≡ true → (id == row.last_id) ≡ true → is_ready_row row.state ≡ is_ready_told node.phase → reply ≡ beaten_reply (abstract_scene h t) node running
         → PreservesCore settings h t (Served senders.Node (messages.Node name beats_so) reply, after_node name beats_so reply t)
     by_phase true up new new_row ready may =
         let said : reply ≡ TellBeat (node.last_id + 1) node.launches (strangers (abstract_scene h t) node.name running) = rw up at may in
-        let gone : (if is_ready row.state then [] else row.launches) ≡ filter (λ one. not (has_container node.launches one)) node.launches = rw (ready, up) (none_left [] node.launches) in
+        let gone : (if is_ready_row row.state then [] else row.launches) ≡ filter (λ one. not (has_container node.launches one)) node.launches = rw (ready, up) (none_left [] node.launches) in
         subst (λ (one : Reply). PreservesCore settings h t (Served senders.Node (messages.Node name beats_so) one, after_node name beats_so one t)) (sym said)
         (new_whole row node in_tables told (eqb-true id node.last_id new) (node.last_id + 1) node.launches (strangers (abstract_scene h t) node.name running) gone new new_row (sym said ∙ is))
     by_phase false up new new_row ready may =
         let said : reply ≡ TellBeat (node.last_id + 1) [] [] = rw up at may in
-        let kept : (if is_ready row.state then [] else row.launches) ≡ filter (λ one. not (has_container [] one)) node.launches = rw (ready, up, launches_alike) (all_left node.launches) in
+        let kept : (if is_ready_row row.state then [] else row.launches) ≡ filter (λ one. not (has_container [] one)) node.launches = rw (ready, up, launches_alike) (all_left node.launches) in
         subst (λ (one : Reply). PreservesCore settings h t (Served senders.Node (messages.Node name beats_so) one, after_node name beats_so one t)) (sym said)
         (new_whole row node in_tables told (eqb-true id node.last_id new) (node.last_id + 1) [] [] kept new new_row (sym said ∙ is))
 
-    by_lease : (l : Bool) → not (is_waiting node.phase || is_ready_told node.phase) ≡ l → (id == node.last_id) ≡ true → (id == row.last_id) ≡ true → is_ready row.state ≡ is_ready_told node.phase
+    by_lease : (l : Bool) → not (is_waiting node.phase || is_ready_told node.phase) ≡ l → (id == node.last_id) ≡ true → (id == row.last_id) ≡ true → is_ready_row row.state ≡ is_ready_told node.phase
         → PreservesCore settings h t (Served senders.Node (messages.Node name beats_so) reply, after_node name beats_so reply t)
     by_lease true lost new new_row ready = refused_whole reply (rw lost at is) is_told
     by_lease false lost new new_row ready =
         by_phase (is_ready_told node.phase) refl new new_row ready (rw (lost, not_again node.last_id (eqb-true id node.last_id new), new) at is)
 
-    by_id : (b : Bool) → (id == node.last_id) ≡ b → (id == row.last_id) ≡ (id == node.last_id) → is_ready row.state ≡ is_ready_told node.phase
+    by_id : (b : Bool) → (id == node.last_id) ≡ b → (id == row.last_id) ≡ (id == node.last_id) → is_ready_row row.state ≡ is_ready_told node.phase
         → PreservesCore settings h t (Served senders.Node (messages.Node name beats_so) reply, after_node name beats_so reply t)
     by_id true new same ready = by_lease (not (is_waiting node.phase || is_ready_told node.phase)) refl new (same ∙ new) ready
     by_id false new same ready = old_whole reply (rw in_tables (same ∙ new)) (rw told new) is_told

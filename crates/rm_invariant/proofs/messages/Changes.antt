@@ -7,13 +7,14 @@ use Rattle.rm_types.specs.declared.containers.ContainerState.TheVariants.{Acquir
 use Rattle.rm_types.specs.declared.ids.ContainerId.{ContainerId}
 use Rattle.rm_types.specs.declared.replies.Reply.{Reply}
 use Rattle.rm_types.specs.Ids.{is_attempt, is_container}
-use Rattle.rm_model.specs.Containers.{ids_on, is_granted, lives_on}
+use Rattle.rm_model.specs.Containers.{ids_on, lives_on}
+use Rattle.rm_types.specs.Containers.{is_granted}
 use Rattle.rm_model.specs.Facts.{has_container}
 use Rattle.rm_model.specs.NodeReplies.{beaten, row_beaten}
-use Rattle.rm_model.specs.Nodes.{node_of, with_node}
+use Rattle.rm_model.specs.Nodes.{judged_node, with_judged_node}
 use Rattle.rm_model.specs.State.{LifeState, NodeState, Row}
 use Rattle.rm_refinement.proofs.Found.{KeepsName}
-use Rattle.rm_invariant.specs.nodes.Book.{All, AreApart, AreLaunches, BookInvariant, IsAbsorbed, BookRowInvariant}
+use Rattle.rm_invariant.specs.nodes.Book.{All, LivingRowsAreApart, AreLaunches, BookInvariant, IsAbsorbed, BookRowInvariant}
 use Rattle.rm_invariant.proofs.nodes.Holds.{all_append, all_filter, all_map}
 use Rattle.rm_invariant.proofs.nodes.Moved.{node_of-map}
 use Rattle.rm_invariant.proofs.messages.Answered.{SameHeld}
@@ -47,7 +48,7 @@ joined_holds life node more none h =
 
 -- what the nodes offer stays
 offers_stay : (f : NodeState → NodeState) → KeepsName f → ((node : NodeState) → (f node).capability ≡ node.capability) → (nodes : List NodeState) (name : List ℕ) → IsAbsorbed nodes name → IsAbsorbed (map f nodes) name
-offers_stay f keeps offers nodes name h = rw (node_of-map f keeps nodes name) (by (node_of nodes name) h)
+offers_stay f keeps offers nodes name h = rw (node_of-map f keeps nodes name) (by (judged_node nodes name) h)
   where
     by : (o : Option NodeState) → is_some (option_and_then (λ (node : NodeState). node.capability) o) ≡ true → is_some (option_and_then (λ (node : NodeState). node.capability) (option_map f o)) ≡ true
     by None h = h
@@ -79,9 +80,9 @@ at_node_launches P change name keeps node h = by (bytes_eq node.name name)
     by false = h
 
 pub changed_holds : (life : LifeState) (change : NodeState → NodeState) (name : List ℕ) (more : ContainerId → Type 0) → KeepsName change → ((node : NodeState) → (change node).capability ≡ node.capability)
-    → ((node : NodeState) → AreLaunches life.book node → AreLaunches life.book (change node)) → BookInvariant life more → BookInvariant (record life { nodes = with_node change name life.nodes }) more
+    → ((node : NodeState) → AreLaunches life.book node → AreLaunches life.book (change node)) → BookInvariant life more → BookInvariant (record life { nodes = with_judged_node change name life.nodes }) more
 changed_holds life change name more keeps offers launches h =
-    let now : LifeState = record life { nodes = with_node change name life.nodes } in
+    let now : LifeState = record life { nodes = with_judged_node change name life.nodes } in
     record {
       apart = h.apart;
       rows =
@@ -103,7 +104,7 @@ module _ (change : Row → Row) (same_id : (row : Row) → (change row).id ≡ r
   pub rows_held : (rows : List Row) → SameHeld rows (map change rows)
   rows_held rows = record { held = λ q. any_changed (λ id node. is_attempt id.attempt q) rows; living = λ c. any_changed (λ id node. is_container id c) rows }
 
-  apart_changed : (rows : List Row) → AreApart rows → AreApart (map change rows)
+  apart_changed : (rows : List Row) → LivingRowsAreApart rows → LivingRowsAreApart (map change rows)
   apart_changed [] h = tt
   apart_changed (row ∷ rows) h = let a = same_id row in rw a (any_changed (λ id node. is_container id row.id) rows ∙ h.0, apart_changed rows h.1)
 
@@ -163,7 +164,7 @@ module _ (name : List ℕ) (running launched : List ContainerId) where
 
   -- and the node that beat was told
   pub beaten_holds : (life : LifeState) (done : List ContainerId) (reply : Reply) (more : ContainerId → Type 0) → BookInvariant life more
-      → BookInvariant (record life { book = map beat_row life.book; nodes = with_node (beaten launched done reply) name life.nodes }) more
+      → BookInvariant (record life { book = map beat_row life.book; nodes = with_judged_node (beaten launched done reply) name life.nodes }) more
   beaten_holds life done reply more h =
       changed_holds (record life { book = map beat_row life.book }) (beaten launched done reply) name more (λ node. refl) (λ node. refl)
       (λ node l. all_filter (λ id. lives_on (map beat_row life.book) node.name id ≡ true) (λ id. not (has_container launched id)) node.launches l)

@@ -23,7 +23,7 @@ use Rattle.rm_tables.specs.declared.rows.AppRow.{AppRow}
 use Rattle.rm_tables.specs.declared.tables.Tables.{Tables}
 use Rattle.rm_tables.specs.Changes.{changed}
 use Rattle.rm_tables.specs.Rows.{row_of, with_row}
-use Rattle.rm_client.specs.Answers.{after_client, joined, taken_by, wished_by}
+use Rattle.rm_client.specs.Answers.{after_client, with_submission, taken_by, wished_by}
 use Rattle.rm_refinement.specs.Agreement.{ClosingsAgree, RowAgrees}
 use Rattle.rm_invariant.specs.Step.{AppsInvariant}
 use Rattle.rm_refinement.specs.History.{History, abstract_life, abstract_scene}
@@ -62,7 +62,7 @@ module _ (settings : Settings) (h : History) (t : Tables) (w : CoreInvariant set
     with_it = submitting settings h t w.keeps.all id s
 
     abbrev joined_now : Tables
-    joined_now = joined id s t
+    joined_now = with_submission id s t
 
     fresh : (q : AttemptId) → is_app id q.app ≡ true → (view h t q).retired ≡ false
     fresh q same = let here : id ≡ q.app = same_app id q.app same in rw (← here) unretired

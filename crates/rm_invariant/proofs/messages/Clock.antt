@@ -12,7 +12,7 @@ use Rattle.rm_types.specs.declared.settings.Settings.{Settings}
 use Rattle.rm_types.specs.Records.{is_some_and}
 use Rattle.rm_model.specs.Attempts.{is_live}
 use Rattle.rm_model.specs.NodeReplies.{clock_reply, expired, may_expire}
-use Rattle.rm_model.specs.Nodes.{is_ready, is_waiting, node_of, tidied, with_node as with_told}
+use Rattle.rm_model.specs.Nodes.{is_ready, is_waiting, judged_node, tidied, with_judged_node as with_told}
 use Rattle.rm_model.specs.State.{LifeState, Lost, NodeState}
 use Rattle.rm_node.specs.declared.states.NodeState.TheVariants as states
 use Rattle.rm_node.specs.declared.states.NodeEvent.TheVariants as node_events
@@ -48,7 +48,7 @@ module _ (settings : Settings) (h : History) (t : Tables) (w : CoreInvariant set
   -- a node's lease runs out
   node_lost : (name : List ℕ) → may_expire (abstract_scene h t) name ≡ true → PreservesCore settings h t (Served senders.Clock (messages.Clock (ExpireNode name)) Ok, after_clock (ExpireNode name) Ok t)
   node_lost name may =
-      let k = found_node (λ node. is_waiting node.phase || is_ready node.phase) (node_of h.nodes name) may in
+      let k = found_node (λ node. is_waiting node.phase || is_ready node.phase) (judged_node h.nodes name) may in
       let changed : LifeState = record (abstract_life h t) { nodes = with_told expired name h.nodes } in
       changed_whole settings h t w (messages.Clock (ExpireNode name)) Ok (rw may refl) h.book (tidied changed).nodes t.book (with_node (changed_row of_node.Lose) name t.nodes) (scheds.NodeLost name ∷ []) refl
       (record { adds = λ q. refl; queueings = λ q. refl; removals = λ c. refl }) (same_held h.book) w.agrees.rows

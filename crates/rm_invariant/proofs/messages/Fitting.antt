@@ -31,11 +31,11 @@ use Rattle.rm_tables.specs.Actions.{main_worked, sched_worked}
 use Rattle.rm_tables.specs.Changes.{attempt_after, changed, current_after, granted_at}
 use Rattle.rm_tables.specs.Leaving.{closed_in}
 use Rattle.rm_tables.specs.MainEvents.{main_step}
-use Rattle.rm_tables.specs.Passing.{row_granted}
+use Rattle.rm_tables.specs.Passing.{rows_after_grant}
 use Rattle.rm_tables.specs.Rows.{row_of, with_row}
 use Rattle.rm_tables.specs.SchedEvents.{sched_step}
 use Rattle.rm_refinement.specs.Agreement.{closings_for}
-use Rattle.rm_invariant.specs.apps.Invariant.{CurrentInvariant, MayFollow, LastIsOpen, RowInvariant, is_active, is_open_one}
+use Rattle.rm_invariant.specs.apps.Invariant.{CurrentInvariant, MayFollowInView, LastIsOpen, RowInvariant, is_active, is_open_one}
 use Rattle.rm_invariant.specs.Step.{AppsInvariant}
 use Rattle.rm_refinement.specs.History.{History}
 use Rattle.rm_invariant.specs.apps.View.{View, changed_if, view}
@@ -45,7 +45,7 @@ use Rattle.rm_invariant.proofs.apps.Own.{active_row}
 use Rattle.rm_invariant.proofs.masters.Saying.{active_of, goes_on as attempt_goes_on}
 use Rattle.rm_invariant.specs.Core.{PreservesCore}
 use Rattle.rm_invariant.proofs.events.Told.{rows_told, telling_more}
-use Rattle.rm_invariant.specs.messages.Fits.{FitsCurrent, RowsFit}
+use Rattle.rm_invariant.specs.messages.Fits.{FitsCurrent, EachRowFits}
 use Rattle.rm_invariant.specs.events.Outcomes.{Outcome}
 use Rattle.rm_invariant.proofs.messages.Shapes.{RowsAfter, RowsBy, SchedShape, Shape, main_shape, sched_shape}
 
@@ -99,7 +99,7 @@ some_last p [] e = cc
 some_last p (x ∷ xs) e = omega arith
 
 module _ (settings : Settings) (q : AttemptId) (row : AppRow) (v : View) where
-  follows_fit : (current : Current) (number : ℕ) → current.number ≡ number → MayFollow settings number v → row.dialogue ≡ None → FitsCurrent v.found row.dialogue (Some current)
+  follows_fit : (current : Current) (number : ℕ) → current.number ≡ number → MayFollowInView settings number v → row.dialogue ≡ None → FitsCurrent v.found row.dialogue (Some current)
   follows_fit current number is (next, inl first) silent = inr (is ∙ next, (let none = empty (attempts_in v.found) (let n = first.0 in omega (arith, next, n)) in rw none refl), silent)
   follows_fit current number is (next, inr failed) silent = inr (is ∙ next, or_right (is_nil (attempts_in v.found)) (is_some_and has_failed (last_attempt (attempts_in v.found))) failed.0, silent)
 
@@ -145,7 +145,7 @@ same_fits found next was now attempts (Some c) (Some d) number silent fits = by 
     by (inr later) = rw (same, attempts) (inr (later.0, later.1, silent later.2))
 
 -- rows fit after a step whose rows go so
-pub rows_fit : (settings : Settings) (g : History) (t next : Tables) → AppsInvariant settings g next → RowsFit t → ((id : AppId) (now : AppRow) → row_of next.rows id ≡ Some now → RowGoes t next id now) → RowsFit next
+pub rows_fit : (settings : Settings) (g : History) (t next : Tables) → AppsInvariant settings g next → EachRowFits t → ((id : AppId) (now : AppRow) → row_of next.rows id ≡ Some now → RowGoes t next id now) → EachRowFits next
 rows_fit settings g t next k fit goes id now found = by (goes id now found)
   where
     row_active : RowInvariant settings (at id) (Some now) (view g next (at id)) → (is_active now.state ≡ true) ⊎ (goes_on_in now.current ≡ true) → (c : Option Current) → now.current ≡ c → is_active now.state ≡ true
@@ -274,11 +274,11 @@ closed_same closings rows q now found = by (row_of rows q) refl (sym (rows_told 
     by (Some was) there e = let after : telling_more (closings_for closings q) was ≡ now = cc in (was, there, subst (SameCurrent was) after (record { number = refl; silent = λ e. e }))
 
 -- containers are granted
-granted_same : (grants : List Grant) (rows : List (AppId × Option AppRow)) → RowsSame rows (fold row_granted rows grants)
+granted_same : (grants : List Grant) (rows : List (AppId × Option AppRow)) → RowsSame rows (fold rows_after_grant rows grants)
 granted_same [] rows = none_changed rows
 granted_same (grant ∷ grants) rows =
-    then_changed rows (row_granted rows grant) (fold row_granted (row_granted rows grant) grants)
-    (one_changed grant.id.attempt.app (changed (of_app.OfAttempt (of_attempt.Grant grant.id))) rows (λ row. change_same (of_app.OfAttempt (of_attempt.Grant grant.id)) row refl)) (granted_same grants (row_granted rows grant))
+    then_changed rows (rows_after_grant rows grant) (fold rows_after_grant (rows_after_grant rows grant) grants)
+    (one_changed grant.id.attempt.app (changed (of_app.OfAttempt (of_attempt.Grant grant.id))) rows (λ row. change_same (of_app.OfAttempt (of_attempt.Grant grant.id)) row refl)) (granted_same grants (rows_after_grant rows grant))
 
 -- rows that have the attempts that they had go so
 pub same_goes : (t next : Tables) → RowsSame t.rows next.rows → next.tree ≡ t.tree → (q : AppId) (now : AppRow) → row_of next.rows q ≡ Some now → RowGoes t next q now
@@ -304,7 +304,7 @@ change_goes t next id change tree row found = by (schedules_none change) refl
     by true e = inr (inr (row, found, change_same change row e, rw tree refl))
     by false e = scheduled change e
 
-pub main_fits : (settings : Settings) (h : History) (t : Tables) → RowsFit t → (e : MainEvent) → Outcome t (main_step e t) → (s : PreservesCore settings h t (main_worked (main_step e t))) → RowsFit (main_worked (main_step e t)).1
+pub main_fits : (settings : Settings) (h : History) (t : Tables) → EachRowFits t → (e : MainEvent) → Outcome t (main_step e t) → (s : PreservesCore settings h t (main_worked (main_step e t))) → EachRowFits (main_worked (main_step e t)).1
 main_fits settings h t fit e outcome s = rows_fit settings s.next t next s.whole.keeps fit (by shape.rows)
   where
     next : Tables
@@ -317,7 +317,7 @@ main_fits settings h t fit e outcome s = rows_fit settings s.next t next s.whole
     by (inl same) = same_goes t next (subst (RowsSame t.rows) (sym same) (none_changed t.rows)) shape.tree
     by (inr one) = goes_with t next one.0 (changed one.1) one.2 (λ q e. let tree = shape.tree in rw tree refl) (change_goes t next one.0 one.1 shape.tree)
 
-pub sched_fits : (settings : Settings) (h : History) (t : Tables) → RowsFit t → (e : SchedEvent) (list : List ContainerId) (s : PreservesCore settings h t (sched_worked (sched_step e list t))) → RowsFit (sched_worked (sched_step e list t)).1
+pub sched_fits : (settings : Settings) (h : History) (t : Tables) → EachRowFits t → (e : SchedEvent) (list : List ContainerId) (s : PreservesCore settings h t (sched_worked (sched_step e list t))) → EachRowFits (sched_worked (sched_step e list t)).1
 sched_fits settings h t fit e list s = rows_fit settings s.next t next s.whole.keeps fit (same_goes t next (by next.rows shape.rows) shape.tree)
   where
     next : Tables

@@ -33,7 +33,7 @@ use Rattle.rm_app.specs.declared.states.AppState.{AppState}
 use Rattle.rm_app.specs.declared.states.AppState.TheVariants as apps
 use Rattle.rm_attempt.specs.declared.states.AttemptState.{AttemptState}
 use Rattle.rm_attempt.specs.declared.states.AttemptEvent.TheVariants as attempt_events
-use Rattle.rm_attempt.specs.Table.{next_state as next_attempt_state, is_alive}
+use Rattle.rm_attempt.specs.Table.{next_attempt_state as next_attempt_state, is_alive}
 use Rattle.rm_refinement.specs.Services.{lives_by}
 use Rattle.rm_model.specs.Attempts.{is_live}
 use Rattle.rm_model.specs.MasterReplies.{master_reply, register_reply}
@@ -50,8 +50,8 @@ use Rattle.rm_tables.specs.Changes.{after_failure, changed}
 use Rattle.rm_tables.specs.KeptOps.{kept}
 use Rattle.rm_tables.specs.Opening.{recovered_attempt, recovered_row, recovered_rows}
 use Rattle.rm_tables.specs.Rows.{row_of, with_row}
-use Rattle.rm_tables.specs.Talks.{begun, registered_row, said_row, told_row, with_answer, with_text, without_closings}
-use Rattle.rm_client.specs.Answers.{after_client, new_row, taken_by, wished_by}
+use Rattle.rm_tables.specs.Talks.{dialogue_begun, registered_row, said_row, told_row, with_answer, with_text, without_closings}
+use Rattle.rm_client.specs.Answers.{after_client, submitted_row, taken_by, wished_by}
 use Rattle.rm_master.specs.Answers.{after_master, allocated_with, is_new_to, registered, said}
 use Rattle.rm_master.specs.Told.{goes_on, spoken_by}
 use Rattle.rm_tracker.specs.Answers.{after_clock, after_node}
@@ -69,7 +69,7 @@ use Rattle.rm_invariant.specs.masters.Sound.{RecordsAreSound}
 use Rattle.rm_invariant.proofs.masters.AwaitingAttempts.{attempt_awaits, with_attempt_op}
 use Rattle.rm_invariant.proofs.masters.Sounding.{numbered_last}
 use Rattle.rm_invariant.specs.Core.{PreservesCore}
-use Rattle.rm_invariant.specs.messages.Fits.{FitsCurrent, RowsFit}
+use Rattle.rm_invariant.specs.messages.Fits.{FitsCurrent, EachRowFits}
 use Rattle.rm_invariant.proofs.messages.Rows.{clock_rows, node_rows}
 use Rattle.rm_invariant.proofs.messages.MarkedMessages.{clock_posts, node_posts}
 use Rattle.rm_invariant.proofs.messages.Fitting.{is_recorded, RowGoes, SameCurrent, change_same, goes_with, rows_fit, same_current}
@@ -100,7 +100,7 @@ alive_goes s e = grind arith
 alive_recorded : (s : AttemptState) → is_alive s ≡ true → is_recorded (next_attempt_state s attempt_events.Register) ≡ true
 alive_recorded s e = grind arith
 
-module _ (settings : Settings) (h : History) (t : Tables) (fit : RowsFit t) where
+module _ (settings : Settings) (h : History) (t : Tables) (fit : EachRowFits t) where
   -- a step that goes to these tables, whose rows go so
   abbrev RowMoves : Tables → Type 0
   RowMoves next = (q : AppId) (now : AppRow) → row_of next.rows q ≡ Some now → RowGoes t next q now
@@ -112,9 +112,9 @@ module _ (settings : Settings) (h : History) (t : Tables) (fit : RowsFit t) wher
   -- of a client
   taken_goes : (o : Option AppRow) (id : AppId) (s : Submission) → RowMoves (taken_by o id s t)
   taken_goes (Some row) id s = still t refl refl
-  taken_goes None id s = λ q now found. by q now (put_found id (new_row s) t.rows q now found)
+  taken_goes None id s = λ q now found. by q now (put_found id (submitted_row s) t.rows q now found)
     where
-      by : (q : AppId) (now : AppRow) → (row_of t.rows q ≡ Some now) ⊎ (new_row s ≡ now) → RowGoes t (taken_by None id s t) q now
+      by : (q : AppId) (now : AppRow) → (row_of t.rows q ≡ Some now) ⊎ (submitted_row s ≡ now) → RowGoes t (taken_by None id s t) q now
       by q now (inl there) = inr (inr (now, there, same_current now, refl))
       by q now (inr new) = inl (ap (λ (row : AppRow). row.current) (sym new))
 
@@ -138,15 +138,15 @@ module _ (settings : Settings) (h : History) (t : Tables) (fit : RowsFit t) wher
   client_goes (clients.Kill id) _ = still t refl refl
   client_goes (clients.Report id) reply = still t refl refl
 
-  pub client_fits : (user : List ℕ) (ask : ClientAsk) (reply : Reply) (s : PreservesCore settings h t (Served senders.Client (messages.Client user ask) reply, after_client ask reply t)) → RowsFit (after_client ask reply t)
+  pub client_fits : (user : List ℕ) (ask : ClientAsk) (reply : Reply) (s : PreservesCore settings h t (Served senders.Client (messages.Client user ask) reply, after_client ask reply t)) → EachRowFits (after_client ask reply t)
   client_fits user ask reply s = rows_fit settings s.next t (after_client ask reply t) s.whole.keeps fit (client_goes ask reply)
 
   -- of a node
-  pub node_fits : (name : List ℕ) (ask : NodeAsk) (reply : Reply) (s : PreservesCore settings h t (Served senders.Node (messages.Node name ask) reply, after_node name ask reply t)) → RowsFit (after_node name ask reply t)
+  pub node_fits : (name : List ℕ) (ask : NodeAsk) (reply : Reply) (s : PreservesCore settings h t (Served senders.Node (messages.Node name ask) reply, after_node name ask reply t)) → EachRowFits (after_node name ask reply t)
   node_fits name ask reply s = rows_fit settings s.next t (after_node name ask reply t) s.whole.keeps fit (still (after_node name ask reply t) (node_rows name ask reply t) (node_posts name ask reply t).tree)
 
   -- of the clock
-  pub clock_fits : (ask : ClockAsk) (reply : Reply) (s : PreservesCore settings h t (Served senders.Clock (messages.Clock ask) reply, after_clock ask reply t)) → RowsFit (after_clock ask reply t)
+  pub clock_fits : (ask : ClockAsk) (reply : Reply) (s : PreservesCore settings h t (Served senders.Clock (messages.Clock ask) reply, after_clock ask reply t)) → EachRowFits (after_clock ask reply t)
   clock_fits ask reply s = rows_fit settings s.next t (after_clock ask reply t) s.whole.keeps fit (still (after_clock ask reply t) (clock_rows ask reply t) (clock_posts ask reply t).tree)
 
   -- of a master: it registers only where its attempt is recorded
@@ -154,10 +154,10 @@ module _ (settings : Settings) (h : History) (t : Tables) (fit : RowsFit t) wher
   none_spoken f None e = refl
   none_spoken f (Some one) e = cc
 
-  registered_goes : (attempt : AttemptId) (reply : Reply) (row : AppRow) → lives_by attempt (Some row) ≡ true → RowGoes t (registered attempt reply t) attempt.app (registered_row (begun reply) row)
+  registered_goes : (attempt : AttemptId) (reply : Reply) (row : AppRow) → lives_by attempt (Some row) ≡ true → RowGoes t (registered attempt reply t) attempt.app (registered_row (dialogue_begun reply) row)
   registered_goes attempt reply row lives = by row.current refl
     where
-      by : (c : Option Current) → row.current ≡ c → RowGoes t (registered attempt reply t) attempt.app (registered_row (begun reply) row)
+      by : (c : Option Current) → row.current ≡ c → RowGoes t (registered attempt reply t) attempt.app (registered_row (dialogue_begun reply) row)
       by None is = inl (rw is refl)
       by (Some current) is =
           let alive : is_alive current.state ≡ true = alive_with current.state (current.number == attempt.number) (rw is at lives) in
@@ -178,7 +178,7 @@ module _ (settings : Settings) (h : History) (t : Tables) (fit : RowsFit t) wher
 
   master_goes : ((attempt : AttemptId) → is_live (abstract_scene h t) attempt ≡ lives_by attempt (row_of t.rows attempt.app)) → (attempt : AttemptId) (ask : MasterAsk) (reply : Reply) → reply ≡ master_reply settings (abstract_scene h t) attempt ask → RowMoves (after_master attempt ask reply t)
   master_goes live attempt masters.Register replies.MasterRegistered is =
-      goes_with t (registered attempt replies.MasterRegistered t) attempt.app (registered_row (begun replies.MasterRegistered)) refl (λ q apart. refl) (λ row there. registered_goes attempt replies.MasterRegistered row (ap (lives_by attempt) (sym there) ∙ sym (live attempt) ∙ registers_live (abstract_scene h t) attempt is))
+      goes_with t (registered attempt replies.MasterRegistered t) attempt.app (registered_row (dialogue_begun replies.MasterRegistered)) refl (λ q apart. refl) (λ row there. registered_goes attempt replies.MasterRegistered row (ap (lives_by attempt) (sym there) ∙ sym (live attempt) ∙ registers_live (abstract_scene h t) attempt is))
   master_goes live attempt masters.Register _ is = still t refl refl
   master_goes live attempt (masters.Finish text) replies.Finishing is = by (goes_on (spoken_by attempt (row_of t.rows attempt.app))) refl
     where
@@ -196,7 +196,7 @@ module _ (settings : Settings) (h : History) (t : Tables) (fit : RowsFit t) wher
       by false e = rw e (still t refl refl)
   master_goes live attempt (masters.Allocate id asks release) _ is = still t refl refl
 
-  pub master_fits : ((attempt : AttemptId) → is_live (abstract_scene h t) attempt ≡ lives_by attempt (row_of t.rows attempt.app)) → (attempt : AttemptId) (ask : MasterAsk) (reply : Reply) → reply ≡ master_reply settings (abstract_scene h t) attempt ask → (s : PreservesCore settings h t (Served senders.Master (messages.Master attempt ask) reply, after_master attempt ask reply t)) → RowsFit (after_master attempt ask reply t)
+  pub master_fits : ((attempt : AttemptId) → is_live (abstract_scene h t) attempt ≡ lives_by attempt (row_of t.rows attempt.app)) → (attempt : AttemptId) (ask : MasterAsk) (reply : Reply) → reply ≡ master_reply settings (abstract_scene h t) attempt ask → (s : PreservesCore settings h t (Served senders.Master (messages.Master attempt ask) reply, after_master attempt ask reply t)) → EachRowFits (after_master attempt ask reply t)
   master_fits live attempt ask reply is s = rows_fit settings s.next t (after_master attempt ask reply t) s.whole.keeps fit (master_goes live attempt ask reply is)
 
 -- KEPT OPERATIONS
@@ -231,7 +231,7 @@ ended_attempts true how text order None = refl
 ended_attempts true how text order (Some one) = refl
 ended_attempts false how text order o = refl
 
-module _ (settings : Settings) (h : History) (t : Tables) (k : AppsInvariant settings h t) (fit : RowsFit t) where
+module _ (settings : Settings) (h : History) (t : Tables) (k : AppsInvariant settings h t) (fit : EachRowFits t) where
   abbrev Going : Tables → Type 0
   Going next = (q : AppId) (now : AppRow) → row_of next.rows q ≡ Some now → RowGoes t next q now
 
@@ -329,13 +329,13 @@ module _ (settings : Settings) (h : History) (t : Tables) (k : AppsInvariant set
   op_goes (ops.AppEnd id how text) rest front e = over_goes id how text
   op_goes (ops.Remove id) rest front e = remove_goes id
 
-  pub kept_fits : (op : Op) (rest : List Op) → t.awaiting ≡ op ∷ rest → is_epoch_op op ≡ false → (s : PreservesCore settings h t (Kept op, kept op t)) → RowsFit (kept op t)
+  pub kept_fits : (op : Op) (rest : List Op) → t.awaiting ≡ op ∷ rest → is_epoch_op op ≡ false → (s : PreservesCore settings h t (Kept op, kept op t)) → EachRowFits (kept op t)
   kept_fits op rest front not_epoch s = rows_fit settings s.next t (kept op t) s.whole.keeps fit (op_goes op rest front not_epoch)
 
 -- A LIFE OPENS
 
 -- over rows that were recovered, each of whose attempts is the last recorded one
-pub opened_fits : (t : Tables) → RecordsAreSound t.tree.apps → t.rows ≡ recovered_rows t.tree.apps → RowsFit t
+pub opened_fits : (t : Tables) → RecordsAreSound t.tree.apps → t.rows ≡ recovered_rows t.tree.apps → EachRowFits t
 opened_fits t sound is id row found = by (record_of t.tree.apps id) refl (sym (recovered_found t.tree.apps id) ∙ ap (λ (rows : List (AppId × Option AppRow)). row_of rows id) (sym is) ∙ found)
   where
     some_length : (attempts : List AttemptRecord) (last : AttemptRecord) → last_attempt attempts ≡ Some last → 1 ≤ length attempts

@@ -20,11 +20,11 @@ use Rattle.rm_tables.specs.declared.rows.AppRow.{AppRow}
 use Rattle.rm_tables.specs.declared.rows.Current.{Current}
 use Rattle.rm_tables.specs.declared.tables.Tables.{Tables}
 use Rattle.rm_tables.specs.Rows.{row_of}
-use Rattle.rm_invariant.specs.apps.Invariant.{ActiveInvariant, CurrentInvariant, MayFollow, EndIssuedInvariant, RowInvariant, StateInvariant, has_tried}
+use Rattle.rm_invariant.specs.apps.Invariant.{ActiveInvariant, CurrentInvariant, MayFollowInView, EndIssuedInvariant, RowInvariant, StateInvariant, has_tried}
 use Rattle.rm_refinement.specs.History.{History, abstract_scene}
 use Rattle.rm_invariant.specs.apps.View.{View, view}
 use Rattle.rm_invariant.proofs.apps.Events.{at}
-use Rattle.rm_refinement.specs.Clients.{is_saving}
+use Rattle.rm_refinement.specs.Clients.{is_saving_app}
 use Rattle.rm_model.specs.Attempts.{has_failed}
 use Rattle.rm_invariant.specs.Step.{AppsInvariant}
 
@@ -37,7 +37,7 @@ module _ (settings : Settings) (q : AttemptId) (v : View) where
   by_last : (p : AttemptRecord → Bool) → is_some_and p (last_attempt (attempts_in v.found)) ≡ true → has_tried v ≡ true
   by_last p e = or_right v.accepted (not (is_nil (attempts_in v.found))) (some_attempt p (attempts_in v.found) e)
 
-  by_follows : (number : ℕ) → MayFollow settings number v → has_tried v ≡ true
+  by_follows : (number : ℕ) → MayFollowInView settings number v → has_tried v ≡ true
   by_follows number (n, inl first) = let e = first.1 in rw e refl
   by_follows number (n, inr failed) = by_last has_failed failed.0
 
@@ -119,7 +119,7 @@ module _ (settings : Settings) (q : AttemptId) (v : View) where
       by attempts.Ending at_ = let a = at_.1 in let b = at_.2 in omega (arith, a, b)
       by s at_ = grind arith
 
-  pub saves : (row : AppRow) (s : AppState) → StateInvariant settings q s row v → (1 ≤ v.count.apps) × (is_saving s ≡ true) ⊎ (v.count.apps ≡ 0) × (is_saving s ≡ false)
+  pub saves : (row : AppRow) (s : AppState) → StateInvariant settings q s row v → (1 ≤ v.count.apps) × (is_saving_app s ≡ true) ⊎ (v.count.apps ≡ 0) × (is_saving_app s ≡ false)
   saves row apps.New says = inr ((let a = says.2 in omega (arith, a)), refl)
   saves row apps.NewSaving says = inl ((let a = says.2 in omega (arith, a)), refl)
   saves row apps.Submitted says = inr ((let a = says.6 in omega (arith, a)), refl)

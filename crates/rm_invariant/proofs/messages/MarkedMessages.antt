@@ -38,12 +38,13 @@ use Rattle.rm_types.specs.declared.settings.Settings.{Settings}
 use Rattle.rm_types.specs.Ids.{is_attempt}
 use Rattle.rm_types.specs.Records.{Records}
 use Rattle.rm_model.specs.ClientReplies.{joins, life_after_client}
-use Rattle.rm_model.specs.Containers.{is_granted, is_living, released_by}
+use Rattle.rm_model.specs.Containers.{is_living, released_by}
+use Rattle.rm_types.specs.Containers.{is_granted}
 use Rattle.rm_model.specs.Facts.{has_container, is_known}
 use Rattle.rm_model.specs.MasterReplies.{is_new_to_master, life_after_master, master_reply, row_allocated, untold_rows}
 use Rattle.rm_model.specs.Attempts.{is_masters, is_registered}
 use Rattle.rm_model.specs.NodeReplies.{is_later_turn, is_new_to_node, life_after_clock, life_after_node, reported, row_beaten}
-use Rattle.rm_model.specs.Nodes.{node_of as node_told}
+use Rattle.rm_model.specs.Nodes.{judged_node as node_told}
 use Rattle.rm_model.specs.Replies.{life_after}
 use Rattle.rm_model.specs.State.{Row, Scene, scene}
 use Rattle.rm_tables.specs.declared.events.SchedEvent.{SchedEvent}
@@ -51,13 +52,13 @@ use Rattle.rm_tables.specs.declared.events.SchedEvent.TheVariants as scheds
 use Rattle.rm_tables.specs.declared.nodes.NodeRow.{NodeRow}
 use Rattle.rm_tables.specs.declared.rows.AppRow.{AppRow}
 use Rattle.rm_tables.specs.declared.tables.Tables.{Tables}
-use Rattle.rm_tables.specs.Nodes.{node_of as node_in}
+use Rattle.rm_tables.specs.Nodes.{node_row as node_in}
 use Rattle.rm_tables.specs.Rows.{row_of}
 use Rattle.rm_client.specs.Answers.{after_client, taken_by, wished_by}
 use Rattle.rm_master.specs.Answers.{after_master, is_new_to, release_events}
 use Rattle.rm_master.specs.Told.{goes_on, spoken_by}
 use Rattle.rm_master.proofs.Granted.{masters_same}
-use Rattle.rm_tracker.specs.Answers.{after_clock, after_node, beat_events, is_new_beat, registered_by}
+use Rattle.rm_tracker.specs.Answers.{after_clock, after_node, beat_events, is_next_beat, registered_by}
 use Rattle.rm_refinement.specs.History.{History, abstract_life, abstract_scene, live_state}
 use Rattle.rm_invariant.specs.nodes.Book.{All}
 use Rattle.rm_invariant.proofs.nodes.Holds.{all_map}
@@ -90,9 +91,9 @@ registered_posts (Some row) name turn capability running reply t = by (nat_lt ro
 
 pub node_posts : (name : List ℕ) (ask : NodeAsk) (reply : Reply) (t : Tables) → Posts t (after_node name ask reply t)
 node_posts name (asks.Register turn capability running) reply t = registered_posts (node_in t.nodes name) name turn capability running reply t
-node_posts name (asks.Beat id running done) (replies.Beat next launched clean) t = by (is_new_beat id (node_in t.nodes name)) refl
+node_posts name (asks.Beat id running done) (replies.Beat next launched clean) t = by (is_next_beat id (node_in t.nodes name)) refl
   where
-    by : (b : Bool) → is_new_beat id (node_in t.nodes name) ≡ b → Posts t (after_node name (asks.Beat id running done) (replies.Beat next launched clean) t)
+    by : (b : Bool) → is_next_beat id (node_in t.nodes name) ≡ b → Posts t (after_node name (asks.Beat id running done) (replies.Beat next launched clean) t)
     by true e = rw e (record { more = beat_events name done; sched = refl; tree = refl })
     by false e = rw e (posts_none t)
 node_posts name (asks.Beat id running done) _ t = posts_none t

@@ -18,8 +18,9 @@ use Rattle.rm_types.specs.Records.{Records}
 use Rattle.rm_types.proofs.IdLemmas.{container_itself, same_container}
 use Rattle.rm_attempt.specs.declared.states.AttemptState.{AttemptState}
 use Rattle.rm_attempt.specs.declared.states.AttemptState.TheVariants as attempts
-use Rattle.rm_book.specs.Books.{has_row, row_of as book_row_of}
-use Rattle.rm_model.specs.Absorbing.{is_held, row_absorbed, row_taken}
+use Rattle.rm_book.specs.Books.{has_row, book_row as book_row_of}
+use Rattle.rm_model.specs.Absorbing.{row_absorbed, row_taken}
+use Rattle.rm_types.specs.Containers.{is_held}
 use Rattle.rm_model.specs.Changes.{after}
 use Rattle.rm_model.specs.Containers.{is_living, once}
 use Rattle.rm_model.specs.Facts.{has_container}
@@ -36,7 +37,7 @@ use Rattle.rm_tables.specs.Absorbing.{absorbed_by, absorbed_if}
 use Rattle.rm_tables.specs.Actions.{main_worked, sched_quiet, sched_worked}
 use Rattle.rm_tables.specs.Leaving.{ended_by, is_masters_in}
 use Rattle.rm_tables.specs.MainEvents.{main_step}
-use Rattle.rm_tables.specs.Nodes.{is_waiting, node_of}
+use Rattle.rm_tables.specs.Nodes.{is_waiting_row, node_row}
 use Rattle.rm_tables.specs.Passing.{updated_by}
 use Rattle.rm_tables.specs.Rows.{row_of}
 use Rattle.rm_tables.specs.SchedEvents.{is_on, is_released, queued_at, queued_by, queued_with, sched_step}
@@ -127,7 +128,7 @@ module _ (h : History) (t : Tables) (rest : List SchedEvent) (on : All (IsOnWay 
 
   absorbed_leaves : (o : Option NodeRow) (name : List ℕ) (turn : ℕ) (ended : List ContainerId) → LeavesOnWay h t rest (absorbed_by o name turn ended t)
   absorbed_leaves None name turn ended = quiet_leaves
-  absorbed_leaves (Some row) name turn ended = by (is_waiting row.state && (row.turn == turn))
+  absorbed_leaves (Some row) name turn ended = by (is_waiting_row row.state && (row.turn == turn))
     where
       by : (b : Bool) → LeavesOnWay h t rest (absorbed_if b name row ended t)
       by true =
@@ -206,10 +207,10 @@ module _ (settings : Settings) (h : History) (t : Tables) (w : CoreInvariant set
   step_leaves (scheds.AttemptAdded id) list on = queued_leaves h t rest (rest_on t.tree.apps (scheds.AttemptAdded id) rest (λ c. refl) h.book on) (row_of t.rows id.app) id
   step_leaves (scheds.AttemptRemoved id) list on = ended_leaves h t rest (rest_on t.tree.apps (scheds.AttemptRemoved id) rest (λ c. refl) h.book on) causes.Attempt list
   step_leaves (scheds.Release attempt released) list on = released_by_list attempt released on (given_back attempt released on) refl
-  step_leaves (scheds.NodeAdded node turn) list on = absorbed_leaves h t rest (rest_on t.tree.apps (scheds.NodeAdded node turn) rest (λ c. refl) h.book on) (node_of t.nodes node) node turn list
+  step_leaves (scheds.NodeAdded node turn) list on = absorbed_leaves h t rest (rest_on t.tree.apps (scheds.NodeAdded node turn) rest (λ c. refl) h.book on) (node_row t.nodes node) node turn list
   step_leaves (scheds.NodeDone node done) list on =
       ended_leaves h t rest (rest_on t.tree.apps (scheds.NodeDone node done) rest (λ c. refl) h.book on) causes.Done (once (filter (λ id. is_on node (book_row_of t.book id)) done))
-  step_leaves (scheds.NodeUpdate node) list on = updated_leaves h t rest (rest_on t.tree.apps (scheds.NodeUpdate node) rest (λ c. refl) h.book on) (node_of t.nodes node) node
+  step_leaves (scheds.NodeUpdate node) list on = updated_leaves h t rest (rest_on t.tree.apps (scheds.NodeUpdate node) rest (λ c. refl) h.book on) (node_row t.nodes node) node
   step_leaves (scheds.NodeLost node) list on = ended_leaves h t rest (rest_on t.tree.apps (scheds.NodeLost node) rest (λ c. refl) h.book on) causes.Node list
 
   pub sched_on_way : ReleasesOnWay h t → (e : SchedEvent) → t.sched ≡ e ∷ rest → (list : List ContainerId) (s : PreservesCore settings h t (sched_worked (sched_step e list t))) → ReleasesOnWay s.next (sched_worked (sched_step e list t)).1

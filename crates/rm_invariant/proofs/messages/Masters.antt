@@ -22,19 +22,20 @@ use Rattle.rm_model.specs.Attempts.{has_registered, is_finishing, is_last, is_li
 use Rattle.rm_model.specs.Containers.{released_by}
 use Rattle.rm_model.specs.Facts.{kept_end}
 use Rattle.rm_model.specs.MasterReplies.{allocate_reply, allocated_reply, allocates, finish_reply, finished_issued, has_too_many, is_new_to_master, life_after_master, master_reply, outbox_of, register_reply, registers, row_allocated, untold_rows, with_asks}
-use Rattle.rm_model.specs.Nodes.{node_of}
+use Rattle.rm_model.specs.Nodes.{judged_node}
 use Rattle.rm_model.specs.State.{LifeState, MasterState, Row, Scene}
 use Rattle.rm_tables.specs.declared.rows.Dialogue.{Dialogue}
 use Rattle.rm_tables.specs.declared.tables.Tables.{Tables}
 use Rattle.rm_tables.specs.Rows.{row_of}
-use Rattle.rm_tables.specs.Talks.{begun, with_answer, with_text, without_closings}
+use Rattle.rm_tables.specs.Talks.{dialogue_begun, with_answer, with_text, without_closings}
 use Rattle.rm_refinement.specs.Agreement.{PlainDialogue, bare_dialogue, plain_dialogue}
 use Rattle.rm_refinement.specs.Services.{RefinesLife, lives_by}
 use Rattle.rm_master.specs.Answers.{after_master, allocated_with, is_new_to, registered, release_events, said}
 use Rattle.rm_master.specs.Told.{goes_on, spoken_by}
 use Rattle.rm_master.proofs.Replies.{Lives, lives_here, none_lives, row_lives}
 use Rattle.rm_master.proofs.Same.{goes_alike, master_same}
-use Rattle.rm_invariant.specs.messages.Ranges.{IsAsk, IsMasterAsk}
+use Rattle.rm_invariant.specs.messages.Ranges.{IsMasterAsk}
+use Rattle.rm_types.specs.Messages.{IsAsk}
 use Rattle.rm_refinement.specs.History.{History, abstract_life, abstract_scene}
 use Rattle.rm_invariant.specs.nodes.Invariant.{NodesInvariant, NodeInvariant, events_of}
 use Rattle.rm_invariant.specs.nodes.Book.{BookInvariant}
@@ -117,7 +118,7 @@ module _ (settings : Settings) (h : History) (t : Tables) (w : CoreInvariant set
   joins : is_live now attempt ≡ true → MasterRegistered ≡ register_reply now attempt → Comes Register MasterRegistered
   joins live is =
       stepped_whole settings h t (Served senders.Master (messages.Master attempt Register) MasterRegistered) (registered attempt MasterRegistered t) (registers now attempt)
-      (record { next = _; joins = register_live_joins settings h t w.keeps w.marks w.sound attempt live (begun MasterRegistered) (is ∙ sym (if_open t.is_open (register_reply now attempt) _ w.keeps.is_open)) }) refl w.sound
+      (record { next = _; joins = register_live_joins settings h t w.keeps w.marks w.sound attempt live (dialogue_begun MasterRegistered) (is ∙ sym (if_open t.is_open (register_reply now attempt) _ w.keeps.is_open)) }) refl w.sound
       (agrees_after Register MasterRegistered is) w.nodes (record { apart = w.book.apart; rows = w.book.rows; left = w.book.left; launches = w.book.launches })
 
   register_by : (reply : Reply) → reply ≡ register_reply now attempt → (b : Bool) → is_live now attempt ≡ b → (c : Bool) → has_registered now attempt ≡ c → Comes Register reply
@@ -200,7 +201,7 @@ module _ (settings : Settings) (h : History) (t : Tables) (w : CoreInvariant set
 
     takes_good : NodesInvariant h.nodes (map (row_allocated told released) h.book) (t.sched ++ release_events attempt release)
     takes_good = λ q.
-        subst (λ (on : List ContainerId). NodeInvariant (node_of h.nodes q) (events_of q (t.sched ++ release_events attempt release)) on) (sym (same_on (row_allocated told released) (λ row. refl) (λ row. refl) h.book q))
+        subst (λ (on : List ContainerId). NodeInvariant (judged_node h.nodes q) (events_of q (t.sched ++ release_events attempt release)) on) (sym (same_on (row_allocated told released) (λ row. refl) (λ row. refl) h.book q))
         (posted_good h t.sched (release_events attempt release) (of_no_node attempt release) w.nodes q)
 
     takes_holds : BookInvariant life Nothing

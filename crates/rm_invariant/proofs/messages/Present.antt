@@ -12,27 +12,27 @@ use Rattle.rm_types.specs.declared.resources.Resource.{Resource}
 use Rattle.rm_tables.specs.declared.nodes.NodeChange.TheVariants as of_node
 use Rattle.rm_tables.specs.declared.nodes.NodeRow.{NodeRow}
 use Rattle.rm_tables.specs.declared.tables.Tables.{Tables}
-use Rattle.rm_tables.specs.Nodes.{beaten_row, changed_row, new_row, node_of, registered_row}
-use Rattle.rm_tracker.specs.Answers.{after_clock, after_node, is_new_beat, registered_by}
+use Rattle.rm_tables.specs.Nodes.{beaten_row, changed_row, new_node_row, node_row, registered_node_row}
+use Rattle.rm_tracker.specs.Answers.{after_clock, after_node, is_next_beat, registered_by}
 use Rattle.rm_invariant.specs.events.Here.{NoneAbsent}
 use Rattle.rm_invariant.proofs.events.Registered.{changes_registered, registered_more, registered_with}
 
 -- of a registration
-registration_present : (name : List ℕ) (turn : ℕ) (capability : Resource) (running : List Held) (reply : Reply) (t : Tables) (r : Option NodeRow) → node_of t.nodes name ≡ r → NoneAbsent t.nodes
+registration_present : (name : List ℕ) (turn : ℕ) (capability : Resource) (running : List Held) (reply : Reply) (t : Tables) (r : Option NodeRow) → node_row t.nodes name ≡ r → NoneAbsent t.nodes
     → NoneAbsent (registered_by r name turn capability running reply t).nodes
-registration_present name turn capability running reply t None found before = registered_more name (new_row turn capability running reply) t.nodes found (λ e. cc) before
+registration_present name turn capability running reply t None found before = registered_more name (new_node_row turn capability running reply) t.nodes found (λ e. cc) before
 registration_present name turn capability running reply t (Some row) found before = by (nat_lt row.turn turn) refl
   where
     by : (b : Bool) → nat_lt row.turn turn ≡ b → NoneAbsent (registered_by (Some row) name turn capability running reply t).nodes
-    by true e = rw e (registered_with (registered_row turn capability running reply) name t.nodes (λ one some e. cc) before)
+    by true e = rw e (registered_with (registered_node_row turn capability running reply) name t.nodes (λ one some e. cc) before)
     by false e = rw e before
 
 -- of a node
 pub node_present : (name : List ℕ) (ask : NodeAsk) (reply : Reply) (t : Tables) → NoneAbsent t.nodes → NoneAbsent (after_node name ask reply t).nodes
-node_present name (asks.Register turn capability running) reply t before = registration_present name turn capability running reply t (node_of t.nodes name) refl before
-node_present name (asks.Beat id running done) (TellBeat next launched clean) t before = by (is_new_beat id (node_of t.nodes name)) refl
+node_present name (asks.Register turn capability running) reply t before = registration_present name turn capability running reply t (node_row t.nodes name) refl before
+node_present name (asks.Beat id running done) (TellBeat next launched clean) t before = by (is_next_beat id (node_row t.nodes name)) refl
   where
-    by : (b : Bool) → is_new_beat id (node_of t.nodes name) ≡ b → NoneAbsent (after_node name (asks.Beat id running done) (TellBeat next launched clean) t).nodes
+    by : (b : Bool) → is_next_beat id (node_row t.nodes name) ≡ b → NoneAbsent (after_node name (asks.Beat id running done) (TellBeat next launched clean) t).nodes
     by true e = rw e (registered_with (beaten_row (id + 1) (TellBeat next launched clean)) name t.nodes (λ one some. some) before)
     by false e = rw e before
 node_present name (asks.Beat id running done) _ t before = before

@@ -14,20 +14,20 @@ use Rattle.rm_types.specs.declared.replies.Reply.TheVariants.{NodeRegistered}
 use Rattle.rm_types.specs.declared.resources.Resource.{Resource}
 use Rattle.rm_types.specs.declared.settings.Settings.{Settings}
 use Rattle.rm_types.proofs.TestLemmas.{text_itself}
-use Rattle.rm_model.specs.NodeReplies.{new_node, node_register_reply, node_reply, registered}
-use Rattle.rm_model.specs.Nodes.{node_of as node_told, tidied, with_node as with_told}
+use Rattle.rm_model.specs.NodeReplies.{new_node, node_register_reply, node_reply, node_after_registration}
+use Rattle.rm_model.specs.Nodes.{judged_node as node_told, tidied, with_judged_node as with_told}
 use Rattle.rm_model.specs.State.{LifeState, NodeState, Registered, Registration, Scene, Waiting}
 use Rattle.rm_tables.specs.declared.events.SchedEvent.{SchedEvent}
 use Rattle.rm_tables.specs.declared.events.SchedEvent.TheVariants as scheds
 use Rattle.rm_tables.specs.declared.nodes.NodeRow.{NodeRow}
 use Rattle.rm_tables.specs.declared.tables.Tables.{Tables}
-use Rattle.rm_tables.specs.Nodes.{new_row, node_of as node_in, registered_row, with_node}
+use Rattle.rm_tables.specs.Nodes.{new_node_row, node_row as node_in, registered_node_row, with_node}
 use Rattle.rm_tracker.specs.Answers.{after_node, registered_by}
 use Rattle.rm_tracker.specs.Offers.{OnlyNodesOffer}
 use Rattle.rm_refinement.specs.Agreement.{PlainNode, bare_node, plain_node}
 use Rattle.rm_refinement.proofs.Nodes.{added_same, tidied_same, with_same}
 use Rattle.rm_refinement.specs.History.{History, abstract_life, abstract_scene}
-use Rattle.rm_invariant.specs.nodes.Invariant.{NodesInvariant, RegisteredInvariant, is_idle_by, view_of}
+use Rattle.rm_invariant.specs.nodes.Invariant.{NodesInvariant, RegisteredInvariant, is_idle_by, node_view}
 use Rattle.rm_invariant.proofs.nodes.Entries.{one_other, one_own, pushed, register_good, still_tidy}
 use Rattle.rm_invariant.specs.Core.{Nothing, CoreInvariant, PreservesCore}
 use Rattle.rm_invariant.proofs.events.Leaving.{tidied_holds}
@@ -39,7 +39,7 @@ first_good : (m : Scene) (sched : List SchedEvent) (n : List ℕ) (last : Regist
     → NodesInvariant (tidied (record m.life { nodes = m.life.nodes ++ new_node n last reply ∷ [] })).nodes m.life.book (sched ++ scheds.NodeAdded n last.turn ∷ [])
 first_good m sched n last reply none good =
     let waits : is_idle_by Waiting last.turn [] (Registered last.turn) ≡ false = grind (arith, nat_tests) in
-    let first : RegisteredInvariant (view_of (new_node n last reply) (scheds.NodeAdded n last.turn ∷ []) []) =
+    let first : RegisteredInvariant (node_view (new_node n last reply) (scheds.NodeAdded n last.turn ∷ []) []) =
     record { half = []; paired = (refl, refl); gone = refl; turns = grind (arith, nat_tests); same = rw waits refl } in
     still_tidy (m.life.nodes ++ new_node n last reply ∷ []) m.life.book (sched ++ scheds.NodeAdded n last.turn ∷ [])
     (pushed m.life.nodes m.life.book sched (scheds.NodeAdded n last.turn ∷ []) n (new_node n last reply) refl none (λ q apart. one_other q (scheds.NodeAdded n last.turn) apart)
@@ -60,11 +60,11 @@ module _ (settings : Settings) (h : History) (t : Tables) (w : CoreInvariant set
       → PreservesCore settings h t (Served senders.Node (messages.Node name registers) told_turn, registered_by None name turn capability running told_turn t)
   first_whole in_tables told offer =
       let joined : LifeState = record (abstract_life h t) { nodes = h.nodes ++ new_node name last_said told_turn ∷ [] } in
-      changed_whole settings h t w (messages.Node name registers) told_turn (rw told refl) h.book (tidied joined).nodes t.book (t.nodes ++ (name, new_row turn capability running told_turn) ∷ []) (scheds.NodeAdded name turn ∷ [])
+      changed_whole settings h t w (messages.Node name registers) told_turn (rw told refl) h.book (tidied joined).nodes t.book (t.nodes ++ (name, new_node_row turn capability running told_turn) ∷ []) (scheds.NodeAdded name turn ∷ [])
       (rw told refl)
       (record { adds = λ q. refl; queueings = λ q. refl; removals = λ c. refl }) (same_held h.book) w.agrees.rows
-      (tidied_same t.book (t.nodes ++ (name, new_row turn capability running told_turn) ∷ []) h.book (h.nodes ++ new_node name last_said told_turn ∷ [])
-      (added_same t.book name (new_row turn capability running told_turn) (new_node name last_said told_turn) t.nodes h.nodes refl w.agrees.nodes in_tables told (rw (offer name in_tables) refl)))
+      (tidied_same t.book (t.nodes ++ (name, new_node_row turn capability running told_turn) ∷ []) h.book (h.nodes ++ new_node name last_said told_turn ∷ [])
+      (added_same t.book name (new_node_row turn capability running told_turn) (new_node name last_said told_turn) t.nodes h.nodes refl w.agrees.nodes in_tables told (rw (offer name in_tables) refl)))
       (first_good (abstract_scene h t) t.sched name last_said told_turn told w.nodes)
       (let holds = tidied_holds joined Nothing (joined_holds (abstract_life h t) (new_node name last_said told_turn) Nothing refl w.book) in
       record { apart = holds.apart; rows = holds.rows; left = holds.left; launches = holds.launches })
@@ -73,17 +73,17 @@ module _ (settings : Settings) (h : History) (t : Tables) (w : CoreInvariant set
   later_turn_whole : (row : NodeRow) (node : NodeState) → node_told h.nodes name ≡ Some node → nat_lt row.turn turn ≡ true → nat_lt node.last.turn turn ≡ true
       → PreservesCore settings h t (Served senders.Node (messages.Node name registers) told_turn, registered_by (Some row) name turn capability running told_turn t)
   later_turn_whole row node told later_row later =
-      let changed : LifeState = record (abstract_life h t) { nodes = with_told (registered last_said told_turn) name h.nodes } in
+      let changed : LifeState = record (abstract_life h t) { nodes = with_told (node_after_registration last_said told_turn) name h.nodes } in
       let newer : node.last.turn < turn = grind (arith, nat_tests) in
       rw later_row
-      (changed_whole settings h t w (messages.Node name registers) told_turn (rw (told, later) refl) h.book (tidied changed).nodes t.book (with_node (registered_row turn capability running told_turn) name t.nodes)
+      (changed_whole settings h t w (messages.Node name registers) told_turn (rw (told, later) refl) h.book (tidied changed).nodes t.book (with_node (registered_node_row turn capability running told_turn) name t.nodes)
       (scheds.NodeAdded name turn ∷ []) (rw (told, later) refl)
       (record { adds = λ q. refl; queueings = λ q. refl; removals = λ c. refl }) (same_held h.book) w.agrees.rows
-      (tidied_same t.book (with_node (registered_row turn capability running told_turn) name t.nodes) h.book (with_told (registered last_said told_turn) name h.nodes)
-      (with_same t.book name (registered_row turn capability running told_turn) (registered last_said told_turn) t.nodes h.nodes (λ one. refl) w.agrees.nodes
+      (tidied_same t.book (with_node (registered_node_row turn capability running told_turn) name t.nodes) h.book (with_told (node_after_registration last_said told_turn) name h.nodes)
+      (with_same t.book name (registered_node_row turn capability running told_turn) (node_after_registration last_said told_turn) t.nodes h.nodes (λ one. refl) w.agrees.nodes
       (λ r o a b alike. ap (λ (x : PlainNode). record x { last = last_said; phase = Waiting; last_id = 0; last_reply = told_turn }) alike)))
       (register_good (abstract_scene h t) t.sched name last_said told_turn (Some node) told (omega (arith, newer)) (newer_than node told newer) w.nodes)
-      (let holds = tidied_holds changed Nothing (changed_holds (abstract_life h t) (registered last_said told_turn) name Nothing (λ one. refl) (λ one. refl) (λ one l. l) w.book) in
+      (let holds = tidied_holds changed Nothing (changed_holds (abstract_life h t) (node_after_registration last_said told_turn) name Nothing (λ one. refl) (λ one. refl) (λ one l. l) w.book) in
       record { apart = holds.apart; rows = holds.rows; left = holds.left; launches = holds.launches }))
     where
       newer_than : (node : NodeState) → node_told h.nodes name ≡ Some node → node.last.turn < turn → (one : NodeState) → node_told h.nodes name ≡ Some one → one.last.turn < turn

@@ -11,8 +11,8 @@ use Rattle.rm_types.specs.declared.replies.Reply.TheVariants.{Beat as TellBeat, 
 use Rattle.rm_types.specs.declared.resources.Resource.{Resource}
 use Rattle.rm_tables.specs.declared.nodes.NodeRow.{NodeRow}
 use Rattle.rm_tables.specs.declared.tables.Tables.{Tables}
-use Rattle.rm_tables.specs.Nodes.{node_of as node_in}
-use Rattle.rm_tracker.specs.Answers.{after_clock, after_node, is_new_beat, registered_by}
+use Rattle.rm_tables.specs.Nodes.{node_row as node_in}
+use Rattle.rm_tracker.specs.Answers.{after_clock, after_node, is_next_beat, registered_by}
 
 registered_rows : (r : Option NodeRow) (name : List ℕ) (turn : ℕ) (capability : Resource) (running : List Held) (reply : Reply) (t : Tables) → (registered_by r name turn capability running reply t).rows ≡ t.rows
 registered_rows None name turn capability running reply t = refl
@@ -24,9 +24,9 @@ registered_rows (Some row) name turn capability running reply t = by (nat_lt row
 
 pub node_rows : (name : List ℕ) (ask : NodeAsk) (reply : Reply) (t : Tables) → (after_node name ask reply t).rows ≡ t.rows
 node_rows name (asks.Register turn capability running) reply t = registered_rows (node_in t.nodes name) name turn capability running reply t
-node_rows name (asks.Beat id running done) (TellBeat next launched clean) t = by (is_new_beat id (node_in t.nodes name)) refl
+node_rows name (asks.Beat id running done) (TellBeat next launched clean) t = by (is_next_beat id (node_in t.nodes name)) refl
   where
-    by : (b : Bool) → is_new_beat id (node_in t.nodes name) ≡ b → (after_node name (asks.Beat id running done) (TellBeat next launched clean) t).rows ≡ t.rows
+    by : (b : Bool) → is_next_beat id (node_in t.nodes name) ≡ b → (after_node name (asks.Beat id running done) (TellBeat next launched clean) t).rows ≡ t.rows
     by true e = rw e refl
     by false e = rw e refl
 node_rows name (asks.Beat id running done) _ t = refl

@@ -26,13 +26,13 @@ use Rattle.rm_types.specs.declared.containers.Cause.{Cause}
 use Rattle.rm_types.specs.declared.containers.Cause.TheVariants as causes
 use Rattle.rm_types.specs.declared.containers.Closing.{Closing}
 use Rattle.rm_types.specs.declared.containers.Grant.{Grant}
-use Rattle.rm_book.specs.Books.{row_of as book_row_of}
+use Rattle.rm_book.specs.Books.{book_row as book_row_of}
 use Rattle.rm_model.specs.Containers.{once}
 use Rattle.rm_tables.specs.declared.nodes.NodeRow.{NodeRow}
 use Rattle.rm_tables.specs.Absorbing.{absorbed_by, absorbed_if}
 use Rattle.rm_tables.specs.Leaving.{closed_in, closings_of, ended_by}
-use Rattle.rm_tables.specs.Nodes.{is_waiting, node_of}
-use Rattle.rm_tables.specs.Passing.{grants_on, row_granted, updated_by}
+use Rattle.rm_tables.specs.Nodes.{is_waiting_row, node_row}
+use Rattle.rm_tables.specs.Passing.{grants_on, rows_after_grant, updated_by}
 use Rattle.rm_tables.specs.SchedEvents.{is_on, is_released, queued_at, queued_by, queued_with, sched_step}
 
 -- the judge's book, where a life stands
@@ -75,7 +75,7 @@ main_shape h t done (removes id more first many) = record { rows = inl refl; sch
 
 -- rows of which none changed, or some tell more endings, or some were granted containers
 abbrev pub RowsAfter : List (AppId × Option AppRow) → List (AppId × Option AppRow) → Type 0
-RowsAfter rows next = (next ≡ rows) ⊎ (((closings : List Closing) × (next ≡ closed_in rows closings)) ⊎ ((grants : List Grant) × (next ≡ fold row_granted rows grants)))
+RowsAfter rows next = (next ≡ rows) ⊎ (((closings : List Closing) × (next ≡ closed_in rows closings)) ⊎ ((grants : List Grant) × (next ≡ fold rows_after_grant rows grants)))
 
 -- what an event of the scheduler's queue did
 pub record SchedShape (t : Tables) (done : Entry × Tables) : Type 0 where
@@ -106,7 +106,7 @@ module _ (t : Tables) where
 
   absorbed_shape : (o : Option NodeRow) (name : List ℕ) (turn : ℕ) (ended : List ContainerId) → SchedShape t (absorbed_by o name turn ended t)
   absorbed_shape None name turn ended = sched_nothing
-  absorbed_shape (Some row) name turn ended = by (is_waiting row.state && (row.turn == turn))
+  absorbed_shape (Some row) name turn ended = by (is_waiting_row row.state && (row.turn == turn))
     where
       by : (b : Bool) → SchedShape t (absorbed_if b name row ended t)
       by true = record { rows = inr (inl (closings_of t.tree.apps causes.Gone ended, refl)); tree = refl }
@@ -123,7 +123,7 @@ module _ (t : Tables) where
   sched_shape (scheds.AttemptAdded id) list = queued_shape (row_of t.rows id.app) id
   sched_shape (scheds.AttemptRemoved id) list = ended_shape causes.Attempt list
   sched_shape (scheds.Release attempt released) list = ended_shape causes.Released (once (filter (is_released attempt t) released))
-  sched_shape (scheds.NodeAdded node turn) list = absorbed_shape (node_of t.nodes node) node turn list
+  sched_shape (scheds.NodeAdded node turn) list = absorbed_shape (node_row t.nodes node) node turn list
   sched_shape (scheds.NodeDone node done) list = ended_shape causes.Done (once (filter (λ id. is_on node (book_row_of t.book id)) done))
-  sched_shape (scheds.NodeUpdate node) list = updated_shape (node_of t.nodes node) node
+  sched_shape (scheds.NodeUpdate node) list = updated_shape (node_row t.nodes node) node
   sched_shape (scheds.NodeLost node) list = ended_shape causes.Node list

@@ -18,7 +18,7 @@ use Rattle.rm_tables.specs.declared.rows.AppRow.{AppRow}
 use Rattle.rm_tables.specs.declared.rows.Current.{Current}
 use Rattle.rm_tables.specs.declared.tables.Tables.{Tables}
 use Rattle.rm_tables.specs.Rows.{row_of}
-use Rattle.rm_refinement.specs.Clients.{RowRefines, RefinesAt, is_saving, runs}
+use Rattle.rm_refinement.specs.Clients.{RowRefines, RefinesAt, is_saving_app, runs}
 use Rattle.rm_refinement.specs.Agreement.{AttemptAgrees, CurrentAgrees, PlainRow, bare_row, session_of, plain_row}
 use Rattle.rm_master.proofs.Replies.{same_some}
 use Rattle.rm_invariant.specs.apps.Invariant.{NeverKnownInvariant, RowInvariant, has_tried}
@@ -29,7 +29,7 @@ use Rattle.rm_invariant.proofs.apps.Counts.{at_front, none_under, some_passes}
 use Rattle.rm_invariant.proofs.apps.Events.{at}
 use Rattle.rm_invariant.proofs.masters.Sounding.{numbered_last}
 use Rattle.rm_invariant.specs.Core.{CoreInvariant}
-use Rattle.rm_invariant.specs.messages.Fits.{FitsCurrent, RowsFit}
+use Rattle.rm_invariant.specs.messages.Fits.{FitsCurrent, EachRowFits}
 use Rattle.rm_invariant.specs.messages.Clients.{RefinesClientParts, RetiredSame}
 use Rattle.rm_invariant.proofs.messages.Known.{is_known_here, is_new, saves, tried}
 
@@ -54,7 +54,7 @@ not_nil : (attempts : List AttemptRecord) (last : AttemptRecord) → last_attemp
 not_nil [] last e = cc
 not_nil (one ∷ more) last e = refl
 
-module _ (settings : Settings) (h : History) (t : Tables) (w : CoreInvariant settings h t) (fit : RowsFit t) (id : AppId) (row : AppRow) (found : row_of t.rows id ≡ Some row) where
+module _ (settings : Settings) (h : History) (t : Tables) (w : CoreInvariant settings h t) (fit : EachRowFits t) (id : AppId) (row : AppRow) (found : row_of t.rows id ≡ Some row) where
   abbrev recorded : List AttemptRecord
   recorded = attempts_in (record_of t.tree.apps id)
 
@@ -121,12 +121,12 @@ module _ (settings : Settings) (h : History) (t : Tables) (w : CoreInvariant set
         saving = saving (saves settings (at id) (view h t (at id)) row row.state says.1);
       }
     where
-      saving : (1 ≤ (view h t (at id)).count.apps) × (is_saving row.state ≡ true) ⊎ ((view h t (at id)).count.apps ≡ 0) × (is_saving row.state ≡ false) → awaits (abstract_scene h t) (is_app_op id) ≡ is_saving row.state
+      saving : (1 ≤ (view h t (at id)).count.apps) × (is_saving_app row.state ≡ true) ⊎ ((view h t (at id)).count.apps ≡ 0) × (is_saving_app row.state ≡ false) → awaits (abstract_scene h t) (is_app_op id) ≡ is_saving_app row.state
       saving (inl some) = some_passes (is_app_op id) t.awaiting some.0 ∙ sym some.1
       saving (inr none) = none_under (is_app_op id) (is_app_op id) (λ op e. e) t.awaiting none.0 ∙ sym none.1
 
 -- what clients are shown
-pub client_shows : (settings : Settings) (h : History) (t : Tables) → CoreInvariant settings h t → RetiredSame h t → Lists h t → RowsFit t → RefinesClientParts (abstract_scene h t) t
+pub client_shows : (settings : Settings) (h : History) (t : Tables) → CoreInvariant settings h t → RetiredSame h t → Lists h t → EachRowFits t → RefinesClientParts (abstract_scene h t) t
 client_shows settings h t w retired lists fit =
     record {
       records = refl;

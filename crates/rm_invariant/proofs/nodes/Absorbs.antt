@@ -13,14 +13,15 @@ use Rattle.rm_types.proofs.TestLemmas.{and_first}
 use Rattle.rm_types.proofs.IdLemmas.{container_itself, same_container}
 use Rattle.rm_book.specs.Books.{AreOnce}
 use Rattle.rm_book.proofs.TakenRows.{held_filter}
-use Rattle.rm_model.specs.Absorbing.{absorbed, as_booked, as_counted, as_reported, is_held, may_take, row_absorbed, row_taken, taken_of, with_counted, with_taken}
+use Rattle.rm_model.specs.Absorbing.{absorbed, as_booked, as_counted, as_reported, may_take, row_absorbed, row_taken, taken_of, with_counted, with_taken}
+use Rattle.rm_types.specs.Containers.{is_held}
 use Rattle.rm_model.specs.Attempts.{attempt_was_first}
-use Rattle.rm_model.specs.Containers.{is_living, leave, lives_on, row_of, without_launches}
+use Rattle.rm_model.specs.Containers.{is_living, leave, lives_on, judged_row, without_launches}
 use Rattle.rm_model.specs.Facts.{has_container}
-use Rattle.rm_model.specs.Nodes.{node_of, with_node}
+use Rattle.rm_model.specs.Nodes.{judged_node, with_judged_node}
 use Rattle.rm_model.specs.State.{LifeState, NodeState, Row, Scene}
 use Rattle.rm_sched.proofs.Absorbable.{once_more}
-use Rattle.rm_invariant.specs.nodes.Book.{All, AreApart, AreLaunches, BookInvariant, IsAbsorbed, BookRowInvariant}
+use Rattle.rm_invariant.specs.nodes.Book.{All, LivingRowsAreApart, AreLaunches, BookInvariant, IsAbsorbed, BookRowInvariant}
 use Rattle.rm_invariant.proofs.nodes.Entries.{KeepsPlace, taken_place}
 use Rattle.rm_invariant.proofs.nodes.Holds.{all_append, all_map, leave_holds, lives_still}
 use Rattle.rm_invariant.proofs.nodes.Moved.{name_of, node_of-map}
@@ -43,18 +44,18 @@ module _ (m : Scene) (node : NodeState) where
   Counts None = Unit {0}
   Counts (Some held) = IsOldHeld held
 
-  row_is : (book : List Row) (c : ContainerId) (row : Row) → row_of book c ≡ Some row → row.id ≡ c
+  row_is : (book : List Row) (c : ContainerId) (row : Row) → judged_row book c ≡ Some row → row.id ≡ c
   row_is [] c row e = cc
   row_is (one ∷ book) c row e = by (is_container one.id c) refl (row_is book c row)
     where
-      by : (b : Bool) → is_container one.id c ≡ b → (row_of book c ≡ Some row → row.id ≡ c) → row.id ≡ c
+      by : (b : Bool) → is_container one.id c ≡ b → (judged_row book c ≡ Some row → row.id ≡ c) → row.id ≡ c
       by true f h = let same : one ≡ row = let x = rw f at e in cc in subst (λ (r : Row). r.id ≡ c) same (same_container one.id c f)
       by false f h = h (rw f at e)
 
   booked_counts : (held : Held) → Counts (as_booked m node held)
-  booked_counts held = by (lives_on m.life.book node.name held.id) refl (row_of m.life.book held.id) refl
+  booked_counts held = by (lives_on m.life.book node.name held.id) refl (judged_row m.life.book held.id) refl
     where
-      by : (b : Bool) → lives_on m.life.book node.name held.id ≡ b → (o : Option Row) → row_of m.life.book held.id ≡ o → Counts (as_booked m node held)
+      by : (b : Bool) → lives_on m.life.book node.name held.id ≡ b → (o : Option Row) → judged_row m.life.book held.id ≡ o → Counts (as_booked m node held)
       by false e o f = rw e tt
       by true e None f = rw (e, f) tt
       by true e (Some row) f =
@@ -108,7 +109,7 @@ lives_change : (change : Row → Row) → KeepsPlace change → (rows : List Row
 lives_change change k [] name id = refl
 lives_change change k (row ∷ rows) name id = let own = k row in let more = lives_change change k rows name id in rw (own.0, own.1, more) refl
 
-apart_change : (change : Row → Row) → KeepsPlace change → (rows : List Row) → AreApart rows → AreApart (map change rows)
+apart_change : (change : Row → Row) → KeepsPlace change → (rows : List Row) → LivingRowsAreApart rows → LivingRowsAreApart (map change rows)
 apart_change change k [] apart = tt
 apart_change change k (row ∷ rows) apart =
     (living_change change k rows (change row).id ∙ ap (is_living rows) (k row).0 ∙ apart.0, apart_change change k rows apart.1)
@@ -118,7 +119,7 @@ living_entered : (name : List ℕ) (list : List Held) (id : ContainerId) → is_
 living_entered name [] id = refl
 living_entered name (held ∷ list) id = ap (λ (b : Bool). is_container held.id id || b) (living_entered name list id)
 
-apart_entered : (name : List ℕ) (list : List Held) → AreOnce list → AreApart (map (row_absorbed name) list)
+apart_entered : (name : List ℕ) (list : List Held) → AreOnce list → LivingRowsAreApart (map (row_absorbed name) list)
 apart_entered name [] once = tt
 apart_entered name (held ∷ list) once = (living_entered name list held.id ∙ once.0, apart_entered name list once.1)
 
@@ -142,7 +143,7 @@ not_entering book (held ∷ list) id lives = by (is_living book held.id) (is_con
     by false false e f rest = rw (e, f) rest
 
 -- rows behind rows of other containers
-apart_append : (rows more : List Row) → AreApart rows → AreApart more → ((id : ContainerId) → is_living rows id ≡ true → is_living more id ≡ false) → AreApart (rows ++ more)
+apart_append : (rows more : List Row) → LivingRowsAreApart rows → LivingRowsAreApart more → ((id : ContainerId) → is_living rows id ≡ true → is_living more id ≡ false) → LivingRowsAreApart (rows ++ more)
 apart_append [] more apart others none = others
 apart_append (row ∷ rows) more apart others none =
     let split : is_living (rows ++ more) row.id ≡ (is_living rows row.id || is_living more row.id) = list_any-append (λ (one : Row). is_container one.id row.id) rows more in
@@ -165,8 +166,8 @@ keeps_name name one = by (bytes_eq one.name name) refl
     by false e = rw e refl
 
 -- a node that was absorbed still is
-absorbed_more : (name : List ℕ) (nodes : List NodeState) (q : List ℕ) → IsAbsorbed nodes q → IsAbsorbed (with_node absorbed name nodes) q
-absorbed_more name nodes q h = rw (node_of-map (absorbed_at name) (keeps_name name) nodes q) (by (node_of nodes q) h)
+absorbed_more : (name : List ℕ) (nodes : List NodeState) (q : List ℕ) → IsAbsorbed nodes q → IsAbsorbed (with_judged_node absorbed name nodes) q
+absorbed_more name nodes q h = rw (node_of-map (absorbed_at name) (keeps_name name) nodes q) (by (judged_node nodes q) h)
   where
     offers : (one : NodeState) (b : Bool) → bytes_eq one.name name ≡ b → is_some one.capability ≡ true → is_some (absorbed_at name one).capability ≡ true
     offers one true e k = rw e refl
@@ -177,13 +178,13 @@ absorbed_more name nodes q h = rw (node_of-map (absorbed_at name) (keeps_name na
     by (Some one) k = offers one (bytes_eq one.name name) refl k
 
 -- and the node itself is
-absorbed_now : (name : List ℕ) (nodes : List NodeState) (node : NodeState) → node_of nodes name ≡ Some node → bytes_eq node.name name ≡ true → IsAbsorbed (with_node absorbed name nodes) name
+absorbed_now : (name : List ℕ) (nodes : List NodeState) (node : NodeState) → judged_node nodes name ≡ Some node → bytes_eq node.name name ≡ true → IsAbsorbed (with_judged_node absorbed name nodes) name
 absorbed_now name nodes node there own = rw (node_of-map (absorbed_at name) (keeps_name name) nodes name, there, own) refl
 
 -- ALL FACTS OF THE BOOK
 
 -- the report of a node is absorbed: these are taken of it, and these leave
-module _ (m : Scene) (more : ContainerId → Type 0) (name : List ℕ) (node : NodeState) (there : node_of m.life.nodes name ≡ Some node) (taken : List Held) (ended : List ContainerId)
+module _ (m : Scene) (more : ContainerId → Type 0) (name : List ℕ) (node : NodeState) (there : judged_node m.life.nodes name ≡ Some node) (taken : List Held) (ended : List ContainerId)
     (takes : taken ≡ taken_of m node) (living : All (λ id. is_living m.life.book id ≡ true) ended) (stay : All (λ held. has_container ended held.id ≡ false) taken)
     (said : All (λ held. more held.id) taken) (before : BookInvariant m.life more) where
   abbrev left : LifeState

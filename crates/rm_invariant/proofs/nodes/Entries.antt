@@ -20,14 +20,15 @@ use Rattle.rm_types.proofs.TestLemmas.{text_itself, same_text}
 use Rattle.rm_model.specs.State.{NodeState, Registration, Row, Scene, Waiting, Lost, Undone, Registered, Beat, Expired}
 use Rattle.rm_model.specs.Facts.{has_container}
 use Rattle.rm_model.specs.Containers.{ids_on, leave, lives_on, once, without_launches}
-use Rattle.rm_model.specs.Nodes.{beat_at, expiry_at, without_idle, is_waiting, node_of, with_node, tidied, tidied_node}
-use Rattle.rm_model.specs.NodeReplies.{registered, new_node, nodes_registered, row_beaten, beaten, expired, reported}
+use Rattle.rm_model.specs.Nodes.{beat_at, expiry_at, without_idle, is_waiting, judged_node, with_judged_node, tidied, tidied_node}
+use Rattle.rm_model.specs.NodeReplies.{node_after_registration, new_node, nodes_registered, row_beaten, beaten, expired, reported}
 use Rattle.rm_model.specs.Ending.{done_on, MayEnd}
 use Rattle.rm_model.specs.Passing.{passed, passes, row_granted}
-use Rattle.rm_model.specs.Absorbing.{absorbed, absorbs, book_taken, row_taken, row_absorbed, is_held}
+use Rattle.rm_model.specs.Absorbing.{absorbed, absorbs, book_taken, row_taken, row_absorbed}
+use Rattle.rm_types.specs.Containers.{is_held}
 use Rattle.rm_tables.specs.declared.events.SchedEvent.{SchedEvent}
 use Rattle.rm_tables.specs.declared.events.SchedEvent.TheVariants.{NodeAdded, NodeDone, NodeUpdate, NodeLost}
-use Rattle.rm_invariant.specs.nodes.Invariant.{is_idle_by, is_of, pending, NodeView, RegisteredInvariant, events_of, view_of, NodeInvariant, NodesInvariant}
+use Rattle.rm_invariant.specs.nodes.Invariant.{is_idle_by, is_nodes_event, pending, NodeView, RegisteredInvariant, events_of, node_view, NodeInvariant, NodesInvariant}
 use Rattle.rm_invariant.proofs.nodes.Views.{added_quiet, added_front, added_keeps, done_front, done_keeps, update_front, update_keeps, lost_quiet, lost_front, lost_keeps, register_keeps, beat_events, beat_keeps, expire_keeps}
 use Rattle.rm_invariant.proofs.nodes.Ascending.{none_after_permuted}
 use Rattle.rm_invariant.proofs.nodes.Lists.{none_left, lives_is}
@@ -36,36 +37,36 @@ use Rattle.rm_refinement.proofs.Found.{apart_names}
 
 -- THE QUEUE
 
-popped_other : (q : List ℕ) (event : SchedEvent) (more sched : List SchedEvent) → sched ≡ event ∷ more → is_of q event ≡ false → events_of q more ≡ events_of q sched
+popped_other : (q : List ℕ) (event : SchedEvent) (more sched : List SchedEvent) → sched ≡ event ∷ more → is_nodes_event q event ≡ false → events_of q more ≡ events_of q sched
 popped_other q event more sched e apart = rw (e, apart) refl
 
-popped_own : (n : List ℕ) (event : SchedEvent) (more sched : List SchedEvent) → sched ≡ event ∷ more → is_of n event ≡ true → events_of n sched ≡ event ∷ events_of n more
+popped_own : (n : List ℕ) (event : SchedEvent) (more sched : List SchedEvent) → sched ≡ event ∷ more → is_nodes_event n event ≡ true → events_of n sched ≡ event ∷ events_of n more
 popped_own n event more sched e own = rw (e, own) refl
 
 posted_other : (q : List ℕ) (sched events : List SchedEvent) → events_of q events ≡ [] → events_of q (sched ++ events) ≡ events_of q sched
-posted_other q sched events none = filter-append (is_of q) sched events ∙ ap (λ (l : List SchedEvent). events_of q sched ++ l) none ∙ append-nil (events_of q sched)
+posted_other q sched events none = filter-append (is_nodes_event q) sched events ∙ ap (λ (l : List SchedEvent). events_of q sched ++ l) none ∙ append-nil (events_of q sched)
 
 posted_own : (n : List ℕ) (sched events : List SchedEvent) → events_of n events ≡ events → events_of n (sched ++ events) ≡ events_of n sched ++ events
-posted_own n sched events all = filter-append (is_of n) sched events ∙ ap (λ (l : List SchedEvent). events_of n sched ++ l) all
+posted_own n sched events all = filter-append (is_nodes_event n) sched events ∙ ap (λ (l : List SchedEvent). events_of n sched ++ l) all
 
-known_by : (nodes : List NodeState) (book : List Row) (sched : List SchedEvent) (n : List ℕ) (event : SchedEvent) (more : List SchedEvent) → sched ≡ event ∷ more → is_of n event ≡ true
-    → NodesInvariant nodes book sched → node_of nodes n ≡ None → ⊥
+known_by : (nodes : List NodeState) (book : List Row) (sched : List SchedEvent) (n : List ℕ) (event : SchedEvent) (more : List SchedEvent) → sched ≡ event ∷ more → is_nodes_event n event ≡ true
+    → NodesInvariant nodes book sched → judged_node nodes n ≡ None → ⊥
 known_by nodes book sched n event more e own good none =
     let g : NodeInvariant None (events_of n sched) (ids_on book n) = rw none at (good n) in
     let f : event ∷ events_of n more ≡ [] = sym (popped_own n event more sched e own) ∙ g.0 in cc
 
-found_by : (nodes : List NodeState) (book : List Row) (sched : List SchedEvent) (n : List ℕ) (event : SchedEvent) (more : List SchedEvent) → sched ≡ event ∷ more → is_of n event ≡ true
-    → NodesInvariant nodes book sched → (o : Option NodeState) → node_of nodes n ≡ o → (node : NodeState) × (node_of nodes n ≡ Some node)
+found_by : (nodes : List NodeState) (book : List Row) (sched : List SchedEvent) (n : List ℕ) (event : SchedEvent) (more : List SchedEvent) → sched ≡ event ∷ more → is_nodes_event n event ≡ true
+    → NodesInvariant nodes book sched → (o : Option NodeState) → judged_node nodes n ≡ o → (node : NodeState) × (judged_node nodes n ≡ Some node)
 found_by nodes book sched n event more e own good None f = absurd (known_by nodes book sched n event more e own good f)
 found_by nodes book sched n event more e own good (Some node) f = (node, f)
 
 -- the node that the queue's front is of
-pub known_node : (nodes : List NodeState) (book : List Row) (sched : List SchedEvent) (n : List ℕ) (event : SchedEvent) (more : List SchedEvent) → sched ≡ event ∷ more → is_of n event ≡ true
-    → NodesInvariant nodes book sched → (node : NodeState) × (node_of nodes n ≡ Some node)
-known_node nodes book sched n event more e own good = found_by nodes book sched n event more e own good (node_of nodes n) refl
+pub known_node : (nodes : List NodeState) (book : List Row) (sched : List SchedEvent) (n : List ℕ) (event : SchedEvent) (more : List SchedEvent) → sched ≡ event ∷ more → is_nodes_event n event ≡ true
+    → NodesInvariant nodes book sched → (node : NodeState) × (judged_node nodes n ≡ Some node)
+known_node nodes book sched n event more e own good = found_by nodes book sched n event more e own good (judged_node nodes n) refl
 
-at_node : (nodes : List NodeState) (book : List Row) (sched : List SchedEvent) (n : List ℕ) (node : NodeState) → NodesInvariant nodes book sched → node_of nodes n ≡ Some node
-    → RegisteredInvariant (view_of node (events_of n sched) (ids_on book n))
+at_node : (nodes : List NodeState) (book : List Row) (sched : List SchedEvent) (n : List ℕ) (node : NodeState) → NodesInvariant nodes book sched → judged_node nodes n ≡ Some node
+    → RegisteredInvariant (node_view node (events_of n sched) (ids_on book n))
 at_node nodes book sched n node good there = rw there at (good n)
 
 -- THE BOOK
@@ -123,10 +124,10 @@ filter-nil p xs e = rw e refl
 
 -- CONTAINERS LEAVE, for whatever cause: what happens at a node where none of its events goes
 
-left_at : (m : Scene) (cause : Cause) (list : List ContainerId) (q : List ℕ) (node : NodeState) (events : List SchedEvent) → node.name ≡ q → RegisteredInvariant (view_of node events (ids_on m.life.book q))
-    → RegisteredInvariant (view_of (tidied_node (without list m.life.book) (without_launches list node)) events (ids_on (without list m.life.book) q))
+left_at : (m : Scene) (cause : Cause) (list : List ContainerId) (q : List ℕ) (node : NodeState) (events : List SchedEvent) → node.name ≡ q → RegisteredInvariant (node_view node events (ids_on m.life.book q))
+    → RegisteredInvariant (node_view (tidied_node (without list m.life.book) (without_launches list node)) events (ids_on (without list m.life.book) q))
 left_at m cause list q node events is a =
-    let b : RegisteredInvariant (view_of node events (ids_on m.life.book node.name)) = rw is a in
+    let b : RegisteredInvariant (node_view node events (ids_on m.life.book node.name)) = rw is a in
     rw (← is)
     (tidy (without_launches list node) events (ids_on m.life.book node.name) (without list m.life.book) (stays_without list) (ids_on-without node.name list m.life.book) b)
 
@@ -159,7 +160,7 @@ done_lawful m sched n done more e some left good =
     let k = known_node m.life.nodes m.life.book sched n (NodeDone n done) more e (text_itself n) good in
     let is : k.0.name ≡ n = same_text k.0.name n (name_of m.life.nodes n k.0 k.1) in
     let front = popped_own n (NodeDone n done) more sched e (text_itself n) in
-    let f = done_front (view_of k.0 (events_of n sched) (ids_on m.life.book n)) n done (events_of n more) front some (at_node m.life.nodes m.life.book sched n k.0 good k.1) in
+    let f = done_front (node_view k.0 (events_of n sched) (ids_on m.life.book n)) n done (events_of n more) front some (at_node m.life.nodes m.life.book sched n k.0 good k.1) in
     let listed : done_on m k.0 ≡ done_list m n done = rw (beat_front k.0 done f.0 f.1, is) refl in
     let there : Contains (map (done_on m) m.life.nodes) (done_on m k.0) = mapped_among (done_on m) m.life.nodes n k.0 k.1 in
     record { some = left; ends = rw listed at there }
@@ -179,7 +180,7 @@ done_good m sched n done more e good =
           let listed : done_list m n done ≡ once (filter (has_container (ids_on m.life.book n)) done) = ap once (lives_filter m n done) in
           let none : list_any (has_container (filter (stays_without (done_list m n done)) (ids_on m.life.book n))) done ≡ false = rw listed (none_left (ids_on m.life.book n) done) in
           rw (idle_is (without (done_list m n done) m.life.book) (without_launches (done_list m n done) node), is, left)
-          (done_keeps (view_of node (events_of n sched) (ids_on m.life.book n)) n done (events_of n more) (stays_without (done_list m n done)) front none a);
+          (done_keeps (node_view node (events_of n sched) (ids_on m.life.book n)) n done (events_of n more) (stays_without (done_list m n done)) front none a);
       other = λ q node is apart a. rw (popped_other q (NodeDone n done) more sched e apart) (left_at m Done (done_list m n done) q node (events_of q sched) is a);
       none = λ q apart g. (popped_other q (NodeDone n done) more sched e apart ∙ g.0, left_none m (done_list m n done) q g.1);
     }) good)
@@ -194,7 +195,7 @@ lost_lawful m sched n ids more e some left a good =
     let k = known_node m.life.nodes m.life.book sched n (NodeLost n) more e (text_itself n) good in
     let is : k.0.name ≡ n = same_text k.0.name n (name_of m.life.nodes n k.0 k.1) in
     let front = popped_own n (NodeLost n) more sched e (text_itself n) in
-    let f = lost_front (view_of k.0 (events_of n sched) (ids_on m.life.book n)) n (events_of n more) front some (at_node m.life.nodes m.life.book sched n k.0 good k.1) in
+    let f = lost_front (node_view k.0 (events_of n sched) (ids_on m.life.book n)) n (events_of n more) front some (at_node m.life.nodes m.life.book sched n k.0 good k.1) in
     let there = found_among m.life.nodes n k.0 k.1 in
     let all : Ascend (ids_on m.life.book k.0.name) ids = rw is a in
     record { some = left; ends = (k.0, there, expiry_front k.0 (pending (events_of n more) []) f, all) }
@@ -212,7 +213,7 @@ lost_good m sched n ids more e some all good =
           let none : ids_on (without ids m.life.book) n ≡ [] = ids_on-without n ids m.life.book ∙ none_after_permuted (ids_on m.life.book n) ids all.same in
           let nil : is_nil (ids_on (without ids m.life.book) n) ≡ true = rw none refl in
           rw (idle_is (without ids m.life.book) (without_launches ids node), is)
-          (lost_keeps (view_of node (events_of n sched) (ids_on m.life.book n)) n (events_of n more) (ids_on (without ids m.life.book) n) front some nil a);
+          (lost_keeps (node_view node (events_of n sched) (ids_on m.life.book n)) n (events_of n more) (ids_on (without ids m.life.book) n) front some nil a);
       other = λ q node is apart a. rw (popped_other q (NodeLost n) more sched e apart) (left_at m NodeGone ids q node (events_of q sched) is a);
       none = λ q apart g. (popped_other q (NodeLost n) more sched e apart ∙ g.0, left_none m ids q g.1);
     }) good)
@@ -229,7 +230,7 @@ none_filter on (id ∷ ids) h = by_test (has_container on id) refl (λ g. none_f
 -- the two conditions of a pass that the queue gives: a beat is at the front, and none of its done list lives on the node
 pub record AtBeat (m : Scene) (n : List ℕ) : Type 0 where
   pub node : NodeState
-  pub there : node_of m.life.nodes n ≡ Some node
+  pub there : judged_node m.life.nodes n ≡ Some node
   pub beat : is_some (beat_at node.undone) ≡ true
   pub none_done : done_on m node ≡ []
 
@@ -238,7 +239,7 @@ pass_lawful m sched n more e good =
     let k = known_node m.life.nodes m.life.book sched n (NodeUpdate n) more e (text_itself n) good in
     let is : k.0.name ≡ n = same_text k.0.name n (name_of m.life.nodes n k.0 k.1) in
     let front = popped_own n (NodeUpdate n) more sched e (text_itself n) in
-    let f = update_front (view_of k.0 (events_of n sched) (ids_on m.life.book n)) n (events_of n more) front (at_node m.life.nodes m.life.book sched n k.0 good k.1) in
+    let f = update_front (node_view k.0 (events_of n sched) (ids_on m.life.book n)) n (events_of n more) front (at_node m.life.nodes m.life.book sched n k.0 good k.1) in
     let beat = beat_front k.0 f.0 (pending (events_of n more) []) f.1 in
     record {
       node = k.0;
@@ -284,7 +285,7 @@ pass_good m sched n grants more e on good =
       own = λ node there is a.
           let front = popped_own n (NodeUpdate n) more sched e (text_itself n) in
           rw (at_own n passed node is, idle_is (m.life.book ++ map row_granted grants) (passed node), is)
-          (update_keeps (view_of node (events_of n sched) (ids_on m.life.book n)) n (events_of n more) (ids_on (m.life.book ++ map row_granted grants) n) front a);
+          (update_keeps (node_view node (events_of n sched) (ids_on m.life.book n)) n (events_of n more) (ids_on (m.life.book ++ map row_granted grants) n) front a);
       other = λ q node is apart a.
           let same : ids_on (m.life.book ++ map row_granted grants) q ≡ ids_on m.life.book q = entered_other q m.life.book (map row_granted grants) (none_granted n q grants on apart) in
           rw (at_other n q passed node is apart, popped_other q (NodeUpdate n) more sched e apart, ← is)
@@ -316,16 +317,16 @@ waits_by true true h = (refl, refl)
 waits_by true false h = absurd (false≢true (sym h))
 waits_by false b h = absurd (false≢true (sym h))
 
-pub absorbed_lawful : (m : Scene) (sched : List SchedEvent) (n : List ℕ) (turn : ℕ) (more : List SchedEvent) (node : NodeState) → sched ≡ NodeAdded n turn ∷ more → node_of m.life.nodes n ≡ Some node
+pub absorbed_lawful : (m : Scene) (sched : List SchedEvent) (n : List ℕ) (turn : ℕ) (more : List SchedEvent) (node : NodeState) → sched ≡ NodeAdded n turn ∷ more → judged_node m.life.nodes n ≡ Some node
     → (not (turn == node.last.turn) || not (is_waiting node.phase)) ≡ false → NodesInvariant m.life.nodes m.life.book sched → slice_get node.undone 0 ≡ Some (Registered node.last.turn)
 absorbed_lawful m sched n turn more node e there it good =
     let front = popped_own n (NodeAdded n turn) more sched e (text_itself n) in
-    let f = added_front (view_of node (events_of n sched) (ids_on m.life.book n)) n turn (events_of n more) front it (at_node m.life.nodes m.life.book sched n node good there) in
+    let f = added_front (node_view node (events_of n sched) (ids_on m.life.book n)) n turn (events_of n more) front it (at_node m.life.nodes m.life.book sched n node good there) in
     let same : turn ≡ node.last.turn = let w = (waits_by (turn == node.last.turn) (is_waiting node.phase) it).0 in grind (arith, nat_tests) in
     rw (f, same) refl
 
 pub absorbed_good : (m : Scene) (sched : List SchedEvent) (n : List ℕ) (turn : ℕ) (more : List SchedEvent) (node : NodeState) (taken : List Held) (ended : List ContainerId) → sched ≡ NodeAdded n turn ∷ more
-    → node_of m.life.nodes n ≡ Some node → (not (turn == node.last.turn) || not (is_waiting node.phase)) ≡ false → NodesInvariant m.life.nodes m.life.book sched
+    → judged_node m.life.nodes n ≡ Some node → (not (turn == node.last.turn) || not (is_waiting node.phase)) ≡ false → NodesInvariant m.life.nodes m.life.book sched
     → NodesInvariant (absorbs m n taken ended).nodes (absorbs m n taken ended).book more
 absorbed_good m sched n turn more node taken ended e there it good =
     rw (map-map (λ one. if bytes_eq one.name n then absorbed one else one) (without_launches ended) m.life.nodes)
@@ -339,7 +340,7 @@ absorbed_good m sched n turn more node taken ended e there it good =
           let waits : (not (turn == one.last.turn) || not (is_waiting one.phase)) ≡ false = rw same it in
           let front = popped_own n (NodeAdded n turn) more sched e (text_itself n) in
           rw (at_own n absorbed (without_launches ended one) is, idle_is (book_absorbed m n taken ended) (absorbed (without_launches ended one)), is)
-          (added_keeps (view_of one (events_of n sched) (ids_on m.life.book n)) n turn (events_of n more) (ids_on (book_absorbed m n taken ended) n) front waits a);
+          (added_keeps (node_view one (events_of n sched) (ids_on m.life.book n)) n turn (events_of n more) (ids_on (book_absorbed m n taken ended) n) front waits a);
       other = λ q one is apart a.
           rw (at_other n q absorbed (without_launches ended one) is apart, popped_other q (NodeAdded n turn) more sched e apart, ← is)
           (tidy (without_launches ended one) (events_of one.name sched) (ids_on m.life.book one.name) (book_absorbed m n taken ended) (stays_without ended)
@@ -350,37 +351,37 @@ absorbed_good m sched n turn more node taken ended e there it good =
 
 -- QUIET EVENTS: the front goes, and nothing changes
 pub quiet_good : (nodes : List NodeState) (book : List Row) (sched : List SchedEvent) (n : List ℕ) (event : SchedEvent) (more : List SchedEvent) → sched ≡ event ∷ more
-    → ((q : List ℕ) → bytes_eq n q ≡ false → is_of q event ≡ false) → is_of n event ≡ true → (node : NodeState) → node_of nodes n ≡ Some node
-    → (RegisteredInvariant (view_of node (event ∷ events_of n more) (ids_on book n)) → RegisteredInvariant (view_of node (events_of n more) (ids_on book n)))
+    → ((q : List ℕ) → bytes_eq n q ≡ false → is_nodes_event q event ≡ false) → is_nodes_event n event ≡ true → (node : NodeState) → judged_node nodes n ≡ Some node
+    → (RegisteredInvariant (node_view node (event ∷ events_of n more) (ids_on book n)) → RegisteredInvariant (node_view node (events_of n more) (ids_on book n)))
     → NodesInvariant nodes book sched → NodesInvariant nodes book more
 quiet_good nodes book sched n event more e apart own node there quiet good = λ q. by_name q (bytes_eq n q) refl
   where
-    by_name : (q : List ℕ) (b : Bool) → bytes_eq n q ≡ b → NodeInvariant (node_of nodes q) (events_of q more) (ids_on book q)
+    by_name : (q : List ℕ) (b : Bool) → bytes_eq n q ≡ b → NodeInvariant (judged_node nodes q) (events_of q more) (ids_on book q)
     by_name q true t =
         let a = at_node nodes book sched n node good there in
-        let b : RegisteredInvariant (view_of node (event ∷ events_of n more) (ids_on book n)) = rw (popped_own n event more sched e own) at a in
-        subst (λ (x : List ℕ). NodeInvariant (node_of nodes x) (events_of x more) (ids_on book x)) (same_text n q t) (rw there (quiet b))
+        let b : RegisteredInvariant (node_view node (event ∷ events_of n more) (ids_on book n)) = rw (popped_own n event more sched e own) at a in
+        subst (λ (x : List ℕ). NodeInvariant (judged_node nodes x) (events_of x more) (ids_on book x)) (same_text n q t) (rw there (quiet b))
     by_name q false t = rw (popped_other q event more sched e (apart q t)) (good q)
 
-pub added_quiet_good : (nodes : List NodeState) (book : List Row) (sched : List SchedEvent) (n : List ℕ) (turn : ℕ) (more : List SchedEvent) (node : NodeState) → sched ≡ NodeAdded n turn ∷ more → node_of nodes n ≡ Some node
+pub added_quiet_good : (nodes : List NodeState) (book : List Row) (sched : List SchedEvent) (n : List ℕ) (turn : ℕ) (more : List SchedEvent) (node : NodeState) → sched ≡ NodeAdded n turn ∷ more → judged_node nodes n ≡ Some node
     → (not (turn == node.last.turn) || not (is_waiting node.phase)) ≡ true → NodesInvariant nodes book sched → NodesInvariant nodes book more
 added_quiet_good nodes book sched n turn more node e there it good =
     quiet_good nodes book sched n (NodeAdded n turn) more e (λ q apart. apart) (text_itself n) node there
-    (added_quiet (view_of node (NodeAdded n turn ∷ events_of n more) (ids_on book n)) n turn (events_of n more) refl it) good
+    (added_quiet (node_view node (NodeAdded n turn ∷ events_of n more) (ids_on book n)) n turn (events_of n more) refl it) good
 
-pub lost_quiet_good : (nodes : List NodeState) (book : List Row) (sched : List SchedEvent) (n : List ℕ) (more : List SchedEvent) (node : NodeState) → sched ≡ NodeLost n ∷ more → node_of nodes n ≡ Some node
+pub lost_quiet_good : (nodes : List NodeState) (book : List Row) (sched : List SchedEvent) (n : List ℕ) (more : List SchedEvent) (node : NodeState) → sched ≡ NodeLost n ∷ more → judged_node nodes n ≡ Some node
     → is_nil (ids_on book n) ≡ true → NodesInvariant nodes book sched → NodesInvariant nodes book more
 lost_quiet_good nodes book sched n more node e there none good =
     quiet_good nodes book sched n (NodeLost n) more e (λ q apart. apart) (text_itself n) node there
-    (lost_quiet (view_of node (NodeLost n ∷ events_of n more) (ids_on book n)) n (events_of n more) refl none) good
+    (lost_quiet (node_view node (NodeLost n ∷ events_of n more) (ids_on book n)) n (events_of n more) refl none) good
 
 -- A MESSAGE: events are posted at the end, and its node changes
 
 pub posted : (nodes : List NodeState) (book : List Row) (sched : List SchedEvent) (n : List ℕ) (change : NodeState → NodeState) (book_after : List Row) (events : List SchedEvent) → KeepsName change
     → ((q : List ℕ) → ids_on book_after q ≡ ids_on book q) → ((q : List ℕ) → bytes_eq n q ≡ false → events_of q events ≡ []) → events_of n events ≡ events
-    → (node : NodeState) → node_of nodes n ≡ Some node
-    → (RegisteredInvariant (view_of node (events_of n sched) (ids_on book n)) → RegisteredInvariant (view_of (change node) (events_of n sched ++ events) (ids_on book n)))
-    → NodesInvariant nodes book sched → NodesInvariant (with_node change n nodes) book_after (sched ++ events)
+    → (node : NodeState) → judged_node nodes n ≡ Some node
+    → (RegisteredInvariant (node_view node (events_of n sched) (ids_on book n)) → RegisteredInvariant (node_view (change node) (events_of n sched ++ events) (ids_on book n)))
+    → NodesInvariant nodes book sched → NodesInvariant (with_judged_node change n nodes) book_after (sched ++ events)
 posted nodes book sched n change book_after events named rows apart all node there own good =
     moved nodes book sched n (λ one. if bytes_eq one.name n then change one else one) book_after (sched ++ events)
     (record {
@@ -388,16 +389,16 @@ posted nodes book sched n change book_after events named rows apart all node the
       known = λ none. let f : None ≡ Some node = sym none ∙ there in cc;
       own = λ one f is a.
           let same : one ≡ node = let g : Some one ≡ Some node = sym f ∙ there in cc in
-          let b : RegisteredInvariant (view_of node (events_of n sched) (ids_on book n)) = rw same at a in
+          let b : RegisteredInvariant (node_view node (events_of n sched) (ids_on book n)) = rw same at a in
           rw (at_own n change one is, same, posted_own n sched events all, rows n) (own b);
       other = λ q one is other a. rw (at_other n q change one is other, posted_other q sched events (apart q other), rows q) a;
       none = λ q other g. (posted_other q sched events (apart q other) ∙ g.0, rows q ∙ g.1);
     }) good
 
-pub one_other : (q : List ℕ) (event : SchedEvent) → is_of q event ≡ false → events_of q (event ∷ []) ≡ []
+pub one_other : (q : List ℕ) (event : SchedEvent) → is_nodes_event q event ≡ false → events_of q (event ∷ []) ≡ []
 one_other q event e = rw e refl
 
-pub one_own : (n : List ℕ) (event : SchedEvent) → is_of n event ≡ true → events_of n (event ∷ []) ≡ event ∷ []
+pub one_own : (n : List ℕ) (event : SchedEvent) → is_nodes_event n event ≡ true → events_of n (event ∷ []) ≡ event ∷ []
 one_own n event e = rw e refl
 
 beat_other : (n q : List ℕ) (done : List ContainerId) → bytes_eq n q ≡ false → events_of q (beat_events n done) ≡ []
@@ -412,20 +413,20 @@ beaten_place : (n : List ℕ) (running launched : List ContainerId) → KeepsPla
 beaten_place n running launched row = grind arith
 
 -- a beat
-pub beat_good : (m : Scene) (sched : List SchedEvent) (n : List ℕ) (running : List Held) (done launched : List ContainerId) (reply : Reply) (node : NodeState) → node_of m.life.nodes n ≡ Some node
+pub beat_good : (m : Scene) (sched : List SchedEvent) (n : List ℕ) (running : List Held) (done launched : List ContainerId) (reply : Reply) (node : NodeState) → judged_node m.life.nodes n ≡ Some node
     → NodesInvariant m.life.nodes m.life.book sched
-    → NodesInvariant (with_node (beaten launched done reply) n m.life.nodes) (map (row_beaten n (reported running) launched) m.life.book) (sched ++ beat_events n done)
+    → NodesInvariant (with_judged_node (beaten launched done reply) n m.life.nodes) (map (row_beaten n (reported running) launched) m.life.book) (sched ++ beat_events n done)
 beat_good m sched n running done launched reply node there good =
     posted m.life.nodes m.life.book sched n (beaten launched done reply) (map (row_beaten n (reported running) launched) m.life.book) (beat_events n done) (λ one. refl)
     (λ q. ids_on-change q (row_beaten n (reported running) launched) (beaten_place n (reported running) launched) m.life.book)
     (λ q apart. beat_other n q done apart) (beat_own n done) node there
-    (λ a. beat_keeps (view_of node (events_of n sched) (ids_on m.life.book n)) n done a) good
+    (λ a. beat_keeps (node_view node (events_of n sched) (ids_on m.life.book n)) n done a) good
 
 -- a message after which what has nothing left to do falls away
 pub posted_tidied : (nodes : List NodeState) (book : List Row) (sched : List SchedEvent) (n : List ℕ) (change : NodeState → NodeState) (events : List SchedEvent) → KeepsName change
-    → ((q : List ℕ) → bytes_eq n q ≡ false → events_of q events ≡ []) → events_of n events ≡ events → (node : NodeState) → node_of nodes n ≡ Some node
-    → (RegisteredInvariant (view_of node (events_of n sched) (ids_on book n)) → RegisteredInvariant (view_of (tidied_node book (change node)) (events_of n sched ++ events) (ids_on book n)))
-    → NodesInvariant nodes book sched → NodesInvariant (map (tidied_node book) (with_node change n nodes)) book (sched ++ events)
+    → ((q : List ℕ) → bytes_eq n q ≡ false → events_of q events ≡ []) → events_of n events ≡ events → (node : NodeState) → judged_node nodes n ≡ Some node
+    → (RegisteredInvariant (node_view node (events_of n sched) (ids_on book n)) → RegisteredInvariant (node_view (tidied_node book (change node)) (events_of n sched ++ events) (ids_on book n)))
+    → NodesInvariant nodes book sched → NodesInvariant (map (tidied_node book) (with_judged_node change n nodes)) book (sched ++ events)
 posted_tidied nodes book sched n change events named apart all node there own good =
     rw (map-map (tidied_node book) (λ one. if bytes_eq one.name n then change one else one) nodes)
     (moved nodes book sched n (λ one. tidied_node book (if bytes_eq one.name n then change one else one)) book (sched ++ events)
@@ -434,7 +435,7 @@ posted_tidied nodes book sched n change events named apart all node there own go
       known = λ none. let f : None ≡ Some node = sym none ∙ there in cc;
       own = λ one f is a.
           let same : one ≡ node = let g : Some one ≡ Some node = sym f ∙ there in cc in
-          let b : RegisteredInvariant (view_of node (events_of n sched) (ids_on book n)) = rw same at a in
+          let b : RegisteredInvariant (node_view node (events_of n sched) (ids_on book n)) = rw same at a in
           rw (at_own n change one is, same, posted_own n sched events all) (own b);
       other = λ q one is other a.
           rw (at_other n q change one is other, posted_other q sched events (apart q other), ← is)
@@ -443,40 +444,40 @@ posted_tidied nodes book sched n change events named apart all node there own go
     }) good)
 
 -- an expiry
-pub expire_good : (m : Scene) (sched : List SchedEvent) (n : List ℕ) (node : NodeState) → node_of m.life.nodes n ≡ Some node → NodesInvariant m.life.nodes m.life.book sched
-    → NodesInvariant (tidied (record m.life { nodes = with_node expired n m.life.nodes })).nodes m.life.book (sched ++ NodeLost n ∷ [])
+pub expire_good : (m : Scene) (sched : List SchedEvent) (n : List ℕ) (node : NodeState) → judged_node m.life.nodes n ≡ Some node → NodesInvariant m.life.nodes m.life.book sched
+    → NodesInvariant (tidied (record m.life { nodes = with_judged_node expired n m.life.nodes })).nodes m.life.book (sched ++ NodeLost n ∷ [])
 expire_good m sched n node there good =
     let is : node.name ≡ n = same_text node.name n (name_of m.life.nodes n node there) in
     posted_tidied m.life.nodes m.life.book sched n expired (NodeLost n ∷ []) (λ one. refl) (λ q apart. one_other q (NodeLost n) apart) (one_own n (NodeLost n) (text_itself n)) node there
-    (λ a. rw (idle_is m.life.book (expired node), is) (expire_keeps (view_of node (events_of n sched) (ids_on m.life.book n)) n a)) good
+    (λ a. rw (idle_is m.life.book (expired node), is) (expire_keeps (node_view node (events_of n sched) (ids_on m.life.book n)) n a)) good
 
 -- a later registration
-again_good : (m : Scene) (sched : List SchedEvent) (n : List ℕ) (last : Registration) (reply : Reply) (node : NodeState) → node_of m.life.nodes n ≡ Some node → node.last.turn < last.turn
+again_good : (m : Scene) (sched : List SchedEvent) (n : List ℕ) (last : Registration) (reply : Reply) (node : NodeState) → judged_node m.life.nodes n ≡ Some node → node.last.turn < last.turn
     → NodesInvariant m.life.nodes m.life.book sched
-    → NodesInvariant (tidied (record m.life { nodes = with_node (registered last reply) n m.life.nodes })).nodes m.life.book (sched ++ NodeAdded n last.turn ∷ [])
+    → NodesInvariant (tidied (record m.life { nodes = with_judged_node (node_after_registration last reply) n m.life.nodes })).nodes m.life.book (sched ++ NodeAdded n last.turn ∷ [])
 again_good m sched n last reply node there lt good =
     let is : node.name ≡ n = same_text node.name n (name_of m.life.nodes n node there) in
-    posted_tidied m.life.nodes m.life.book sched n (registered last reply) (NodeAdded n last.turn ∷ []) (λ one. refl) (λ q apart. one_other q (NodeAdded n last.turn) apart)
+    posted_tidied m.life.nodes m.life.book sched n (node_after_registration last reply) (NodeAdded n last.turn ∷ []) (λ one. refl) (λ q apart. one_other q (NodeAdded n last.turn) apart)
     (one_own n (NodeAdded n last.turn) (text_itself n)) node there
-    (λ a. rw (idle_is m.life.book (registered last reply node), is) (register_keeps (view_of node (events_of n sched) (ids_on m.life.book n)) n last.turn lt a)) good
+    (λ a. rw (idle_is m.life.book (node_after_registration last reply node), is) (register_keeps (node_view node (events_of n sched) (ids_on m.life.book n)) n last.turn lt a)) good
 
 -- a first one
 push_more : (nodes : List NodeState) (one node : NodeState) (q : List ℕ) (b : Bool) → bytes_eq one.name q ≡ b
-    → ((found : NodeState) → node_of nodes q ≡ Some found → node_of (nodes ++ node ∷ []) q ≡ Some found)
-    → (found : NodeState) → node_of (one ∷ nodes) q ≡ Some found → node_of (one ∷ (nodes ++ node ∷ [])) q ≡ Some found
+    → ((found : NodeState) → judged_node nodes q ≡ Some found → judged_node (nodes ++ node ∷ []) q ≡ Some found)
+    → (found : NodeState) → judged_node (one ∷ nodes) q ≡ Some found → judged_node (one ∷ (nodes ++ node ∷ [])) q ≡ Some found
 push_more nodes one node q true e rest found f = rw e (rw e at f)
 push_more nodes one node q false e rest found f = rw e (rest found (rw e at f))
 
-push_found : (nodes : List NodeState) (node : NodeState) (q : List ℕ) (found : NodeState) → node_of nodes q ≡ Some found → node_of (nodes ++ node ∷ []) q ≡ Some found
+push_found : (nodes : List NodeState) (node : NodeState) (q : List ℕ) (found : NodeState) → judged_node nodes q ≡ Some found → judged_node (nodes ++ node ∷ []) q ≡ Some found
 push_found [] node q found f = cc
 push_found (one ∷ nodes) node q found f = push_more nodes one node q (bytes_eq one.name q) refl (push_found nodes node q) found f
 
-none_more : (nodes : List NodeState) (one node : NodeState) (q : List ℕ) (b : Bool) → bytes_eq one.name q ≡ b → node_of (one ∷ nodes) q ≡ None
-    → (node_of nodes q ≡ None → node_of (nodes ++ node ∷ []) q ≡ node_of (node ∷ []) q) → node_of (one ∷ (nodes ++ node ∷ [])) q ≡ node_of (node ∷ []) q
+none_more : (nodes : List NodeState) (one node : NodeState) (q : List ℕ) (b : Bool) → bytes_eq one.name q ≡ b → judged_node (one ∷ nodes) q ≡ None
+    → (judged_node nodes q ≡ None → judged_node (nodes ++ node ∷ []) q ≡ judged_node (node ∷ []) q) → judged_node (one ∷ (nodes ++ node ∷ [])) q ≡ judged_node (node ∷ []) q
 none_more nodes one node q true e f rest = let g : Some one ≡ None = rw e at f in cc
 none_more nodes one node q false e f rest = rw e (rest (rw e at f))
 
-push_none : (nodes : List NodeState) (node : NodeState) (q : List ℕ) → node_of nodes q ≡ None → node_of (nodes ++ node ∷ []) q ≡ node_of (node ∷ []) q
+push_none : (nodes : List NodeState) (node : NodeState) (q : List ℕ) → judged_node nodes q ≡ None → judged_node (nodes ++ node ∷ []) q ≡ judged_node (node ∷ []) q
 push_none [] node q f = refl
 push_none (one ∷ nodes) node q f = none_more nodes one node q (bytes_eq one.name q) refl f (push_none nodes node q)
 
@@ -487,12 +488,12 @@ none_yet : RegisteredInvariant no_node
 none_yet = record { half = []; paired = refl; gone = refl; turns = refl; same = refl }
 
 -- a node that is one more; nothing else happens
-pub pushed : (nodes : List NodeState) (book : List Row) (sched events : List SchedEvent) (n : List ℕ) (node : NodeState) → node.name ≡ n → node_of nodes n ≡ None
-    → ((q : List ℕ) → bytes_eq n q ≡ false → events_of q events ≡ []) → events_of n events ≡ events → RegisteredInvariant (view_of node events []) → NodesInvariant nodes book sched
+pub pushed : (nodes : List NodeState) (book : List Row) (sched events : List SchedEvent) (n : List ℕ) (node : NodeState) → node.name ≡ n → judged_node nodes n ≡ None
+    → ((q : List ℕ) → bytes_eq n q ≡ false → events_of q events ≡ []) → events_of n events ≡ events → RegisteredInvariant (node_view node events []) → NodesInvariant nodes book sched
     → NodesInvariant (nodes ++ node ∷ []) book (sched ++ events)
-pushed nodes book sched events n node is none apart all first good = λ q. good_by q (node_of nodes q) refl (good q)
+pushed nodes book sched events n node is none apart all first good = λ q. good_by q (judged_node nodes q) refl (good q)
   where
-    new_by : (q : List ℕ) (b : Bool) → bytes_eq n q ≡ b → (events_of q sched ≡ []) × (ids_on book q ≡ []) → NodeInvariant (node_of (node ∷ []) q) (events_of q (sched ++ events)) (ids_on book q)
+    new_by : (q : List ℕ) (b : Bool) → bytes_eq n q ≡ b → (events_of q sched ≡ []) × (ids_on book q ≡ []) → NodeInvariant (judged_node (node ∷ []) q) (events_of q (sched ++ events)) (ids_on book q)
     new_by q true e g =
         let here : n ≡ q = same_text n q e in
         let own : bytes_eq node.name q ≡ true = rw is e in
@@ -501,11 +502,11 @@ pushed nodes book sched events n node is none apart all first good = λ q. good_
     new_by q false e g =
         let own : bytes_eq node.name q ≡ false = rw is e in rw own (posted_other q sched events (apart q e) ∙ g.0, g.1)
 
-    not_new : (q : List ℕ) (found : NodeState) (b : Bool) → bytes_eq n q ≡ b → node_of nodes q ≡ Some found → bytes_eq n q ≡ false
-    not_new q found true e f = let g : node_of nodes n ≡ Some found = rw (same_text n q e) f in let h : None ≡ Some found = sym none ∙ g in cc
+    not_new : (q : List ℕ) (found : NodeState) (b : Bool) → bytes_eq n q ≡ b → judged_node nodes q ≡ Some found → bytes_eq n q ≡ false
+    not_new q found true e f = let g : judged_node nodes n ≡ Some found = rw (same_text n q e) f in let h : None ≡ Some found = sym none ∙ g in cc
     not_new q found false e f = e
 
-    good_by : (q : List ℕ) (o : Option NodeState) → node_of nodes q ≡ o → NodeInvariant o (events_of q sched) (ids_on book q) → NodeInvariant (node_of (nodes ++ node ∷ []) q) (events_of q (sched ++ events)) (ids_on book q)
+    good_by : (q : List ℕ) (o : Option NodeState) → judged_node nodes q ≡ o → NodeInvariant o (events_of q sched) (ids_on book q) → NodeInvariant (judged_node (nodes ++ node ∷ []) q) (events_of q (sched ++ events)) (ids_on book q)
     good_by q None f g = rw (push_none nodes node q f) (new_by q (bytes_eq n q) refl g)
     good_by q (Some found) f a = rw (push_found nodes node q found f, posted_other q sched events (apart q (not_new q found (bytes_eq n q) refl f))) a
 
@@ -516,17 +517,17 @@ still_tidy nodes book sched good =
     (λ q one is a. rw (← is) (tidy one (events_of one.name sched) (ids_on book one.name) book (λ id. true) (filter-all (ids_on book one.name)) (rw is a)))
     (λ q g. g) good
 
-new_good : (m : Scene) (sched : List SchedEvent) (n : List ℕ) (last : Registration) (reply : Reply) → node_of m.life.nodes n ≡ None → 0 < last.turn → NodesInvariant m.life.nodes m.life.book sched
+new_good : (m : Scene) (sched : List SchedEvent) (n : List ℕ) (last : Registration) (reply : Reply) → judged_node m.life.nodes n ≡ None → 0 < last.turn → NodesInvariant m.life.nodes m.life.book sched
     → NodesInvariant (tidied (record m.life { nodes = m.life.nodes ++ new_node n last reply ∷ [] })).nodes m.life.book (sched ++ NodeAdded n last.turn ∷ [])
 new_good m sched n last reply none above good =
     let same : without_idle (is_idle_by Waiting last.turn []) (Registered last.turn ∷ []) ≡ Registered last.turn ∷ [] =
     let e : is_idle_by Waiting last.turn [] (Registered last.turn) ≡ false = grind (arith, nat_tests) in rw e refl in
-    let first : RegisteredInvariant (view_of (new_node n last reply) (NodeAdded n last.turn ∷ []) []) = rw same at (register_keeps no_node n last.turn above none_yet) in
+    let first : RegisteredInvariant (node_view (new_node n last reply) (NodeAdded n last.turn ∷ []) []) = rw same at (register_keeps no_node n last.turn above none_yet) in
     still_tidy (m.life.nodes ++ new_node n last reply ∷ []) m.life.book (sched ++ NodeAdded n last.turn ∷ [])
     (pushed m.life.nodes m.life.book sched (NodeAdded n last.turn ∷ []) n (new_node n last reply) refl none (λ q apart. one_other q (NodeAdded n last.turn) apart) (one_own n (NodeAdded n last.turn) (text_itself n)) first good)
 
-pub register_good : (m : Scene) (sched : List SchedEvent) (n : List ℕ) (last : Registration) (reply : Reply) (o : Option NodeState) → node_of m.life.nodes n ≡ o → 0 < last.turn
-    → ((node : NodeState) → node_of m.life.nodes n ≡ Some node → node.last.turn < last.turn) → NodesInvariant m.life.nodes m.life.book sched
+pub register_good : (m : Scene) (sched : List SchedEvent) (n : List ℕ) (last : Registration) (reply : Reply) (o : Option NodeState) → judged_node m.life.nodes n ≡ o → 0 < last.turn
+    → ((node : NodeState) → judged_node m.life.nodes n ≡ Some node → node.last.turn < last.turn) → NodesInvariant m.life.nodes m.life.book sched
     → NodesInvariant (tidied (record m.life { nodes = nodes_registered m n last reply o })).nodes m.life.book (sched ++ NodeAdded n last.turn ∷ [])
 register_good m sched n last reply None there above newer good = new_good m sched n last reply there above good
 register_good m sched n last reply (Some node) there above newer good = again_good m sched n last reply node there (newer node there) good

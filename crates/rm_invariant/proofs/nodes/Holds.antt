@@ -11,8 +11,8 @@ use Rattle.rm_types.proofs.IdLemmas.{same_container}
 use Rattle.rm_model.specs.State.{LifeState, NodeState, Row, Scene}
 use Rattle.rm_model.specs.Facts.{has_container}
 use Rattle.rm_model.specs.Containers.{is_living, leave, lives_on, without_launches}
-use Rattle.rm_model.specs.Nodes.{node_of}
-use Rattle.rm_invariant.specs.nodes.Book.{All, AreApart, IsGranted, IsAbsorbed, BookRowInvariant, AreLaunches, BookInvariant}
+use Rattle.rm_model.specs.Nodes.{judged_node}
+use Rattle.rm_invariant.specs.nodes.Book.{All, LivingRowsAreApart, IsGranted, IsAbsorbed, BookRowInvariant, AreLaunches, BookInvariant}
 use Rattle.rm_invariant.proofs.nodes.Moved.{node_of-map}
 
 -- GENERAL: facts at each item
@@ -56,11 +56,11 @@ gone_less list (row ∷ rows) id h = by_test (stays_without list row) (is_contai
     by_test true false e f rest = rw (e, f) (rest (rw f at h))
     by_test false false e f rest = rw e (rest (rw f at h))
 
-apart_less : (list : List ContainerId) (rows : List Row) → AreApart rows → AreApart (filter (stays_without list) rows)
+apart_less : (list : List ContainerId) (rows : List Row) → LivingRowsAreApart rows → LivingRowsAreApart (filter (stays_without list) rows)
 apart_less list [] h = tt
 apart_less list (row ∷ rows) h = by_test (stays_without list row) refl (apart_less list rows h.1)
   where
-    by_test : (b : Bool) → stays_without list row ≡ b → AreApart (filter (stays_without list) rows) → AreApart (filter (stays_without list) (row ∷ rows))
+    by_test : (b : Bool) → stays_without list row ≡ b → LivingRowsAreApart (filter (stays_without list) rows) → LivingRowsAreApart (filter (stays_without list) (row ∷ rows))
     by_test true e rest = rw e (gone_less list rows row.id h.0, rest)
     by_test false e rest = rw e rest
 
@@ -95,7 +95,7 @@ lives_still list (row ∷ rows) name id n l = by_test (stays_without list row) (
     by_test false false e f rest = rw e (rest (rw f at l))
 
 absorbed_still : (list : List ContainerId) (nodes : List NodeState) (name : List ℕ) → IsAbsorbed nodes name → IsAbsorbed (map (without_launches list) nodes) name
-absorbed_still list nodes name h = rw (node_of-map (without_launches list) (λ node. refl) nodes name) (by_node (node_of nodes name) h)
+absorbed_still list nodes name h = rw (node_of-map (without_launches list) (λ node. refl) nodes name) (by_node (judged_node nodes name) h)
   where
     by_node : (o : Option NodeState) → is_some (option_and_then (λ (node : NodeState). node.capability) o) ≡ true
         → is_some (option_and_then (λ (node : NodeState). node.capability) (option_map (without_launches list) o)) ≡ true

@@ -11,9 +11,9 @@ use Rattle.rm_types.specs.Lists.{is_nil}
 use Rattle.rm_types.proofs.TestLemmas.{same_text}
 use Rattle.rm_model.specs.State.{NodeState, Row, Undone, Registered, Beat, Expired}
 use Rattle.rm_model.specs.Containers.{ids_on}
-use Rattle.rm_model.specs.Nodes.{is_idle, node_of, tidied_node}
+use Rattle.rm_model.specs.Nodes.{is_idle, judged_node, tidied_node}
 use Rattle.rm_tables.specs.declared.events.SchedEvent.{SchedEvent}
-use Rattle.rm_invariant.specs.nodes.Invariant.{is_idle_by, RegisteredInvariant, events_of, view_of, NodeInvariant, NodesInvariant}
+use Rattle.rm_invariant.specs.nodes.Invariant.{is_idle_by, RegisteredInvariant, events_of, node_view, NodeInvariant, NodesInvariant}
 use Rattle.rm_invariant.proofs.nodes.Views.{leaving_keeps}
 
 abbrev pub KeepsName : (NodeState → NodeState) → Type 0
@@ -21,24 +21,24 @@ KeepsName change = (node : NodeState) → (change node).name ≡ node.name
 
 -- a node that is found after all have changed
 found_more : (change : NodeState → NodeState) → KeepsName change → (node : NodeState) (nodes : List NodeState) (q : List ℕ) (b : Bool) → bytes_eq node.name q ≡ b
-    → node_of (map change nodes) q ≡ option_map change (node_of nodes q) → node_of (map change (node ∷ nodes)) q ≡ option_map change (node_of (node ∷ nodes) q)
+    → judged_node (map change nodes) q ≡ option_map change (judged_node nodes q) → judged_node (map change (node ∷ nodes)) q ≡ option_map change (judged_node (node ∷ nodes) q)
 found_more change k node nodes q true e rest =
     let c : bytes_eq (change node).name q ≡ true = rw (k node) e in rw (c, e) refl
 found_more change k node nodes q false e rest =
     let c : bytes_eq (change node).name q ≡ false = rw (k node) e in rw (c, e) rest
 
-pub node_of-map : (change : NodeState → NodeState) → KeepsName change → (nodes : List NodeState) (q : List ℕ) → node_of (map change nodes) q ≡ option_map change (node_of nodes q)
+pub node_of-map : (change : NodeState → NodeState) → KeepsName change → (nodes : List NodeState) (q : List ℕ) → judged_node (map change nodes) q ≡ option_map change (judged_node nodes q)
 node_of-map change k [] q = refl
 node_of-map change k (node ∷ nodes) q = found_more change k node nodes q (bytes_eq node.name q) refl (node_of-map change k nodes q)
 
-name_more : (node : NodeState) (nodes : List NodeState) (q : List ℕ) (found : NodeState) (b : Bool) → bytes_eq node.name q ≡ b → node_of (node ∷ nodes) q ≡ Some found
-    → (node_of nodes q ≡ Some found → bytes_eq found.name q ≡ true) → bytes_eq found.name q ≡ true
+name_more : (node : NodeState) (nodes : List NodeState) (q : List ℕ) (found : NodeState) (b : Bool) → bytes_eq node.name q ≡ b → judged_node (node ∷ nodes) q ≡ Some found
+    → (judged_node nodes q ≡ Some found → bytes_eq found.name q ≡ true) → bytes_eq found.name q ≡ true
 name_more node nodes q found true e f rest =
     let g : Some node ≡ Some found = rw e at f in
     let same : node ≡ found = cc in rw (← same) e
 name_more node nodes q found false e f rest = rest (rw e at f)
 
-pub name_of : (nodes : List NodeState) (q : List ℕ) (found : NodeState) → node_of nodes q ≡ Some found → bytes_eq found.name q ≡ true
+pub name_of : (nodes : List NodeState) (q : List ℕ) (found : NodeState) → judged_node nodes q ≡ Some found → bytes_eq found.name q ≡ true
 name_of [] q found f = cc
 name_of (node ∷ nodes) q found f = name_more node nodes q found (bytes_eq node.name q) refl f (λ g. name_of nodes q found g)
 
@@ -49,27 +49,27 @@ Contains-first x xs = Contains-append_left (x ∷ []) xs x (Contains-push [] x)
 pub Contains-more : {X : Type 0} (x y : X) (xs : List X) → Contains xs x → Contains (y ∷ xs) x
 Contains-more x y xs h = Contains-append_right (y ∷ []) xs x h
 
-among_more : (one : NodeState) (nodes : List NodeState) (n : List ℕ) (node : NodeState) (b : Bool) → bytes_eq one.name n ≡ b → node_of (one ∷ nodes) n ≡ Some node
-    → (node_of nodes n ≡ Some node → Contains nodes node) → Contains (one ∷ nodes) node
+among_more : (one : NodeState) (nodes : List NodeState) (n : List ℕ) (node : NodeState) (b : Bool) → bytes_eq one.name n ≡ b → judged_node (one ∷ nodes) n ≡ Some node
+    → (judged_node nodes n ≡ Some node → Contains nodes node) → Contains (one ∷ nodes) node
 among_more one nodes n node true e there rest =
     let i : Some one ≡ Some node = rw e at there in
     let same : one ≡ node = cc in
     subst (λ (x : NodeState). Contains (one ∷ nodes) x) same (Contains-first one nodes)
 among_more one nodes n node false e there rest = Contains-more node one nodes (rest (rw e at there))
 
-pub found_among : (nodes : List NodeState) (n : List ℕ) (node : NodeState) → node_of nodes n ≡ Some node → Contains nodes node
+pub found_among : (nodes : List NodeState) (n : List ℕ) (node : NodeState) → judged_node nodes n ≡ Some node → Contains nodes node
 found_among [] n node there = cc
 found_among (one ∷ nodes) n node there = among_more one nodes n node (bytes_eq one.name n) refl there (λ g. found_among nodes n node g)
 
-map_more : (f : NodeState → List ContainerId) (one : NodeState) (nodes : List NodeState) (n : List ℕ) (node : NodeState) (b : Bool) → bytes_eq one.name n ≡ b → node_of (one ∷ nodes) n ≡ Some node
-    → (node_of nodes n ≡ Some node → Contains (map f nodes) (f node)) → Contains (map f (one ∷ nodes)) (f node)
+map_more : (f : NodeState → List ContainerId) (one : NodeState) (nodes : List NodeState) (n : List ℕ) (node : NodeState) (b : Bool) → bytes_eq one.name n ≡ b → judged_node (one ∷ nodes) n ≡ Some node
+    → (judged_node nodes n ≡ Some node → Contains (map f nodes) (f node)) → Contains (map f (one ∷ nodes)) (f node)
 map_more f one nodes n node true e there rest =
     let i : Some one ≡ Some node = rw e at there in
     let same : one ≡ node = cc in
     subst (λ (x : NodeState). Contains (map f (one ∷ nodes)) (f x)) same (Contains-first (f one) (map f nodes))
 map_more f one nodes n node false e there rest = Contains-more (f node) (f one) (map f nodes) (rest (rw e at there))
 
-pub mapped_among : (f : NodeState → List ContainerId) (nodes : List NodeState) (n : List ℕ) (node : NodeState) → node_of nodes n ≡ Some node → Contains (map f nodes) (f node)
+pub mapped_among : (f : NodeState → List ContainerId) (nodes : List NodeState) (n : List ℕ) (node : NodeState) → judged_node nodes n ≡ Some node → Contains (map f nodes) (f node)
 mapped_among f [] n node there = cc
 mapped_among f (one ∷ nodes) n node there = map_more f one nodes n node (bytes_eq one.name n) refl there (λ g. mapped_among f nodes n node g)
 
@@ -93,48 +93,48 @@ idle_is book node = λ i x. idle_at book node x i
 
 -- a node at which nothing happens while rows leave it
 pub tidy : (node : NodeState) (events : List SchedEvent) (on : List ContainerId) (book : List Row) (stays : ContainerId → Bool) → ids_on book node.name ≡ filter stays on
-    → RegisteredInvariant (view_of node events on) → RegisteredInvariant (view_of (tidied_node book node) events (ids_on book node.name))
-tidy node events on book stays e a = rw (idle_is book node, e) (leaving_keeps (view_of node events on) stays a)
+    → RegisteredInvariant (node_view node events on) → RegisteredInvariant (node_view (tidied_node book node) events (ids_on book node.name))
+tidy node events on book stays e a = rw (idle_is book node, e) (leaving_keeps (node_view node events on) stays a)
 
 -- what an entry must show: of its own node, what holds there after it; of each other, that it holds there too; of a name that
 -- no node has, that nothing comes to be there
 pub record Moves (nodes : List NodeState) (book : List Row) (sched : List SchedEvent) (n : List ℕ) (change : NodeState → NodeState) (book_after : List Row) (sched_after : List SchedEvent) : Type 0 where
   pub named : KeepsName change
-  pub known : node_of nodes n ≡ None → ⊥
-  pub own : (node : NodeState) → node_of nodes n ≡ Some node → node.name ≡ n → RegisteredInvariant (view_of node (events_of n sched) (ids_on book n))
-      → RegisteredInvariant (view_of (change node) (events_of n sched_after) (ids_on book_after n))
-  pub other : (q : List ℕ) (node : NodeState) → node.name ≡ q → bytes_eq n q ≡ false → RegisteredInvariant (view_of node (events_of q sched) (ids_on book q))
-      → RegisteredInvariant (view_of (change node) (events_of q sched_after) (ids_on book_after q))
+  pub known : judged_node nodes n ≡ None → ⊥
+  pub own : (node : NodeState) → judged_node nodes n ≡ Some node → node.name ≡ n → RegisteredInvariant (node_view node (events_of n sched) (ids_on book n))
+      → RegisteredInvariant (node_view (change node) (events_of n sched_after) (ids_on book_after n))
+  pub other : (q : List ℕ) (node : NodeState) → node.name ≡ q → bytes_eq n q ≡ false → RegisteredInvariant (node_view node (events_of q sched) (ids_on book q))
+      → RegisteredInvariant (node_view (change node) (events_of q sched_after) (ids_on book_after q))
   pub none : (q : List ℕ) → bytes_eq n q ≡ false → (events_of q sched ≡ []) × (ids_on book q ≡ []) → (events_of q sched_after ≡ []) × (ids_on book_after q ≡ [])
 
 pub moved : (nodes : List NodeState) (book : List Row) (sched : List SchedEvent) (n : List ℕ) (change : NodeState → NodeState) (book_after : List Row) (sched_after : List SchedEvent)
     → Moves nodes book sched n change book_after sched_after → NodesInvariant nodes book sched → NodesInvariant (map change nodes) book_after sched_after
-moved nodes book sched n change book_after sched_after m good = λ q. rw (node_of-map change m.named nodes q) (good_by q (node_of nodes q) refl (good q))
+moved nodes book sched n change book_after sched_after m good = λ q. rw (node_of-map change m.named nodes q) (good_by q (judged_node nodes q) refl (good q))
   where
-    some_by : (q : List ℕ) (node : NodeState) (b : Bool) → bytes_eq n q ≡ b → node_of nodes q ≡ Some node → node.name ≡ q → RegisteredInvariant (view_of node (events_of q sched) (ids_on book q))
-        → RegisteredInvariant (view_of (change node) (events_of q sched_after) (ids_on book_after q))
+    some_by : (q : List ℕ) (node : NodeState) (b : Bool) → bytes_eq n q ≡ b → judged_node nodes q ≡ Some node → node.name ≡ q → RegisteredInvariant (node_view node (events_of q sched) (ids_on book q))
+        → RegisteredInvariant (node_view (change node) (events_of q sched_after) (ids_on book_after q))
     some_by q node true e f is a =
         let here : n ≡ q = same_text n q e in
-        subst (λ (x : List ℕ). RegisteredInvariant (view_of (change node) (events_of x sched_after) (ids_on book_after x))) here
-        (m.own node (rw here f) (is ∙ sym here) (subst (λ (x : List ℕ). RegisteredInvariant (view_of node (events_of x sched) (ids_on book x))) (sym here) a))
+        subst (λ (x : List ℕ). RegisteredInvariant (node_view (change node) (events_of x sched_after) (ids_on book_after x))) here
+        (m.own node (rw here f) (is ∙ sym here) (subst (λ (x : List ℕ). RegisteredInvariant (node_view node (events_of x sched) (ids_on book x))) (sym here) a))
     some_by q node false e f is a = m.other q node is e a
 
-    none_by : (q : List ℕ) (b : Bool) → bytes_eq n q ≡ b → node_of nodes q ≡ None → (events_of q sched ≡ []) × (ids_on book q ≡ [])
+    none_by : (q : List ℕ) (b : Bool) → bytes_eq n q ≡ b → judged_node nodes q ≡ None → (events_of q sched ≡ []) × (ids_on book q ≡ [])
         → (events_of q sched_after ≡ []) × (ids_on book_after q ≡ [])
     none_by q true e f g = absurd (m.known (rw (same_text n q e) f))
     none_by q false e f g = m.none q e g
 
-    good_by : (q : List ℕ) (o : Option NodeState) → node_of nodes q ≡ o → NodeInvariant o (events_of q sched) (ids_on book q) → NodeInvariant (option_map change o) (events_of q sched_after) (ids_on book_after q)
+    good_by : (q : List ℕ) (o : Option NodeState) → judged_node nodes q ≡ o → NodeInvariant o (events_of q sched) (ids_on book q) → NodeInvariant (option_map change o) (events_of q sched_after) (ids_on book_after q)
     good_by q None f g = none_by q (bytes_eq n q) refl f g
     good_by q (Some node) f a = some_by q node (bytes_eq n q) refl f (same_text node.name q (name_of nodes q node f)) a
 
 -- the same where the entry is of no node
 pub all_moved : (nodes : List NodeState) (book : List Row) (sched : List SchedEvent) (change : NodeState → NodeState) (book_after : List Row) (sched_after : List SchedEvent) → KeepsName change
-    → ((q : List ℕ) (node : NodeState) → node.name ≡ q → RegisteredInvariant (view_of node (events_of q sched) (ids_on book q)) → RegisteredInvariant (view_of (change node) (events_of q sched_after) (ids_on book_after q)))
+    → ((q : List ℕ) (node : NodeState) → node.name ≡ q → RegisteredInvariant (node_view node (events_of q sched) (ids_on book q)) → RegisteredInvariant (node_view (change node) (events_of q sched_after) (ids_on book_after q)))
     → ((q : List ℕ) → (events_of q sched ≡ []) × (ids_on book q ≡ []) → (events_of q sched_after ≡ []) × (ids_on book_after q ≡ []))
     → NodesInvariant nodes book sched → NodesInvariant (map change nodes) book_after sched_after
-all_moved nodes book sched change book_after sched_after named other none good = λ q. rw (node_of-map change named nodes q) (good_by q (node_of nodes q) refl (good q))
+all_moved nodes book sched change book_after sched_after named other none good = λ q. rw (node_of-map change named nodes q) (good_by q (judged_node nodes q) refl (good q))
   where
-    good_by : (q : List ℕ) (o : Option NodeState) → node_of nodes q ≡ o → NodeInvariant o (events_of q sched) (ids_on book q) → NodeInvariant (option_map change o) (events_of q sched_after) (ids_on book_after q)
+    good_by : (q : List ℕ) (o : Option NodeState) → judged_node nodes q ≡ o → NodeInvariant o (events_of q sched) (ids_on book q) → NodeInvariant (option_map change o) (events_of q sched_after) (ids_on book_after q)
     good_by q None f g = none q g
     good_by q (Some node) f a = other q node (same_text node.name q (name_of nodes q node f)) a

@@ -19,7 +19,7 @@ use Rattle.rm_types.specs.Lists.{is_nil}
 use Rattle.rm_types.specs.Records.{Records, recorded, no_records, all_ended, is_some_and, last_attempt, record_of}
 use Rattle.rm_app.specs.declared.states.AppState.{AppState}
 use Rattle.rm_app.specs.declared.states.AppState.TheVariants as apps
-use Rattle.rm_app.specs.Table.{state_of}
+use Rattle.rm_app.specs.Table.{end_state}
 use Rattle.rm_attempt.specs.declared.states.AttemptState.TheVariants as attempts
 use Rattle.rm_tables.specs.declared.events.MainEvent.{MainEvent}
 use Rattle.rm_tables.specs.declared.events.MainEvent.TheVariants as mains
@@ -276,7 +276,7 @@ module _ (settings : Settings) (q : AttemptId) where
   case_says one s c a b e state current f g h says = rw (f, g, h, state, current) (known_with (length one.attempts) (Some one) s c a b e, says)
 
   ended_says : (one : AppRecord) (how : How) (c : Option Current) → option_map (λ e. e.0) one.ending ≡ Some how → EndIssuedInvariant c (opening_with (Some one) false false true)
-      → StateInvariant settings q (state_of how) (row_with (length one.attempts) (state_of how) c) (opening_with (Some one) false false true)
+      → StateInvariant settings q (end_state how) (row_with (length one.attempts) (end_state how) c) (opening_with (Some one) false false true)
   ended_says one ways.Finished c is o = (is, refl, refl, refl, refl, o)
   ended_says one ways.Failed c is o = (is, refl, refl, refl, refl, o)
   ended_says one ways.Killed c is o = (is, refl, refl, refl, refl, o)
@@ -297,10 +297,10 @@ module _ (settings : Settings) (q : AttemptId) where
   opening_some one (over end ended none) =
       let last : last_attempt one.attempts ≡ None = rw none refl in
       let untried : has_tried (opening_with (Some one) false false true) ≡ false = rw none refl in
-      case_says one (state_of end.0) None false false true (rw ended refl) (rw last refl) (rw ended refl) (rw ended refl) (rw ended refl)
+      case_says one (end_state end.0) None false false true (rw ended refl) (rw last refl) (rw ended refl) (rw ended refl) (rw ended refl)
       (ended_says one end.0 None (rw ended refl) (refl, untried))
   opening_some one (over_after end last ended is e) =
-      case_says one (state_of end.0) (Some (recovered_attempt last)) false false true (rw ended refl) (rw is refl) (rw ended refl) (rw ended refl) (rw ended refl)
+      case_says one (end_state end.0) (Some (recovered_attempt last)) false false true (rw ended refl) (rw is refl) (rw ended refl) (rw ended refl) (rw ended refl)
       (ended_says one end.0 (Some (recovered_attempt last)) (rw ended refl) (inl (rw e refl), refl, not_nil one.attempts last is))
 
 -- what is seen of an attempt once the Epoch is kept, and what holds of it

@@ -48,7 +48,7 @@ use Rattle.rm_invariant.specs.Core.{Nothing, PreservesCore}
 use Rattle.rm_invariant.proofs.events.Leaving.{stepped_whole}
 use Rattle.rm_invariant.specs.opening.Begun.{IsBegun}
 use Rattle.rm_invariant.specs.auxiliary.Parts.{FixedParts, fixed_parts}
-use Rattle.rm_invariant.specs.auxiliary.Invariant.{IsUnfinished, NoneFirst, AuxInvariant}
+use Rattle.rm_invariant.specs.auxiliary.Invariant.{HasNotFinished, NoneFirst, AuxInvariant}
 use Rattle.rm_invariant.proofs.auxiliary.MainEvents.{firsts_same}
 use Rattle.rm_invariant.proofs.auxiliary.Parts.{parts_after}
 
@@ -226,10 +226,10 @@ module _ (h : History) (t : Tables) (b : IsBegun h t) (next stamp : ℕ) (front 
       by None = tt
       by (Some last) = state last (is_some last.ending) refl
 
-  recovered_unfinished : (one : AppRecord) → IsUnfinished (recovered_row one).current
+  recovered_unfinished : (one : AppRecord) → HasNotFinished (recovered_row one).current
   recovered_unfinished one = by (last_attempt one.attempts)
     where
-      by : (last : Option AttemptRecord) → IsUnfinished (option_map recovered_attempt last)
+      by : (last : Option AttemptRecord) → HasNotFinished (option_map recovered_attempt last)
       by None = tt
       by (Some last) = λ o. refl
 
@@ -310,6 +310,6 @@ module _ (h : History) (t : Tables) (b : IsBegun h t) (next stamp : ℕ) (front 
         offers = rw in_book (λ name none. refl);
         lists = record { order = rw submitted opened_lists.order; going = rw submitted opened_lists.going };
         finishes = λ q. rw front (sym (ap (finishes_by q) (found_row q.app) ∙ recovered_finishes q (record_of t.tree.apps q.app)));
-        unfinished = each_row (λ row. IsUnfinished row.current) recovered_unfinished;
+        unfinished = each_row (λ row. HasNotFinished row.current) recovered_unfinished;
         retired = let r = rows in rw (retired, none_out, r) (none_retired t.tree.apps);
       }

@@ -18,7 +18,7 @@ use Rattle.rm_tables.specs.declared.tables.Tables.{Tables}
 use Rattle.rm_tables.specs.Completed.{completion_of, completions_in, ended_in, put_completion, with_completed}
 use Rattle.rm_tables.specs.Lives.{begun}
 use Rattle.rm_tables.specs.Opening.{recovered_attempt, recovered_row, recovered_rows}
-use Rattle.rm_tables.specs.Passing.{granted_by, granted_to}
+use Rattle.rm_tables.specs.Passing.{granted_number, granted_to}
 use Rattle.rm_tables.specs.Rows.{row_of}
 use Rattle.rm_invariant.proofs.opening.Apps.{recovered_found}
 use Rattle.rm_invariant.specs.nodes.Book.{All}
@@ -63,8 +63,8 @@ recovered_are apps all = record { each = λ id row found. by id row (record_of a
         subst (IsRow id) same (record { named = found_named apps id app all e; pending = tt; current = last_is app.attempts is.attempts; said = tt })
 
 -- nothing was granted yet
-none_granted : (apps : List AppRecord) (id : AttemptId) → granted_by id.number (row_of (recovered_rows apps) id.app) ≡ 0
-none_granted apps id = ap (granted_by id.number) (recovered_found apps id.app) ∙ by (record_of apps id.app)
+none_granted : (apps : List AppRecord) (id : AttemptId) → granted_number id.number (row_of (recovered_rows apps) id.app) ≡ 0
+none_granted apps id = ap (granted_number id.number) (recovered_found apps id.app) ∙ by (record_of apps id.app)
   where
     pick : (b : Bool) → ◌≡◌ {A = ℕ} (if b then 0 else 0) 0
     pick true = refl
@@ -74,7 +74,7 @@ none_granted apps id = ap (granted_by id.number) (recovered_found apps id.app) �
     at None = refl
     at (Some one) = pick _
 
-    by : (o : Option AppRecord) → granted_by id.number (option_map recovered_row o) ≡ 0
+    by : (o : Option AppRecord) → granted_number id.number (option_map recovered_row o) ≡ 0
     by None = refl
     by (Some app) = at (last_attempt app.attempts)
 

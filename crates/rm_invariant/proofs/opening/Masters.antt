@@ -33,7 +33,7 @@ use Rattle.rm_invariant.proofs.apps.Counts.{none_among, at_end, at_front}
 use Rattle.rm_invariant.proofs.opening.Apps.{opening_step, recovered_found}
 use Rattle.rm_invariant.specs.masters.Invariant.{ContainerByNumber, ContainerByState, ContainerByCurrent, ContainerInvariant, Untouched, ContainersInvariant, RemovalInvariant}
 use Rattle.rm_invariant.specs.masters.Sound.{IsSoundRecord, RecordsAreSound}
-use Rattle.rm_invariant.specs.masters.View.{ContainerView, is_expiry, is_finish, is_granting, is_losing, is_removal, container_view}
+use Rattle.rm_invariant.specs.masters.View.{ContainerView, is_expiry, is_finish, is_granting, is_losing, is_attempt_removal, container_view}
 use Rattle.rm_invariant.specs.masters.Preserves.{PreservesContainers}
 use Rattle.rm_invariant.proofs.masters.Sounding.{above, last_found, numbered_last}
 
@@ -176,7 +176,7 @@ module _ (h : History) (t : Tables) (next stamp : ℕ) (r : IsRecovered h t) (fr
         none_of_main (is_launch c.attempt) refl (λ id. refl) (λ a. refl) t.tree.apps,
         none_of_main (is_expiry c) refl (λ id. refl) (λ a. refl) t.tree.apps,
         none_of_main (is_finish c) refl (λ id. refl) (λ a. refl) t.tree.apps,
-        none_of_sched (is_removal c) (λ a. refl) t.tree.apps,
+        none_of_sched (is_attempt_removal c) (λ a. refl) t.tree.apps,
         front,
         book,
         masters,

@@ -25,7 +25,7 @@ use Rattle.rm_tables.specs.declared.tables.Tables.{Tables}
 use Rattle.rm_tables.specs.Rows.{row_of}
 use Rattle.rm_refinement.specs.History.{History, abstract_scene}
 use Rattle.rm_invariant.specs.apps.View.{View, Counts, view, counts, is_ask}
-use Rattle.rm_invariant.specs.apps.Invariant.{RowInvariant, StateInvariant, ActiveInvariant, CurrentInvariant, AttemptCounts, AllHaveEnded, LastIsOpen, MayFollow, ops_of, way, is_open_one}
+use Rattle.rm_invariant.specs.apps.Invariant.{RowInvariant, StateInvariant, ActiveInvariant, CurrentInvariant, AttemptCounts, AllHaveEnded, LastIsOpen, MayFollowInView, ops_of, way, is_open_one}
 use Rattle.rm_invariant.specs.Step.{AppsInvariant}
 use Rattle.rm_invariant.proofs.apps.Counts.{some_passes}
 
@@ -43,7 +43,7 @@ pub record IsStill (c : Counts) : Type 0 where
 -- how an application can rest: its end is kept; its next attempt asks for its master; or its attempt lives
 pub data Rests (settings : Settings) (q : AttemptId) (v : View) : Type 0 where
   over : is_some v.found ≡ true → is_none (end_in v.found) ≡ false → Rests settings q v
-  asks : AllHaveEnded v.found → MayFollow settings q.number v → v.wished ≡ false → 1 ≤ v.count.asks → Rests settings q v
+  asks : AllHaveEnded v.found → MayFollowInView settings q.number v → v.wished ≡ false → 1 ≤ v.count.asks → Rests settings q v
   lives : LastIsOpen v.found q → v.wished ≡ false → Rests settings q v
 
 some_end : {X Y : Type 0} (f : X → Y) (end : Option X) (how : Y) → option_map f end ≡ Some how → is_none end ≡ false

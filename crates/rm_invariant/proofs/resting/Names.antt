@@ -32,8 +32,8 @@ use Rattle.rm_model.specs.Containers.{leave, without_launches}
 use Rattle.rm_model.specs.Facts.{is_known}
 use Rattle.rm_model.specs.MasterReplies.{is_new_to_master, life_after_master}
 use Rattle.rm_model.specs.Attempts.{is_registered}
-use Rattle.rm_model.specs.NodeReplies.{beaten, expired, is_later_turn, is_new_to_node, life_after_clock, life_after_node, new_node, nodes_registered, registered}
-use Rattle.rm_model.specs.Nodes.{node_of, tidied, tidied_node, with_node}
+use Rattle.rm_model.specs.NodeReplies.{beaten, expired, is_later_turn, is_new_to_node, life_after_clock, life_after_node, new_node, nodes_registered, node_after_registration}
+use Rattle.rm_model.specs.Nodes.{judged_node, tidied, tidied_node, with_judged_node}
 use Rattle.rm_model.specs.Passing.{passed}
 use Rattle.rm_model.specs.Replies.{life_after}
 use Rattle.rm_tables.specs.declared.tables.Tables.{Tables}
@@ -51,7 +51,7 @@ LifeApart None = Unit {0}
 LifeApart (Some life) = NamesApart life.nodes
 
 -- one node changes in place
-pub apart_with : (change : NodeState → NodeState) → KeepsName change → (name : List ℕ) (nodes : List NodeState) → NamesApart nodes → NamesApart (with_node change name nodes)
+pub apart_with : (change : NodeState → NodeState) → KeepsName change → (name : List ℕ) (nodes : List NodeState) → NamesApart nodes → NamesApart (with_judged_node change name nodes)
 apart_with change k name nodes h = apart_map (λ node. if bytes_eq node.name name then change node else node) (at_name name change k) nodes h
 
 -- what has nothing left to do falls away
@@ -59,27 +59,27 @@ pub apart_tidied : (life : LifeState) → NamesApart life.nodes → NamesApart (
 apart_tidied life h = apart_map (tidied_node life.book) (λ node. refl) life.nodes h
 
 -- a node is added
-none_added : (nodes : List NodeState) (new : NodeState) (name : List ℕ) → node_of nodes name ≡ None → bytes_eq new.name name ≡ false → node_of (nodes ++ new ∷ []) name ≡ None
+none_added : (nodes : List NodeState) (new : NodeState) (name : List ℕ) → judged_node nodes name ≡ None → bytes_eq new.name name ≡ false → judged_node (nodes ++ new ∷ []) name ≡ None
 none_added [] new name none other = rw other refl
 none_added (node ∷ nodes) new name none other = by (bytes_eq node.name name) refl (none_added nodes new name)
   where
-    by : (b : Bool) → bytes_eq node.name name ≡ b → (node_of nodes name ≡ None → bytes_eq new.name name ≡ false → node_of (nodes ++ new ∷ []) name ≡ None) → node_of (node ∷ (nodes ++ new ∷ [])) name ≡ None
+    by : (b : Bool) → bytes_eq node.name name ≡ b → (judged_node nodes name ≡ None → bytes_eq new.name name ≡ false → judged_node (nodes ++ new ∷ []) name ≡ None) → judged_node (node ∷ (nodes ++ new ∷ [])) name ≡ None
     by true e rest = absurd (let some : Some node ≡ None = rw e at none in cc)
     by false e rest = rw e (rest (rw e at none) other)
 
-pub apart_added : (nodes : List NodeState) (new : NodeState) → NamesApart nodes → node_of nodes new.name ≡ None → NamesApart (nodes ++ new ∷ [])
+pub apart_added : (nodes : List NodeState) (new : NodeState) → NamesApart nodes → judged_node nodes new.name ≡ None → NamesApart (nodes ++ new ∷ [])
 apart_added [] new h none = (refl, tt)
 apart_added (node ∷ nodes) new h none = by (bytes_eq node.name new.name) refl (apart_added nodes new h.1)
   where
-    by : (b : Bool) → bytes_eq node.name new.name ≡ b → (node_of nodes new.name ≡ None → NamesApart (nodes ++ new ∷ [])) → NamesApart (node ∷ (nodes ++ new ∷ []))
+    by : (b : Bool) → bytes_eq node.name new.name ≡ b → (judged_node nodes new.name ≡ None → NamesApart (nodes ++ new ∷ [])) → NamesApart (node ∷ (nodes ++ new ∷ []))
     by true e rest = absurd (let some : Some node ≡ None = rw e at none in cc)
     by false e rest = (none_added nodes new node.name h.0 (apart_names node.name new.name e), rest (rw e at none))
 
 -- a registration
-apart_registered : (m : Scene) (name : List ℕ) (registration : Registration) (reply : Reply) (found : Option NodeState) → node_of m.life.nodes name ≡ found → NamesApart m.life.nodes
+apart_registered : (m : Scene) (name : List ℕ) (registration : Registration) (reply : Reply) (found : Option NodeState) → judged_node m.life.nodes name ≡ found → NamesApart m.life.nodes
     → NamesApart (nodes_registered m name registration reply found)
 apart_registered m name registration reply None e h = apart_added m.life.nodes (new_node name registration reply) h e
-apart_registered m name registration reply (Some node) e h = apart_with (registered registration reply) (λ node. refl) name m.life.nodes h
+apart_registered m name registration reply (Some node) e h = apart_with (node_after_registration registration reply) (λ node. refl) name m.life.nodes h
 
 -- containers leave
 apart_left : (m : Scene) (cause : Cause) (list : List ContainerId) → NamesApart m.life.nodes → NamesApart (leave m cause list).nodes
@@ -111,12 +111,12 @@ apart_master m attempt (masters.Finish text) replies.Finishing h = by (is_regist
 apart_master m attempt _ _ h = h
 
 apart_node : (m : Scene) (name : List ℕ) (ask : NodeAsk) (reply : Reply) → NamesApart m.life.nodes → NamesApart (life_after_node m name ask reply).nodes
-apart_node m name (asks.Register turn capability running) (replies.NodeRegistered told epoch) h = by (is_later_turn turn (node_of m.life.nodes name)) refl
+apart_node m name (asks.Register turn capability running) (replies.NodeRegistered told epoch) h = by (is_later_turn turn (judged_node m.life.nodes name)) refl
   where
-    by : (b : Bool) → is_later_turn turn (node_of m.life.nodes name) ≡ b → NamesApart (life_after_node m name (asks.Register turn capability running) (replies.NodeRegistered told epoch)).nodes
+    by : (b : Bool) → is_later_turn turn (judged_node m.life.nodes name) ≡ b → NamesApart (life_after_node m name (asks.Register turn capability running) (replies.NodeRegistered told epoch)).nodes
     by true e =
-        rw e (apart_tidied (record m.life { nodes = nodes_registered m name (record { turn = turn; capability = capability; running = running }) (replies.NodeRegistered told epoch) (node_of m.life.nodes name) })
-        (apart_registered m name (record { turn = turn; capability = capability; running = running }) (replies.NodeRegistered told epoch) (node_of m.life.nodes name) refl h))
+        rw e (apart_tidied (record m.life { nodes = nodes_registered m name (record { turn = turn; capability = capability; running = running }) (replies.NodeRegistered told epoch) (judged_node m.life.nodes name) })
+        (apart_registered m name (record { turn = turn; capability = capability; running = running }) (replies.NodeRegistered told epoch) (judged_node m.life.nodes name) refl h))
     by false e = rw e h
 apart_node m name (asks.Beat id running done) (replies.Beat next launch clean) h = by (is_new_to_node m name id) refl
   where
@@ -128,7 +128,7 @@ apart_node m name _ _ h = h
 apart_clock : (m : Scene) (ask : ClockAsk) (reply : Reply) → NamesApart m.life.nodes → NamesApart (life_after_clock m ask reply).nodes
 apart_clock m (clocks.Tick time) replies.Ok h = h
 apart_clock m (clocks.ExpireNode name) replies.Ok h =
-    apart_tidied (record m.life { nodes = with_node expired name m.life.nodes }) (apart_with expired (λ node. refl) name m.life.nodes h)
+    apart_tidied (record m.life { nodes = with_judged_node expired name m.life.nodes }) (apart_with expired (λ node. refl) name m.life.nodes h)
 apart_clock m (clocks.ExpireMaster attempt) replies.Ok h = h
 apart_clock m _ _ h = h
 
@@ -154,7 +154,7 @@ apart_keeps life (ops.Remove id) h = h
 -- a node's report is absorbed
 apart_absorbs : (m : Scene) (name : List ℕ) (taken : List Held) (ended : List ContainerId) → NamesApart m.life.nodes → NamesApart (absorbs m name taken ended).nodes
 apart_absorbs m name taken ended h =
-    apart_map (tidied_node (absorbs m name taken ended).book) (λ node. refl) (with_node absorbed name (leave m Gone ended).nodes)
+    apart_map (tidied_node (absorbs m name taken ended).book) (λ node. refl) (with_judged_node absorbed name (leave m Gone ended).nodes)
     (apart_with absorbed (λ node. refl) name (leave m Gone ended).nodes (apart_left m Gone ended h))
 
 -- each entry in a life
@@ -168,7 +168,7 @@ apart_in s m (entries.Served sender message reply) h = apart_message m message r
 apart_in s m (entries.Accepted app) h = h
 apart_in s m (entries.Queued attempt) h = h
 apart_in s m (entries.Absorbed node taken ended) h = apart_absorbs m node taken ended h
-apart_in s m (entries.Pass node grants) h = apart_map (tidied_node _) (λ node. refl) (with_node passed node m.life.nodes) (apart_with passed (λ node. refl) node m.life.nodes h)
+apart_in s m (entries.Pass node grants) h = apart_map (tidied_node _) (λ node. refl) (with_judged_node passed node m.life.nodes) (apart_with passed (λ node. refl) node m.life.nodes h)
 apart_in s m (entries.Ordered container node) h = apart_with (λ node. record node { launches = node.launches ++ container ∷ [] }) (λ node. refl) node m.life.nodes h
 apart_in s m (entries.Ended cause list) h = apart_tidied (leave m cause list) (apart_left m cause list h)
 apart_in s m entries.Settled h = h

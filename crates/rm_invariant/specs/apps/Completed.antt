@@ -14,18 +14,18 @@ order_in None = 0
 order_in (Some one) = one.end_order
 
 -- when the end of the application with this id was kept, as a place among the operations
-abbrev pub order_of : List AppRecord → AppId → ℕ
-order_of apps id = order_in (record_of apps id)
+abbrev pub completion_order : List AppRecord → AppId → ℕ
+completion_order apps id = order_in (record_of apps id)
 
 -- the end of each of these was kept no earlier
 abbrev pub AllLater : List AppRecord → ℕ → List AppId → Type 0
 AllLater apps n [] = Unit {0}
-AllLater apps n (id ∷ more) = (n ≤ order_of apps id) × AllLater apps n more
+AllLater apps n (id ∷ more) = (n ≤ completion_order apps id) × AllLater apps n more
 
 -- the end of each of these was kept no later than those of the ones after it
 abbrev pub InOrder : List AppRecord → List AppId → Type 0
 InOrder apps [] = Unit {0}
-InOrder apps (id ∷ more) = AllLater apps (order_of apps id) more × InOrder apps more
+InOrder apps (id ∷ more) = AllLater apps (completion_order apps id) more × InOrder apps more
 
 -- the event looks for an application to remove
 abbrev pub is_retire : MainEvent → Bool
@@ -37,5 +37,5 @@ is_retire _ = false
 pub record Completes (t : Tables) : Type 0 where
   pub once : (id : AppId) → count_by (λ app. is_app app.id id) t.tree.apps ≤ 1
   pub in_order : InOrder t.tree.apps t.ended
-  pub early : (id : AppId) → order_of t.tree.apps id ≤ t.tree.applied
+  pub early : (id : AppId) → completion_order t.tree.apps id ≤ t.tree.applied
   pub retires : t.settings.max_completed < length t.ended → 1 ≤ count_by is_retire t.main

@@ -54,8 +54,8 @@ LastIsOpen found id =
 
 -- an attempt that isn't kept may follow: it is the first of an accepted application, or the last one has failed and the bound isn't
 -- reached
-abbrev pub MayFollow : Settings → ℕ → View → Type 0
-MayFollow settings number v =
+abbrev pub MayFollowInView : Settings → ℕ → View → Type 0
+MayFollowInView settings number v =
     (number ≡ length (attempts_in v.found) + 1)
     × (((number ≡ 1) × (v.accepted ≡ true))
     ⊎ ((is_some_and has_failed (last_attempt (attempts_in v.found)) ≡ true) × (reaches_bound settings v.found ≡ false)))
@@ -93,11 +93,11 @@ is_active apps.Killed = false
 -- the current attempt of such an application, by its state
 abbrev pub CurrentInvariant : Settings → AttemptState → AttemptId → Bool → View → Type 0
 CurrentInvariant settings attempts.Scheduled id wish v =
-    AllHaveEnded v.found × MayFollow settings id.number v × (ops_of v.count ≡ 0) × (wish ≡ true → 1 ≤ v.count.kills)
+    AllHaveEnded v.found × MayFollowInView settings id.number v × (ops_of v.count ≡ 0) × (wish ≡ true → 1 ≤ v.count.kills)
 CurrentInvariant settings attempts.Granted id wish v =
-    AllHaveEnded v.found × MayFollow settings id.number v × (ops_of v.count ≡ 0) × (wish ≡ true → 1 ≤ v.count.kills)
+    AllHaveEnded v.found × MayFollowInView settings id.number v × (ops_of v.count ≡ 0) × (wish ≡ true → 1 ≤ v.count.kills)
 CurrentInvariant settings attempts.Saving id wish v =
-    AllHaveEnded v.found × MayFollow settings id.number v × (v.count.attempts ≡ 1) × (ops_of v.count ≡ 1)
+    AllHaveEnded v.found × MayFollowInView settings id.number v × (v.count.attempts ≡ 1) × (ops_of v.count ≡ 1)
 CurrentInvariant settings attempts.Live id wish v = LastIsOpen v.found id × (ops_of v.count ≡ 0)
 CurrentInvariant settings attempts.Registered id wish v = LastIsOpen v.found id × (ops_of v.count ≡ 0)
 CurrentInvariant settings attempts.Finishing id wish v = LastIsOpen v.found id × (ops_of v.count ≡ 0)

@@ -4,7 +4,7 @@ use Rattle.std.specs.List.{list_any}
 use Rattle.rm_types.specs.declared.ids.AppId.{AppId}
 use Rattle.rm_types.specs.declared.ids.AttemptId.{AttemptId}
 use Rattle.rm_types.specs.Records.{Records, record_of}
-use Rattle.rm_book.specs.AskTables.{asks_of}
+use Rattle.rm_book.specs.AskTables.{attempt_asks}
 use Rattle.rm_model.specs.Facts.{has_app}
 use Rattle.rm_model.specs.MasterReplies.{is_finished_op}
 use Rattle.rm_attempt.specs.declared.states.AttemptState.{AttemptState}
@@ -44,36 +44,36 @@ goes_by number (Some row) = goes_numbered number row.current
 
 -- an attempt that asks for something besides its master's container is the current one, and lives or ends
 abbrev pub OthersGo : Tables → Type 0
-OthersGo t = (attempt : AttemptId) → asks_others (asks_of t.asks attempt) ≡ true → goes_by attempt.number (row_of t.rows attempt.app) ≡ true
+OthersGo t = (attempt : AttemptId) → asks_others (attempt_asks t.asks attempt) ≡ true → goes_by attempt.number (row_of t.rows attempt.app) ≡ true
 
 -- each ask for a master's container is for one
 abbrev pub MastersSingle : Tables → Type 0
-MastersSingle t = (attempt : AttemptId) → are_single (asks_of t.asks attempt) ≡ true
+MastersSingle t = (attempt : AttemptId) → are_single (attempt_asks t.asks attempt) ≡ true
 
 -- the end of an attempt awaits as FINISHED exactly where its row says so
 abbrev pub FinishesKnown : Tables → Type 0
 FinishesKnown t = (attempt : AttemptId) → list_any (is_finished_op attempt) t.awaiting ≡ finishes_by attempt (row_of t.rows attempt.app)
 
 -- the end of an attempt is issued, or kept
-abbrev pub is_over : AttemptState → Bool
-is_over attempts.Scheduled = false
-is_over attempts.Granted = false
-is_over attempts.Saving = false
-is_over attempts.Live = false
-is_over attempts.Registered = false
-is_over attempts.Finishing = false
-is_over attempts.Ending = true
-is_over attempts.Ended = true
-is_over attempts.Dropped = false
+abbrev pub end_is_issued : AttemptState → Bool
+end_is_issued attempts.Scheduled = false
+end_is_issued attempts.Granted = false
+end_is_issued attempts.Saving = false
+end_is_issued attempts.Live = false
+end_is_issued attempts.Registered = false
+end_is_issued attempts.Finishing = false
+end_is_issued attempts.Ending = true
+end_is_issued attempts.Ended = true
+end_is_issued attempts.Dropped = false
 
 -- an attempt of which no end is issued didn't finish
-abbrev pub IsUnfinished : Option Current → Type 0
-IsUnfinished None = Unit {0}
-IsUnfinished (Some current) = is_over current.state ≡ false → current.finished ≡ false
+abbrev pub HasNotFinished : Option Current → Type 0
+HasNotFinished None = Unit {0}
+HasNotFinished (Some current) = end_is_issued current.state ≡ false → current.finished ≡ false
 
 -- in no row did an attempt finish of which no end is issued
 abbrev pub AreUnfinished : List (AppId × Option AppRow) → Type 0
-AreUnfinished rows = (id : AppId) (row : AppRow) → row_of rows id ≡ Some row → IsUnfinished row.current
+AreUnfinished rows = (id : AppId) (row : AppRow) → row_of rows id ≡ Some row → HasNotFinished row.current
 
 -- the life began over an application without an end exactly where the tables wait for nodes
 abbrev pub WaitsKnown : Records → Tables → Type 0

@@ -13,7 +13,7 @@ use Rattle.rm_types.specs.declared.texts.TextKind.TheVariants.{Node, Note}
 use Rattle.rm_types.specs.declared.limits.TheConstants.{EPOCHS, NUMBERS}
 use Rattle.rm_types.specs.Ranges.{IsAppId, IsAttemptId, IsContainerId, IsMasterOf, IsOperation, IsSubmission, IsText, IsWithin}
 use Rattle.rm_types.specs.Limits.{most_served}
-use Rattle.rm_book.specs.AskTables.{AsksOf, asks_of}
+use Rattle.rm_book.specs.AskTables.{AsksOf, attempt_asks}
 use Rattle.rm_tables.specs.declared.events.SchedEvent.{SchedEvent}
 use Rattle.rm_tables.specs.declared.events.SchedEvent.TheVariants as scheds
 use Rattle.rm_tables.specs.declared.nodes.NodeRow.{NodeRow}
@@ -21,11 +21,11 @@ use Rattle.rm_tables.specs.declared.rows.AppRow.{AppRow}
 use Rattle.rm_tables.specs.declared.rows.Current.{Current}
 use Rattle.rm_tables.specs.declared.tables.Tables.{Tables}
 use Rattle.rm_tables.specs.MainEvents.{finishing_in}
-use Rattle.rm_tables.specs.Nodes.{node_of}
-use Rattle.rm_tables.specs.Passing.{granted_by}
+use Rattle.rm_tables.specs.Nodes.{node_row}
+use Rattle.rm_tables.specs.Passing.{granted_number}
 use Rattle.rm_tables.specs.Rows.{row_of}
 use Rattle.rm_invariant.specs.nodes.Book.{All}
-use Rattle.rm_invariant.specs.messages.Ranges.{IsHeld, IsList, IsSize}
+use Rattle.rm_types.specs.Messages.{IsSize, IsList, IsHeld}
 
 -- what holds of a value where there is one
 abbrev pub IfThere : {X : Type 0} → (X → Type 0) → Option X → Type 0
@@ -81,7 +81,7 @@ is_update _ = false
 
 -- of an attempt, what was granted to it and what the passes on their way may yet grant are at most 256 a message
 pub record AreGrants (rows : List (AppId × Option AppRow)) (sched : List SchedEvent) (served : ℕ) : Type 0 where
-  pub each : (id : AttemptId) → granted_by id.number (row_of rows id.app) + 256 * count_by is_update sched ≤ 256 * served
+  pub each : (id : AttemptId) → granted_number id.number (row_of rows id.app) + 256 * count_by is_update sched ≤ 256 * served
 
 -- ASKS, CONTAINERS AND NODES
 
@@ -91,7 +91,7 @@ IsAsked ask = IsSize ask.size
 
 -- all that is asked for
 pub record AreAsked (table : List AsksOf) : Type 0 where
-  pub each : (attempt : AttemptId) → All IsAsked (asks_of table attempt)
+  pub each : (attempt : AttemptId) → All IsAsked (attempt_asks table attempt)
 
 -- a container in the book
 pub record IsBooked (row : BookRow) : Type 0 where
@@ -112,7 +112,7 @@ pub record IsNode (name : List ℕ) (row : NodeRow) : Type 0 where
 
 -- each of these rows
 pub record AreNodes (nodes : List (List ℕ × NodeRow)) : Type 0 where
-  pub each : (name : List ℕ) (row : NodeRow) → node_of nodes name ≡ Some row → IsNode name row
+  pub each : (name : List ℕ) (row : NodeRow) → node_row nodes name ≡ Some row → IsNode name row
 
 -- ALL OF IT
 

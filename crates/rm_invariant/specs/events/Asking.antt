@@ -7,7 +7,7 @@ use Rattle.rm_types.specs.declared.ids.AppId.{AppId}
 use Rattle.rm_types.specs.declared.ids.AttemptId.{AttemptId}
 use Rattle.rm_types.specs.declared.ids.ContainerId.{ContainerId}
 use Rattle.rm_types.specs.declared.records.AppRecord.{AppRecord}
-use Rattle.rm_book.specs.AskTables.{asks_of}
+use Rattle.rm_book.specs.AskTables.{attempt_asks}
 use Rattle.rm_model.specs.Attempts.{attempt_at}
 use Rattle.rm_tables.specs.declared.rows.AppRow.{AppRow}
 use Rattle.rm_tables.specs.declared.rows.Current.{Current}
@@ -27,12 +27,12 @@ is_numbered_in number None = false
 is_numbered_in number (Some row) = is_numbered number row.current
 
 -- the attempt is the current one of its application
-abbrev pub is_current : List (AppId × Option AppRow) → AttemptId → Bool
-is_current rows attempt = is_numbered_in attempt.number (row_of rows attempt.app)
+abbrev pub is_current_number : List (AppId × Option AppRow) → AttemptId → Bool
+is_current_number rows attempt = is_numbered_in attempt.number (row_of rows attempt.app)
 
 -- where the attempt that an application is at asks for something, it is the application's current one
 abbrev pub AskersCurrent : Tables → Type 0
-AskersCurrent t = (place : ℕ) (app : AppRecord) → slice_get t.tree.apps place ≡ Some app → asks_some t.asks (attempt_at app) ≡ true → is_current t.rows (attempt_at app) ≡ true
+AskersCurrent t = (place : ℕ) (app : AppRecord) → slice_get t.tree.apps place ≡ Some app → asks_some t.asks (attempt_at app) ≡ true → is_current_number t.rows (attempt_at app) ≡ true
 
 -- some of these asks are for something besides a master's container
 abbrev pub asks_others : List Ask → Bool
@@ -40,10 +40,10 @@ asks_others asks = list_any (λ ask. not (ask.priority == 0)) asks
 
 -- an attempt that asks for something besides its master's container is the current one of its application
 abbrev pub OthersCurrent : Tables → Type 0
-OthersCurrent t = (attempt : AttemptId) → asks_others (asks_of t.asks attempt) ≡ true → is_current t.rows attempt ≡ true
+OthersCurrent t = (attempt : AttemptId) → asks_others (attempt_asks t.asks attempt) ≡ true → is_current_number t.rows attempt ≡ true
 
 -- each of these grants is of its application's current attempt, and its sequence is one above how many were granted to that attempt before
 abbrev pub AreNext : List (AppId × Option AppRow) → List ContainerId → List Grant → Type 0
 AreNext rows granted [] = Unit {0}
 AreNext rows granted (grant ∷ grants) =
-    (is_current rows grant.id.attempt ≡ true) × (grant.id.seq ≡ grants_of granted grant.id.attempt + 1) × AreNext rows (granted ++ grant.id ∷ []) grants
+    (is_current_number rows grant.id.attempt ≡ true) × (grant.id.seq ≡ grants_of granted grant.id.attempt + 1) × AreNext rows (granted ++ grant.id ∷ []) grants

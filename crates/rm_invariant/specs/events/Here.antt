@@ -5,7 +5,7 @@ use Rattle.rm_types.specs.declared.ids.AppId.{AppId}
 use Rattle.rm_types.specs.declared.ids.AttemptId.{AttemptId}
 use Rattle.rm_types.specs.declared.ids.ContainerId.{ContainerId}
 use Rattle.rm_types.specs.Records.{record_of}
-use Rattle.rm_book.specs.Books.{BookOf, row_of as book_row_of}
+use Rattle.rm_book.specs.Books.{BookOf, book_row as book_row_of}
 use Rattle.rm_model.specs.Attempts.{attempt_was_first}
 use Rattle.rm_model.specs.State.{Release, Scene}
 use Rattle.rm_tables.specs.declared.events.SchedEvent.{SchedEvent}
@@ -15,17 +15,17 @@ use Rattle.rm_tables.specs.declared.nodes.NodeRow.{NodeRow}
 use Rattle.rm_tables.specs.declared.rows.AppRow.{AppRow}
 use Rattle.rm_tables.specs.declared.tables.Tables.{Tables}
 use Rattle.rm_tables.specs.Absorbing.{was_first}
-use Rattle.rm_tables.specs.Nodes.{node_of}
+use Rattle.rm_tables.specs.Nodes.{node_row}
 use Rattle.rm_tables.specs.Rows.{row_of}
 use Rattle.rm_tables.specs.SchedEvents.{is_on}
 
 -- each of these containers stands on a node
-abbrev pub are_on : BookOf → List ℕ → List ContainerId → Bool
-are_on book name ids = list_all (λ id. is_on name (book_row_of book id)) ids
+abbrev pub are_containers_on : BookOf → List ℕ → List ContainerId → Bool
+are_containers_on book name ids = list_all (λ id. is_on name (book_row_of book id)) ids
 
 -- what a node is to launch stands on it
 abbrev pub LaunchesHere : BookOf → List (List ℕ × NodeRow) → Type 0
-LaunchesHere book nodes = (name : List ℕ) (row : NodeRow) → node_of nodes name ≡ Some row → are_on book name row.launches ≡ true
+LaunchesHere book nodes = (name : List ℕ) (row : NodeRow) → node_row nodes name ≡ Some row → are_containers_on book name row.launches ≡ true
 
 -- an application of which the tables have no row has no record
 abbrev pub RowsKnow : Tables → Type 0
@@ -37,15 +37,15 @@ FirstsKnown m rows = (id : AttemptId) (row : AppRow) → row_of rows id.app ≡ 
 
 -- no node that registered is absent
 abbrev pub NoneAbsent : List (List ℕ × NodeRow) → Type 0
-NoneAbsent nodes = (name : List ℕ) (row : NodeRow) → node_of nodes name ≡ Some row → row.state ≢ states.Absent
+NoneAbsent nodes = (name : List ℕ) (row : NodeRow) → node_row nodes name ≡ Some row → row.state ≢ states.Absent
 
 -- a release is one of these
-abbrev pub IsServed : Release → List Release → Type 0
-IsServed one [] = ⊥
-IsServed one (served ∷ more) = (served ≡ one) ⊎ IsServed one more
+abbrev pub IsServedRelease : Release → List Release → Type 0
+IsServedRelease one [] = ⊥
+IsServedRelease one (served ∷ more) = (served ≡ one) ⊎ IsServedRelease one more
 
 -- each release that is on its way was served since the last Settled
 abbrev pub AreServed : List Release → List SchedEvent → Type 0
 AreServed releases [] = Unit {0}
-AreServed releases (scheds.Release attempt list ∷ more) = IsServed (record { attempt = attempt; list = list }) releases × AreServed releases more
+AreServed releases (scheds.Release attempt list ∷ more) = IsServedRelease (record { attempt = attempt; list = list }) releases × AreServed releases more
 AreServed releases (_ ∷ more) = AreServed releases more

@@ -5,7 +5,7 @@ use Rattle.rm_types.specs.declared.containers.Ask.{Ask}
 use Rattle.rm_types.specs.declared.ids.AppId.{AppId}
 use Rattle.rm_types.specs.declared.ids.AttemptId.{AttemptId}
 use Rattle.rm_types.specs.Ids.{is_app}
-use Rattle.rm_book.specs.AskTables.{asks_of}
+use Rattle.rm_book.specs.AskTables.{attempt_asks}
 use Rattle.rm_attempt.specs.Table.{is_alive}
 use Rattle.rm_tables.specs.declared.rows.AppRow.{AppRow}
 use Rattle.rm_tables.specs.declared.rows.Current.{Current}
@@ -35,8 +35,8 @@ are_single asks = list_all is_single asks
 -- each ask for a master's container is for one, and where an attempt asks for something besides, the current attempt of its application
 -- lives, or its end is issued
 pub record MastersAskOnce (t : Tables) : Type 0 where
-  pub single : (attempt : AttemptId) → are_single (asks_of t.asks attempt) ≡ true
-  pub others : (attempt : AttemptId) → asks_others (asks_of t.asks attempt) ≡ true → goes_in (row_of t.rows attempt.app) ≡ true
+  pub single : (attempt : AttemptId) → are_single (attempt_asks t.asks attempt) ≡ true
+  pub others : (attempt : AttemptId) → asks_others (attempt_asks t.asks attempt) ≡ true → goes_in (row_of t.rows attempt.app) ≡ true
 
 -- no two records are of one application
 abbrev pub AppsOnce : Tables → Type 0

@@ -47,20 +47,20 @@ rests_at attempts.Ended = true
 rests_at attempts.Dropped = false
 
 -- an attempt is being saved, ends or has ended
-abbrev pub waits_at : AttemptState → Bool
-waits_at attempts.Scheduled = false
-waits_at attempts.Granted = false
-waits_at attempts.Saving = true
-waits_at attempts.Live = false
-waits_at attempts.Registered = false
-waits_at attempts.Finishing = false
-waits_at attempts.Ending = true
-waits_at attempts.Ended = true
-waits_at attempts.Dropped = false
+abbrev pub is_past_grant : AttemptState → Bool
+is_past_grant attempts.Scheduled = false
+is_past_grant attempts.Granted = false
+is_past_grant attempts.Saving = true
+is_past_grant attempts.Live = false
+is_past_grant attempts.Registered = false
+is_past_grant attempts.Finishing = false
+is_past_grant attempts.Ending = true
+is_past_grant attempts.Ended = true
+is_past_grant attempts.Dropped = false
 
 -- an application may come to its end: it has not tried, or its current attempt isn't issued or has ended
-abbrev pub MayEnd : AppRow → Type 0
-MayEnd row = (row.state ≡ apps.Submitted) ⊎ ((is_active row.state ≡ true) × ((current : Current) × (row.current ≡ Some current) × (rests_at current.state ≡ true)))
+abbrev pub MayEndApp : AppRow → Type 0
+MayEndApp row = (row.state ≡ apps.Submitted) ⊎ ((is_active row.state ≡ true) × ((current : Current) × (row.current ≡ Some current) × (rests_at current.state ≡ true)))
 
 -- what is said of the end of an application: it is killed, or its last attempt ended so
 abbrev pub IsEndOfApp : Tables → AppId → How → List ℕ → Type 0
@@ -84,11 +84,11 @@ pub data Outcome (t : Tables) : Entry × Tables → Type 0 where
   -- it is accepted, and its first attempt scheduled
   accepts : (id : AppId) (row : AppRow) → row_of t.rows id ≡ Some row → row.state ≡ apps.Submitted → Outcome t (Accepted id, schedules (record { app = id; number = 1 }) t)
   -- the end of an application is issued
-  ends : (id : AppId) (row : AppRow) (how : How) (text : List ℕ) → row_of t.rows id ≡ Some row → MayEnd row → IsEndOfApp t id how text → Outcome t (ends_app id how text t)
+  ends : (id : AppId) (row : AppRow) (how : How) (text : List ℕ) → row_of t.rows id ≡ Some row → MayEndApp row → IsEndOfApp t id how text → Outcome t (ends_app id how text t)
   -- the end of an attempt that lives is issued, as its application is killed
   kills : (id : AttemptId) (row : AppRow) (current : Current) → IsCurrentOf t id.app row current → current.number ≡ id.number → is_alive current.state ≡ true → is_active row.state ≡ true → Outcome t (attempt_kill id t)
   -- an application is to be killed once its attempt is saved or has ended
-  delays : (id : AppId) (row : AppRow) (current : Current) → IsCurrentOf t id row current → waits_at current.state ≡ true → is_active row.state ≡ true → Outcome t (Quiet lanes.Main, app_changed of_app.Kill id t)
+  delays : (id : AppId) (row : AppRow) (current : Current) → IsCurrentOf t id row current → is_past_grant current.state ≡ true → is_active row.state ≡ true → Outcome t (Quiet lanes.Main, app_changed of_app.Kill id t)
   -- an attempt is issued that was granted its master's container
   issues : (container : ContainerId) (node : List ℕ) (row : AppRow) (current : Current) → IsCurrentOf t container.attempt.app row current → current.state ≡ attempts.Granted
       → (current.number == container.attempt.number) ≡ true → is_master_of container current.master ≡ true → node_at t.book container ≡ Some node

@@ -63,9 +63,9 @@ is_finish c (mains.AttemptFinish id) = is_attempt id c.attempt
 is_finish c _ = false
 
 -- the attempt's containers are to end
-abbrev pub is_removal : ContainerId → SchedEvent → Bool
-is_removal c (scheds.AttemptRemoved id) = is_attempt id c.attempt
-is_removal c _ = false
+abbrev pub is_attempt_removal : ContainerId → SchedEvent → Bool
+is_attempt_removal c (scheds.AttemptRemoved id) = is_attempt id c.attempt
+is_attempt_removal c _ = false
 
 -- the operation is the Attempt of which the container is the master's
 abbrev pub is_saving : ContainerId → Op → Bool
@@ -83,7 +83,7 @@ container_view h t c =
       launches = count_by (is_launch c.attempt) t.main;
       expiries = count_by (is_expiry c) t.main;
       finishes = count_by (is_finish c) t.main;
-      removals = count_by (is_removal c) t.sched;
+      removals = count_by (is_attempt_removal c) t.sched;
       living = is_living h.book c;
       left = has_container h.endings.left c;
       ordered = has_container h.masters.ordered c;
@@ -106,7 +106,7 @@ container_view_main c e v =
 
 -- the view with one more event of the scheduler's queue
 abbrev pub container_view_sched : ContainerId → SchedEvent → ContainerView → ContainerView
-container_view_sched c e v = record v { removals = one_if (is_removal c e) v.removals }
+container_view_sched c e v = record v { removals = one_if (is_attempt_removal c e) v.removals }
 
 -- the view with one more awaiting operation
 abbrev pub container_view_op : ContainerId → Op → ContainerView → ContainerView

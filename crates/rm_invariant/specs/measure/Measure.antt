@@ -112,9 +112,9 @@ current_measure None = 0
 current_measure (Some current) = attempt_measure current.state
 
 -- the number of the current attempt, and 0 where there is none
-abbrev pub number_in : Option Current → ℕ
-number_in None = 0
-number_in (Some current) = current.number
+abbrev pub current_number : Option Current → ℕ
+current_number None = 0
+current_number (Some current) = current.number
 
 -- an application weighs its end, until that is issued, and each attempt that may come after its current one
 abbrev pub app_measure : ℕ → AppState → ℕ → ℕ
@@ -131,7 +131,7 @@ app_measure most apps.Killed number = 0
 
 -- a row weighs its application and its current attempt, and a slot its row: nothing where the application was removed
 abbrev pub row_measure : ℕ → AppRow → ℕ
-row_measure most row = app_measure most row.state (number_in row.current) + current_measure row.current
+row_measure most row = app_measure most row.state (current_number row.current) + current_measure row.current
 
 -- a slot counts its row, and nothing where the application was removed
 abbrev pub slot_measure : ℕ → Option AppRow → ℕ

@@ -25,5 +25,5 @@ FitsCurrent found dialogue (Some current) =
     ⊎ ((current.number ≡ length (attempts_in found) + 1) × (may_go_on (attempts_in found) ≡ true) × (dialogue ≡ None))
 
 -- and so is that of every row
-abbrev pub RowsFit : Tables → Type 0
-RowsFit t = (id : AppId) (row : AppRow) → row_of t.rows id ≡ Some row → FitsCurrent (record_of t.tree.apps id) row.dialogue row.current
+abbrev pub EachRowFits : Tables → Type 0
+EachRowFits t = (id : AppId) (row : AppRow) → row_of t.rows id ≡ Some row → FitsCurrent (record_of t.tree.apps id) row.dialogue row.current

@@ -18,31 +18,11 @@ use Rattle.rm_types.specs.declared.settings.Settings.{Settings}
 use Rattle.rm_types.specs.declared.texts.TextKind.TheVariants.{Node, Note}
 use Rattle.rm_types.specs.Limits.{greatest_attempts, greatest_memory_mb, greatest_vcores}
 use Rattle.rm_types.specs.Ranges.{IsContainerId, IsOperation, IsText, IsWithin}
+use Rattle.rm_types.specs.Messages.{IsSize, IsList, IsHeld, IsAsk}
 
 -- the settings allow at least one attempt of an application, and no more than the most
 abbrev pub KeepsLimits : Settings → Type 0
 KeepsLimits settings = IsWithin 1 greatest_attempts settings.max_attempts
-
--- the size of a container or a node: up to 16 TiB and 256 cores
-pub record IsSize (size : Resource) : Type 0 where
-  pub memory : IsWithin 1 greatest_memory_mb size.memory_mb
-  pub vcores : IsWithin 1 greatest_vcores size.vcores
-
--- a list of at most a thousand
-pub record IsList {X : Type 0} (Fits : X → Type 0) (items : List X) : Type 0 where
-  pub few : length items ≤ 1000
-  pub each : All Fits items
-
--- a container that is reported to run
-pub record IsHeld (held : Held) : Type 0 where
-  pub id : IsContainerId held.id
-  pub size : IsSize held.size
-
--- what a master asks for; a count of 0 takes an ask away
-pub record IsAsk (ask : Ask) : Type 0 where
-  pub priority : IsWithin 1 1000 ask.priority
-  pub count : IsWithin 0 1000 ask.count
-  pub size : IsSize ask.size
 
 -- a response id has a next one
 abbrev pub IsResponse : ℕ → Type 0

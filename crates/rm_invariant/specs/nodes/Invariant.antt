@@ -7,7 +7,7 @@ use Rattle.rm_types.specs.Lists.{is_nil}
 use Rattle.rm_model.specs.State.{NodeState, Phase, Row, Undone, Registered, Beat, Expired}
 use Rattle.rm_model.specs.Facts.{has_container}
 use Rattle.rm_model.specs.Containers.{ids_on}
-use Rattle.rm_model.specs.Nodes.{without_idle, is_waiting, node_of}
+use Rattle.rm_model.specs.Nodes.{without_idle, is_waiting, judged_node}
 use Rattle.rm_tables.specs.declared.events.SchedEvent.{SchedEvent}
 use Rattle.rm_tables.specs.declared.events.SchedEvent.TheVariants.{NodeAdded, NodeDone, NodeUpdate, NodeLost}
 
@@ -18,12 +18,12 @@ is_idle_by phase turn on (Beat done) = false
 is_idle_by phase turn on Expired = is_nil on
 
 -- the event is of this node
-abbrev pub is_of : List ℕ → SchedEvent → Bool
-is_of name (NodeAdded node turn) = bytes_eq node name
-is_of name (NodeDone node list) = bytes_eq node name
-is_of name (NodeUpdate node) = bytes_eq node name
-is_of name (NodeLost node) = bytes_eq node name
-is_of name _ = false
+abbrev pub is_nodes_event : List ℕ → SchedEvent → Bool
+is_nodes_event name (NodeAdded node turn) = bytes_eq node name
+is_nodes_event name (NodeDone node list) = bytes_eq node name
+is_nodes_event name (NodeUpdate node) = bytes_eq node name
+is_nodes_event name (NodeLost node) = bytes_eq node name
+is_nodes_event name _ = false
 
 -- what a node's events are still to work off, where a done list was worked off before the first of them: a done list and
 -- the update after it are one beat
@@ -78,17 +78,17 @@ pub record RegisteredInvariant (v : NodeView) : Type 0 where
 
 -- the events of a node in the scheduler's queue
 abbrev pub events_of : List ℕ → List SchedEvent → List SchedEvent
-events_of name sched = filter (is_of name) sched
+events_of name sched = filter (is_nodes_event name) sched
 
 -- a node with its events and the containers on it
-abbrev pub view_of : NodeState → List SchedEvent → List ContainerId → NodeView
-view_of node events on = record { turn = node.last.turn; phase = node.phase; on = on; events = events; undone = node.undone }
+abbrev pub node_view : NodeState → List SchedEvent → List ContainerId → NodeView
+node_view node events on = record { turn = node.last.turn; phase = node.phase; on = on; events = events; undone = node.undone }
 
 -- what holds of a name: where a node has it, and where none has
 abbrev pub NodeInvariant : Option NodeState → List SchedEvent → List ContainerId → Type 0
 NodeInvariant None events on = (events ≡ []) × (on ≡ [])
-NodeInvariant (Some node) events on = RegisteredInvariant (view_of node events on)
+NodeInvariant (Some node) events on = RegisteredInvariant (node_view node events on)
 
 -- it holds of every name there may be, with the node, the events and the containers that have it
 abbrev pub NodesInvariant : List NodeState → List Row → List SchedEvent → Type 0
-NodesInvariant nodes book sched = (q : List ℕ) → NodeInvariant (node_of nodes q) (events_of q sched) (ids_on book q)
+NodesInvariant nodes book sched = (q : List ℕ) → NodeInvariant (judged_node nodes q) (events_of q sched) (ids_on book q)

@@ -1,9 +1,9 @@
 -- The names of nodes.
 use Rattle.std.specs.Prelude.{◌≡◌, List, [], ◌∷◌, None}
 use Rattle.rm_model.specs.State.{NodeState}
-use Rattle.rm_model.specs.Nodes.{node_of}
+use Rattle.rm_model.specs.Nodes.{judged_node}
 
 -- no two nodes have one name
 abbrev pub NamesApart : List NodeState → Type 0
 NamesApart [] = Unit {0}
-NamesApart (node ∷ nodes) = (node_of nodes node.name ≡ None) × NamesApart nodes
+NamesApart (node ∷ nodes) = (judged_node nodes node.name ≡ None) × NamesApart nodes

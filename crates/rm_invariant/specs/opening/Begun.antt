@@ -5,7 +5,7 @@ use Rattle.rm_types.specs.Ids.{is_app}
 use Rattle.rm_types.specs.Records.{Records, records}
 use Rattle.rm_tables.specs.declared.tables.Tables.{Tables}
 use Rattle.rm_tables.specs.Lives.{begun}
-use Rattle.rm_invariant.specs.apps.Completed.{order_of}
+use Rattle.rm_invariant.specs.apps.Completed.{completion_order}
 use Rattle.rm_refinement.specs.History.{History, initial_history}
 use Rattle.rm_invariant.specs.masters.Invariant.{MastersAreOwn}
 use Rattle.rm_invariant.specs.masters.Sound.{RecordsAreSound}
@@ -14,7 +14,7 @@ use Rattle.rm_invariant.specs.masters.Sound.{RecordsAreSound}
 -- masters of their own
 pub record IsStored (tree : Records) : Type 0 where
   pub once : (id : AppId) → count_by (λ app. is_app app.id id) tree.apps ≤ 1
-  pub early : (id : AppId) → order_of tree.apps id ≤ tree.applied
+  pub early : (id : AppId) → completion_order tree.apps id ≤ tree.applied
   pub sound : RecordsAreSound tree.apps
   pub apt : MastersAreOwn tree.apps
 

@@ -1,39 +1,39 @@
-use Rattle.rm_app.specs.Table.{Row}
+use Rattle.rm_app.specs.Table.{AppTransition}
 use Rattle.rm_app.proofs.Rows.{row_of_end, end_answered}
 use Rattle.rm_app.proofs.transitions.step.Goals as goal
 
 pub returns-in-New-Start-clause-row : goal.returns-in-New-Start-clause-row
-returns-in-New-Start-clause-row c = rw (c.in-New-Start.is-0, c.in-New-Start.is-1) Row.start
+returns-in-New-Start-clause-row c = rw (c.in-New-Start.is-0, c.in-New-Start.is-1) AppTransition.start
 
 pub returns-in-NewSaving-Kept-clause-row : goal.returns-in-NewSaving-Kept-clause-row
-returns-in-NewSaving-Kept-clause-row c = rw (c.in-NewSaving-Kept.is-0, c.in-NewSaving-Kept.is-1) Row.kept
+returns-in-NewSaving-Kept-clause-row c = rw (c.in-NewSaving-Kept.is-0, c.in-NewSaving-Kept.is-1) AppTransition.kept
 
 pub returns-in-Submitted-Accept-clause-row : goal.returns-in-Submitted-Accept-clause-row
-returns-in-Submitted-Accept-clause-row c = rw (c.in-Submitted-Accept.is-0, c.in-Submitted-Accept.is-1) Row.accept
+returns-in-Submitted-Accept-clause-row c = rw (c.in-Submitted-Accept.is-0, c.in-Submitted-Accept.is-1) AppTransition.accept
 
 pub returns-in-Submitted-End-clause-row : goal.returns-in-Submitted-End-clause-row
-returns-in-Submitted-End-clause-row c = rw (c.in-Submitted-End.is-0, c.in-Submitted-End.is-1) Row.end_submitted
+returns-in-Submitted-End-clause-row c = rw (c.in-Submitted-End.is-0, c.in-Submitted-End.is-1) AppTransition.end_submitted
 
 pub returns-in-Accepted-Register-clause-row : goal.returns-in-Accepted-Register-clause-row
-returns-in-Accepted-Register-clause-row c = rw (c.in-Accepted-Register.is-0, c.in-Accepted-Register.is-1) Row.register
+returns-in-Accepted-Register-clause-row c = rw (c.in-Accepted-Register.is-0, c.in-Accepted-Register.is-1) AppTransition.register
 
 pub returns-in-Accepted-Kill-clause-row : goal.returns-in-Accepted-Kill-clause-row
-returns-in-Accepted-Kill-clause-row c = rw (c.in-Accepted-Kill.is-0, c.in-Accepted-Kill.is-1) Row.kill_accepted
+returns-in-Accepted-Kill-clause-row c = rw (c.in-Accepted-Kill.is-0, c.in-Accepted-Kill.is-1) AppTransition.kill_accepted
 
 pub returns-in-Accepted-End-clause-row : goal.returns-in-Accepted-End-clause-row
-returns-in-Accepted-End-clause-row c = rw (c.in-Accepted-End.is-0, c.in-Accepted-End.is-1) Row.end_accepted
+returns-in-Accepted-End-clause-row c = rw (c.in-Accepted-End.is-0, c.in-Accepted-End.is-1) AppTransition.end_accepted
 
 pub returns-in-Running-Failed-clause-row : goal.returns-in-Running-Failed-clause-row
-returns-in-Running-Failed-clause-row c = rw (c.in-Running-Failed.is-0, c.in-Running-Failed.is-1) Row.attempt_failed
+returns-in-Running-Failed-clause-row c = rw (c.in-Running-Failed.is-0, c.in-Running-Failed.is-1) AppTransition.attempt_failed
 
 pub returns-in-Running-Kill-clause-row : goal.returns-in-Running-Kill-clause-row
-returns-in-Running-Kill-clause-row c = rw (c.in-Running-Kill.is-0, c.in-Running-Kill.is-1) Row.kill_running
+returns-in-Running-Kill-clause-row c = rw (c.in-Running-Kill.is-0, c.in-Running-Kill.is-1) AppTransition.kill_running
 
 pub returns-in-Running-End-clause-row : goal.returns-in-Running-End-clause-row
-returns-in-Running-End-clause-row c = rw (c.in-Running-End.is-0, c.in-Running-End.is-1) Row.end_running
+returns-in-Running-End-clause-row c = rw (c.in-Running-End.is-0, c.in-Running-End.is-1) AppTransition.end_running
 
 pub returns-in-Killing-End-clause-row : goal.returns-in-Killing-End-clause-row
-returns-in-Killing-End-clause-row c = rw (c.in-Killing-End.is-0, c.in-Killing-End.is-1) Row.end_killing
+returns-in-Killing-End-clause-row c = rw (c.in-Killing-End.is-0, c.in-Killing-End.is-1) AppTransition.end_killing
 
 pub returns-in-FinalSaving-EndKept-clause-row : goal.returns-in-FinalSaving-EndKept-clause-row
 returns-in-FinalSaving-EndKept-clause-row c =

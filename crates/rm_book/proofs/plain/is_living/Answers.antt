@@ -1,10 +1,10 @@
 use Rattle.std.proofs.Common.{◌≡◌, ◌↔◌, Bool, true, false, not, IsTrue, refl}
 use Rattle.rm_types.specs.declared.containers.ContainerState.{ContainerState}
 use Rattle.rm_types.specs.declared.containers.ContainerState.TheVariants.{Granted, Acquired, Running, Completed}
-use Rattle.rm_book.specs.Books.{is_living}
+use Rattle.rm_book.specs.Books.{is_living_state}
 use Rattle.rm_book.proofs.plain.is_living.Goals as goal
 
-living_unless : (s : ContainerState) (b : Bool) → (IsTrue b ↔ (s ≡ Completed)) → not b ≡ is_living s
+living_unless : (s : ContainerState) (b : Bool) → (IsTrue b ↔ (s ≡ Completed)) → not b ≡ is_living_state s
 living_unless Granted true which = let e : Granted ≡ Completed = which.0 refl in cc
 living_unless Granted false which = refl
 living_unless Acquired true which = let e : Acquired ≡ Completed = which.0 refl in cc

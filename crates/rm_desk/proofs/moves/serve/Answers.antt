@@ -6,7 +6,7 @@ use Rattle.rm_types.specs.Lanes.{feed_lane}
 use Rattle.rm_model.specs.Place.{first_from, messages_left}
 use Rattle.rm_types.specs.Limits.{most_served}
 use Rattle.rm_core.specs.Words.{IsServable, ready_at, served_in}
-use Rattle.rm_desk.specs.Feeds.{place_of}
+use Rattle.rm_desk.specs.Feeds.{feeds_place}
 use Rattle.rm_desk.proofs.Feeding.{feed_ready}
 use Rattle.rm_desk.proofs.Moving.{fed_in, first_served, found_some, serve_does}
 use Rattle.rm_desk.proofs.Words.{client_stands}
@@ -20,7 +20,7 @@ step-requires c =
     let m = c.in-Some.message.now in
     let first = sym c.in-Some.ensures in
     let close = fed_in f c.requires.entered (found_some sender f.feed m first) f.close refl in
-    let ready = and_parts (ready_at core (feed_lane sender)) (is_some (first_from sender (messages_left (place_of f).segments))) c.requires.ready in
+    let ready = and_parts (ready_at core (feed_lane sender)) (is_some (first_from sender (messages_left (feeds_place f).segments))) c.requires.ready in
     subst (λ (one : Message). IsServable one × (served_in core < most_served)) (sym c.in_ok-message.ensures)
     (first_served f close.0 close.1 sender m first core c.requires.sound (client_stands core (sym (feed_ready sender core) ∙ ready.0)))
 

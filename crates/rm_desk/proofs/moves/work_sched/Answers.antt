@@ -2,11 +2,11 @@ use Rattle.std.proofs.Common.{refl}
 use Rattle.rm_core.specs.declared.manager.Move.TheVariants.{Sched}
 use Rattle.rm_types.specs.declared.messages.Lane.TheVariants as lanes
 use Rattle.rm_desk.specs.Effects.{IsEntryOf}
-use Rattle.rm_desk.specs.Feeds.{at, place_of}
+use Rattle.rm_desk.specs.Feeds.{at, feeds_place}
 use Rattle.rm_desk.proofs.Moving.{sched_entry, silent_does}
 use Rattle.rm_desk.proofs.moves.work_sched.Goals as goal
 
 pub returns-clause-does : goal.returns-clause-does
 returns-clause-does c =
-    silent_does lanes.Sched c.args.core.now c.step.new.self (place_of c.args.feeds.now) c.requires.sound Sched (IsEntryOf lanes.Sched (at c.args.core.now c.args.feeds.now)) (sched_entry (at c.args.core.now c.args.feeds.now)) (λ ops. tt) c.step.result
+    silent_does lanes.Sched c.args.core.now c.step.new.self (feeds_place c.args.feeds.now) c.requires.sound Sched (IsEntryOf lanes.Sched (at c.args.core.now c.args.feeds.now)) (sched_entry (at c.args.core.now c.args.feeds.now)) (λ ops. tt) c.step.result
     tt refl c.requires.ready c.step.ensures.does (λ less. less) (λ lives. lives) refl c.requires.sound.blown

@@ -1,6 +1,6 @@
 use Rattle.rm_core.specs.Words.{new_manager}
 use Rattle.rm_plain.specs.Policy.{run_after}
-use Rattle.rm_plain.specs.Schedule.{StopsAt, left_after, steps_of}
+use Rattle.rm_plain.specs.Schedule.{StopsAt, letters_left, steps_of}
 use Rattle.rm_plain.specs.Stops.{IsDue}
 use Rattle.rm_plain.proofs.Moving.{ok_holds}
 use Rattle.rm_main.specs.Made.{Made}
@@ -26,7 +26,7 @@ returns-clause-ran g c =
       downs = rw same at of.downs;
       fallen = of.falls;
       done = λ is. of.done (done_ended result.ended written.result is);
-      caused = caused g.D.Disk.view (IsDue c.args.inputs.script result.opening result.log) (StopsAt (left_after steps result.log) (run_after (new_manager c.args.alloc c.args.inputs.settings) c.args.inputs.script result.opening result.log)) made result.ended written.result
+      caused = caused g.D.Disk.view (IsDue c.args.inputs.script result.opening result.log) (StopsAt (letters_left steps result.log) (run_after (new_manager c.args.alloc c.args.inputs.settings) c.args.inputs.script result.opening result.log)) made result.ended written.result
           written.ensures.of_writing (rw same at of.stopped);
       idle = λ none. let i = of.idle none in (i.0, i.1);
     })

@@ -1,6 +1,6 @@
 use Rattle.std.proofs.Common.{◌≡◌, None, Some, ap, refl, subst}
 use Rattle.std.specs.Prelude.{map, string_bytes}
-use Rattle.rm_main.specs.Complete.{IsAccepted, IsFollowed}
+use Rattle.rm_main.specs.Complete.{IsAccepted, ScheduleIsFollowed}
 use Rattle.rm_main.specs.Made.{made_by}
 use Rattle.rm_main.proofs.Completing.{complete}
 use Rattle.rm_words.specs.Words.{asked, mode_of, plain_mode_of, without_threads}
@@ -12,7 +12,7 @@ returns-in-Ok-Some-clause-complete g c = λ accepted place followed none.
     let run = c.run_line.ensures in
     let made = made_by c.args.disk c.run_line.result in
     let asks : plain_mode_of (map string_bytes c.args.words.now) ≡ without_threads (Some (asked c.in-Ok-Some.line.mode)) = ap without_threads (rw c.in-Ok-Some.field-0-is at c.in-Ok-Some.ensures.some) in
-    complete g.D.Disk.view told made place (without_threads (Some (asked c.in-Ok-Some.line.mode))) (subst (IsAccepted told) asks accepted) (subst (λ o. IsFollowed told o made) asks followed)
+    complete g.D.Disk.view told made place (without_threads (Some (asked c.in-Ok-Some.line.mode))) (subst (IsAccepted told) asks accepted) (subst (λ o. ScheduleIsFollowed told o made) asks followed)
     _ _ _ _ _ _ none c.run_line.result.outcome run.ends run.read_fault run.writes.write_fault run.writes.took_nothing
 
 pub returns-in-Ok-Some-clause-flags : goal.returns-in-Ok-Some-clause-flags

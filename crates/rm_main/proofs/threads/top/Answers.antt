@@ -1,6 +1,6 @@
 use Rattle.std.proofs.Common.{◌≡◌, ◌∙◌, None, Some, ap, refl, subst}
 use Rattle.std.specs.Prelude.{map, string_bytes}
-use Rattle.rm_main.specs.Complete.{IsAccepted, IsFollowed}
+use Rattle.rm_main.specs.Complete.{IsAccepted, ScheduleIsFollowed}
 use Rattle.rm_main.specs.Made.{made_by}
 use Rattle.rm_main.proofs.Completing.{complete}
 use Rattle.rm_words.specs.Words.{Asked, Run, Workers, asked, mode_of}
@@ -13,7 +13,7 @@ returns-clause-complete g c = λ accepted place followed none.
     let made = made_by c.args.disk c.run_files_by_workers.result in
     let is : Asked = Run c.in-Some.cluster.now c.in-Some.script.now None Workers in
     let asks : mode_of (map string_bytes c.args.words.now) ≡ Some is = (rw c.in-Ok-Some.field-0-is at c.in-Ok-Some.ensures.some) ∙ ap (λ (a : Asked). Some a) c.in-Some.ensures.some in
-    complete g.D.Disk.view told made place (Some is) (subst (IsAccepted told) asks accepted) (subst (λ o. IsFollowed told o made) asks followed)
+    complete g.D.Disk.view told made place (Some is) (subst (IsAccepted told) asks accepted) (subst (λ o. ScheduleIsFollowed told o made) asks followed)
     _ _ _ _ _ _ none c.run_files_by_workers.result.outcome run.ends run.read_fault run.writes.write_fault run.writes.took_nothing
 
 pub returns-clause-flags : goal.returns-clause-flags

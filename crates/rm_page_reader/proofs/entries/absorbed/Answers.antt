@@ -6,7 +6,7 @@ use Rattle.rm_types.specs.declared.texts.TextKind.TheVariants.{Node}
 use Rattle.rm_types.specs.Ranges.{IsText, IsContainerId}
 use Rattle.rm_formats.specs.IdTexts.{container_text}
 use Rattle.rm_formats.specs.Wording.{bracketed}
-use Rattle.rm_page.specs.Ranges.{IsHeld}
+use Rattle.rm_page.specs.Ranges.{IsPageHeld}
 use Rattle.rm_page_reader.proofs.Found.{stops_word, left_same}
 use Rattle.rm_page_reader.proofs.EntryParts.{absorbed_parts}
 use Rattle.rm_page_reader.proofs.entries.absorbed.Goals as goal
@@ -18,7 +18,7 @@ returns-in_err-node c =
 
 pub returns-in_err-taken : goal.returns-in_err-taken
 returns-in_err-taken c =
-    stops_word c.from_residual-in_err-taken.result c.in_err-taken.field-0.0 _ (λ (items : List Held). codes "taken=" ++ bracketed (map (λ held. container_text held.id) items)) (All IsHeld) c.boxed_node.new.words c.from_residual-in_err-taken.ensures.1 c.in_err-taken.ensures
+    stops_word c.from_residual-in_err-taken.result c.in_err-taken.field-0.0 _ (λ (items : List Held). codes "taken=" ++ bracketed (map (λ held. container_text held.id) items)) (All IsPageHeld) c.boxed_node.new.words c.from_residual-in_err-taken.ensures.1 c.in_err-taken.ensures
     (λ entry of. let parts = absorbed_parts c.args.words entry of in (parts.taken, _, left_same c.in_ok-node.ensures.0 parts.same, parts.taken_are))
 
 pub returns-in_err-ended : goal.returns-in_err-ended

@@ -2,7 +2,7 @@ use Rattle.std.proofs.Common.{◌≡◌, ℕ, List, ◌<◌, length, map, get_or
 use Rattle.std.proofs.lemmas.List.{length-map, get_or-map, take_all}
 use Rattle.rm_formats.specs.Wording.{listed}
 use Rattle.rm_page.proofs.Bytes.{cut}
-use Rattle.rm_page_reader.specs.Results.{IsOf}
+use Rattle.rm_script.specs.Results.{IsOf}
 use Rattle.rm_page_reader.proofs.Found.{stops}
 use Rattle.rm_page_reader.proofs.Listing.{list_read, no_list}
 use Rattle.rm_page_reader.proofs.lists.items_of.Goals as goal

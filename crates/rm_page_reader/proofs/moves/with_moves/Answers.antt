@@ -4,7 +4,7 @@ use Rattle.std.proofs.lemmas.List.Elements.{All-nil, All-from_recursion, recursi
 use Rattle.std.specs.Option.{option_to_list}
 use Rattle.rm_formats.specs.Page.{letters}
 use Rattle.rm_page.specs.Ranges.{IsEntry}
-use Rattle.rm_page_reader.specs.Answers.{Fit, IsTold}
+use Rattle.rm_page_reader.specs.Answers.{Fit, IsToldEntry}
 use Rattle.rm_page_reader.proofs.Fronts.{all_pushed}
 use Rattle.rm_page_reader.proofs.Moving.{own_letters, none_left, taken_lines, silent_lines, more_letters, taken_letter, fits_taken, fits_skipped}
 use Rattle.rm_page_reader.proofs.moves.with_moves.Goals as goal
@@ -35,11 +35,11 @@ letters-preserved c =
           let there = c.is_at.ensures.there w.if-is_at.true in
           let first = w.next.ensures.items ∙ ap (λ next. option_to_list next ++ into_iter_items w.next.new.self) w.in_ok-ok_or.ensures.ok_part in
           let letter = taken_letter (into_iter_items c.letters.left) (into_iter_items w.next.new.self) w.in_ok-ok_or.field-0 own c.letters.place (get_or moves c.letters.letter-index 0) before.own first there in
-          let told = recursion_from_All IsTold (w.in_ok-ok_or.field-0 ∷ into_iter_items w.next.new.self) (subst (All IsTold) first before.told) in
+          let told = recursion_from_All IsToldEntry (w.in_ok-ok_or.field-0 ∷ into_iter_items w.next.new.self) (subst (All IsToldEntry) first before.told) in
           let pushed = w.log-is ∙ w.in_ok-push.ensures.ok in
           record {
             ranges = all_pushed IsEntry c.letters.log c.if-is_at.log w.in_ok-ok_or.field-0 pushed before.ranges told.0.ranges;
-            told = rw w.left-is (All-from_recursion IsTold (into_iter_items w.next.new.self) told.1);
+            told = rw w.left-is (All-from_recursion IsToldEntry (into_iter_items w.next.new.self) told.1);
             lines = rw (pushed, w.left-is) (taken_lines c.args.heard c.letters.log (into_iter_items c.letters.left) (into_iter_items w.next.new.self) w.in_ok-ok_or.field-0 before.lines first);
             first = rw pushed (more_letters c.letters.log w.in_ok-ok_or.field-0 moves c.letters.letter-index before.first letter.0 c.letters-test.true);
             own = rw (w.left-is, w.place-is) letter.1;

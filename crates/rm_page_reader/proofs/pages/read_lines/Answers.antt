@@ -1,13 +1,13 @@
 use Rattle.std.proofs.Common.{sym, subst, ◌∙◌}
 use Rattle.std.proofs.lemmas.List.Elements.{All-nil}
-use Rattle.rm_page_reader.specs.Answers.{IsTold}
+use Rattle.rm_page_reader.specs.Answers.{IsToldEntry}
 use Rattle.rm_page_reader.proofs.Fronts.{all_pushed}
 use Rattle.rm_page_reader.proofs.Paging.{IsLeft, all_left, next_line, moves_line_is, end_is, some_bytes, none_left, want_at}
 use Rattle.rm_page_reader.proofs.pages.read_lines.Goals as goal
 
 pub lines-init : goal.lines-init
 lines-init c = record {
-  told = rw c.new-heard.ensures (All-nil IsTold);
+  told = rw c.new-heard.ensures (All-nil IsToldEntry);
   only = λ log moves all e. rw (c.new-heard.ensures, e) (all_left log moves all);
 }
 
@@ -28,7 +28,7 @@ lines-preserved c =
     let pushed = c.in_ok-push-in-Ok.ensures.ok in
     let some = some_bytes c.lines.rest.now (sym c.is_empty.ensures ∙ c.lines-test.true) in
     record {
-      told = all_pushed IsTold c.lines.heard c.push.new.self c.in-Ok.entry pushed c.lines.invariant.told c.in-Ok.ensures.told;
+      told = all_pushed IsToldEntry c.lines.heard c.push.new.self c.in-Ok.entry pushed c.lines.invariant.told c.in-Ok.ensures.told;
       only = λ log moves all e.
           let next =
           next_line log moves c.lines.heard c.lines.rest.now c.cut_line.result.0.now c.cut_line.result.1.now (c.lines.invariant.only log moves all e) some c.cut_line.ensures.cut (c.letters_in.ensures.none c.in_default.is) in

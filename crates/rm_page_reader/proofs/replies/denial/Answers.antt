@@ -3,7 +3,7 @@ use Rattle.std.proofs.lemmas.List.{map-id}
 use Rattle.rm_types.specs.declared.texts.TextKind.TheVariants.{Queue}
 use Rattle.rm_types.specs.Ranges.{IsText}
 use Rattle.rm_formats.specs.Wording.{listed}
-use Rattle.rm_page_reader.specs.Results.{IsOf}
+use Rattle.rm_script.specs.Results.{IsOf}
 use Rattle.rm_page_reader.proofs.Found.{stops, stops_word, first_same, left_same}
 use Rattle.rm_page_reader.proofs.OpParts.{behind_first}
 use Rattle.rm_page_reader.proofs.replies.denial.Goals as goal

@@ -2,7 +2,7 @@ use Rattle.std.proofs.Common.{◌≡◌, [], true, List}
 use Rattle.rm_types.specs.declared.operations.Op.{Op}
 use Rattle.rm_store.specs.Store.{seen}
 use Rattle.rm_core.specs.Words.{stands}
-use Rattle.rm_desk.specs.Runs.{left}
+use Rattle.rm_desk.specs.Runs.{moves_left}
 use Rattle.rm_plain.specs.Goes.{ExtendsRun}
 use Rattle.rm_plain.specs.Keeping.{FuseStays, Serves, StoresOn}
 use Rattle.rm_plain.specs.Schedule.{IsAt, order_of}
@@ -20,4 +20,4 @@ invariant-moves g l = record {
 }
 
 abbrev pub decreases-moves : goal.decreases-moves
-decreases-moves g l = left l.d
+decreases-moves g l = moves_left l.d

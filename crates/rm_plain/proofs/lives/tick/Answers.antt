@@ -5,14 +5,14 @@ use Rattle.rm_types.specs.declared.messages.Lane.{Lane}
 use Rattle.rm_plain.specs.declared.halts.Halt.{Halt}
 use Rattle.rm_plain.specs.declared.schedule.Step.{Step}
 use Rattle.rm_plain.specs.Policy.{first_ready}
-use Rattle.rm_plain.specs.Schedule.{by_letters, chosen, left_after, left_of, steps_of, used_by}
+use Rattle.rm_plain.specs.Schedule.{by_letters, chosen, letters_left, course_left, steps_of, used_by}
 use Rattle.rm_plain.proofs.Choosing.{chosen_ready, left_push, letters_halt, letters_may}
 use Rattle.rm_plain.proofs.Ending.{at_end, comes_to_rest}
 use Rattle.rm_plain.proofs.Halting.{halts_as, halts_here}
 use Rattle.rm_plain.proofs.lives.tick.Goals as goal
 
 pub advance-requires-clause-ready : goal.advance-requires-clause-ready
-advance-requires-clause-ready g c = chosen_ready (left_of c.args.schedule.now) c.args.d.now c.in-Some.lane (sym c.in_ok-lane.ensures.chosen ∙ c.in-Some.is)
+advance-requires-clause-ready g c = chosen_ready (course_left c.args.schedule.now) c.args.d.now c.in-Some.lane (sym c.in_ok-lane.ensures.chosen ∙ c.in-Some.is)
 
 pub advance-requires-clause-chosen : goal.advance-requires-clause-chosen
 advance-requires-clause-chosen g c =
@@ -25,20 +25,20 @@ returns-in_err-lane-clause-halts g c =
     rw (p.1 ∙ ap (λ (e : Halt). Err e) p.2)
     (halts_as g.D.Disk.view c.args.d.now c.args.store.now.disk c.in_err-lane.field-0.0
     (halts_here g.D.Disk.view (by_letters (steps_of c.args.schedule.now.whole)) c.args.d.now c.args.store.now.disk c.in_err-lane.field-0.0
-    (letters_halt (steps_of c.args.schedule.now.whole) (left_of c.args.schedule.now) c.args.d.now c.requires.at c.in_err-lane.field-0.0 c.in_err-lane.ensures.stops)))
+    (letters_halt (steps_of c.args.schedule.now.whole) (course_left c.args.schedule.now) c.args.d.now c.requires.at c.in_err-lane.field-0.0 c.in_err-lane.ensures.stops)))
 
 pub returns-in_ok-moved-in-Some-clause-at : goal.returns-in_ok-moved-in-Some-clause-at
 returns-in_ok-moved-in-Some-clause-at g c =
     let one = c.in_ok-moved-in-Some.ensures.one in
     let steps = steps_of c.args.schedule.now.whole in
     c.pass.ensures.left ∙ ap (λ (left : List Step). used_by c.in-Some.lane left) c.requires.at
-    ∙ ap (λ (lane : Lane). used_by lane (left_after steps c.args.d.now.core.log)) (sym one.1)
-    ∙ sym (left_push steps c.args.d.now.core.log one.0) ∙ ap (λ (log : List Entry). left_after steps log) (sym one.2)
-    ∙ ap (λ (w : List ℕ). left_after (steps_of w) c.advance.new.d.core.log) (sym c.pass.ensures.whole)
+    ∙ ap (λ (lane : Lane). used_by lane (letters_left steps c.args.d.now.core.log)) (sym one.1)
+    ∙ sym (left_push steps c.args.d.now.core.log one.0) ∙ ap (λ (log : List Entry). letters_left steps log) (sym one.2)
+    ∙ ap (λ (w : List ℕ). letters_left (steps_of w) c.advance.new.d.core.log) (sym c.pass.ensures.whole)
 
 pub prove-unreachable-requires : goal.prove-unreachable-requires
 prove-unreachable-requires g c =
-    let none : left_of c.args.schedule.now ≡ [] = rw c.in-None.is at c.in_ok-lane.ensures.over in
+    let none : course_left c.args.schedule.now ≡ [] = rw c.in-None.is at c.in_ok-lane.ensures.over in
     let plain : first_ready c.args.d.now ≡ None = ap (λ (left : List Step). chosen left c.args.d.now) (sym none) ∙ sym c.in_ok-lane.ensures.chosen ∙ c.in-None.is in
     let end = at_end c.args.d.now plain c.is_at_end-end.result c.is_at_end-end.ensures.lane in
     let no = c.if-prove.true in
@@ -46,5 +46,5 @@ prove-unreachable-requires g c =
 
 pub returns-in-None-clause-moves : goal.returns-in-None-clause-moves
 returns-in-None-clause-moves g c =
-    let none : left_of c.args.schedule.now ≡ [] = rw c.in-None.is at c.in_ok-lane.ensures.over in
+    let none : course_left c.args.schedule.now ≡ [] = rw c.in-None.is at c.in_ok-lane.ensures.over in
     comes_to_rest g.D.Disk.view c.args.d.now c.args.store.now c.law.ensures.sound c.requires.serves c.requires.stands (c.is_at_end-end.ensures.over.0 c.if-prove.false) c.law.ensures.tells (sym c.requires.at ∙ none)

@@ -1,7 +1,7 @@
 use Rattle.std.proofs.Common.{ℕ, List, inr, subst, sym, ◌∙◌}
 use Rattle.std.specs.Prelude.{OnOk}
 use Rattle.rm_plain.specs.Later.{FirstTo, LaterTo}
-use Rattle.rm_plain.specs.Schedule.{by_letters, left_of, order_of, steps_of}
+use Rattle.rm_plain.specs.Schedule.{by_letters, course_left, order_of, steps_of}
 use Rattle.rm_plain.proofs.Choosing.{chosen_begin, dead_over, letters_halt}
 use Rattle.rm_plain.proofs.Finishing.{all_lived, all_used_up, first_stops, none_lived, none_left, refused_first, some_left, stops_as, used_as}
 use Rattle.rm_plain.proofs.runs.all_lives.Goals as goal
@@ -13,7 +13,7 @@ pub returns-then-not-ready-clause-all : goal.returns-then-not-ready-clause-all
 returns-then-not-ready-clause-all g c =
     let d = c.args.d.now in
     let steps = steps_of c.args.schedule.now.whole in
-    let left = left_of c.args.schedule.now in
+    let left = course_left c.args.schedule.now in
     none_lived _ g.D.Disk.view c.new.result d c.args.disk c.requires.dead c.requires.empty (none_left d c.requires.dead (sym c.ready.ensures ∙ c.if-not-ready.true)) c.requires.unarmed c.new.ensures c.all_used.result
     (used_as steps left d c.requires.at c.all_used.result c.all_used.ensures.used) (stops_as steps left d c.requires.at c.all_used.result c.all_used.ensures.stops)
     (all_used_up steps left d c.requires.at c.all_used.result c.all_used.ensures.stops)
@@ -22,12 +22,12 @@ pub returns-in-Err-clause-all : goal.returns-in-Err-clause-all
 returns-in-Err-clause-all g c =
     rw c.from.ensures
     (refused_first (order_of c.args.schedule.now) g.D.Disk.view c.new-in-Err.result c.args.d.now c.args.disk c.in-Err.halt c.requires.empty (some_left c.args.d.now (sym c.ready.ensures ∙ c.if-not-ready.false)) c.requires.unarmed c.new-in-Err.ensures
-    (letters_halt (steps_of c.args.schedule.now.whole) (left_of c.args.schedule.now) c.args.d.now c.requires.at c.in-Err.halt c.in-Err.ensures.stops))
+    (letters_halt (steps_of c.args.schedule.now.whole) (course_left c.args.schedule.now) c.args.d.now c.requires.at c.in-Err.halt c.in-Err.ensures.stops))
 
 pub first_life-opening-requires-clause-chosen : goal.first_life-opening-requires-clause-chosen
 first_life-opening-requires-clause-chosen g c =
     let ready = sym c.ready.ensures ∙ c.if-not-ready.false in
-    chosen_begin (left_of c.args.schedule.now) c.args.d.now c.in_default.field-0 c.in_default.ensures.chosen c.in_default.ensures.over c.requires.dead (some_left c.args.d.now ready) (c.law.ensures.dead c.requires.dead)
+    chosen_begin (course_left c.args.schedule.now) c.args.d.now c.in_default.field-0 c.in_default.ensures.chosen c.in_default.ensures.over c.requires.dead (some_left c.args.d.now ready) (c.law.ensures.dead c.requires.dead)
 
 pub returns-in-Ok-clause-all : goal.returns-in-Ok-clause-all
 returns-in-Ok-clause-all g c =

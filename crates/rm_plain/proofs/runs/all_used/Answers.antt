@@ -2,7 +2,7 @@ use Rattle.std.proofs.Common.{◌≡◌, ◌⊎◌, inl, inr, List, [], ◌∷�
 use Rattle.rm_types.specs.declared.messages.Lane.{Lane}
 use Rattle.rm_desk.specs.Lanes.{is_ready_at}
 use Rattle.rm_desk.specs.View.{DeskView}
-use Rattle.rm_plain.specs.Schedule.{StopsAt, left_of}
+use Rattle.rm_plain.specs.Schedule.{StopsAt, course_left}
 use Rattle.rm_plain.specs.declared.schedule.Step.{Step}
 use Rattle.rm_plain.proofs.Choosing.{none_moved, no_step}
 use Rattle.rm_plain.proofs.runs.all_used.Goals as goal
@@ -15,4 +15,4 @@ stops left more step d is (inr idle) = subst (λ (l : List Step). StopsAt l d st
 pub returns-in-Some-clause-stops : goal.returns-in-Some-clause-stops
 returns-in-Some-clause-stops c =
     let some = c.in-Some.ensures.some in
-    (c.in-Some.place, refl, subst (λ n. StopsAt (left_of c.args.schedule.now) c.args.d.now n) (sym some.3) (stops (left_of c.args.schedule.now) some.1 some.0 c.args.d.now some.2 c.requires.idle))
+    (c.in-Some.place, refl, subst (λ n. StopsAt (course_left c.args.schedule.now) c.args.d.now n) (sym some.3) (stops (course_left c.args.schedule.now) some.1 some.0 c.args.d.now some.2 c.requires.idle))

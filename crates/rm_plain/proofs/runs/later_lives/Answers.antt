@@ -5,7 +5,7 @@ use Rattle.rm_core.specs.Words.{stands}
 use Rattle.rm_desk.specs.Lanes.{is_ready_at}
 use Rattle.rm_desk.specs.View.{DeskView}
 use Rattle.rm_plain.specs.Later.{LaterTo}
-use Rattle.rm_plain.specs.Schedule.{by_letters, left_after, left_of, order_of, steps_of}
+use Rattle.rm_plain.specs.Schedule.{by_letters, letters_left, course_left, order_of, steps_of}
 use Rattle.rm_plain.specs.declared.schedule.Step.{Step}
 use Rattle.rm_plain.proofs.Choosing.{chosen_begin, dead_over, letters_halt}
 use Rattle.rm_plain.proofs.Finishing.{none_stands, some_left, stops_as}
@@ -27,7 +27,7 @@ pub next_life-lived-requires-clause-chosen : goal.next_life-lived-requires-claus
 next_life-lived-requires-clause-chosen g c =
     let ready = sym c.ready.ensures ∙ c.lives-test.true in
     let dead = none_stands c.lives.d ready in
-    chosen_begin (left_of c.lives.schedule) c.lives.d c.in_default.field-0 c.in_default.ensures.chosen c.in_default.ensures.over dead (some_left c.lives.d ready) (c.law.ensures.dead dead)
+    chosen_begin (course_left c.lives.schedule) c.lives.d c.in_default.field-0 c.in_default.ensures.chosen c.in_default.ensures.over dead (some_left c.lives.d ready) (c.law.ensures.dead dead)
 
 -- the letters stopped the run
 pub returns-in-Err-clause-later : goal.returns-in-Err-clause-later
@@ -36,7 +36,7 @@ returns-in-Err-clause-later g c =
     let steps = steps_of c.args.schedule.now.whole in
     rw c.from.ensures
     (order_stops (by_letters steps) g.D.Disk.view c.args.d.now c.lives.d c.args.disk c.lives.disk m.lived c.in-Err.halt
-    (letters_halt steps (left_of c.lives.schedule) c.lives.d (m.at ∙ ap (λ (w : List ℕ). left_after (steps_of w) c.lives.d.core.log) m.whole) c.in-Err.halt c.in-Err.ensures.stops))
+    (letters_halt steps (course_left c.lives.schedule) c.lives.d (m.at ∙ ap (λ (w : List ℕ). letters_left (steps_of w) c.lives.d.core.log) m.whole) c.in-Err.halt c.in-Err.ensures.stops))
 
 -- or a later life did
 pub returns-in-Err-ended-clause-later : goal.returns-in-Err-ended-clause-later
@@ -67,11 +67,11 @@ idle left d true alive used only none = inl (used alive)
 idle left d false dead used only none = inr (dead_over d (only dead) none)
 
 pub all_used-requires : goal.all_used-requires
-all_used-requires g c = record { idle = idle (left_of c.lives.schedule) c.lives.d (stands c.lives.d.core) refl c.lives.invariant.used c.law-2.ensures.dead (sym c.ready.ensures ∙ c.lives-test.false) }
+all_used-requires g c = record { idle = idle (course_left c.lives.schedule) c.lives.d (stands c.lives.d.core) refl c.lives.invariant.used c.law-2.ensures.dead (sym c.ready.ensures ∙ c.lives-test.false) }
 
 pub returns-clause-later : goal.returns-clause-later
 returns-clause-later g c =
     let m = c.lives.invariant in
     let steps = steps_of c.args.schedule.now.whole in
     lives_end (by_letters steps) g.D.Disk.view c.args.d.now c.lives.d c.args.disk c.lives.disk m.lived c.all_used.result
-    (stops_as steps (left_of c.lives.schedule) c.lives.d (m.at ∙ ap (λ (w : List ℕ). left_after (steps_of w) c.lives.d.core.log) m.whole) c.all_used.result c.all_used.ensures.stops)
+    (stops_as steps (course_left c.lives.schedule) c.lives.d (m.at ∙ ap (λ (w : List ℕ). letters_left (steps_of w) c.lives.d.core.log) m.whole) c.all_used.result c.all_used.ensures.stops)

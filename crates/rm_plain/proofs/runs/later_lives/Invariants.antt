@@ -2,7 +2,7 @@ use Rattle.std.proofs.Common.{◌≡◌, ◌≢◌, length, [], true}
 use Rattle.rm_store.specs.Store.{seen}
 use Rattle.rm_plain.specs.Keeping.{IsKeptOn}
 use Rattle.rm_core.specs.Words.{stands}
-use Rattle.rm_plain.specs.Schedule.{IsAt, left_of, order_of}
+use Rattle.rm_plain.specs.Schedule.{IsAt, course_left, order_of}
 use Rattle.rm_plain.specs.Starts.{IsAtEase, Lives}
 use Rattle.rm_plain.proofs.runs.later_lives.Given as goal
 
@@ -11,7 +11,7 @@ invariant-lives g l = record {
   some : l.d.core.log ≢ [];
   at_ease : IsAtEase l.disk;
   at : IsAt l.schedule l.d.core.log;
-  used : stands l.d.core ≡ true → left_of l.schedule ≡ [];
+  used : stands l.d.core ≡ true → course_left l.schedule ≡ [];
   whole : l.schedule.whole ≡ l.fn.schedule.whole;
   lived : Lives (order_of l.fn.schedule) g.D.Disk.view (λ opening. Unit {0}) (λ opening. IsKeptOn opening l.fn.d.core.log (seen g.D.Disk.view l.fn.disk)) l.fn.d l.d l.fn.disk l.disk;
 }

@@ -11,7 +11,7 @@ use Rattle.rm_desk.specs.View.{DeskView}
 use Rattle.rm_plain.specs.Keeping.{HaltsBy, IsFoundOn}
 use Rattle.rm_plain.specs.Lives.{EndsBy}
 use Rattle.rm_plain.specs.Order.{May}
-use Rattle.rm_plain.specs.Schedule.{Course, IsAt, by_letters, chosen, left_after, left_of, order_of, steps_of, used_by}
+use Rattle.rm_plain.specs.Schedule.{Course, IsAt, by_letters, chosen, letters_left, course_left, order_of, steps_of, used_by}
 use Rattle.rm_plain.specs.declared.schedule.Step.{Step}
 use Rattle.rm_plain.specs.declared.halts.Stop.{Stop}
 use Rattle.rm_plain.specs.Starts.{LivesTo}
@@ -21,14 +21,14 @@ use Rattle.rm_plain.proofs.Starting.{left_ok, lived, rest_used, unbegun}
 use Rattle.rm_plain.proofs.starts.live.Goals as goal
 
 -- by the letters' order a life may begin
-begin_may : (schedule : Course) (d : DeskView) → IsAt schedule d.core.log → chosen (left_of schedule) d ≡ Some Begin → May (order_of schedule) Begin d
+begin_may : (schedule : Course) (d : DeskView) → IsAt schedule d.core.log → chosen (course_left schedule) d ≡ Some Begin → May (order_of schedule) Begin d
 begin_may schedule d at is = letters_may (steps_of schedule.whole) d Begin (ap (λ (left : List Step). chosen left d) (sym at) ∙ is)
 
 -- after the letter by which a life begins the schedule has come one entry further
-begun_at : (was is : Course) (log longer : List Entry) (e : Entry) → lane_of_entry e ≡ Begin → longer ≡ log ++ e ∷ [] → IsAt was log → is.whole ≡ was.whole → left_of is ≡ used_by Begin (left_of was) → IsAt is longer
+begun_at : (was is : Course) (log longer : List Entry) (e : Entry) → lane_of_entry e ≡ Begin → longer ≡ log ++ e ∷ [] → IsAt was log → is.whole ≡ was.whole → course_left is ≡ used_by Begin (course_left was) → IsAt is longer
 begun_at was is log longer e of_lane added at whole left =
-    left ∙ ap (λ (l : List Step). used_by Begin l) at ∙ ap (λ (lane : Lane). used_by lane (left_after (steps_of was.whole) log)) (sym of_lane)
-    ∙ sym (left_push (steps_of was.whole) log e) ∙ ap (λ (l : List Entry). left_after (steps_of was.whole) l) (sym added) ∙ ap (λ (w : List ℕ). left_after (steps_of w) longer) (sym whole)
+    left ∙ ap (λ (l : List Step). used_by Begin l) at ∙ ap (λ (lane : Lane). used_by lane (letters_left (steps_of was.whole) log)) (sym of_lane)
+    ∙ sym (left_push (steps_of was.whole) log e) ∙ ap (λ (l : List Entry). letters_left (steps_of was.whole) l) (sym added) ∙ ap (λ (w : List ℕ). letters_left (steps_of w) longer) (sym whole)
 
 pub begin_life-requires-clause-may : goal.begin_life-requires-clause-may
 begin_life-requires-clause-may g c = begin_may c.args.schedule.now c.args.d.now c.requires.at c.requires.chosen
@@ -63,7 +63,7 @@ returns-in-Ok-clause-used g c =
     let new = c.run_life-ended.new.d in
     let rested = rest_used g.D.Disk.view (order_of c.pass.new.self) mid new c.begin_life.new.store c.run_life-ended.new.store c.run_life-ended.result run.ends in
     left_ok _ g.D.Disk.view g.D.Disk.falls_to c.run_life-ended.new.store.disk c.leave.result.disk c.run_life-ended.result c.leave.result.ended c.leave.ensures
-    (both_ok c.run_life-ended.result (λ at used alive. at ∙ ap (λ (w : List ℕ). left_after (steps_of w) new.core.log) run.whole ∙ used alive) run.at rested)
+    (both_ok c.run_life-ended.result (λ at used alive. at ∙ ap (λ (w : List ℕ). letters_left (steps_of w) new.core.log) run.whole ∙ used alive) run.at rested)
 
 pub returns-in-Err-clause-lived : goal.returns-in-Err-clause-lived
 returns-in-Err-clause-lived g c =

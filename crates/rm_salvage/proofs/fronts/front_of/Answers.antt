@@ -11,7 +11,7 @@ use Rattle.rm_salvage.specs.declared.forms.Form.TheVariants.{OneJournal, TwoArea
 use Rattle.rm_salvage.specs.declared.fronts.Front.{Front}
 use Rattle.rm_salvage.specs.declared.fronts.Stop.{Stop}
 use Rattle.rm_salvage.specs.Forms.{IsForm}
-use Rattle.rm_salvage.specs.Fronts.{BeginsFront, IsFront, IsLongest, IsStop, StopsAt}
+use Rattle.rm_salvage.specs.Fronts.{BeginsFront, IsFront, IsLongest, IsStop, FrontStops}
 use Rattle.rm_salvage.specs.Steps.{ReadsTo}
 use Rattle.rm_salvage.proofs.FormLemmas.{area_is, begin_area, begin_journal, room_there, whole_region}
 use Rattle.rm_salvage.proofs.FrontLemmas.{front_framed, longest}
@@ -23,14 +23,14 @@ abbrev Begins : List ℕ → ℕ → ℕ → List Op → Type 0
 Begins bytes gate end ops = (start : ℕ) (heads : List (List ℕ)) → ReadsTo bytes start end heads gate [] → BeginsFront (region_of start end bytes) heads ops
 
 abbrev Stops : List ℕ → ℕ → ℕ → List Op → Stop → Type 0
-Stops bytes gate end ops stop = (start : ℕ) (heads : List (List ℕ)) → ReadsTo bytes start end heads gate [] → StopsAt (region_of start end bytes) start heads ops stop
+Stops bytes gate end ops stop = (start : ℕ) (heads : List (List ℕ)) → ReadsTo bytes start end heads gate [] → FrontStops (region_of start end bytes) start heads ops stop
 
 journal_front : (bytes : List ℕ) (size : ℕ) (form : Form) (ops : List Op) → size ≡ length bytes → form ≡ OneJournal → Begins bytes 0 size ops → IsFront form bytes ops
 journal_front bytes size form ops long is begins =
     subst (λ (f : Form). IsFront f bytes ops) (sym is) (subst (λ (l : List ℕ). BeginsFront l [] ops) (whole_region bytes size long) (begins 0 [] (begin_journal bytes size)))
 
-journal_stop : (bytes : List ℕ) (size : ℕ) (ops : List Op) (stop : Stop) → size ≡ length bytes → Stops bytes 0 size ops stop → StopsAt bytes 0 [] ops stop
-journal_stop bytes size ops stop long stops = subst (λ (l : List ℕ). StopsAt l 0 [] ops stop) (whole_region bytes size long) (stops 0 [] (begin_journal bytes size))
+journal_stop : (bytes : List ℕ) (size : ℕ) (ops : List Op) (stop : Stop) → size ≡ length bytes → Stops bytes 0 size ops stop → FrontStops bytes 0 [] ops stop
+journal_stop bytes size ops stop long stops = subst (λ (l : List ℕ). FrontStops l 0 [] ops stop) (whole_region bytes size long) (stops 0 [] (begin_journal bytes size))
 
 journal_longest : (bytes : List ℕ) (size : ℕ) (form : Form) (ops : List Op) (stop : Stop) → size ≡ length bytes → form ≡ OneJournal → Stops bytes 0 size ops stop → IsLongest form bytes ops
 journal_longest bytes size form ops stop long is stops =
@@ -64,11 +64,11 @@ area_front bytes start half second generation form ops is at halves of_form begi
     (begins start (head_of generation) (begin_area bytes start (start + half) generation (has_there bytes start half second generation form is at halves of_form))))
 
 area_stop : (bytes : List ℕ) (start half : ℕ) (second : Bool) (generation : ℕ) (form : Form) (ops : List Op) (stop : Stop) → form ≡ TwoAreas second generation → start ≡ area_from half second → half ≡ half_of bytes → IsForm bytes form
-    → Stops bytes (start + 13) (start + half) ops stop → StopsAt (area_of (half_of bytes) second bytes) (area_from (half_of bytes) second) (head_of generation) ops stop
+    → Stops bytes (start + 13) (start + half) ops stop → FrontStops (area_of (half_of bytes) second bytes) (area_from (half_of bytes) second) (head_of generation) ops stop
 area_stop bytes start half second generation form ops stop is at halves of_form stops =
     let there = stops start (head_of generation) (begin_area bytes start (start + half) generation (has_there bytes start half second generation form is at halves of_form)) in
-    subst (λ (n : ℕ). StopsAt (area_of (half_of bytes) second bytes) n (head_of generation) ops stop) (at ∙ ap (λ (n : ℕ). area_from n second) halves)
-    (subst (λ (l : List ℕ). StopsAt l start (head_of generation) ops stop) (area_is bytes start half second at halves) there)
+    subst (λ (n : ℕ). FrontStops (area_of (half_of bytes) second bytes) n (head_of generation) ops stop) (at ∙ ap (λ (n : ℕ). area_from n second) halves)
+    (subst (λ (l : List ℕ). FrontStops l start (head_of generation) ops stop) (area_is bytes start half second at halves) there)
 
 pub read_front-requires-in-TwoAreas-clause-before : goal.read_front-requires-in-TwoAreas-clause-before
 read_front-requires-in-TwoAreas-clause-before c =

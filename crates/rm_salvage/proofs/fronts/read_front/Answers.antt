@@ -2,7 +2,7 @@ use Rattle.std.proofs.Common.{◌≡◌, ◌<◌, ℕ, Option, None, Some, List,
 use Rattle.rm_types.specs.declared.operations.Op.{Op}
 use Rattle.rm_journal.specs.Journal.{region_of}
 use Rattle.rm_salvage.specs.declared.fronts.Stop.{Stop}
-use Rattle.rm_salvage.specs.Fronts.{BeginsFront, StopsAt, StopsBehind}
+use Rattle.rm_salvage.specs.Fronts.{BeginsFront, FrontStops, StopsBehind}
 use Rattle.rm_salvage.specs.Steps.{WentOn}
 use Rattle.rm_salvage.proofs.FrontLemmas.{front_to, reads_on, stop_at}
 use Rattle.rm_salvage.proofs.fronts.read_front.Goals as goal
@@ -24,7 +24,7 @@ returns-in-Some-clause-stop c = λ start heads to.
     let bytes = c.args.disk.now in
     let s = rw c.in-Some.is at c.in_ok-stop.ensures.step in
     let here = subst (λ (b : List ℕ). StopsBehind (region_of c.records.reader.gate c.args.end b) c.records.reader.gate c.records.reader.ops c.in-Some.stop) c.records.invariant.same s.2 in
-    subst (λ (l : List Op). StopsAt (region_of start c.args.end bytes) start heads l c.in-Some.stop) (sym s.0)
+    subst (λ (l : List Op). FrontStops (region_of start c.args.end bytes) start heads l c.in-Some.stop) (sym s.0)
     (stop_at bytes start c.args.end heads c.records.reader.gate c.records.reader.ops c.in-Some.stop (c.records.invariant.reads start heads to) here)
 
 pub records-preserved : goal.records-preserved

@@ -7,15 +7,15 @@ use Rattle.rm_formats.specs.Frames.{frame}
 use Rattle.rm_formats.specs.Device.{journal_records}
 use Rattle.rm_journal.specs.declared.fault.JournalError
 use Rattle.rm_disk.specs.Disk.{EachImage, IfTold}
-use Rattle.rm_areas.specs.Areas.{AreasHold, IsDamagedLayout, LeavesEither, head_of}
+use Rattle.rm_areas.specs.Areas.{AreasHold, IsDamagedLayout, LeavesEitherLayout, head_of}
 use Rattle.rm_store.specs.Content.{half_of}
 use Rattle.rm_salvage.specs.declared.errors.WriteError
-use Rattle.rm_salvage.specs.Errors.{of_journal}
+use Rattle.rm_salvage.specs.Errors.{write_error}
 use Rattle.rm_salvage.specs.Writes.{HoldsAll, LeavesNoneOrAll, bytes_before}
 use Rattle.rm_salvage.proofs.WriteLemmas.{area_long, built_leaves, holds_all}
 use Rattle.rm_salvage.proofs.writes.write_anew.Goals as goal
 
-damaged_there : (error : JournalError.JournalError) (offset : ℕ) → of_journal error ≡ WriteError.TheVariants.Damaged offset → error ≡ JournalError.TheVariants.Damaged offset
+damaged_there : (error : JournalError.JournalError) (offset : ℕ) → write_error error ≡ WriteError.TheVariants.Damaged offset → error ≡ JournalError.TheVariants.Damaged offset
 damaged_there JournalError.TheVariants.DiskFault offset e = cc
 damaged_there (JournalError.TheVariants.Damaged place) offset e = cc
 damaged_there (JournalError.TheVariants.Full needed room) offset e = cc
@@ -71,7 +71,7 @@ returns-in_err-change_area-clause-any_moment g c = λ bytes told empty.
     let holds = c.in_ok-areas.ensures.holds bytes then in
     let zero : a.generation ≡ 0 = (let z = c.if-generation-gt0.false in let e = c.generation.ensures in omega (arith, z, e)) in
     built_leaves (g.D.Disk.view c.args.disk.now) (g.D.Disk.view c.open.new.disk) (g.D.Disk.view c.change_area.new.disk) a c.args.ops.now bytes holds.0 c.requires.framed c.requires.none_stray c.open.ensures.quiet empty zero holds.1
-    (subst (λ (l : List Op). LeavesEither (g.D.Disk.view c.open.new.disk) (g.D.Disk.view c.change_area.new.disk) a.half holds.0 (map frame l)) c.as_slice.ensures (c.change_area.ensures.any_moment bytes then holds.0 holds.1))
+    (subst (λ (l : List Op). LeavesEitherLayout (g.D.Disk.view c.open.new.disk) (g.D.Disk.view c.change_area.new.disk) a.half holds.0 (map frame l)) c.as_slice.ensures (c.change_area.ensures.any_moment bytes then holds.0 holds.1))
 
 pub returns-clause-any_moment : goal.returns-clause-any_moment
 returns-clause-any_moment g c = λ bytes told empty.
@@ -80,7 +80,7 @@ returns-clause-any_moment g c = λ bytes told empty.
     let holds = c.in_ok-areas.ensures.holds bytes then in
     let zero : a.generation ≡ 0 = (let z = c.if-generation-gt0.false in let e = c.generation.ensures in omega (arith, z, e)) in
     built_leaves (g.D.Disk.view c.args.disk.now) (g.D.Disk.view c.open.new.disk) (g.D.Disk.view c.change_area.new.disk) a c.args.ops.now bytes holds.0 c.requires.framed c.requires.none_stray c.open.ensures.quiet empty zero holds.1
-    (subst (λ (l : List Op). LeavesEither (g.D.Disk.view c.open.new.disk) (g.D.Disk.view c.change_area.new.disk) a.half holds.0 (map frame l)) c.as_slice.ensures (c.change_area.ensures.any_moment bytes then holds.0 holds.1))
+    (subst (λ (l : List Op). LeavesEitherLayout (g.D.Disk.view c.open.new.disk) (g.D.Disk.view c.change_area.new.disk) a.half holds.0 (map frame l)) c.as_slice.ensures (c.change_area.ensures.any_moment bytes then holds.0 holds.1))
 
 pub returns-clause-written : goal.returns-clause-written
 returns-clause-written g c =

@@ -1,6 +1,6 @@
 use Rattle.std.proofs.Common.{[], ◌∙◌, fold, ap, arith}
 use Rattle.std.proofs.lemmas.List.{take_all}
-use Rattle.rm_book.specs.Books.{row_of as book_row_of}
+use Rattle.rm_book.specs.Books.{book_row as book_row_of}
 use Rattle.rm_tables.specs.SchedEvents.{is_on}
 use Rattle.rm_tables.proofs.Once.{take_one, taken_once}
 use Rattle.rm_sched.proofs.ending.done_on.Goals as goal

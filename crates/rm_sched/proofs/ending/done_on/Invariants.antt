@@ -1,5 +1,5 @@
 use Rattle.std.proofs.Common.{◌≡◌, [], fold, take}
-use Rattle.rm_book.specs.Books.{row_of as book_row_of}
+use Rattle.rm_book.specs.Books.{book_row as book_row_of}
 use Rattle.rm_tables.specs.SchedEvents.{is_on}
 use Rattle.rm_tables.proofs.Once.{take_one}
 use Rattle.rm_sched.proofs.ending.done_on.Given as goal

@@ -1,5 +1,5 @@
 use Rattle.std.proofs.Common.{Err, sym, subst, ap, ◌∙◌}
-use Rattle.rm_tool.specs.Runs.{Follows, IsNotReadWhole}
+use Rattle.rm_tool.specs.Runs.{FollowsReport, IsNotReadWhole}
 use Rattle.rm_tool.proofs.Comings.{report_not_done, report_refused, unread_follows, unread_not_done}
 use Rattle.rm_tool.proofs.tool.follow_file.Goals as goal
 
@@ -17,6 +17,6 @@ returns-in-Err-clause-comes g c = unread_follows (g.F.Shelf.bytes_of c.args.shel
 
 pub returns-clause-comes : goal.returns-clause-comes
 returns-clause-comes g c =
-    subst (Follows (g.F.Shelf.bytes_of c.args.shelf.now c.args.page.now) c.args.id.now) (sym (c.stopped-in-Err-follow.ensures ∙ c.of_report.ensures))
+    subst (FollowsReport (g.F.Shelf.bytes_of c.args.shelf.now c.args.page.now) c.args.id.now) (sym (c.stopped-in-Err-follow.ensures ∙ c.of_report.ensures))
     (report_refused (g.F.Shelf.bytes_of c.args.shelf.now c.args.page.now) c.args.id.now c.deref.result.now c.in-Err-follow.error (rw c.deref.ensures.value c.in-Ok.ensures.bytes) (rw c.deref.ensures.value c.in-Ok.ensures.whole)
     (λ is. c.in-Err-follow.ensures.not_an_id (ap Err is)) (λ line is. c.in-Err-follow.ensures.not_a_page line (ap Err is)))

@@ -1,7 +1,8 @@
 use Rattle.std.proofs.Common.{rules, ◌≡◌, ◌∙◌, ℕ, ap, refl, not, List, [], Bor, Option, Some, None, map, option_map, slice_get, string_bytes, unwrap_or}
 use Rattle.std.proofs.lemmas.Iterator.{YieldsList-from_map_by, YieldsList-from_slice}
 use Rattle.std.proofs.lemmas.Iterator.Consumers.{YieldsList-at, YieldsList-from_filter, nth_from_yields_List}
-use Rattle.rm_words.specs.Words.{is_flag, names}
+use Rattle.rm_words.specs.Words.{names}
+use Rattle.rm_types.specs.Texts.{is_flag}
 use Rattle.rm_words.proofs.flags.name_at.Goals as goal
 
 -- what a text or another one holds

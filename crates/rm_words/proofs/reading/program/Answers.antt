@@ -2,7 +2,7 @@ use Rattle.std.proofs.Common.{rules, ◌≡◌, ◌∙◌, ap, ap₂, codes, tru
 use Rattle.std.proofs.lemmas.Result.{IfOk-weaker}
 use Rattle.clap.specs.Walk.{rule_of}
 use Rattle.clap.specs.Simple.{Shape, app_of, app_of_fields, on_top, with_rule}
-use Rattle.rm_words.specs.Reading.{bare, flag, named}
+use Rattle.rm_words.specs.Reading.{bare_program, flag, named}
 use Rattle.rm_words.proofs.reading.program.Goals as goal
 
 pub returns : goal.returns
@@ -10,7 +10,7 @@ returns c =
     let file_is : rule_of c.action-in_file.result ≡ flag (codes "file") = search rules in
     let moves_is : rule_of c.action-moves.result ≡ flag (codes "moves") = search rules in
     let names_is : rule_of c.action-names.result ≡ named = search rules in
-    let bare_is : app_of c.disable_help_flag.result ≡ bare = ap app_of_fields c.disable_help_flag.ensures
+    let bare_is : app_of c.disable_help_flag.result ≡ bare_program = ap app_of_fields c.disable_help_flag.ensures
     ∙ ap (on_top (λ (s : Shape). record s { disable_help_flag = true })) (ap app_of_fields c.no_binary_name.ensures
     ∙ ap (on_top (λ (s : Shape). record s { no_binary_name = true })) c.new-4.ensures.app) in
     IfOk-weaker c.arg-3.result _ _

@@ -14,7 +14,7 @@ use Rattle.rm_store.specs.Store.{seen}
 use Rattle.rm_core.specs.Moves.{IsLeftAfter}
 use Rattle.rm_plain.specs.Keeping.{IsFoundOn}
 use Rattle.rm_plain.specs.declared.halts.Stop.{Stop}
-use Rattle.rm_plain.specs.Starts.{LivesTo, Leaves}
+use Rattle.rm_plain.specs.Starts.{LivesTo, LeavesAtEnd}
 use Rattle.rm_plain.proofs.Finishing.{none_stands, some_left}
 use Rattle.rm_plain.proofs.Starting.{lived, unbegun}
 use Rattle.rm_workers.specs.AnyOrder.{any_order}
@@ -52,7 +52,7 @@ returns-in-Err-clause-lived g c =
     (unbegun {order = any_order} g.D.Disk.view over found d c.begin_life.new.d c.args.store c.begin_life.new.store c.left-in-Err.result.disk c.in-Err.halt begun.halts begun.inner begun.refused begun.fuse left.0 begun.memory))
 
 fewer_by : {D : Type 0} (view : D → DiskView) (falls : ℕ → D → D → Type 0) (r : Result LifeEnd Halt) (ended : Result (Unit {0}) Stop) (desk : DeskView) (now : StoreState D) (mid : DeskView) (store : StoreState D) (d : DeskView) (new : Fused D) → length mid.place.lives < length d.place.lives
-    → IfOk r (EndsBy any_order view mid desk store now) → Leaves view falls now.disk new r ended → OnOk ended (length desk.place.lives < length d.place.lives)
+    → IfOk r (EndsBy any_order view mid desk store now) → LeavesAtEnd view falls now.disk new r ended → OnOk ended (length desk.place.lives < length d.place.lives)
 fewer_by view falls (Ok Rest) ended desk now mid store d new less ends leaves = rw leaves.1 (let l = ends.goes.lives in omega (arith, l, less))
 fewer_by view falls (Ok (Down image)) ended desk now mid store d new less ends leaves = rw leaves.1 (let l = ends.goes.lives in omega (arith, l, less))
 fewer_by view falls (Err halt) ended desk now mid store d new less ends leaves = rw leaves.1 tt

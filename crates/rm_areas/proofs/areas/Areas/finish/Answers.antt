@@ -3,7 +3,7 @@ use Rattle.std.proofs.Common.{◌≡◌, ◌⊎◌, ◌+◌, ◌≤◌, ℕ, suc
 use Rattle.std.specs.Prelude.{option_map}
 use Rattle.rm_disk.specs.Disk.{DiskView, IsQuiet, AtEachMoment, put, MayWrite, IfTold, EachImage}
 use Rattle.rm_areas.specs.Areas.{AreasAt, AreasInvariant, AreasHold, HasLayout, HasCurrent, IsBuilt, other_from, other_end}
-use Rattle.rm_journal.specs.Journal.{Place}
+use Rattle.rm_journal.specs.Journal.{JournalPlace}
 use Rattle.rm_areas.proofs.Steps.{broken_on, broken_quiet, each_has, build_low, same_gate, quiet_either, finishing, grown_at, grown_told, grown_images, grown_stands}
 use Rattle.rm_disk.proofs.Views.{quiet_same, quiet_writes}
 use Rattle.rm_journal.proofs.Outside.{write_write}
@@ -121,11 +121,11 @@ returns-clause-stands g c =
     let written : v2.told ≡ option_map (put (other_from a) (1 ∷ [])) v1.told = subst (λ (n : ℕ). v2.told ≡ option_map (put n (1 ∷ [])) v1.told) from_is c.in_ok-write_through.ensures.written in
     let lasts = c.in_ok-write_through.ensures.durable in
     let plus : suc a.generation ≡ a.generation + 1 = omega arith in
-    let place_at : ℕ → Place = λ n. record { from = n; end = n + a.half; gate = gate; cursor = n + 13; is_broken = false } in
-    let place : Place = record { from = other_from a; end = other_end a; gate = gate; cursor = other_from a + 13; is_broken = false } in
+    let place_at : ℕ → JournalPlace = λ n. record { from = n; end = n + a.half; gate = gate; cursor = n + 13; is_broken = false } in
+    let place : JournalPlace = record { from = other_from a; end = other_end a; gate = gate; cursor = other_from a + 13; is_broken = false } in
     let place_is : c.move_to.new.self ≡ place = c.move_to.ensures ∙ ap place_at from_is in
     subst (λ (n : ℕ). AreasInvariant v2 (record { half = a.half; second = not a.second; generation = n; journal = c.move_to.new.self; other_live = nat_lt 0 a.generation; build = None; is_broken = false })) plus
-    (subst (λ (j : Place). AreasInvariant v2 (record { half = a.half; second = not a.second; generation = suc a.generation; journal = j; other_live = nat_lt 0 a.generation; build = None; is_broken = false })) (sym place_is)
+    (subst (λ (j : JournalPlace). AreasInvariant v2 (record { half = a.half; second = not a.second; generation = suc a.generation; journal = j; other_live = nat_lt 0 a.generation; build = None; is_broken = false })) (sym place_is)
     (subst (λ (n : ℕ). AreasInvariant v2 (grown_at a n)) at_gate (grown_stands v0 a stands sound sizes reads room v1 v2 synced durable opens built.0 b0 written lasts)))
 
 pub returns-clause-any_moment : goal.returns-clause-any_moment

@@ -1,7 +1,7 @@
 use Rattle.std.proofs.Common.{ℕ, List, sym, ap, subst}
 use Rattle.std.specs.Prelude.{IfOk}
 use Rattle.rm_disk.specs.Disk.{IfTold}
-use Rattle.rm_journal.specs.Journal.{Place, HasRead, GivesNext}
+use Rattle.rm_journal.specs.Journal.{JournalPlace, HasRead, GivesNext}
 use Rattle.rm_areas.specs.Areas.{AreasAt, AreasInvariant}
 use Rattle.rm_areas.proofs.Steps.{stands_read}
 use Rattle.rm_areas.proofs.areas.Areas.next.Goals as goal
@@ -13,7 +13,7 @@ returns-clause-stands g c =
     let a : AreasAt = record { half = c.self.inside.half; second = c.self.inside.second; generation = c.self.inside.generation; journal = c.self.inside.journal; other_live = c.self.inside.other_live; build = c.self.inside.build; is_broken = c.self.inside.is_broken } in
     let stands : AreasInvariant v0 a = subst (λ (q : AreasAt). AreasInvariant v0 q) (sym c.self.view_is) c.requires in
     let others = c.next.ensures.others in
-    stands_read v0 v1 a c.next.new.self stands c.next.ensures.quiet c.next.ensures.stands (ap (λ (j : Place). j.from) others) (ap (λ (j : Place). j.end) others) (ap (λ (j : Place). j.is_broken) others)
+    stands_read v0 v1 a c.next.new.self stands c.next.ensures.quiet c.next.ensures.stands (ap (λ (j : JournalPlace). j.from) others) (ap (λ (j : JournalPlace). j.end) others) (ap (λ (j : JournalPlace). j.is_broken) others)
 
 pub returns-clause-next : goal.returns-clause-next
 returns-clause-next g c =

@@ -3,7 +3,7 @@ use Rattle.std.proofs.Common.{◌≡◌, ◌+◌, ◌≤◌, ◌/◌, ℕ, Bool,
 use Rattle.rm_disk.specs.Disk.{IsDurable, IfTold}
 use Rattle.rm_disk.proofs.Views.{quiet_trans}
 use Rattle.rm_journal.specs.declared.fault.JournalError
-use Rattle.rm_journal.specs.Journal.{Place, IsOpened, HasRead, region_of}
+use Rattle.rm_journal.specs.Journal.{JournalPlace, IsOpened, HasRead, region_of}
 use Rattle.rm_areas.specs.Areas.{AreasInvariant, HasCurrent, HasBadHead, IsDamagedLayout, first_head, twice, HasGeneration, area_from, head_of}
 use Rattle.rm_areas.specs.Reading.{IsPicked}
 use Rattle.rm_areas.proofs.Opening.{picked_one, opened_stands, opened_holds, le_yes, le_no, live_yes, live_no, halves, live_generation, damaged_later}
@@ -58,11 +58,11 @@ returns-clause-stands g c =
     picked_one v4 half one two second (λ bytes told. c.in_ok-one.ensures.found bytes (sym q1.told ∙ told)) (λ bytes told. c.in_ok-two.ensures.found bytes (sym q2.told ∙ told))
     high1 high2 (λ ne. let r = c.in_ok-one.ensures.live ne in omega (arith, r)) (λ ne. let r = c.in_ok-two.ensures.live ne in omega (arith, r)) (c.is_twice.ensures.apart c.if-is_twice.false) (le_yes one two) (le_no one two) in
     let p : IsPicked v4 half second c.picked-generation.result o = subst (λ (n : ℕ). IsPicked v4 half second n o) (sym c.picked-generation.ensures) (subst (λ (n : ℕ). IsPicked v4 half second (if second then two else one) n) (sym c.picked-other_live.ensures) base) in
-    let j : Place = c.in_ok-journal.journal in
+    let j : JournalPlace = c.in_ok-journal.journal in
     let opened : IsOpened v4 (area_from half second) half j = subst (λ (n : ℕ). IsOpened v4 n half j) c.start_of-from.ensures c.in_ok-journal.ensures.ok in
     let head = c.head_size.result in
     let place_is : c.pass.new.self ≡ record j { cursor = area_from half second + head } = c.pass.ensures ∙ ap (λ (n : ℕ). record j { cursor = n + head }) c.start_of-from.ensures in
-    subst (λ (q : Place). AreasInvariant v4 (record { half = half; second = second; generation = c.picked-generation.result; journal = q; other_live = not (nat_eq o 0); build = None; is_broken = false })) (sym place_is)
+    subst (λ (q : JournalPlace). AreasInvariant v4 (record { half = half; second = second; generation = c.picked-generation.result; journal = q; other_live = not (nat_eq o 0); build = None; is_broken = false })) (sym place_is)
     (opened_stands v4 half second c.picked-generation.result o p half_is inside durable (d.as_it_reads c.open.new.disk) (d.image_size c.open.new.disk) j opened (not (nat_eq o 0)) (live_yes o) (live_no o) head c.head_size.ensures.none c.head_size.ensures.some)
 
 pub returns-clause-holds : goal.returns-clause-holds
@@ -91,11 +91,11 @@ returns-clause-holds g c =
     picked_one v4 half one two second (λ bytes told. c.in_ok-one.ensures.found bytes (sym q1.told ∙ told)) (λ bytes told. c.in_ok-two.ensures.found bytes (sym q2.told ∙ told))
     high1 high2 (λ ne. let r = c.in_ok-one.ensures.live ne in omega (arith, r)) (λ ne. let r = c.in_ok-two.ensures.live ne in omega (arith, r)) (c.is_twice.ensures.apart c.if-is_twice.false) (le_yes one two) (le_no one two) in
     let p : IsPicked v4 half second c.picked-generation.result o = subst (λ (n : ℕ). IsPicked v4 half second n o) (sym c.picked-generation.ensures) (subst (λ (n : ℕ). IsPicked v4 half second (if second then two else one) n) (sym c.picked-other_live.ensures) base) in
-    let j : Place = c.in_ok-journal.journal in
+    let j : JournalPlace = c.in_ok-journal.journal in
     let opened : IsOpened v4 (area_from half second) half j = subst (λ (n : ℕ). IsOpened v4 n half j) c.start_of-from.ensures c.in_ok-journal.ensures.ok in
     let head = c.head_size.result in
     let place_is : c.pass.new.self ≡ record j { cursor = area_from half second + head } = c.pass.ensures ∙ ap (λ (n : ℕ). record j { cursor = n + head }) c.start_of-from.ensures in
-    subst (λ (q : Place). IfTold v4 (λ bytes. (payloads : List (List ℕ)) × HasCurrent half second c.picked-generation.result payloads bytes × HasRead q bytes (head_of c.picked-generation.result) payloads)) (sym place_is)
+    subst (λ (q : JournalPlace). IfTold v4 (λ bytes. (payloads : List (List ℕ)) × HasCurrent half second c.picked-generation.result payloads bytes × HasRead q bytes (head_of c.picked-generation.result) payloads)) (sym place_is)
     (opened_holds v4 half second c.picked-generation.result o p half_is inside durable (d.as_it_reads c.open.new.disk) (d.image_size c.open.new.disk) j opened (not (nat_eq o 0)) (live_yes o) (live_no o) head c.head_size.ensures.none c.head_size.ensures.some)
 
 pub returns-in_err-one-clause-damaged : goal.returns-in_err-one-clause-damaged

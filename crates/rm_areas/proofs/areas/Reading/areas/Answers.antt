@@ -1,5 +1,5 @@
 use Rattle.std.proofs.Common.{◌≡◌, ◌+◌, ℕ, true, false, None, ◌++◌, sym, ◌∙◌, ap, subst}
-use Rattle.rm_journal.specs.Journal.{Place}
+use Rattle.rm_journal.specs.Journal.{JournalPlace}
 use Rattle.rm_journal.specs.Walk.{HasWalked}
 use Rattle.rm_areas.specs.Areas.{AreasInvariant, area_from, head_of}
 use Rattle.rm_areas.specs.Reading.{ReadingAt, IsReading}
@@ -12,10 +12,10 @@ returns-clause-stands g c =
     let i : ReadingAt = record { half = c.self.inside.half; second = c.self.inside.second; generation = c.self.inside.generation; other_live = c.self.inside.other_live; walk = c.self.inside.walk } in
     let is : IsReading v i = subst (λ (q : ReadingAt). IsReading v q) (sym c.self.view_is) c.requires.reading in
     let done : i.walk.is_done ≡ true = ap (λ (q : ReadingAt). q.walk.is_done) c.self.view_is ∙ c.requires.done in
-    let j : Place = c.journal-journal.result in
+    let j : JournalPlace = c.journal-journal.result in
     let cursor : c.start_of.result + c.head_size.result ≡ area_from i.half i.second + c.head_size.result = ap (λ (n : ℕ). n + c.head_size.result) c.start_of.ensures in
     let place_is : c.pass.new.self ≡ record j { cursor = area_from i.half i.second + c.head_size.result } = c.pass.ensures ∙ ap (λ (n : ℕ). record j { cursor = n }) cursor in
-    subst (λ (q : Place). AreasInvariant v (record { half = i.half; second = i.second; generation = i.generation; journal = q; other_live = i.other_live; build = None; is_broken = false })) (sym place_is)
+    subst (λ (q : JournalPlace). AreasInvariant v (record { half = i.half; second = i.second; generation = i.generation; journal = q; other_live = i.other_live; build = None; is_broken = false })) (sym place_is)
     (read_stands v i is done (g.met.D.Disk.as_it_reads c.args.disk.now) (g.met.D.Disk.image_size c.args.disk.now) j c.journal-journal.ensures c.head_size.result c.head_size.ensures.none c.head_size.ensures.some)
 
 pub returns-clause-holds : goal.returns-clause-holds

@@ -6,7 +6,7 @@ use Rattle.rm_types.specs.declared.containers.Held.{Held}
 use Rattle.rm_types.specs.declared.resources.Resource.{Resource}
 use Rattle.rm_types.specs.Passes.{total_of}
 use Rattle.rm_book.specs.Books.{AreLiving, entering, total_on, with_capability}
-use Rattle.rm_book.specs.Kept.{entered_rows, shown}
+use Rattle.rm_book.specs.Kept.{entered_rows, nodes_shown}
 use Rattle.rm_book.proofs.AbsorbSteps.{absorbed_kept, entering_fits, fresh_entering, gone_of, left_after, living_left, ran_after}
 use Rattle.rm_book.proofs.BookSteps.{seen, sums_entered, used_set, within_kept}
 use Rattle.rm_book.proofs.LeavingSteps.{staying}
@@ -46,7 +46,7 @@ left g c =
     c.in_ok-enter_all.ensures.ok (c.deref.ensures.value ∙ c.in_ok-list.ensures) c.end_each.ensures.rest (c.deref-3.ensures.value ∙ c.in_ok-gone.ensures)
 
 -- the capabilities after it
-nodes : (g : _) (c : goal.After-drop-list-2 g) → shown c.end_each.new.nodes.map.entries ≡ with_capability c.args.node.now c.args.capability (shown c.self.inside.nodes.map.entries)
+nodes : (g : _) (c : goal.After-drop-list-2 g) → nodes_shown c.end_each.new.nodes.map.entries ≡ with_capability c.args.node.now c.args.capability (nodes_shown c.self.inside.nodes.map.entries)
 nodes g c =
     let set = rw (c.in_ok-name.ensures.name, c.room.ensures.same) at c.set.ensures.shown in
     c.end_each.ensures.shown ∙ set

@@ -1,7 +1,7 @@
 use Rattle.std.proofs.Common.{not, ap, ◌∙◌}
 use Rattle.rm_types.specs.Rights.{parents_of, acl_of}
 use Rattle.rm_queues.specs.Acls.{meaning_of}
-use Rattle.rm_queues.specs.Places.{first_in}
+use Rattle.rm_queues.specs.Places.{first_known_place}
 use Rattle.rm_queues.specs.Trees.{any_below}
 use Rattle.rm_queues.proofs.Alternatives.{node_by_parts}
 use Rattle.rm_queues.proofs.FirstPlaces.{first_in-first_place}
@@ -14,7 +14,7 @@ returns c =
     let name = c.bytes-name.ensures in
     let parent =
     c.nearest_parent-parent.ensures
-    ∙ ap (λ one. first_in c.args.places.now (parents_of one)) name
+    ∙ ap (λ one. first_known_place c.args.places.now (parents_of one)) name
     ∙ first_in-first_place queues c.args.places.now (parents_of queue.name) c.requires in
     let leaf = ap not (c.any_below-is_leaf.ensures ∙ ap (any_below queues) name) in
     let submit = c.in_ok-submit.ensures.meaning ∙ ap meaning_of (c.acl_text.ensures ∙ ap (λ one. acl_of one queue.submit) name) in
