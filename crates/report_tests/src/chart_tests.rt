@@ -1,8 +1,8 @@
 //! What a picture has: a row for each node, and no more than a screen can show.
 use crate::helpers::{append, has_text, repeated, wants_in};
 use crate::pages::RUN;
-use rm_chart::draw;
 use rm_page_reader::PageError;
+use rm_report::chart::draw;
 use std::process::Abort;
 
 /// How many containers a large page grants, on two nodes.

@@ -14,8 +14,8 @@ use Rattle.rm_types.specs.declared.resources.Resource.{Resource}
 use Rattle.rm_types.specs.Passes.{total_of}
 use Rattle.rm_types.specs.Resources.{Fits, difference_of}
 use Rattle.rm_types.proofs.IdLemmas.{same_container}
-use Rattle.rm_container.specs.declared.states.ContainerEvent.TheVariants.{Run, Tell}
-use Rattle.rm_container.specs.Table.{next_container_state}
+use Rattle.rm_states.specs.declared.container.states.ContainerEvent.TheVariants.{Run, Tell}
+use Rattle.rm_states.specs.container.Table.{next_container_state}
 use Rattle.rm_book.specs.declared.node_table.NodeLoad.{NodeLoad}
 use Rattle.rm_book.specs.Books.{BookRowsAreApart, AreLiving, BookOf, TellUpTo, capability_in, capability_or_none, free_on, is_living_state, is_of, sizes_of, sizes_on, total_on}
 use Rattle.rm_book.specs.Granted.{may_be_told}

@@ -17,9 +17,9 @@ use Rattle.rm_types.specs.declared.ids.ContainerId.{ContainerId}
 use Rattle.rm_types.specs.Ids.{is_app, is_attempt, is_container}
 use Rattle.rm_types.proofs.IdLemmas.{container_back, container_itself, same_container}
 use Rattle.rm_types.proofs.TestLemmas.{found_passes, is_some-find}
-use Rattle.rm_container.specs.Table.{next_container_state}
-use Rattle.rm_container.specs.declared.states.ContainerEvent.{ContainerEvent}
-use Rattle.rm_container.specs.declared.states.ContainerEvent.TheVariants.{Tell, Run, End}
+use Rattle.rm_states.specs.container.Table.{next_container_state}
+use Rattle.rm_states.specs.declared.container.states.ContainerEvent.{ContainerEvent}
+use Rattle.rm_states.specs.declared.container.states.ContainerEvent.TheVariants.{Tell, Run, End}
 use Rattle.rm_book.specs.Books.{BookRowsAreApart, is_of}
 use Rattle.rm_book.specs.Granted.{is_granted_to, is_untold_to_attempt}
 use Rattle.rm_types.specs.Containers.{is_granted}

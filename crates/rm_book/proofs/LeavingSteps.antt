@@ -14,8 +14,8 @@ use Rattle.rm_types.specs.declared.resources.Resource.{Resource}
 use Rattle.rm_types.specs.Ids.{is_container}
 use Rattle.rm_types.proofs.IdLemmas.{container_back, same_container}
 use Rattle.rm_types.proofs.TestLemmas.{is_some-find, text_itself}
-use Rattle.rm_container.specs.declared.states.ContainerEvent.TheVariants.{Run}
-use Rattle.rm_container.specs.Table.{next_container_state}
+use Rattle.rm_states.specs.declared.container.states.ContainerEvent.TheVariants.{Run}
+use Rattle.rm_states.specs.container.Table.{next_container_state}
 use Rattle.rm_book.specs.declared.node_table.NodeLoad.{NodeLoad}
 use Rattle.rm_book.specs.Books.{BookRowsAreApart, AreLiving, is_of, book_row_taken, sizes_on, total_on}
 use Rattle.rm_types.specs.Containers.{is_held}

@@ -7,7 +7,7 @@ ghost use Rattle.rm_book.specs.Kept.{AreUsed, nodes_shown};
 
 use crate::node_table::NodeTable;
 use crate::row_table::RowTable;
-use rm_container::ContainerEvent;
+use rm_states::container::ContainerEvent;
 use rm_types::{BookRow, ContainerId, Held, NoMemory};
 use std::alloc::Global;
 

@@ -6,7 +6,7 @@ ghost use Rattle.std.specs.Option.{option_copied};
 ghost use Rattle.std.specs.Map.{lookup};
 ghost use Rattle.std.specs.Str.{bytes_eq};
 ghost use Rattle.rm_types.specs.Ids.{is_app, is_attempt, is_container};
-ghost use Rattle.rm_container.specs.Table.{next_container_state};
+ghost use Rattle.rm_states.specs.container.Table.{next_container_state};
 ghost use Rattle.rm_book.specs.Books.{BookRowsAreApart, is_later, is_of};
 ghost use Rattle.rm_book.specs.Granted.{is_granted_to, is_untold_to_attempt};
 ghost use Rattle.rm_book.specs.Kept.{AreSame, AreWith, AreWithout, ids_under, ids_where};
@@ -14,8 +14,8 @@ ghost use Rattle.rm_book.specs.Kept.{AreSame, AreWith, AreWithout, ids_under, id
 use crate::granted::is_granted;
 use crate::groups::Groups;
 use crate::plain::next_state;
-use rm_container::ContainerEvent;
 use rm_keyed::Keyed;
+use rm_states::container::ContainerEvent;
 use rm_types::{
     AppId, AttemptId, BookRow, ContainerId, ContainerState, Duplicate, Items, NoMemory, Resource,
     Text,

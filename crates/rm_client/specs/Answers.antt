@@ -8,7 +8,7 @@ use Rattle.rm_types.specs.declared.replies.Report.{Report as ReportOf}
 use Rattle.rm_types.specs.declared.replies.StateWord.{StateWord}
 use Rattle.rm_types.specs.declared.replies.Reply.{Reply}
 use Rattle.rm_types.specs.declared.replies.Reply.TheVariants.{New as Gives, Submitted as Taken, Killing}
-use Rattle.rm_app.specs.declared.states.AppState.TheVariants as apps
+use Rattle.rm_states.specs.declared.app.states.AppState.TheVariants as apps
 use Rattle.rm_tables.specs.declared.changes.RowChange.TheVariants as of_app
 use Rattle.rm_tables.specs.declared.events.MainEvent.TheVariants as mains
 use Rattle.rm_tables.specs.declared.rows.AppRow.{AppRow}

@@ -8,8 +8,8 @@ ghost use Rattle.rm_tables.specs.Rows.{slot_of};
 ghost use Rattle.rm_client.specs.Answers.{after_client, with_submission};
 ghost use Rattle.rm_refinement.specs.Clients.{RefinesForClients};
 
-use rm_app::AppState;
 use rm_queues::QueueTree;
+use rm_states::app::AppState;
 use rm_tables::{AppRow, MainEvent, Rows, Tables};
 use rm_types::{AclOp, AppId, Duplicate, Items, NoMemory, Reply, Submission};
 

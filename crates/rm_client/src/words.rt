@@ -7,7 +7,7 @@ ghost use Rattle.rm_model.specs.Facts.{kept_record};
 ghost use Rattle.rm_model.specs.ClientReplies.{end_word, going_word};
 ghost use Rattle.rm_refinement.specs.Clients.{RowRefines, current_registered, is_saving_app, last_failed, runs};
 
-use rm_app::AppState;
+use rm_states::app::AppState;
 use rm_tables::{AppRow, Current, last_attempt};
 use rm_types::{AppRecord, AttemptRecord, How, StateWord};
 

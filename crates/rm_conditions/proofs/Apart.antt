@@ -8,7 +8,7 @@ use Rattle.rm_types.specs.Ids.{is_app, is_attempt}
 use Rattle.rm_types.specs.Records.{record_of}
 use Rattle.rm_types.proofs.IdLemmas.{app_back}
 use Rattle.rm_book.specs.AskTables.{AsksOf}
-use Rattle.rm_fit.specs.Conditions.{TurnsAreApart as AreTurnsApart, has_turn}
+use Rattle.rm_sched.specs.fit.Conditions.{TurnsAreApart as AreTurnsApart, has_turn}
 use Rattle.rm_model.specs.Attempts.{attempt_at}
 use Rattle.rm_tables.specs.declared.rows.AppRow.{AppRow}
 use Rattle.rm_tables.specs.Passing.{asks_some, turn_in}

@@ -9,7 +9,7 @@ use Rattle.rm_types.specs.Ids.{is_attempt}
 use Rattle.rm_types.proofs.TestLemmas.{and_false}
 use Rattle.rm_book.specs.Books.{BookOf, capability_of, is_later}
 use Rattle.rm_book.specs.declared.plain.NodeCapability.{NodeCapability}
-use Rattle.rm_fit.specs.Conditions.{is_past}
+use Rattle.rm_sched.specs.fit.Conditions.{is_past}
 use Rattle.rm_conditions.specs.Passes.{offers_few, offers_few_at}
 
 module _ (book : BookOf) where

@@ -16,7 +16,7 @@ use Rattle.rm_types.proofs.TestLemmas.{nil_is, number_itself, same_text}
 use Rattle.rm_book.specs.AskTables.{attempt_asks}
 use Rattle.rm_book.specs.Books.{BookOf, capability_in, capability_of, is_node}
 use Rattle.rm_book.specs.declared.plain.NodeCapability.{NodeCapability}
-use Rattle.rm_fit.specs.Conditions.{TurnsAreApart, are_past, are_some_sizes, have_sizes}
+use Rattle.rm_sched.specs.fit.Conditions.{TurnsAreApart, are_past, are_some_sizes, have_sizes}
 use Rattle.rm_model.specs.Attempts.{attempt_at}
 use Rattle.rm_tables.specs.declared.rows.AppRow.{AppRow}
 use Rattle.rm_tables.specs.declared.rows.Current.{Current}

@@ -6,7 +6,7 @@ use Rattle.rm_types.specs.declared.resources.Resource.{Resource}
 use Rattle.rm_book.specs.AskTables.{attempt_asks}
 use Rattle.rm_book.specs.Books.{BookOf, capability_of}
 use Rattle.rm_book.specs.declared.plain.NodeCapability.{NodeCapability}
-use Rattle.rm_fit.specs.Conditions.{are_some_sizes, is_past}
+use Rattle.rm_sched.specs.fit.Conditions.{are_some_sizes, is_past}
 use Rattle.rm_tables.specs.declared.rows.AppRow.{AppRow}
 use Rattle.rm_tables.specs.declared.rows.Current.{Current}
 use Rattle.rm_tables.specs.declared.tables.Tables.{Tables}

@@ -12,7 +12,7 @@ ghost use Rattle.rm_conditions.specs.Passes.{is_early, has_only_past_ids, may_ha
 use crate::counts::are_few;
 use crate::turns::law_apart;
 use rm_book::Book;
-use rm_fit::has_sizes;
+use rm_sched::fit::has_sizes;
 use rm_sched::{asks_some, attempt_at, granted_to};
 use rm_tables::{Rows, Tables};
 use rm_types::{AppId, AppRecord, AttemptId, GREATEST_VCORES, Text};

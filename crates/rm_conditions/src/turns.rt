@@ -1,5 +1,5 @@
 //! The turns of a pass.
-ghost use Rattle.rm_fit.specs.Conditions.{TurnsAreApart};
+ghost use Rattle.rm_sched.specs.fit.Conditions.{TurnsAreApart};
 ghost use Rattle.rm_tables.specs.Passing.{turns_in};
 
 use rm_tables::Tables;

@@ -2,14 +2,14 @@
 use Rattle.std.proofs.Common.{◌≡◌, ◌⊎◌, inl, inr, true, Some, sym, ◌∙◌, subst, arith, rules}
 use Rattle.rm_types.specs.declared.ids.AppId.{AppId}
 use Rattle.rm_types.specs.declared.operations.How.{How}
-use Rattle.rm_app.specs.declared.states.AppState.TheVariants.{FinalSaving}
-use Rattle.rm_app.specs.Table.{end_state}
-use Rattle.rm_app.proofs.Rows.{ends_are_kept}
-use Rattle.rm_attempt.specs.declared.states.AttemptState.{AttemptState}
-use Rattle.rm_attempt.specs.declared.states.AttemptState.TheVariants.{Ending, Ended}
-use Rattle.rm_attempt.specs.declared.states.AttemptEvent.{AttemptEvent}
-use Rattle.rm_attempt.specs.declared.states.AttemptAction.{AttemptAction}
-use Rattle.rm_attempt.specs.Table.{AttemptTransition as AttemptTableRow}
+use Rattle.rm_states.specs.declared.app.states.AppState.TheVariants.{FinalSaving}
+use Rattle.rm_states.specs.app.Table.{end_state}
+use Rattle.rm_states.proofs.app.Rows.{ends_are_kept}
+use Rattle.rm_states.specs.declared.attempt.states.AttemptState.{AttemptState}
+use Rattle.rm_states.specs.declared.attempt.states.AttemptState.TheVariants.{Ending, Ended}
+use Rattle.rm_states.specs.declared.attempt.states.AttemptEvent.{AttemptEvent}
+use Rattle.rm_states.specs.declared.attempt.states.AttemptAction.{AttemptAction}
+use Rattle.rm_states.specs.attempt.Table.{AttemptTransition as AttemptTableRow}
 use Rattle.rm_tables.specs.declared.rows.AppRow.{AppRow}
 use Rattle.rm_tables.specs.declared.rows.Current.{Current}
 use Rattle.rm_tables.specs.declared.tables.Tables.{Tables}

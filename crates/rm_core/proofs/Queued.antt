@@ -7,8 +7,8 @@ use Rattle.rm_types.specs.declared.ids.AttemptId.{AttemptId}
 use Rattle.rm_types.specs.declared.ids.ContainerId.{ContainerId}
 use Rattle.rm_types.specs.declared.messages.Lane.TheVariants.{Main as MainLane, Sched as SchedLane}
 use Rattle.rm_types.specs.Lanes.{lane_of_entry}
-use Rattle.rm_attempt.specs.declared.states.AttemptState.{AttemptState}
-use Rattle.rm_attempt.specs.declared.states.AttemptState.TheVariants as attempts
+use Rattle.rm_states.specs.declared.attempt.states.AttemptState.{AttemptState}
+use Rattle.rm_states.specs.declared.attempt.states.AttemptState.TheVariants as attempts
 use Rattle.rm_book.specs.Books.{book_row as book_row_of}
 use Rattle.rm_model.specs.Containers.{once}
 use Rattle.rm_tables.specs.declared.events.MainEvent.{MainEvent}

@@ -3,10 +3,10 @@
 use Rattle.std.specs.Prelude.{◌≡◌, ◌⊎◌, Bool, true, false, Some}
 use Rattle.rm_types.specs.declared.ids.AppId.{AppId}
 use Rattle.rm_types.specs.declared.operations.How.{How}
-use Rattle.rm_app.specs.declared.states.AppState.TheVariants.{FinalSaving}
-use Rattle.rm_app.specs.Table.{IsFinalApp as IsFinalOfApp, end_state}
-use Rattle.rm_attempt.specs.declared.states.AttemptState.TheVariants.{Ending, Ended}
-use Rattle.rm_attempt.specs.Table.{IsFinalAttempt as IsFinalOfAttempt}
+use Rattle.rm_states.specs.declared.app.states.AppState.TheVariants.{FinalSaving}
+use Rattle.rm_states.specs.app.Table.{IsFinalApp as IsFinalOfApp, end_state}
+use Rattle.rm_states.specs.declared.attempt.states.AttemptState.TheVariants.{Ending, Ended}
+use Rattle.rm_states.specs.attempt.Table.{IsFinalAttempt as IsFinalOfAttempt}
 use Rattle.rm_tables.specs.declared.rows.AppRow.{AppRow}
 use Rattle.rm_tables.specs.declared.rows.Current.{Current}
 use Rattle.rm_tables.specs.Rows.{row_of}

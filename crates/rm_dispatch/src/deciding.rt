@@ -9,8 +9,8 @@ ghost use Rattle.rm_tables.specs.Rows.{row_of};
 
 use crate::ends::{end_app, killed_text, next_attempt, schedule};
 use crate::events::quiet;
-use rm_app::AppState;
-use rm_attempt::AttemptState;
+use rm_states::app::AppState;
+use rm_states::attempt::AttemptState;
 use rm_tables::{Tables, last_attempt};
 use rm_types::{AppId, AppRecord, Duplicate, Entry, How, NoMemory, Settings, Submission, Text};
 

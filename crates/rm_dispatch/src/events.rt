@@ -8,8 +8,8 @@ ghost use Rattle.rm_tables.specs.MainEvents.{epoch_start, start_of_row, save_of_
 ghost use Rattle.rm_tables.specs.Rows.{row_of};
 
 use crate::ends::{end_app, kill_attempt, killed_text, schedule};
-use rm_app::AppState;
-use rm_attempt::AttemptState;
+use rm_states::app::AppState;
+use rm_states::attempt::AttemptState;
 use rm_tables::{MainEvent, RowChange, SchedEvent, Tables};
 use rm_types::{AppId, AttemptId, Boxed, Duplicate, Entry, How, Lane, NoMemory, Op, Queue};
 

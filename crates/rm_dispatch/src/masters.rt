@@ -7,7 +7,7 @@ ghost use Rattle.rm_tables.specs.Rows.{row_of};
 
 use crate::ends::{end_attempt, killed_text, requeue};
 use crate::events::quiet;
-use rm_attempt::AttemptState;
+use rm_states::attempt::AttemptState;
 use rm_tables::{AppRow, AttemptChange, Current, RowChange, Tables};
 use rm_types::{AttemptId, Boxed, ContainerId, Duplicate, Entry, How, NoMemory, Op, Text};
 

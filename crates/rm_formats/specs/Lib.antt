@@ -3,3 +3,4 @@ pub mod Wording
 pub mod Page
 pub mod Frames
 pub mod Device
+pub mod ids

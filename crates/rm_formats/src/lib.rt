@@ -6,6 +6,7 @@
 #![tactic(auto)]
 
 mod codes;
+pub mod ids;
 
 pub use codes::{
     APP_CODE, APP_END_CODE, ATTEMPT_CODE, ATTEMPT_END_CODE, EPOCH_CODE, FAILED_CODE, FINISHED_CODE,

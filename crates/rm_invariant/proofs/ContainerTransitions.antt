@@ -32,11 +32,11 @@ use Rattle.rm_types.specs.declared.replies.Reply.TheVariants as replies
 use Rattle.rm_types.specs.declared.resources.Resource.{Resource}
 use Rattle.rm_types.specs.Ids.{is_container}
 use Rattle.rm_types.proofs.IdLemmas.{same_container}
-use Rattle.rm_attempt.specs.declared.states.AttemptState.{AttemptState}
-use Rattle.rm_attempt.specs.declared.states.AttemptState.TheVariants as attempts
-use Rattle.rm_container.specs.declared.states.ContainerEvent.TheVariants.{Tell, Run, End}
-use Rattle.rm_container.specs.declared.states.ContainerAction.TheVariants.{Nothing}
-use Rattle.rm_container.specs.Table.{ContainerTransition as ContainerTableRow}
+use Rattle.rm_states.specs.declared.attempt.states.AttemptState.{AttemptState}
+use Rattle.rm_states.specs.declared.attempt.states.AttemptState.TheVariants as attempts
+use Rattle.rm_states.specs.declared.container.states.ContainerEvent.TheVariants.{Tell, Run, End}
+use Rattle.rm_states.specs.declared.container.states.ContainerAction.TheVariants.{Nothing}
+use Rattle.rm_states.specs.container.Table.{ContainerTransition as ContainerTableRow}
 use Rattle.rm_book.specs.Books.{AreLiving, BookOf, IsBook, entering, granted_rows, is_living_state, is_of, book_row, book_row_taken, taken_rows, with_grants, book_with_taken, without_rows}
 use Rattle.rm_types.specs.Containers.{is_held, is_granted}
 use Rattle.rm_book.specs.Granted.{AllMayBeTold, grants_to, may_be_told}

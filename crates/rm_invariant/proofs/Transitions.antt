@@ -29,7 +29,7 @@ use Rattle.rm_invariant.proofs.messages.Rows.{clock_rows, node_rows}
 use Rattle.rm_types.specs.declared.settings.Settings.{Settings}
 use Rattle.rm_types.proofs.IdLemmas.{same_app}
 use Rattle.rm_model.specs.Facts.{attempts_in}
-use Rattle.rm_app.specs.declared.states.AppState.TheVariants as apps
+use Rattle.rm_states.specs.declared.app.states.AppState.TheVariants as apps
 use Rattle.rm_tables.specs.declared.events.MainEvent.TheVariants as mains
 use Rattle.rm_tables.specs.Actions.{found_in, next_in}
 use Rattle.rm_invariant.specs.events.Outcomes.{Outcome, accepts, adds, delays, ends, ends_one, follows, idles, issues, kills, loses, orders, removes, requeues, saves}
@@ -40,17 +40,17 @@ use Rattle.rm_invariant.specs.apps.View.{view}
 use Rattle.rm_invariant.proofs.apps.Events.{at}
 use Rattle.rm_invariant.proofs.apps.Own.{active_row}
 use Rattle.rm_invariant.specs.Phases.{LifePhase, none, running, saving, shut, starting}
-use Rattle.rm_app.specs.declared.states.AppState.{AppState}
-use Rattle.rm_app.specs.declared.states.AppEvent.{AppEvent}
-use Rattle.rm_app.specs.declared.states.AppEvent.TheVariants as app_events
-use Rattle.rm_app.specs.Table.{next_app_state}
-use Rattle.rm_app.proofs.Rows.{stays_or_row as app_stays_or_row}
-use Rattle.rm_attempt.specs.declared.states.AttemptState.{AttemptState}
-use Rattle.rm_attempt.specs.declared.states.AttemptState.TheVariants as attempts
-use Rattle.rm_attempt.specs.declared.states.AttemptEvent.{AttemptEvent}
-use Rattle.rm_attempt.specs.declared.states.AttemptEvent.TheVariants as attempt_events
-use Rattle.rm_attempt.specs.Table.{next_attempt_state as next_attempt_state}
-use Rattle.rm_attempt.proofs.Rows.{stays_or_row as attempt_stays_or_row}
+use Rattle.rm_states.specs.declared.app.states.AppState.{AppState}
+use Rattle.rm_states.specs.declared.app.states.AppEvent.{AppEvent}
+use Rattle.rm_states.specs.declared.app.states.AppEvent.TheVariants as app_events
+use Rattle.rm_states.specs.app.Table.{next_app_state}
+use Rattle.rm_states.proofs.app.Rows.{stays_or_row as app_stays_or_row}
+use Rattle.rm_states.specs.declared.attempt.states.AttemptState.{AttemptState}
+use Rattle.rm_states.specs.declared.attempt.states.AttemptState.TheVariants as attempts
+use Rattle.rm_states.specs.declared.attempt.states.AttemptEvent.{AttemptEvent}
+use Rattle.rm_states.specs.declared.attempt.states.AttemptEvent.TheVariants as attempt_events
+use Rattle.rm_states.specs.attempt.Table.{next_attempt_state as next_attempt_state}
+use Rattle.rm_states.proofs.attempt.Rows.{stays_or_row as attempt_stays_or_row}
 use Rattle.rm_tables.specs.declared.changes.AttemptChange.{AttemptChange}
 use Rattle.rm_tables.specs.declared.changes.AttemptChange.TheVariants as of_attempt
 use Rattle.rm_tables.specs.declared.changes.RowChange.{RowChange}

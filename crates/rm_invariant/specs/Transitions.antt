@@ -1,27 +1,27 @@
 -- How the states of applications, attempts, nodes and containers go by a move: along a row of their tables, or not at all. This project's own.
 use Rattle.std.specs.Prelude.{◌≡◌, ◌⊎◌, ℕ, ◌+◌, List, Option, None, Some}
 use Rattle.rm_types.specs.declared.ids.AppId.{AppId}
-use Rattle.rm_app.specs.declared.states.AppState.{AppState}
-use Rattle.rm_app.specs.declared.states.AppEvent.{AppEvent}
-use Rattle.rm_app.specs.declared.states.AppAction.{AppAction}
-use Rattle.rm_app.specs.Table.{AppTransition as AppTableRow}
-use Rattle.rm_attempt.specs.declared.states.AttemptState.{AttemptState}
-use Rattle.rm_attempt.specs.declared.states.AttemptState.TheVariants.{Ended, Scheduled}
-use Rattle.rm_attempt.specs.declared.states.AttemptEvent.{AttemptEvent}
-use Rattle.rm_attempt.specs.declared.states.AttemptAction.{AttemptAction}
-use Rattle.rm_attempt.specs.Table.{AttemptTransition as AttemptTableRow}
-use Rattle.rm_node.specs.declared.states.NodeState.{NodeState}
-use Rattle.rm_node.specs.declared.states.NodeEvent.{NodeEvent}
-use Rattle.rm_node.specs.declared.states.NodeAction.{NodeAction}
-use Rattle.rm_node.specs.Table.{NodeTransition as NodeTableRow}
+use Rattle.rm_states.specs.declared.app.states.AppState.{AppState}
+use Rattle.rm_states.specs.declared.app.states.AppEvent.{AppEvent}
+use Rattle.rm_states.specs.declared.app.states.AppAction.{AppAction}
+use Rattle.rm_states.specs.app.Table.{AppTransition as AppTableRow}
+use Rattle.rm_states.specs.declared.attempt.states.AttemptState.{AttemptState}
+use Rattle.rm_states.specs.declared.attempt.states.AttemptState.TheVariants.{Ended, Scheduled}
+use Rattle.rm_states.specs.declared.attempt.states.AttemptEvent.{AttemptEvent}
+use Rattle.rm_states.specs.declared.attempt.states.AttemptAction.{AttemptAction}
+use Rattle.rm_states.specs.attempt.Table.{AttemptTransition as AttemptTableRow}
+use Rattle.rm_states.specs.declared.node.states.NodeState.{NodeState}
+use Rattle.rm_states.specs.declared.node.states.NodeEvent.{NodeEvent}
+use Rattle.rm_states.specs.declared.node.states.NodeAction.{NodeAction}
+use Rattle.rm_states.specs.node.Table.{NodeTransition as NodeTableRow}
 use Rattle.rm_types.specs.declared.containers.BookRow.{BookRow}
 use Rattle.rm_types.specs.declared.containers.ContainerState.{ContainerState}
 use Rattle.rm_types.specs.declared.containers.ContainerState.TheVariants.{Granted, Running, Completed}
 use Rattle.rm_types.specs.declared.ids.ContainerId.{ContainerId}
-use Rattle.rm_container.specs.declared.states.ContainerEvent.{ContainerEvent}
-use Rattle.rm_container.specs.declared.states.ContainerEvent.TheVariants.{End}
-use Rattle.rm_container.specs.declared.states.ContainerAction.{ContainerAction}
-use Rattle.rm_container.specs.Table.{ContainerTransition as ContainerTableRow}
+use Rattle.rm_states.specs.declared.container.states.ContainerEvent.{ContainerEvent}
+use Rattle.rm_states.specs.declared.container.states.ContainerEvent.TheVariants.{End}
+use Rattle.rm_states.specs.declared.container.states.ContainerAction.{ContainerAction}
+use Rattle.rm_states.specs.container.Table.{ContainerTransition as ContainerTableRow}
 use Rattle.rm_book.specs.Books.{BookOf, book_row as book_row_of}
 use Rattle.rm_tables.specs.declared.nodes.NodeRow.{NodeRow}
 use Rattle.rm_tables.specs.Nodes.{node_row}

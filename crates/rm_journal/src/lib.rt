@@ -11,6 +11,7 @@
 mod fault;
 mod journal;
 mod region;
+pub mod two_areas;
 mod walk;
 
 pub use fault::JournalError;

@@ -12,9 +12,9 @@ use Rattle.rm_types.specs.Ids.{is_app, is_attempt}
 use Rattle.rm_types.proofs.IdLemmas.{same_attempt, same_app}
 use Rattle.rm_book.specs.AskTables.{AsksOf}
 use Rattle.rm_book.specs.Books.{BookOf}
-use Rattle.rm_attempt.specs.declared.states.AttemptState.{AttemptState}
-use Rattle.rm_attempt.specs.declared.states.AttemptState.TheVariants as attempts
-use Rattle.rm_attempt.specs.Table.{is_alive}
+use Rattle.rm_states.specs.declared.attempt.states.AttemptState.{AttemptState}
+use Rattle.rm_states.specs.declared.attempt.states.AttemptState.TheVariants as attempts
+use Rattle.rm_states.specs.attempt.Table.{is_alive}
 use Rattle.rm_model.specs.State.{Endings, LifeState, MasterState, Row, Scene}
 use Rattle.rm_model.specs.Facts.{has_app}
 use Rattle.rm_tables.specs.declared.events.MainEvent.{MainEvent}

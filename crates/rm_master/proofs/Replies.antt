@@ -19,7 +19,7 @@ use Rattle.rm_model.specs.State.{MasterState, Scene}
 use Rattle.rm_model.specs.Attempts.{attempt_end, finishing_text, has_registered, is_finishing, is_last, is_live, is_registered, master_of}
 use Rattle.rm_model.specs.Facts.{attempts_in, awaits, end_in, has_app, kept_end}
 use Rattle.rm_model.specs.MasterReplies.{finish_reply, finished_issued, is_finished_op, register_reply}
-use Rattle.rm_attempt.specs.Table.{is_alive}
+use Rattle.rm_states.specs.attempt.Table.{is_alive}
 use Rattle.rm_tables.specs.declared.rows.AppRow.{AppRow}
 use Rattle.rm_tables.specs.declared.rows.Current.{Current}
 use Rattle.rm_tables.specs.declared.rows.Dialogue.{Dialogue}

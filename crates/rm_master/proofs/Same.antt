@@ -18,17 +18,17 @@ use Rattle.rm_types.specs.declared.replies.Reply.{Reply}
 use Rattle.rm_types.specs.declared.replies.Reply.TheVariants.{MasterRegistered, Already, Gone, Resync, WrongId, TooLarge, Full, Allocated, NotRegistered, Finishing, Finished}
 use Rattle.rm_types.specs.Ids.{is_attempt}
 use Rattle.rm_types.specs.Resources.{fits}
-use Rattle.rm_attempt.specs.declared.states.AttemptState.TheVariants as attempts
+use Rattle.rm_states.specs.declared.attempt.states.AttemptState.TheVariants as attempts
 use Rattle.rm_book.proofs.Lists.{map_view}
 use Rattle.rm_model.specs.State.{MasterState, Release, Row, Scene}
 use Rattle.rm_model.specs.Attempts.{is_finishing, is_last, is_live, is_registered, master_of}
 use Rattle.rm_model.specs.Containers.{released_by}
 use Rattle.rm_model.specs.Facts.{has_container, kept_end}
 use Rattle.rm_model.specs.MasterReplies.{allocate_reply, allocated_reply, allocates, finish_reply, finished_issued, has_too_many as too_many_told, is_new_to_master, life_after_master, master_reply, outbox_of, register_reply, row_allocated, untold_rows, with_asks}
-use Rattle.rm_attempt.specs.declared.states.AttemptState.{AttemptState}
-use Rattle.rm_attempt.specs.declared.states.AttemptEvent.{AttemptEvent}
-use Rattle.rm_attempt.specs.declared.states.AttemptEvent.TheVariants as attempt_events
-use Rattle.rm_attempt.specs.Table.{next_attempt_state as next_attempt_state, is_alive}
+use Rattle.rm_states.specs.declared.attempt.states.AttemptState.{AttemptState}
+use Rattle.rm_states.specs.declared.attempt.states.AttemptEvent.{AttemptEvent}
+use Rattle.rm_states.specs.declared.attempt.states.AttemptEvent.TheVariants as attempt_events
+use Rattle.rm_states.specs.attempt.Table.{next_attempt_state as next_attempt_state, is_alive}
 use Rattle.rm_tables.specs.declared.rows.AppRow.{AppRow}
 use Rattle.rm_tables.specs.declared.rows.Dialogue.{Dialogue}
 use Rattle.rm_tables.specs.declared.tables.Tables.{Tables}

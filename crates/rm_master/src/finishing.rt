@@ -9,7 +9,7 @@ ghost use Rattle.rm_tables.specs.Rows.{row_of};
 
 use crate::living::{dialogue, goes_on};
 use crate::recorded::{finished, has_ended_with};
-use rm_attempt::AttemptState;
+use rm_states::attempt::AttemptState;
 use rm_tables::{MainEvent, Rows, Tables, Talk};
 use rm_types::{AttemptId, Duplicate, NoMemory, Reply, Text};
 

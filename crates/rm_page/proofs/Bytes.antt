@@ -11,8 +11,8 @@ use Rattle.rm_types.specs.declared.texts.TextKind.TheVariants.{Name, Node, Queue
 use Rattle.rm_types.specs.Ranges.{IsText}
 use Rattle.rm_formats.specs.IdTexts.{padded}
 use Rattle.rm_types.specs.Texts.{is_allowed, is_digit, least_length, greatest_length, first_not_allowed}
-use Rattle.rm_ids.specs.Digits.{IsDigit, AreDigits, value_of}
-use Rattle.rm_ids.proofs.Digits.{own, padded_is_digits}
+use Rattle.rm_formats.specs.ids.Digits.{IsDigit, AreDigits, value_of}
+use Rattle.rm_formats.proofs.ids.Digits.{own, padded_is_digits}
 
 -- each byte passes
 abbrev pub made_of : (ℕ → Bool) → List ℕ → Bool

@@ -28,7 +28,7 @@ use Rattle.rm_types.specs.Lists.{is_nil}
 use Rattle.rm_formats.specs.Page.{line, line_of}
 use Rattle.rm_types.specs.Lanes.{sender_of}
 use Rattle.rm_formats.specs.Wording.{spaced, bracketed, cause_text, message_words, message_text, op_words, reply_words}
-use Rattle.rm_ids.specs.Digits.{value_of}
+use Rattle.rm_formats.specs.ids.Digits.{value_of}
 use Rattle.rm_page.specs.Ranges.{IsEntry, IsPageServed, IsPageMessage, IsPageHeld, IsGrant, AsksForReport}
 use Rattle.rm_page.specs.Shown.{listed_held, listed_grant, shown_reply, shown, is_silent}
 use Rattle.rm_page.proofs.Bytes.{made_of, lacks, number_back, cut, cut_at, cut-append, EachLacks, behind, is_word_byte, number_word, node_word, AreWords, words_lack, EachLacks-append, joined_lacks}

@@ -9,8 +9,8 @@ use Rattle.rm_types.specs.declared.ids.ContainerId.{ContainerId}
 use Rattle.rm_formats.specs.IdTexts.{padded, app_text, attempt_text, container_text, container_end}
 use Rattle.rm_types.specs.Lists.{is_nil}
 use Rattle.rm_types.specs.Ranges.{IsAppId, IsAttemptId, IsContainerId}
-use Rattle.rm_ids.specs.Digits.{value_of}
-use Rattle.rm_ids.proofs.Digits.{value_of-padded}
+use Rattle.rm_formats.specs.ids.Digits.{value_of}
+use Rattle.rm_formats.proofs.ids.Digits.{value_of-padded}
 use Rattle.rm_page.proofs.Bytes.{made_of, lacks, lacks_failing, is_part_byte, is_id_byte, decimal_made, padded_made, number_back, cut, EachMade, EachMade-weaker, each_lacks, joined_made, cut_joined, behind, is_word_byte, id_word}
 
 -- ---- of which bytes they are

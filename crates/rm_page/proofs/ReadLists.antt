@@ -20,7 +20,7 @@ use Rattle.rm_types.specs.Texts.{is_allowed}
 use Rattle.rm_formats.specs.IdTexts.{container_text}
 use Rattle.rm_types.specs.Lists.{is_nil}
 use Rattle.rm_formats.specs.Wording.{listed, bracketed, list_word, held_text, ask_text, cause_text, grant_text, closing_text}
-use Rattle.rm_ids.specs.Digits.{value_of}
+use Rattle.rm_formats.specs.ids.Digits.{value_of}
 use Rattle.rm_page.specs.Ranges.{IsPageHeld, IsPageAsk, IsGrant, IsClosing}
 use Rattle.rm_page.specs.Shown.{no_size, told_grant, listed_grant, listed_held}
 use Rattle.rm_page.proofs.Bytes.{made_of, lacks, made_of-append, is_part_byte, is_id_byte, decimal_made, number_back, text_made, text_lacks, text_long, cut, EachMade, EachMade-weaker, joined_made, cut_joined, behind, behind_is, is_word_byte, is_piece_byte, piece_by, queue_word, AreWords, joined_lacks}

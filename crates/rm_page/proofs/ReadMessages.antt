@@ -21,7 +21,7 @@ use Rattle.rm_types.specs.declared.texts.TextKind.TheVariants.{Note, AclText}
 use Rattle.rm_formats.specs.IdTexts.{app_text, attempt_text, container_text}
 use Rattle.rm_types.specs.Ranges.{IsContainerId}
 use Rattle.rm_formats.specs.Wording.{spaced, list_word, text_word, held_text, ask_text, message_words, message_text}
-use Rattle.rm_ids.specs.Digits.{value_of}
+use Rattle.rm_formats.specs.ids.Digits.{value_of}
 use Rattle.rm_page.specs.Ranges.{IsPageMessage, IsPageHeld, IsPageAsk}
 use Rattle.rm_page.proofs.Bytes.{number_back, text_lacks, cut, join_cut, EachMade-append, EachLacks, behind, is_word_byte, number_word, name_word, node_word, AreWords, words_lack, EachLacks-append}
 use Rattle.rm_page.proofs.ReadIds.{app_word, attempt_word, read_app, read_attempt, read_container, app_back, attempt_back}

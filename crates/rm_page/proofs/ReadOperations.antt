@@ -13,7 +13,7 @@ use Rattle.rm_types.specs.Lists.{is_nil}
 use Rattle.rm_types.specs.Ranges.{IsSubmission, IsOperation}
 use Rattle.rm_formats.specs.IdTexts.{app_text, attempt_text, container_text}
 use Rattle.rm_formats.specs.Wording.{spaced, text_word, how_text, op_words, op_text}
-use Rattle.rm_ids.specs.Digits.{value_of}
+use Rattle.rm_formats.specs.ids.Digits.{value_of}
 use Rattle.rm_page.proofs.Bytes.{made_of, lacks, lacks-append, number_back, text_lacks, cut, join_cut, EachLacks, cut_joined, cut_joined_last, behind, behind_is, is_word_byte, number_word, name_word, node_word, queue_word, AreWords, words_lack, EachLacks-append}
 use Rattle.rm_page.proofs.ReadIds.{app_word, attempt_word, container_word, read_app, read_attempt, read_container, app_back, attempt_back, container_back}
 

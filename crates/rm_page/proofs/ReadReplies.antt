@@ -18,7 +18,7 @@ use Rattle.rm_types.specs.declared.texts.TextKind.TheVariants.{Note, Queue}
 use Rattle.rm_types.specs.Ranges.{IsText}
 use Rattle.rm_formats.specs.IdTexts.{container_text}
 use Rattle.rm_formats.specs.Wording.{spaced, listed, acl_op_text, state_text, grant_text, closing_text, reply_words, reply_text}
-use Rattle.rm_ids.specs.Digits.{value_of}
+use Rattle.rm_formats.specs.ids.Digits.{value_of}
 use Rattle.rm_page.specs.Ranges.{IsPageReply, IsGrant, IsClosing}
 use Rattle.rm_page.specs.Shown.{told_grant, shown_reply}
 use Rattle.rm_page.proofs.Bytes.{made_of, number_back, text_lacks, cut, EachLacks, behind, is_word_byte, number_word, name_word, queue_word, AreWords, words_lack, EachLacks-append}

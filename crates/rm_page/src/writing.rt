@@ -2,7 +2,7 @@ ghost use Rattle.std.specs.Prelude.{◌≡◌, [], ◌∷◌, ◌++◌, decimal,
 ghost use Rattle.rm_formats.specs.IdTexts.{app_text, attempt_text, container_text};
 
 use itoa::Buffer;
-use rm_ids::{write_app, write_attempt, write_container};
+use rm_formats::ids::{write_app, write_attempt, write_container};
 use rm_types::{AppId, AttemptId, ContainerId, NoMemory};
 use std::alloc::Global;
 use std::marker::Model;

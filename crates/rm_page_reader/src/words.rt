@@ -10,7 +10,7 @@ ghost use Rattle.rm_page_reader.specs.Results.{FindsLine, TakesWord, IsFirstCut,
 ghost use Rattle.rm_script.specs.Results.{IsOf};
 
 use crate::errors::LineError;
-use rm_ids::{read_app, read_attempt, read_container};
+use rm_formats::ids::{read_app, read_attempt, read_container};
 use rm_script::number_in;
 use rm_types::{AppId, AttemptId, ContainerId, Text, TextError, TextKind};
 use std::alloc::Global;

@@ -15,7 +15,7 @@ use Rattle.rm_model.specs.Lawful.{state_after}
 use Rattle.rm_model.specs.State.{LifeState, Manager}
 use Rattle.rm_types.specs.Alike.{IsAlike}
 use Rattle.rm_types.specs.Folded.{folded}
-use Rattle.rm_folding.proofs.Ordering.{alike}
+use Rattle.rm_store.proofs.compaction.Ordering.{alike}
 use Rattle.rm_store.specs.Causes.{IsWhy}
 use Rattle.rm_store.specs.Errors.{IsOpenError}
 use Rattle.rm_store.specs.declared.fault.StoreError.{StoreError}

@@ -16,8 +16,8 @@ use Rattle.rm_book.specs.AskTables.{AsksOf, attempt_asks as asks_in}
 use Rattle.rm_book.specs.Books.{BookOf, capability_of}
 use Rattle.rm_model.specs.Passing.{asks_of as asks_told}
 use Rattle.rm_model.specs.State.{MasterState, NodeState, Phase, Waiting, Ready, Lost, Registration, Row}
-use Rattle.rm_node.specs.declared.states.NodeState.{NodeState as NodePhase}
-use Rattle.rm_node.specs.declared.states.NodeState.TheVariants as states
+use Rattle.rm_states.specs.declared.node.states.NodeState.{NodeState as NodePhase}
+use Rattle.rm_states.specs.declared.node.states.NodeState.TheVariants as states
 use Rattle.rm_tables.specs.declared.nodes.NodeRow.{NodeRow}
 use Rattle.rm_tables.specs.declared.rows.AppRow.{AppRow}
 use Rattle.rm_tables.specs.declared.rows.Current.{Current}

@@ -10,8 +10,8 @@ use Rattle.rm_model.specs.State.{Scene}
 use Rattle.rm_model.specs.Attempts.{has_failed}
 use Rattle.rm_model.specs.Facts.{attempts_in, awaits, has_app, is_accepted, is_app_op, is_known, kept_attempts, kept_record, waiting_submission}
 use Rattle.rm_model.specs.ClientReplies.{going, is_running, live_of}
-use Rattle.rm_app.specs.declared.states.AppState.{AppState}
-use Rattle.rm_app.specs.declared.states.AppState.TheVariants as apps
+use Rattle.rm_states.specs.declared.app.states.AppState.{AppState}
+use Rattle.rm_states.specs.declared.app.states.AppState.TheVariants as apps
 use Rattle.rm_tables.specs.declared.rows.AppRow.{AppRow}
 use Rattle.rm_tables.specs.declared.rows.Current.{Current}
 use Rattle.rm_tables.specs.declared.tables.Tables.{Tables}

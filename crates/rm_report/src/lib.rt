@@ -8,6 +8,7 @@
 //! `rm_ids` for the texts of ids, on `rm_frame` for the length of an operation, and on `itoa` for digits.
 #![tactic(auto)]
 
+pub mod chart;
 mod counting;
 mod errors;
 mod following;

@@ -4,7 +4,7 @@ ghost use Rattle.rm_formats.specs.IdTexts.{app_text, attempt_text, container_tex
 ghost use Rattle.rm_formats.specs.Page.{line_of};
 
 use itoa::{Buffer, Integer};
-use rm_ids::{write_app, write_attempt, write_container};
+use rm_formats::ids::{write_app, write_attempt, write_container};
 use rm_page::page;
 use rm_types::{AppId, AttemptId, ContainerId, Duplicate, Entry, Items, NoMemory};
 use std::alloc::Global;

@@ -5,7 +5,7 @@ ghost use Rattle.rm_types.specs.Ranges.{IsText};
 ghost use Rattle.rm_types.specs.declared.texts.TextKind.TheVariants as kinds;
 
 use crate::errors::ReportError;
-use rm_ids::{read_app, read_attempt, read_container};
+use rm_formats::ids::{read_app, read_attempt, read_container};
 use rm_types::{AppId, AttemptId, ContainerId, Text, TextError, TextKind};
 use std::alloc::Global;
 

@@ -14,7 +14,7 @@ use Rattle.rm_types.specs.Passes.{by_priority, put_by_priority}
 use Rattle.rm_types.specs.Resources.{difference_of}
 use Rattle.rm_book.specs.AskTables.{some_asks}
 use Rattle.rm_book.specs.Books.{BookOf, capability_of, free_on, total_on}
-use Rattle.rm_fit.specs.Conditions.{are_early}
+use Rattle.rm_sched.specs.fit.Conditions.{are_early}
 use Rattle.rm_model.specs.Attempts.{attempt_at}
 use Rattle.rm_model.specs.Containers.{is_size}
 use Rattle.rm_tables.specs.declared.rows.AppRow.{AppRow}

@@ -3,3 +3,4 @@ pub mod Listed
 pub mod Granting
 pub mod Fronted
 pub mod Turned
+pub mod fit

@@ -11,7 +11,7 @@ use Rattle.rm_types.specs.Passes.{total_of}
 use Rattle.rm_types.specs.Resources.{Fits}
 use Rattle.rm_book.specs.AskTables.{attempt_asks}
 use Rattle.rm_book.specs.Books.{AreNew, AreOnce, are_grants_on, capability_of, free_on, sizes_of, total_on, book_with_taken}
-use Rattle.rm_fit.specs.Conditions.{TurnsAreApart, are_past, have_sizes}
+use Rattle.rm_sched.specs.fit.Conditions.{TurnsAreApart, are_past, have_sizes}
 use Rattle.rm_tables.specs.declared.nodes.NodeRow.{NodeRow}
 use Rattle.rm_tables.specs.declared.tables.Tables.{Tables}
 use Rattle.rm_tables.specs.Absorbing.{book_not_taken, taken_in}

@@ -1,3 +1,4 @@
 pub mod CanWork
 pub mod ClosingLists
 pub mod Turns
+pub mod fit

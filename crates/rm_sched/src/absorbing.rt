@@ -15,7 +15,7 @@ use crate::closing_lists::{closing_lists, set_lists};
 use crate::leaving::{closings_of, losts_of};
 use crate::records::is_current;
 use rm_book::Book;
-use rm_node::NodeState;
+use rm_states::node::NodeState;
 use rm_tables::{NodeChange, NodeRow, Nodes, Rows, Tables};
 use rm_types::{
     AttemptId, Boxed, Cause, ContainerId, Duplicate, Entry, Held, Items, NoMemory, Resource, Text,

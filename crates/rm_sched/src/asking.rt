@@ -3,7 +3,7 @@ ghost use Rattle.std.specs.Prelude.{◌≡◌, true, IfOk, OnErr};
 ghost use Rattle.rm_tables.specs.SchedEvents.{added_by, queued_at, queued_by};
 ghost use Rattle.rm_tables.specs.Rows.{row_of};
 
-use rm_attempt::AttemptState;
+use rm_states::attempt::AttemptState;
 use rm_tables::{MainEvent, Tables};
 use rm_types::{AppId, Ask, AttemptId, Entry, Lane, NoMemory};
 

@@ -11,6 +11,7 @@ mod absorbing;
 mod asking;
 mod closing_lists;
 mod ending;
+pub mod fit;
 mod fronts;
 mod leaving;
 mod passing;

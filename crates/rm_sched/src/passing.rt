@@ -13,10 +13,10 @@ ghost use Rattle.rm_sched.specs.Turns.{has_waiting, turns_of};
 ghost use Rattle.rm_sched.specs.CanWork.{AreFew, CanPass, GrantsFit};
 
 use crate::asking::quiet;
-use rm_attempt::AttemptState;
+use crate::fit::first_fit;
 use rm_book::Asks;
-use rm_fit::first_fit;
-use rm_node::NodeState;
+use rm_states::attempt::AttemptState;
+use rm_states::node::NodeState;
 use rm_tables::{AppRow, AttemptChange, MainEvent, RowChange, Rows, Tables};
 use rm_types::{
     AppId, AppRecord, AskLine, AttemptId, AttemptRecord, Boxed, Duplicate, Entry, Grant, Items,

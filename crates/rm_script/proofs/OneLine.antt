@@ -12,7 +12,7 @@ use Rattle.rm_types.specs.declared.messages.ClockAsk.TheVariants.{Tick, ExpireNo
 use Rattle.rm_types.specs.declared.messages.Message.{Message}
 use Rattle.rm_types.specs.declared.messages.Message.TheVariants.{Client, Master, Node, Clock}
 use Rattle.rm_formats.specs.Wording.{spaced, message_words}
-use Rattle.rm_ids.specs.Digits.{value_of}
+use Rattle.rm_formats.specs.ids.Digits.{value_of}
 use Rattle.rm_page.proofs.Bytes.{number_back}
 use Rattle.rm_page.proofs.ReadMessages.{messages_apart}
 use Rattle.rm_script.specs.declared.drafts.Draft.{Draft}

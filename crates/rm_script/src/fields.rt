@@ -9,7 +9,7 @@ use crate::errors::LineError;
 use crate::faults::{Excerpt, LineFault, Part};
 use crate::numbers::{number, number_field};
 use crate::words::after_label;
-use rm_ids::{read_app, read_attempt, read_container};
+use rm_formats::ids::{read_app, read_attempt, read_container};
 use rm_types::{
     AppId, AttemptId, ContainerId, GREATEST_MEMORY_MB, GREATEST_VCORES, Resource, Text, TextError,
     TextKind,

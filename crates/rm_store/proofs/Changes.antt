@@ -13,9 +13,9 @@ use Rattle.rm_journal.specs.declared.fault.JournalError.TheVariants.{DiskFault, 
 use Rattle.rm_journal.specs.Fault.{IsAppendError}
 use Rattle.rm_journal.specs.Journal.{broken_after}
 use Rattle.rm_journal.proofs.Payloads.{length-records_push}
-use Rattle.rm_areas.specs.Areas.{AreasAt, AreasInvariant, AreasHold, HasLayout, LeavesPayloads, IsBuilt, head_of, other_end}
-use Rattle.rm_areas.proofs.Moments.{at_once, moment_of, some_same}
-use Rattle.rm_areas.proofs.Steps.{each_has, layout, same_gate}
+use Rattle.rm_journal.specs.two_areas.Areas.{AreasAt, AreasInvariant, AreasHold, HasLayout, LeavesPayloads, IsBuilt, head_of, other_end}
+use Rattle.rm_journal.proofs.two_areas.Moments.{at_once, moment_of, some_same}
+use Rattle.rm_journal.proofs.two_areas.Steps.{each_has, layout, same_gate}
 use Rattle.rm_store.specs.Changing.{KeepsPayloads, TellsPayloads, IsChangeError}
 
 module _ (v0 v1 v2 : DiskView) (a0 a1 a2 : AreasAt) (one : KeepsPayloads v0 v1 a0 a1) (on : TellsPayloads v0 v1 a0 a1) (sound : a0.is_broken ≡ false) where

@@ -12,12 +12,12 @@ use Rattle.rm_types.specs.Records.{Records, records, record_of, fits_records, st
 use Rattle.rm_formats.specs.Frames.{frame}
 use Rattle.rm_tree.specs.Changes.{is_unended_last}
 use Rattle.rm_tree.specs.Shows.{shows}
-use Rattle.rm_areas.specs.Areas.{HasLayout}
-use Rattle.rm_folding.specs.Amounts.{Amounts, amounts}
+use Rattle.rm_journal.specs.two_areas.Areas.{HasLayout}
+use Rattle.rm_store.specs.compaction.Amounts.{Amounts, amounts}
 use Rattle.rm_types.specs.Folded.{folded, stays}
 use Rattle.rm_types.specs.Alike.{IsAlike, without_end_order}
-use Rattle.rm_folding.proofs.Folded.{fits_told, folded_none_stray, folded_again, bare_found}
-use Rattle.rm_folding.proofs.Ordering.{tells_all, same_amounts, alike}
+use Rattle.rm_store.proofs.compaction.Folded.{fits_told, folded_none_stray, folded_again, bare_found}
+use Rattle.rm_store.proofs.compaction.Ordering.{tells_all, same_amounts, alike}
 use Rattle.rm_store.specs.Content.{ReadsAs, DeviceHolds, half_of}
 use Rattle.rm_store.proofs.Ops.{stray_push}
 use Rattle.rm_store.proofs.Framed.{reads_framed, reads_frames, reads_more}

@@ -2,8 +2,8 @@
 use Rattle.std.proofs.Common.{◌≡◌, ℕ, None, List, ◌∷◌, ◌++◌, inl, inr, sym, ap, subst, ◌∙◌, true≢false}
 use Rattle.rm_types.specs.declared.operations.Op.{Op}
 use Rattle.rm_types.specs.Records.{records, fits_records, stray}
-use Rattle.rm_areas.specs.Areas.{HasLayout}
-use Rattle.rm_areas.proofs.Unique.{one_layout, held_undamaged}
+use Rattle.rm_journal.specs.two_areas.Areas.{HasLayout}
+use Rattle.rm_journal.proofs.two_areas.Unique.{one_layout, held_undamaged}
 use Rattle.rm_types.specs.Folded.{folded}
 use Rattle.rm_store.specs.Content.{ReadsAs, HasContent, DeviceHolds, half_of}
 use Rattle.rm_store.proofs.Framed.{StandsBehind, stands_behind, same_op, one_content}

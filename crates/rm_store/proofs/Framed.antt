@@ -8,10 +8,10 @@ use Rattle.rm_types.specs.Ranges.{IsOperation}
 use Rattle.rm_types.specs.Records.{records}
 use Rattle.rm_formats.specs.Frames.{frame}
 use Rattle.rm_frame.proofs.Apart.{frames_alike}
-use Rattle.rm_areas.proofs.Unique.{one_layout}
+use Rattle.rm_journal.proofs.two_areas.Unique.{one_layout}
 use Rattle.rm_types.specs.Alike.{IsAlike}
 use Rattle.rm_types.specs.Folded.{folded}
-use Rattle.rm_folding.proofs.Ordering.{alike}
+use Rattle.rm_store.proofs.compaction.Ordering.{alike}
 use Rattle.rm_store.specs.Content.{IsFrameOf, ReadsAs, HasContent, DeviceHolds, half_of}
 
 pub reads_framed : (payloads : List (List ℕ)) (ops : List Op) → ReadsAs payloads ops → All IsOperation ops

@@ -10,3 +10,4 @@ pub mod Rooms
 pub mod SoFar
 pub mod WalkingOn
 pub mod Why
+pub mod compaction

@@ -13,10 +13,10 @@ use Rattle.rm_disk.specs.Scan.{MayBeStore}
 use Rattle.rm_disk.proofs.Views.{leaves_of, leaves_same, told_after}
 use Rattle.rm_journal.specs.Journal.{region_of}
 use Rattle.rm_journal.proofs.Payloads.{length-journal_record}
-use Rattle.rm_areas.specs.Areas.{AreasAt, AreasInvariant, AreasHold, area_from, head_of, other_from, other_end}
-use Rattle.rm_areas.proofs.Moments.{moment_on}
-use Rattle.rm_areas.proofs.Owned.{live_stays, first_stays}
-use Rattle.rm_areas.proofs.Steps.{build_low, same_gate}
+use Rattle.rm_journal.specs.two_areas.Areas.{AreasAt, AreasInvariant, AreasHold, area_from, head_of, other_from, other_end}
+use Rattle.rm_journal.proofs.two_areas.Moments.{moment_on}
+use Rattle.rm_journal.proofs.two_areas.Owned.{live_stays, first_stays}
+use Rattle.rm_journal.proofs.two_areas.Steps.{build_low, same_gate}
 use Rattle.rm_store.specs.Content.{ReadsAs}
 use Rattle.rm_store.specs.Kept.{IsKept}
 use Rattle.rm_store.specs.Store.{LooksOwn, StaysOwn, KeepsOwn}

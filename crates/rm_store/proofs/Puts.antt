@@ -17,12 +17,12 @@ use Rattle.rm_types.specs.Folded.{folded}
 use Rattle.rm_store.specs.Content.{ReadsAs, DeviceHolds, half_of, room_for}
 use Rattle.rm_store.proofs.Framed.{reads_frames, reads_more, reads_one}
 use Rattle.rm_store.proofs.Contents.{unchanged, added, refolded, framed_left, folded_twice}
-use Rattle.rm_folding.proofs.Folded.{folded_none_stray}
+use Rattle.rm_store.proofs.compaction.Folded.{folded_none_stray}
 use Rattle.rm_disk.proofs.Views.{told_after, told_before}
-use Rattle.rm_areas.specs.Areas.{AreasAt, AreasInvariant, AreasHold, HasLayout, HoldsPayloads, LeavesEitherLayout, head_of}
-use Rattle.rm_areas.proofs.Unique.{one_layout}
-use Rattle.rm_areas.proofs.Moments.{at_once, moment_of, moment_on}
-use Rattle.rm_areas.proofs.Steps.{each_has, layout}
+use Rattle.rm_journal.specs.two_areas.Areas.{AreasAt, AreasInvariant, AreasHold, HasLayout, HoldsPayloads, LeavesEitherLayout, head_of}
+use Rattle.rm_journal.proofs.two_areas.Unique.{one_layout}
+use Rattle.rm_journal.proofs.two_areas.Moments.{at_once, moment_of, moment_on}
+use Rattle.rm_journal.proofs.two_areas.Steps.{each_has, layout}
 use Rattle.rm_store.specs.Kept.{IsKept, HasOps, LeavesOps, AddsOp}
 use Rattle.rm_store.proofs.Ops.{framed_push}
 

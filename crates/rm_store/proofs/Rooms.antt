@@ -5,7 +5,7 @@ use Rattle.std.proofs.lemmas.Bool.Decides.{nat_tests}
 use Rattle.rm_types.specs.declared.operations.Op.{Op}
 use Rattle.rm_formats.specs.Frames.{frame}
 use Rattle.rm_disk.specs.Disk.{DiskView}
-use Rattle.rm_areas.specs.Areas.{AreasAt, HasCurrent}
+use Rattle.rm_journal.specs.two_areas.Areas.{AreasAt, HasCurrent}
 use Rattle.rm_store.specs.Content.{room_for}
 use Rattle.rm_store.specs.Kept.{IsKept, HasOps, told_room, room_here}
 use Rattle.rm_store.proofs.Puts.{there_is}

@@ -12,11 +12,11 @@ use Rattle.rm_disk.proofs.Views.{quiet_trans}
 use Rattle.rm_journal.specs.Journal.{region_of}
 use Rattle.rm_journal.specs.Walk.{WalkAt, HasWalked}
 use Rattle.rm_journal.proofs.Payloads.{unique}
-use Rattle.rm_areas.specs.Areas.{AreasAt, AreasHold, HasCurrent, IsGeneration, area_of, area_from, area_end, head_of}
-use Rattle.rm_areas.specs.Reading.{ReadingAt, IsReading}
-use Rattle.rm_areas.proofs.Bytes.{shut_holds}
-use Rattle.rm_areas.proofs.Opening.{older_of}
-use Rattle.rm_areas.proofs.Steps.{layout}
+use Rattle.rm_journal.specs.two_areas.Areas.{AreasAt, AreasHold, HasCurrent, IsGeneration, area_of, area_from, area_end, head_of}
+use Rattle.rm_journal.specs.two_areas.Reading.{ReadingAt, IsReading}
+use Rattle.rm_journal.proofs.two_areas.Bytes.{shut_holds}
+use Rattle.rm_journal.proofs.two_areas.Opening.{older_of}
+use Rattle.rm_journal.proofs.two_areas.Steps.{layout}
 use Rattle.rm_store.specs.Content.{IsFrameOf, ReadsAs, HasContent, half_of}
 use Rattle.rm_store.proofs.Framed.{reads_more}
 use Rattle.rm_store.proofs.Puts.{own_half}

@@ -2,7 +2,7 @@
 use Rattle.std.proofs.Common.{◌≡◌, ℕ, false, List, length, inl, inr, refl, sym, subst}
 use Rattle.rm_types.specs.declared.operations.Op.{Op}
 use Rattle.rm_types.specs.Records.{records, fits_records}
-use Rattle.rm_areas.specs.Areas.{IsDamagedLayout}
+use Rattle.rm_journal.specs.two_areas.Areas.{IsDamagedLayout}
 use Rattle.rm_store.specs.Content.{IsFrameOf, half_of}
 use Rattle.rm_journal.specs.declared.fault.JournalError.{JournalError}
 use Rattle.rm_journal.specs.declared.fault.JournalError.TheVariants as journal

@@ -3,7 +3,7 @@ use Rattle.std.specs.Prelude.{◌≡◌, ◌⊎◌, ◌+◌, ℕ, Bool, false, N
 use Rattle.rm_types.specs.declared.operations.Op.{Op}
 use Rattle.rm_types.specs.Records.{records, stray, fits_records}
 use Rattle.rm_formats.specs.Device.{journal_records}
-use Rattle.rm_areas.specs.Areas.{HasCurrent, IsDamagedLayout, area_from, head_of}
+use Rattle.rm_journal.specs.two_areas.Areas.{HasCurrent, IsDamagedLayout, area_from, head_of}
 use Rattle.rm_store.specs.Content.{IsFrameOf, ReadsAs, half_of}
 use Rattle.rm_store.specs.declared.fault.StoreError.{StoreError}
 use Rattle.rm_store.specs.declared.fault.StoreError.TheVariants.{Damaged, Stray}

@@ -3,7 +3,7 @@ use Rattle.std.specs.Prelude.{◌≡◌, ◌≤◌, ℕ, List, false}
 use Rattle.rm_disk.specs.Disk.{DiskView, IfTold, IsLaterView}
 use Rattle.rm_journal.specs.declared.fault.JournalError.{JournalError}
 use Rattle.rm_journal.specs.declared.fault.JournalError.TheVariants.{DiskFault, Memory}
-use Rattle.rm_areas.specs.Areas.{AreasAt, AreasInvariant, AreasHold, LeavesPayloads}
+use Rattle.rm_journal.specs.two_areas.Areas.{AreasAt, AreasInvariant, AreasHold, LeavesPayloads}
 
 -- On every outcome: at each moment a crash leaves the payloads from before.
 pub record KeepsPayloads (old new : DiskView) (before after : AreasAt) : Type 0 where

@@ -8,7 +8,7 @@ use Rattle.rm_formats.specs.Frames.{frame}
 use Rattle.rm_disk.specs.Disk.{DiskView, IfTold, AtEachMoment, EachImage}
 use Rattle.rm_journal.specs.declared.fault.JournalError.{JournalError}
 use Rattle.rm_journal.specs.declared.fault.JournalError.TheVariants.{DiskFault, Full, Memory}
-use Rattle.rm_areas.specs.Areas.{AreasAt, AreasInvariant, AreasHold}
+use Rattle.rm_journal.specs.two_areas.Areas.{AreasAt, AreasInvariant, AreasHold}
 use Rattle.rm_store.specs.Content.{ReadsAs, DeviceHolds, room_for}
 
 -- A content stands on two areas of a disk: they stand there, nothing is built, and the payloads of the current one are

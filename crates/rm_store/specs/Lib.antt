@@ -5,3 +5,4 @@ pub mod Errors
 pub mod Kept
 pub mod Reading
 pub mod Store
+pub mod compaction

@@ -6,7 +6,7 @@ use Rattle.rm_types.specs.Records.{Records, records, stray}
 use Rattle.rm_disk.specs.Disk.{DiskView, IfTold, EachImage, AtEachMoment}
 use Rattle.rm_disk.specs.Fuse.{Fused, fused_view}
 use Rattle.rm_disk.specs.Scan.{MayBeStore}
-use Rattle.rm_areas.specs.Areas.{AreasAt, AreasInvariant, HasCurrent}
+use Rattle.rm_journal.specs.two_areas.Areas.{AreasAt, AreasInvariant, HasCurrent}
 use Rattle.rm_store.specs.Content.{half_of, room_for}
 use Rattle.rm_store.specs.Kept.{IsKept}
 

@@ -7,20 +7,20 @@ ghost use Rattle.rm_formats.specs.declared.TheConstants.{MOST_PAYLOAD, RECORD_HE
 ghost use Rattle.rm_formats.specs.Frames.{frame};
 ghost use Rattle.rm_disk.specs.Disk.{IfTold, IsLaterView};
 ghost use Rattle.rm_journal.specs.declared.journal.TheConstants.{CALLS_OF_APPEND};
-ghost use Rattle.rm_areas.specs.declared.areas.TheConstants.{GENERATION_RECORD};
-ghost use Rattle.rm_areas.specs.Areas.{AreasInvariant, AreasHold, HoldsPayloads, LeavesEitherLayout};
+ghost use Rattle.rm_journal.specs.declared.two_areas.areas.TheConstants.{GENERATION_RECORD};
+ghost use Rattle.rm_journal.specs.two_areas.Areas.{AreasInvariant, AreasHold, HoldsPayloads, LeavesEitherLayout};
 ghost use Rattle.rm_store.specs.Changing.{IsChangeError};
 ghost use Rattle.rm_store.specs.Content.{room_for};
 ghost use Rattle.rm_store.specs.Kept.{IsKept, HasOps, LeavesOps, AddsOp, IsFull, IsPutError, needed_for, room_here, told_room, calls_of_change};
 ghost use Rattle.rm_store.specs.Store.{KeepsOwn};
 
 use crate::changing::change_area;
-use rm_areas::{Areas, GENERATION_RECORD};
+use crate::compaction::fold;
 use rm_disk::Disk;
-use rm_folding::fold;
 use rm_formats::{RECORD_FRAME, RECORD_HEAD};
 use rm_frame::Encoder;
 use rm_journal::JournalError;
+use rm_journal::two_areas::{Areas, GENERATION_RECORD};
 use rm_types::{Duplicate, Items, NoMemory, Op};
 use std::alloc::Global;
 

@@ -4,15 +4,15 @@ ghost use Rattle.rm_formats.specs.declared.TheConstants.{RECORD_FRAME};
 ghost use Rattle.rm_formats.specs.Frames.{frame};
 ghost use Rattle.rm_formats.specs.Device.{journal_records};
 ghost use Rattle.rm_disk.specs.Disk.{IfTold, EachImage, IsLaterView};
-ghost use Rattle.rm_areas.specs.declared.areas.TheConstants.{GENERATION_RECORD};
-ghost use Rattle.rm_areas.specs.Areas.{AreasInvariant, AreasHold, IsBuilt, LeavesEitherLayout, other_end, head_of};
+ghost use Rattle.rm_journal.specs.declared.two_areas.areas.TheConstants.{GENERATION_RECORD};
+ghost use Rattle.rm_journal.specs.two_areas.Areas.{AreasInvariant, AreasHold, IsBuilt, LeavesEitherLayout, other_end, head_of};
 ghost use Rattle.rm_store.specs.Changing.{KeepsPayloads, TellsPayloads, IsChangeError};
 ghost use Rattle.rm_store.specs.Store.{KeepsOwn};
 
-use rm_areas::Areas;
 use rm_disk::Disk;
 use rm_frame::Encoder;
 use rm_journal::JournalError;
+use rm_journal::two_areas::Areas;
 use rm_types::Op;
 
 /// Adds the frame of an operation to the area that is built, which has room for it.

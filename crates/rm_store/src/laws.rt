@@ -9,7 +9,7 @@ ghost use Rattle.rm_types.specs.Records.{records, fits_records, stray};
 ghost use Rattle.rm_formats.specs.Frames.{frame};
 ghost use Rattle.rm_disk.specs.Disk.{IsQuiet, Falls};
 ghost use Rattle.rm_disk.specs.Scan.{MayBeStore};
-ghost use Rattle.rm_areas.specs.Areas.{HasLayout};
+ghost use Rattle.rm_journal.specs.two_areas.Areas.{HasLayout};
 ghost use Rattle.rm_tree.specs.Shows.{shows};
 ghost use Rattle.rm_store.specs.declared.fault.StoreError.TheVariants.{Damaged, Stray};
 ghost use Rattle.rm_store.specs.Causes.{IsWhy, IsFaultless};

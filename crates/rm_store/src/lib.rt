@@ -11,6 +11,7 @@
 
 mod appending;
 mod changing;
+pub mod compaction;
 mod fault;
 mod laws;
 mod reading;

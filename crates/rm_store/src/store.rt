@@ -14,9 +14,9 @@ ghost use Rattle.rm_store.specs.Store.{with_disk, seen, StoreInvariant, IsBelowL
 use crate::fault::StoreError;
 use crate::reading::{Read, read_all};
 use crate::writing::write_op;
-use rm_areas::Areas;
 use rm_disk::{Disk, Fuse};
 use rm_frame::Encoder;
+use rm_journal::two_areas::Areas;
 use rm_tree::Tree;
 use rm_types::{Duplicate, Items, Op};
 use std::alloc::Global;

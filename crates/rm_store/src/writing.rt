@@ -4,16 +4,16 @@ ghost use Rattle.rm_types.specs.Ranges.{IsOperation};
 ghost use Rattle.rm_types.specs.Records.{records, fits_records};
 ghost use Rattle.rm_disk.specs.Disk.{IsLaterView};
 ghost use Rattle.rm_journal.specs.declared.journal.TheConstants.{CALLS_OF_APPEND};
-ghost use Rattle.rm_areas.specs.Areas.{AreasInvariant};
+ghost use Rattle.rm_journal.specs.two_areas.Areas.{AreasInvariant};
 ghost use Rattle.rm_store.specs.Errors.{IsWriteError, store_broken_after};
 ghost use Rattle.rm_store.specs.Kept.{IsKept, HasOps, LeavesOps, AddsOp, IsFull, needed_for, room_here, told_room, calls_of_change};
 ghost use Rattle.rm_store.specs.Store.{KeepsOwn};
 
 use crate::appending::append;
 use crate::fault::StoreError;
-use rm_areas::Areas;
 use rm_disk::Disk;
 use rm_frame::Encoder;
+use rm_journal::two_areas::Areas;
 use rm_types::{Items, Op};
 use std::alloc::Global;
 

@@ -7,10 +7,10 @@ use Rattle.rm_types.specs.declared.ids.ContainerId.{ContainerId}
 use Rattle.rm_types.specs.declared.replies.Reply.{Reply}
 use Rattle.rm_types.specs.declared.resources.Resource.{Resource}
 use Rattle.rm_types.specs.Ids.{is_container}
-use Rattle.rm_node.specs.declared.states.NodeState.{NodeState}
-use Rattle.rm_node.specs.declared.states.NodeState.TheVariants as states
-use Rattle.rm_node.specs.declared.states.NodeEvent.TheVariants as events
-use Rattle.rm_node.specs.Table.{next_node_state}
+use Rattle.rm_states.specs.declared.node.states.NodeState.{NodeState}
+use Rattle.rm_states.specs.declared.node.states.NodeState.TheVariants as states
+use Rattle.rm_states.specs.declared.node.states.NodeEvent.TheVariants as events
+use Rattle.rm_states.specs.node.Table.{next_node_state}
 use Rattle.rm_tables.specs.declared.nodes.NodeChange.{NodeChange}
 use Rattle.rm_tables.specs.declared.nodes.NodeChange.TheVariants.{Absorb, Lose, Unlaunch}
 use Rattle.rm_tables.specs.declared.nodes.NodeRow.{NodeRow}

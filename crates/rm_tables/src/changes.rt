@@ -1,11 +1,11 @@
 ghost use Rattle.std.specs.Prelude.{◌≡◌};
-ghost use Rattle.rm_app.specs.Table.{next_app_state, end_state};
-ghost use Rattle.rm_attempt.specs.Table.{next_attempt_state as next_attempt_state};
+ghost use Rattle.rm_states.specs.app.Table.{next_app_state, end_state};
+ghost use Rattle.rm_states.specs.attempt.Table.{next_attempt_state as next_attempt_state};
 ghost use Rattle.rm_tables.specs.Changes.{state_with, changed_state, scheduled, granted, attempt_after, current_with, current_after, changed};
 
 use crate::rows::{AppRow, Current};
-use rm_app::{AppEvent, AppState};
-use rm_attempt::{AttemptEvent, AttemptState};
+use rm_states::app::{AppEvent, AppState};
+use rm_states::attempt::{AttemptEvent, AttemptState};
 use rm_types::{ContainerId, How};
 
 /// What happens to an application.
@@ -67,7 +67,7 @@ pub fn state_of(how: How) -> AppState
 fn next_state(state: AppState, event: AppEvent) -> AppState
     ensures { result ≡ next_app_state state event }
 {
-    match rm_app::step(state, event) {
+    match rm_states::app::step(state, event) {
         Some((next, _action)) => next,
         None => state,
     }
@@ -77,7 +77,7 @@ fn next_state(state: AppState, event: AppEvent) -> AppState
 fn next_attempt_state(state: AttemptState, event: AttemptEvent) -> AttemptState
     ensures { result ≡ next_attempt_state state event }
 {
-    match rm_attempt::step(state, event) {
+    match rm_states::attempt::step(state, event) {
         Some((next, _action)) => next,
         None => state,
     }

@@ -13,7 +13,7 @@ use crate::changes::{AttemptChange, RowChange};
 use crate::events::{MainEvent, Refused, SchedEvent};
 use crate::opening::{opening_main, opening_sched};
 use crate::tables::Tables;
-use rm_attempt::AttemptState;
+use rm_states::attempt::AttemptState;
 use rm_tree::{Tree, TreeError};
 use rm_types::{AppId, AttemptId, Boxed, Duplicate, Entry, How, NoMemory, Op, Queue};
 use std::mem;

@@ -1,11 +1,11 @@
 ghost use Rattle.std.specs.Prelude.{◌≡◌, [], ◌∷◌, ◌++◌, None, not, IfOk, OnOk, OnErr};
 ghost use Rattle.std.specs.Option.{option_copied};
 ghost use Rattle.rm_types.specs.Ids.{is_container};
-ghost use Rattle.rm_node.specs.Table.{next_node_state};
+ghost use Rattle.rm_states.specs.node.Table.{next_node_state};
 ghost use Rattle.rm_tables.specs.Nodes.{beaten_row, changed_row, new_node_row, node_row, ordered_row, registered_node_row, with_node};
 
 use indexmap::IndexMap;
-use rm_node::{NodeEvent, NodeState};
+use rm_states::node::{NodeEvent, NodeState};
 use rm_types::{Boxed, ContainerId, Duplicate, Held, Items, NoMemory, Reply, Resource, Text};
 use std::alloc::Global;
 use std::marker::Model;
@@ -137,7 +137,7 @@ impl Nodes {
 fn next_state(state: NodeState, event: NodeEvent) -> NodeState
     ensures { result ≡ next_node_state state event }
 {
-    match rm_node::step(state, event) {
+    match rm_states::node::step(state, event) {
         Some((next, _action)) => next,
         None => state,
     }

@@ -1,14 +1,14 @@
 ghost use Rattle.std.specs.Prelude.{◌≡◌, ◌++◌, cond, is_none, IfOk, OnOk};
 ghost use Rattle.std.specs.Option.{option_copied};
-ghost use Rattle.rm_app.specs.Table.{end_state};
+ghost use Rattle.rm_states.specs.app.Table.{end_state};
 ghost use Rattle.rm_types.specs.Records.{last_attempt};
 ghost use Rattle.rm_tables.specs.Opening.{recovered_attempt, recovered_row, recovered_rows, going_in, main_of, sched_of, opening_main, opening_sched};
 
 use crate::changes::state_of;
 use crate::events::{MainEvent, SchedEvent};
 use crate::rows::{AppRow, Current, Rows};
-use rm_app::AppState;
-use rm_attempt::AttemptState;
+use rm_states::app::AppState;
+use rm_states::attempt::AttemptState;
 use rm_tree::Tree;
 use rm_types::{AppRecord, AttemptId, AttemptRecord, Items, NoMemory, Queue};
 use std::alloc::Global;

@@ -8,8 +8,8 @@ ghost use Rattle.rm_tables.specs.Talks.{talked};
 use crate::changes::RowChange;
 use crate::talks::Talk;
 use indexmap::IndexMap;
-use rm_app::AppState;
-use rm_attempt::AttemptState;
+use rm_states::app::AppState;
+use rm_states::attempt::AttemptState;
 use rm_types::{
     AppId, Boxed, Closing, ContainerId, Duplicate, Items, NoMemory, Reply, Submission, Text,
 };

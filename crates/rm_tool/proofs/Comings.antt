@@ -7,10 +7,10 @@ use Rattle.rm_outside.specs.declared.writes.Written.{Written}
 use Rattle.rm_outside.specs.declared.writes.Written.TheVariants as written
 use Rattle.rm_tool.specs.declared.outcomes.ToolOutcome.{ToolOutcome}
 use Rattle.rm_tool.specs.declared.outcomes.ToolOutcome.TheVariants.{Done, Usage, ReadFault, WriteFault, OtherLength, TooLong, OtherForm, Faulty, DiskFault, NotNew, Full, NotAPage, NotAnId, Memory}
-use Rattle.rm_salvage.specs.declared.checks.Fault.{Fault}
-use Rattle.rm_salvage.specs.declared.forms.Form.{Form}
-use Rattle.rm_salvage.specs.Checks.{IsFault, IsWhole}
-use Rattle.rm_salvage.specs.Forms.{IsForm}
+use Rattle.rm_tool.specs.declared.salvage.checks.Fault.{Fault}
+use Rattle.rm_tool.specs.declared.salvage.forms.Form.{Form}
+use Rattle.rm_tool.specs.salvage.Checks.{IsFault, IsWhole}
+use Rattle.rm_tool.specs.salvage.Forms.{IsForm}
 use Rattle.rm_page_reader.specs.declared.errors.PageError.{PageError}
 use Rattle.rm_page_reader.specs.declared.errors.PageError.TheVariants as pages
 use Rattle.rm_report.specs.declared.errors.ReportError.{ReportError}

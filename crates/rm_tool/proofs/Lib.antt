@@ -2,3 +2,4 @@ mod Comings
 mod Moments
 mod Parses
 mod Rows
+pub mod salvage

@@ -4,7 +4,7 @@ use Rattle.rm_types.specs.declared.operations.Op.{Op}
 use Rattle.rm_disk.specs.Disk.{DiskView, EachImage, IfTold}
 use Rattle.rm_disk.proofs.Views.{leaves_of, leaves_same}
 use Rattle.rm_store.specs.Content.{HasContent}
-use Rattle.rm_salvage.specs.Writes.{LeavesNoneOrAll}
+use Rattle.rm_tool.specs.salvage.Writes.{LeavesNoneOrAll}
 use Rattle.rm_tool.specs.Runs.{IsStore, KeepsStore}
 
 -- a disk that is left alone

@@ -1,7 +1,7 @@
 -- How many gates a check walks over. This project's own.
 use Rattle.std.specs.Prelude.{ℕ, ◌+◌}
-use Rattle.rm_salvage.specs.declared.forms.Form.{Form}
-use Rattle.rm_salvage.specs.declared.forms.Form.TheVariants.{OneJournal, TwoAreas, NoArea}
+use Rattle.rm_tool.specs.declared.salvage.forms.Form.{Form}
+use Rattle.rm_tool.specs.declared.salvage.forms.Form.TheVariants.{OneJournal, TwoAreas, NoArea}
 
 -- with so many frames of operations: a gate before each record and one behind the last, where an area has the record of its generation first
 abbrev pub gates_walked : Form → ℕ → ℕ

@@ -3,3 +3,4 @@ pub mod Outcomes
 pub mod Reading
 pub mod Runs
 pub mod Words
+pub mod salvage

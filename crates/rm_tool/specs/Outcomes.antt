@@ -1,10 +1,10 @@
 -- What a call of the tool came to, and its exit status. This project's own: the statuses are those of the program where they say the same.
 use Rattle.std.specs.Prelude.{ℕ, true, false, Option, None, Some}
-use Rattle.rm_salvage.specs.declared.checks.Fault.{Fault}
+use Rattle.rm_tool.specs.declared.salvage.checks.Fault.{Fault}
 use Rattle.rm_outside.specs.declared.writes.Written.{Written}
 use Rattle.rm_outside.specs.declared.writes.Written.TheVariants as written
-use Rattle.rm_salvage.specs.declared.errors.WriteError.{WriteError}
-use Rattle.rm_salvage.specs.declared.errors.WriteError.TheVariants as errors
+use Rattle.rm_tool.specs.declared.salvage.errors.WriteError.{WriteError}
+use Rattle.rm_tool.specs.declared.salvage.errors.WriteError.TheVariants as errors
 use Rattle.rm_page_reader.specs.declared.errors.PageError.{PageError}
 use Rattle.rm_page_reader.specs.declared.errors.PageError.TheVariants as pages
 use Rattle.rm_report.specs.declared.errors.ReportError.{ReportError}

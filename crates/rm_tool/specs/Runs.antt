@@ -12,14 +12,14 @@ use Rattle.rm_report.specs.Following.{IsFollowed}
 use Rattle.rm_report.specs.Summaries.{IsSummary}
 use Rattle.rm_outside.specs.Shelves.{bytes_read, ShelfTells, WereRead}
 use Rattle.rm_outside.specs.declared.shelves.TheConstants.{MOST_READ}
-use Rattle.rm_salvage.specs.declared.checks.Fault.{Fault}
-use Rattle.rm_salvage.specs.declared.forms.Form.{Form}
-use Rattle.rm_salvage.specs.declared.fronts.Stop.{Stop}
-use Rattle.rm_salvage.specs.Checks.{HasOldContent, IsFault, IsOldFault, IsWhole}
-use Rattle.rm_salvage.specs.Forms.{HasFirstFrame, IsForm}
-use Rattle.rm_salvage.specs.Fronts.{IsFront, IsLongest, IsStop}
-use Rattle.rm_salvage.specs.Lists.{left_by}
-use Rattle.rm_salvage.specs.Writes.{HoldsAll}
+use Rattle.rm_tool.specs.declared.salvage.checks.Fault.{Fault}
+use Rattle.rm_tool.specs.declared.salvage.forms.Form.{Form}
+use Rattle.rm_tool.specs.declared.salvage.fronts.Stop.{Stop}
+use Rattle.rm_tool.specs.salvage.Checks.{HasOldContent, IsFault, IsOldFault, IsWhole}
+use Rattle.rm_tool.specs.salvage.Forms.{HasFirstFrame, IsForm}
+use Rattle.rm_tool.specs.salvage.Fronts.{IsFront, IsLongest, IsStop}
+use Rattle.rm_tool.specs.salvage.Lists.{left_by}
+use Rattle.rm_tool.specs.salvage.Writes.{HoldsAll}
 use Rattle.rm_tool.specs.declared.outcomes.ToolOutcome.{ToolOutcome}
 use Rattle.rm_tool.specs.declared.outcomes.ToolOutcome.TheVariants.{Done, Usage, ReadFault, WriteFault, OtherLength, TooLong, OtherForm, Faulty, DiskFault, NotNew, Full, NotAPage, NotAnId, Memory}
 use Rattle.rm_tool.specs.declared.store_files.TheConstants.{STORE_SIZE}

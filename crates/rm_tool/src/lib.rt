@@ -15,6 +15,7 @@ mod pages;
 mod program;
 mod reading;
 mod reports;
+pub mod salvage;
 mod store_files;
 mod tool;
 mod words;

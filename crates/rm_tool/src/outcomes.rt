@@ -1,10 +1,10 @@
 ghost use Rattle.std.specs.Prelude.{◌≡◌};
 ghost use Rattle.rm_tool.specs.Outcomes.{after_page, of_fault, outcome_of_page, of_report, of_write, tool_status};
 
+use crate::salvage::{Fault, WriteError};
 use rm_outside::Written;
 use rm_page_reader::PageError;
 use rm_report::ReportError;
-use rm_salvage::{Fault, WriteError};
 use thiserror::Error;
 
 /// What a call of the tool came to.

@@ -2,8 +2,8 @@ ghost use Rattle.std.specs.Prelude.{◌≡◌};
 ghost use Rattle.rm_tool.specs.Gates.{gates_walked};
 
 use crate::reports::{JobState, jobs_in};
+use crate::salvage::{Checked, Fault, Form, Stop};
 use rm_page::store_page;
-use rm_salvage::{Checked, Fault, Form, Stop};
 use rm_types::{Items, NoMemory, Op};
 use sha2::{Digest, Sha256};
 use std::alloc::Global;

@@ -9,15 +9,15 @@ ghost use Rattle.rm_tool.specs.Words.{requested, request_of};
 
 use crate::outcomes::{ToolOutcome, after_page, of_fault, of_page, of_report, of_write};
 use crate::pages::{check_page, convert_page, salvage_page};
-use crate::store_files::{STORE_SIZE, bring_to_size};
-use crate::words::{Mode, mode_of};
-use rm_chart::draw;
-use rm_disk::Disk;
-use rm_outside::{MOST_READ, Shelf, ShelfError, Sink, write_all};
-use rm_report::{follow, summary};
-use rm_salvage::{
+use crate::salvage::{
     ConvertError, FixedDisk, Salvaged, check, kept_operations, old_operations, salvage, write_anew,
 };
+use crate::store_files::{STORE_SIZE, bring_to_size};
+use crate::words::{Mode, mode_of};
+use rm_disk::Disk;
+use rm_outside::{MOST_READ, Shelf, ShelfError, Sink, write_all};
+use rm_report::chart::draw;
+use rm_report::{follow, summary};
 use rm_types::{Items, NoMemory};
 use std::alloc::Global;
 

@@ -14,9 +14,9 @@ use Rattle.rm_model.specs.State.{NodeState, Row, Scene}
 use Rattle.rm_model.specs.Containers.{lives_on, once}
 use Rattle.rm_model.specs.NodeReplies.{beat_reply, may_expire, node_register_reply, reported, strangers}
 use Rattle.rm_model.specs.Nodes.{is_ready as is_ready_told, is_waiting, judged_node as node_told}
-use Rattle.rm_node.specs.declared.states.NodeState.{NodeState as NodePhase}
-use Rattle.rm_node.specs.declared.states.NodeState.TheVariants as states
-use Rattle.rm_node.specs.Table.{is_known_node}
+use Rattle.rm_states.specs.declared.node.states.NodeState.{NodeState as NodePhase}
+use Rattle.rm_states.specs.declared.node.states.NodeState.TheVariants as states
+use Rattle.rm_states.specs.node.Table.{is_known_node}
 use Rattle.rm_tables.specs.declared.nodes.NodeRow.{NodeRow}
 use Rattle.rm_tables.specs.declared.tables.Tables.{Tables}
 use Rattle.rm_tables.specs.Nodes.{is_ready_row, node_row as node_in}

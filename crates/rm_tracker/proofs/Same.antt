@@ -21,10 +21,10 @@ use Rattle.rm_model.specs.Attempts.{is_live}
 use Rattle.rm_model.specs.Facts.{has_container}
 use Rattle.rm_model.specs.NodeReplies.{beat_reply, beaten, beaten_reply, beats, clock_reply, expired, is_new_to_node, life_after_clock, life_after_node, may_expire, new_node, node_register_reply, node_reply, node_after_registration, reported, strangers}
 use Rattle.rm_model.specs.Nodes.{is_ready as is_ready_told, is_waiting, judged_node as node_told}
-use Rattle.rm_node.specs.declared.states.NodeState.{NodeState as NodePhase}
-use Rattle.rm_node.specs.declared.states.NodeState.TheVariants as states
-use Rattle.rm_node.specs.declared.states.NodeEvent.TheVariants as node_events
-use Rattle.rm_node.specs.Table.{next_node_state as next_node_state}
+use Rattle.rm_states.specs.declared.node.states.NodeState.{NodeState as NodePhase}
+use Rattle.rm_states.specs.declared.node.states.NodeState.TheVariants as states
+use Rattle.rm_states.specs.declared.node.states.NodeEvent.TheVariants as node_events
+use Rattle.rm_states.specs.node.Table.{next_node_state as next_node_state}
 use Rattle.rm_refinement.specs.Agreement.{phase_of}
 use Rattle.rm_tables.specs.declared.events.SchedEvent.{SchedEvent}
 use Rattle.rm_tables.specs.declared.nodes.NodeChange.TheVariants as of_node

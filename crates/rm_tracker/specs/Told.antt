@@ -15,8 +15,8 @@ use Rattle.rm_types.specs.Ids.{is_container}
 use Rattle.rm_book.specs.Books.{BookOf}
 use Rattle.rm_model.specs.Containers.{once}
 use Rattle.rm_model.specs.NodeReplies.{reported}
-use Rattle.rm_node.specs.declared.states.NodeState.{NodeState}
-use Rattle.rm_node.specs.Table.{is_known_node}
+use Rattle.rm_states.specs.declared.node.states.NodeState.{NodeState}
+use Rattle.rm_states.specs.node.Table.{is_known_node}
 use Rattle.rm_tables.specs.declared.nodes.NodeRow.{NodeRow}
 use Rattle.rm_tables.specs.Nodes.{is_ready_row}
 

@@ -12,7 +12,7 @@ ghost use Rattle.rm_tracker.specs.Answers.{after_node, beat_events, beaten_with,
 ghost use Rattle.rm_tracker.specs.Told.{beat_told, lives_at, new_beat_told, strangers_in};
 
 use rm_book::Book;
-use rm_node::{NodeState, is_registered};
+use rm_states::node::{NodeState, is_registered};
 use rm_tables::{NodeRow, SchedEvent, Tables};
 use rm_types::{
     Boxed, ContainerId, ContainerState, Duplicate, Held, Items, NoMemory, Queue, Reply, Text,

@@ -8,7 +8,7 @@ ghost use Rattle.rm_tables.specs.Rows.{row_of};
 ghost use Rattle.rm_tracker.specs.Answers.{after_clock};
 ghost use Rattle.rm_tracker.specs.Told.{may_expire_in};
 
-use rm_node::is_registered;
+use rm_states::node::is_registered;
 use rm_tables::{MainEvent, NodeChange, Nodes, Rows, SchedEvent, Tables};
 use rm_types::{AttemptId, Duplicate, NoMemory, Reply, Text};
 

@@ -4,9 +4,9 @@ ghost use Rattle.rm_types.specs.Records.{no_records};
 ghost use Rattle.rm_tables.specs.Lives.{no_life};
 
 use crate::helpers::{APP, SIZE, job, let_go, text, wants, wants_words, word};
-use rm_app::AppState;
 use rm_client::serve;
 use rm_queues::{QueueTree, starts_at_root};
+use rm_states::app::AppState;
 use rm_tables::{AppRow, Tables};
 use rm_types::{
     AppId, AttemptId, ClientAsk, ContainerId, ContainerState, Items, QueueSpec, Reply, Resource,

@@ -2,10 +2,10 @@
 ghost use Rattle.std.specs.Prelude.{◌≡◌, []};
 
 use crate::helpers::{ATTEMPT, SIZE, let_go, tables, text, wants, wants_words, word};
-use rm_app::AppState;
-use rm_attempt::AttemptState;
 use rm_book::Book;
 use rm_master::serve;
+use rm_states::app::AppState;
+use rm_states::attempt::AttemptState;
 use rm_tables::{AppRow, Current, Tables};
 use rm_types::{
     Ask, Cause, Closing, ContainerId, ContainerState, Items, MasterAsk, Reply, Resource,

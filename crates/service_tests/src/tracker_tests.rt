@@ -3,8 +3,8 @@ ghost use Rattle.std.specs.Prelude.{◌≡◌, ◌<◌, []};
 ghost use Rattle.rm_tracker.specs.Told.{elapsed};
 
 use crate::helpers::{ATTEMPT, SIZE, let_go, tables, text, wants, wants_words, word};
-use rm_app::AppState;
-use rm_attempt::AttemptState;
+use rm_states::app::AppState;
+use rm_states::attempt::AttemptState;
 use rm_tables::{AppRow, Current, NodeChange, Tables};
 use rm_tracker::{serve, serve_clock};
 use rm_types::{ClockAsk, ContainerId, Held, Items, NodeAsk, Reply, Text};

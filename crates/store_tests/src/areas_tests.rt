@@ -1,11 +1,11 @@
 //! What no clause says: that the calls of two areas succeed, and what a disk of them holds after each.
 ghost use Rattle.std.specs.Prelude.{◌≡◌, ◌≤◌, None};
-ghost use Rattle.rm_areas.specs.Areas.{AreasInvariant};
-ghost use Rattle.rm_areas.specs.Reading.{IsReading};
+ghost use Rattle.rm_journal.specs.two_areas.Areas.{AreasInvariant};
+ghost use Rattle.rm_journal.specs.two_areas.Reading.{IsReading};
 
 use crate::helpers::{filled, wants};
-use rm_areas::{Areas, GENERATION_RECORD, Reading};
 use rm_disk::Disk;
+use rm_journal::two_areas::{Areas, GENERATION_RECORD, Reading};
 use std::alloc::Global;
 use std::process::Abort;
 

@@ -1,6 +1,6 @@
 //! What no clause says: that calls succeed, and what a job's operations amount to, by hand.
 use crate::helpers::{wants, wants_words};
-use rm_folding::fold;
+use rm_store::compaction::fold;
 use rm_tree::{Tree, TreeError};
 use rm_types::{
     AppId, AppRecord, AttemptId, ContainerId, How, Items, Op, Resource, Submission, Text, TextKind,

@@ -1,5 +1,5 @@
 //! What no clause says: one life of an application, from its submission to its end.
-use rm_app::{AppAction, AppEvent, AppState, is_final, step};
+use rm_states::app::{AppAction, AppEvent, AppState, is_final, step};
 use rm_types::How;
 
 /// What happens, the state after it, and what is to be done then.

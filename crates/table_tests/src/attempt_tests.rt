@@ -1,5 +1,5 @@
 //! What no clause says: one life of an attempt, from its scheduling to its end.
-use rm_attempt::{AttemptAction, AttemptEvent, AttemptState, is_final, step};
+use rm_states::attempt::{AttemptAction, AttemptEvent, AttemptState, is_final, step};
 
 /// What happens, the state after it, and what is to be done then.
 const LIFE: [(AttemptEvent, AttemptState, AttemptAction); 9] = [

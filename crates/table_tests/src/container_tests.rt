@@ -1,5 +1,5 @@
 //! What no clause says: one life of a container, from its grant to its end.
-use rm_container::{ContainerAction, ContainerEvent, is_final, step};
+use rm_states::container::{ContainerAction, ContainerEvent, is_final, step};
 use rm_types::ContainerState;
 
 /// What happens, and the state after it.

@@ -1,10 +1,10 @@
 //! What no clause says: small passes by hand.
 ghost use Rattle.std.specs.Prelude.{IsTrue};
-ghost use Rattle.rm_fit.specs.Conditions.{TurnsAreApart, are_early};
+ghost use Rattle.rm_sched.specs.fit.Conditions.{TurnsAreApart, are_early};
 
 use crate::helpers::{FIRST, SECOND, ask, size, text, wants, wants_words};
 use rm_book::{Asks, Book};
-use rm_fit::{first_fit, have_sizes};
+use rm_sched::fit::{first_fit, have_sizes};
 use rm_types::{AttemptId, ContainerId, ContainerState, Grant, Items, Resource, Text, Turn};
 use std::alloc::Global;
 use std::process::Abort;

@@ -1,5 +1,5 @@
 //! What no clause says: one life of a node, through a loss and a second registration.
-use rm_node::{NodeAction, NodeEvent, NodeState, is_registered, step};
+use rm_states::node::{NodeAction, NodeEvent, NodeState, is_registered, step};
 
 /// What happens, the state after it, and what is to be done then.
 const LIFE: [(NodeEvent, NodeState, NodeAction); 7] = [

@@ -1,6 +1,6 @@
 //! What no clause says: that a life begins and goes down where there is memory, and that its rows are found.
 use crate::helpers::{size, wants};
-use rm_app::AppState;
+use rm_states::app::AppState;
 use rm_tables::{AppRow, RowChange, Rows, Tables};
 use rm_tree::Tree;
 use rm_types::{AppId, Items, Lane, Settings, Text};

@@ -1,7 +1,7 @@
 //! What no clause says: that calls succeed, and what the texts of ids and the places where bytes leave them
 //! are, worked out by hand.
 use crate::helpers::{bytes_of, is_text, joined, wants_in};
-use rm_ids::*;
+use rm_formats::ids::*;
 use rm_types::{AppId, AttemptId, ContainerId};
 use std::process::Abort;
 

@@ -17,10 +17,10 @@ use Rattle.rm_model.specs.Attempts.{has_failed, is_failed}
 use Rattle.rm_model.specs.State.{Scene}
 use Rattle.rm_model.specs.Facts.{attempts_in, reaches_bound, is_attempt_op, is_attempt_end_op, is_app_end_op, kept_record, next_attempt, last_end, is_wished}
 use Rattle.rm_model.specs.Issuing.{MayIssueAppEnd, MayIssueAttemptEnd, EndsFor, killed_text, end_by}
-use Rattle.rm_app.specs.declared.states.AppState.{AppState}
-use Rattle.rm_app.specs.declared.states.AppState.TheVariants as apps
-use Rattle.rm_attempt.specs.declared.states.AttemptState.{AttemptState}
-use Rattle.rm_attempt.specs.declared.states.AttemptState.TheVariants as attempts
+use Rattle.rm_states.specs.declared.app.states.AppState.{AppState}
+use Rattle.rm_states.specs.declared.app.states.AppState.TheVariants as apps
+use Rattle.rm_states.specs.declared.attempt.states.AttemptState.{AttemptState}
+use Rattle.rm_states.specs.declared.attempt.states.AttemptState.TheVariants as attempts
 use Rattle.rm_tables.specs.declared.rows.AppRow.{AppRow}
 use Rattle.rm_tables.specs.declared.rows.Current.{Current}
 use Rattle.rm_tables.specs.declared.tables.Tables.{Tables}

@@ -13,8 +13,8 @@ use Rattle.rm_types.specs.Ids.{is_app}
 use Rattle.rm_model.specs.Facts.{attempts_in, is_app_end_op}
 use Rattle.rm_model.specs.Issuing.{MayIssueApp}
 use Rattle.rm_model.specs.Rules.{MayAccept}
-use Rattle.rm_app.specs.declared.states.AppState.{AppState}
-use Rattle.rm_app.specs.declared.states.AppState.TheVariants as apps
+use Rattle.rm_states.specs.declared.app.states.AppState.{AppState}
+use Rattle.rm_states.specs.declared.app.states.AppState.TheVariants as apps
 use Rattle.rm_tables.specs.declared.changes.RowChange.TheVariants as of_app
 use Rattle.rm_tables.specs.declared.events.MainEvent.{MainEvent}
 use Rattle.rm_tables.specs.declared.events.MainEvent.TheVariants as mains

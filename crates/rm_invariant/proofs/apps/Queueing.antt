@@ -19,9 +19,9 @@ use Rattle.rm_book.specs.AskTables.{AsksOf}
 use Rattle.rm_model.specs.Changes.{master_ask}
 use Rattle.rm_model.specs.Facts.{is_app_end_op, is_attempt_op}
 use Rattle.rm_model.specs.Rules.{MayQueue}
-use Rattle.rm_app.specs.declared.states.AppState.{AppState}
-use Rattle.rm_attempt.specs.declared.states.AttemptState.{AttemptState}
-use Rattle.rm_attempt.specs.declared.states.AttemptState.TheVariants as attempts
+use Rattle.rm_states.specs.declared.app.states.AppState.{AppState}
+use Rattle.rm_states.specs.declared.attempt.states.AttemptState.{AttemptState}
+use Rattle.rm_states.specs.declared.attempt.states.AttemptState.TheVariants as attempts
 use Rattle.rm_tables.specs.declared.events.MainEvent.TheVariants as mains
 use Rattle.rm_tables.specs.declared.events.SchedEvent.{SchedEvent}
 use Rattle.rm_tables.specs.declared.events.SchedEvent.TheVariants as scheds

@@ -15,7 +15,7 @@ use Rattle.rm_types.specs.Records.{is_some_and, record_of}
 use Rattle.rm_types.proofs.IdLemmas.{same_app, app_itself}
 use Rattle.rm_model.specs.Facts.{completed, end_in, is_completed, is_remove_op}
 use Rattle.rm_model.specs.Issuing.{MayIssueRemove, is_completed_before}
-use Rattle.rm_app.specs.declared.states.AppState.{AppState}
+use Rattle.rm_states.specs.declared.app.states.AppState.{AppState}
 use Rattle.rm_tables.specs.declared.events.MainEvent.{MainEvent}
 use Rattle.rm_tables.specs.declared.events.MainEvent.TheVariants as mains
 use Rattle.rm_tables.specs.declared.rows.AppRow.{AppRow}

@@ -19,10 +19,10 @@ use Rattle.rm_book.specs.Books.{capability_of}
 use Rattle.rm_model.specs.Changes.{after}
 use Rattle.rm_model.specs.MasterReplies.{is_finished_op}
 use Rattle.rm_model.specs.State.{Release}
-use Rattle.rm_attempt.specs.declared.states.AttemptState.{AttemptState}
-use Rattle.rm_attempt.specs.declared.states.AttemptState.TheVariants as attempts
-use Rattle.rm_attempt.specs.Table.{is_alive}
-use Rattle.rm_app.specs.declared.states.AppState.TheVariants as apps
+use Rattle.rm_states.specs.declared.attempt.states.AttemptState.{AttemptState}
+use Rattle.rm_states.specs.declared.attempt.states.AttemptState.TheVariants as attempts
+use Rattle.rm_states.specs.attempt.Table.{is_alive}
+use Rattle.rm_states.specs.declared.app.states.AppState.TheVariants as apps
 use Rattle.rm_tables.specs.declared.changes.AttemptChange.TheVariants as of_attempt
 use Rattle.rm_tables.specs.declared.changes.RowChange.{RowChange}
 use Rattle.rm_tables.specs.declared.changes.RowChange.TheVariants as of_app
@@ -52,7 +52,7 @@ use Rattle.rm_invariant.specs.events.Here.{AreServed, FirstsKnown, NoneAbsent}
 use Rattle.rm_invariant.specs.events.Masters.{are_single}
 use Rattle.rm_invariant.proofs.events.Firsts.{firsts_with}
 use Rattle.rm_invariant.proofs.events.Moving.{other_gone, own_gone}
-use Rattle.rm_app.specs.declared.states.AppState.{AppState}
+use Rattle.rm_states.specs.declared.app.states.AppState.{AppState}
 use Rattle.rm_types.specs.declared.operations.Submission.{Submission}
 use Rattle.rm_types.specs.declared.settings.Settings.{Settings}
 use Rattle.rm_invariant.proofs.events.Registered.{registered_with}

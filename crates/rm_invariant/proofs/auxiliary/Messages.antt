@@ -33,9 +33,9 @@ use Rattle.rm_book.specs.ManyAsks.{all_asked, asks_after, one_asked}
 use Rattle.rm_model.specs.Changes.{after}
 use Rattle.rm_model.specs.Facts.{has_app, is_known}
 use Rattle.rm_model.specs.State.{Release, Scene}
-use Rattle.rm_attempt.specs.declared.states.AttemptState.TheVariants as attempts
-use Rattle.rm_attempt.specs.declared.states.AttemptEvent.TheVariants as attempt_events
-use Rattle.rm_attempt.specs.Table.{next_attempt_state as next_attempt_state, is_alive}
+use Rattle.rm_states.specs.declared.attempt.states.AttemptState.TheVariants as attempts
+use Rattle.rm_states.specs.declared.attempt.states.AttemptEvent.TheVariants as attempt_events
+use Rattle.rm_states.specs.attempt.Table.{next_attempt_state as next_attempt_state, is_alive}
 use Rattle.rm_tables.specs.declared.changes.RowChange.TheVariants as of_app
 use Rattle.rm_tables.specs.declared.events.MainEvent.{MainEvent}
 use Rattle.rm_tables.specs.declared.events.MainEvent.TheVariants as mains

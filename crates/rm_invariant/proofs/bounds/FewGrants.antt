@@ -12,9 +12,9 @@ use Rattle.rm_types.specs.Resources.{difference_of}
 use Rattle.rm_book.specs.AskTables.{attempt_asks}
 use Rattle.rm_book.specs.Books.{capability_of, sizes_on}
 use Rattle.rm_book.proofs.LineOrders.{all_by_priority}
-use Rattle.rm_fit.specs.Conditions.{are_some_sizes, have_sizes, is_some_size}
-use Rattle.rm_fit.specs.Turns.{Spot, turn_grants, turn_left}
-use Rattle.rm_fit.proofs.Passing.{pass_grants, pass_whole, turn_within}
+use Rattle.rm_sched.specs.fit.Conditions.{are_some_sizes, have_sizes, is_some_size}
+use Rattle.rm_sched.specs.fit.Turns.{Spot, turn_grants, turn_left}
+use Rattle.rm_sched.proofs.fit.Passing.{pass_grants, pass_whole, turn_within}
 use Rattle.rm_tables.specs.declared.nodes.NodeRow.{NodeRow}
 use Rattle.rm_tables.specs.declared.tables.Tables.{Tables}
 use Rattle.rm_tables.specs.Nodes.{is_ready_row}

@@ -19,9 +19,9 @@ use Rattle.rm_types.specs.Ranges.{IsAppId, IsAttemptId, IsContainerId, IsOperati
 use Rattle.rm_types.specs.Records.{last_attempt}
 use Rattle.rm_book.specs.AskTables.{AsksOf, without_asks_of}
 use Rattle.rm_book.specs.Books.{BookOf, is_of, book_row as book_row_of}
-use Rattle.rm_app.specs.declared.states.AppState.{AppState}
-use Rattle.rm_app.specs.declared.states.AppState.TheVariants as apps
-use Rattle.rm_attempt.specs.declared.states.AttemptState.TheVariants as attempts
+use Rattle.rm_states.specs.declared.app.states.AppState.{AppState}
+use Rattle.rm_states.specs.declared.app.states.AppState.TheVariants as apps
+use Rattle.rm_states.specs.declared.attempt.states.AttemptState.TheVariants as attempts
 use Rattle.rm_model.specs.Facts.{attempts_in, reaches_bound}
 use Rattle.rm_model.specs.Issuing.{expired_text, killed_text, lost_text}
 use Rattle.rm_tables.specs.declared.changes.AttemptChange.TheVariants as of_attempt

@@ -11,8 +11,8 @@ use Rattle.rm_types.specs.Ids.{is_attempt}
 use Rattle.rm_types.specs.Records.{all_ended, fits_records, is_some_and, last_attempt, record_of}
 use Rattle.rm_types.proofs.IdLemmas.{app_itself}
 use Rattle.rm_types.proofs.TestLemmas.{number_itself}
-use Rattle.rm_app.specs.declared.states.AppState.{AppState}
-use Rattle.rm_app.specs.declared.states.AppState.TheVariants as apps
+use Rattle.rm_states.specs.declared.app.states.AppState.{AppState}
+use Rattle.rm_states.specs.declared.app.states.AppState.TheVariants as apps
 use Rattle.rm_model.specs.Facts.{attempts_in, end_in, is_epoch_op}
 use Rattle.rm_tables.specs.declared.rows.AppRow.{AppRow}
 use Rattle.rm_tables.specs.declared.tables.Tables.{Tables}

@@ -20,7 +20,7 @@ use Rattle.rm_types.specs.Records.{record_of}
 use Rattle.rm_types.proofs.IdLemmas.{same_attempt}
 use Rattle.rm_book.specs.AskTables.{attempt_asks}
 use Rattle.rm_book.specs.Books.{capability_in, is_node}
-use Rattle.rm_fit.specs.Conditions.{TurnsAreApart, are_past, are_some_sizes, has_turn, have_sizes, is_past, is_some_size}
+use Rattle.rm_sched.specs.fit.Conditions.{TurnsAreApart, are_past, are_some_sizes, has_turn, have_sizes, is_past, is_some_size}
 use Rattle.rm_model.specs.Attempts.{attempt_at}
 use Rattle.rm_model.specs.Facts.{attempts_in}
 use Rattle.rm_model.specs.State.{LifeState, Row}

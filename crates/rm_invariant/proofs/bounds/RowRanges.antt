@@ -11,8 +11,8 @@ use Rattle.rm_types.specs.declared.texts.TextKind.TheVariants.{Note}
 use Rattle.rm_types.specs.Ids.{is_app}
 use Rattle.rm_types.specs.Ranges.{IsContainerId, IsSubmission, IsText, IsWithin}
 use Rattle.rm_types.proofs.IdLemmas.{same_app}
-use Rattle.rm_attempt.specs.declared.states.AttemptState.{AttemptState}
-use Rattle.rm_attempt.specs.declared.states.AttemptState.TheVariants as attempts
+use Rattle.rm_states.specs.declared.attempt.states.AttemptState.{AttemptState}
+use Rattle.rm_states.specs.declared.attempt.states.AttemptState.TheVariants as attempts
 use Rattle.rm_tables.specs.declared.changes.AttemptChange.{AttemptChange}
 use Rattle.rm_tables.specs.declared.changes.AttemptChange.TheVariants as of_attempt
 use Rattle.rm_tables.specs.declared.changes.RowChange.{RowChange}

@@ -14,8 +14,8 @@ use Rattle.rm_types.specs.declared.texts.TextKind.TheVariants.{Node}
 use Rattle.rm_types.specs.Ids.{is_app, is_attempt}
 use Rattle.rm_types.specs.Passes.{by_priority}
 use Rattle.rm_types.specs.Ranges.{IsAttemptId, IsContainerId, IsText, IsWithin}
-use Rattle.rm_attempt.specs.declared.states.AttemptState.{AttemptState}
-use Rattle.rm_attempt.specs.declared.states.AttemptState.TheVariants as attempts
+use Rattle.rm_states.specs.declared.attempt.states.AttemptState.{AttemptState}
+use Rattle.rm_states.specs.declared.attempt.states.AttemptState.TheVariants as attempts
 use Rattle.rm_book.specs.AskTables.{AsksOf, attempt_asks}
 use Rattle.rm_book.specs.Books.{BookOf, book_row as book_row_of, with_grants, book_with_taken, without_rows}
 use Rattle.rm_model.specs.Containers.{once}

@@ -22,8 +22,8 @@ use Rattle.rm_model.specs.Containers.{is_living, leave, without_launches}
 use Rattle.rm_model.specs.Facts.{has_app, has_container}
 use Rattle.rm_model.specs.Nodes.{judged_node as node_told, with_judged_node as with_told}
 use Rattle.rm_model.specs.State.{NodeState, Ready, Row, Scene}
-use Rattle.rm_node.specs.declared.states.NodeState.{NodeState as NodePhase}
-use Rattle.rm_node.specs.declared.states.NodeState.TheVariants as states
+use Rattle.rm_states.specs.declared.node.states.NodeState.{NodeState as NodePhase}
+use Rattle.rm_states.specs.declared.node.states.NodeState.TheVariants as states
 use Rattle.rm_tables.specs.Nodes.{is_waiting_row}
 use Rattle.rm_tables.specs.declared.nodes.NodeChange.TheVariants.{Absorb}
 use Rattle.rm_tables.specs.declared.nodes.NodeRow.{NodeRow}

@@ -22,8 +22,8 @@ use Rattle.rm_model.specs.Facts.{has_container}
 use Rattle.rm_model.specs.Nodes.{is_waiting as waits_told, judged_node as node_told}
 use Rattle.rm_model.specs.Rules.{MayAbsorb}
 use Rattle.rm_model.specs.State.{LifeState, NodeState}
-use Rattle.rm_node.specs.declared.states.NodeState.{NodeState as NodePhase}
-use Rattle.rm_node.specs.declared.states.NodeState.TheVariants as states
+use Rattle.rm_states.specs.declared.node.states.NodeState.{NodeState as NodePhase}
+use Rattle.rm_states.specs.declared.node.states.NodeState.TheVariants as states
 use Rattle.rm_tables.specs.declared.events.SchedEvent.{SchedEvent}
 use Rattle.rm_tables.specs.declared.events.SchedEvent.TheVariants as scheds
 use Rattle.rm_tables.specs.declared.nodes.NodeRow.{NodeRow}

@@ -12,9 +12,9 @@ use Rattle.rm_types.specs.Ids.{is_app, is_attempt}
 use Rattle.rm_types.specs.Passes.{by_priority}
 use Rattle.rm_types.proofs.IdLemmas.{same_attempt}
 use Rattle.rm_book.specs.AskTables.{AsksOf, asks_granted, attempt_asks, table_granted, is_for, one_less}
-use Rattle.rm_attempt.specs.declared.states.AttemptState.{AttemptState}
-use Rattle.rm_attempt.specs.declared.states.AttemptState.TheVariants as attempts
-use Rattle.rm_attempt.specs.Table.{is_alive}
+use Rattle.rm_states.specs.declared.attempt.states.AttemptState.{AttemptState}
+use Rattle.rm_states.specs.declared.attempt.states.AttemptState.TheVariants as attempts
+use Rattle.rm_states.specs.attempt.Table.{is_alive}
 use Rattle.rm_model.specs.Containers.{is_size}
 use Rattle.rm_tables.specs.declared.rows.AppRow.{AppRow}
 use Rattle.rm_tables.specs.declared.rows.Current.{Current}

@@ -14,8 +14,8 @@ use Rattle.rm_types.specs.Ids.{is_app, is_attempt}
 use Rattle.rm_types.proofs.IdLemmas.{same_attempt, same_app}
 use Rattle.rm_types.proofs.TestLemmas.{same_text}
 use Rattle.rm_book.specs.Books.{BookOf, granted_rows, with_grants}
-use Rattle.rm_attempt.specs.declared.states.AttemptState.{AttemptState}
-use Rattle.rm_attempt.specs.declared.states.AttemptState.TheVariants as attempts
+use Rattle.rm_states.specs.declared.attempt.states.AttemptState.{AttemptState}
+use Rattle.rm_states.specs.declared.attempt.states.AttemptState.TheVariants as attempts
 use Rattle.rm_model.specs.Nodes.{judged_node as node_told, with_judged_node as with_told}
 use Rattle.rm_model.specs.Passing.{passed, row_granted as row_told}
 use Rattle.rm_model.specs.State.{MasterState, NodeState, Row}

@@ -36,8 +36,8 @@ use Rattle.rm_model.specs.Facts.{has_app}
 use Rattle.rm_tables.specs.Rows.{row_of, without_row}
 use Rattle.rm_tables.specs.declared.rows.AppRow.{AppRow}
 use Rattle.rm_tables.specs.declared.rows.Current.{Current}
-use Rattle.rm_attempt.specs.declared.states.AttemptState.{AttemptState}
-use Rattle.rm_attempt.specs.declared.states.AttemptState.TheVariants as attempts
+use Rattle.rm_states.specs.declared.attempt.states.AttemptState.{AttemptState}
+use Rattle.rm_states.specs.declared.attempt.states.AttemptState.TheVariants as attempts
 use Rattle.std.proofs.lemmas.List.Folds.{list_any-append}
 use Rattle.rm_invariant.proofs.masters.Sounding.{sound_step}
 use Rattle.rm_invariant.specs.Core.{CoreInvariant, PreservesCore}

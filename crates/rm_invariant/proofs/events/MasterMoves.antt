@@ -12,8 +12,8 @@ use Rattle.rm_types.specs.declared.operations.How.TheVariants as ways
 use Rattle.rm_types.specs.declared.operations.Op.TheVariants as ops
 use Rattle.rm_types.specs.declared.settings.Settings.{Settings}
 use Rattle.rm_model.specs.Issuing.{expired_text, lost_text}
-use Rattle.rm_attempt.specs.declared.states.AttemptState.{AttemptState}
-use Rattle.rm_attempt.specs.declared.states.AttemptState.TheVariants as attempts
+use Rattle.rm_states.specs.declared.attempt.states.AttemptState.{AttemptState}
+use Rattle.rm_states.specs.declared.attempt.states.AttemptState.TheVariants as attempts
 use Rattle.rm_tables.specs.declared.changes.AttemptChange.TheVariants as of_attempt
 use Rattle.rm_tables.specs.declared.changes.RowChange.TheVariants as of_app
 use Rattle.rm_tables.specs.declared.events.MainEvent.{MainEvent}

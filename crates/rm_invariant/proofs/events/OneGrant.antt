@@ -17,8 +17,8 @@ use Rattle.rm_types.specs.Ids.{is_app, is_attempt}
 use Rattle.rm_types.specs.Passes.{by_priority}
 use Rattle.rm_types.proofs.IdLemmas.{same_attempt, same_app}
 use Rattle.rm_book.proofs.Lists.{any_filter}
-use Rattle.rm_attempt.specs.declared.states.AttemptState.{AttemptState}
-use Rattle.rm_attempt.specs.declared.states.AttemptState.TheVariants as attempts
+use Rattle.rm_states.specs.declared.attempt.states.AttemptState.{AttemptState}
+use Rattle.rm_states.specs.declared.attempt.states.AttemptState.TheVariants as attempts
 use Rattle.rm_model.specs.Containers.{is_same_ask, is_size}
 use Rattle.rm_model.specs.Passing.{answered_ask, ask_lessened, asks_lessened, asks_of as asks_told, row_granted as row_told, without_granted as without_told}
 use Rattle.rm_tables.specs.declared.events.MainEvent.{MainEvent}

@@ -18,8 +18,8 @@ use Rattle.rm_model.specs.Containers.{rows_on}
 use Rattle.rm_model.specs.Nodes.{is_ready as ready_told, judged_node as node_told}
 use Rattle.rm_model.specs.Passing.{asks_of as asks_told, first_fit_on, pass_of, turns, waits_for_nodes}
 use Rattle.rm_model.specs.State.{NodeState, Row, Scene}
-use Rattle.rm_node.specs.declared.states.NodeState.{NodeState as NodePhase}
-use Rattle.rm_node.specs.declared.states.NodeState.TheVariants as states
+use Rattle.rm_states.specs.declared.node.states.NodeState.{NodeState as NodePhase}
+use Rattle.rm_states.specs.declared.node.states.NodeState.TheVariants as states
 use Rattle.rm_tables.specs.declared.nodes.NodeRow.{NodeRow}
 use Rattle.rm_tables.specs.declared.tables.Tables.{Tables}
 use Rattle.rm_tables.specs.Nodes.{is_ready_row, node_row}

@@ -22,8 +22,8 @@ use Rattle.rm_model.specs.Changes.{master_ask}
 use Rattle.std.specs.Prelude.{if◌then◌else◌}
 use Rattle.rm_model.specs.Passing.{asks_of as asks_told}
 use Rattle.rm_model.specs.State.{LifeState}
-use Rattle.rm_attempt.specs.declared.states.AttemptState.{AttemptState}
-use Rattle.rm_attempt.specs.declared.states.AttemptState.TheVariants as attempts
+use Rattle.rm_states.specs.declared.attempt.states.AttemptState.{AttemptState}
+use Rattle.rm_states.specs.declared.attempt.states.AttemptState.TheVariants as attempts
 use Rattle.rm_tables.specs.declared.events.SchedEvent.{SchedEvent}
 use Rattle.rm_tables.specs.declared.events.SchedEvent.TheVariants as scheds
 use Rattle.rm_tables.specs.declared.events.MainEvent.TheVariants as mains

@@ -7,15 +7,15 @@ use Rattle.rm_types.specs.declared.containers.Cause.{Cause}
 use Rattle.rm_types.specs.declared.containers.Cause.TheVariants as causes
 use Rattle.rm_types.specs.declared.ids.ContainerId.{ContainerId}
 use Rattle.rm_types.proofs.TestLemmas.{same_text}
-use Rattle.rm_attempt.specs.declared.states.AttemptState.{AttemptState}
-use Rattle.rm_attempt.specs.declared.states.AttemptState.TheVariants as attempts
+use Rattle.rm_states.specs.declared.attempt.states.AttemptState.{AttemptState}
+use Rattle.rm_states.specs.declared.attempt.states.AttemptState.TheVariants as attempts
 use Rattle.rm_book.specs.Books.{BookOf, book_row as book_row_of}
 use Rattle.rm_model.specs.Containers.{once}
-use Rattle.rm_node.specs.declared.states.NodeState.TheVariants as states
-use Rattle.rm_node.specs.declared.states.NodeState.{NodeState}
-use Rattle.rm_node.specs.declared.states.NodeEvent.{NodeEvent}
-use Rattle.rm_node.specs.declared.states.NodeEvent.TheVariants as events
-use Rattle.rm_node.specs.Table.{next_node_state}
+use Rattle.rm_states.specs.declared.node.states.NodeState.TheVariants as states
+use Rattle.rm_states.specs.declared.node.states.NodeState.{NodeState}
+use Rattle.rm_states.specs.declared.node.states.NodeEvent.{NodeEvent}
+use Rattle.rm_states.specs.declared.node.states.NodeEvent.TheVariants as events
+use Rattle.rm_states.specs.node.Table.{next_node_state}
 use Rattle.rm_tables.specs.declared.events.SchedEvent.{SchedEvent}
 use Rattle.rm_tables.specs.declared.events.SchedEvent.TheVariants as scheds
 use Rattle.rm_tables.specs.declared.nodes.NodeChange.{NodeChange}

@@ -13,8 +13,8 @@ use Rattle.rm_book.specs.Books.{book_row as book_row_of}
 use Rattle.rm_model.specs.Changes.{after}
 use Rattle.rm_model.specs.Containers.{once}
 use Rattle.rm_model.specs.State.{LifeState, Manager, Release}
-use Rattle.rm_attempt.specs.declared.states.AttemptState.{AttemptState}
-use Rattle.rm_attempt.specs.declared.states.AttemptState.TheVariants as attempts
+use Rattle.rm_states.specs.declared.attempt.states.AttemptState.{AttemptState}
+use Rattle.rm_states.specs.declared.attempt.states.AttemptState.TheVariants as attempts
 use Rattle.rm_tables.specs.declared.events.SchedEvent.{SchedEvent}
 use Rattle.rm_tables.specs.declared.events.SchedEvent.TheVariants as scheds
 use Rattle.rm_tables.specs.declared.nodes.NodeRow.{NodeRow}

@@ -7,11 +7,11 @@ use Rattle.rm_types.specs.declared.ids.ContainerId.{ContainerId}
 use Rattle.rm_types.specs.declared.operations.How.{How}
 use Rattle.rm_types.specs.Ids.{is_app}
 use Rattle.rm_types.proofs.IdLemmas.{same_app}
-use Rattle.rm_attempt.specs.declared.states.AttemptState.{AttemptState}
-use Rattle.rm_attempt.specs.declared.states.AttemptState.TheVariants as attempts
-use Rattle.rm_attempt.specs.declared.states.AttemptEvent.{AttemptEvent}
-use Rattle.rm_attempt.specs.declared.states.AttemptEvent.TheVariants as attempt_events
-use Rattle.rm_attempt.specs.Table.{next_attempt_state as next_attempt_state}
+use Rattle.rm_states.specs.declared.attempt.states.AttemptState.{AttemptState}
+use Rattle.rm_states.specs.declared.attempt.states.AttemptState.TheVariants as attempts
+use Rattle.rm_states.specs.declared.attempt.states.AttemptEvent.{AttemptEvent}
+use Rattle.rm_states.specs.declared.attempt.states.AttemptEvent.TheVariants as attempt_events
+use Rattle.rm_states.specs.attempt.Table.{next_attempt_state as next_attempt_state}
 use Rattle.rm_tables.specs.declared.changes.AttemptChange.{AttemptChange}
 use Rattle.rm_tables.specs.declared.changes.AttemptChange.TheVariants as of_attempt
 use Rattle.rm_tables.specs.declared.changes.RowChange.{RowChange}

@@ -30,10 +30,10 @@ use Rattle.rm_model.specs.Nodes.{judged_node}
 use Rattle.rm_model.specs.Rules.{MayAbsorb}
 use Rattle.rm_model.specs.State.{LifeState, NodeState, Row, Scene, scene}
 use Rattle.rm_model.specs.Facts.{attempts_in, has_container}
-use Rattle.rm_app.specs.declared.states.AppState.{AppState}
-use Rattle.rm_app.specs.declared.states.AppState.TheVariants as apps
-use Rattle.rm_attempt.specs.declared.states.AttemptState.{AttemptState}
-use Rattle.rm_attempt.specs.declared.states.AttemptState.TheVariants as attempts
+use Rattle.rm_states.specs.declared.app.states.AppState.{AppState}
+use Rattle.rm_states.specs.declared.app.states.AppState.TheVariants as apps
+use Rattle.rm_states.specs.declared.attempt.states.AttemptState.{AttemptState}
+use Rattle.rm_states.specs.declared.attempt.states.AttemptState.TheVariants as attempts
 use Rattle.rm_tables.specs.Absorbing.{absorbed_with}
 use Rattle.rm_tables.specs.declared.events.SchedEvent.{SchedEvent}
 use Rattle.rm_tables.specs.declared.rows.AppRow.{AppRow}

@@ -12,9 +12,9 @@ use Rattle.rm_types.specs.declared.operations.Op.TheVariants as ops
 use Rattle.rm_types.proofs.TestLemmas.{and_first}
 use Rattle.rm_model.specs.Attempts.{finishing_text, has_expired}
 use Rattle.rm_model.specs.Issuing.{EndsFor, expired_text}
-use Rattle.rm_attempt.specs.declared.states.AttemptState.{AttemptState}
-use Rattle.rm_attempt.specs.declared.states.AttemptState.TheVariants as attempts
-use Rattle.rm_attempt.specs.Table.{is_alive}
+use Rattle.rm_states.specs.declared.attempt.states.AttemptState.{AttemptState}
+use Rattle.rm_states.specs.declared.attempt.states.AttemptState.TheVariants as attempts
+use Rattle.rm_states.specs.attempt.Table.{is_alive}
 use Rattle.rm_tables.specs.declared.events.MainEvent.{MainEvent}
 use Rattle.rm_tables.specs.declared.rows.AppRow.{AppRow}
 use Rattle.rm_tables.specs.declared.rows.Current.{Current}

@@ -18,8 +18,8 @@ use Rattle.rm_types.proofs.IdLemmas.{container_itself, same_container}
 use Rattle.rm_model.specs.Containers.{is_living}
 use Rattle.rm_model.specs.Facts.{is_app_end_op, is_attempt_op}
 use Rattle.rm_model.specs.Issuing.{MayIssueAttempt}
-use Rattle.rm_attempt.specs.declared.states.AttemptState.{AttemptState}
-use Rattle.rm_attempt.specs.declared.states.AttemptState.TheVariants as attempts
+use Rattle.rm_states.specs.declared.attempt.states.AttemptState.{AttemptState}
+use Rattle.rm_states.specs.declared.attempt.states.AttemptState.TheVariants as attempts
 use Rattle.rm_tables.specs.declared.events.MainEvent.{MainEvent}
 use Rattle.rm_tables.specs.declared.rows.AppRow.{AppRow}
 use Rattle.rm_tables.specs.declared.rows.Current.{Current}

@@ -13,7 +13,7 @@ use Rattle.rm_types.specs.Records.{record_of}
 use Rattle.rm_types.specs.declared.operations.Op.TheVariants as ops
 use Rattle.rm_types.proofs.IdLemmas.{same_app, app_itself, container_itself}
 use Rattle.rm_model.specs.Facts.{attempts_in}
-use Rattle.rm_attempt.specs.declared.states.AttemptState.TheVariants as attempts
+use Rattle.rm_states.specs.declared.attempt.states.AttemptState.TheVariants as attempts
 use Rattle.rm_tables.specs.declared.tables.Tables.{Tables}
 use Rattle.rm_tables.specs.Changes.{changed}
 use Rattle.rm_tables.specs.MainEvents.{is_master_of}

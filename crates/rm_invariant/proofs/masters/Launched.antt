@@ -25,9 +25,9 @@ use Rattle.rm_model.specs.Issuing.{EndsFor, killed_text, lost_text}
 use Rattle.rm_model.specs.State.{Row}
 use Rattle.rm_model.specs.Nodes.{with_judged_node}
 use Rattle.rm_model.specs.Rules.{MayOrder}
-use Rattle.rm_attempt.specs.declared.states.AttemptState.{AttemptState}
-use Rattle.rm_attempt.specs.declared.states.AttemptState.TheVariants as attempts
-use Rattle.rm_attempt.specs.Table.{is_alive}
+use Rattle.rm_states.specs.declared.attempt.states.AttemptState.{AttemptState}
+use Rattle.rm_states.specs.declared.attempt.states.AttemptState.TheVariants as attempts
+use Rattle.rm_states.specs.attempt.Table.{is_alive}
 use Rattle.rm_tables.specs.declared.events.MainEvent.{MainEvent}
 use Rattle.rm_tables.specs.MainEvents.{with_order, is_master_of, launch_of_master, launch_of_row, launch_of_tests, launch_of_place, launch_of_living, launch_of_current, main_step, node_at}
 use Rattle.rm_tables.specs.declared.rows.AppRow.{AppRow}

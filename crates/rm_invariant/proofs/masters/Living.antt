@@ -14,11 +14,11 @@ use Rattle.rm_types.specs.declared.operations.How.TheVariants as ways
 use Rattle.rm_types.proofs.TestLemmas.{and_false, and_first}
 use Rattle.rm_model.specs.Attempts.{is_live, kept_attempt}
 use Rattle.rm_model.specs.Facts.{attempts_in, end_in, is_attempt_end_op, is_attempt_op}
-use Rattle.rm_app.specs.declared.states.AppState.{AppState}
-use Rattle.rm_app.specs.declared.states.AppState.TheVariants as apps
-use Rattle.rm_attempt.specs.declared.states.AttemptState.{AttemptState}
-use Rattle.rm_attempt.specs.declared.states.AttemptState.TheVariants as attempts
-use Rattle.rm_attempt.specs.Table.{is_alive}
+use Rattle.rm_states.specs.declared.app.states.AppState.{AppState}
+use Rattle.rm_states.specs.declared.app.states.AppState.TheVariants as apps
+use Rattle.rm_states.specs.declared.attempt.states.AttemptState.{AttemptState}
+use Rattle.rm_states.specs.declared.attempt.states.AttemptState.TheVariants as attempts
+use Rattle.rm_states.specs.attempt.Table.{is_alive}
 use Rattle.rm_tables.specs.declared.rows.AppRow.{AppRow}
 use Rattle.rm_tables.specs.declared.rows.Current.{Current}
 use Rattle.rm_tables.specs.declared.tables.Tables.{Tables}

@@ -12,8 +12,8 @@ use Rattle.rm_types.specs.Records.{is_some_and, record_of}
 use Rattle.rm_model.specs.State.{Scene}
 use Rattle.rm_model.specs.Attempts.{attempt_is_kept, is_masters}
 use Rattle.rm_model.specs.Facts.{attempts_in}
-use Rattle.rm_attempt.specs.declared.states.AttemptState.{AttemptState}
-use Rattle.rm_attempt.specs.declared.states.AttemptState.TheVariants as attempts
+use Rattle.rm_states.specs.declared.attempt.states.AttemptState.{AttemptState}
+use Rattle.rm_states.specs.declared.attempt.states.AttemptState.TheVariants as attempts
 use Rattle.rm_tables.specs.Leaving.{attempt_in, is_masters_in, is_own_or_unkept}
 use Rattle.rm_tables.specs.declared.rows.AppRow.{AppRow}
 use Rattle.rm_tables.specs.declared.rows.Current.{Current}

@@ -16,8 +16,8 @@ use Rattle.rm_model.specs.Nodes.{tidied}
 use Rattle.rm_model.specs.Rules.{Allowed}
 use Rattle.rm_model.specs.State.{LifeState, scene}
 use Rattle.rm_model.specs.Changes.{after}
-use Rattle.rm_attempt.specs.declared.states.AttemptState.{AttemptState}
-use Rattle.rm_attempt.specs.declared.states.AttemptState.TheVariants as attempts
+use Rattle.rm_states.specs.declared.attempt.states.AttemptState.{AttemptState}
+use Rattle.rm_states.specs.declared.attempt.states.AttemptState.TheVariants as attempts
 use Rattle.rm_tables.specs.declared.events.MainEvent.{MainEvent}
 use Rattle.rm_tables.specs.declared.events.SchedEvent.{SchedEvent}
 use Rattle.rm_tables.specs.declared.rows.AppRow.{AppRow}

@@ -19,11 +19,11 @@ use Rattle.rm_model.specs.Changes.{after}
 use Rattle.rm_model.specs.MasterReplies.{with_master}
 use Rattle.rm_model.specs.Replies.{reply_to}
 use Rattle.rm_model.specs.Rules.{AllowedIn}
-use Rattle.rm_attempt.specs.declared.states.AttemptState.{AttemptState}
-use Rattle.rm_attempt.specs.declared.states.AttemptState.TheVariants as attempts
-use Rattle.rm_app.specs.declared.states.AppEvent.TheVariants as app_events
-use Rattle.rm_attempt.specs.declared.states.AttemptEvent.TheVariants as attempt_events
-use Rattle.rm_attempt.specs.Table.{next_attempt_state as next_attempt_state}
+use Rattle.rm_states.specs.declared.attempt.states.AttemptState.{AttemptState}
+use Rattle.rm_states.specs.declared.attempt.states.AttemptState.TheVariants as attempts
+use Rattle.rm_states.specs.declared.app.states.AppEvent.TheVariants as app_events
+use Rattle.rm_states.specs.declared.attempt.states.AttemptEvent.TheVariants as attempt_events
+use Rattle.rm_states.specs.attempt.Table.{next_attempt_state as next_attempt_state}
 use Rattle.rm_tables.specs.declared.rows.AppRow.{AppRow}
 use Rattle.rm_tables.specs.declared.rows.Current.{Current}
 use Rattle.rm_tables.specs.declared.rows.Dialogue.{Dialogue}

@@ -11,7 +11,7 @@ use Rattle.rm_types.specs.declared.replies.Reply.TheVariants as replies
 use Rattle.rm_model.specs.Attempts.{has_registered, is_live, is_registered}
 use Rattle.rm_model.specs.MasterReplies.{with_master}
 use Rattle.rm_model.specs.Replies.{reply_to}
-use Rattle.rm_attempt.specs.declared.states.AttemptState.{AttemptState}
+use Rattle.rm_states.specs.declared.attempt.states.AttemptState.{AttemptState}
 use Rattle.rm_tables.specs.declared.rows.Dialogue.{Dialogue}
 use Rattle.rm_tables.specs.declared.tables.Tables.{Tables}
 use Rattle.rm_tables.specs.Rows.{with_row}

@@ -7,7 +7,7 @@ use Rattle.rm_types.specs.declared.ids.AttemptId.{AttemptId}
 use Rattle.rm_types.specs.declared.ids.ContainerId.{ContainerId}
 use Rattle.rm_types.specs.declared.settings.Settings.{Settings}
 use Rattle.rm_types.specs.Ids.{is_app}
-use Rattle.rm_app.specs.declared.states.AppState.{AppState}
+use Rattle.rm_states.specs.declared.app.states.AppState.{AppState}
 use Rattle.rm_tables.specs.declared.rows.AppRow.{AppRow}
 use Rattle.rm_tables.specs.declared.rows.Dialogue.{Dialogue}
 use Rattle.rm_tables.specs.Leaving.{closed, closed_in, closed_one}

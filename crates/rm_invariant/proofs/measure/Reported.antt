@@ -23,8 +23,8 @@ use Rattle.rm_types.specs.declared.replies.Reply.{Reply}
 use Rattle.rm_types.specs.declared.replies.Reply.TheVariants as replies
 use Rattle.rm_types.specs.declared.resources.Resource.{Resource}
 use Rattle.rm_types.proofs.TestLemmas.{same_text}
-use Rattle.rm_attempt.specs.declared.states.AttemptState.{AttemptState}
-use Rattle.rm_attempt.specs.declared.states.AttemptState.TheVariants as attempts
+use Rattle.rm_states.specs.declared.attempt.states.AttemptState.{AttemptState}
+use Rattle.rm_states.specs.declared.attempt.states.AttemptState.TheVariants as attempts
 use Rattle.rm_book.specs.Books.{BookOf, book_row as book_row_of}
 use Rattle.rm_model.specs.Containers.{once}
 use Rattle.rm_tables.specs.declared.events.MainEvent.{MainEvent}

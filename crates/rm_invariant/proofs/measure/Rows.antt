@@ -3,15 +3,15 @@ use Rattle.std.proofs.Common.{◌⊎◌, inl, inr, ◌≡◌, ◌≤◌, ℕ, �
 use Rattle.rm_types.specs.declared.ids.ContainerId.{ContainerId}
 use Rattle.rm_types.specs.declared.operations.How.{How}
 use Rattle.rm_types.specs.declared.operations.How.TheVariants as ways
-use Rattle.rm_app.specs.declared.states.AppState.{AppState}
-use Rattle.rm_app.specs.declared.states.AppState.TheVariants as apps
-use Rattle.rm_app.specs.Table.{end_state}
-use Rattle.rm_app.specs.declared.states.AppEvent.TheVariants as app_events
-use Rattle.rm_app.specs.Table.{next_app_state}
-use Rattle.rm_attempt.specs.declared.states.AttemptEvent.TheVariants as attempt_events
-use Rattle.rm_attempt.specs.Table.{next_attempt_state as next_attempt_state, is_alive}
-use Rattle.rm_attempt.specs.declared.states.AttemptState.{AttemptState}
-use Rattle.rm_attempt.specs.declared.states.AttemptState.TheVariants as attempts
+use Rattle.rm_states.specs.declared.app.states.AppState.{AppState}
+use Rattle.rm_states.specs.declared.app.states.AppState.TheVariants as apps
+use Rattle.rm_states.specs.app.Table.{end_state}
+use Rattle.rm_states.specs.declared.app.states.AppEvent.TheVariants as app_events
+use Rattle.rm_states.specs.app.Table.{next_app_state}
+use Rattle.rm_states.specs.declared.attempt.states.AttemptEvent.TheVariants as attempt_events
+use Rattle.rm_states.specs.attempt.Table.{next_attempt_state as next_attempt_state, is_alive}
+use Rattle.rm_states.specs.declared.attempt.states.AttemptState.{AttemptState}
+use Rattle.rm_states.specs.declared.attempt.states.AttemptState.TheVariants as attempts
 use Rattle.rm_tables.specs.declared.changes.AttemptChange.TheVariants as of_attempt
 use Rattle.rm_tables.specs.declared.changes.RowChange.TheVariants as of_app
 use Rattle.rm_tables.specs.declared.rows.AppRow.{AppRow}

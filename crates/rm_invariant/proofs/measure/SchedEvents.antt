@@ -18,8 +18,8 @@ use Rattle.rm_types.specs.declared.ids.ContainerId.{ContainerId}
 use Rattle.rm_types.specs.declared.resources.Resource.{Resource}
 use Rattle.rm_types.specs.Ids.{is_attempt}
 use Rattle.rm_types.proofs.TestLemmas.{and_first}
-use Rattle.rm_attempt.specs.declared.states.AttemptState.{AttemptState}
-use Rattle.rm_attempt.specs.declared.states.AttemptState.TheVariants as attempts
+use Rattle.rm_states.specs.declared.attempt.states.AttemptState.{AttemptState}
+use Rattle.rm_states.specs.declared.attempt.states.AttemptState.TheVariants as attempts
 use Rattle.rm_book.specs.AskTables.{AsksOf}
 use Rattle.rm_book.specs.Books.{entering, granted_rows, has_row, is_of, book_row as book_row_of, book_row_taken, taken_rows}
 use Rattle.rm_types.specs.Containers.{is_held}

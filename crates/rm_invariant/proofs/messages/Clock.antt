@@ -14,8 +14,8 @@ use Rattle.rm_model.specs.Attempts.{is_live}
 use Rattle.rm_model.specs.NodeReplies.{clock_reply, expired, may_expire}
 use Rattle.rm_model.specs.Nodes.{is_ready, is_waiting, judged_node, tidied, with_judged_node as with_told}
 use Rattle.rm_model.specs.State.{LifeState, Lost, NodeState}
-use Rattle.rm_node.specs.declared.states.NodeState.TheVariants as states
-use Rattle.rm_node.specs.declared.states.NodeEvent.TheVariants as node_events
+use Rattle.rm_states.specs.declared.node.states.NodeState.TheVariants as states
+use Rattle.rm_states.specs.declared.node.states.NodeEvent.TheVariants as node_events
 use Rattle.rm_tables.specs.declared.events.MainEvent.TheVariants as mains
 use Rattle.rm_tables.specs.declared.events.SchedEvent.TheVariants as scheds
 use Rattle.rm_tables.specs.declared.nodes.NodeChange.TheVariants as of_node

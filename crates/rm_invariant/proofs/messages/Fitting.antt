@@ -16,8 +16,8 @@ use Rattle.rm_types.specs.Records.{is_some_and, last_attempt, record_of}
 use Rattle.rm_types.proofs.IdLemmas.{same_app}
 use Rattle.rm_model.specs.Attempts.{has_failed}
 use Rattle.rm_model.specs.Facts.{attempts_in}
-use Rattle.rm_attempt.specs.declared.states.AttemptState.{AttemptState}
-use Rattle.rm_attempt.specs.declared.states.AttemptState.TheVariants as attempts
+use Rattle.rm_states.specs.declared.attempt.states.AttemptState.{AttemptState}
+use Rattle.rm_states.specs.declared.attempt.states.AttemptState.TheVariants as attempts
 use Rattle.rm_tables.specs.declared.changes.AttemptChange.{AttemptChange}
 use Rattle.rm_tables.specs.declared.changes.AttemptChange.TheVariants as of_attempt
 use Rattle.rm_tables.specs.declared.changes.RowChange.{RowChange}

@@ -29,11 +29,11 @@ use Rattle.rm_types.specs.Records.{last_attempt, new_record, record_of, with_end
 use Rattle.rm_types.proofs.IdLemmas.{app_itself}
 use Rattle.rm_types.proofs.TestLemmas.{number_itself}
 use Rattle.rm_model.specs.Facts.{attempts_in, is_epoch_op}
-use Rattle.rm_app.specs.declared.states.AppState.{AppState}
-use Rattle.rm_app.specs.declared.states.AppState.TheVariants as apps
-use Rattle.rm_attempt.specs.declared.states.AttemptState.{AttemptState}
-use Rattle.rm_attempt.specs.declared.states.AttemptEvent.TheVariants as attempt_events
-use Rattle.rm_attempt.specs.Table.{next_attempt_state as next_attempt_state, is_alive}
+use Rattle.rm_states.specs.declared.app.states.AppState.{AppState}
+use Rattle.rm_states.specs.declared.app.states.AppState.TheVariants as apps
+use Rattle.rm_states.specs.declared.attempt.states.AttemptState.{AttemptState}
+use Rattle.rm_states.specs.declared.attempt.states.AttemptEvent.TheVariants as attempt_events
+use Rattle.rm_states.specs.attempt.Table.{next_attempt_state as next_attempt_state, is_alive}
 use Rattle.rm_refinement.specs.Services.{lives_by}
 use Rattle.rm_model.specs.Attempts.{is_live}
 use Rattle.rm_model.specs.MasterReplies.{master_reply, register_reply}

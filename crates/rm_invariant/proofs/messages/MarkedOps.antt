@@ -27,7 +27,7 @@ use Rattle.rm_tables.specs.declared.tables.Tables.{Tables}
 use Rattle.rm_tables.specs.KeptOps.{dropped_by, kept}
 use Rattle.rm_tables.specs.Leaving.{is_masters_in, is_own_or_unkept, masters_by}
 use Rattle.rm_tables.specs.Rows.{row_of}
-use Rattle.rm_app.specs.declared.states.AppState.{AppState}
+use Rattle.rm_states.specs.declared.app.states.AppState.{AppState}
 use Rattle.rm_invariant.specs.apps.Invariant.{RowInvariant, StateInvariant}
 use Rattle.rm_invariant.specs.Step.{AppsInvariant}
 use Rattle.rm_refinement.specs.History.{History}

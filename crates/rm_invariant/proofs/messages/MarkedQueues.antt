@@ -16,8 +16,8 @@ use Rattle.rm_types.specs.declared.settings.Settings.{Settings}
 use Rattle.rm_types.specs.Ids.{is_attempt, is_container}
 use Rattle.rm_types.specs.Records.{Records}
 use Rattle.rm_types.proofs.IdLemmas.{container_itself, same_container}
-use Rattle.rm_attempt.specs.declared.states.AttemptState.{AttemptState}
-use Rattle.rm_attempt.specs.declared.states.AttemptState.TheVariants as attempts
+use Rattle.rm_states.specs.declared.attempt.states.AttemptState.{AttemptState}
+use Rattle.rm_states.specs.declared.attempt.states.AttemptState.TheVariants as attempts
 use Rattle.rm_book.specs.Books.{has_row, book_row as book_row_of}
 use Rattle.rm_model.specs.Absorbing.{row_absorbed, row_taken}
 use Rattle.rm_types.specs.Containers.{is_held}

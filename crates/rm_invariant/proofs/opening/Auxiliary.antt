@@ -16,7 +16,7 @@ use Rattle.rm_model.specs.Attempts.{attempt_was_first}
 use Rattle.rm_model.specs.Changes.{after, life_keeps}
 use Rattle.rm_model.specs.Facts.{has_app}
 use Rattle.rm_model.specs.State.{LifeState, Release}
-use Rattle.rm_attempt.specs.declared.states.AttemptState.TheVariants as attempts
+use Rattle.rm_states.specs.declared.attempt.states.AttemptState.TheVariants as attempts
 use Rattle.rm_tables.specs.declared.events.MainEvent.TheVariants as mains
 use Rattle.rm_tables.specs.declared.events.SchedEvent.{SchedEvent}
 use Rattle.rm_tables.specs.declared.events.SchedEvent.TheVariants as scheds

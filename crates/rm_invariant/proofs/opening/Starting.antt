@@ -10,8 +10,8 @@ use Rattle.rm_types.specs.Ids.{is_app}
 use Rattle.rm_types.specs.Records.{record_of}
 use Rattle.rm_types.proofs.IdLemmas.{app_itself}
 use Rattle.rm_model.specs.Facts.{has_app, is_app_op}
-use Rattle.rm_app.specs.declared.states.AppState.{AppState}
-use Rattle.rm_app.specs.declared.states.AppState.TheVariants as apps
+use Rattle.rm_states.specs.declared.app.states.AppState.{AppState}
+use Rattle.rm_states.specs.declared.app.states.AppState.TheVariants as apps
 use Rattle.rm_tables.specs.declared.events.MainEvent.{MainEvent}
 use Rattle.rm_tables.specs.declared.events.MainEvent.TheVariants as mains
 use Rattle.rm_tables.specs.declared.rows.AppRow.{AppRow}

@@ -15,10 +15,10 @@ use Rattle.rm_model.specs.Attempts.{has_failed, has_master_ask}
 use Rattle.rm_model.specs.Facts.{end_in, is_accepted, is_kept, is_known, is_submitted, is_wished, kept_attempts, kept_end, kept_record, next_attempt, reaches_bound, waiting_submission}
 use Rattle.rm_model.specs.State.{Scene}
 use Rattle.rm_model.specs.Owed.{ended_not_failed}
-use Rattle.rm_app.specs.declared.states.AppState.{AppState}
-use Rattle.rm_app.specs.declared.states.AppState.TheVariants as apps
-use Rattle.rm_attempt.specs.declared.states.AttemptState.{AttemptState}
-use Rattle.rm_attempt.specs.declared.states.AttemptState.TheVariants as attempts
+use Rattle.rm_states.specs.declared.app.states.AppState.{AppState}
+use Rattle.rm_states.specs.declared.app.states.AppState.TheVariants as apps
+use Rattle.rm_states.specs.declared.attempt.states.AttemptState.{AttemptState}
+use Rattle.rm_states.specs.declared.attempt.states.AttemptState.TheVariants as attempts
 use Rattle.rm_tables.specs.declared.rows.AppRow.{AppRow}
 use Rattle.rm_tables.specs.declared.rows.Current.{Current}
 use Rattle.rm_tables.specs.declared.tables.Tables.{Tables}

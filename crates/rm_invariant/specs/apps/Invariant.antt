@@ -14,10 +14,10 @@ use Rattle.rm_types.specs.Lists.{is_nil}
 use Rattle.rm_types.specs.Records.{all_ended, last_attempt, is_some_and}
 use Rattle.rm_model.specs.Attempts.{has_failed}
 use Rattle.rm_model.specs.Facts.{attempts_in, end_in, reaches_bound}
-use Rattle.rm_app.specs.declared.states.AppState.{AppState}
-use Rattle.rm_app.specs.declared.states.AppState.TheVariants as apps
-use Rattle.rm_attempt.specs.declared.states.AttemptState.{AttemptState}
-use Rattle.rm_attempt.specs.declared.states.AttemptState.TheVariants as attempts
+use Rattle.rm_states.specs.declared.app.states.AppState.{AppState}
+use Rattle.rm_states.specs.declared.app.states.AppState.TheVariants as apps
+use Rattle.rm_states.specs.declared.attempt.states.AttemptState.{AttemptState}
+use Rattle.rm_states.specs.declared.attempt.states.AttemptState.TheVariants as attempts
 use Rattle.rm_tables.specs.declared.rows.AppRow.{AppRow}
 use Rattle.rm_tables.specs.declared.rows.Current.{Current}
 use Rattle.rm_tables.specs.declared.tables.Tables.{Tables}

@@ -7,8 +7,8 @@ use Rattle.rm_types.specs.Records.{Records, record_of}
 use Rattle.rm_book.specs.AskTables.{attempt_asks}
 use Rattle.rm_model.specs.Facts.{has_app}
 use Rattle.rm_model.specs.MasterReplies.{is_finished_op}
-use Rattle.rm_attempt.specs.declared.states.AttemptState.{AttemptState}
-use Rattle.rm_attempt.specs.declared.states.AttemptState.TheVariants as attempts
+use Rattle.rm_states.specs.declared.attempt.states.AttemptState.{AttemptState}
+use Rattle.rm_states.specs.declared.attempt.states.AttemptState.TheVariants as attempts
 use Rattle.rm_tables.specs.declared.rows.AppRow.{AppRow}
 use Rattle.rm_tables.specs.declared.rows.Current.{Current}
 use Rattle.rm_tables.specs.declared.tables.Tables.{Tables}

@@ -10,7 +10,7 @@ use Rattle.rm_model.specs.Attempts.{attempt_was_first}
 use Rattle.rm_model.specs.State.{Release, Scene}
 use Rattle.rm_tables.specs.declared.events.SchedEvent.{SchedEvent}
 use Rattle.rm_tables.specs.declared.events.SchedEvent.TheVariants as scheds
-use Rattle.rm_node.specs.declared.states.NodeState.TheVariants as states
+use Rattle.rm_states.specs.declared.node.states.NodeState.TheVariants as states
 use Rattle.rm_tables.specs.declared.nodes.NodeRow.{NodeRow}
 use Rattle.rm_tables.specs.declared.rows.AppRow.{AppRow}
 use Rattle.rm_tables.specs.declared.tables.Tables.{Tables}

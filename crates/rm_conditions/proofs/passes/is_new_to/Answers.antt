@@ -1,6 +1,6 @@
 use Rattle.std.proofs.Common.{ℕ, ◌+◌, not, ap, ◌∙◌}
 use Rattle.std.specs.List.{list_all}
-use Rattle.rm_fit.specs.Conditions.{is_past}
+use Rattle.rm_sched.specs.fit.Conditions.{is_past}
 use Rattle.rm_conditions.proofs.Looking.{none_later}
 use Rattle.rm_conditions.proofs.passes.is_new_to.Goals as goal
 

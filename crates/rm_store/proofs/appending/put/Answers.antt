@@ -4,7 +4,7 @@ use Rattle.rm_disk.specs.Disk.{AtEachMoment, IfTold}
 use Rattle.std.specs.Prelude.{OnOk}
 use Rattle.rm_journal.specs.declared.fault.JournalError.{JournalError}
 use Rattle.rm_journal.specs.Journal.{broken_after}
-use Rattle.rm_areas.specs.Areas.{AreasHold, HasLayout, HoldsPayloads}
+use Rattle.rm_journal.specs.two_areas.Areas.{AreasHold, HasLayout, HoldsPayloads}
 use Rattle.rm_store.proofs.Puts.{put_same, now_has, same_half}
 use Rattle.rm_store.proofs.Owned.{still_keeps, put_own}
 use Rattle.rm_store.proofs.Changes.{only_folds}

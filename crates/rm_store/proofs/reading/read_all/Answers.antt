@@ -5,7 +5,7 @@ use Rattle.rm_disk.specs.Disk.{IfTold}
 use Rattle.rm_journal.specs.declared.fault.JournalError
 use Rattle.rm_journal.specs.Fault.{IsReadError}
 use Rattle.rm_journal.specs.Walk.{HasWalked}
-use Rattle.rm_areas.specs.Areas.{IsDamagedLayout}
+use Rattle.rm_journal.specs.two_areas.Areas.{IsDamagedLayout}
 use Rattle.rm_store.specs.Content.{half_of}
 use Rattle.rm_store.specs.declared.fault.StoreError
 use Rattle.rm_disk.proofs.Views.{quiet_trans}

@@ -3,8 +3,8 @@ use Rattle.std.proofs.lemmas.Result.{err_from_is_err_and}
 use Rattle.rm_disk.proofs.Views.{quiet_same, quiet_trans}
 use Rattle.rm_journal.specs.declared.fault.JournalError.{JournalError}
 use Rattle.rm_journal.specs.declared.fault.JournalError.TheVariants.{Damaged}
-use Rattle.rm_areas.specs.Areas.{IsDamagedLayout}
-use Rattle.rm_areas.specs.Reading.{ReadingAt}
+use Rattle.rm_journal.specs.two_areas.Areas.{IsDamagedLayout}
+use Rattle.rm_journal.specs.two_areas.Reading.{ReadingAt}
 use Rattle.rm_store.proofs.WalkingOn.{walked_none, walked_more, walked_all}
 use Rattle.rm_store.proofs.reading.walk_on.Goals as goal
 

@@ -1,5 +1,5 @@
 use Rattle.std.proofs.Common.{sym}
-use Rattle.rm_node.proofs.Rows.{row_leads, stays_without_row}
+use Rattle.rm_states.proofs.node.Rows.{row_leads, stays_without_row}
 use Rattle.rm_tables.proofs.nodes.next_state.Goals as goal
 
 pub returns-in-Some : goal.returns-in-Some

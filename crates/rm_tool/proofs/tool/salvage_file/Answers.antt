@@ -1,6 +1,6 @@
 use Rattle.std.proofs.Common.{List, sym, ◌∙◌, subst}
 use Rattle.rm_types.specs.declared.operations.Op.{Op}
-use Rattle.rm_salvage.specs.Writes.{HoldsAll}
+use Rattle.rm_tool.specs.salvage.Writes.{HoldsAll}
 use Rattle.rm_tool.specs.declared.outcomes.ToolOutcome.TheVariants.{Done}
 use Rattle.rm_tool.specs.Runs.{Salvages}
 use Rattle.rm_tool.proofs.Comings.{either_page}

@@ -1,5 +1,0 @@
-use Rattle.rm_attempt.proofs.Rows.{rows_are_one}
-use Rattle.rm_attempt.proofs.laws.one_row_answers_each_pair.Goals as goal
-
-pub returns : goal.returns
-returns c = rows_are_one

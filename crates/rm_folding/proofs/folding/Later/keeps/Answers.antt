@@ -1,5 +1,0 @@
-use Rattle.std.proofs.Common.{not, ap, ◌∙◌}
-use Rattle.rm_folding.proofs.folding.Later.keeps.Goals as goal
-
-pub returns : goal.returns
-returns c = λ later is. ap not (c.contains.ensures ∙ is.removed c.args.id)

@@ -1,6 +1,0 @@
-use Rattle.std.proofs.Common.{arith}
-use Rattle.rm_ids.proofs.Refusals.{no_end}
-use Rattle.rm_ids.proofs.steps.end_at.Goals as goal
-
-pub returns-else-is_empty : goal.returns-else-is_empty
-returns-else-is_empty c = no_end c.args.bytes.now (search arith)

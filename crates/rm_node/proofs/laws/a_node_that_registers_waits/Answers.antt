@@ -1,5 +1,0 @@
-use Rattle.rm_node.proofs.Rows.{registered_wait}
-use Rattle.rm_node.proofs.laws.a_node_that_registers_waits.Goals as goal
-
-pub returns : goal.returns
-returns c = registered_wait

@@ -1,0 +1,4 @@
+pub mod app
+pub mod attempt
+pub mod container
+pub mod node

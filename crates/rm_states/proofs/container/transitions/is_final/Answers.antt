@@ -1,0 +1,10 @@
+use Rattle.std.proofs.Common.{rules}
+use Rattle.std.proofs.lemmas.Bool.{false≢true}
+use Rattle.rm_states.proofs.container.Rows.{some_row}
+use Rattle.rm_states.proofs.container.transitions.is_final.Goals as goal
+
+pub returns-in_default : goal.returns-in_default
+returns-in_default c = record {
+  none_follows = (λ no. absurd (false≢true no), λ final. absurd (some_row c.args.state c.in_default.not-Completed final));
+  which = search rules;
+}
