@@ -3,4 +3,3 @@ pub mod Listed
 pub mod Granting
 pub mod Fronted
 pub mod Turned
-pub mod fit

@@ -10,4 +10,3 @@ pub mod Rooms
 pub mod SoFar
 pub mod WalkingOn
 pub mod Why
-pub mod compaction

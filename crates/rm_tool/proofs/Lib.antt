@@ -2,4 +2,3 @@ mod Comings
 mod Moments
 mod Parses
 mod Rows
-pub mod salvage

@@ -1,4 +1,0 @@
-pub mod app
-pub mod attempt
-pub mod container
-pub mod node
