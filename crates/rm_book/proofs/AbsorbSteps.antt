@@ -1,19 +1,7 @@
 -- The rows of a book after a report of a node is absorbed.
-use Rattle.std.proofs.Common.{◌≡◌, ℕ, ◌+◌, ◌≤◌, Bool, true, false, not, ◌&&◌, List, [], ◌∷◌, ◌++◌, length, filter, map, refl, sym, ap, ◌∙◌, true≢false, arith}
-use Rattle.std.specs.List.{list_any, sum_by}
-use Rattle.std.proofs.lemmas.Bool.{or_parts}
-use Rattle.std.proofs.lemmas.List.{map-append}
-use Rattle.std.proofs.lemmas.List.Elements.{filter-append}
+use Rattle.rm_book.proofs.Common.{◌≡◌, ℕ, ◌+◌, Bool, true, false, not, ◌&&◌, List, [], ◌∷◌, ◌++◌, length, filter, map, refl, sym, ap, ◌∙◌, arith, list_any, sum_by, or_parts, map-append, filter-append, BookRow, Running, Held, ContainerId, Resource, is_container, total_of, Fits, container_itself, same_container}
+use Rattle.std.proofs.Common.{◌≤◌, true≢false}
 use Rattle.std.proofs.lemmas.Map.Views.{any-filter_same}
-use Rattle.rm_types.specs.declared.containers.BookRow.{BookRow}
-use Rattle.rm_types.specs.declared.containers.ContainerState.TheVariants.{Running}
-use Rattle.rm_types.specs.declared.containers.Held.{Held}
-use Rattle.rm_types.specs.declared.ids.ContainerId.{ContainerId}
-use Rattle.rm_types.specs.declared.resources.Resource.{Resource}
-use Rattle.rm_types.specs.Ids.{is_container}
-use Rattle.rm_types.specs.Passes.{total_of}
-use Rattle.rm_types.specs.Resources.{Fits}
-use Rattle.rm_types.proofs.IdLemmas.{container_itself, same_container}
 use Rattle.rm_types.proofs.TestLemmas.{text_itself}
 use Rattle.rm_book.specs.declared.node_table.NodeLoad.{NodeLoad}
 use Rattle.rm_book.specs.Books.{AreLiving, AreOnce, BookOf, entering, is_of, book_row_taken, sizes_on, taken_rows, total_on, with_capability, book_with_taken}

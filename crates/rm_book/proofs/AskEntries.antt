@@ -1,22 +1,19 @@
 -- What entries by attempt give of the lists that contracts see, and of the attempts that wait.
-use Rattle.std.proofs.Common.{◌≡◌, Bool, true, false, not, List, [], ◌∷◌, ◌++◌, cond, filter, map, Option, None, Some, Result, Ok, Err, OnOk, OnErr, IfSome, IfNone, is_some, unwrap_or, Bor, refl, sym, ap, subst, ◌∙◌}
+use Rattle.rm_book.proofs.Common.{◌≡◌, Bool, true, false, not, List, [], ◌∷◌, ◌++◌, cond, filter, map, Option, None, Some, IfSome, is_some, unwrap_or, refl, sym, ap, subst, ◌∙◌, list_any, keys_of, lookup, set_value, insert_entry, AskLine, AttemptId, is_attempt, same_attempt}
+use Rattle.std.proofs.Common.{Result, Ok, Err, OnOk, OnErr, IfNone, Bor}
 use Rattle.std.specs.Prelude.{IsPermutation}
 use Rattle.std.specs.HashMap.{HashMap}
 use Rattle.std.specs.Option.{option_copied}
 use Rattle.indexmap.specs.Layout.{hash_map}
-use Rattle.std.specs.List.{AllByRecursion, IsDistinct, list_any}
-use Rattle.std.specs.Map.{keys_of, lookup, remove_entry, set_value}
+use Rattle.std.specs.List.{AllByRecursion, IsDistinct}
+use Rattle.std.specs.Map.{remove_entry}
 use Rattle.std.proofs.lemmas.List.Sorted.{IsPermutation-map}
 use Rattle.std.proofs.lemmas.Map.Keys.{IsDistinct-cons, IsDistinct-head, IsDistinct-tail}
 use Rattle.std.proofs.lemmas.Map.Lookups.{hash_map_IsPermutation_from_get, map_keys}
 use Rattle.std.specs.Cmp.{IsEquivalence}
-use Rattle.indexmap.specs.IndexMap.{insert_entry}
-use Rattle.rm_types.specs.declared.containers.AskLine.{AskLine}
 use Rattle.rm_types.specs.declared.duplicate.NoMemory.{NoMemory}
-use Rattle.rm_types.specs.declared.ids.AttemptId.{AttemptId}
-use Rattle.rm_types.specs.Ids.{is_attempt}
 use Rattle.rm_types.specs.Lists.{is_nil}
-use Rattle.rm_types.proofs.IdLemmas.{attempt_back, attempt_itself, same_attempt}
+use Rattle.rm_types.proofs.IdLemmas.{attempt_back, attempt_itself}
 use Rattle.rm_book.specs.AskEntries.{AreKept, AskEntry, entries_in, entry_of, has_some, lines_at}
 use Rattle.rm_book.specs.AskLines.{AttemptAsks, lines_in, with_lines}
 

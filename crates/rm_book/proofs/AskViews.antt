@@ -1,12 +1,6 @@
 -- What attempts ask for, as contracts see it, after each change of their lines.
-use Rattle.std.proofs.Common.{◌≡◌, ℕ, ◌+◌, List, [], ◌∷◌, Bool, true, false, not, ◌==◌, nat_lt, map, filter, if◌then◌else◌, None, Some, refl, sym, ◌∙◌, ap}
-use Rattle.std.specs.List.{list_any}
-use Rattle.std.proofs.lemmas.List.{map-append}
-use Rattle.rm_types.specs.declared.containers.Ask.{Ask}
-use Rattle.rm_types.specs.declared.containers.AskLine.{AskLine}
-use Rattle.rm_types.specs.declared.ids.AttemptId.{AttemptId}
-use Rattle.rm_types.specs.declared.resources.Resource.{Resource}
-use Rattle.rm_types.specs.Ids.{is_attempt}
+use Rattle.rm_book.proofs.Common.{◌≡◌, ℕ, ◌+◌, List, [], ◌∷◌, Bool, true, false, not, nat_lt, map, filter, None, Some, refl, sym, ◌∙◌, ap, list_any, map-append, Ask, AskLine, AttemptId, Resource, is_attempt}
+use Rattle.std.proofs.Common.{◌==◌, if◌then◌else◌}
 use Rattle.rm_types.specs.Lists.{is_nil}
 use Rattle.rm_types.specs.Passes.{by_priority}
 use Rattle.rm_book.specs.AskTables.{AskNow, AsksOf, attempt_asks, asks_set, asks_granted, table_granted, is_for, one_less, renewed_ask, some_asks, waiting_in, with_asks_of, without_asks_of}

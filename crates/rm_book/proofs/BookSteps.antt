@@ -1,21 +1,6 @@
 -- What holds of the fields of a book after each call.
-use Rattle.std.proofs.Common.{◌≡◌, ℕ, ◌+◌, ◌-◌, Bool, true, false, cond, List, [], ◌∷◌, ◌++◌, Option, None, Some, IfSome, filter, map, find, refl, sym, ap, subst, ◌∙◌, unwrap_or, arith}
-use Rattle.std.specs.List.{list_any, sum_by}
-use Rattle.std.specs.Map.{lookup}
-use Rattle.std.specs.Option.{option_map}
-use Rattle.std.specs.Str.{bytes_eq}
-use Rattle.rm_types.specs.declared.containers.BookRow.{BookRow}
-use Rattle.rm_types.specs.declared.containers.ContainerState.{ContainerState}
-use Rattle.rm_types.specs.declared.containers.ContainerState.TheVariants.{Acquired, Running}
-use Rattle.rm_types.specs.declared.containers.Grant.{Grant}
-use Rattle.rm_types.specs.declared.containers.Held.{Held}
-use Rattle.rm_types.specs.declared.ids.ContainerId.{ContainerId}
-use Rattle.rm_types.specs.declared.resources.Resource.{Resource}
-use Rattle.rm_types.specs.Passes.{total_of}
-use Rattle.rm_types.specs.Resources.{Fits, difference_of}
-use Rattle.rm_types.proofs.IdLemmas.{same_container}
-use Rattle.rm_states.specs.declared.container.states.ContainerEvent.TheVariants.{Run, Tell}
-use Rattle.rm_states.specs.container.Table.{next_container_state}
+use Rattle.rm_book.proofs.Common.{◌≡◌, ℕ, ◌+◌, Bool, true, false, cond, List, [], ◌∷◌, ◌++◌, Option, None, Some, IfSome, filter, map, find, refl, sym, ap, subst, ◌∙◌, unwrap_or, arith, list_any, sum_by, lookup, option_map, bytes_eq, BookRow, ContainerState, Acquired, Running, Grant, Held, ContainerId, Resource, total_of, Fits, difference_of, same_container, Run, Tell, next_container_state}
+use Rattle.std.proofs.Common.{◌-◌}
 use Rattle.rm_book.specs.declared.node_table.NodeLoad.{NodeLoad}
 use Rattle.rm_book.specs.Books.{BookRowsAreApart, AreLiving, BookOf, TellUpTo, capability_in, capability_or_none, free_on, is_living_state, is_of, sizes_of, sizes_on, total_on}
 use Rattle.rm_book.specs.Granted.{may_be_told}

@@ -1,12 +1,8 @@
 -- The containers under each key after those of one are changed.
-use Rattle.std.proofs.Common.{◌≡◌, Bool, true, false, cond, List, [], ◌∷◌, ◌++◌, length, Option, None, Some, IsSome, is_some, Bor, Result, Ok, Err, OnErr, OnOk, is_err, refl, sym, ap, subst, ◌∙◌, arith}
+use Rattle.rm_book.proofs.Common.{◌≡◌, Bool, true, false, cond, List, [], ◌∷◌, ◌++◌, length, Option, None, Some, is_some, refl, sym, ap, subst, ◌∙◌, arith, list_any, keys_of, lookup, or_parts, map-append, ContainerId}
+use Rattle.std.proofs.Common.{IsSome, Bor, Result, Ok, Err, OnErr, OnOk, is_err}
 use Rattle.std.specs.Cmp.{IsEquivalence}
-use Rattle.std.specs.List.{list_any}
 use Rattle.std.specs.Option.{option_copied}
-use Rattle.std.specs.Map.{keys_of, lookup}
-use Rattle.std.proofs.lemmas.Bool.{or_parts}
-use Rattle.std.proofs.lemmas.List.{map-append}
-use Rattle.rm_types.specs.declared.ids.ContainerId.{ContainerId}
 use Rattle.rm_book.specs.Kept.{ids_in, ids_under}
 
 -- nothing is found under a key that none has

@@ -1,18 +1,9 @@
 -- The containers of an attempt among those of its application, and what it was granted.
-use Rattle.std.proofs.Common.{◌≡◌, ℕ, ◌+◌, ◌<◌, ◌==◌, Bool, true, false, ◌&&◌, ◌||◌, nat_lt, cond, List, [], ◌∷◌, ◌++◌, length, filter, take, get_or, refl, sym, ap, ◌∙◌}
-use Rattle.std.specs.List.{list_any, filter_map, cons_option}
-use Rattle.std.proofs.lemmas.Bool.{or_parts}
-use Rattle.std.proofs.lemmas.List.{take_more}
+use Rattle.rm_book.proofs.Common.{◌≡◌, ℕ, ◌+◌, ◌<◌, Bool, true, false, ◌&&◌, ◌||◌, nat_lt, cond, List, [], ◌∷◌, ◌++◌, length, filter, take, get_or, refl, sym, ap, ◌∙◌, list_any, filter_map, or_parts, take_more, list_any-append, BookRow, Held, AttemptId, ContainerId, is_app, is_attempt, is_container, container_back, container_itself, is_held}
+use Rattle.std.proofs.Common.{◌==◌}
+use Rattle.std.specs.List.{cons_option}
 use Rattle.std.proofs.lemmas.List.Elements.{filter_map-append}
-use Rattle.std.proofs.lemmas.List.Folds.{list_any-append}
-use Rattle.rm_types.specs.declared.containers.BookRow.{BookRow}
-use Rattle.rm_types.specs.declared.containers.Held.{Held}
-use Rattle.rm_types.specs.declared.ids.AttemptId.{AttemptId}
-use Rattle.rm_types.specs.declared.ids.ContainerId.{ContainerId}
-use Rattle.rm_types.specs.Ids.{is_app, is_attempt, is_container}
-use Rattle.rm_types.proofs.IdLemmas.{container_back, container_itself}
 use Rattle.rm_book.specs.Books.{BookRowsAreApart, is_later, is_of}
-use Rattle.rm_types.specs.Containers.{is_held}
 use Rattle.rm_book.specs.Granted.{grant_in, row_grant, grants_to, is_granted_to}
 use Rattle.rm_book.specs.Kept.{ids_where}
 

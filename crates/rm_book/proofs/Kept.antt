@@ -1,28 +1,15 @@
 -- Rows under their containers' ids, and the containers of those that pass a test, after one row comes, goes or changes.
-use Rattle.std.proofs.Common.{◌≡◌, ℕ, Bool, true, false, ◌&&◌, cond, not, List, [], ◌∷◌, ◌++◌, filter, map, find, length, Option, None, Some, refl, sym, ap, subst, ◌∙◌, is_some, count_by, append-nil}
-use Rattle.std.specs.List.{list_any}
-use Rattle.std.specs.Str.{bytes_eq}
-use Rattle.std.specs.Map.{values_of, lookup, remove_entry, set_value}
+use Rattle.rm_book.proofs.Common.{◌≡◌, ℕ, Bool, true, false, ◌&&◌, cond, not, List, [], ◌∷◌, ◌++◌, filter, map, find, length, Option, None, Some, refl, sym, ap, subst, ◌∙◌, is_some, append-nil, list_any, bytes_eq, values_of, lookup, set_value, or_parts, or_from, length-map, map-append, filter-append, BookRow, ContainerState, Granted, Acquired, Running, Completed, AttemptId, ContainerId, is_app, is_attempt, is_container, container_back, container_itself, same_container, next_container_state, Tell, Run, is_granted}
+use Rattle.std.proofs.Common.{count_by}
+use Rattle.std.specs.Map.{remove_entry}
 use Rattle.indexmap.specs.IndexSet.{remove_key}
-use Rattle.std.proofs.lemmas.Bool.{or_parts, or_from}
-use Rattle.std.proofs.lemmas.List.{length-map, map-append}
 use Rattle.std.proofs.lemmas.List.Sums.{length-filter}
-use Rattle.std.proofs.lemmas.List.Elements.{filter-append}
-use Rattle.rm_types.specs.declared.containers.BookRow.{BookRow}
-use Rattle.rm_types.specs.declared.containers.ContainerState.{ContainerState}
-use Rattle.rm_types.specs.declared.containers.ContainerState.TheVariants.{Granted, Acquired, Running, Completed}
 use Rattle.rm_types.specs.declared.ids.AppId.{AppId}
-use Rattle.rm_types.specs.declared.ids.AttemptId.{AttemptId}
-use Rattle.rm_types.specs.declared.ids.ContainerId.{ContainerId}
-use Rattle.rm_types.specs.Ids.{is_app, is_attempt, is_container}
-use Rattle.rm_types.proofs.IdLemmas.{container_back, container_itself, same_container}
 use Rattle.rm_types.proofs.TestLemmas.{found_passes, is_some-find}
-use Rattle.rm_states.specs.container.Table.{next_container_state}
 use Rattle.rm_states.specs.declared.container.states.ContainerEvent.{ContainerEvent}
-use Rattle.rm_states.specs.declared.container.states.ContainerEvent.TheVariants.{Tell, Run, End}
+use Rattle.rm_states.specs.declared.container.states.ContainerEvent.TheVariants.{End}
 use Rattle.rm_book.specs.Books.{BookRowsAreApart, is_of}
 use Rattle.rm_book.specs.Granted.{is_granted_to, is_untold_to_attempt}
-use Rattle.rm_types.specs.Containers.{is_granted}
 use Rattle.rm_book.specs.Kept.{RowsAreIndexed, AreWith, AreWithout, AreSame, by_id, ids_under, ids_where}
 use Rattle.rm_book.proofs.Rows.{apart_filter, apart_push}
 use Rattle.rm_book.proofs.Splits.{filter_none, map_none}

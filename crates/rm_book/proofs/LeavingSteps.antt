@@ -1,24 +1,8 @@
 -- What is left when rows leave, what stands on nodes then, and what runs.
-use Rattle.std.proofs.Common.{◌≡◌, ℕ, ◌+◌, ◌<◌, Bool, true, false, not, cond, ◌||◌, List, [], ◌∷◌, ◌++◌, Option, None, Some, IfSome, is_some, length, filter, map, find, take, get_or, refl, sym, ap, ◌∙◌, arith}
-use Rattle.std.specs.List.{list_any, sum_by}
-use Rattle.std.specs.Map.{lookup}
-use Rattle.std.specs.Option.{option_map}
-use Rattle.std.specs.Str.{bytes_eq}
-use Rattle.std.proofs.lemmas.List.{take_more}
-use Rattle.std.proofs.lemmas.List.Folds.{list_any-append}
-use Rattle.rm_types.specs.declared.containers.BookRow.{BookRow}
-use Rattle.rm_types.specs.declared.containers.ContainerState.TheVariants.{Running}
-use Rattle.rm_types.specs.declared.containers.Held.{Held}
-use Rattle.rm_types.specs.declared.ids.ContainerId.{ContainerId}
-use Rattle.rm_types.specs.declared.resources.Resource.{Resource}
-use Rattle.rm_types.specs.Ids.{is_container}
-use Rattle.rm_types.proofs.IdLemmas.{container_back, same_container}
+use Rattle.rm_book.proofs.Common.{◌≡◌, ℕ, ◌+◌, ◌<◌, Bool, true, false, not, cond, ◌||◌, List, [], ◌∷◌, ◌++◌, Option, None, Some, IfSome, is_some, length, filter, map, find, take, get_or, refl, sym, ap, ◌∙◌, arith, list_any, sum_by, lookup, option_map, bytes_eq, take_more, list_any-append, BookRow, Running, Held, ContainerId, Resource, is_container, container_back, same_container, Run, next_container_state, is_held}
 use Rattle.rm_types.proofs.TestLemmas.{is_some-find, text_itself}
-use Rattle.rm_states.specs.declared.container.states.ContainerEvent.TheVariants.{Run}
-use Rattle.rm_states.specs.container.Table.{next_container_state}
 use Rattle.rm_book.specs.declared.node_table.NodeLoad.{NodeLoad}
 use Rattle.rm_book.specs.Books.{BookRowsAreApart, AreLiving, is_of, book_row_taken, sizes_on, total_on}
-use Rattle.rm_types.specs.Containers.{is_held}
 use Rattle.rm_book.specs.Kept.{AreUsed, Holds, IsSum, sum_without}
 use Rattle.rm_book.proofs.Changes.{runs}
 use Rattle.rm_book.proofs.Kept.{without}

@@ -1,3 +1,4 @@
+mod Common
 pub mod AbsorbSteps
 pub mod AskEntries
 pub mod AskViews

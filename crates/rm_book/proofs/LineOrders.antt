@@ -1,10 +1,5 @@
 -- Lines that are kept in the order of a pass, seen in the order of first asking.
-use Rattle.std.proofs.Common.{◌≡◌, ◌<◌, List, [], ◌∷◌, ◌++◌, Bool, true, false, not, ◌&&◌, ◌||◌, nat_lt, cond, map, filter, refl, ◌∙◌, ap, arith}
-use Rattle.std.specs.List.{list_all}
-use Rattle.std.proofs.lemmas.Bool.{and_from, and_parts}
-use Rattle.std.proofs.lemmas.Bool.Decides.{nat_tests}
-use Rattle.rm_types.specs.declared.containers.Ask.{Ask}
-use Rattle.rm_types.specs.declared.containers.AskLine.{AskLine}
+use Rattle.rm_book.proofs.Common.{◌≡◌, ◌<◌, List, [], ◌∷◌, ◌++◌, Bool, true, false, not, ◌&&◌, ◌||◌, nat_lt, cond, map, filter, refl, ◌∙◌, ap, arith, list_all, and_from, and_parts, nat_tests, Ask, AskLine}
 use Rattle.rm_types.specs.Passes.{put_by_priority, by_priority}
 use Rattle.rm_book.specs.AskLines.{AreInOrder, ask_of, asks_in, by_order, in_line, is_asked_before, asking_order, placed, put_by}
 use Rattle.rm_book.proofs.Lists.{all_filter, all_map, all_more}

@@ -1,13 +1,9 @@
 -- Many asks of an attempt that are set one after the other: their lines stay lawful, and are what contracts see.
-use Rattle.std.proofs.Common.{◌≡◌, ℕ, ◌+◌, ◌<◌, zero, suc, List, [], ◌∷◌, Bool, true, false, nat_lt, nat_le, not, map, length, get_or, drop, refl, sym, ◌∙◌, ap, subst, arith}
+use Rattle.rm_book.proofs.Common.{◌≡◌, ℕ, ◌+◌, ◌<◌, List, [], ◌∷◌, Bool, true, false, nat_lt, not, map, length, get_or, drop, refl, sym, ◌∙◌, ap, subst, arith, nat_tests, length-map, Ask, AskLine, AttemptId, is_attempt}
+use Rattle.std.proofs.Common.{zero, suc, nat_le}
 use Rattle.std.specs.Prelude.{◌==◌, ◌≤◌, if◌then◌else◌}
 use Rattle.std.proofs.lemmas.Bool.{eqb-true}
-use Rattle.std.proofs.lemmas.Bool.Decides.{nat_tests}
-use Rattle.std.proofs.lemmas.List.{drop_more, length-map}
-use Rattle.rm_types.specs.declared.containers.Ask.{Ask}
-use Rattle.rm_types.specs.declared.containers.AskLine.{AskLine}
-use Rattle.rm_types.specs.declared.ids.AttemptId.{AttemptId}
-use Rattle.rm_types.specs.Ids.{is_attempt}
+use Rattle.std.proofs.lemmas.List.{drop_more}
 use Rattle.rm_book.specs.AskLines.{AreLines, AttemptAsks, IsAskTable, ask_of, asks_in, asks_of_entry, by_order, lines_in, lines_set, asking_order, put_by, with_lines}
 use Rattle.rm_book.specs.AskTables.{AsksOf, attempt_asks, asks_set, with_asks_of}
 use Rattle.rm_book.specs.ManyAsks.{all_asked, asks_after, lines_after}

@@ -1,7 +1,5 @@
 -- Lists that are kept by numbers.
-use Rattle.std.proofs.Common.{◌≡◌, ℕ, List, [], ◌∷◌, ◌++◌, Bool, true, false, ◌||◌, nat_lt, refl, ◌∙◌, ap}
-use Rattle.std.specs.List.{list_any, list_all}
-use Rattle.std.proofs.lemmas.Bool.{and_from, and_parts}
+use Rattle.rm_book.proofs.Common.{◌≡◌, ℕ, List, [], ◌∷◌, ◌++◌, Bool, true, false, ◌||◌, nat_lt, refl, ◌∙◌, ap, list_any, list_all, and_from, and_parts}
 use Rattle.rm_book.specs.AskLines.{put_by, sorted_by}
 
 any_swap : (a b c : Bool) → (b || (a || c)) ≡ (a || (b || c))

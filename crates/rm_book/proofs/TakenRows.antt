@@ -1,20 +1,6 @@
 -- The book after an absorption is a book.
-use Rattle.std.proofs.Common.{◌≡◌, ℕ, ◌+◌, Bool, true, false, not, cond, List, [], ◌∷◌, ◌++◌, length, map, filter, refl, ◌∙◌, subst, append_assoc, append-nil, arith}
-use Rattle.std.specs.List.{list_any, sum_by}
-use Rattle.std.specs.Str.{bytes_eq}
-use Rattle.std.proofs.lemmas.Bool.{or_parts, or_from}
-use Rattle.std.proofs.lemmas.List.Folds.{list_any-append}
-use Rattle.rm_types.specs.declared.containers.BookRow.{BookRow}
-use Rattle.rm_types.specs.declared.containers.ContainerState.TheVariants.{Running}
-use Rattle.rm_types.specs.declared.containers.Held.{Held}
-use Rattle.rm_types.specs.declared.ids.ContainerId.{ContainerId}
-use Rattle.rm_types.specs.declared.resources.Resource.{Resource}
-use Rattle.rm_types.specs.Ids.{is_container}
-use Rattle.rm_types.specs.Resources.{Fits}
-use Rattle.rm_types.proofs.IdLemmas.{container_back}
-use Rattle.rm_types.proofs.TestLemmas.{same_text}
+use Rattle.rm_book.proofs.Common.{◌≡◌, ℕ, ◌+◌, Bool, true, false, not, cond, List, [], ◌∷◌, ◌++◌, length, map, filter, refl, ◌∙◌, subst, append_assoc, append-nil, arith, list_any, sum_by, bytes_eq, or_parts, or_from, list_any-append, BookRow, Running, Held, ContainerId, Resource, is_container, Fits, container_back, same_text, is_held}
 use Rattle.rm_book.specs.Books.{BookRowsAreApart, AreLiving, AreOnce, is_living_state, BookOf, IsBook, TellUpTo, capability_or_none, entering, is_of, book_row_taken, sizes_on, taken_rows, total_on, with_capability, book_with_taken}
-use Rattle.rm_types.specs.Containers.{is_held}
 use Rattle.rm_book.specs.Kept.{AreFresh}
 use Rattle.rm_book.proofs.Changes.{book_left}
 use Rattle.rm_book.proofs.Lists.{any_filter}

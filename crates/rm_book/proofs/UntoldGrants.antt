@@ -1,17 +1,7 @@
 -- Somebody may be told of what an attempt was granted and nobody was told of yet.
-use Rattle.std.proofs.Common.{◌≡◌, Bool, true, false, ◌&&◌, List, [], ◌∷◌, IfSome, filter, find, refl, ◌∙◌}
-use Rattle.std.specs.List.{list_any}
-use Rattle.std.proofs.lemmas.Bool.{or_parts}
-use Rattle.rm_types.specs.declared.containers.BookRow.{BookRow}
-use Rattle.rm_types.specs.declared.containers.ContainerState.{ContainerState}
-use Rattle.rm_types.specs.declared.containers.ContainerState.TheVariants.{Granted, Acquired, Running, Completed}
-use Rattle.rm_types.specs.declared.containers.Grant.{Grant}
-use Rattle.rm_types.specs.declared.ids.AttemptId.{AttemptId}
-use Rattle.rm_types.specs.Ids.{is_attempt}
-use Rattle.rm_types.proofs.IdLemmas.{container_back, container_itself}
+use Rattle.rm_book.proofs.Common.{◌≡◌, Bool, true, false, ◌&&◌, List, [], ◌∷◌, IfSome, filter, find, refl, ◌∙◌, list_any, or_parts, BookRow, ContainerState, Granted, Acquired, Running, Completed, Grant, AttemptId, is_attempt, container_back, container_itself, is_granted}
 use Rattle.rm_book.specs.Books.{BookRowsAreApart, is_of}
 use Rattle.rm_book.specs.Granted.{AllMayBeTold, grants_to, is_granted_to, may_be_told}
-use Rattle.rm_types.specs.Containers.{is_granted}
 
 granted_told : (a : Bool) (s : ContainerState) → (a && is_granted s) ≡ true → may_be_told s ≡ true
 granted_told true Granted e = refl

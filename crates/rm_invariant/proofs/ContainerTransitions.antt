@@ -1,76 +1,28 @@
 -- Each move brings the state of a container in the book along a row of its table, or leaves it.
-use Rattle.std.proofs.Common.{◌≡◌, ◌⊎◌, inl, inr, ℕ, ◌+◌, ◌==◌, List, [], ◌∷◌, ◌++◌, Bool, true, false, ◌&&◌, ◌||◌, not, nat_lt, Option, None, Some, IfSome, filter, find, is_some, map, option_map, refl, sym, ◌∙◌, ap, subst, arith}
-use Rattle.std.proofs.lemmas.Bool.Decides.{nat_tests}
-use Rattle.std.specs.Prelude.{if◌then◌else◌}
-use Rattle.std.specs.List.{list_any}
-use Rattle.std.specs.Str.{bytes_eq}
-use Rattle.rm_types.specs.declared.containers.Ask.{Ask}
-use Rattle.rm_types.specs.declared.containers.BookRow.{BookRow}
-use Rattle.rm_types.specs.declared.containers.Cause.{Cause}
+use Rattle.rm_invariant.proofs.Common.{◌≡◌, ◌⊎◌, inl, inr, ℕ, ◌+◌, List, [], ◌∷◌, ◌++◌, Bool, true, false, ◌&&◌, ◌||◌, not, Option, None, Some, filter, find, map, refl, sym, ◌∙◌, ap, subst, arith, nat_tests, if◌then◌else◌, list_any, bytes_eq, Ask, BookRow, Cause, Closing, ContainerState, Acquired, Running, Grant, Held, Entry, AppId, AttemptId, ContainerId, ClientAsk, ClockAsk, MasterAsk, NodeAsk, Op, Reply, Resource, is_container, same_container, AttemptState, BookOf, entering, granted_rows, is_of, book_row_taken, taken_rows, with_grants, book_with_taken, without_rows, is_held, is_granted, once, has_container, reported, master_reply, Scene, MainEvent, SchedEvent, NodeRow, AppRow, Current, Dialogue, Tables, absorbed_by, absorbed_if, taken_in, main_worked, sched_worked, kept, ended_by, is_masters_in, main_step, is_waiting_row, node_row, grants_on, updated_by, is_released, queued_at, queued_by, queued_with, sched_step, History, abstract_scene, RefinesLife, after_client, taken_by, wished_by, acquired, acquired_row, after_master, is_new_to, goes_on, spoken_by, after_clock, after_node, beaten_book, is_next_beat, is_row_on, is_untold_row, registered_by}
+use Rattle.std.proofs.Common.{◌==◌, nat_lt, IfSome, is_some, option_map}
 use Rattle.rm_types.specs.declared.containers.Cause.TheVariants as causes
-use Rattle.rm_types.specs.declared.containers.Closing.{Closing}
-use Rattle.rm_types.specs.declared.containers.ContainerState.{ContainerState}
-use Rattle.rm_types.specs.declared.containers.ContainerState.TheVariants.{Granted, Acquired, Running, Completed}
-use Rattle.rm_types.specs.declared.containers.Grant.{Grant}
-use Rattle.rm_types.specs.declared.containers.Held.{Held}
-use Rattle.rm_types.specs.declared.entries.Entry.{Entry}
-use Rattle.rm_types.specs.declared.ids.AppId.{AppId}
-use Rattle.rm_types.specs.declared.ids.AttemptId.{AttemptId}
-use Rattle.rm_types.specs.declared.ids.ContainerId.{ContainerId}
-use Rattle.rm_types.specs.declared.messages.ClientAsk.{ClientAsk}
+use Rattle.rm_types.specs.declared.containers.ContainerState.TheVariants.{Granted, Completed}
 use Rattle.rm_types.specs.declared.messages.ClientAsk.TheVariants as clients
-use Rattle.rm_types.specs.declared.messages.ClockAsk.{ClockAsk}
 use Rattle.rm_types.specs.declared.messages.ClockAsk.TheVariants as clocks
-use Rattle.rm_types.specs.declared.messages.MasterAsk.{MasterAsk}
 use Rattle.rm_types.specs.declared.messages.MasterAsk.TheVariants as masters
-use Rattle.rm_types.specs.declared.messages.NodeAsk.{NodeAsk}
 use Rattle.rm_types.specs.declared.messages.NodeAsk.TheVariants as asks
-use Rattle.rm_types.specs.declared.operations.Op.{Op}
 use Rattle.rm_types.specs.declared.operations.Op.TheVariants as ops
-use Rattle.rm_types.specs.declared.replies.Reply.{Reply}
 use Rattle.rm_types.specs.declared.replies.Reply.TheVariants as replies
-use Rattle.rm_types.specs.declared.resources.Resource.{Resource}
-use Rattle.rm_types.specs.Ids.{is_container}
-use Rattle.rm_types.proofs.IdLemmas.{same_container}
-use Rattle.rm_states.specs.declared.attempt.states.AttemptState.{AttemptState}
 use Rattle.rm_states.specs.declared.attempt.states.AttemptState.TheVariants as attempts
 use Rattle.rm_states.specs.declared.container.states.ContainerEvent.TheVariants.{Tell, Run, End}
 use Rattle.rm_states.specs.declared.container.states.ContainerAction.TheVariants.{Nothing}
 use Rattle.rm_states.specs.container.Table.{ContainerTransition as ContainerTableRow}
-use Rattle.rm_book.specs.Books.{AreLiving, BookOf, IsBook, entering, granted_rows, is_living_state, is_of, book_row, book_row_taken, taken_rows, with_grants, book_with_taken, without_rows}
-use Rattle.rm_types.specs.Containers.{is_held, is_granted}
+use Rattle.rm_book.specs.Books.{AreLiving, IsBook, is_living_state, book_row}
 use Rattle.rm_book.specs.Granted.{AllMayBeTold, grants_to, may_be_told}
 use Rattle.rm_book.proofs.UntoldGrants.{granted_to_told, told_filter}
-use Rattle.rm_model.specs.Containers.{once}
-use Rattle.rm_model.specs.Facts.{has_container}
-use Rattle.rm_model.specs.NodeReplies.{reported}
-use Rattle.rm_model.specs.MasterReplies.{master_reply}
-use Rattle.rm_model.specs.State.{Scene}
-use Rattle.rm_tables.specs.declared.events.MainEvent.{MainEvent}
 use Rattle.rm_tables.specs.declared.events.MainEvent.TheVariants as mains
-use Rattle.rm_tables.specs.declared.events.SchedEvent.{SchedEvent}
 use Rattle.rm_tables.specs.declared.events.SchedEvent.TheVariants as scheds
-use Rattle.rm_tables.specs.declared.nodes.NodeRow.{NodeRow}
-use Rattle.rm_tables.specs.declared.rows.AppRow.{AppRow}
-use Rattle.rm_tables.specs.declared.rows.Current.{Current}
-use Rattle.rm_tables.specs.declared.rows.Dialogue.{Dialogue}
-use Rattle.rm_tables.specs.declared.tables.Tables.{Tables}
-use Rattle.rm_tables.specs.Absorbing.{absorbed_by, absorbed_if, taken_in}
-use Rattle.rm_tables.specs.Actions.{main_worked, sched_worked}
-use Rattle.rm_tables.specs.KeptOps.{kept}
-use Rattle.rm_tables.specs.Leaving.{ended_by, is_masters_in}
-use Rattle.rm_tables.specs.MainEvents.{main_step}
-use Rattle.rm_tables.specs.Nodes.{is_waiting_row, node_row}
-use Rattle.rm_tables.specs.Passing.{grants_on, updated_by}
 use Rattle.rm_tables.specs.Rows.{row_of as row_of_app}
-use Rattle.rm_tables.specs.SchedEvents.{is_on as is_there_on, is_released, queued_at, queued_by, queued_with, sched_step}
-use Rattle.rm_refinement.specs.History.{History, abstract_scene}
-use Rattle.rm_refinement.specs.Services.{RefinesLife}
-use Rattle.rm_client.specs.Answers.{after_client, taken_by, wished_by}
-use Rattle.rm_master.specs.Answers.{acquired, acquired_row, after_master, ids_granted, is_new_to}
-use Rattle.rm_master.specs.Told.{allocate_told, allocated_told, asks_too_much, goes_on, grants_told, asks_too_many, living_row, master_told, new_told, spoken_by, spoken_in, spoken_told}
+use Rattle.rm_tables.specs.SchedEvents.{is_on as is_there_on}
+use Rattle.rm_master.specs.Answers.{ids_granted}
+use Rattle.rm_master.specs.Told.{allocate_told, allocated_told, asks_too_much, grants_told, asks_too_many, living_row, master_told, new_told, spoken_in, spoken_told}
 use Rattle.rm_master.proofs.Served.{master_answer}
-use Rattle.rm_tracker.specs.Answers.{after_clock, after_node, beaten_book, is_next_beat, is_row_on, is_untold_row, registered_by}
 use Rattle.rm_tracker.proofs.Alike.{beaten_at_once, book_at_once}
 use Rattle.rm_invariant.specs.events.Outcomes.{Outcome, accepts, adds, delays, ends, ends_one, follows, idles, issues, kills, loses, orders, removes, requeues, saves}
 use Rattle.rm_invariant.proofs.events.Outcomes.{main_outcome}

@@ -1,16 +1,7 @@
 -- The first event of each queue of an open life leads to a life that is open still, with less to do.
-use Rattle.std.proofs.Common.{◌≡◌, ◌≢◌, List, ◌∷◌, false, refl, sym, ◌∙◌, subst}
-use Rattle.std.specs.List.{list_any}
-use Rattle.rm_types.specs.declared.ids.ContainerId.{ContainerId}
-use Rattle.rm_types.specs.declared.settings.Settings.{Settings}
-use Rattle.rm_tables.specs.declared.events.MainEvent.{MainEvent}
+use Rattle.rm_invariant.proofs.Common.{◌≡◌, List, ◌∷◌, false, refl, sym, ◌∙◌, subst, list_any, ContainerId, Settings, MainEvent, SchedEvent, Tables, main_worked, sched_worked, main_step, EndsByEvent, sched_step, History}
+use Rattle.std.proofs.Common.{◌≢◌}
 use Rattle.rm_tables.specs.declared.events.MainEvent.TheVariants as mains
-use Rattle.rm_tables.specs.declared.events.SchedEvent.{SchedEvent}
-use Rattle.rm_tables.specs.declared.tables.Tables.{Tables}
-use Rattle.rm_tables.specs.Actions.{main_worked, sched_worked}
-use Rattle.rm_tables.specs.MainEvents.{main_step}
-use Rattle.rm_tables.specs.SchedEvents.{EndsByEvent, sched_step}
-use Rattle.rm_refinement.specs.History.{History}
 use Rattle.rm_invariant.specs.messages.Ranges.{KeepsLimits}
 use Rattle.rm_invariant.specs.events.Outcomes.{Outcome}
 use Rattle.rm_invariant.proofs.events.Outcomes.{main_outcome}

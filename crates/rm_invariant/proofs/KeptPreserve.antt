@@ -1,18 +1,8 @@
 -- What awaits is handed to the store of an open life, and kept: the life is open still, with less to do.
-use Rattle.std.proofs.Common.{◌≡◌, ◌≢◌, ◌||◌, List, [], ◌∷◌, Bool, true, false, refl, sym, ◌∙◌, subst}
-use Rattle.std.specs.List.{list_any}
+use Rattle.rm_invariant.proofs.Common.{◌≡◌, ◌||◌, List, [], ◌∷◌, Bool, true, false, refl, sym, ◌∙◌, subst, list_any, AttemptId, Op, Settings, IsOperation, fits_records, is_epoch_op, Tables, kept, handed_out, refused, History}
+use Rattle.std.proofs.Common.{◌≢◌}
 use Rattle.rm_types.specs.declared.entries.Entry.TheVariants.{Handed, Kept as KeptEntry}
-use Rattle.rm_types.specs.declared.ids.AttemptId.{AttemptId}
-use Rattle.rm_types.specs.declared.operations.Op.{Op}
 use Rattle.rm_types.specs.declared.operations.Op.TheVariants as ops
-use Rattle.rm_types.specs.declared.settings.Settings.{Settings}
-use Rattle.rm_types.specs.Ranges.{IsOperation}
-use Rattle.rm_types.specs.Records.{fits_records}
-use Rattle.rm_model.specs.Facts.{is_epoch_op}
-use Rattle.rm_tables.specs.declared.tables.Tables.{Tables}
-use Rattle.rm_tables.specs.KeptOps.{kept}
-use Rattle.rm_tables.specs.Lives.{handed_out, refused}
-use Rattle.rm_refinement.specs.History.{History}
 use Rattle.rm_invariant.specs.messages.Ranges.{KeepsLimits}
 use Rattle.rm_invariant.specs.Core.{CoreInvariant, PreservesCore}
 use Rattle.rm_invariant.proofs.events.KeptMoves.{app_end_kept_whole, app_kept_whole, attempt_end_kept_whole, attempt_kept_whole, remove_kept_whole}

@@ -1,3 +1,4 @@
+mod Common
 pub mod apps
 pub mod opening
 pub mod resting

@@ -1,33 +1,11 @@
 -- Each message of an open life is answered as the judge says, and counted, and the life is open still.
-use Rattle.std.proofs.Common.{◌≡◌, ◌+◌, ◌<◌, ℕ, List, Option, None, Some, is_some, refl, sym, ◌∙◌, subst}
-use Rattle.rm_types.specs.declared.entries.Entry.{Entry}
-use Rattle.rm_types.specs.declared.entries.Entry.TheVariants.{Served}
-use Rattle.rm_types.specs.declared.ids.AppId.{AppId}
-use Rattle.rm_types.specs.declared.ids.AttemptId.{AttemptId}
-use Rattle.rm_types.specs.declared.messages.ClientAsk.{ClientAsk}
-use Rattle.rm_types.specs.declared.messages.ClockAsk.{ClockAsk}
-use Rattle.rm_types.specs.declared.messages.MasterAsk.{MasterAsk}
+use Rattle.rm_invariant.proofs.Common.{◌≡◌, ◌+◌, ◌<◌, ℕ, List, Option, None, Some, refl, sym, ◌∙◌, subst, Entry, Served, AppId, AttemptId, ClientAsk, ClockAsk, MasterAsk, NodeAsk, Reply, Settings, Node, IsText, client_reply, is_known, master_reply, node_reply, AppRow, Tables, row_of, History, abstract_scene, RefinesLife, after_client, after_master, after_clock, after_node}
+use Rattle.std.proofs.Common.{is_some}
 use Rattle.rm_types.specs.declared.messages.Message.TheVariants as messages
-use Rattle.rm_types.specs.declared.messages.NodeAsk.{NodeAsk}
 use Rattle.rm_types.specs.declared.messages.Sender.TheVariants as senders
-use Rattle.rm_types.specs.declared.replies.Reply.{Reply}
-use Rattle.rm_types.specs.declared.settings.Settings.{Settings}
-use Rattle.rm_types.specs.declared.texts.TextKind.TheVariants.{Node}
-use Rattle.rm_types.specs.Ranges.{IsText}
 use Rattle.rm_types.specs.Limits.{most_served}
-use Rattle.rm_model.specs.ClientReplies.{client_reply}
-use Rattle.rm_model.specs.Facts.{is_known}
-use Rattle.rm_model.specs.MasterReplies.{master_reply}
-use Rattle.rm_model.specs.NodeReplies.{clock_reply, node_reply}
-use Rattle.rm_tables.specs.declared.rows.AppRow.{AppRow}
-use Rattle.rm_tables.specs.declared.tables.Tables.{Tables}
-use Rattle.rm_tables.specs.Rows.{row_of}
-use Rattle.rm_refinement.specs.History.{History, abstract_scene}
-use Rattle.rm_refinement.specs.Services.{RefinesLife}
-use Rattle.rm_client.specs.Answers.{after_client}
+use Rattle.rm_model.specs.NodeReplies.{clock_reply}
 use Rattle.rm_refinement.specs.Clients.{RefinesAt}
-use Rattle.rm_master.specs.Answers.{after_master}
-use Rattle.rm_tracker.specs.Answers.{after_clock, after_node}
 use Rattle.rm_invariant.specs.messages.Ranges.{IsClientAsk, IsClockAsk, IsMasterAsk, IsNodeAsk, KeepsLimits}
 use Rattle.rm_invariant.specs.Core.{CoreInvariant, PreservesCore}
 use Rattle.rm_invariant.specs.messages.Fits.{EachRowFits}

@@ -1,37 +1,18 @@
 -- Each move of the manager's own, in each phase of a life.
-use Rattle.std.proofs.Common.{◌≡◌, ◌≢◌, ◌+◌, ◌<◌, ◌^◌, ℕ, List, [], ◌∷◌, Bool, true, false, length, refl, sym, ◌∙◌, ap, subst, arith}
-use Rattle.std.proofs.lemmas.Bool.Decides.{nat_tests}
-use Rattle.rm_types.specs.declared.entries.Entry.{Entry}
-use Rattle.rm_types.specs.declared.entries.Entry.TheVariants.{Blown, Down, Handed, Kept as KeptEntry, Served}
-use Rattle.rm_types.specs.declared.ids.AppId.{AppId}
-use Rattle.rm_types.specs.declared.ids.ContainerId.{ContainerId}
+use Rattle.rm_invariant.proofs.Common.{◌≡◌, ◌+◌, ◌<◌, ◌^◌, ℕ, List, [], ◌∷◌, Bool, true, false, length, refl, sym, ◌∙◌, ap, subst, arith, nat_tests, Entry, Served, AppId, ContainerId, Message, Op, IsOperation, fits_records, records, after, attempts_in, life_after, Allowed, LifeState, Manager, Scene, scene, MainEvent, SchedEvent, Tables, found_in, main_worked, sched_worked, kept, handed_out, refused, main_step, EndsByEvent, sched_step, History, abstract_life, live_state}
+use Rattle.std.proofs.Common.{◌≢◌}
+use Rattle.rm_types.specs.declared.entries.Entry.TheVariants.{Blown, Down, Handed, Kept as KeptEntry}
 use Rattle.rm_types.specs.declared.messages.ClientAsk.TheVariants as clients
 use Rattle.rm_types.specs.declared.messages.ClockAsk.TheVariants as clocks
 use Rattle.rm_types.specs.declared.messages.MasterAsk.TheVariants as masters
-use Rattle.rm_types.specs.declared.messages.Message.{Message}
 use Rattle.rm_types.specs.declared.messages.Message.TheVariants as messages
 use Rattle.rm_types.specs.declared.messages.NodeAsk.TheVariants as nodes
-use Rattle.rm_types.specs.declared.operations.Op.{Op}
 use Rattle.rm_types.specs.declared.operations.Op.TheVariants as ops
 use Rattle.rm_types.specs.declared.replies.Reply.TheVariants.{NotOpen}
 use Rattle.rm_types.specs.Lanes.{sender_of}
-use Rattle.rm_types.specs.Ranges.{IsOperation}
-use Rattle.rm_types.specs.Records.{fits_records, records}
-use Rattle.rm_model.specs.Changes.{after, in_life}
-use Rattle.rm_model.specs.Facts.{attempts_in}
-use Rattle.rm_model.specs.Replies.{life_after}
-use Rattle.rm_model.specs.Rules.{Allowed}
-use Rattle.rm_model.specs.State.{LifeState, Manager, Scene, scene}
-use Rattle.rm_tables.specs.declared.events.MainEvent.{MainEvent}
+use Rattle.rm_model.specs.Changes.{in_life}
 use Rattle.rm_tables.specs.declared.events.MainEvent.TheVariants as mains
-use Rattle.rm_tables.specs.declared.events.SchedEvent.{SchedEvent}
-use Rattle.rm_tables.specs.declared.tables.Tables.{Tables}
-use Rattle.rm_tables.specs.Actions.{found_in, main_worked, sched_worked}
-use Rattle.rm_tables.specs.KeptOps.{kept}
-use Rattle.rm_tables.specs.Lives.{tables_gone_down, handed_out, refused}
-use Rattle.rm_tables.specs.MainEvents.{main_step}
-use Rattle.rm_tables.specs.SchedEvents.{EndsByEvent, sched_step}
-use Rattle.rm_refinement.specs.History.{History, abstract_life, live_state}
+use Rattle.rm_tables.specs.Lives.{tables_gone_down}
 use Rattle.rm_invariant.proofs.bounds.Called.{epoch_few}
 use Rattle.rm_invariant.proofs.bounds.Passable.{few_recorded}
 use Rattle.rm_invariant.proofs.measure.Lives.{hand_lighter}

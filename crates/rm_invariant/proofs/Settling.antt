@@ -1,10 +1,7 @@
 -- An open life with nothing in flight owes nothing, and its segment may settle.
-use Rattle.std.proofs.Common.{◌≡◌, [], true, refl, sym, subst}
+use Rattle.rm_invariant.proofs.Common.{◌≡◌, [], true, refl, sym, subst, Records, records, Tables, History, abstract_life}
 use Rattle.rm_types.specs.declared.entries.Entry.TheVariants.{Settled}
-use Rattle.rm_types.specs.Records.{Records, records}
 use Rattle.rm_model.specs.Owed.{Owed}
-use Rattle.rm_tables.specs.declared.tables.Tables.{Tables}
-use Rattle.rm_refinement.specs.History.{History, abstract_life}
 use Rattle.rm_invariant.specs.events.Here.{AreServed}
 use Rattle.rm_invariant.proofs.messages.Marked.{none_marked, still_on_way}
 use Rattle.rm_invariant.proofs.resting.Whole.{owes_nothing}

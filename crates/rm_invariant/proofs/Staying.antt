@@ -1,50 +1,18 @@
 -- What each move of an open life leaves as it is.
-use Rattle.std.proofs.Common.{◌≡◌, ◌≢◌, ℕ, ◌==◌, ◌&&◌, ◌||◌, List, [], ◌∷◌, ◌++◌, Bool, true, false, nat_lt, drop, filter, map, Option, None, Some, refl, sym, ◌∙◌}
-use Rattle.std.specs.List.{list_any}
-use Rattle.std.proofs.lemmas.List.Folds.{list_any-append}
-use Rattle.rm_types.specs.declared.containers.Cause.{Cause}
+use Rattle.rm_invariant.proofs.Common.{◌≡◌, ℕ, ◌&&◌, ◌||◌, List, [], ◌∷◌, ◌++◌, Bool, true, false, drop, filter, map, Option, None, Some, refl, sym, ◌∙◌, list_any, list_any-append, Cause, Entry, AttemptId, ContainerId, ClientAsk, ClockAsk, MasterAsk, NodeAsk, Op, Reply, AttemptState, once, is_epoch_op, MainEvent, SchedEvent, NodeRow, AppRow, Current, Tables, absorbed_by, absorbed_if, main_popped, main_worked, sched_popped, sched_worked, kept, ended_by, is_masters_in, is_waiting_row, node_row, grants_on, updated_by, waits_for_master, row_of, is_on, is_released, queued_at, queued_by, queued_with, sched_step, after_client, taken_by, wished_by, after_master, is_new_to, goes_on, spoken_by, after_clock, after_node, is_next_beat, registered_by}
+use Rattle.std.proofs.Common.{◌≢◌, ◌==◌, nat_lt}
 use Rattle.rm_types.specs.declared.containers.Cause.TheVariants as causes
-use Rattle.rm_types.specs.declared.entries.Entry.{Entry}
-use Rattle.rm_types.specs.declared.ids.AttemptId.{AttemptId}
-use Rattle.rm_types.specs.declared.ids.ContainerId.{ContainerId}
-use Rattle.rm_types.specs.declared.messages.ClientAsk.{ClientAsk}
 use Rattle.rm_types.specs.declared.messages.ClientAsk.TheVariants as clients
-use Rattle.rm_types.specs.declared.messages.ClockAsk.{ClockAsk}
 use Rattle.rm_types.specs.declared.messages.ClockAsk.TheVariants as clocks
-use Rattle.rm_types.specs.declared.messages.MasterAsk.{MasterAsk}
 use Rattle.rm_types.specs.declared.messages.MasterAsk.TheVariants as masters
-use Rattle.rm_types.specs.declared.messages.NodeAsk.{NodeAsk}
 use Rattle.rm_types.specs.declared.messages.NodeAsk.TheVariants as asks
-use Rattle.rm_types.specs.declared.operations.Op.{Op}
 use Rattle.rm_types.specs.declared.operations.Op.TheVariants as ops
-use Rattle.rm_types.specs.declared.replies.Reply.{Reply}
 use Rattle.rm_types.specs.declared.replies.Reply.TheVariants as replies
 use Rattle.rm_types.proofs.TestLemmas.{never_nil}
-use Rattle.rm_states.specs.declared.attempt.states.AttemptState.{AttemptState}
 use Rattle.rm_states.specs.declared.attempt.states.AttemptState.TheVariants as attempts
 use Rattle.rm_book.specs.Books.{book_row as book_row_of}
-use Rattle.rm_model.specs.Containers.{once}
-use Rattle.rm_model.specs.Facts.{is_epoch_op}
-use Rattle.rm_tables.specs.declared.events.MainEvent.{MainEvent}
 use Rattle.rm_tables.specs.declared.events.MainEvent.TheVariants as mains
-use Rattle.rm_tables.specs.declared.events.SchedEvent.{SchedEvent}
 use Rattle.rm_tables.specs.declared.events.SchedEvent.TheVariants as scheds
-use Rattle.rm_tables.specs.declared.nodes.NodeRow.{NodeRow}
-use Rattle.rm_tables.specs.declared.rows.AppRow.{AppRow}
-use Rattle.rm_tables.specs.declared.rows.Current.{Current}
-use Rattle.rm_tables.specs.declared.tables.Tables.{Tables}
-use Rattle.rm_tables.specs.Absorbing.{absorbed_by, absorbed_if}
-use Rattle.rm_tables.specs.Actions.{main_popped, main_worked, sched_popped, sched_worked}
-use Rattle.rm_tables.specs.KeptOps.{kept}
-use Rattle.rm_tables.specs.Leaving.{ended_by, is_masters_in}
-use Rattle.rm_tables.specs.Nodes.{is_waiting_row, node_row}
-use Rattle.rm_tables.specs.Passing.{grants_on, updated_by, waits_for_master}
-use Rattle.rm_tables.specs.Rows.{row_of}
-use Rattle.rm_tables.specs.SchedEvents.{is_on, is_released, queued_at, queued_by, queued_with, sched_step}
-use Rattle.rm_client.specs.Answers.{after_client, taken_by, wished_by}
-use Rattle.rm_master.specs.Answers.{after_master, is_new_to}
-use Rattle.rm_master.specs.Told.{goes_on, spoken_by}
-use Rattle.rm_tracker.specs.Answers.{after_clock, after_node, is_next_beat, registered_by}
 use Rattle.rm_invariant.specs.events.Outcomes.{Outcome, accepts, adds, delays, ends, ends_one, follows, idles, issues, kills, loses, orders, removes, requeues, saves}
 use Rattle.rm_invariant.specs.Preserves.{KeepsFixed}
 use Rattle.rm_invariant.specs.Invariant.{NoneOpens, is_epoch_start}

@@ -1,37 +1,14 @@
 -- Each move brings the state of an application, and that of its current attempt, along a row of its table, or leaves it.
-use Rattle.std.proofs.Common.{◌≡◌, ◌⊎◌, inl, inr, ℕ, ◌+◌, length, arith, List, [], ◌∷◌, ◌++◌, Bool, true, false, nat_lt, Option, None, Some, fold, drop, option_map, refl, sym, ◌∙◌, ap, subst}
-use Rattle.rm_types.specs.declared.containers.Closing.{Closing}
-use Rattle.rm_types.specs.declared.containers.Grant.{Grant}
-use Rattle.rm_types.specs.declared.entries.Entry.{Entry}
-use Rattle.rm_types.specs.declared.ids.AppId.{AppId}
-use Rattle.rm_types.specs.declared.ids.AttemptId.{AttemptId}
-use Rattle.rm_types.specs.declared.ids.ContainerId.{ContainerId}
-use Rattle.rm_types.specs.declared.operations.How.{How}
+use Rattle.rm_invariant.proofs.Common.{◌≡◌, ◌⊎◌, inl, inr, ℕ, ◌+◌, length, arith, List, [], ◌∷◌, ◌++◌, Bool, true, false, Option, None, Some, fold, drop, refl, sym, ◌∙◌, ap, subst, Closing, Grant, Entry, AppId, AttemptId, ContainerId, How, Op, is_app, ClientAsk, ClockAsk, MasterAsk, NodeAsk, Submission, Reply, dialogue_begun, registered_row, said_row, told_row, with_answer, with_text, without_closings, after_client, submitted_row, taken_by, wished_by, after_master, is_new_to, goes_on, spoken_by, after_clock, after_node, Settings, same_app, attempts_in, found_in, next_in, AppState, next_app_state, AttemptState, AttemptChange, RowChange, MainEvent, SchedEvent, AppRow, Current, Tables, main_worked, sched_worked, after_failure, attempt_after, changed, current_after, granted, granted_at, kept, closed_in, main_step, rows_after_grant, is_retired, row_of, with_row, sched_step, closings_for, History}
+use Rattle.std.proofs.Common.{nat_lt, option_map}
 use Rattle.rm_types.specs.declared.operations.How.TheVariants as ways
-use Rattle.rm_types.specs.declared.operations.Op.{Op}
 use Rattle.rm_types.specs.declared.operations.Op.TheVariants as ops
-use Rattle.rm_types.specs.Ids.{is_app}
-use Rattle.rm_types.specs.declared.messages.ClientAsk.{ClientAsk}
 use Rattle.rm_types.specs.declared.messages.ClientAsk.TheVariants as clients
-use Rattle.rm_types.specs.declared.messages.ClockAsk.{ClockAsk}
-use Rattle.rm_types.specs.declared.messages.MasterAsk.{MasterAsk}
 use Rattle.rm_types.specs.declared.messages.MasterAsk.TheVariants as masters
-use Rattle.rm_types.specs.declared.messages.NodeAsk.{NodeAsk}
-use Rattle.rm_types.specs.declared.operations.Submission.{Submission}
-use Rattle.rm_types.specs.declared.replies.Reply.{Reply}
 use Rattle.rm_types.specs.declared.replies.Reply.TheVariants as replies
-use Rattle.rm_tables.specs.Talks.{dialogue_begun, registered_row, said_row, told_row, with_answer, with_text, without_closings}
-use Rattle.rm_client.specs.Answers.{after_client, submitted_row, taken_by, wished_by}
-use Rattle.rm_master.specs.Answers.{after_master, is_new_to}
-use Rattle.rm_master.specs.Told.{goes_on, spoken_by}
-use Rattle.rm_tracker.specs.Answers.{after_clock, after_node}
 use Rattle.rm_invariant.proofs.messages.Rows.{clock_rows, node_rows}
-use Rattle.rm_types.specs.declared.settings.Settings.{Settings}
-use Rattle.rm_types.proofs.IdLemmas.{same_app}
-use Rattle.rm_model.specs.Facts.{attempts_in}
 use Rattle.rm_states.specs.declared.app.states.AppState.TheVariants as apps
 use Rattle.rm_tables.specs.declared.events.MainEvent.TheVariants as mains
-use Rattle.rm_tables.specs.Actions.{found_in, next_in}
 use Rattle.rm_invariant.specs.events.Outcomes.{Outcome, accepts, adds, delays, ends, ends_one, follows, idles, issues, kills, loses, orders, removes, requeues, saves}
 use Rattle.rm_invariant.proofs.events.Outcomes.{main_outcome}
 use Rattle.rm_invariant.specs.apps.Invariant.{ActiveInvariant, CurrentInvariant, RowInvariant, StateInvariant, is_active}
@@ -40,36 +17,17 @@ use Rattle.rm_invariant.specs.apps.View.{view}
 use Rattle.rm_invariant.proofs.apps.Events.{at}
 use Rattle.rm_invariant.proofs.apps.Own.{active_row}
 use Rattle.rm_invariant.specs.Phases.{LifePhase, none, running, saving, shut, starting}
-use Rattle.rm_states.specs.declared.app.states.AppState.{AppState}
 use Rattle.rm_states.specs.declared.app.states.AppEvent.{AppEvent}
 use Rattle.rm_states.specs.declared.app.states.AppEvent.TheVariants as app_events
-use Rattle.rm_states.specs.app.Table.{next_app_state}
 use Rattle.rm_states.proofs.app.Rows.{stays_or_row as app_stays_or_row}
-use Rattle.rm_states.specs.declared.attempt.states.AttemptState.{AttemptState}
 use Rattle.rm_states.specs.declared.attempt.states.AttemptState.TheVariants as attempts
 use Rattle.rm_states.specs.declared.attempt.states.AttemptEvent.{AttemptEvent}
 use Rattle.rm_states.specs.declared.attempt.states.AttemptEvent.TheVariants as attempt_events
 use Rattle.rm_states.specs.attempt.Table.{next_attempt_state as next_attempt_state}
 use Rattle.rm_states.proofs.attempt.Rows.{stays_or_row as attempt_stays_or_row}
-use Rattle.rm_tables.specs.declared.changes.AttemptChange.{AttemptChange}
 use Rattle.rm_tables.specs.declared.changes.AttemptChange.TheVariants as of_attempt
-use Rattle.rm_tables.specs.declared.changes.RowChange.{RowChange}
 use Rattle.rm_tables.specs.declared.changes.RowChange.TheVariants as of_app
-use Rattle.rm_tables.specs.declared.events.MainEvent.{MainEvent}
-use Rattle.rm_tables.specs.declared.events.SchedEvent.{SchedEvent}
-use Rattle.rm_tables.specs.declared.rows.AppRow.{AppRow}
-use Rattle.rm_tables.specs.declared.rows.Current.{Current}
-use Rattle.rm_tables.specs.declared.tables.Tables.{Tables}
-use Rattle.rm_tables.specs.Actions.{main_worked, sched_worked}
-use Rattle.rm_tables.specs.Changes.{after_failure, attempt_after, changed, current_after, granted, granted_at, changed_state}
-use Rattle.rm_tables.specs.KeptOps.{kept}
-use Rattle.rm_tables.specs.Leaving.{closed_in}
-use Rattle.rm_tables.specs.MainEvents.{main_step}
-use Rattle.rm_tables.specs.Passing.{rows_after_grant}
-use Rattle.rm_tables.specs.Rows.{is_retired, row_of, with_row}
-use Rattle.rm_tables.specs.SchedEvents.{sched_step}
-use Rattle.rm_refinement.specs.Agreement.{closings_for}
-use Rattle.rm_refinement.specs.History.{History}
+use Rattle.rm_tables.specs.Changes.{changed_state}
 use Rattle.rm_invariant.specs.apps.View.{changed_if, gone_if, put_if}
 use Rattle.rm_invariant.proofs.apps.Found.{row_changed, row_put}
 use Rattle.rm_invariant.proofs.apps.Removing.{row_gone}

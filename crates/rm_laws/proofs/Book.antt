@@ -1,25 +1,10 @@
 -- The rows of the book are those that the log says.
-use Rattle.std.proofs.Common.{◌≡◌, ℕ, List, [], ◌∷◌, Bool, true, false, ◌||◌, ◌&&◌, not, if◌then◌else◌, Some, map, filter, refl, sym, ap, subst, ◌∙◌}
-use Rattle.std.specs.Str.{bytes_eq}
-use Rattle.std.proofs.lemmas.List.Folds.{list_any-append}
+use Rattle.rm_laws.proofs.Common.{◌≡◌, ℕ, List, [], ◌∷◌, Bool, true, false, ◌||◌, ◌&&◌, not, if◌then◌else◌, Some, map, filter, refl, sym, ap, subst, ◌∙◌, bytes_eq, list_any-append, any-filter_same, and_parts, Grant, Held, ContainerId, is_container, same_text, same_container, NodeState, Row, Scene, has_container, ids_on, is_living, lives_elsewhere, lives_on, book_taken, row_absorbed, row_taken, taken_of, is_held, judged_node, row_granted}
 use Rattle.std.proofs.lemmas.List.Sorted.{list_any-IsPermutation}
-use Rattle.std.proofs.lemmas.Map.Views.{any-filter_same}
-use Rattle.std.proofs.lemmas.Bool.{and_parts}
 use Rattle.rm_types.specs.declared.containers.ContainerState.TheVariants.{Running}
-use Rattle.rm_types.specs.declared.containers.Grant.{Grant}
-use Rattle.rm_types.specs.declared.containers.Held.{Held}
-use Rattle.rm_types.specs.declared.ids.ContainerId.{ContainerId}
-use Rattle.rm_types.specs.Ids.{is_container}
 use Rattle.rm_types.specs.Order.{Ascend}
-use Rattle.rm_types.proofs.TestLemmas.{same_text, and_false}
-use Rattle.rm_types.proofs.IdLemmas.{same_container}
-use Rattle.rm_model.specs.State.{NodeState, Row, Scene}
-use Rattle.rm_model.specs.Facts.{has_container}
-use Rattle.rm_model.specs.Containers.{ids_on, is_living, lives_elsewhere, lives_on}
-use Rattle.rm_model.specs.Absorbing.{book_taken, not_taken, row_absorbed, row_taken, taken_of}
-use Rattle.rm_types.specs.Containers.{is_held}
-use Rattle.rm_model.specs.Nodes.{judged_node}
-use Rattle.rm_model.specs.Passing.{row_granted}
+use Rattle.rm_types.proofs.TestLemmas.{and_false}
+use Rattle.rm_model.specs.Absorbing.{not_taken}
 use Rattle.rm_laws.proofs.Lists.{Each}
 use Rattle.rm_laws.proofs.Taken.{each_taken}
 

@@ -1,30 +1,12 @@
 -- What a node is to clean by the answer to a new beat: the strangers that it reports where it is ready, and else nothing.
-use Rattle.std.proofs.Common.{◌≡◌, ℕ, ◌+◌, List, [], ◌∷◌, Bool, true, false, ◌||◌, not, ◌==◌, if◌then◌else◌, Option, None, Some, filter, refl, sym, ap, subst, arith, ◌∙◌}
-use Rattle.std.proofs.lemmas.Bool.Decides.{nat_tests}
-use Rattle.std.proofs.lemmas.Map.Views.{any-filter_same}
-use Rattle.std.proofs.lemmas.Bool.{not-true}
-use Rattle.rm_types.specs.declared.containers.Held.{Held}
-use Rattle.rm_types.specs.declared.entries.Entry.{Entry}
-use Rattle.rm_types.specs.declared.entries.Entry.TheVariants.{Served}
-use Rattle.rm_types.specs.declared.ids.ContainerId.{ContainerId}
+use Rattle.rm_laws.proofs.Common.{◌≡◌, ℕ, ◌+◌, List, [], ◌∷◌, Bool, true, false, ◌||◌, not, ◌==◌, if◌then◌else◌, Option, None, Some, filter, refl, sym, ap, subst, arith, ◌∙◌, nat_tests, any-filter_same, not-true, Held, Entry, Served, ContainerId, Op, Settings, is_container, is_some_and, same_container, LifeState, Manager, NodeState, Scene, scene, opening_state, has_container, lives_on, is_held, judged_node, reported, Allowed, after, after_all, AllAllowed}
 use Rattle.rm_types.specs.declared.messages.NodeAsk.TheVariants.{Beat as NodeBeat}
 use Rattle.rm_types.specs.declared.messages.Message.TheVariants.{Node as FromNode}
 use Rattle.rm_types.specs.declared.messages.Sender.{Sender}
-use Rattle.rm_types.specs.declared.operations.Op.{Op}
 use Rattle.rm_types.specs.declared.replies.Reply.TheVariants as replies
-use Rattle.rm_types.specs.declared.settings.Settings.{Settings}
-use Rattle.rm_types.specs.Ids.{is_container}
-use Rattle.rm_types.specs.Records.{is_some_and}
-use Rattle.rm_types.proofs.IdLemmas.{same_container}
-use Rattle.rm_model.specs.State.{LifeState, Manager, NodeState, Scene, scene, opening_state}
-use Rattle.rm_model.specs.Facts.{has_container}
-use Rattle.rm_model.specs.Containers.{lives_on, once}
-use Rattle.rm_types.specs.Containers.{is_held}
-use Rattle.rm_model.specs.Nodes.{is_ready, is_waiting, judged_node}
-use Rattle.rm_model.specs.NodeReplies.{beat_reply, strangers, reported}
-use Rattle.rm_model.specs.Rules.{Allowed}
-use Rattle.rm_model.specs.Changes.{after, after_all}
-use Rattle.rm_model.specs.Lawful.{AllAllowed}
+use Rattle.rm_model.specs.Containers.{once}
+use Rattle.rm_model.specs.Nodes.{is_ready, is_waiting}
+use Rattle.rm_model.specs.NodeReplies.{beat_reply, strangers}
 use Rattle.rm_laws.specs.Laws.{CleansStrangers, NewBeat, is_new_beat, is_ready_in, lives_on_node, state_at}
 use Rattle.rm_laws.proofs.Lists.{Each, each_all, each-filter, each-map, each-passing}
 use Rattle.rm_laws.proofs.Phases.{state}

@@ -1,7 +1,5 @@
 -- How many of a list pass a test.
-use Rattle.std.proofs.Common.{◌≡◌, ℕ, ◌+◌, ◌≤◌, List, [], ◌∷◌, ◌++◌, Bool, true, false, ◌||◌, cond, map, filter, count_by, refl, ap, arith}
-use Rattle.std.specs.List.{list_any}
-use Rattle.std.proofs.lemmas.List.Sums.{sum_by-append}
+use Rattle.rm_laws.proofs.Common.{◌≡◌, ℕ, ◌+◌, ◌≤◌, List, [], ◌∷◌, ◌++◌, Bool, true, false, ◌||◌, cond, map, filter, count_by, refl, ap, arith, list_any, sum_by-append}
 
 module _ {X : Type 0} (p : X → Bool) where
   pub count_join : (xs ys : List X) → count_by p (xs ++ ys) ≡ count_by p xs + count_by p ys

@@ -1,15 +1,5 @@
 -- The kept end of an application stays, until its Remove.
-use Rattle.std.proofs.Common.{◌≡◌, ℕ, ◌+◌, ◌≤◌, List, [], ◌∷◌, ◌++◌, Bool, true, false, not, cond, if◌then◌else◌, Option, None, Some, is_some, map, filter, find, count_by, refl, sym, ap, subst, arith, ◌∙◌}
-use Rattle.std.proofs.lemmas.Bool.Decides.{nat_tests}
-use Rattle.std.proofs.lemmas.List.Sums.{fold_push}
-use Rattle.rm_types.specs.declared.ids.AppId.{AppId}
-use Rattle.rm_types.specs.declared.operations.How.{How}
-use Rattle.rm_types.specs.declared.operations.Op.{Op}
-use Rattle.rm_types.specs.declared.operations.Op.TheVariants.{Epoch, App, Attempt, AttemptEnd, AppEnd, Remove}
-use Rattle.rm_types.specs.declared.records.AppRecord.{AppRecord}
-use Rattle.rm_types.specs.Ids.{is_app}
-use Rattle.rm_types.specs.Records.{Records, records, recorded, no_records, record_of, with_record}
-use Rattle.rm_model.specs.Facts.{end_in, is_app_end_op, is_remove_op}
+use Rattle.rm_laws.proofs.Common.{◌≡◌, ℕ, ◌+◌, ◌≤◌, List, [], ◌∷◌, ◌++◌, Bool, true, false, not, cond, if◌then◌else◌, Option, None, Some, is_some, map, filter, find, count_by, refl, sym, ap, subst, arith, ◌∙◌, nat_tests, fold_push, AppId, How, Op, Epoch, App, Attempt, AttemptEnd, AppEnd, Remove, AppRecord, is_app, Records, records, recorded, no_records, record_of, with_record, end_in, is_app_end_op, is_remove_op}
 use Rattle.rm_laws.proofs.Counts.{count_front, count_one}
 use Rattle.rm_laws.proofs.Views.{apart}
 

@@ -1,25 +1,5 @@
 -- An end that was told stays.
-use Rattle.std.proofs.Common.{◌≡◌, ◌⊎◌, ℕ, ◌+◌, ◌≤◌, List, [], ◌∷◌, ◌++◌, Bool, true, false, ◌||◌, cond, Option, None, Some, is_some, take, drop, refl, sym, ap, subst, arith, ◌∙◌, inl, inr, append-nil}
-use Rattle.std.specs.Prelude.{slice_get}
-use Rattle.std.specs.List.{list_any}
-use Rattle.std.proofs.lemmas.List.Folds.{list_any-append}
-use Rattle.std.proofs.lemmas.List.Sums.{fold_push}
-use Rattle.std.proofs.lemmas.Bool.{or_parts}
-use Rattle.rm_types.specs.declared.entries.Entry.{Entry}
-use Rattle.rm_types.specs.declared.entries.Entry.TheVariants.{Opened, Issued, Kept}
-use Rattle.rm_types.specs.declared.ids.AppId.{AppId}
-use Rattle.rm_types.specs.declared.operations.How.{How}
-use Rattle.rm_types.specs.declared.operations.Op.{Op}
-use Rattle.rm_types.specs.declared.operations.Op.TheVariants.{Epoch, App, Attempt, AttemptEnd, AppEnd, Remove}
-use Rattle.rm_types.specs.declared.settings.Settings.{Settings}
-use Rattle.rm_types.specs.Ids.{is_app}
-use Rattle.rm_types.specs.Records.{Records, records, recorded, no_records}
-use Rattle.rm_types.proofs.IdLemmas.{same_app}
-use Rattle.rm_model.specs.State.{LifeState, Manager, scene}
-use Rattle.rm_model.specs.Facts.{is_app_end_op, is_remove_op}
-use Rattle.rm_model.specs.Rules.{Allowed, AllowedIn}
-use Rattle.rm_model.specs.Changes.{after, after_all}
-use Rattle.rm_model.specs.Lawful.{AllAllowed}
+use Rattle.rm_laws.proofs.Common.{◌≡◌, ◌⊎◌, ℕ, ◌+◌, ◌≤◌, List, [], ◌∷◌, ◌++◌, Bool, true, false, ◌||◌, cond, Option, None, Some, is_some, take, drop, refl, sym, ap, subst, arith, ◌∙◌, inl, inr, append-nil, slice_get, list_any, list_any-append, fold_push, or_parts, Entry, Opened, Issued, Kept, AppId, How, Op, Epoch, App, Attempt, AttemptEnd, AppEnd, Remove, Settings, is_app, Records, records, recorded, no_records, same_app, LifeState, Manager, scene, is_app_end_op, is_remove_op, Allowed, AllowedIn, after, after_all, AllAllowed}
 use Rattle.rm_laws.proofs.Phases.{state}
 use Rattle.rm_laws.proofs.Recorded.{grow, grow_all}
 use Rattle.rm_laws.proofs.Endings.{OneEnd, at_most_one, awaiting_ends, end_of, end_stays, ends_at, one_end_kept}

@@ -1,31 +1,18 @@
 -- The law of ends: what entries tell of an end, and that it stays.
-use Rattle.std.proofs.Common.{◌≡◌, ℕ, List, [], ◌∷◌, ◌++◌, Bool, true, false, ◌||◌, ◌&&◌, not, if◌then◌else◌, Option, None, Some, is_some, refl, sym, ap, subst, arith, ◌∙◌}
-use Rattle.rm_types.specs.declared.entries.Entry.{Entry}
-use Rattle.rm_types.specs.declared.entries.Entry.TheVariants.{Opened, Served}
-use Rattle.rm_types.specs.declared.ids.AppId.{AppId}
+use Rattle.rm_laws.proofs.Common.{◌≡◌, ℕ, List, [], ◌∷◌, ◌++◌, Bool, true, false, ◌||◌, ◌&&◌, not, if◌then◌else◌, Option, None, Some, is_some, refl, sym, ap, subst, arith, ◌∙◌, Entry, Opened, Served, AppId, Register, Finish, Allocate, How, Op, Submission, Settings, records, LifeState, Manager, Scene, scene, opening_state, is_app_op, submission_of, is_registered, Allowed, after, after_all, AllAllowed}
 use Rattle.rm_types.specs.declared.messages.ClientAsk.TheVariants.{New as AskNew, Submit as AskSubmit, Report as AskReport, Kill as AskKill}
-use Rattle.rm_types.specs.declared.messages.MasterAsk.TheVariants.{Register, Finish, Allocate}
 use Rattle.rm_types.specs.declared.messages.Message.TheVariants.{Client as FromClient, Master as FromMaster, Node as FromNode, Clock as FromClock}
-use Rattle.rm_types.specs.declared.operations.How.{How}
 use Rattle.rm_types.specs.declared.operations.How.TheVariants as ways
-use Rattle.rm_types.specs.declared.operations.Op.{Op}
-use Rattle.rm_types.specs.declared.operations.Submission.{Submission}
 use Rattle.rm_types.specs.declared.replies.Denial.{Denial}
 use Rattle.rm_types.specs.declared.replies.Reply.TheVariants as replies
 use Rattle.rm_types.specs.declared.replies.Report.{Report}
 use Rattle.rm_types.specs.declared.replies.StateWord.{StateWord}
 use Rattle.rm_types.specs.declared.replies.StateWord.TheVariants as states
-use Rattle.rm_types.specs.declared.settings.Settings.{Settings}
 use Rattle.rm_types.specs.Lists.{is_nil}
-use Rattle.rm_types.specs.Records.{records}
-use Rattle.rm_model.specs.State.{LifeState, Manager, Scene, scene, opening_state}
-use Rattle.rm_model.specs.Facts.{awaits, is_accepted, is_app_op, is_kept, kept_attempts, kept_end, submission_of}
-use Rattle.rm_model.specs.Attempts.{is_last, is_finishing, is_registered}
+use Rattle.rm_model.specs.Facts.{awaits, is_accepted, is_kept, kept_attempts, kept_end}
+use Rattle.rm_model.specs.Attempts.{is_last, is_finishing}
 use Rattle.rm_model.specs.ClientReplies.{end_text, end_word, going_word, is_running, kill_reply, report_of, state_word}
 use Rattle.rm_model.specs.MasterReplies.{finished_issued}
-use Rattle.rm_model.specs.Rules.{Allowed}
-use Rattle.rm_model.specs.Changes.{after, after_all}
-use Rattle.rm_model.specs.Lawful.{AllAllowed}
 use Rattle.rm_laws.specs.Laws.{EndsStay, Passage, ReportsNext, IsRemembered, entry_ended, is_final_word, told_by}
 use Rattle.rm_laws.proofs.Phases.{state}
 use Rattle.rm_laws.proofs.Recorded.{none_removed}

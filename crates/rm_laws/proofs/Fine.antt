@@ -1,24 +1,9 @@
 -- What holds of each record of a store that has no stray operation: an ended application has ended attempts, and attempts are
 -- numbered up to how many they are.
-use Rattle.std.proofs.Common.{◌≡◌, ℕ, ◌+◌, List, [], ◌∷◌, ◌++◌, length, Bool, true, false, ◌&&◌, if◌then◌else◌, ◌==◌, Option, None, Some, is_some, is_none, option_map, map, fold, refl, sym, ap, subst, arith, ◌∙◌, length-append}
-use Rattle.std.specs.Prelude.{nat_le}
-use Rattle.std.specs.List.{list_all}
-use Rattle.std.proofs.lemmas.Bool.Decides.{nat_tests}
+use Rattle.rm_laws.proofs.Common.{◌≡◌, ℕ, ◌+◌, List, [], ◌∷◌, ◌++◌, length, Bool, true, false, ◌&&◌, if◌then◌else◌, ◌==◌, Option, None, Some, is_some, is_none, map, fold, refl, sym, ap, subst, arith, ◌∙◌, nat_le, list_all, nat_tests, and_parts, AppId, AttemptId, ContainerId, How, Op, Epoch, App, Attempt, AttemptEnd, AppEnd, Remove, AppRecord, AttemptRecord, is_app, is_attempt, Records, recorded, record_of, with_record, with_end, fits_records, all_ended, is_some_and, last_attempt, none_from_is_none, same_app}
+use Rattle.std.proofs.Common.{option_map, length-append}
 use Rattle.std.proofs.lemmas.List.Folds.{list_all-append}
-use Rattle.std.proofs.lemmas.Bool.{and_parts}
-use Rattle.rm_types.specs.declared.ids.AppId.{AppId}
-use Rattle.rm_types.specs.declared.ids.AttemptId.{AttemptId}
-use Rattle.rm_types.specs.declared.ids.ContainerId.{ContainerId}
-use Rattle.rm_types.specs.declared.operations.How.{How}
-use Rattle.rm_types.specs.declared.operations.Op.{Op}
-use Rattle.rm_types.specs.declared.operations.Op.TheVariants.{Epoch, App, Attempt, AttemptEnd, AppEnd, Remove}
-use Rattle.rm_types.specs.declared.records.AppRecord.{AppRecord}
-use Rattle.rm_types.specs.declared.records.AttemptRecord.{AttemptRecord}
-use Rattle.rm_types.specs.Ids.{is_app, is_attempt}
-use Rattle.rm_types.specs.Records.{Records, recorded, record_of, with_record, with_end, fits_records, all_ended, is_some_and, last_attempt}
 use Rattle.rm_types.proofs.EndLemmas.{length-ended, all_ended-map, id_ended}
-use Rattle.rm_types.proofs.TestLemmas.{none_from_is_none}
-use Rattle.rm_types.proofs.IdLemmas.{same_app}
 use Rattle.rm_laws.proofs.Views.{Fitting, find_changed, find_left, find_own_end, is_of, other_view}
 
 pub record FineApp (app : AppRecord) : Type 0 where

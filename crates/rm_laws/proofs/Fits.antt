@@ -1,20 +1,11 @@
 -- What stands on a node fits what it offers.
-use Rattle.std.proofs.Common.{◌≡◌, ◌⊎◌, ℕ, ◌<◌, ◌≤◌, List, Bool, true, false, not, if◌then◌else◌, Option, None, Some, map, filter, count_by, refl, sym, ap, arith, ◌∙◌, inl, inr}
-use Rattle.std.specs.List.{list_any}
-use Rattle.std.specs.Str.{bytes_eq}
-use Rattle.rm_types.specs.declared.ids.ContainerId.{ContainerId}
-use Rattle.rm_types.specs.declared.messages.Message.{Message}
-use Rattle.rm_types.specs.declared.replies.Reply.{Reply}
+use Rattle.rm_laws.proofs.Common.{◌≡◌, ◌⊎◌, ℕ, ◌<◌, ◌≤◌, List, Bool, true, false, not, if◌then◌else◌, Option, None, Some, map, filter, count_by, refl, sym, ap, arith, ◌∙◌, inl, inr, list_any, bytes_eq, ContainerId, Message, Reply, Resource, is_container, LifeState, NodeState, Row, Scene, has_container, is_living, judged_node, tidied, with_judged_node, allocates, row_allocated, beats, expired, nodes_registered, reported, row_beaten, life_after}
 use Rattle.rm_types.specs.declared.replies.Reply.TheVariants as replies
-use Rattle.rm_types.specs.declared.resources.Resource.{Resource}
-use Rattle.rm_types.specs.Ids.{is_container}
-use Rattle.rm_model.specs.State.{LifeState, NodeState, Registration, Row, Scene}
-use Rattle.rm_model.specs.Facts.{has_container}
-use Rattle.rm_model.specs.Containers.{is_living, released_by}
-use Rattle.rm_model.specs.Nodes.{judged_node, tidied, tidied_node, with_judged_node}
-use Rattle.rm_model.specs.MasterReplies.{allocates, row_allocated, untold_rows}
-use Rattle.rm_model.specs.NodeReplies.{beaten, beats, expired, new_node, nodes_registered, node_after_registration, reported, row_beaten}
-use Rattle.rm_model.specs.Replies.{life_after}
+use Rattle.rm_model.specs.State.{Registration}
+use Rattle.rm_model.specs.Containers.{released_by}
+use Rattle.rm_model.specs.Nodes.{tidied_node}
+use Rattle.rm_model.specs.MasterReplies.{untold_rows}
+use Rattle.rm_model.specs.NodeReplies.{beaten, new_node, node_after_registration}
 use Rattle.rm_laws.proofs.Messages.{Any, Changes, either, served}
 use Rattle.rm_laws.proofs.Grants.{made}
 use Rattle.rm_laws.proofs.Told.{any-filter, any-map}

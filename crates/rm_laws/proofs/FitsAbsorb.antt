@@ -1,24 +1,14 @@
 -- An absorption leaves on a node what fits its new capability.
-use Rattle.std.proofs.Common.{◌≡◌, ℕ, ◌+◌, ◌-◌, ◌<◌, ◌≤◌, List, [], ◌∷◌, ◌++◌, Bool, true, false, ◌||◌, ◌&&◌, not, cond, if◌then◌else◌, Option, None, Some, is_some, map, filter, count_by, refl, sym, ap, subst, arith, ◌∙◌}
-use Rattle.std.specs.Prelude.{sum_by, option_map, nat_lt}
-use Rattle.std.specs.Str.{bytes_eq}
-use Rattle.std.proofs.lemmas.Bool.Decides.{nat_tests}
-use Rattle.std.proofs.lemmas.List.Sums.{sum_by-append}
-use Rattle.std.proofs.lemmas.Bool.{or_right}
-use Rattle.rm_types.specs.declared.containers.Held.{Held}
-use Rattle.rm_types.specs.declared.ids.ContainerId.{ContainerId}
-use Rattle.rm_types.specs.declared.resources.Resource.{Resource}
+use Rattle.rm_laws.proofs.Common.{◌≡◌, ℕ, ◌+◌, ◌<◌, ◌≤◌, List, [], ◌∷◌, ◌++◌, Bool, true, false, ◌||◌, ◌&&◌, not, cond, if◌then◌else◌, Option, None, Some, is_some, map, filter, count_by, refl, sym, ap, subst, arith, ◌∙◌, sum_by, nat_lt, bytes_eq, nat_tests, sum_by-append, or_right, Held, ContainerId, Resource, is_container, same_container, NodeState, Row, Scene, has_container, ids_on, lives_on, taken_of, is_held}
+use Rattle.std.proofs.Common.{◌-◌}
+use Rattle.std.specs.Prelude.{option_map}
 use Rattle.rm_types.specs.Order.{Ascend}
-use Rattle.rm_types.specs.Ids.{is_container}
 use Rattle.rm_types.specs.Passes.{total_of}
-use Rattle.rm_types.proofs.IdLemmas.{container_back, same_container}
+use Rattle.rm_types.proofs.IdLemmas.{container_back}
 use Rattle.rm_types.proofs.TestLemmas.{found_passes}
-use Rattle.rm_model.specs.State.{NodeState, Row, Scene}
-use Rattle.rm_model.specs.Facts.{has_container}
 use Rattle.rm_model.specs.Attempts.{attempt_was_first}
-use Rattle.rm_model.specs.Containers.{ids_on, lives_on, judged_row}
-use Rattle.rm_model.specs.Absorbing.{as_booked, as_counted, as_reported, left_beside, not_taken, taken_of}
-use Rattle.rm_types.specs.Containers.{is_held}
+use Rattle.rm_model.specs.Containers.{judged_row}
+use Rattle.rm_model.specs.Absorbing.{as_booked, as_counted, as_reported, left_beside, not_taken}
 use Rattle.rm_laws.proofs.Lists.{Each, each-append}
 use Rattle.rm_laws.proofs.Book.{ended_test}
 use Rattle.rm_laws.proofs.Told.{some_same}

@@ -1,21 +1,7 @@
 -- A pass keeps what stands on a node within what it offers.
-use Rattle.std.proofs.Common.{◌≡◌, ◌≢◌, ◌⊎◌, ℕ, ◌+◌, ◌<◌, ◌≤◌, List, [], ◌∷◌, ◌++◌, Bool, true, false, ◌||◌, cond, if◌then◌else◌, Option, None, Some, map, refl, sym, ap, subst, arith, ◌∙◌, inl, inr}
-use Rattle.std.specs.Prelude.{sum_by, option_and_then}
-use Rattle.std.specs.Str.{bytes_eq}
-use Rattle.std.proofs.lemmas.List.Folds.{list_any-append}
-use Rattle.std.proofs.lemmas.List.Sums.{sum_by-append}
+use Rattle.rm_laws.proofs.Common.{◌≡◌, ◌≢◌, ◌⊎◌, ℕ, ◌+◌, ◌<◌, ◌≤◌, List, [], ◌∷◌, ◌++◌, Bool, true, false, ◌||◌, cond, if◌then◌else◌, Option, None, Some, map, refl, sym, ap, subst, arith, ◌∙◌, inl, inr, sum_by, option_and_then, bytes_eq, list_any-append, sum_by-append, Grant, ContainerId, Resource, Settings, is_container, same_container, NodeState, Row, Scene, is_living, judged_node, with_judged_node, first_fit_on, asks_of, pass_node, pass_of, row_granted, turns, MayPass}
 use Rattle.std.proofs.lemmas.Slice.Eq.{bytes_eq-Decides}
-use Rattle.rm_types.specs.declared.containers.Grant.{Grant}
-use Rattle.rm_types.specs.declared.ids.ContainerId.{ContainerId}
-use Rattle.rm_types.specs.declared.resources.Resource.{Resource}
-use Rattle.rm_types.specs.declared.settings.Settings.{Settings}
-use Rattle.rm_types.specs.Ids.{is_container}
-use Rattle.rm_types.proofs.IdLemmas.{same_container}
-use Rattle.rm_model.specs.State.{NodeState, Row, Scene}
-use Rattle.rm_model.specs.Containers.{is_living}
-use Rattle.rm_model.specs.Nodes.{judged_node, with_judged_node}
-use Rattle.rm_model.specs.Passing.{first_fit_on, asks_of, pass_node, pass_of, passed, passes, row_granted, turns}
-use Rattle.rm_model.specs.Rules.{MayPass}
+use Rattle.rm_model.specs.Passing.{passed, passes}
 use Rattle.rm_laws.proofs.Lists.{Each, Pairs, each-map}
 use Rattle.rm_laws.proofs.Granting.{AreNew, made_to}
 use Rattle.rm_laws.proofs.Grants.{made, pass_new, made_append, made_map}

@@ -1,11 +1,5 @@
 -- What lives give by a number of their own, that rises from life to life: what may be given from a state on.
-use Rattle.std.proofs.Common.{◌≡◌, ◌⊎◌, ℕ, ◌+◌, ◌<◌, ◌≤◌, List, [], ◌∷◌, ◌++◌, Bool, true, false, Option, None, Some, take, sym, subst, arith, ◌∙◌, inl, inr, append-nil}
-use Rattle.std.specs.Prelude.{slice_get}
-use Rattle.rm_types.specs.declared.operations.Op.{Op}
-use Rattle.rm_types.specs.declared.operations.Op.TheVariants.{Epoch}
-use Rattle.rm_model.specs.State.{LifeState, Manager}
-use Rattle.rm_model.specs.Facts.{is_epoch_op}
-use Rattle.rm_model.specs.Changes.{life_keeps}
+use Rattle.rm_laws.proofs.Common.{◌≡◌, ◌⊎◌, ℕ, ◌+◌, ◌<◌, ◌≤◌, List, [], ◌∷◌, ◌++◌, Bool, true, false, Option, None, Some, take, sym, subst, arith, ◌∙◌, inl, inr, append-nil, slice_get, Op, Epoch, LifeState, Manager, is_epoch_op, life_keeps}
 use Rattle.rm_laws.proofs.Stamps.{IsBetween, IsClosed, IsOpened, Phase}
 use Rattle.rm_laws.proofs.Phases.{first_other, own_epoch}
 

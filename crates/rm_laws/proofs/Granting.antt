@@ -1,15 +1,5 @@
 -- The sequences that a pass gives go on from those that were given.
-use Rattle.std.proofs.Common.{◌≡◌, ◌≢◌, ℕ, zero, suc, ◌+◌, ◌<◌, ◌≤◌, List, [], ◌∷◌, ◌++◌, cond, map, fold, count_by, refl, subst, arith, append-nil, append_assoc}
-use Rattle.std.specs.List.{range_with_len}
-use Rattle.std.proofs.lemmas.List.Sums.{sum_by-append}
-use Rattle.rm_types.specs.declared.containers.Ask.{Ask}
-use Rattle.rm_types.specs.declared.containers.Grant.{Grant}
-use Rattle.rm_types.specs.declared.containers.Turn.{Turn}
-use Rattle.rm_types.specs.declared.ids.AttemptId.{AttemptId}
-use Rattle.rm_types.specs.declared.ids.ContainerId.{ContainerId}
-use Rattle.rm_types.specs.declared.resources.Resource.{Resource}
-use Rattle.rm_types.specs.Ids.{is_attempt}
-use Rattle.rm_types.specs.Passes.{PassNode, fitting, turn_grant, by_priority, left_of, seq_after, with_granted, with_turn}
+use Rattle.rm_laws.proofs.Common.{◌≡◌, ◌≢◌, ℕ, zero, suc, ◌+◌, ◌<◌, ◌≤◌, List, [], ◌∷◌, ◌++◌, cond, map, fold, count_by, refl, subst, arith, append-nil, append_assoc, range_with_len, sum_by-append, Ask, Grant, Turn, AttemptId, ContainerId, Resource, is_attempt, PassNode, fitting, turn_grant, by_priority, left_of, seq_after, with_granted, with_turn}
 use Rattle.rm_types.proofs.IdLemmas.{attempt_itself}
 use Rattle.rm_laws.proofs.Lists.{Each, Pairs, each-append, each-map, pairs-append}
 

@@ -1,35 +1,14 @@
 -- Grants differ.
-use Rattle.std.proofs.Common.{◌≡◌, ◌≢◌, ℕ, ◌+◌, ◌<◌, ◌≤◌, List, [], ◌∷◌, ◌++◌, Bool, true, false, if◌then◌else◌, Option, None, Some, map, count_by, refl, sym, ap, subst, arith, ◌∙◌, inl, inr, flat_map}
-use Rattle.std.specs.Prelude.{IsSomeAnd}
-use Rattle.rm_types.specs.declared.containers.Grant.{Grant}
-use Rattle.rm_types.specs.declared.containers.Turn.{Turn}
-use Rattle.rm_types.specs.declared.entries.Entry.{Entry}
-use Rattle.rm_types.specs.declared.entries.Entry.TheVariants.{Opened, Issued, Kept, Served, Absorbed, Pass, Ordered, Ended, Down}
-use Rattle.rm_types.specs.declared.ids.AttemptId.{AttemptId}
-use Rattle.rm_types.specs.declared.ids.ContainerId.{ContainerId}
+use Rattle.rm_laws.proofs.Common.{◌≡◌, ◌≢◌, ℕ, ◌+◌, ◌<◌, ◌≤◌, List, [], ◌∷◌, ◌++◌, Bool, true, false, if◌then◌else◌, Option, None, Some, map, count_by, refl, sym, ap, subst, arith, ◌∙◌, inl, inr, flat_map, IsSomeAnd, Grant, Turn, Entry, Opened, Issued, Kept, Served, Absorbed, Pass, Ended, Down, AttemptId, ContainerId, Register, Finish, Allocate, Message, Op, Epoch, App, Attempt, AttemptEnd, AppEnd, Remove, AppRecord, Reply, Resource, Settings, is_attempt, LifeState, Manager, NodeState, Scene, scene, opening_state, AllAllowed, judged_node, first_fit_on, asks_of, pass_node, pass_of, turns, life_after, reply_to, Allowed, AllowedIn, MayOpen, MayPass, MayIssue, after, life_issues, life_keeps}
+use Rattle.rm_types.specs.declared.entries.Entry.TheVariants.{Ordered}
 use Rattle.rm_types.specs.declared.messages.ClientAsk.TheVariants.{New as AskNew, Submit as AskSubmit, Report as AskReport, Kill as AskKill}
 use Rattle.rm_types.specs.declared.messages.ClockAsk.TheVariants.{Tick, ExpireNode, ExpireMaster}
-use Rattle.rm_types.specs.declared.messages.MasterAsk.TheVariants.{Register, Finish, Allocate}
 use Rattle.rm_types.specs.declared.messages.NodeAsk.TheVariants.{Register as NodeRegister, Beat as NodeBeat}
-use Rattle.rm_types.specs.declared.messages.Message.{Message}
 use Rattle.rm_types.specs.declared.messages.Message.TheVariants.{Client as FromClient, Master as FromMaster, Node as FromNode, Clock as FromClock}
-use Rattle.rm_types.specs.declared.operations.Op.{Op}
-use Rattle.rm_types.specs.declared.operations.Op.TheVariants.{Epoch, App, Attempt, AttemptEnd, AppEnd, Remove}
-use Rattle.rm_types.specs.declared.records.AppRecord.{AppRecord}
-use Rattle.rm_types.specs.declared.replies.Reply.{Reply}
 use Rattle.rm_types.specs.declared.replies.Reply.TheVariants as replies
-use Rattle.rm_types.specs.declared.resources.Resource.{Resource}
-use Rattle.rm_types.specs.declared.settings.Settings.{Settings}
-use Rattle.rm_types.specs.Ids.{is_attempt}
-use Rattle.rm_model.specs.State.{LifeState, Manager, NodeState, Scene, scene, opening_state}
 use Rattle.rm_model.specs.Attempts.{attempt_at}
-use Rattle.rm_model.specs.Lawful.{AllAllowed}
-use Rattle.rm_model.specs.Nodes.{judged_node}
-use Rattle.rm_model.specs.Passing.{first_fit_on, asks_of, pass_node, pass_of, turn_of, turns}
-use Rattle.rm_model.specs.Replies.{life_after, reply_to}
-use Rattle.rm_model.specs.Rules.{Allowed, AllowedIn, MayKeep, MayOpen, MayPass}
-use Rattle.rm_model.specs.Issuing.{MayIssue}
-use Rattle.rm_model.specs.Changes.{after, life_issues, life_keeps}
+use Rattle.rm_model.specs.Passing.{turn_of}
+use Rattle.rm_model.specs.Rules.{MayKeep}
 use Rattle.rm_laws.specs.Laws.{granted_by, GrantsDiffer}
 use Rattle.rm_laws.proofs.Lists.{Each, Pairs, each_all, each-map, pairs_all}
 use Rattle.rm_laws.proofs.Counts.{count_join}

@@ -1,24 +1,12 @@
 -- Ids that are given differ.
-use Rattle.std.proofs.Common.{◌≡◌, ◌≢◌, ℕ, ◌+◌, ◌<◌, List, [], ◌∷◌, ◌++◌, Bool, true, false, if◌then◌else◌, Option, None, Some, refl, sym, subst, arith, inl, inr, flat_map}
-use Rattle.std.specs.Prelude.{slice_get}
-use Rattle.rm_types.specs.declared.entries.Entry.{Entry}
-use Rattle.rm_types.specs.declared.entries.Entry.TheVariants.{Opened, Issued, Kept, Served, Down}
-use Rattle.rm_types.specs.declared.ids.AppId.{AppId}
+use Rattle.rm_laws.proofs.Common.{◌≡◌, ◌≢◌, ℕ, ◌+◌, ◌<◌, List, [], ◌∷◌, ◌++◌, Bool, true, false, if◌then◌else◌, Option, None, Some, refl, sym, subst, arith, inl, inr, flat_map, slice_get, Entry, Opened, Issued, Kept, Served, Down, AppId, Message, Op, Epoch, App, Attempt, AttemptEnd, AppEnd, Remove, Reply, Settings, records, LifeState, Manager, scene, opening_state, AllAllowed, Allowed, AllowedIn, MayOpen, MayIssue, after, life_issues}
 use Rattle.rm_types.specs.declared.messages.ClientAsk.TheVariants.{New as AskNew, Submit as AskSubmit, Report as AskReport, Kill as AskKill}
-use Rattle.rm_types.specs.declared.messages.Message.{Message}
 use Rattle.rm_types.specs.declared.messages.Message.TheVariants.{Client as FromClient, Master as FromMaster, Node as FromNode, Clock as FromClock}
 use Rattle.rm_types.specs.declared.messages.Sender.{Sender}
-use Rattle.rm_types.specs.declared.operations.Op.{Op}
-use Rattle.rm_types.specs.declared.operations.Op.TheVariants.{Epoch, App, Attempt, AttemptEnd, AppEnd, Remove}
-use Rattle.rm_types.specs.declared.replies.Reply.{Reply}
 use Rattle.rm_types.specs.declared.replies.Reply.TheVariants as replies
-use Rattle.rm_types.specs.declared.settings.Settings.{Settings}
-use Rattle.rm_types.specs.Records.{records}
-use Rattle.rm_model.specs.State.{LifeState, Manager, scene, new_life, opening_state}
-use Rattle.rm_model.specs.Lawful.{AllAllowed}
-use Rattle.rm_model.specs.Rules.{Allowed, AllowedIn, MayOpen, MayServe}
-use Rattle.rm_model.specs.Issuing.{MayIssue}
-use Rattle.rm_model.specs.Changes.{after, kept_after_landing, life_issues}
+use Rattle.rm_model.specs.State.{new_life}
+use Rattle.rm_model.specs.Rules.{MayServe}
+use Rattle.rm_model.specs.Changes.{kept_after_landing}
 use Rattle.rm_laws.specs.Laws.{given_by, IdsDiffer}
 use Rattle.rm_laws.proofs.Lists.{each_all, pairs_all}
 use Rattle.rm_laws.proofs.Walks.{Step, beyond, differs, in_order}

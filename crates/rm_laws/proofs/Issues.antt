@@ -1,21 +1,7 @@
 -- An operation that may be issued fits what the kept and the awaiting ones record.
-use Rattle.std.proofs.Common.{◌≡◌, ℕ, ◌+◌, List, [], ◌∷◌, length, Bool, true, false, ◌||◌, ◌&&◌, ◌==◌, Option, None, Some, is_some, is_none, fold, refl, sym, ap, subst, ◌∙◌}
-use Rattle.std.specs.List.{list_any}
-use Rattle.std.proofs.lemmas.Bool.{and_parts}
-use Rattle.rm_types.specs.declared.ids.AppId.{AppId}
-use Rattle.rm_types.specs.declared.ids.AttemptId.{AttemptId}
-use Rattle.rm_types.specs.declared.ids.ContainerId.{ContainerId}
-use Rattle.rm_types.specs.declared.operations.How.{How}
-use Rattle.rm_types.specs.declared.operations.Op.{Op}
-use Rattle.rm_types.specs.declared.operations.Op.TheVariants.{Epoch, App, Attempt, AttemptEnd, AppEnd, Remove}
-use Rattle.rm_types.specs.declared.operations.Submission.{Submission}
-use Rattle.rm_types.specs.declared.records.AppRecord.{AppRecord}
-use Rattle.rm_types.specs.declared.records.AttemptRecord.{AttemptRecord}
-use Rattle.rm_types.specs.Ids.{is_app, is_attempt}
-use Rattle.rm_types.specs.Records.{Records, recorded, record_of, fits_records, all_ended, is_some_and, last_attempt}
-use Rattle.rm_types.proofs.TestLemmas.{none_from_is_none, number_itself}
-use Rattle.rm_types.proofs.IdLemmas.{same_attempt}
-use Rattle.rm_model.specs.Facts.{is_app_op, is_attempt_op, is_attempt_end_op, is_app_end_op, is_remove_op}
+use Rattle.rm_laws.proofs.Common.{◌≡◌, ℕ, ◌+◌, List, [], ◌∷◌, length, Bool, true, false, ◌||◌, ◌&&◌, ◌==◌, Option, None, Some, is_some, is_none, fold, refl, sym, ap, subst, ◌∙◌, list_any, and_parts, AppId, AttemptId, ContainerId, How, Op, Epoch, App, Attempt, AttemptEnd, AppEnd, Remove, Submission, AppRecord, AttemptRecord, is_app, is_attempt, Records, recorded, record_of, fits_records, all_ended, is_some_and, last_attempt, none_from_is_none, same_attempt, is_app_op, is_app_end_op, is_remove_op}
+use Rattle.rm_types.proofs.TestLemmas.{number_itself}
+use Rattle.rm_model.specs.Facts.{is_attempt_op, is_attempt_end_op}
 use Rattle.rm_laws.proofs.Views.{Fitting, is_of, quiet}
 use Rattle.rm_laws.proofs.Fine.{FineApp, at_own}
 

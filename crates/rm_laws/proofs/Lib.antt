@@ -1,3 +1,4 @@
+mod Common
 pub mod Book
 pub mod Cleans
 pub mod Counts

@@ -1,5 +1,5 @@
 -- Lists whose elements, or pairs of elements, have something.
-use Rattle.std.proofs.Common.{◌≡◌, zero, suc, List, [], ◌∷◌, ◌++◌, Bool, true, false, cond, filter, refl, arith}
+use Rattle.rm_laws.proofs.Common.{◌≡◌, zero, suc, List, [], ◌∷◌, ◌++◌, Bool, true, false, cond, filter, refl, arith}
 use Rattle.std.specs.Prelude.{All, AllPairs}
 
 -- each element has it

@@ -1,16 +1,7 @@
 -- The epochs and the stamps that are kept rise, and an open life's are the recorded ones.
-use Rattle.std.proofs.Common.{◌≡◌, ℕ, ◌+◌, ◌<◌, List, [], ◌∷◌, ◌++◌, Bool, true, false, Option, None, Some, flat_map, refl, sym, subst, arith, ◌∙◌, inl, inr}
+use Rattle.rm_laws.proofs.Common.{◌≡◌, ℕ, ◌+◌, ◌<◌, List, [], ◌∷◌, ◌++◌, Bool, true, false, Option, None, Some, flat_map, refl, sym, subst, arith, ◌∙◌, inl, inr, Entry, Opened, Kept, Op, Epoch, App, Attempt, AttemptEnd, AppEnd, Remove, Settings, LifeState, Manager, scene, opening_state, is_epoch_op, Allowed, AllowedIn, MayOpen, after, after_all, AllAllowed}
 use Rattle.std.specs.Prelude.{All, AllPairs}
-use Rattle.rm_types.specs.declared.entries.Entry.{Entry}
-use Rattle.rm_types.specs.declared.entries.Entry.TheVariants.{Opened, Kept}
-use Rattle.rm_types.specs.declared.operations.Op.{Op}
-use Rattle.rm_types.specs.declared.operations.Op.TheVariants.{Epoch, App, Attempt, AttemptEnd, AppEnd, Remove}
-use Rattle.rm_types.specs.declared.settings.Settings.{Settings}
-use Rattle.rm_model.specs.State.{LifeState, Manager, scene, opening_state}
-use Rattle.rm_model.specs.Facts.{is_epoch_op}
-use Rattle.rm_model.specs.Rules.{Allowed, AllowedIn, MayKeep, MayOpen}
-use Rattle.rm_model.specs.Changes.{after, after_all}
-use Rattle.rm_model.specs.Lawful.{AllAllowed}
+use Rattle.rm_model.specs.Rules.{MayKeep}
 use Rattle.rm_laws.specs.Laws.{LivesDiffer, OpenIsRecorded, number_kept}
 use Rattle.rm_laws.proofs.Lists.{each_all, pairs_all}
 use Rattle.rm_laws.proofs.Walks.{Step, beyond, in_order, walk}

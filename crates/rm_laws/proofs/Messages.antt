@@ -1,33 +1,19 @@
 -- What the answer to a message changes in a life, kind by kind: what holds where nothing changed and after each kind of change
 -- holds after each message.
-use Rattle.std.proofs.Common.{◌≡◌, ℕ, ◌+◌, List, [], ◌∷◌, ◌++◌, Bool, true, false, if◌then◌else◌, Some, refl}
-use Rattle.rm_types.specs.declared.containers.Ask.{Ask}
+use Rattle.rm_laws.proofs.Common.{◌≡◌, ℕ, ◌+◌, List, [], ◌∷◌, ◌++◌, Bool, true, false, if◌then◌else◌, Some, refl, Ask, Grant, Held, AppId, AttemptId, ContainerId, Register, Finish, Allocate, Message, Submission, Reply, LifeState, Scene, is_known, is_registered, judged_node, tidied, with_judged_node, allocates, beats, expired, nodes_registered, life_after}
 use Rattle.rm_types.specs.declared.containers.Closing.{Closing}
-use Rattle.rm_types.specs.declared.containers.Grant.{Grant}
-use Rattle.rm_types.specs.declared.containers.Held.{Held}
-use Rattle.rm_types.specs.declared.ids.AppId.{AppId}
-use Rattle.rm_types.specs.declared.ids.AttemptId.{AttemptId}
-use Rattle.rm_types.specs.declared.ids.ContainerId.{ContainerId}
 use Rattle.rm_types.specs.declared.messages.ClientAsk.{ClientAsk}
 use Rattle.rm_types.specs.declared.messages.ClientAsk.TheVariants.{New as AskNew, Submit as AskSubmit, Report as AskReport, Kill as AskKill}
 use Rattle.rm_types.specs.declared.messages.ClockAsk.TheVariants.{Tick, ExpireNode, ExpireMaster}
 use Rattle.rm_types.specs.declared.messages.MasterAsk.{MasterAsk}
-use Rattle.rm_types.specs.declared.messages.MasterAsk.TheVariants.{Register, Finish, Allocate}
 use Rattle.rm_types.specs.declared.messages.NodeAsk.{NodeAsk}
 use Rattle.rm_types.specs.declared.messages.NodeAsk.TheVariants.{Register as NodeRegister, Beat as NodeBeat}
-use Rattle.rm_types.specs.declared.messages.Message.{Message}
 use Rattle.rm_types.specs.declared.messages.Message.TheVariants.{Client as FromClient, Master as FromMaster, Node as FromNode, Clock as FromClock}
-use Rattle.rm_types.specs.declared.operations.Submission.{Submission}
-use Rattle.rm_types.specs.declared.replies.Reply.{Reply}
 use Rattle.rm_types.specs.declared.replies.Reply.TheVariants as replies
-use Rattle.rm_model.specs.State.{LifeState, Registration, Scene}
-use Rattle.rm_model.specs.Facts.{is_known}
-use Rattle.rm_model.specs.Attempts.{is_registered}
-use Rattle.rm_model.specs.Nodes.{judged_node, tidied, with_judged_node}
+use Rattle.rm_model.specs.State.{Registration}
 use Rattle.rm_model.specs.ClientReplies.{life_after_client}
-use Rattle.rm_model.specs.MasterReplies.{allocates, is_new_to_master, life_after_master, registers, with_master}
-use Rattle.rm_model.specs.NodeReplies.{beats, expired, is_later_turn, is_new_to_node, life_after_node, nodes_registered}
-use Rattle.rm_model.specs.Replies.{life_after}
+use Rattle.rm_model.specs.MasterReplies.{is_new_to_master, life_after_master, registers, with_master}
+use Rattle.rm_model.specs.NodeReplies.{is_later_turn, is_new_to_node, life_after_node}
 
 -- what holds of two, of whatever a test gives of them
 pub either : {X : Type 0} (P : X → Type 0) (b : Bool) (x y : X) → P x → P y → P (if b then x else y)

@@ -1,49 +1,19 @@
 -- The law of the store: each entry keeps all that is carried along.
-use Rattle.std.proofs.Common.{◌≡◌, ◌⊎◌, ℕ, ◌+◌, List, [], ◌∷◌, ◌++◌, length, Bool, true, false, ◌||◌, ◌&&◌, not, if◌then◌else◌, Option, None, Some, is_some, is_none, take, drop, map, filter, fold, refl, sym, ap, subst, arith, ◌∙◌, inl, inr, append-nil, append_assoc}
-use Rattle.std.specs.Prelude.{slice_get, IsSomeAnd}
-use Rattle.std.specs.List.{list_any}
-use Rattle.std.specs.Str.{bytes_eq}
+use Rattle.rm_laws.proofs.Common.{◌≡◌, ◌⊎◌, ℕ, ◌+◌, List, [], ◌∷◌, ◌++◌, length, Bool, true, false, ◌||◌, ◌&&◌, not, if◌then◌else◌, Option, None, Some, is_some, is_none, take, drop, map, filter, fold, refl, sym, ap, subst, arith, ◌∙◌, inl, inr, append-nil, append_assoc, slice_get, IsSomeAnd, list_any, bytes_eq, list_any-append, or_left, and_parts, Ask, AskOf, Grant, Held, Entry, Opened, Issued, Kept, Served, Absorbed, Pass, Ended, Down, AppId, AttemptId, ContainerId, Op, Epoch, App, Attempt, AttemptEnd, AppEnd, Remove, Submission, Submitted, AppRecord, Reply, Settings, is_app, is_attempt, records, no_records, record_of, all_ended, is_some_and, last_attempt, same_app, same_attempt, LifeState, NodeState, Row, Scene, scene, opening_state, has_app, has_container, is_known, is_submitted, submission_of, attempts_in, has_registered, is_registered, allocates, row_allocated, beats, reported, row_beaten, book_taken, row_absorbed, row_taken, taken_of, is_held, is_living, judged_node, row_granted, reply_to, MayIssue, Allowed, AllowedIn, MayAbsorb, MayPass, after, after_all, life_issues, life_keeps, AllAllowed}
 use Rattle.std.proofs.lemmas.List.{take-append-drop}
-use Rattle.std.proofs.lemmas.List.Folds.{list_any-append}
-use Rattle.std.proofs.lemmas.Bool.{or_left, and_parts}
-use Rattle.rm_types.specs.declared.containers.Ask.{Ask}
-use Rattle.rm_types.specs.declared.containers.AskOf.{AskOf}
-use Rattle.rm_types.specs.declared.containers.Grant.{Grant}
 use Rattle.rm_types.specs.declared.containers.ContainerState.TheVariants.{Running}
-use Rattle.rm_types.specs.declared.containers.Held.{Held}
-use Rattle.rm_types.specs.declared.entries.Entry.{Entry}
-use Rattle.rm_types.specs.declared.entries.Entry.TheVariants.{Opened, Issued, Kept, Served, Queued, Absorbed, Pass, Ended, Down}
-use Rattle.rm_types.specs.declared.ids.AppId.{AppId}
-use Rattle.rm_types.specs.declared.ids.AttemptId.{AttemptId}
-use Rattle.rm_types.specs.declared.ids.ContainerId.{ContainerId}
+use Rattle.rm_types.specs.declared.entries.Entry.TheVariants.{Queued}
 use Rattle.rm_types.specs.declared.messages.ClientAsk.TheVariants.{Submit as AskSubmit}
 use Rattle.rm_types.specs.declared.messages.Message.TheVariants.{Client as FromClient}
-use Rattle.rm_types.specs.declared.operations.Op.{Op}
-use Rattle.rm_types.specs.declared.operations.Op.TheVariants.{Epoch, App, Attempt, AttemptEnd, AppEnd, Remove}
-use Rattle.rm_types.specs.declared.operations.Submission.{Submission}
-use Rattle.rm_types.specs.declared.operations.Submitted.{Submitted}
-use Rattle.rm_types.specs.declared.records.AppRecord.{AppRecord}
-use Rattle.rm_types.specs.declared.replies.Reply.{Reply}
 use Rattle.rm_types.specs.declared.replies.Reply.TheVariants as replies
-use Rattle.rm_types.specs.declared.settings.Settings.{Settings}
-use Rattle.rm_types.specs.Ids.{is_app, is_attempt}
-use Rattle.rm_types.specs.Records.{records, no_records, record_of, all_ended, is_some_and, last_attempt, stray}
-use Rattle.rm_types.proofs.IdLemmas.{same_app, same_attempt}
-use Rattle.rm_model.specs.State.{LifeState, MasterState, NodeState, Row, Scene, scene, opening_state}
-use Rattle.rm_model.specs.Facts.{has_app, has_container, is_known, is_submitted, submission_of, attempts_in}
-use Rattle.rm_model.specs.Attempts.{attempt_end_issued, attempt_is_kept, finishing_text, has_failed, has_registered, is_current, is_live, is_registered, master_of}
-use Rattle.rm_model.specs.MasterReplies.{allocate_reply, allocates, allocation_reply, row_allocated, untold_rows}
-use Rattle.rm_model.specs.NodeReplies.{beats, reported, row_beaten}
-use Rattle.rm_model.specs.Absorbing.{book_taken, row_absorbed, row_taken, taken_of}
-use Rattle.rm_types.specs.Containers.{is_held}
-use Rattle.rm_model.specs.Containers.{is_living, released_by}
-use Rattle.rm_model.specs.Nodes.{judged_node}
-use Rattle.rm_model.specs.Passing.{row_granted, without_granted}
-use Rattle.rm_model.specs.Replies.{reply_to}
-use Rattle.rm_model.specs.Issuing.{MayIssue}
-use Rattle.rm_model.specs.Rules.{Allowed, AllowedIn, MayAbsorb, MayFollow, MayPass, MayQueue}
-use Rattle.rm_model.specs.Changes.{after, after_all, life_issues, life_keeps, master_ask}
-use Rattle.rm_model.specs.Lawful.{AllAllowed}
+use Rattle.rm_types.specs.Records.{stray}
+use Rattle.rm_model.specs.State.{MasterState}
+use Rattle.rm_model.specs.Attempts.{attempt_end_issued, attempt_is_kept, finishing_text, has_failed, is_current, is_live, master_of}
+use Rattle.rm_model.specs.MasterReplies.{allocate_reply, allocation_reply, untold_rows}
+use Rattle.rm_model.specs.Containers.{released_by}
+use Rattle.rm_model.specs.Passing.{without_granted}
+use Rattle.rm_model.specs.Rules.{MayFollow, MayQueue}
+use Rattle.rm_model.specs.Changes.{master_ask}
 use Rattle.rm_laws.specs.Laws.{NoneStray}
 use Rattle.rm_laws.proofs.Lists.{Each, each-filter}
 use Rattle.rm_laws.proofs.Taken.{each_taken}

@@ -1,33 +1,10 @@
 -- Each ask and each living container is of an attempt that is kept, or the next one of an application whose attempts have ended;
 -- or its application was removed.
-use Rattle.std.proofs.Common.{◌≡◌, ◌⊎◌, ℕ, zero, suc, ◌+◌, ◌≤◌, List, [], ◌∷◌, ◌++◌, length, Bool, true, false, ◌||◌, ◌&&◌, not, cond, if◌then◌else◌, ◌==◌, Option, None, Some, is_some, is_none, map, filter, find, fold, refl, sym, ap, subst, arith, ◌∙◌, inl, inr, length-append}
-use Rattle.std.specs.Prelude.{nat_le, nat_lt}
-use Rattle.std.specs.List.{list_any, list_all, range_with_len}
-use Rattle.std.proofs.lemmas.Bool.Decides.{nat_tests}
-use Rattle.std.proofs.lemmas.Bool.{or_right, or_left, and_parts}
-use Rattle.rm_types.specs.declared.containers.Ask.{Ask}
-use Rattle.rm_types.specs.declared.containers.AskOf.{AskOf}
-use Rattle.rm_types.specs.declared.containers.Grant.{Grant}
-use Rattle.rm_types.specs.declared.containers.Turn.{Turn}
-use Rattle.rm_types.specs.declared.ids.AppId.{AppId}
-use Rattle.rm_types.specs.declared.ids.AttemptId.{AttemptId}
-use Rattle.rm_types.specs.declared.ids.ContainerId.{ContainerId}
-use Rattle.rm_types.specs.declared.operations.Op.{Op}
-use Rattle.rm_types.specs.declared.operations.Op.TheVariants.{Epoch, App, Attempt, AttemptEnd, AppEnd, Remove}
-use Rattle.rm_types.specs.declared.records.AppRecord.{AppRecord}
-use Rattle.rm_types.specs.declared.records.AttemptRecord.{AttemptRecord}
-use Rattle.rm_types.specs.declared.resources.Resource.{Resource}
-use Rattle.rm_types.specs.declared.settings.Settings.{Settings}
-use Rattle.rm_types.specs.Ids.{is_app, is_attempt}
-use Rattle.rm_types.specs.Passes.{PassNode, fitting, turn_grant, by_priority, left_of, seq_after, with_granted, with_turn}
-use Rattle.rm_types.specs.Records.{Records, recorded, record_of, fits_records, all_ended, is_some_and, last_attempt}
+use Rattle.rm_laws.proofs.Common.{◌≡◌, ◌⊎◌, ℕ, zero, suc, ◌+◌, ◌≤◌, List, [], ◌∷◌, ◌++◌, length, Bool, true, false, ◌||◌, ◌&&◌, not, cond, if◌then◌else◌, ◌==◌, Option, None, Some, is_some, is_none, map, filter, find, fold, refl, sym, ap, subst, arith, ◌∙◌, inl, inr, nat_le, nat_lt, list_any, list_all, range_with_len, nat_tests, or_right, or_left, and_parts, Ask, AskOf, Grant, Turn, AppId, AttemptId, ContainerId, Op, Epoch, App, Attempt, AttemptEnd, AppEnd, Remove, AppRecord, AttemptRecord, Resource, Settings, is_app, is_attempt, PassNode, fitting, turn_grant, by_priority, left_of, seq_after, with_granted, with_turn, Records, recorded, record_of, fits_records, all_ended, is_some_and, last_attempt, none_from_is_none, same_attempt, NodeState, Row, Scene, attempts_in, has_app, is_app_op, asks_of, first_fit_on, pass_node, pass_of, row_granted, turns}
+use Rattle.std.proofs.Common.{length-append}
 use Rattle.rm_types.proofs.EndLemmas.{length-ended, all_ended-map}
-use Rattle.rm_types.proofs.TestLemmas.{none_from_is_none}
-use Rattle.rm_types.proofs.IdLemmas.{same_attempt}
-use Rattle.rm_model.specs.State.{NodeState, Row, Scene}
-use Rattle.rm_model.specs.Facts.{attempts_in, has_app, is_app_op}
 use Rattle.rm_model.specs.MasterReplies.{is_line_of, with_ask, with_asks}
-use Rattle.rm_model.specs.Passing.{answered_ask, ask_lessened, asks_lessened, asks_of, first_fit_on, line_lessened, pass_node, pass_of, row_granted, turns, without_granted}
+use Rattle.rm_model.specs.Passing.{answered_ask, ask_lessened, asks_lessened, line_lessened, without_granted}
 use Rattle.rm_laws.proofs.Lists.{Each, each-append}
 use Rattle.rm_laws.proofs.Told.{any-filter, any-map, last_there, pushed, stays_there, either_true}
 use Rattle.rm_laws.proofs.Views.{find_left, is_of, other_view}

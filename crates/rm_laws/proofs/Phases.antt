@@ -1,14 +1,6 @@
 -- Each entry that is allowed leads from one phase of a life to one.
-use Rattle.std.proofs.Common.{◌≡◌, ◌⊎◌, ℕ, ◌+◌, ◌≤◌, List, [], ◌∷◌, ◌++◌, Bool, true, false, ◌||◌, Option, None, Some, drop, refl, sym, ap, subst, arith, ◌∙◌, inl, inr, append-nil}
-use Rattle.std.specs.Prelude.{slice_get}
-use Rattle.std.proofs.lemmas.List.Folds.{list_any-append}
-use Rattle.std.specs.List.{list_any}
-use Rattle.rm_types.specs.declared.operations.Op.{Op}
-use Rattle.rm_types.specs.declared.operations.Op.TheVariants.{Epoch, App, Attempt, AttemptEnd, AppEnd, Remove}
-use Rattle.rm_model.specs.State.{LifeState, Manager, opening_state}
-use Rattle.rm_model.specs.Facts.{is_epoch_op}
-use Rattle.rm_model.specs.Rules.{MayOpen}
-use Rattle.rm_model.specs.Changes.{kept_after_landing, life_keeps}
+use Rattle.rm_laws.proofs.Common.{◌≡◌, ◌⊎◌, ℕ, ◌+◌, ◌≤◌, List, [], ◌∷◌, ◌++◌, Bool, true, false, ◌||◌, Option, None, Some, drop, refl, sym, ap, subst, arith, ◌∙◌, inl, inr, append-nil, slice_get, list_any-append, list_any, Op, Epoch, App, Attempt, AttemptEnd, AppEnd, Remove, LifeState, Manager, opening_state, is_epoch_op, MayOpen, life_keeps}
+use Rattle.rm_model.specs.Changes.{kept_after_landing}
 use Rattle.rm_laws.proofs.Stamps.{IsBetween, IsClosed, IsOpened, Phase, Sound, next-push, next_of, stored, stored-push}
 use Rattle.rm_laws.proofs.Served.{Same, SameAll, plain}
 

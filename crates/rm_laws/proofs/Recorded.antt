@@ -1,26 +1,6 @@
 -- What is recorded of an application stays, until its Remove.
-use Rattle.std.proofs.Common.{◌≡◌, ℕ, List, [], ◌∷◌, ◌++◌, Bool, true, false, not, cond, if◌then◌else◌, Option, None, Some, map, filter, find, take, refl, sym, ap, subst, arith, ◌∙◌, append-nil, append_assoc, drop, length}
-use Rattle.std.specs.Prelude.{IsSomeAnd}
-use Rattle.std.specs.List.{list_any}
-use Rattle.std.proofs.lemmas.Bool.Decides.{nat_tests}
-use Rattle.std.proofs.lemmas.List.Sums.{fold_push}
+use Rattle.rm_laws.proofs.Common.{◌≡◌, ℕ, List, [], ◌∷◌, ◌++◌, Bool, true, false, not, cond, if◌then◌else◌, Option, None, Some, map, filter, find, take, refl, sym, ap, subst, arith, ◌∙◌, append-nil, append_assoc, drop, length, IsSomeAnd, list_any, nat_tests, fold_push, or_parts, Entry, Opened, Kept, AppId, AttemptId, Op, Epoch, App, Attempt, AttemptEnd, AppEnd, Remove, How, AppRecord, AttemptRecord, is_app, Records, records, recorded, no_records, record_of, with_end, with_record, same_app, LifeState, Manager, opening_state, is_remove_op, after, after_all}
 use Rattle.std.proofs.Math.Seq.{drop-append_seam}
-use Rattle.std.proofs.lemmas.Bool.{or_parts}
-use Rattle.rm_types.specs.declared.entries.Entry.{Entry}
-use Rattle.rm_types.specs.declared.entries.Entry.TheVariants.{Opened, Kept}
-use Rattle.rm_types.specs.declared.ids.AppId.{AppId}
-use Rattle.rm_types.specs.declared.ids.AttemptId.{AttemptId}
-use Rattle.rm_types.specs.declared.operations.Op.{Op}
-use Rattle.rm_types.specs.declared.operations.Op.TheVariants.{Epoch, App, Attempt, AttemptEnd, AppEnd, Remove}
-use Rattle.rm_types.specs.declared.operations.How.{How}
-use Rattle.rm_types.specs.declared.records.AppRecord.{AppRecord}
-use Rattle.rm_types.specs.declared.records.AttemptRecord.{AttemptRecord}
-use Rattle.rm_types.specs.Ids.{is_app}
-use Rattle.rm_types.specs.Records.{Records, records, recorded, no_records, record_of, with_end, with_record}
-use Rattle.rm_types.proofs.IdLemmas.{same_app}
-use Rattle.rm_model.specs.State.{LifeState, Manager, opening_state}
-use Rattle.rm_model.specs.Facts.{is_remove_op}
-use Rattle.rm_model.specs.Changes.{after, after_all}
 use Rattle.rm_laws.specs.Laws.{IsRemembered, Passage, kept_since}
 use Rattle.rm_laws.proofs.Phases.{state}
 use Rattle.rm_laws.proofs.Walks.{after-append}

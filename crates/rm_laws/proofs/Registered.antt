@@ -1,29 +1,8 @@
 -- The attempt of each master that registered is kept, or its application was retired.
-use Rattle.std.proofs.Common.{◌≡◌, ◌⊎◌, ℕ, List, [], ◌∷◌, ◌++◌, Bool, true, false, ◌&&◌, not, cond, if◌then◌else◌, Option, None, Some, is_some, map, find, refl, sym, ap, subst, ◌∙◌, inl, inr}
-use Rattle.std.specs.Prelude.{IsSomeAnd}
-use Rattle.std.proofs.lemmas.List.Sums.{fold_push}
-use Rattle.std.proofs.lemmas.Bool.{and_parts}
-use Rattle.rm_types.specs.declared.entries.Entry.{Entry}
-use Rattle.rm_types.specs.declared.entries.Entry.TheVariants.{Opened, Issued, Kept, Served, Down}
-use Rattle.rm_types.specs.declared.ids.AppId.{AppId}
-use Rattle.rm_types.specs.declared.ids.AttemptId.{AttemptId}
-use Rattle.rm_types.specs.declared.operations.How.{How}
-use Rattle.rm_types.specs.declared.operations.Op.{Op}
-use Rattle.rm_types.specs.declared.operations.Op.TheVariants.{Epoch, App, Attempt, AttemptEnd, AppEnd, Remove}
-use Rattle.rm_types.specs.declared.records.AppRecord.{AppRecord}
-use Rattle.rm_types.specs.declared.records.AttemptRecord.{AttemptRecord}
+use Rattle.rm_laws.proofs.Common.{◌≡◌, ◌⊎◌, ℕ, List, [], ◌∷◌, ◌++◌, Bool, true, false, ◌&&◌, not, cond, if◌then◌else◌, Option, None, Some, is_some, map, find, refl, sym, ap, subst, ◌∙◌, inl, inr, IsSomeAnd, fold_push, and_parts, Entry, Opened, Issued, Kept, Served, Down, AppId, AttemptId, How, Op, Epoch, App, Attempt, AttemptEnd, AppEnd, Remove, AppRecord, AttemptRecord, Settings, is_app, is_attempt, Records, records, recorded, no_records, record_of, with_end, is_some-find, LifeState, Manager, Scene, scene, opening_state, attempts_in, has_app, is_remove_op, has_registered, reply_to, Allowed, AllowedIn, after, after_all, life_issues, life_keeps, AllAllowed}
 use Rattle.rm_types.specs.declared.replies.Reply.TheVariants as replies
-use Rattle.rm_types.specs.declared.settings.Settings.{Settings}
-use Rattle.rm_types.specs.Ids.{is_app, is_attempt}
-use Rattle.rm_types.specs.Records.{Records, records, recorded, no_records, record_of, with_end}
-use Rattle.rm_types.proofs.TestLemmas.{is_some-find}
-use Rattle.rm_model.specs.State.{LifeState, Manager, MasterState, Masters, Scene, scene, opening_state}
-use Rattle.rm_model.specs.Facts.{attempts_in, has_app, is_remove_op}
-use Rattle.rm_model.specs.Attempts.{attempt_end_issued, attempt_is_kept, has_registered}
-use Rattle.rm_model.specs.Replies.{reply_to}
-use Rattle.rm_model.specs.Rules.{Allowed, AllowedIn}
-use Rattle.rm_model.specs.Changes.{after, after_all, life_issues, life_keeps}
-use Rattle.rm_model.specs.Lawful.{AllAllowed}
+use Rattle.rm_model.specs.State.{MasterState, Masters}
+use Rattle.rm_model.specs.Attempts.{attempt_end_issued, attempt_is_kept}
 use Rattle.rm_laws.specs.Laws.{AllKeptOrRetired, RegisteredAreKept}
 use Rattle.rm_laws.proofs.Lists.{Each, each_all, each-append, each-map}
 use Rattle.rm_laws.proofs.Messages.{Changes, served}

@@ -1,28 +1,5 @@
 -- Each entry changes the rows of the book as the log says.
-use Rattle.std.proofs.Common.{◌≡◌, ℕ, List, [], ◌∷◌, ◌++◌, Bool, true, false, ◌&&◌, not, Option, None, Some, map, filter, fold, refl, sym, ap, subst, ◌∙◌}
-use Rattle.std.specs.Prelude.{IsSomeAnd}
-use Rattle.std.specs.Str.{bytes_eq}
-use Rattle.std.proofs.lemmas.List.Folds.{list_any-append}
-use Rattle.rm_types.specs.declared.containers.Grant.{Grant}
-use Rattle.rm_types.specs.declared.containers.Held.{Held}
-use Rattle.rm_types.specs.declared.entries.Entry.{Entry}
-use Rattle.rm_types.specs.declared.entries.Entry.TheVariants.{Opened, Issued, Kept, Served, Absorbed, Pass, Ended}
-use Rattle.rm_types.specs.declared.ids.ContainerId.{ContainerId}
-use Rattle.rm_types.specs.declared.operations.Op.{Op}
-use Rattle.rm_types.specs.declared.operations.Op.TheVariants.{Epoch, App, Attempt, AttemptEnd, AppEnd, Remove}
-use Rattle.rm_types.specs.declared.settings.Settings.{Settings}
-use Rattle.rm_types.proofs.TestLemmas.{same_text}
-use Rattle.rm_model.specs.State.{LifeState, Manager, NodeState, Row, Scene, scene, opening_state}
-use Rattle.rm_model.specs.Facts.{has_container}
-use Rattle.rm_model.specs.Containers.{is_living, lives_elsewhere, lives_on}
-use Rattle.rm_types.specs.Containers.{is_held}
-use Rattle.rm_model.specs.Nodes.{judged_node}
-use Rattle.rm_model.specs.MasterReplies.{row_allocated}
-use Rattle.rm_model.specs.NodeReplies.{row_beaten}
-use Rattle.rm_model.specs.Passing.{row_granted}
-use Rattle.rm_model.specs.Rules.{Allowed, AllowedIn, MayAbsorb, MayPass}
-use Rattle.rm_model.specs.Changes.{after, after_all, life_issues, life_keeps}
-use Rattle.rm_model.specs.Lawful.{AllAllowed}
+use Rattle.rm_laws.proofs.Common.{◌≡◌, ℕ, List, [], ◌∷◌, ◌++◌, Bool, true, false, ◌&&◌, not, Option, None, Some, map, filter, fold, refl, sym, ap, subst, ◌∙◌, IsSomeAnd, bytes_eq, list_any-append, Grant, Held, Entry, Opened, Issued, Kept, Served, Absorbed, Pass, Ended, ContainerId, Op, Epoch, App, Attempt, AttemptEnd, AppEnd, Remove, Settings, same_text, LifeState, Manager, NodeState, Row, Scene, scene, opening_state, has_container, is_living, lives_elsewhere, lives_on, is_held, judged_node, row_allocated, row_beaten, row_granted, Allowed, AllowedIn, MayAbsorb, MayPass, after, after_all, life_issues, life_keeps, AllAllowed}
 use Rattle.rm_laws.specs.Laws.{lives_on_node, stands_after, stands_by}
 use Rattle.rm_laws.proofs.Lists.{Each, each-map}
 use Rattle.rm_laws.proofs.Messages.{Any, Changes, either, served}

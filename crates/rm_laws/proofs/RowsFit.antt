@@ -1,32 +1,11 @@
 -- The law of fits: each entry keeps what stands on each node within what it offers.
-use Rattle.std.proofs.Common.{◌≡◌, ◌≢◌, ◌⊎◌, ℕ, ◌+◌, ◌<◌, ◌≤◌, List, [], ◌∷◌, ◌++◌, Bool, true, false, ◌||◌, ◌&&◌, not, cond, if◌then◌else◌, Option, None, Some, map, filter, refl, sym, ap, subst, arith, ◌∙◌, inl, inr}
-use Rattle.std.specs.Prelude.{sum_by, option_and_then, IsSomeAnd}
-use Rattle.std.specs.Str.{bytes_eq}
-use Rattle.std.proofs.lemmas.List.Folds.{list_any-append}
-use Rattle.std.proofs.lemmas.List.Sums.{sum_by-append}
-use Rattle.std.proofs.lemmas.Bool.{or_right}
+use Rattle.rm_laws.proofs.Common.{◌≡◌, ◌≢◌, ◌⊎◌, ℕ, ◌+◌, ◌<◌, ◌≤◌, List, [], ◌∷◌, ◌++◌, Bool, true, false, ◌||◌, ◌&&◌, not, cond, if◌then◌else◌, Option, None, Some, map, filter, refl, sym, ap, subst, arith, ◌∙◌, inl, inr, sum_by, option_and_then, IsSomeAnd, bytes_eq, list_any-append, sum_by-append, or_right, Held, Grant, Entry, Opened, Issued, Kept, Served, Absorbed, Pass, Ended, Down, ContainerId, Op, Epoch, App, Attempt, AttemptEnd, AppEnd, Remove, Resource, Settings, is_container, same_text, same_container, LifeState, Manager, NodeState, Row, Scene, scene, opening_state, has_container, ids_on, is_living, lives_on, judged_node, tidied, with_judged_node, book_taken, row_absorbed, row_taken, is_held, Allowed, AllowedIn, MayAbsorb, MayPass, after, after_all, life_issues, life_keeps, AllAllowed}
 use Rattle.rm_types.specs.declared.containers.Cause.TheVariants.{Gone}
-use Rattle.rm_types.specs.declared.containers.Held.{Held}
-use Rattle.rm_types.specs.declared.containers.Grant.{Grant}
-use Rattle.rm_types.specs.declared.entries.Entry.{Entry}
-use Rattle.rm_types.specs.declared.entries.Entry.TheVariants.{Opened, Issued, Kept, Served, Absorbed, Pass, Ordered, Ended, Down}
-use Rattle.rm_types.specs.declared.ids.ContainerId.{ContainerId}
-use Rattle.rm_types.specs.declared.operations.Op.{Op}
-use Rattle.rm_types.specs.declared.operations.Op.TheVariants.{Epoch, App, Attempt, AttemptEnd, AppEnd, Remove}
-use Rattle.rm_types.specs.declared.resources.Resource.{Resource}
-use Rattle.rm_types.specs.declared.settings.Settings.{Settings}
-use Rattle.rm_types.specs.Ids.{is_container}
-use Rattle.rm_types.proofs.TestLemmas.{same_text}
-use Rattle.rm_types.proofs.IdLemmas.{container_itself, same_container}
-use Rattle.rm_model.specs.State.{LifeState, Manager, NodeState, Row, Scene, scene, opening_state}
-use Rattle.rm_model.specs.Facts.{has_container}
-use Rattle.rm_model.specs.Containers.{ids_on, is_living, leave, lives_on, without_launches}
-use Rattle.rm_model.specs.Nodes.{judged_node, tidied, with_judged_node}
-use Rattle.rm_model.specs.Absorbing.{absorbed, absorbs, book_taken, row_absorbed, row_taken, with_taken}
-use Rattle.rm_types.specs.Containers.{is_held}
-use Rattle.rm_model.specs.Rules.{Allowed, AllowedIn, MayAbsorb, MayPass}
-use Rattle.rm_model.specs.Changes.{after, after_all, life_issues, life_keeps, orders}
-use Rattle.rm_model.specs.Lawful.{AllAllowed}
+use Rattle.rm_types.specs.declared.entries.Entry.TheVariants.{Ordered}
+use Rattle.rm_types.proofs.IdLemmas.{container_itself}
+use Rattle.rm_model.specs.Containers.{leave, without_launches}
+use Rattle.rm_model.specs.Absorbing.{absorbed, absorbs, with_taken}
+use Rattle.rm_model.specs.Changes.{orders}
 use Rattle.rm_laws.specs.Laws.{AllFit, FitsOn, InEachState, RowsDiffer, RowsFit}
 use Rattle.rm_laws.proofs.Lists.{Each, Pairs, each-map, pairs_all}
 use Rattle.rm_laws.proofs.Phases.{state}

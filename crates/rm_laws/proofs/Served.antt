@@ -1,17 +1,9 @@
 -- What serving leaves of a life as it was: its epoch, its stamp, that it is open, and the grants; and the number of ids given,
 -- but where a new one is given.
-use Rattle.std.proofs.Common.{◌≡◌, ℕ, List, refl}
-use Rattle.rm_types.specs.declared.ids.AppId.{AppId}
+use Rattle.rm_laws.proofs.Common.{◌≡◌, ℕ, List, refl, AppId, Message, Reply, LifeState, Scene, judged_node, tidied, with_judged_node, allocates, beats, expired, nodes_registered, life_after}
 use Rattle.rm_types.specs.declared.messages.ClientAsk.TheVariants.{New as AskNew}
-use Rattle.rm_types.specs.declared.messages.Message.{Message}
 use Rattle.rm_types.specs.declared.messages.Message.TheVariants.{Client as FromClient}
-use Rattle.rm_types.specs.declared.replies.Reply.{Reply}
 use Rattle.rm_types.specs.declared.replies.Reply.TheVariants as replies
-use Rattle.rm_model.specs.State.{LifeState, Scene}
-use Rattle.rm_model.specs.Nodes.{judged_node, tidied, with_judged_node}
-use Rattle.rm_model.specs.MasterReplies.{allocates}
-use Rattle.rm_model.specs.NodeReplies.{beats, expired, nodes_registered}
-use Rattle.rm_model.specs.Replies.{life_after}
 use Rattle.rm_laws.proofs.Messages.{Any, Changes, served}
 
 -- this is left

@@ -1,32 +1,10 @@
 -- No operation is stray.
-use Rattle.std.proofs.Common.{◌≡◌, ◌⊎◌, ℕ, ◌+◌, ◌≤◌, List, [], ◌∷◌, ◌++◌, length, Bool, true, false, ◌||◌, ◌&&◌, not, cond, ◌==◌, Option, None, Some, is_some, is_none, filter, find, fold, count_by, refl, sym, ap, subst, arith, ◌∙◌, inl, inr, append_assoc}
-use Rattle.std.specs.Prelude.{nat_lt}
-use Rattle.std.specs.List.{list_any, list_all}
-use Rattle.std.specs.Str.{bytes_eq}
-use Rattle.std.proofs.lemmas.Bool.Decides.{nat_tests}
-use Rattle.std.proofs.lemmas.List.Sums.{fold_push}
-use Rattle.std.proofs.lemmas.Map.Views.{any-filter_same}
-use Rattle.std.proofs.lemmas.Bool.{or_right, or_left, not-true, or_parts, and_parts}
-use Rattle.rm_types.specs.declared.containers.AskOf.{AskOf}
-use Rattle.rm_types.specs.declared.ids.AppId.{AppId}
-use Rattle.rm_types.specs.declared.ids.AttemptId.{AttemptId}
-use Rattle.rm_types.specs.declared.ids.ContainerId.{ContainerId}
-use Rattle.rm_types.specs.declared.operations.How.{How}
-use Rattle.rm_types.specs.declared.operations.Op.{Op}
-use Rattle.rm_types.specs.declared.operations.Op.TheVariants.{Epoch, App, Attempt, AttemptEnd, AppEnd, Remove}
-use Rattle.rm_types.specs.declared.operations.Submission.{Submission}
-use Rattle.rm_types.specs.declared.operations.Submitted.{Submitted}
-use Rattle.rm_types.specs.declared.records.AppRecord.{AppRecord}
-use Rattle.rm_types.specs.declared.records.AttemptRecord.{AttemptRecord}
-use Rattle.rm_types.specs.declared.settings.Settings.{Settings}
-use Rattle.rm_types.specs.Ids.{is_app, is_attempt, is_container}
-use Rattle.rm_types.specs.Records.{Records, records, recorded, no_records, record_of, fits_records, all_ended, is_some_and, last_attempt}
-use Rattle.rm_types.proofs.IdLemmas.{app_itself, same_app}
-use Rattle.rm_types.proofs.TestLemmas.{none_from_is_some, found_passes, is_some-find}
-use Rattle.rm_model.specs.State.{LifeState, Manager, Row, scene}
-use Rattle.rm_model.specs.Facts.{app_issued, has_app, is_app_op, is_attempt_op, is_app_end_op, is_epoch_op, is_remove_op, is_submitted, attempts_in, end_in, is_completed}
-use Rattle.rm_model.specs.Issuing.{MayIssue, MayIssueApp, MayIssueAttempt, MayIssueAttemptEnd, MayIssueAppEnd, MayIssueRemove, is_completed_before}
-use Rattle.rm_model.specs.Changes.{asks_without, life_keeps}
+use Rattle.rm_laws.proofs.Common.{◌≡◌, ◌⊎◌, ℕ, ◌+◌, ◌≤◌, List, [], ◌∷◌, ◌++◌, length, Bool, true, false, ◌||◌, ◌&&◌, not, cond, ◌==◌, Option, None, Some, is_some, is_none, filter, find, fold, count_by, refl, sym, ap, subst, arith, ◌∙◌, inl, inr, append_assoc, nat_lt, list_any, list_all, bytes_eq, nat_tests, fold_push, any-filter_same, or_right, or_left, not-true, or_parts, and_parts, AskOf, AppId, AttemptId, ContainerId, How, Op, Epoch, App, Attempt, AttemptEnd, AppEnd, Remove, Submission, Submitted, AppRecord, AttemptRecord, Settings, is_app, is_attempt, is_container, Records, records, recorded, no_records, record_of, fits_records, all_ended, is_some_and, last_attempt, same_app, is_some-find, LifeState, Manager, Row, scene, has_app, is_app_op, is_app_end_op, is_epoch_op, is_remove_op, is_submitted, attempts_in, end_in, MayIssue, life_keeps}
+use Rattle.rm_types.proofs.IdLemmas.{app_itself}
+use Rattle.rm_types.proofs.TestLemmas.{none_from_is_some, found_passes}
+use Rattle.rm_model.specs.Facts.{app_issued, is_attempt_op, is_completed}
+use Rattle.rm_model.specs.Issuing.{MayIssueApp, MayIssueAttempt, MayIssueAttemptEnd, MayIssueAppEnd, MayIssueRemove, is_completed_before}
+use Rattle.rm_model.specs.Changes.{asks_without}
 use Rattle.rm_laws.proofs.Stamps.{Phase, Sound}
 use Rattle.rm_laws.proofs.Phases.{state}
 use Rattle.rm_laws.proofs.Told.{AreKnown, Known, has_record, any-filter, pushed}

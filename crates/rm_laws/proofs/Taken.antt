@@ -1,13 +1,8 @@
 -- What an absorption takes, one container after the other.
-use Rattle.std.proofs.Common.{◌≡◌, List, [], ◌∷◌, ◌++◌, Bool, true, false, ◌&&◌, not, if◌then◌else◌, Option, None, Some, fold, refl}
-use Rattle.std.proofs.lemmas.Bool.{not-true, and_parts}
-use Rattle.rm_types.specs.declared.containers.Held.{Held}
+use Rattle.rm_laws.proofs.Common.{◌≡◌, List, [], ◌∷◌, ◌++◌, Bool, true, false, ◌&&◌, not, if◌then◌else◌, Option, None, Some, fold, refl, not-true, and_parts, Held, NodeState, Scene, lives_elsewhere, taken_of, is_held}
 use Rattle.rm_types.specs.Resources.{fits}
-use Rattle.rm_model.specs.State.{NodeState, Scene}
-use Rattle.rm_model.specs.Containers.{lives_elsewhere}
 use Rattle.rm_model.specs.Attempts.{is_current}
-use Rattle.rm_model.specs.Absorbing.{as_counted, left_beside, may_take, taken_of, with_counted}
-use Rattle.rm_types.specs.Containers.{is_held}
+use Rattle.rm_model.specs.Absorbing.{as_counted, left_beside, may_take, with_counted}
 use Rattle.rm_laws.proofs.Lists.{Each, each-append}
 
 -- a container that may be taken: what its test says

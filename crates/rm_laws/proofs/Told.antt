@@ -1,42 +1,18 @@
 -- What was told of an application stays.
-use Rattle.std.proofs.Common.{◌≡◌, ◌⊎◌, ℕ, List, [], ◌∷◌, ◌++◌, Bool, true, false, ◌||◌, ◌&&◌, not, cond, if◌then◌else◌, Option, None, Some, is_some, map, filter, find, option_map, refl, sym, ap, subst, arith, ◌∙◌, inl, inr}
-use Rattle.std.specs.Prelude.{IsSomeAnd}
-use Rattle.std.specs.List.{list_any}
-use Rattle.std.proofs.lemmas.Bool.Decides.{nat_tests}
-use Rattle.std.proofs.lemmas.List.Folds.{list_any-append}
-use Rattle.std.proofs.lemmas.List.Sums.{fold_push}
-use Rattle.std.proofs.lemmas.Map.Views.{any-filter_same}
-use Rattle.std.proofs.lemmas.Bool.{or_parts}
-use Rattle.rm_types.specs.declared.entries.Entry.{Entry}
-use Rattle.rm_types.specs.declared.entries.Entry.TheVariants.{Opened, Issued, Kept, Served, Accepted, Down}
-use Rattle.rm_types.specs.declared.ids.AppId.{AppId}
+use Rattle.rm_laws.proofs.Common.{◌≡◌, ◌⊎◌, ℕ, List, [], ◌∷◌, ◌++◌, Bool, true, false, ◌||◌, ◌&&◌, not, cond, if◌then◌else◌, Option, None, Some, is_some, map, filter, find, refl, sym, ap, subst, arith, ◌∙◌, inl, inr, IsSomeAnd, list_any, nat_tests, list_any-append, fold_push, any-filter_same, or_parts, Entry, Opened, Issued, Kept, Served, Down, AppId, Op, Epoch, App, Attempt, AttemptEnd, AppEnd, Remove, Submission, Submitted, AppRecord, Reply, Settings, is_app, Records, records, recorded, no_records, record_of, with_record, is_some_and, last_attempt, AttemptRecord, How, has_registered, LifeState, Manager, Scene, scene, opening_state, attempts_in, end_in, has_app, is_app_op, is_submitted, is_known, submission_of, same_app, is_some-find, reply_to, Allowed, AllowedIn, after, after_all, life_issues, life_keeps, AllAllowed}
+use Rattle.std.proofs.Common.{option_map}
+use Rattle.rm_types.specs.declared.entries.Entry.TheVariants.{Accepted}
 use Rattle.rm_types.specs.declared.messages.ClientAsk.TheVariants.{New as AskNew, Submit as AskSubmit, Report as AskReport, Kill as AskKill}
 use Rattle.rm_types.specs.declared.messages.Message.TheVariants.{Client as FromClient}
-use Rattle.rm_types.specs.declared.operations.Op.{Op}
-use Rattle.rm_types.specs.declared.operations.Op.TheVariants.{Epoch, App, Attempt, AttemptEnd, AppEnd, Remove}
-use Rattle.rm_types.specs.declared.operations.Submission.{Submission}
-use Rattle.rm_types.specs.declared.operations.Submitted.{Submitted}
-use Rattle.rm_types.specs.declared.records.AppRecord.{AppRecord}
-use Rattle.rm_types.specs.declared.replies.Reply.{Reply}
 use Rattle.rm_types.specs.declared.replies.Reply.TheVariants as replies
 use Rattle.rm_types.specs.declared.replies.Report.{Report}
-use Rattle.rm_types.specs.declared.settings.Settings.{Settings}
-use Rattle.rm_types.specs.Ids.{is_app}
-use Rattle.rm_types.specs.Records.{Records, records, recorded, no_records, record_of, with_record, is_some_and, last_attempt}
-use Rattle.rm_types.specs.declared.records.AttemptRecord.{AttemptRecord}
-use Rattle.rm_types.specs.declared.operations.How.{How}
 use Rattle.rm_types.specs.Lists.{is_nil}
-use Rattle.rm_model.specs.Attempts.{has_failed, has_registered}
-use Rattle.rm_model.specs.State.{Applications, LifeState, Manager, Scene, scene, opening_state}
-use Rattle.rm_model.specs.Facts.{attempts_in, awaits, end_in, has_app, is_accepted, is_app_op, is_submitted, is_known, kept_attempts, kept_end, submission_in, submission_of, waiting_submission}
+use Rattle.rm_model.specs.Attempts.{has_failed}
+use Rattle.rm_model.specs.State.{Applications}
+use Rattle.rm_model.specs.Facts.{awaits, is_accepted, kept_attempts, kept_end, submission_in, waiting_submission}
 use Rattle.rm_model.specs.ClientReplies.{going_word, is_running, report_of, state_word, submit_reply}
 use Rattle.rm_types.specs.declared.replies.StateWord.TheVariants as states
-use Rattle.rm_types.proofs.IdLemmas.{app_itself, same_app}
-use Rattle.rm_types.proofs.TestLemmas.{is_some-find}
-use Rattle.rm_model.specs.Replies.{reply_to}
-use Rattle.rm_model.specs.Rules.{Allowed, AllowedIn}
-use Rattle.rm_model.specs.Changes.{after, after_all, life_issues, life_keeps}
-use Rattle.rm_model.specs.Lawful.{AllAllowed}
+use Rattle.rm_types.proofs.IdLemmas.{app_itself}
 use Rattle.rm_laws.specs.Laws.{IsReported, ToldStays, is_told_word, told_by}
 use Rattle.rm_laws.proofs.Messages.{Changes, served}
 use Rattle.rm_laws.proofs.Phases.{state}

@@ -1,14 +1,7 @@
 -- The record of one application, after operations of it and of others.
-use Rattle.std.proofs.Common.{◌≡◌, List, [], ◌∷◌, ◌++◌, Bool, true, false, ◌||◌, not, cond, if◌then◌else◌, Option, None, Some, option_map, filter, fold, refl, sym, ap, subst, arith, ◌∙◌}
-use Rattle.std.specs.List.{list_any}
-use Rattle.std.proofs.lemmas.Bool.Decides.{nat_tests}
-use Rattle.rm_types.specs.declared.ids.AppId.{AppId}
-use Rattle.rm_types.specs.declared.operations.Op.{Op}
-use Rattle.rm_types.specs.declared.operations.Op.TheVariants.{Epoch, App, Attempt, AttemptEnd, AppEnd, Remove}
-use Rattle.rm_types.specs.declared.records.AppRecord.{AppRecord}
-use Rattle.rm_types.specs.Ids.{is_app}
-use Rattle.rm_types.specs.Records.{Records, recorded, record_of, with_record, fits_records, stray_from}
-use Rattle.rm_types.proofs.IdLemmas.{same_app}
+use Rattle.rm_laws.proofs.Common.{◌≡◌, List, [], ◌∷◌, ◌++◌, Bool, true, false, ◌||◌, not, cond, if◌then◌else◌, Option, None, Some, filter, fold, refl, sym, ap, subst, arith, ◌∙◌, list_any, nat_tests, AppId, Op, Epoch, App, Attempt, AttemptEnd, AppEnd, Remove, AppRecord, is_app, Records, recorded, record_of, with_record, fits_records, same_app}
+use Rattle.std.proofs.Common.{option_map}
+use Rattle.rm_types.specs.Records.{stray_from}
 
 -- the operation is one of this application
 abbrev pub is_of : AppId → Op → Bool

@@ -1,14 +1,7 @@
 -- What holds along a whole log where each allowed entry keeps it; and that what entries give is in order, where each entry gives
 -- what is beyond the state before it, what is beyond the state after it comes later in the order, and what is beyond a later
 -- state is beyond a former one.
-use Rattle.std.proofs.Common.{◌≡◌, ◌≢◌, List, [], ◌∷◌, ◌++◌, refl, flat_map, subst, sym}
-use Rattle.rm_types.specs.declared.entries.Entry.{Entry}
-use Rattle.rm_types.specs.declared.operations.Op.{Op}
-use Rattle.rm_types.specs.declared.settings.Settings.{Settings}
-use Rattle.rm_model.specs.State.{Manager, opening_state}
-use Rattle.rm_model.specs.Changes.{after, after_all}
-use Rattle.rm_model.specs.Rules.{Allowed}
-use Rattle.rm_model.specs.Lawful.{AllAllowed}
+use Rattle.rm_laws.proofs.Common.{◌≡◌, ◌≢◌, List, [], ◌∷◌, ◌++◌, refl, flat_map, subst, sym, Entry, Op, Settings, Manager, opening_state, after, after_all, Allowed, AllAllowed}
 use Rattle.rm_laws.proofs.Lists.{Each, Pairs, each-append, each-map, pairs-append}
 
 -- a state after a beginning of a log

@@ -1,21 +1,9 @@
 -- What stands on a node, added up by one part of its sizes; and what nodes offer.
-use Rattle.std.proofs.Common.{◌≡◌, ℕ, zero, suc, ◌+◌, ◌-◌, ◌*◌, ◌≤◌, List, [], ◌∷◌, ◌++◌, Bool, true, false, ◌||◌, cond, if◌then◌else◌, Option, None, Some, map, filter, fold, refl, ap, arith, ◌∙◌}
-use Rattle.std.specs.Prelude.{sum_by, option_and_then, nat_le}
-use Rattle.std.specs.List.{list_any, range_with_len}
-use Rattle.std.specs.Str.{bytes_eq}
-use Rattle.std.proofs.lemmas.Bool.Decides.{nat_tests}
-use Rattle.std.proofs.lemmas.List.Sums.{sum_by-append}
-use Rattle.std.proofs.lemmas.Bool.{and_parts}
-use Rattle.rm_types.specs.declared.containers.Ask.{Ask}
-use Rattle.rm_types.specs.declared.containers.Grant.{Grant}
-use Rattle.rm_types.specs.declared.containers.Turn.{Turn}
-use Rattle.rm_types.specs.declared.ids.AttemptId.{AttemptId}
-use Rattle.rm_types.specs.declared.resources.Resource.{Resource}
-use Rattle.rm_types.specs.Passes.{PassNode, fitting, turn_grant, by_priority, left_of, seq_after, times, total_of, with_granted, with_turn}
+use Rattle.rm_laws.proofs.Common.{◌≡◌, ℕ, zero, suc, ◌+◌, ◌≤◌, List, [], ◌∷◌, ◌++◌, Bool, true, false, ◌||◌, cond, if◌then◌else◌, Option, None, Some, map, filter, fold, refl, ap, arith, ◌∙◌, sum_by, option_and_then, nat_le, list_any, range_with_len, bytes_eq, nat_tests, sum_by-append, and_parts, Ask, Grant, Turn, AttemptId, Resource, PassNode, fitting, turn_grant, by_priority, left_of, seq_after, with_granted, with_turn, NodeState, Row, judged_node}
+use Rattle.std.proofs.Common.{◌-◌, ◌*◌}
+use Rattle.rm_types.specs.Passes.{times, total_of}
 use Rattle.rm_types.specs.Resources.{difference_of, fits}
-use Rattle.rm_model.specs.State.{NodeState, Row}
 use Rattle.rm_model.specs.Containers.{rows_on}
-use Rattle.rm_model.specs.Nodes.{judged_node}
 
 -- one part of the size of all that stands on a node
 abbrev pub weight : (Resource → ℕ) → List ℕ → List Row → ℕ

@@ -1,20 +1,11 @@
 -- Containers become Acquired one by one, as all at once.
-use Rattle.std.proofs.Common.{◌≡◌, ℕ, zero, suc, ◌+◌, ◌<◌, List, [], ◌∷◌, ◌++◌, Bool, true, false, ◌||◌, IfSome, find, map, length, get_or, take, refl, sym, ◌∙◌, ap, subst, arith}
-use Rattle.std.specs.Prelude.{if◌then◌else◌}
-use Rattle.std.specs.List.{list_any}
+use Rattle.rm_master.proofs.Common.{◌≡◌, ℕ, ◌+◌, List, [], ◌∷◌, ◌++◌, Bool, true, false, ◌||◌, find, map, length, take, refl, sym, ◌∙◌, ap, subst, arith, if◌then◌else◌, list_any, BookRow, Closing, ContainerState, Acquired, Grant, ContainerId, Reply, Allocated, BookOf}
+use Rattle.std.proofs.Common.{zero, suc, ◌<◌, IfSome, get_or}
 use Rattle.std.proofs.lemmas.List.{map-append, take_more}
 use Rattle.std.proofs.lemmas.List.Folds.{list_any-append}
-use Rattle.rm_types.specs.declared.containers.BookRow.{BookRow}
-use Rattle.rm_types.specs.declared.containers.Closing.{Closing}
-use Rattle.rm_types.specs.declared.containers.ContainerState.{ContainerState}
-use Rattle.rm_types.specs.declared.containers.ContainerState.TheVariants.{Acquired}
-use Rattle.rm_types.specs.declared.containers.Grant.{Grant}
-use Rattle.rm_types.specs.declared.ids.ContainerId.{ContainerId}
-use Rattle.rm_types.specs.declared.replies.Reply.{Reply}
-use Rattle.rm_types.specs.declared.replies.Reply.TheVariants.{Allocated}
 use Rattle.rm_types.specs.Ids.{is_container}
 use Rattle.rm_types.proofs.IdLemmas.{container_back}
-use Rattle.rm_book.specs.Books.{BookOf, is_of, with_state}
+use Rattle.rm_book.specs.Books.{is_of, with_state}
 use Rattle.rm_book.specs.Granted.{AllMayBeTold, may_be_told}
 use Rattle.rm_model.specs.Facts.{has_container}
 use Rattle.rm_master.specs.Answers.{acquired, acquired_row, ids_granted, containers_told}

@@ -1,30 +1,18 @@
 -- Where the row of an attempt that lives and its master change alike, and the attempt lives on, the tables show the judge's scene again.
-use Rattle.std.proofs.Common.{◌≡◌, ℕ, List, Bool, true, false, ◌&&◌, Option, None, Some, is_some, refl, sym, ◌∙◌, ap, subst, arith}
-use Rattle.std.specs.Prelude.{option_map, ◌==◌, nat_lt}
-use Rattle.std.proofs.lemmas.Bool.{false≢true}
-use Rattle.std.proofs.lemmas.Bool.Decides.{nat_tests}
+use Rattle.rm_master.proofs.Common.{◌≡◌, ℕ, List, Bool, true, false, ◌&&◌, Option, None, Some, is_some, refl, sym, ◌∙◌, ap, subst, arith, option_map, ◌==◌, nat_lt, false≢true, nat_tests, Closing, AttemptId, ContainerId, is_app, is_attempt, BookOf, is_alive, MasterState, Row, Scene, has_app, AppRow, Tables, row_of, SameRows, bare_dialogue, closings_for, session_of, plain_dialogue, RefinesLife, lives_by}
 use Rattle.rm_types.specs.declared.containers.AskOf.{AskOf}
-use Rattle.rm_types.specs.declared.containers.Closing.{Closing}
 use Rattle.rm_types.specs.declared.ids.AppId.{AppId}
-use Rattle.rm_types.specs.declared.ids.AttemptId.{AttemptId}
-use Rattle.rm_types.specs.declared.ids.ContainerId.{ContainerId}
-use Rattle.rm_types.specs.Ids.{is_app, is_attempt}
 use Rattle.rm_types.proofs.IdLemmas.{same_attempt, same_app}
 use Rattle.rm_book.specs.AskTables.{AsksOf}
-use Rattle.rm_book.specs.Books.{BookOf}
 use Rattle.rm_states.specs.declared.attempt.states.AttemptState.{AttemptState}
 use Rattle.rm_states.specs.declared.attempt.states.AttemptState.TheVariants as attempts
-use Rattle.rm_states.specs.attempt.Table.{is_alive}
-use Rattle.rm_model.specs.State.{Endings, LifeState, MasterState, Row, Scene}
-use Rattle.rm_model.specs.Facts.{has_app}
+use Rattle.rm_model.specs.State.{Endings, LifeState}
 use Rattle.rm_tables.specs.declared.events.MainEvent.{MainEvent}
 use Rattle.rm_tables.specs.declared.events.SchedEvent.{SchedEvent}
-use Rattle.rm_tables.specs.declared.rows.AppRow.{AppRow}
 use Rattle.rm_tables.specs.declared.rows.Current.{Current}
-use Rattle.rm_tables.specs.declared.tables.Tables.{Tables}
-use Rattle.rm_tables.specs.Rows.{row_of, with_row}
-use Rattle.rm_refinement.specs.Agreement.{AttemptAgrees, ClosingsAgree, HasNoSession, NumberAgrees, RowAgrees, SameAsks, SameNodes, SameRows, bare_dialogue, closings_for, session_of, plain_dialogue}
-use Rattle.rm_refinement.specs.Services.{RefinesLife, finishes_by, is_ending, lives_by}
+use Rattle.rm_tables.specs.Rows.{with_row}
+use Rattle.rm_refinement.specs.Agreement.{AttemptAgrees, ClosingsAgree, HasNoSession, NumberAgrees, RowAgrees, SameAsks, SameNodes}
+use Rattle.rm_refinement.specs.Services.{finishes_by, is_ending}
 use Rattle.rm_refinement.proofs.AppRows.{other_row, own_row}
 use Rattle.rm_master.proofs.Replies.{Lives}
 

@@ -1,30 +1,11 @@
 -- What an allocation is answered from the tables is what the judge answers, where the tables show the judge's scene.
-use Rattle.std.proofs.Common.{◌≡◌, ℕ, ◌+◌, List, Bool, true, false, not, ◌&&◌, Option, None, Some, is_some, is_none, filter, map, length, count_by, refl, sym, ◌∙◌, ap, subst}
-use Rattle.std.specs.Prelude.{if◌then◌else◌, option_map, ◌==◌, nat_lt}
-use Rattle.std.specs.List.{list_any}
-use Rattle.std.proofs.lemmas.Bool.{eqb-true}
-use Rattle.rm_types.specs.declared.containers.Ask.{Ask}
-use Rattle.rm_types.specs.declared.containers.Closing.{Closing}
-use Rattle.rm_types.specs.declared.containers.Grant.{Grant}
-use Rattle.rm_types.specs.declared.ids.AttemptId.{AttemptId}
-use Rattle.rm_types.specs.declared.replies.Reply.{Reply}
-use Rattle.rm_types.specs.declared.replies.Reply.TheVariants.{Resync, WrongId, TooLarge, Full, Allocated}
-use Rattle.rm_types.specs.Ids.{is_attempt}
+use Rattle.rm_master.proofs.Common.{◌≡◌, ℕ, ◌+◌, List, Bool, true, false, not, ◌&&◌, Option, None, Some, is_some, is_none, filter, map, length, count_by, refl, sym, ◌∙◌, ap, subst, if◌then◌else◌, option_map, ◌==◌, nat_lt, list_any, eqb-true, Ask, Closing, Grant, AttemptId, Reply, Resync, WrongId, TooLarge, Full, Allocated, is_attempt, MasterState, Scene, is_live, is_registered, master_of, has_app, untold_rows, with_asks, AppRow, Dialogue, Tables, is_masters_in, row_of, bare_dialogue, closings_for, plain_dialogue, RefinesLife, lives_by}
 use Rattle.rm_types.specs.Records.{Records}
 use Rattle.rm_book.specs.Granted.{grants_to}
 use Rattle.rm_book.specs.AskTables.{attempt_asks as asks_in}
 use Rattle.rm_book.specs.ManyAsks.{asks_after}
-use Rattle.rm_model.specs.State.{MasterState, Scene}
-use Rattle.rm_model.specs.Attempts.{is_live, is_registered, master_of}
-use Rattle.rm_model.specs.Facts.{has_app}
-use Rattle.rm_model.specs.MasterReplies.{allocate_reply, allocated_reply, allocation_reply, has_too_many as too_many_told, outbox_of, untold_rows, with_asks}
-use Rattle.rm_tables.specs.declared.rows.AppRow.{AppRow}
-use Rattle.rm_tables.specs.declared.rows.Dialogue.{Dialogue}
-use Rattle.rm_tables.specs.declared.tables.Tables.{Tables}
-use Rattle.rm_tables.specs.Leaving.{is_masters_in}
-use Rattle.rm_tables.specs.Rows.{row_of}
-use Rattle.rm_refinement.specs.Agreement.{ClosingsAgree, PlainDialogue, bare_dialogue, closings_for, plain_dialogue}
-use Rattle.rm_refinement.specs.Services.{RefinesLife, lives_by}
+use Rattle.rm_model.specs.MasterReplies.{allocate_reply, allocated_reply, allocation_reply, has_too_many as too_many_told, outbox_of}
+use Rattle.rm_refinement.specs.Agreement.{ClosingsAgree, PlainDialogue}
 use Rattle.rm_master.specs.Told.{allocate_told, allocated_told, asks_too_much, closings_told, grants_told, asks_too_many, living_row, new_told, said_told, spoken_told}
 use Rattle.rm_master.proofs.Asked.{lines_told, many_told}
 use Rattle.rm_master.proofs.Granted.{endings_same, grants_same}

@@ -1,30 +1,18 @@
 -- What a master is told of, from the tables and by the judge: grants and endings.
-use Rattle.std.proofs.Common.{◌≡◌, ℕ, List, [], ◌∷◌, Bool, true, false, not, ◌&&◌, ◌||◌, Option, None, Some, is_some, filter, find, map, refl, sym, ◌∙◌, ap, arith}
-use Rattle.std.specs.Prelude.{if◌then◌else◌}
-use Rattle.std.specs.List.{list_any}
-use Rattle.std.proofs.lemmas.Bool.{false≢true}
-use Rattle.std.proofs.lemmas.Bool.Decides.{nat_tests}
-use Rattle.rm_types.specs.declared.containers.BookRow.{BookRow}
-use Rattle.rm_types.specs.declared.containers.Closing.{Closing}
-use Rattle.rm_types.specs.declared.containers.ContainerState.{ContainerState}
-use Rattle.rm_types.specs.declared.containers.ContainerState.TheVariants.{Granted, Acquired, Running, Completed}
-use Rattle.rm_types.specs.declared.containers.Grant.{Grant}
+use Rattle.rm_master.proofs.Common.{◌≡◌, ℕ, List, [], ◌∷◌, Bool, true, false, not, ◌&&◌, ◌||◌, Option, None, Some, is_some, filter, find, map, refl, sym, ◌∙◌, ap, arith, if◌then◌else◌, list_any, false≢true, nat_tests, BookRow, Closing, ContainerState, Acquired, Grant, AttemptId, ContainerId, is_app, is_attempt, Row, Scene, untold_rows, is_masters_in, SameRows, closings_for}
+use Rattle.rm_types.specs.declared.containers.ContainerState.TheVariants.{Granted, Running, Completed}
 use Rattle.rm_types.specs.declared.ids.AppId.{AppId}
-use Rattle.rm_types.specs.declared.ids.AttemptId.{AttemptId}
-use Rattle.rm_types.specs.declared.ids.ContainerId.{ContainerId}
 use Rattle.rm_types.specs.declared.records.AppRecord.{AppRecord}
 use Rattle.rm_types.specs.declared.records.AttemptRecord.{AttemptRecord}
-use Rattle.rm_types.specs.Ids.{is_app, is_attempt, is_container}
+use Rattle.rm_types.specs.Ids.{is_container}
 use Rattle.rm_types.specs.Records.{is_some_and, record_of}
 use Rattle.rm_book.specs.Granted.{row_grant, grants_to, is_granted_to}
 use Rattle.rm_types.specs.Containers.{is_granted as is_granted_in, is_granted}
-use Rattle.rm_model.specs.State.{Row, Scene}
 use Rattle.rm_model.specs.Attempts.{is_masters}
 use Rattle.rm_model.specs.Facts.{attempts_in}
-use Rattle.rm_model.specs.MasterReplies.{untold_rows}
-use Rattle.rm_tables.specs.Leaving.{attempt_in, is_masters_in, is_own_or_unkept, masters_by}
+use Rattle.rm_tables.specs.Leaving.{attempt_in, is_own_or_unkept, masters_by}
 use Rattle.rm_tables.specs.Talks.{without_closings}
-use Rattle.rm_refinement.specs.Agreement.{PlainRow, SameRows, bare_row, closings_for, plain_row}
+use Rattle.rm_refinement.specs.Agreement.{PlainRow, bare_row, plain_row}
 use Rattle.rm_master.specs.Told.{closings_told}
 
 -- whether a container is a master's, by the record of its application

@@ -1,3 +1,4 @@
+mod Common
 pub mod Acquired
 pub mod Replies
 pub mod Asked

@@ -1,13 +1,6 @@
 -- The judge's masters after one registers, and after one changes: that one is found so, and each other as it was.
-use Rattle.std.proofs.Common.{◌≡◌, ℕ, List, [], ◌∷◌, ◌++◌, Bool, true, false, Option, None, Some, is_some, find, map, refl, sym, ◌∙◌, ap, arith}
-use Rattle.std.specs.Prelude.{if◌then◌else◌, option_map}
-use Rattle.std.proofs.lemmas.Bool.{false≢true}
-use Rattle.std.proofs.lemmas.Bool.Decides.{nat_tests}
-use Rattle.rm_types.specs.declared.ids.AttemptId.{AttemptId}
-use Rattle.rm_types.specs.Ids.{is_attempt}
+use Rattle.rm_master.proofs.Common.{◌≡◌, ℕ, List, [], ◌∷◌, ◌++◌, Bool, true, false, Option, None, Some, is_some, find, map, refl, sym, ◌∙◌, ap, arith, if◌then◌else◌, option_map, false≢true, nat_tests, AttemptId, is_attempt, MasterState, session_of}
 use Rattle.rm_types.proofs.IdLemmas.{attempt_itself}
-use Rattle.rm_model.specs.State.{MasterState}
-use Rattle.rm_refinement.specs.Agreement.{session_of}
 use Rattle.rm_master.proofs.Asked.{not_both}
 
 pub own_joined : (new : MasterState) (masters : List MasterState) → session_of masters new.attempt ≡ None → session_of (masters ++ new ∷ []) new.attempt ≡ Some new

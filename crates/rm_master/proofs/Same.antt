@@ -1,41 +1,20 @@
 -- After each message of a master the tables show the judge's scene again, in which the life is the one after that message.
-use Rattle.std.proofs.Common.{◌≡◌, ℕ, ◌+◌, List, [], ◌∷◌, ◌++◌, Bool, true, false, not, ◌&&◌, ◌||◌, Option, None, Some, is_some, is_none, filter, map, refl, sym, ◌∙◌, ap, subst, arith}
-use Rattle.std.specs.Prelude.{if◌then◌else◌, option_map, ◌==◌}
-use Rattle.std.specs.List.{list_any}
-use Rattle.std.proofs.lemmas.Bool.{eqb-true, false≢true}
-use Rattle.std.proofs.lemmas.Bool.Decides.{nat_tests}
-use Rattle.rm_types.specs.declared.containers.Ask.{Ask}
-use Rattle.rm_types.specs.declared.containers.BookRow.{BookRow}
-use Rattle.rm_types.specs.declared.containers.Closing.{Closing}
-use Rattle.rm_types.specs.declared.containers.ContainerState.{ContainerState}
-use Rattle.rm_types.specs.declared.containers.ContainerState.TheVariants.{Acquired}
-use Rattle.rm_types.specs.declared.containers.Grant.{Grant}
-use Rattle.rm_types.specs.declared.ids.AttemptId.{AttemptId}
-use Rattle.rm_types.specs.declared.ids.ContainerId.{ContainerId}
-use Rattle.rm_types.specs.declared.messages.MasterAsk.{MasterAsk}
-use Rattle.rm_types.specs.declared.messages.MasterAsk.TheVariants.{Register, Finish, Allocate}
-use Rattle.rm_types.specs.declared.replies.Reply.{Reply}
-use Rattle.rm_types.specs.declared.replies.Reply.TheVariants.{MasterRegistered, Already, Gone, Resync, WrongId, TooLarge, Full, Allocated, NotRegistered, Finishing, Finished}
-use Rattle.rm_types.specs.Ids.{is_attempt}
+use Rattle.rm_master.proofs.Common.{◌≡◌, ℕ, ◌+◌, List, [], ◌∷◌, ◌++◌, Bool, true, false, not, ◌&&◌, ◌||◌, Option, None, Some, is_some, is_none, filter, map, refl, sym, ◌∙◌, ap, subst, arith, if◌then◌else◌, option_map, ◌==◌, list_any, eqb-true, false≢true, nat_tests, Ask, BookRow, Closing, ContainerState, Acquired, Grant, AttemptId, ContainerId, MasterAsk, Register, Finish, Allocate, Reply, Resync, WrongId, TooLarge, Full, Allocated, is_attempt, MasterState, Row, Scene, is_live, is_registered, master_of, untold_rows, with_asks, is_alive, AppRow, Dialogue, Tables, row_of, SameRows, bare_dialogue, closings_for, session_of, plain_dialogue, RefinesLife, lives_by}
+use Rattle.rm_types.specs.declared.replies.Reply.TheVariants.{MasterRegistered, Already, Gone, NotRegistered, Finishing, Finished}
 use Rattle.rm_types.specs.Resources.{fits}
 use Rattle.rm_states.specs.declared.attempt.states.AttemptState.TheVariants as attempts
 use Rattle.rm_book.proofs.Lists.{map_view}
-use Rattle.rm_model.specs.State.{MasterState, Release, Row, Scene}
-use Rattle.rm_model.specs.Attempts.{is_finishing, is_last, is_live, is_registered, master_of}
+use Rattle.rm_model.specs.State.{Release}
+use Rattle.rm_model.specs.Attempts.{is_finishing, is_last}
 use Rattle.rm_model.specs.Containers.{released_by}
 use Rattle.rm_model.specs.Facts.{has_container, kept_end}
-use Rattle.rm_model.specs.MasterReplies.{allocate_reply, allocated_reply, allocates, finish_reply, finished_issued, has_too_many as too_many_told, is_new_to_master, life_after_master, master_reply, outbox_of, register_reply, row_allocated, untold_rows, with_asks}
+use Rattle.rm_model.specs.MasterReplies.{allocate_reply, allocated_reply, allocates, finish_reply, finished_issued, has_too_many as too_many_told, is_new_to_master, life_after_master, master_reply, outbox_of, register_reply, row_allocated}
 use Rattle.rm_states.specs.declared.attempt.states.AttemptState.{AttemptState}
 use Rattle.rm_states.specs.declared.attempt.states.AttemptEvent.{AttemptEvent}
 use Rattle.rm_states.specs.declared.attempt.states.AttemptEvent.TheVariants as attempt_events
-use Rattle.rm_states.specs.attempt.Table.{next_attempt_state as next_attempt_state, is_alive}
-use Rattle.rm_tables.specs.declared.rows.AppRow.{AppRow}
-use Rattle.rm_tables.specs.declared.rows.Dialogue.{Dialogue}
-use Rattle.rm_tables.specs.declared.tables.Tables.{Tables}
-use Rattle.rm_tables.specs.Rows.{row_of}
+use Rattle.rm_states.specs.attempt.Table.{next_attempt_state as next_attempt_state}
 use Rattle.rm_tables.specs.Talks.{dialogue_begun, registered_row, said_row, told_row, with_answer, with_text, without_closings}
-use Rattle.rm_refinement.specs.Agreement.{PlainDialogue, PlainRow, SameRows, bare_row, bare_dialogue, closings_for, session_of, plain_row, plain_dialogue}
-use Rattle.rm_refinement.specs.Services.{RefinesLife, lives_by}
+use Rattle.rm_refinement.specs.Agreement.{PlainDialogue, PlainRow, bare_row, plain_row}
 use Rattle.rm_master.specs.Answers.{acquired, acquired_row, after_master, allocated_with, ids_granted, is_new_to, registered, release_events, said, containers_told}
 use Rattle.rm_master.specs.Told.{goes_on, living_row, spoken_by}
 use Rattle.rm_master.proofs.Again.{again}

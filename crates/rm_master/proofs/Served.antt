@@ -1,15 +1,9 @@
 -- What the service promises, by what it answers and how the tables change.
-use Rattle.std.proofs.Common.{◌≡◌, Err, Ok, Result, sym, ◌∙◌, subst}
+use Rattle.rm_master.proofs.Common.{◌≡◌, sym, ◌∙◌, subst, AttemptId, MasterAsk, Register, Finish, Allocate, Reply, Scene, Tables, RefinesLife}
+use Rattle.std.proofs.Common.{Err, Ok, Result}
 use Rattle.std.specs.Prelude.{IfOk}
 use Rattle.rm_types.specs.declared.duplicate.NoMemory.{NoMemory}
-use Rattle.rm_types.specs.declared.ids.AttemptId.{AttemptId}
-use Rattle.rm_types.specs.declared.messages.MasterAsk.{MasterAsk}
-use Rattle.rm_types.specs.declared.messages.MasterAsk.TheVariants.{Register, Finish, Allocate}
-use Rattle.rm_types.specs.declared.replies.Reply.{Reply}
-use Rattle.rm_model.specs.State.{Scene}
 use Rattle.rm_model.specs.MasterReplies.{life_after_master, master_reply}
-use Rattle.rm_tables.specs.declared.tables.Tables.{Tables}
-use Rattle.rm_refinement.specs.Services.{RefinesLife}
 use Rattle.rm_master.specs.Answers.{after_master}
 use Rattle.rm_master.specs.Told.{master_told}
 use Rattle.rm_master.proofs.Allocations.{allocate_answer}

@@ -1,26 +1,13 @@
 -- Which lane moves next: the one that the letters say, and behind them the first that is ready.
-use Rattle.std.proofs.Common.{ℕ, ◌≡◌, ◌≢◌, ◌⊎◌, inl, inr, ⊎_elim, List, [], ◌∷◌, ◌++◌, Bool, true, false, None, Some, Option, if◌then◌else◌, refl, sym, ◌∙◌, ap, subst}
+use Rattle.rm_plain.proofs.Common.{ℕ, ◌≢◌, ◌⊎◌, inl, inr, ⊎_elim, List, [], ◌∷◌, ◌++◌, Bool, true, false, None, Some, Option, refl, sym, ◌∙◌, ap, subst, fold_push, same_Some, Entry, Lane, Client, Master, Node, Clock, Main, Sched, Hand, Write, End, Begin, Op, Close, Life, Script, lane_of_entry, Records, Place, close_left, Seen, as_new, is_blown, stands, HasNoWork, is_ready_at, DeskView}
+use Rattle.std.proofs.Common.{◌≡◌, if◌then◌else◌}
 use Rattle.std.specs.Prelude.{IfNone, find, is_some}
-use Rattle.std.proofs.lemmas.List.Sums.{fold_push}
-use Rattle.std.proofs.lemmas.Option.{same_Some}
-use Rattle.rm_types.specs.declared.entries.Entry.{Entry}
-use Rattle.rm_types.specs.declared.messages.Lane.{Lane}
-use Rattle.rm_types.specs.declared.messages.Lane.TheVariants.{Client, Master, Node, Clock, Main, Sched, Hand, Write, End, Begin}
-use Rattle.rm_types.specs.declared.operations.Op.{Op}
-use Rattle.rm_types.specs.declared.scripts.Close.{Close}
-use Rattle.rm_types.specs.declared.scripts.Life.{Life}
-use Rattle.rm_types.specs.declared.scripts.Script.{Script}
-use Rattle.rm_types.specs.Lanes.{lane_of_entry}
-use Rattle.rm_types.specs.Records.{Records}
 use Rattle.rm_types.proofs.TestLemmas.{found_passes}
-use Rattle.rm_model.specs.Place.{Place, close_left}
 use Rattle.rm_tables.specs.declared.tables.Tables.{Tables}
 use Rattle.rm_model.specs.Lawful.{place_after}
-use Rattle.rm_core.specs.Seen.{Seen}
-use Rattle.rm_core.specs.Words.{as_new, is_blown, manager_after, stands}
+use Rattle.rm_core.specs.Words.{manager_after}
 use Rattle.rm_core.proofs.Telling.{tables_told}
-use Rattle.rm_desk.specs.Lanes.{HasNoWork, IsWork, is_ready_at}
-use Rattle.rm_desk.specs.View.{DeskView}
+use Rattle.rm_desk.specs.Lanes.{IsWork}
 use Rattle.rm_desk.specs.Runs.{IsScriptRun as GoesAlong}
 use Rattle.rm_plain.specs.declared.schedule.Letter.{Letter}
 use Rattle.rm_plain.specs.declared.schedule.Letter.TheVariants.{Moves, Plain, Unknown}

@@ -1,25 +1,11 @@
 -- How parts of a run follow each other, and how a run comes to its end.
-use Rattle.std.proofs.Common.{◌≡◌, ◌≢◌, ◌≤◌, ℕ, List, [], ◌∷◌, ◌++◌, Bool, true, false, Some, None, Option, Ok, Err, Result, refl, sym, ◌∙◌, ap, subst, arith}
-use Rattle.std.specs.Prelude.{is_ok}
-use Rattle.std.proofs.lemmas.List.{append-nil, append_assoc}
-use Rattle.std.proofs.lemmas.Option.{same_Some}
-use Rattle.rm_types.specs.declared.messages.Lane.{Lane}
-use Rattle.rm_types.specs.declared.messages.Lane.TheVariants.{Client, Master, Node, Clock, Main, Sched, Hand, Write, End, Begin}
-use Rattle.rm_types.specs.declared.operations.Op.{Op}
-use Rattle.rm_types.specs.declared.scripts.Close.{Close}
-use Rattle.rm_types.specs.declared.scripts.Close.TheVariants.{Settle, Crash}
+use Rattle.rm_plain.proofs.Common.{◌≢◌, ℕ, List, [], ◌∷◌, ◌++◌, Bool, true, false, Some, None, Option, Ok, Err, Result, refl, sym, ◌∙◌, ap, subst, arith, is_ok, append-nil, append_assoc, same_Some, Lane, Client, Master, Node, Clock, Main, Sched, Hand, Write, End, Begin, Op, Close, Settle, Crash, Fallen, DiskView, Fused, KeepsFuse, close_left, StoreError, StoreState, seen, is_blown, stands, DeskView, LaneEffect, HasNoWork, is_ready_at}
+use Rattle.std.proofs.Common.{◌≡◌, ◌≤◌}
 use Rattle.rm_types.specs.declared.scripts.Segment.{Segment}
-use Rattle.rm_disk.specs.declared.fallen.Fallen.{Fallen}
-use Rattle.rm_disk.specs.Disk.{DiskView}
-use Rattle.rm_disk.specs.Fuse.{Fused, KeepsFuse}
-use Rattle.rm_model.specs.Place.{close_left}
-use Rattle.rm_store.specs.declared.fault.StoreError.{StoreError}
-use Rattle.rm_store.specs.Store.{StoreInvariant as IsStoreSound, StoreState, seen}
+use Rattle.rm_store.specs.Store.{StoreInvariant as IsStoreSound}
 use Rattle.rm_store.specs.Errors.{store_broken_after}
-use Rattle.rm_core.specs.Words.{has_rest, is_blown, stands}
-use Rattle.rm_desk.specs.View.{DeskView}
-use Rattle.rm_desk.specs.Effects.{LaneEffect}
-use Rattle.rm_desk.specs.Lanes.{HasNoWork, IsStep, is_ready_at, life_goes_on}
+use Rattle.rm_core.specs.Words.{has_rest}
+use Rattle.rm_desk.specs.Lanes.{IsStep, life_goes_on}
 use Rattle.rm_desk.specs.Runs.{IsLast, IsScriptOver as IsDeskOver, IsPlaceSound as IsDeskSound}
 use Rattle.rm_plain.specs.Falls.{fall}
 use Rattle.rm_plain.specs.Goes.{ExtendsRunOver, ExtendsRun, IsRun}

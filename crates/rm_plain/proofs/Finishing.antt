@@ -1,32 +1,16 @@
 -- All lives of a script, from the first one on, and what a run over them shows.
-use Rattle.std.proofs.Common.{◌≡◌, ◌≢◌, ◌⊎◌, ℕ, List, [], ◌∷◌, ◌++◌, true, false, not, None, Ok, Err, Result, refl, sym, ◌∙◌, ap, subst, inl, inr, ⊎_elim, arith}
-use Rattle.std.specs.Prelude.{IfErr, IsOk, OnOk}
-use Rattle.std.proofs.lemmas.List.{append-nil, append_assoc}
+use Rattle.rm_plain.proofs.Common.{◌≢◌, ◌⊎◌, ℕ, List, [], ◌∷◌, ◌++◌, true, false, None, Ok, Err, Result, refl, sym, ◌∙◌, ap, subst, inl, inr, ⊎_elim, arith, IfErr, OnOk, append-nil, append_assoc, Op, Entry, Begin, Life, Script, Settings, on_ok_map, on_ok, Fallen, DiskView, Fused, leaves_of, leaves_same, leaves_trans, state_after, Place, Manager, opening_state, IsBelowLast, seen, Seen, StandsFor, as_new, stands, DeskView, is_ready_at, IsHanded}
+use Rattle.std.proofs.Common.{◌≡◌, not}
+use Rattle.std.specs.Prelude.{IsOk}
 use Rattle.std.proofs.lemmas.Bool.{and_parts, not-true}
-use Rattle.rm_types.specs.declared.operations.Op.{Op}
-use Rattle.rm_types.specs.declared.entries.Entry.{Entry}
-use Rattle.rm_types.specs.declared.messages.Lane.TheVariants.{Begin}
-use Rattle.rm_types.specs.declared.scripts.Life.{Life}
-use Rattle.rm_types.specs.declared.scripts.Script.{Script}
-use Rattle.rm_types.specs.declared.settings.Settings.{Settings}
 use Rattle.rm_types.specs.Lists.{is_nil}
-use Rattle.rm_types.proofs.TestLemmas.{on_ok_map, on_ok, not_nil}
-use Rattle.rm_disk.specs.declared.fallen.Fallen.{Fallen}
-use Rattle.rm_disk.specs.Disk.{DiskView}
-use Rattle.rm_disk.specs.Fuse.{Fused}
-use Rattle.rm_disk.proofs.Views.{leaves_of, leaves_same, leaves_trans, quiet_same}
+use Rattle.rm_types.proofs.TestLemmas.{not_nil}
+use Rattle.rm_disk.proofs.Views.{quiet_same}
 use Rattle.rm_model.specs.Downs.{AllGoDownAtRest}
-use Rattle.rm_model.specs.Lawful.{IsAtRest, IsDone, Lawful, state_after}
-use Rattle.rm_model.specs.Place.{Place}
-use Rattle.rm_model.specs.State.{Manager, opening_state}
+use Rattle.rm_model.specs.Lawful.{IsAtRest, IsDone, Lawful}
 use Rattle.rm_plain.specs.Survives.{HoldsWithin, SurvivesAll, SurvivesNow}
-use Rattle.rm_store.specs.Store.{IsBelowLast, seen}
-use Rattle.rm_core.specs.Seen.{Seen, StandsFor}
-use Rattle.rm_core.specs.Words.{as_new, stands}
-use Rattle.rm_desk.specs.View.{DeskView}
 use Rattle.rm_plain.specs.declared.halts.Stop.{Stop}
 use Rattle.rm_plain.specs.declared.halts.Stop.TheVariants.{DiskFault, Damaged, Full, Schedule, EpochsSpent, Memory}
-use Rattle.rm_desk.specs.Lanes.{is_ready_at}
 use Rattle.rm_desk.specs.Runs.{IsScriptRun as GoesAlong, IsPlaceSound as IsDeskSound, DescribesState}
 use Rattle.rm_plain.specs.Falls.{falls_of}
 use Rattle.rm_plain.specs.Goes.{IsOver, IsRun}
@@ -34,7 +18,6 @@ use Rattle.rm_plain.specs.declared.halts.Halt.{Halt}
 use Rattle.rm_plain.specs.declared.halts.Halt.TheVariants as halts
 use Rattle.rm_plain.specs.declared.schedule.Step.{Step}
 use Rattle.rm_plain.specs.Halted.{stop_of}
-use Rattle.rm_desk.specs.Effects.{IsHanded}
 use Rattle.rm_plain.specs.Opens.{IsOfStart, StartsOver}
 use Rattle.rm_plain.specs.Order.{AllReady, HaltsHere, Order, StopsHere}
 use Rattle.rm_plain.specs.Schedule.{MovesBy, StopsAt, by_letters, letters_left}

@@ -1,32 +1,15 @@
 -- What is left on a disk where a part of a run halted.
-use Rattle.std.proofs.Common.{◌≡◌, ◌⊎◌, ℕ, ◌<◌, ◌≤◌, List, [], ◌∷◌, ◌++◌, None, Some, Option, Bool, true, false, Ok, Err, Result, take, slice_get, refl, sym, ◌∙◌, ap, subst, inl, inr, ⊎_elim, arith}
-use Rattle.std.specs.Prelude.{IfErr}
-use Rattle.std.proofs.lemmas.List.{append-nil, append_assoc}
-use Rattle.rm_types.specs.declared.entries.Entry.{Entry}
-use Rattle.rm_types.specs.declared.operations.Op.{Op}
-use Rattle.rm_types.specs.declared.scripts.Close.{Close}
-use Rattle.rm_types.specs.declared.scripts.Close.TheVariants.{Settle, Crash}
+use Rattle.rm_plain.proofs.Common.{◌⊎◌, ℕ, ◌<◌, List, [], ◌∷◌, ◌++◌, None, Some, Option, Bool, true, false, Ok, Err, Result, refl, sym, ◌∙◌, ap, subst, inl, inr, ⊎_elim, arith, IfErr, append-nil, append_assoc, Entry, Op, Close, Settle, Crash, Records, records, DiskView, Fused, KeepsFuse, leaves_of, leaves_same, leaves_trans, DeviceHolds, kept_after_landing, state_after, close_left, Manager, StoreError, IsBelowLast, seen, Seen, StandsFor, landed_over, IsHanded, DeskView}
+use Rattle.std.proofs.Common.{◌≡◌, ◌≤◌, take, slice_get}
 use Rattle.rm_types.specs.Counts.{Rose}
-use Rattle.rm_types.specs.Records.{Records, records, fits_records}
-use Rattle.rm_disk.specs.Disk.{DiskView}
-use Rattle.rm_disk.specs.Fuse.{Fused, KeepsFuse}
-use Rattle.rm_disk.proofs.Views.{leaves_of, leaves_same, leaves_trans}
-use Rattle.rm_store.specs.Content.{DeviceHolds}
-use Rattle.rm_model.specs.Changes.{kept_after_landing}
-use Rattle.rm_model.specs.Lawful.{state_after}
-use Rattle.rm_model.specs.Place.{close_left}
-use Rattle.rm_model.specs.State.{Manager}
+use Rattle.rm_types.specs.Records.{fits_records}
 use Rattle.rm_tree.specs.Shows.{shows}
 use Rattle.rm_plain.specs.Order.{HaltsHere, Order}
 use Rattle.rm_plain.specs.Survives.{HoldsAfter, HoldsKept, HoldsWithin}
-use Rattle.rm_store.specs.declared.fault.StoreError.{StoreError}
 use Rattle.rm_store.specs.declared.fault.StoreError.TheVariants as store
 use Rattle.rm_store.specs.Kept.{HasOps, LeavesOps, needed_for}
-use Rattle.rm_store.specs.Store.{IsBelowLast, room_behind, seen}
-use Rattle.rm_core.specs.Seen.{Seen, StandsFor, IsToBeKept}
-use Rattle.rm_core.specs.Words.{landed_over}
-use Rattle.rm_desk.specs.Effects.{IsHanded}
-use Rattle.rm_desk.specs.View.{DeskView}
+use Rattle.rm_store.specs.Store.{room_behind}
+use Rattle.rm_core.specs.Seen.{IsToBeKept}
 use Rattle.rm_plain.specs.declared.halts.Halt.{Halt}
 use Rattle.rm_plain.specs.declared.halts.Halt.TheVariants.{DiskFault, Full, Schedule, Memory}
 use Rattle.rm_plain.specs.Goes.{ExtendsRun, ExtendsRunOver}

@@ -1,3 +1,4 @@
+mod Common
 pub mod Choosing
 pub mod Longer
 pub mod Moving

@@ -1,26 +1,14 @@
 -- A run with one more entry.
-use Rattle.std.proofs.Common.{◌≡◌, ◌≢◌, List, [], ◌∷◌, ◌++◌, Bool, true, false, None, Some, Option, refl, sym, ◌∙◌, ap, subst}
+use Rattle.rm_plain.proofs.Common.{◌≢◌, List, [], ◌∷◌, ◌++◌, Bool, true, false, None, Some, Option, refl, sym, ◌∙◌, ap, subst, append-nil, append_assoc, fold_push, Entry, Blown, Op, lane_of_entry, Close, Script, Settings, Fallen, Manager, LifeState, opening_state, after, after_where, state_after, Place, close_left, Seen, as_new, DeskView}
+use Rattle.std.proofs.Common.{◌≡◌}
 use Rattle.std.specs.List.{fold}
 use Rattle.std.specs.Prelude.{slice_get}
-use Rattle.std.proofs.lemmas.List.{append-nil, append_assoc}
-use Rattle.std.proofs.lemmas.List.Sums.{fold_push}
-use Rattle.rm_types.specs.declared.entries.Entry.{Entry}
-use Rattle.rm_types.specs.declared.entries.Entry.TheVariants.{Opened, Issued, Handed, Kept as KeptEntry, Blown, Served, Accepted, Queued, Absorbed, Pass, Ordered, Ended, Settled, Down, Quiet}
+use Rattle.rm_types.specs.declared.entries.Entry.TheVariants.{Opened, Issued, Handed, Kept as KeptEntry, Served, Accepted, Queued, Absorbed, Pass, Ordered, Ended, Settled, Down, Quiet}
 use Rattle.rm_types.specs.declared.messages.Lane.TheVariants as lanes
-use Rattle.rm_types.specs.declared.operations.Op.{Op}
-use Rattle.rm_types.specs.Lanes.{lane_of_entry}
-use Rattle.rm_types.specs.declared.scripts.Close.{Close}
-use Rattle.rm_types.specs.declared.scripts.Script.{Script}
-use Rattle.rm_types.specs.declared.settings.Settings.{Settings}
-use Rattle.rm_disk.specs.declared.fallen.Fallen.{Fallen}
-use Rattle.rm_model.specs.State.{Manager, LifeState, opening_state}
-use Rattle.rm_model.specs.Changes.{after, after_all, after_where}
+use Rattle.rm_model.specs.Changes.{after_all}
 use Rattle.rm_model.specs.Downs.{AllGoDownAtRest, GoesDownAtRest}
-use Rattle.rm_model.specs.Lawful.{place_after, state_after}
-use Rattle.rm_model.specs.Place.{Place, beginning, close_left, moved}
-use Rattle.rm_core.specs.Seen.{Seen}
-use Rattle.rm_core.specs.Words.{as_new}
-use Rattle.rm_desk.specs.View.{DeskView}
+use Rattle.rm_model.specs.Lawful.{place_after}
+use Rattle.rm_model.specs.Place.{beginning, moved}
 use Rattle.rm_desk.specs.Runs.{IsScriptRun as GoesAlong}
 use Rattle.rm_desk.proofs.Longer.{IsOwn, own_silent}
 use Rattle.rm_plain.specs.Falls.{falls_at, falls_from}

@@ -1,36 +1,19 @@
 -- The moves of a desk, each a longer run.
-use Rattle.std.proofs.Common.{◌≡◌, ◌≢◌, ℕ, ◌<◌, ◌≤◌, List, [], ◌∷◌, ◌++◌, Bool, true, false, Some, None, Option, Ok, Err, Result, length, refl, sym, ◌∙◌, ap, subst, arith}
-use Rattle.std.specs.Prelude.{OnErr, OnOk, is_ok, slice_get}
-use Rattle.std.proofs.lemmas.List.{append-nil}
-use Rattle.std.proofs.lemmas.List.Sums.{fold_push}
-use Rattle.rm_types.specs.declared.entries.Entry.{Entry}
-use Rattle.rm_types.specs.declared.entries.Entry.TheVariants.{Blown, Opened, Settled, Down}
-use Rattle.rm_types.specs.declared.messages.Lane.{Lane}
-use Rattle.rm_types.specs.declared.messages.Lane.TheVariants.{Client, Master, Node, Clock, Main, Sched, Hand, Write, End, Begin}
+use Rattle.rm_plain.proofs.Common.{◌≢◌, ℕ, ◌<◌, List, [], ◌∷◌, ◌++◌, Bool, true, false, Some, None, Option, Ok, Err, Result, refl, sym, ◌∙◌, ap, subst, arith, OnOk, is_ok, append-nil, fold_push, Entry, Blown, Lane, Client, Master, Node, Clock, Main, Sched, Hand, Write, End, Begin, Op, Close, Settle, Crash, Life, Settings, lane_of_entry, Records, Fallen, LifeState, Manager, opening_state, after, after_where, kept_after_landing, state_after, Place, close_left, IsLeftAfter, StandsFor, is_blown, landed_over, stands, DeskView, HasNoWork, HasBlown, LaneEffect}
+use Rattle.std.proofs.Common.{◌≡◌, ◌≤◌, length}
+use Rattle.std.specs.Prelude.{OnErr, slice_get}
+use Rattle.rm_types.specs.declared.entries.Entry.TheVariants.{Opened, Settled, Down}
 use Rattle.rm_types.specs.declared.messages.Sender.{Sender}
 use Rattle.rm_types.specs.declared.messages.Sender.TheVariants as senders
-use Rattle.rm_types.specs.declared.operations.Op.{Op}
-use Rattle.rm_types.specs.declared.scripts.Close.{Close}
-use Rattle.rm_types.specs.declared.scripts.Close.TheVariants.{Settle, Crash}
-use Rattle.rm_types.specs.declared.scripts.Life.{Life}
 use Rattle.rm_types.specs.declared.scripts.Segment.{Segment}
-use Rattle.rm_types.specs.declared.settings.Settings.{Settings}
-use Rattle.rm_types.specs.Lanes.{lane_of_entry}
-use Rattle.rm_types.specs.Records.{Records}
 use Rattle.rm_types.proofs.TestLemmas.{never_nil, first_of}
-use Rattle.rm_disk.specs.declared.fallen.Fallen.{Fallen}
-use Rattle.rm_model.specs.State.{LifeState, Manager, opening_state}
-use Rattle.rm_model.specs.Changes.{after, after_where, kept_after_landing}
 use Rattle.rm_model.specs.Downs.{GoesDownAtRest}
-use Rattle.rm_model.specs.Lawful.{IsAtRest, state_after}
-use Rattle.rm_model.specs.Place.{Place, place_begun, close_left, moved, rest_of, segments_without, stamp_of}
-use Rattle.rm_core.specs.Moves.{IsLeftAfter}
-use Rattle.rm_core.specs.Seen.{StandsFor}
-use Rattle.rm_core.specs.Words.{has_rest, is_blown, landed_over, stands}
-use Rattle.rm_desk.specs.View.{DeskView}
-use Rattle.rm_desk.specs.Lanes.{HasNoWork, IsStep}
-use Rattle.rm_desk.specs.Runs.{HasBlown, IsLast, IsPlaceSound as IsDeskSound, DescribesState}
-use Rattle.rm_desk.specs.Effects.{Answers, LifeBegins, StoreBlows, LaneEffect, EffectBy, IsEntryOf}
+use Rattle.rm_model.specs.Lawful.{IsAtRest}
+use Rattle.rm_model.specs.Place.{place_begun, moved, rest_of, segments_without, stamp_of}
+use Rattle.rm_core.specs.Words.{has_rest}
+use Rattle.rm_desk.specs.Lanes.{IsStep}
+use Rattle.rm_desk.specs.Runs.{IsLast, IsPlaceSound as IsDeskSound, DescribesState}
+use Rattle.rm_desk.specs.Effects.{Answers, LifeBegins, StoreBlows, EffectBy, IsEntryOf}
 use Rattle.rm_plain.specs.Falls.{fall, falls_at}
 use Rattle.rm_plain.specs.Goes.{ExtendsRun, ExtendsRunOver, IsRun}
 use Rattle.rm_plain.specs.Keeping.{BeganLife, IsUnkept, blown_in, has_blown}

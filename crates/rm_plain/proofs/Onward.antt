@@ -1,38 +1,23 @@
 -- The first life of a script, and one life after the other.
-use Rattle.std.proofs.Common.{◌≡◌, ◌≢◌, ◌⊎◌, ℕ, ◌^◌, ◌-◌, ◌<◌, List, [], ◌∷◌, ◌++◌, Bool, true, false, Option, Some, None, Ok, Err, Result, take, slice_get, refl, sym, ◌∙◌, ap, subst, inl, inr, ⊎_elim, arith}
-use Rattle.std.specs.Prelude.{IfErr}
-use Rattle.std.proofs.lemmas.List.{append-nil, append_assoc}
-use Rattle.rm_types.specs.declared.operations.Op.{Op}
-use Rattle.rm_types.specs.declared.entries.Entry.{Entry}
-use Rattle.rm_types.specs.Records.{Records, records}
-use Rattle.rm_disk.specs.declared.fallen.Fallen.{Fallen}
-use Rattle.rm_disk.specs.Disk.{DiskView, Leaves, IfTold}
-use Rattle.rm_disk.specs.Fuse.{Fused}
-use Rattle.rm_disk.proofs.Views.{leaves_of, leaves_same, leaves_trans, quiet_trans}
-use Rattle.rm_store.specs.Content.{HasContent, DeviceHolds}
-use Rattle.rm_model.specs.Changes.{kept_after_landing}
-use Rattle.rm_model.specs.Lawful.{state_after}
-use Rattle.rm_model.specs.State.{LifeState, Manager}
+use Rattle.rm_plain.proofs.Common.{◌≢◌, ◌⊎◌, ℕ, ◌<◌, List, [], ◌∷◌, ◌++◌, Bool, true, false, Option, Some, None, Ok, Err, Result, refl, sym, ◌∙◌, ap, subst, inl, inr, ⊎_elim, arith, IfErr, append-nil, append_assoc, Op, Entry, Records, records, Fallen, DiskView, Fused, leaves_of, leaves_same, leaves_trans, DeviceHolds, kept_after_landing, state_after, LifeState, Manager, StoreError, StoreState, IsBelowLast, seen, IsLeftAfter, Seen, StandsFor, landed_over, stands, DeskView, IsHanded}
+use Rattle.std.proofs.Common.{◌≡◌, ◌^◌, ◌-◌, take, slice_get}
+use Rattle.rm_disk.specs.Disk.{Leaves, IfTold}
+use Rattle.rm_disk.proofs.Views.{quiet_trans}
+use Rattle.rm_store.specs.Content.{HasContent}
 use Rattle.rm_types.specs.Alike.{IsAlike}
 use Rattle.rm_types.specs.Folded.{folded}
 use Rattle.rm_store.proofs.compaction.Ordering.{alike}
 use Rattle.rm_store.specs.Causes.{IsWhy}
 use Rattle.rm_store.specs.Errors.{IsOpenError}
-use Rattle.rm_store.specs.declared.fault.StoreError.{StoreError}
 use Rattle.rm_store.specs.declared.fault.StoreError.TheVariants as store
 use Rattle.rm_plain.specs.Opens.{IsOfDevice, OpensAgain}
 use Rattle.rm_plain.specs.Order.{HaltsHere, Order, StopsHere}
 use Rattle.rm_plain.specs.Survives.{HoldsKept, HoldsWithin, SurvivesAll, SurvivesNow}
-use Rattle.rm_store.specs.Store.{StoreState, IsBelowLast, seen}
 use Rattle.rm_store.proofs.Faultless.{one_left, never_damaged, never_stray}
 use Rattle.rm_core.proofs.Alike.{like_same}
 use Rattle.rm_core.specs.Queues.{own_tree}
-use Rattle.rm_core.specs.Moves.{HasLanded, IsLeft, IsLeftAfter, IsOwn}
-use Rattle.rm_core.specs.Seen.{Seen, StandsFor}
-use Rattle.rm_core.specs.Words.{landed_over, stands}
+use Rattle.rm_core.specs.Moves.{HasLanded, IsLeft, IsOwn}
 use Rattle.rm_core.proofs.Telling.{told_none_landed, told_one_landed}
-use Rattle.rm_desk.specs.View.{DeskView}
-use Rattle.rm_desk.specs.Effects.{IsHanded}
 use Rattle.rm_plain.specs.declared.halts.Halt.{Halt}
 use Rattle.rm_plain.specs.declared.halts.Halt.TheVariants as halts
 use Rattle.rm_plain.specs.declared.halts.Stop.{Stop}

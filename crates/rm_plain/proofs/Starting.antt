@@ -1,28 +1,18 @@
 -- A life starts over what its disk holds, and leaves what it kept there.
-use Rattle.std.proofs.Common.{◌≡◌, ℕ, List, [], ◌∷◌, ◌++◌, Bool, true, false, Some, None, Option, Ok, Err, Result, refl, sym, ◌∙◌, ap, subst, inl, inr, arith}
-use Rattle.std.specs.Prelude.{IfOk, IfErr, OnOk}
-use Rattle.std.proofs.lemmas.List.{append-nil}
-use Rattle.rm_types.specs.declared.operations.Op.{Op}
-use Rattle.rm_types.specs.declared.entries.Entry.{Entry}
-use Rattle.rm_types.specs.Records.{Records}
-use Rattle.rm_disk.specs.declared.fallen.Fallen.{Fallen}
-use Rattle.rm_disk.specs.Disk.{DiskView, EachImage, Falls, IsQuiet, IfTold}
-use Rattle.rm_disk.specs.Fuse.{FaultedFuse, Fused, KeepsFuse, blown_after_fall, fallen_fuse, falls_after, unarmed_falls_after}
-use Rattle.rm_disk.proofs.Views.{leaves_of, leaves_same, quiet_same, told_after}
-use Rattle.rm_store.specs.Content.{DeviceHolds, HasContent}
-use Rattle.rm_model.specs.Lawful.{state_after}
+use Rattle.rm_plain.proofs.Common.{ℕ, List, [], ◌∷◌, ◌++◌, Bool, true, false, Some, None, Option, Ok, Err, Result, refl, sym, ◌∙◌, ap, subst, inl, inr, arith, IfErr, OnOk, append-nil, Op, Entry, Records, Fallen, DiskView, Fused, KeepsFuse, leaves_of, leaves_same, DeviceHolds, state_after, StoreState, seen, StoreError, IsLeftAfter, StandsFor, stands, DeskView}
+use Rattle.std.proofs.Common.{◌≡◌}
+use Rattle.std.specs.Prelude.{IfOk}
+use Rattle.rm_disk.specs.Disk.{EachImage, Falls, IsQuiet, IfTold}
+use Rattle.rm_disk.specs.Fuse.{FaultedFuse, blown_after_fall, fallen_fuse, falls_after, unarmed_falls_after}
+use Rattle.rm_disk.proofs.Views.{quiet_same, told_after}
+use Rattle.rm_store.specs.Content.{HasContent}
 use Rattle.rm_plain.specs.Order.{Order}
 use Rattle.rm_plain.specs.Survives.{HoldsWithin}
 use Rattle.rm_store.specs.Causes.{IsWhy}
 use Rattle.rm_store.specs.Errors.{IsOpenError}
-use Rattle.rm_store.specs.Store.{StoreState, AreRead, StoreInvariant as IsStoreSound, seen}
-use Rattle.rm_store.specs.declared.fault.StoreError.{StoreError}
+use Rattle.rm_store.specs.Store.{AreRead, StoreInvariant as IsStoreSound}
 use Rattle.rm_store.specs.declared.fault.StoreError.TheVariants as store
 use Rattle.rm_types.specs.Counts.{Rose}
-use Rattle.rm_core.specs.Moves.{IsLeftAfter}
-use Rattle.rm_core.specs.Seen.{StandsFor}
-use Rattle.rm_core.specs.Words.{stands}
-use Rattle.rm_desk.specs.View.{DeskView}
 use Rattle.rm_plain.specs.declared.halts.Halt.{Halt}
 use Rattle.rm_plain.specs.declared.halts.Halt.TheVariants as halts
 use Rattle.rm_plain.specs.declared.halts.Stop.{Stop}

@@ -1,23 +1,15 @@
 -- What the store of a run holds, one operation after the other.
-use Rattle.std.proofs.Common.{◌≡◌, ◌⊎◌, ℕ, List, [], ◌∷◌, ◌++◌, Bool, true, false, None, Some, Option, slice_get, refl, sym, ◌∙◌, ap, subst, inl, inr, ⊎_elim}
-use Rattle.std.proofs.lemmas.List.{append_assoc}
-use Rattle.std.proofs.lemmas.List.Sums.{fold_push}
-use Rattle.rm_types.specs.declared.entries.Entry.{Entry}
-use Rattle.rm_types.specs.declared.entries.Entry.TheVariants.{Blown, Kept as KeptEntry}
-use Rattle.rm_types.specs.declared.operations.Op.{Op}
+use Rattle.rm_plain.proofs.Common.{◌⊎◌, ℕ, List, [], ◌∷◌, ◌++◌, Bool, true, false, None, Some, Option, refl, sym, ◌∙◌, ap, subst, inl, inr, ⊎_elim, append_assoc, fold_push, Entry, Blown, Op, records, DiskView, leaves_same, leaves_trans, leaves_of, DeviceHolds, Manager, LifeState, opening_state, after, after_where, state_after, Seen, HasBlown, DeskView}
+use Rattle.std.proofs.Common.{◌≡◌, slice_get}
+use Rattle.rm_types.specs.declared.entries.Entry.TheVariants.{Kept as KeptEntry}
 use Rattle.rm_types.specs.declared.operations.Op.TheVariants as ops
-use Rattle.rm_types.specs.Records.{records, fits_records}
-use Rattle.rm_disk.specs.Disk.{DiskView, IsLaterView}
-use Rattle.rm_disk.proofs.Views.{leaves_same, leaves_trans, leaves_of, told_after}
-use Rattle.rm_store.specs.Content.{DeviceHolds}
-use Rattle.rm_model.specs.State.{Manager, LifeState, opening_state}
-use Rattle.rm_model.specs.Changes.{after, after_where, life_keeps}
-use Rattle.rm_model.specs.Lawful.{state_after}
+use Rattle.rm_types.specs.Records.{fits_records}
+use Rattle.rm_disk.specs.Disk.{IsLaterView}
+use Rattle.rm_disk.proofs.Views.{told_after}
+use Rattle.rm_model.specs.Changes.{life_keeps}
 use Rattle.rm_plain.specs.Survives.{HoldsKept, HoldsWithin}
 use Rattle.rm_store.specs.Kept.{HasOps, AddsOp, LeavesOps}
-use Rattle.rm_core.specs.Seen.{Seen, IsToBeKept}
-use Rattle.rm_desk.specs.Runs.{HasBlown}
-use Rattle.rm_desk.specs.View.{DeskView}
+use Rattle.rm_core.specs.Seen.{IsToBeKept}
 use Rattle.rm_plain.specs.Keeping.{HoldsBy, HoldsIn, IsKeptOn, KeepsOn, IsUnkept, StoresOn, has_blown}
 
 -- what a part of a log left is left of it all

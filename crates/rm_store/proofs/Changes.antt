@@ -1,21 +1,16 @@
 -- The calls by which a new area is written, one after another.
-use Rattle.std.proofs.Common.{◌≡◌, ℕ, zero, suc, ◌+◌, ◌-◌, ◌<◌, ◌≤◌, Bool, false, Option, List, [], ◌∷◌, ◌++◌, append_assoc, map, take, drop, slice_get, get_or, length, None, Some, Ok, Err, Result, refl, sym, ◌∙◌, ap, subst, arith}
+use Rattle.rm_store.proofs.Common.{◌≡◌, ℕ, zero, suc, ◌+◌, ◌-◌, ◌<◌, ◌≤◌, Bool, false, Option, List, [], ◌∷◌, ◌++◌, append_assoc, map, take, drop, slice_get, length, None, Some, Ok, Err, Result, refl, sym, ◌∙◌, ap, subst, arith, length-append, Op, frame, journal_record, journal_records, DiskView, IfTold, AtEachMoment, told_after, JournalError, broken_after, AreasAt, AreasInvariant, AreasHold, HasLayout, IsBuilt, head_of, moment_of, each_has, layout}
+use Rattle.std.proofs.Common.{get_or}
 use Rattle.std.specs.Prelude.{IfErr}
-use Rattle.std.proofs.lemmas.List.{map-append, length-append, take_more, take-append-drop}
+use Rattle.std.proofs.lemmas.List.{map-append, take_more, take-append-drop}
 use Rattle.std.proofs.lemmas.Option.{slice_get_within, get_or_from_slice_get}
-use Rattle.rm_types.specs.declared.operations.Op.{Op}
-use Rattle.rm_formats.specs.Frames.{frame}
-use Rattle.rm_formats.specs.Device.{journal_record, journal_records}
-use Rattle.rm_disk.specs.Disk.{DiskView, IfTold, AtEachMoment}
-use Rattle.rm_disk.proofs.Views.{goes_on_same, goes_on_trans, leaves_of, leaves_trans, told_after}
-use Rattle.rm_journal.specs.declared.fault.JournalError.{JournalError}
+use Rattle.rm_disk.proofs.Views.{goes_on_same, goes_on_trans, leaves_of, leaves_trans}
 use Rattle.rm_journal.specs.declared.fault.JournalError.TheVariants.{DiskFault, Damaged, Full, NeedsReopen, Memory}
 use Rattle.rm_journal.specs.Fault.{IsAppendError}
-use Rattle.rm_journal.specs.Journal.{broken_after}
 use Rattle.rm_journal.proofs.Payloads.{length-records_push}
-use Rattle.rm_journal.specs.two_areas.Areas.{AreasAt, AreasInvariant, AreasHold, HasLayout, LeavesPayloads, IsBuilt, head_of, other_end}
-use Rattle.rm_journal.proofs.two_areas.Moments.{at_once, moment_of, some_same}
-use Rattle.rm_journal.proofs.two_areas.Steps.{each_has, layout, same_gate}
+use Rattle.rm_journal.specs.two_areas.Areas.{LeavesPayloads, other_end}
+use Rattle.rm_journal.proofs.two_areas.Moments.{at_once, some_same}
+use Rattle.rm_journal.proofs.two_areas.Steps.{same_gate}
 use Rattle.rm_store.specs.Changing.{KeepsPayloads, TellsPayloads, IsChangeError}
 
 module _ (v0 v1 v2 : DiskView) (a0 a1 a2 : AreasAt) (one : KeepsPayloads v0 v1 a0 a1) (on : TellsPayloads v0 v1 a0 a1) (sound : a0.is_broken ≡ false) where

@@ -1,21 +1,13 @@
 -- A list of operations and its content on a device go on alike.
-use Rattle.std.proofs.Common.{◌≡◌, ℕ, Bool, true, false, not, ◌&&◌, List, [], ◌∷◌, ◌++◌, map, length, nat_lt, Option, None, Some, is_some, is_none, refl, sym, ◌∙◌, ap, option_map}
-use Rattle.std.specs.Prelude.{All}
-use Rattle.std.proofs.lemmas.List.{append-nil}
-use Rattle.std.proofs.lemmas.List.Elements.{All-nil, All-cons, All-head, All-tail}
-use Rattle.rm_types.specs.declared.operations.Op.{Op}
-use Rattle.rm_types.specs.declared.operations.Op.TheVariants.{Epoch, App, Attempt, AttemptEnd, AppEnd, Remove}
-use Rattle.rm_types.specs.declared.records.AppRecord.{AppRecord}
+use Rattle.rm_store.proofs.Common.{◌≡◌, ℕ, Bool, true, false, not, ◌&&◌, List, [], ◌∷◌, ◌++◌, map, length, Option, None, Some, is_some, is_none, refl, sym, ◌∙◌, ap, option_map, All, append-nil, All-nil, All-cons, Op, Epoch, App, Attempt, AttemptEnd, AppEnd, Remove, AppRecord, IsOperation, Records, records, record_of, fits_records, stray, frame, HasLayout, folded, stays, IsAlike}
+use Rattle.std.proofs.Common.{nat_lt}
+use Rattle.std.proofs.lemmas.List.Elements.{All-head, All-tail}
 use Rattle.rm_types.specs.Lists.{is_nil}
-use Rattle.rm_types.specs.Ranges.{IsOperation}
-use Rattle.rm_types.specs.Records.{Records, records, record_of, fits_records, stray, is_some_and}
-use Rattle.rm_formats.specs.Frames.{frame}
+use Rattle.rm_types.specs.Records.{is_some_and}
 use Rattle.rm_tree.specs.Changes.{is_unended_last}
 use Rattle.rm_tree.specs.Shows.{shows}
-use Rattle.rm_journal.specs.two_areas.Areas.{HasLayout}
 use Rattle.rm_store.specs.compaction.Amounts.{Amounts, amounts}
-use Rattle.rm_types.specs.Folded.{folded, stays}
-use Rattle.rm_types.specs.Alike.{IsAlike, without_end_order}
+use Rattle.rm_types.specs.Alike.{without_end_order}
 use Rattle.rm_store.proofs.compaction.Folded.{fits_told, folded_none_stray, folded_again, bare_found}
 use Rattle.rm_store.proofs.compaction.Ordering.{tells_all, same_amounts, alike}
 use Rattle.rm_store.specs.Content.{ReadsAs, DeviceHolds, half_of}

@@ -1,12 +1,7 @@
 -- Operations of which none is stray have one record of each application at most.
-use Rattle.std.proofs.Common.{◌≡◌, ℕ, ◌+◌, ◌≤◌, Bool, true, false, List, [], ◌∷◌, ◌++◌, map, filter, fold, cond, count_by, not, None, Some, is_none, refl, ap, subst, arith, if◌then◌else◌}
+use Rattle.rm_store.proofs.Common.{◌≡◌, ℕ, ◌+◌, ◌≤◌, Bool, true, false, List, [], ◌∷◌, ◌++◌, map, filter, fold, not, None, Some, is_none, refl, ap, subst, arith, if◌then◌else◌, AppId, Op, Epoch, App, Attempt, AttemptEnd, AppEnd, Remove, AppRecord, is_app, Records, no_records, records, recorded, record_of, with_record, fits_records, with_end, stray, stray_from}
+use Rattle.std.proofs.Common.{cond, count_by}
 use Rattle.std.proofs.lemmas.List.Sums.{sum_by-append, sum_by-cons}
-use Rattle.rm_types.specs.declared.ids.AppId.{AppId}
-use Rattle.rm_types.specs.declared.operations.Op.{Op}
-use Rattle.rm_types.specs.declared.operations.Op.TheVariants.{Epoch, App, Attempt, AttemptEnd, AppEnd, Remove}
-use Rattle.rm_types.specs.declared.records.AppRecord.{AppRecord}
-use Rattle.rm_types.specs.Ids.{is_app}
-use Rattle.rm_types.specs.Records.{Records, no_records, records, recorded, record_of, with_record, fits_records, with_end, stray, stray_from}
 use Rattle.rm_types.proofs.TestLemmas.{none_from_is_none}
 use Rattle.rm_types.proofs.IdLemmas.{same_app}
 

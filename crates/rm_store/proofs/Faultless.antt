@@ -1,10 +1,7 @@
 -- Bytes that hold operations hold no other, and have no fault.
-use Rattle.std.proofs.Common.{◌≡◌, ℕ, None, List, ◌∷◌, ◌++◌, inl, inr, sym, ap, subst, ◌∙◌, true≢false}
-use Rattle.rm_types.specs.declared.operations.Op.{Op}
-use Rattle.rm_types.specs.Records.{records, fits_records, stray}
-use Rattle.rm_journal.specs.two_areas.Areas.{HasLayout}
-use Rattle.rm_journal.proofs.two_areas.Unique.{one_layout, held_undamaged}
-use Rattle.rm_types.specs.Folded.{folded}
+use Rattle.rm_store.proofs.Common.{◌≡◌, ℕ, None, List, ◌∷◌, ◌++◌, inl, inr, sym, ap, subst, ◌∙◌, Op, records, fits_records, stray, HasLayout, one_layout, folded}
+use Rattle.std.proofs.Common.{true≢false}
+use Rattle.rm_journal.proofs.two_areas.Unique.{held_undamaged}
 use Rattle.rm_store.specs.Content.{ReadsAs, HasContent, DeviceHolds, half_of}
 use Rattle.rm_store.proofs.Framed.{StandsBehind, stands_behind, same_op, one_content}
 use Rattle.rm_store.specs.declared.fault.StoreError.TheVariants.{Damaged, Stray}

@@ -1,16 +1,7 @@
 -- Payloads read as operations in one way at most.
-use Rattle.std.proofs.Common.{◌≡◌, ℕ, List, [], ◌∷◌, ◌++◌, map, refl, sym, ◌∙◌, ap, subst}
-use Rattle.std.specs.Prelude.{All}
-use Rattle.std.proofs.lemmas.List.{append-nil}
-use Rattle.std.proofs.lemmas.List.Elements.{All-nil, All-cons, All-head, All-tail}
-use Rattle.rm_types.specs.declared.operations.Op.{Op}
-use Rattle.rm_types.specs.Ranges.{IsOperation}
-use Rattle.rm_types.specs.Records.{records}
-use Rattle.rm_formats.specs.Frames.{frame}
+use Rattle.rm_store.proofs.Common.{◌≡◌, ℕ, List, [], ◌∷◌, ◌++◌, map, refl, sym, ◌∙◌, ap, subst, All, append-nil, All-nil, All-cons, Op, IsOperation, records, frame, one_layout, IsAlike, folded}
+use Rattle.std.proofs.lemmas.List.Elements.{All-head, All-tail}
 use Rattle.rm_frame.proofs.Apart.{frames_alike}
-use Rattle.rm_journal.proofs.two_areas.Unique.{one_layout}
-use Rattle.rm_types.specs.Alike.{IsAlike}
-use Rattle.rm_types.specs.Folded.{folded}
 use Rattle.rm_store.proofs.compaction.Ordering.{alike}
 use Rattle.rm_store.specs.Content.{IsFrameOf, ReadsAs, HasContent, DeviceHolds, half_of}
 

@@ -1,3 +1,4 @@
+mod Common
 pub mod Changes
 pub mod Contents
 pub mod Each

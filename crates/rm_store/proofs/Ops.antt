@@ -1,10 +1,6 @@
 -- Lists of operations: what one more of them changes, and what their frames say of them.
-use Rattle.std.proofs.Common.{◌≡◌, ◌+◌, Bool, true, false, List, [], ◌∷◌, ◌++◌, length, fold, None, refl, arith}
-use Rattle.std.specs.Prelude.{All}
-use Rattle.std.proofs.lemmas.List.Elements.{All-nil, All-cons, All-append}
-use Rattle.rm_types.specs.declared.operations.Op.{Op}
-use Rattle.rm_types.specs.Ranges.{IsOperation}
-use Rattle.rm_types.specs.Records.{Records, no_records, records, recorded, fits_records, stray, stray_from}
+use Rattle.rm_store.proofs.Common.{◌≡◌, ◌+◌, Bool, true, false, List, [], ◌∷◌, ◌++◌, length, fold, None, refl, arith, All, All-nil, All-cons, Op, IsOperation, Records, no_records, records, recorded, fits_records, stray, stray_from}
+use Rattle.std.proofs.lemmas.List.Elements.{All-append}
 
 -- the records of one operation more
 recorded_more : (r : Records) (ops : List Op) (op : Op) → fold recorded r (ops ++ op ∷ []) ≡ recorded (fold recorded r ops) op

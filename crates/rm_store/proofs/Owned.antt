@@ -1,19 +1,17 @@
 -- What a store leaves is not taken for another's file.
-use Rattle.std.proofs.Common.{◌≡◌, ◌⊎◌, inl, inr, ℕ, zero, suc, ◌+◌, ◌-◌, ◌<◌, ◌≤◌, Bool, true, false, not, Some, List, [], ◌∷◌, ◌++◌, length, refl, sym, ◌∙◌, ap, subst, arith}
+use Rattle.rm_store.proofs.Common.{◌≡◌, ◌⊎◌, inl, inr, ℕ, zero, suc, ◌+◌, ◌-◌, ◌<◌, ◌≤◌, Bool, true, false, not, Some, List, [], ◌∷◌, ◌++◌, length, refl, sym, ◌∙◌, ap, subst, arith, All, length-append, Op, folded, journal_record, journal_records, DiskView, IsQuiet, told_after, AreasAt, AreasInvariant, AreasHold, head_of}
 use Rattle.std.specs.Int.{w64, to_be_bytes}
-use Rattle.std.specs.Prelude.{All, replicate}
+use Rattle.std.specs.Prelude.{replicate}
 use Rattle.std.proofs.lemmas.Bool.{cases_eq}
-use Rattle.std.proofs.lemmas.List.{drop-replicate, length-append}
+use Rattle.std.proofs.lemmas.List.{drop-replicate}
 use Rattle.std.proofs.lemmas.List.Elements.{All-replicate}
-use Rattle.rm_types.specs.declared.operations.Op.{Op}
-use Rattle.rm_types.specs.Folded.{folded}
-use Rattle.rm_formats.specs.Device.{HasPayloads, journal_record, journal_records}
-use Rattle.rm_disk.specs.Disk.{DiskView, MayWrite, IsLaterView, IsQuiet, Falls}
+use Rattle.rm_formats.specs.Device.{HasPayloads}
+use Rattle.rm_disk.specs.Disk.{MayWrite, IsLaterView, Falls}
 use Rattle.rm_disk.specs.Scan.{MayBeStore}
-use Rattle.rm_disk.proofs.Views.{leaves_of, leaves_same, told_after}
+use Rattle.rm_disk.proofs.Views.{leaves_of, leaves_same}
 use Rattle.rm_journal.specs.Journal.{region_of}
 use Rattle.rm_journal.proofs.Payloads.{length-journal_record}
-use Rattle.rm_journal.specs.two_areas.Areas.{AreasAt, AreasInvariant, AreasHold, area_from, head_of, other_from, other_end}
+use Rattle.rm_journal.specs.two_areas.Areas.{area_from, other_from, other_end}
 use Rattle.rm_journal.proofs.two_areas.Moments.{moment_on}
 use Rattle.rm_journal.proofs.two_areas.Owned.{live_stays, first_stays}
 use Rattle.rm_journal.proofs.two_areas.Steps.{build_low, same_gate}

@@ -1,28 +1,19 @@
 -- What an append leaves.
-use Rattle.std.proofs.Common.{◌≡◌, ◌⊎◌, ℕ, suc, ◌+◌, ◌-◌, ◌<◌, ◌≤◌, ◌/◌, true, false, List, [], ◌∷◌, ◌++◌, map, sum, take, slice_get, length, None, Some, Ok, Err, Result, inl, inr, refl, sym, ◌∙◌, ap, subst, arith}
-use Rattle.std.specs.Prelude.{All, OnOk}
-use Rattle.rm_types.specs.declared.operations.Op.{Op}
-use Rattle.rm_formats.specs.Frames.{frame}
-use Rattle.rm_disk.specs.Disk.{DiskView, IfTold, AtEachMoment, IsLaterView}
-use Rattle.std.proofs.lemmas.List.{length-append, take_at}
+use Rattle.rm_store.proofs.Common.{◌≡◌, ◌⊎◌, ℕ, suc, ◌+◌, ◌-◌, ◌<◌, ◌≤◌, ◌/◌, true, false, List, [], ◌∷◌, ◌++◌, map, sum, take, slice_get, length, None, Some, Ok, Err, Result, inl, inr, refl, sym, ◌∙◌, ap, subst, arith, All, OnOk, Op, frame, DiskView, IfTold, AtEachMoment, length-append, IsOperation, records, fits_records, stray, journal_record, journal_records, folded, told_after, AreasAt, AreasInvariant, AreasHold, HasLayout, head_of, one_layout, moment_of, each_has, layout}
+use Rattle.rm_disk.specs.Disk.{IsLaterView}
+use Rattle.std.proofs.lemmas.List.{take_at}
 use Rattle.std.proofs.lemmas.List.Sums.{sum_by-append, sum_by-cons, sum-map}
 use Rattle.std.specs.List.{sum_by}
 use Rattle.rm_store.proofs.Changes.{take_got}
 use Rattle.std.specs.Int.{w64, to_be_bytes}
-use Rattle.rm_types.specs.Ranges.{IsOperation}
-use Rattle.rm_types.specs.Records.{records, fits_records, stray}
-use Rattle.rm_formats.specs.Device.{journal_record, journal_records}
 use Rattle.rm_journal.proofs.Payloads.{length-journal_record}
-use Rattle.rm_types.specs.Folded.{folded}
 use Rattle.rm_store.specs.Content.{ReadsAs, DeviceHolds, half_of, room_for}
 use Rattle.rm_store.proofs.Framed.{reads_frames, reads_more, reads_one}
 use Rattle.rm_store.proofs.Contents.{unchanged, added, refolded, framed_left, folded_twice}
 use Rattle.rm_store.proofs.compaction.Folded.{folded_none_stray}
-use Rattle.rm_disk.proofs.Views.{told_after, told_before}
-use Rattle.rm_journal.specs.two_areas.Areas.{AreasAt, AreasInvariant, AreasHold, HasLayout, HoldsPayloads, LeavesEitherLayout, head_of}
-use Rattle.rm_journal.proofs.two_areas.Unique.{one_layout}
-use Rattle.rm_journal.proofs.two_areas.Moments.{at_once, moment_of, moment_on}
-use Rattle.rm_journal.proofs.two_areas.Steps.{each_has, layout}
+use Rattle.rm_disk.proofs.Views.{told_before}
+use Rattle.rm_journal.specs.two_areas.Areas.{HoldsPayloads, LeavesEitherLayout}
+use Rattle.rm_journal.proofs.two_areas.Moments.{at_once, moment_on}
 use Rattle.rm_store.specs.Kept.{IsKept, HasOps, LeavesOps, AddsOp}
 use Rattle.rm_store.proofs.Ops.{framed_push}
 

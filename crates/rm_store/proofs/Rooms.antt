@@ -1,11 +1,8 @@
 -- The room that a full store tells.
-use Rattle.std.proofs.Common.{◌≡◌, ℕ, ◌-◌, ◌+◌, ◌<◌, ◌^◌, false, nat_eq, if◌then◌else◌, List, map, sum, length, inl, inr, ap, subst, ◌∙◌, arith}
+use Rattle.rm_store.proofs.Common.{◌≡◌, ℕ, ◌-◌, ◌+◌, ◌<◌, false, if◌then◌else◌, List, map, sum, length, inl, inr, ap, subst, ◌∙◌, arith, nat_tests, Op, frame, DiskView, AreasAt}
+use Rattle.std.proofs.Common.{◌^◌, nat_eq}
 use Rattle.std.proofs.lemmas.Bool.{cases_eq}
-use Rattle.std.proofs.lemmas.Bool.Decides.{nat_tests}
-use Rattle.rm_types.specs.declared.operations.Op.{Op}
-use Rattle.rm_formats.specs.Frames.{frame}
-use Rattle.rm_disk.specs.Disk.{DiskView}
-use Rattle.rm_journal.specs.two_areas.Areas.{AreasAt, HasCurrent}
+use Rattle.rm_journal.specs.two_areas.Areas.{HasCurrent}
 use Rattle.rm_store.specs.Content.{room_for}
 use Rattle.rm_store.specs.Kept.{IsKept, HasOps, told_room, room_here}
 use Rattle.rm_store.proofs.Puts.{there_is}

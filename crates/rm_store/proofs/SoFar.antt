@@ -1,22 +1,13 @@
 -- How far a store was read.
-use Rattle.std.proofs.Common.{◌≡◌, ℕ, zero, suc, ◌+◌, ◌/◌, true, not, None, Some, List, [], ◌∷◌, ◌++◌, length, append_assoc, refl, sym, ap, subst, ◌∙◌, arith}
-use Rattle.std.specs.Prelude.{All}
-use Rattle.std.proofs.lemmas.List.{append-nil}
-use Rattle.std.proofs.lemmas.List.Elements.{All-nil}
-use Rattle.rm_types.specs.declared.operations.Op.{Op}
-use Rattle.rm_types.specs.Ranges.{IsOperation}
-use Rattle.rm_types.specs.Records.{Records, no_records, records, fits_records, stray}
-use Rattle.rm_formats.specs.Device.{HasPayloads, journal_records}
-use Rattle.rm_disk.specs.Disk.{DiskView, IfTold, IsQuiet}
-use Rattle.rm_disk.proofs.Views.{quiet_trans}
+use Rattle.rm_store.proofs.Common.{◌≡◌, ℕ, zero, suc, ◌+◌, ◌/◌, true, not, None, Some, List, [], ◌∷◌, ◌++◌, length, append_assoc, refl, sym, ap, subst, ◌∙◌, arith, All, append-nil, All-nil, Op, IsOperation, Records, no_records, records, fits_records, stray, journal_records, DiskView, IfTold, IsQuiet, quiet_trans, HasWalked, AreasAt, AreasHold, head_of, layout}
+use Rattle.rm_formats.specs.Device.{HasPayloads}
 use Rattle.rm_journal.specs.Journal.{region_of}
-use Rattle.rm_journal.specs.Walk.{WalkAt, HasWalked}
+use Rattle.rm_journal.specs.Walk.{WalkAt}
 use Rattle.rm_journal.proofs.Payloads.{unique}
-use Rattle.rm_journal.specs.two_areas.Areas.{AreasAt, AreasHold, HasCurrent, IsGeneration, area_of, area_from, area_end, head_of}
+use Rattle.rm_journal.specs.two_areas.Areas.{HasCurrent, IsGeneration, area_of, area_from, area_end}
 use Rattle.rm_journal.specs.two_areas.Reading.{ReadingAt, IsReading}
 use Rattle.rm_journal.proofs.two_areas.Bytes.{shut_holds}
 use Rattle.rm_journal.proofs.two_areas.Opening.{older_of}
-use Rattle.rm_journal.proofs.two_areas.Steps.{layout}
 use Rattle.rm_store.specs.Content.{IsFrameOf, ReadsAs, HasContent, half_of}
 use Rattle.rm_store.proofs.Framed.{reads_more}
 use Rattle.rm_store.proofs.Puts.{own_half}

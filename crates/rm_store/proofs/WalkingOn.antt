@@ -1,7 +1,6 @@
 -- A walk that goes on over payloads that are not looked at.
-use Rattle.std.proofs.Common.{◌≡◌, ℕ, true, List, [], ◌∷◌, ◌++◌, append_assoc, sym, subst}
-use Rattle.std.proofs.lemmas.List.{append-nil}
-use Rattle.rm_journal.specs.Walk.{WalkAt, HasWalked}
+use Rattle.rm_store.proofs.Common.{◌≡◌, ℕ, true, List, [], ◌∷◌, ◌++◌, append_assoc, sym, subst, append-nil, HasWalked}
+use Rattle.rm_journal.specs.Walk.{WalkAt}
 use Rattle.rm_store.specs.Reading.{WalkedOn}
 
 -- it gave nothing yet

@@ -1,10 +1,6 @@
 -- Why a store was refused.
-use Rattle.std.proofs.Common.{◌≡◌, ℕ, false, List, length, inl, inr, refl, sym, subst}
-use Rattle.rm_types.specs.declared.operations.Op.{Op}
-use Rattle.rm_types.specs.Records.{records, fits_records}
-use Rattle.rm_journal.specs.two_areas.Areas.{IsDamagedLayout}
+use Rattle.rm_store.proofs.Common.{◌≡◌, ℕ, false, List, length, inl, inr, refl, sym, subst, Op, records, fits_records, IsDamagedLayout, JournalError}
 use Rattle.rm_store.specs.Content.{IsFrameOf, half_of}
-use Rattle.rm_journal.specs.declared.fault.JournalError.{JournalError}
 use Rattle.rm_journal.specs.declared.fault.JournalError.TheVariants as journal
 use Rattle.rm_store.specs.declared.fault.StoreError.{StoreError}
 use Rattle.rm_store.specs.declared.fault.StoreError.TheVariants.{DiskFault, Damaged, Stray, Full, NeedsReopen, Memory}

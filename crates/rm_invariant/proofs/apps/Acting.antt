@@ -1,25 +1,9 @@
 -- The steps that the events of an application have in common: one that has nothing to do, and one that issues the end of the application.
-use Rattle.std.proofs.Common.{◌≡◌, ◌+◌, ◌==◌, suc, ℕ, List, ◌∷◌, true, false, Some, length, refl}
-use Rattle.rm_types.specs.declared.entries.Entry.TheVariants.{Issued}
-use Rattle.rm_types.specs.declared.ids.AppId.{AppId}
-use Rattle.rm_types.specs.declared.ids.AttemptId.{AttemptId}
-use Rattle.rm_types.specs.declared.operations.How.{How}
+use Rattle.rm_invariant.proofs.Common.{◌≡◌, ◌+◌, suc, ℕ, List, ◌∷◌, true, false, Some, length, refl, Issued, AppId, AttemptId, How, Settings, is_app, is_attempt, record_of, same_app, asks_without, attempts_in, last_end, MainEvent, AppRow, Tables, app_ends, main_popped, next_in, changed, row_of, History, abstract_scene}
+use Rattle.std.proofs.Common.{◌==◌}
 use Rattle.rm_types.specs.declared.operations.Op.TheVariants as ops
-use Rattle.rm_types.specs.declared.settings.Settings.{Settings}
-use Rattle.rm_types.specs.Ids.{is_app, is_attempt}
-use Rattle.rm_types.specs.Records.{record_of}
-use Rattle.rm_types.proofs.IdLemmas.{same_app}
-use Rattle.rm_model.specs.Changes.{asks_without}
-use Rattle.rm_model.specs.Facts.{attempts_in, last_end}
 use Rattle.rm_model.specs.Issuing.{end_by}
 use Rattle.rm_tables.specs.declared.changes.RowChange.TheVariants as of_app
-use Rattle.rm_tables.specs.declared.events.MainEvent.{MainEvent}
-use Rattle.rm_tables.specs.declared.rows.AppRow.{AppRow}
-use Rattle.rm_tables.specs.declared.tables.Tables.{Tables}
-use Rattle.rm_tables.specs.Actions.{app_ends, main_popped, next_in}
-use Rattle.rm_tables.specs.Changes.{changed}
-use Rattle.rm_tables.specs.Rows.{row_of}
-use Rattle.rm_refinement.specs.History.{History, abstract_scene}
 use Rattle.rm_invariant.specs.apps.View.{View, view, main_view, op_view}
 use Rattle.rm_invariant.specs.apps.Invariant.{RowInvariant}
 use Rattle.rm_invariant.specs.Step.{AppsInvariant, Step}

@@ -1,10 +1,6 @@
 -- What is left of the asks for masters where those of an attempt go.
-use Rattle.std.proofs.Common.{◌≡◌, ℕ, List, [], ◌∷◌, Bool, true, false, count_by, refl, sym, ◌∙◌, ap, arith}
-use Rattle.std.proofs.lemmas.Bool.Decides.{nat_tests}
-use Rattle.rm_types.specs.declared.containers.AskOf.{AskOf}
-use Rattle.rm_types.specs.declared.ids.AttemptId.{AttemptId}
-use Rattle.rm_types.specs.Ids.{is_attempt}
-use Rattle.rm_model.specs.Changes.{asks_without}
+use Rattle.rm_invariant.proofs.Common.{◌≡◌, ℕ, List, [], ◌∷◌, Bool, true, false, refl, sym, ◌∙◌, ap, arith, nat_tests, AskOf, AttemptId, is_attempt, asks_without}
+use Rattle.std.proofs.Common.{count_by}
 use Rattle.rm_invariant.specs.apps.View.{is_ask, one_if}
 use Rattle.rm_invariant.proofs.apps.Counts.{at_front}
 use Rattle.rm_invariant.specs.apps.Ends.{none_if}

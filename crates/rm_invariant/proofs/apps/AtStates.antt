@@ -1,22 +1,10 @@
 -- What each event and kept operation that ends applications and attempts does to what is said of its application, over a view alone.
-use Rattle.std.proofs.Common.{◌≡◌, ◌≢◌, ◌≤◌, ◌⊎◌, ◌+◌, ◌==◌, suc, Bool, true, false, Option, None, Some, option_map, length, refl, sym, ◌∙◌, subst, arith}
-use Rattle.std.proofs.lemmas.Bool.Decides.{nat_tests}
-use Rattle.rm_types.specs.declared.ids.AttemptId.{AttemptId}
-use Rattle.rm_types.specs.declared.records.AppRecord.{AppRecord}
-use Rattle.rm_types.specs.declared.settings.Settings.{Settings}
-use Rattle.rm_types.specs.Records.{is_some_and, last_attempt}
-use Rattle.rm_model.specs.Facts.{attempts_in, end_in, reaches_bound}
-use Rattle.rm_model.specs.Attempts.{has_failed}
-use Rattle.rm_types.specs.declared.operations.How.{How}
-use Rattle.rm_states.specs.declared.app.states.AppState.{AppState}
+use Rattle.rm_invariant.proofs.Common.{◌≡◌, ◌≤◌, ◌⊎◌, ◌+◌, suc, Bool, true, false, Option, None, Some, length, refl, sym, ◌∙◌, subst, arith, nat_tests, AttemptId, AppRecord, Settings, is_some_and, last_attempt, attempts_in, end_in, reaches_bound, has_failed, How, AppState, AttemptState, AppRow, Current, changed}
+use Rattle.std.proofs.Common.{◌≢◌, ◌==◌, option_map}
 use Rattle.rm_states.specs.declared.app.states.AppState.TheVariants as apps
-use Rattle.rm_states.specs.declared.attempt.states.AttemptState.{AttemptState}
 use Rattle.rm_states.specs.declared.attempt.states.AttemptState.TheVariants as attempts
-use Rattle.rm_tables.specs.declared.rows.AppRow.{AppRow}
-use Rattle.rm_tables.specs.declared.rows.Current.{Current}
 use Rattle.rm_tables.specs.declared.changes.RowChange.TheVariants as of_app
 use Rattle.rm_tables.specs.declared.changes.AttemptChange.TheVariants as of_attempt
-use Rattle.rm_tables.specs.Changes.{changed}
 use Rattle.rm_invariant.specs.apps.View.{View, one_if}
 use Rattle.rm_invariant.proofs.apps.Own.{active_row}
 use Rattle.rm_invariant.specs.apps.Ends.{none_if}

@@ -1,16 +1,6 @@
 -- The completed applications as operations are kept: they stay in the order of their ends, and each record is there once.
-use Rattle.std.proofs.Common.{◌≡◌, ◌≤◌, ℕ, ◌+◌, suc, List, [], ◌∷◌, ◌++◌, Bool, true, false, not, Option, None, Some, is_some, is_none, option_map, cond, filter, count_by, drop, refl, sym, ◌∙◌, ap, subst, arith}
-use Rattle.std.specs.Prelude.{if◌then◌else◌}
-use Rattle.rm_types.specs.declared.ids.AppId.{AppId}
-use Rattle.rm_types.specs.declared.operations.How.{How}
-use Rattle.rm_types.specs.declared.operations.Submission.{Submission}
-use Rattle.rm_types.specs.declared.records.AppRecord.{AppRecord}
-use Rattle.rm_types.specs.Ids.{is_app}
-use Rattle.rm_types.specs.Records.{new_record, record_of, with_record}
-use Rattle.rm_types.proofs.IdLemmas.{same_app, app_itself}
-use Rattle.rm_tables.specs.declared.events.MainEvent.{MainEvent}
-use Rattle.rm_tables.specs.declared.tables.Tables.{Tables}
-use Rattle.rm_tables.specs.Opening.{going_in}
+use Rattle.rm_invariant.proofs.Common.{◌≡◌, ◌≤◌, ℕ, ◌+◌, suc, List, [], ◌∷◌, ◌++◌, Bool, true, false, not, Option, None, Some, is_none, filter, drop, refl, sym, ◌∙◌, ap, subst, arith, if◌then◌else◌, AppId, How, Submission, AppRecord, is_app, new_record, record_of, with_record, same_app, app_itself, MainEvent, Tables, going_in}
+use Rattle.std.proofs.Common.{is_some, option_map, cond, count_by}
 use Rattle.rm_invariant.specs.apps.Completed.{AllLater, Completes, InOrder, is_retire, order_in, completion_order}
 use Rattle.rm_invariant.specs.apps.View.{changed_if, gone_if, one_if, put_if}
 use Rattle.rm_invariant.proofs.apps.Counts.{at_end, at_front}

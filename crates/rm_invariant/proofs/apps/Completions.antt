@@ -1,14 +1,7 @@
 -- The completed applications of a life that begins: each recorded one that has ended stands among them once, and they stand in the order of
 -- their ends.
-use Rattle.std.proofs.Common.{◌≡◌, ◌≤◌, ℕ, ◌+◌, ◌&&◌, suc, List, [], ◌∷◌, Bool, true, false, Option, Some, is_some, nat_le, fold, map, count_by, refl, sym, ◌∙◌, ap, arith}
-use Rattle.std.proofs.lemmas.Bool.Decides.{nat_tests}
-use Rattle.rm_types.specs.declared.ids.AppId.{AppId}
-use Rattle.rm_types.specs.declared.records.AppRecord.{AppRecord}
-use Rattle.rm_types.specs.Ids.{is_app}
-use Rattle.rm_types.specs.Records.{is_some_and, record_of}
-use Rattle.rm_types.proofs.IdLemmas.{app_itself}
-use Rattle.rm_tables.specs.declared.completed.Completion.{Completion}
-use Rattle.rm_tables.specs.Completed.{completion_of, completions_in, ended_in, put_completion, with_completed}
+use Rattle.rm_invariant.proofs.Common.{◌≡◌, ◌≤◌, ℕ, ◌+◌, ◌&&◌, suc, List, [], ◌∷◌, Bool, true, false, Option, Some, nat_le, fold, map, refl, sym, ◌∙◌, ap, arith, nat_tests, AppId, AppRecord, is_app, is_some_and, record_of, app_itself, Completion, completion_of, completions_in, ended_in, put_completion, with_completed}
+use Rattle.std.proofs.Common.{is_some, count_by}
 use Rattle.rm_invariant.specs.apps.Completed.{AllLater, InOrder, completion_order}
 use Rattle.rm_invariant.specs.apps.Recovered.{has_ended}
 use Rattle.rm_invariant.specs.apps.View.{one_if}

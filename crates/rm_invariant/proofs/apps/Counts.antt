@@ -1,7 +1,6 @@
 -- One more item at either end of a list, for a test that is counted; and lists put together.
-use Rattle.std.proofs.Common.{◌≡◌, ◌≤◌, ℕ, ◌+◌, suc, List, [], ◌∷◌, ◌++◌, Bool, true, false, cond, count_by, refl, sym, ◌∙◌, arith}
-use Rattle.std.specs.List.{list_any, flat_map}
-use Rattle.std.proofs.lemmas.List.Sums.{sum_by-append, sum_by-cons}
+use Rattle.rm_invariant.proofs.Common.{◌≡◌, ◌≤◌, ℕ, ◌+◌, suc, List, [], ◌∷◌, ◌++◌, Bool, true, false, refl, sym, ◌∙◌, arith, list_any, flat_map, sum_by-append, sum_by-cons}
+use Rattle.std.proofs.Common.{cond, count_by}
 use Rattle.rm_invariant.specs.apps.View.{one_if}
 
 one_is : (b : Bool) (n : ℕ) → cond b 1 0 + n ≡ one_if b n

@@ -1,31 +1,14 @@
 -- Why the ends that the tables decide are ones that the judge allows, by the state of the row of the application.
-use Rattle.std.proofs.Common.{◌≡◌, ◌≤◌, ◌⊎◌, inl, inr, ℕ, List, [], ◌∷◌, Bool, true, false, Option, None, Some, is_some, length, refl, subst, arith}
+use Rattle.rm_invariant.proofs.Common.{◌≡◌, ◌≤◌, ◌⊎◌, inl, inr, ℕ, List, [], ◌∷◌, Bool, true, false, Option, None, Some, length, refl, subst, arith, list_any, nat_tests, AppId, AttemptId, How, Op, AppRecord, AttemptRecord, Settings, all_ended, is_some_and, last_attempt, has_failed, Scene, attempts_in, reaches_bound, is_attempt_op, is_attempt_end_op, is_app_end_op, last_end, EndsFor, killed_text, AppState, AttemptState, AppRow, Current, Tables, end_with, last_end_in, History, abstract_scene}
+use Rattle.std.proofs.Common.{is_some}
 use Rattle.std.specs.Prelude.{option_and_then}
-use Rattle.std.specs.List.{list_any}
-use Rattle.std.proofs.lemmas.Bool.Decides.{nat_tests}
-use Rattle.rm_types.specs.declared.ids.AppId.{AppId}
-use Rattle.rm_types.specs.declared.ids.AttemptId.{AttemptId}
-use Rattle.rm_types.specs.declared.operations.How.{How}
 use Rattle.rm_types.specs.declared.operations.How.TheVariants as ways
-use Rattle.rm_types.specs.declared.operations.Op.{Op}
 use Rattle.rm_types.specs.declared.operations.Op.TheVariants as ops
-use Rattle.rm_types.specs.declared.records.AppRecord.{AppRecord}
-use Rattle.rm_types.specs.declared.records.AttemptRecord.{AttemptRecord}
-use Rattle.rm_types.specs.declared.settings.Settings.{Settings}
-use Rattle.rm_types.specs.Records.{all_ended, is_some_and, last_attempt}
-use Rattle.rm_model.specs.Attempts.{has_failed, is_failed}
-use Rattle.rm_model.specs.State.{Scene}
-use Rattle.rm_model.specs.Facts.{attempts_in, reaches_bound, is_attempt_op, is_attempt_end_op, is_app_end_op, kept_record, next_attempt, last_end, is_wished}
-use Rattle.rm_model.specs.Issuing.{MayIssueAppEnd, MayIssueAttemptEnd, EndsFor, killed_text, end_by}
-use Rattle.rm_states.specs.declared.app.states.AppState.{AppState}
+use Rattle.rm_model.specs.Attempts.{is_failed}
+use Rattle.rm_model.specs.Facts.{kept_record, next_attempt, is_wished}
+use Rattle.rm_model.specs.Issuing.{MayIssueAppEnd, MayIssueAttemptEnd, end_by}
 use Rattle.rm_states.specs.declared.app.states.AppState.TheVariants as apps
-use Rattle.rm_states.specs.declared.attempt.states.AttemptState.{AttemptState}
 use Rattle.rm_states.specs.declared.attempt.states.AttemptState.TheVariants as attempts
-use Rattle.rm_tables.specs.declared.rows.AppRow.{AppRow}
-use Rattle.rm_tables.specs.declared.rows.Current.{Current}
-use Rattle.rm_tables.specs.declared.tables.Tables.{Tables}
-use Rattle.rm_tables.specs.MainEvents.{end_with, last_end_in}
-use Rattle.rm_refinement.specs.History.{History, abstract_scene}
 use Rattle.rm_invariant.specs.apps.View.{View, view, is_attempt_op_of, is_attempt_end_op_of}
 use Rattle.rm_invariant.specs.apps.Invariant.{RowInvariant, StateInvariant, ActiveInvariant, AllHaveEnded, LastIsOpen, MayFollowInView, is_active, ops_of}
 use Rattle.rm_invariant.proofs.apps.Counts.{none_under}

@@ -1,14 +1,8 @@
 -- What each primitive does to the counts and to the view of an attempt, once: an event or an operation is taken from the front of its list,
 -- or put at its end.
-use Rattle.std.proofs.Common.{◌≡◌, List, [], ◌∷◌, ◌++◌, drop, refl}
-use Rattle.rm_types.specs.declared.ids.AttemptId.{AttemptId}
-use Rattle.rm_types.specs.declared.operations.Op.{Op}
-use Rattle.rm_tables.specs.declared.events.MainEvent.{MainEvent}
-use Rattle.rm_tables.specs.declared.events.SchedEvent.{SchedEvent}
-use Rattle.rm_tables.specs.declared.tables.Tables.{Tables}
-use Rattle.rm_refinement.specs.History.{History}
+use Rattle.rm_invariant.proofs.Common.{◌≡◌, List, [], ◌∷◌, ◌++◌, drop, refl, AttemptId, Op, MainEvent, SchedEvent, Tables, History, is_app_op, is_app_end_op}
 use Rattle.rm_invariant.specs.apps.View.{view, main_view, sched_view, op_view, counts, main_more, sched_more, op_more, is_start, is_save, is_add, is_accept, is_kill, is_done, is_grant, is_launch, is_queueing, is_attempt_op_of, is_attempt_end_op_of, is_own_op}
-use Rattle.rm_model.specs.Facts.{is_app_op, is_app_end_op, is_remove_op}
+use Rattle.rm_model.specs.Facts.{is_remove_op}
 use Rattle.rm_invariant.proofs.apps.Counts.{at_front, at_end}
 
 module _ (h : History) (t : Tables) (q : AttemptId) where

@@ -1,34 +1,14 @@
 -- The events of the main queue that end applications, each as a whole step: AppSaved where a kill is wished, AppKill and AttemptDone.
-use Rattle.std.proofs.Common.{◌≡◌, ◌≢◌, ◌⊎◌, inl, inr, ℕ, ◌+◌, ◌==◌, suc, List, ◌∷◌, true, false, Option, None, Some, length, refl, ◌∙◌, ap, subst, arith}
-use Rattle.rm_types.specs.declared.entries.Entry.{Entry}
-use Rattle.rm_types.specs.declared.entries.Entry.TheVariants.{Issued, Quiet}
-use Rattle.rm_types.specs.declared.ids.AppId.{AppId}
-use Rattle.rm_types.specs.declared.ids.AttemptId.{AttemptId}
+use Rattle.rm_invariant.proofs.Common.{◌≡◌, ◌⊎◌, inl, inr, ℕ, ◌+◌, suc, List, ◌∷◌, true, false, Option, None, Some, length, refl, ◌∙◌, ap, subst, arith, Entry, Issued, Quiet, AppId, AttemptId, How, Settings, record_of, same_app, app_itself, attempts_in, last_end, EndsFor, killed_text, AppState, AttemptState, MainEvent, AppRow, Current, Tables, app_changed, ends_app, found_in, main_popped, main_quiet, main_worked, next_in, schedules, changed, decision_of_end, decision_of_attempt_state, decision_of_row, decision_of_current, end_with, kill_of_attempt_state, kill_of_row, kill_of_state, attempt_kill, last_end_in, save_of_state, row_of, with_row, History, abstract_scene}
+use Rattle.std.proofs.Common.{◌≢◌, ◌==◌}
 use Rattle.rm_types.specs.declared.messages.Lane.TheVariants.{Main as MainLane}
-use Rattle.rm_types.specs.declared.operations.How.{How}
 use Rattle.rm_types.specs.declared.operations.How.TheVariants as ways
 use Rattle.rm_types.specs.declared.operations.Op.TheVariants as ops
-use Rattle.rm_types.specs.declared.settings.Settings.{Settings}
-use Rattle.rm_types.specs.Records.{record_of}
-use Rattle.rm_types.proofs.IdLemmas.{same_app, app_itself}
-use Rattle.rm_model.specs.Facts.{attempts_in, last_end}
-use Rattle.rm_model.specs.Issuing.{EndsFor, killed_text}
-use Rattle.rm_states.specs.declared.app.states.AppState.{AppState}
 use Rattle.rm_states.specs.declared.app.states.AppState.TheVariants as apps
-use Rattle.rm_states.specs.declared.attempt.states.AttemptState.{AttemptState}
 use Rattle.rm_states.specs.declared.attempt.states.AttemptState.TheVariants as attempts
 use Rattle.rm_tables.specs.declared.changes.RowChange.TheVariants as of_app
-use Rattle.rm_tables.specs.declared.events.MainEvent.{MainEvent}
 use Rattle.rm_tables.specs.declared.events.MainEvent.TheVariants as mains
 use Rattle.rm_tables.specs.declared.events.SchedEvent.TheVariants as scheds
-use Rattle.rm_tables.specs.declared.rows.AppRow.{AppRow}
-use Rattle.rm_tables.specs.declared.rows.Current.{Current}
-use Rattle.rm_tables.specs.declared.tables.Tables.{Tables}
-use Rattle.rm_tables.specs.Actions.{app_changed, ends_app, found_in, main_popped, main_quiet, main_worked, next_in, schedules}
-use Rattle.rm_tables.specs.Changes.{changed}
-use Rattle.rm_tables.specs.MainEvents.{decision_of_end, decision_of_attempt_state, decision_of_row, decision_of_current, end_with, kill_of_attempt_state, kill_of_row, kill_of_state, attempt_kill, last_end_in, save_of_state}
-use Rattle.rm_tables.specs.Rows.{row_of, with_row}
-use Rattle.rm_refinement.specs.History.{History, abstract_scene}
 use Rattle.rm_invariant.specs.apps.View.{View, view, main_view, sched_view, op_view, one_if}
 use Rattle.rm_invariant.specs.apps.Invariant.{RowInvariant, ActiveInvariant, is_active}
 use Rattle.rm_invariant.specs.Step.{AppsInvariant, Step}

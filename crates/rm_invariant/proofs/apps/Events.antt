@@ -1,31 +1,13 @@
 -- The events of the main queue's front in an open life, each as a whole step: AppSaved, AppAccepted, AppStart and Retire.
-use Rattle.std.proofs.Common.{◌≡◌, ◌≢◌, inl, ◌==◌, List, [], ◌∷◌, ◌++◌, true, false, Option, None, Some, drop, refl, subst, arith}
-use Rattle.std.specs.List.{list_any}
-use Rattle.rm_types.specs.declared.entries.Entry.{Entry}
-use Rattle.rm_types.specs.declared.entries.Entry.TheVariants.{Issued, Accepted, Quiet}
-use Rattle.rm_types.specs.declared.ids.AppId.{AppId}
-use Rattle.rm_types.specs.declared.ids.AttemptId.{AttemptId}
+use Rattle.rm_invariant.proofs.Common.{◌≡◌, inl, List, [], ◌∷◌, ◌++◌, true, false, Option, None, Some, drop, refl, subst, arith, list_any, Entry, Issued, Accepted, Quiet, AppId, AttemptId, Submission, Settings, is_app, attempts_in, is_app_end_op, MayIssueApp, AppState, MainEvent, AppRow, Tables, main_popped, main_worked, changed, save_of_state, row_of, with_row, History, abstract_scene}
+use Rattle.std.proofs.Common.{◌≢◌, ◌==◌}
 use Rattle.rm_types.specs.declared.messages.Lane.TheVariants.{Main as MainLane}
 use Rattle.rm_types.specs.declared.operations.Op.TheVariants as ops
-use Rattle.rm_types.specs.declared.operations.Submission.{Submission}
-use Rattle.rm_types.specs.declared.settings.Settings.{Settings}
-use Rattle.rm_types.specs.Ids.{is_app}
-use Rattle.rm_model.specs.Facts.{attempts_in, is_app_end_op}
-use Rattle.rm_model.specs.Issuing.{MayIssueApp}
 use Rattle.rm_model.specs.Rules.{MayAccept}
-use Rattle.rm_states.specs.declared.app.states.AppState.{AppState}
 use Rattle.rm_states.specs.declared.app.states.AppState.TheVariants as apps
 use Rattle.rm_tables.specs.declared.changes.RowChange.TheVariants as of_app
-use Rattle.rm_tables.specs.declared.events.MainEvent.{MainEvent}
 use Rattle.rm_tables.specs.declared.events.MainEvent.TheVariants as mains
 use Rattle.rm_tables.specs.declared.events.SchedEvent.TheVariants as scheds
-use Rattle.rm_tables.specs.declared.rows.AppRow.{AppRow}
-use Rattle.rm_tables.specs.declared.tables.Tables.{Tables}
-use Rattle.rm_tables.specs.Actions.{main_popped, main_worked}
-use Rattle.rm_tables.specs.Changes.{changed}
-use Rattle.rm_tables.specs.MainEvents.{save_of_state}
-use Rattle.rm_tables.specs.Rows.{row_of, with_row}
-use Rattle.rm_refinement.specs.History.{History, abstract_scene}
 use Rattle.rm_invariant.specs.apps.View.{View, view, main_view, sched_view, op_view, one_if, set_if}
 use Rattle.rm_invariant.specs.apps.Invariant.{AllHaveEnded, RowInvariant, StateInvariant, ops_of}
 use Rattle.rm_invariant.specs.Step.{AppsInvariant, Step}

@@ -1,19 +1,9 @@
 -- What is found of an application after a change.
-use Rattle.std.proofs.Common.{◌≡◌, List, [], ◌∷◌, ◌++◌, Bool, true, false, not, Option, None, Some, cond, filter, find, option_map, refl, sym, ◌∙◌, ap, arith}
+use Rattle.rm_invariant.proofs.Common.{◌≡◌, List, [], ◌∷◌, ◌++◌, Bool, true, false, not, Option, None, Some, filter, find, refl, sym, ◌∙◌, ap, arith, lookup-set_value, nat_tests, AppId, Submission, Submitted, AppRecord, is_app, record_of, same_app, app_itself, has_app, waiting_submission, AppRow, slot_of, row_in, row_of, is_empty_slot, is_retired, with_row}
+use Rattle.std.proofs.Common.{cond, option_map}
 use Rattle.std.specs.Cmp.{IsEquivalence}
 use Rattle.std.specs.Option.{IsSome}
-use Rattle.std.proofs.lemmas.Map.{lookup-set_value}
-use Rattle.std.proofs.lemmas.Bool.Decides.{nat_tests}
-use Rattle.rm_types.specs.declared.ids.AppId.{AppId}
-use Rattle.rm_types.specs.declared.operations.Submission.{Submission}
-use Rattle.rm_types.specs.declared.operations.Submitted.{Submitted}
-use Rattle.rm_types.specs.declared.records.AppRecord.{AppRecord}
-use Rattle.rm_types.specs.Ids.{is_app}
-use Rattle.rm_types.specs.Records.{record_of}
-use Rattle.rm_types.proofs.IdLemmas.{same_app, app_itself}
-use Rattle.rm_model.specs.Facts.{has_app, waiting_submission}
-use Rattle.rm_tables.specs.declared.rows.AppRow.{AppRow}
-use Rattle.rm_tables.specs.Rows.{slot_of, row_in, row_of, is_empty_slot, is_retired, with_slot, with_row}
+use Rattle.rm_tables.specs.Rows.{with_slot}
 use Rattle.rm_invariant.specs.apps.View.{changed_if, put_if, gone_if, set_if}
 
 pub same_test : (a b q : AppId) → is_app a b ≡ true → is_app a q ≡ is_app b q

@@ -1,18 +1,6 @@
 -- A step changes one application: it keeps what holds of every attempt, where the views of the others stay and its own facts are shown.
-use Rattle.std.proofs.Common.{◌≡◌, List, Bool, true, false, Option, None, Some, option_map, refl, sym, ◌∙◌, subst}
-use Rattle.rm_types.specs.declared.entries.Entry.{Entry}
-use Rattle.rm_types.specs.declared.ids.AppId.{AppId}
-use Rattle.rm_types.specs.declared.ids.AttemptId.{AttemptId}
-use Rattle.rm_types.specs.declared.settings.Settings.{Settings}
-use Rattle.rm_types.specs.Ids.{is_app}
-use Rattle.rm_types.specs.Records.{Records, records}
-use Rattle.rm_types.proofs.IdLemmas.{same_app}
-use Rattle.rm_model.specs.Changes.{after}
-use Rattle.rm_model.specs.Rules.{Allowed, AllowedIn}
-use Rattle.rm_tables.specs.declared.rows.AppRow.{AppRow}
-use Rattle.rm_tables.specs.declared.tables.Tables.{Tables}
-use Rattle.rm_tables.specs.Rows.{row_of}
-use Rattle.rm_refinement.specs.History.{History, abstract_life, abstract_scene, live_state}
+use Rattle.rm_invariant.proofs.Common.{◌≡◌, List, Bool, true, false, Option, None, Some, refl, sym, ◌∙◌, subst, Entry, AppId, AttemptId, Settings, is_app, Records, records, same_app, after, Allowed, AllowedIn, AppRow, Tables, row_of, History, abstract_life, abstract_scene, live_state}
+use Rattle.std.proofs.Common.{option_map}
 use Rattle.rm_invariant.specs.apps.View.{View, view, changed_if}
 use Rattle.rm_invariant.specs.apps.Invariant.{RowInvariant}
 use Rattle.rm_invariant.specs.Step.{AppsInvariant, Step}

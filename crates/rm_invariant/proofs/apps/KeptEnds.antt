@@ -1,39 +1,16 @@
 -- The end of an attempt and the end of an application once they are kept, each as a whole step.
-use Rattle.std.proofs.Common.{◌≡◌, ◌≤◌, ℕ, ◌==◌, ◌||◌, ◌&&◌, suc, List, [], ◌∷◌, ◌++◌, Bool, true, false, Option, None, Some, is_some, option_map, length, map, drop, refl, ◌∙◌, ap, subst, arith}
-use Rattle.std.specs.List.{list_all}
-use Rattle.std.proofs.lemmas.Bool.Decides.{nat_tests}
+use Rattle.rm_invariant.proofs.Common.{◌≡◌, ◌≤◌, ℕ, ◌||◌, ◌&&◌, suc, List, [], ◌∷◌, ◌++◌, Bool, true, false, Option, None, Some, length, map, drop, refl, ◌∙◌, ap, subst, arith, list_all, nat_tests, AppId, AttemptId, How, Op, AppRecord, AttemptRecord, Settings, is_app, is_attempt, all_ended, is_some_and, last_attempt, record_of, with_end, same_app, app_itself, asks_without, attempts_in, end_in, AppState, AttemptState, SchedEvent, AppRow, Current, Tables, changed, dropped_at, dropped_by, dropped_of, kept, row_of, History}
+use Rattle.std.proofs.Common.{◌==◌, is_some, option_map}
 use Rattle.std.proofs.lemmas.List.{append-nil}
 use Rattle.rm_types.specs.declared.entries.Entry.TheVariants.{Kept as KeptEntry}
-use Rattle.rm_types.specs.declared.ids.AppId.{AppId}
-use Rattle.rm_types.specs.declared.ids.AttemptId.{AttemptId}
-use Rattle.rm_types.specs.declared.operations.How.{How}
-use Rattle.rm_types.specs.declared.operations.Op.{Op}
 use Rattle.rm_types.specs.declared.operations.Op.TheVariants as ops
-use Rattle.rm_types.specs.declared.records.AppRecord.{AppRecord}
-use Rattle.rm_types.specs.declared.records.AttemptRecord.{AttemptRecord}
-use Rattle.rm_types.specs.declared.settings.Settings.{Settings}
-use Rattle.rm_types.specs.Ids.{is_app, is_attempt}
-use Rattle.rm_types.specs.Records.{all_ended, is_some_and, last_attempt, record_of, with_end}
-use Rattle.rm_types.proofs.IdLemmas.{same_app, app_itself}
 use Rattle.rm_types.proofs.EndLemmas.{length-ended}
-use Rattle.rm_model.specs.Changes.{asks_without}
-use Rattle.rm_model.specs.Facts.{attempts_in, end_in}
-use Rattle.rm_states.specs.declared.app.states.AppState.{AppState}
 use Rattle.rm_states.specs.declared.app.states.AppState.TheVariants as apps
-use Rattle.rm_states.specs.declared.attempt.states.AttemptState.{AttemptState}
 use Rattle.rm_states.specs.declared.attempt.states.AttemptState.TheVariants as attempts
 use Rattle.rm_tables.specs.declared.changes.AttemptChange.TheVariants as of_attempt
 use Rattle.rm_tables.specs.declared.changes.RowChange.TheVariants as of_app
 use Rattle.rm_tables.specs.declared.events.MainEvent.TheVariants as mains
-use Rattle.rm_tables.specs.declared.events.SchedEvent.{SchedEvent}
 use Rattle.rm_tables.specs.declared.events.SchedEvent.TheVariants as scheds
-use Rattle.rm_tables.specs.declared.rows.AppRow.{AppRow}
-use Rattle.rm_tables.specs.declared.rows.Current.{Current}
-use Rattle.rm_tables.specs.declared.tables.Tables.{Tables}
-use Rattle.rm_tables.specs.Changes.{changed}
-use Rattle.rm_tables.specs.KeptOps.{dropped_at, dropped_by, dropped_of, kept}
-use Rattle.rm_tables.specs.Rows.{row_of}
-use Rattle.rm_refinement.specs.History.{History}
 use Rattle.rm_invariant.specs.apps.View.{View, view, counts, changed_if, main_more, main_view, op_view, one_if}
 use Rattle.rm_invariant.specs.apps.Invariant.{ActiveInvariant, AttemptCounts, CurrentInvariant, LastIsOpen, AllHaveEnded, RowInvariant, StateInvariant, has_ended_or_is, is_active, is_open_one}
 use Rattle.rm_invariant.specs.Step.{AppsInvariant, Step}

@@ -1,18 +1,9 @@
 -- The lists of submissions of an open life: how often an application stands there, what is left without the first, and which is to be issued next.
-use Rattle.std.proofs.Common.{◌≡◌, ℕ, ◌+◌, ◌≤◌, ◌||◌, suc, List, [], ◌∷◌, ◌++◌, Bool, true, false, not, Some, filter, length, count_by, is_none, refl, sym, ◌∙◌, ap, arith}
-use Rattle.std.proofs.lemmas.List.{length-map}
-use Rattle.rm_types.specs.declared.ids.AppId.{AppId}
-use Rattle.rm_types.specs.declared.operations.Submission.{Submission}
-use Rattle.rm_types.specs.declared.operations.Submitted.{Submitted}
-use Rattle.rm_types.specs.declared.records.AppRecord.{AppRecord}
-use Rattle.rm_types.specs.Ids.{is_app}
-use Rattle.rm_types.specs.Records.{new_record}
-use Rattle.rm_types.proofs.IdLemmas.{app_itself}
+use Rattle.rm_invariant.proofs.Common.{◌≡◌, ℕ, ◌+◌, ◌≤◌, ◌||◌, suc, List, [], ◌∷◌, ◌++◌, Bool, true, false, not, Some, filter, length, is_none, refl, sym, ◌∙◌, ap, arith, length-map, AppId, Submission, Submitted, AppRecord, is_app, new_record, app_itself, has_app, waiting_submission, Scene, going_in}
+use Rattle.std.proofs.Common.{count_by}
 use Rattle.rm_types.proofs.TestLemmas.{or_true}
-use Rattle.rm_model.specs.Facts.{app_issued, has_app, waiting_submission}
+use Rattle.rm_model.specs.Facts.{app_issued}
 use Rattle.rm_model.specs.Issuing.{first_unissued}
-use Rattle.rm_model.specs.State.{Scene}
-use Rattle.rm_tables.specs.Opening.{going_in}
 use Rattle.rm_invariant.specs.apps.Submissions.{submitted_ids}
 use Rattle.rm_invariant.specs.apps.View.{one_if}
 use Rattle.rm_invariant.proofs.apps.Counts.{at_end, at_front}

@@ -1,14 +1,8 @@
 -- What each event does to the facts of its own application: of a view alone.
-use Rattle.std.proofs.Common.{◌≡◌, ◌≢◌, ◌==◌, suc, [], Bool, true, false, None, Some, refl, sym, subst, arith}
-use Rattle.rm_types.specs.declared.ids.AttemptId.{AttemptId}
-use Rattle.rm_types.specs.declared.operations.Submission.{Submission}
-use Rattle.rm_types.specs.declared.records.AppRecord.{AppRecord}
-use Rattle.rm_types.specs.declared.settings.Settings.{Settings}
-use Rattle.rm_states.specs.declared.app.states.AppState.{AppState}
+use Rattle.rm_invariant.proofs.Common.{◌≡◌, suc, [], Bool, true, false, None, Some, refl, sym, subst, arith, AttemptId, Submission, AppRecord, Settings, AppState, AppRow, changed}
+use Rattle.std.proofs.Common.{◌≢◌, ◌==◌}
 use Rattle.rm_states.specs.declared.app.states.AppState.TheVariants as apps
 use Rattle.rm_tables.specs.declared.changes.RowChange.TheVariants as of_app
-use Rattle.rm_tables.specs.declared.rows.AppRow.{AppRow}
-use Rattle.rm_tables.specs.Changes.{changed}
 use Rattle.rm_invariant.specs.apps.View.{View, one_if, put_if}
 use Rattle.rm_invariant.specs.apps.Invariant.{RowInvariant, IsKnown, StateInvariant, ActiveInvariant, is_active}
 

@@ -1,37 +1,15 @@
 -- The events of the scheduler's queue in an open life, each as a whole step: AppAdded and AttemptAdded.
-use Rattle.std.proofs.Common.{◌≡◌, ◌≢◌, ◌⊎◌, inl, inr, ℕ, ◌==◌, ◌&&◌, ◌||◌, suc, List, ◌∷◌, ◌++◌, Bool, true, false, not, Option, None, Some, is_some, option_map, refl, ◌∙◌, ap, subst, arith}
-use Rattle.std.specs.List.{list_any}
-use Rattle.std.proofs.lemmas.Bool.Decides.{nat_tests}
-use Rattle.std.proofs.lemmas.Bool.{or_right}
-use Rattle.rm_types.specs.declared.containers.AskOf.{AskOf}
-use Rattle.rm_types.specs.declared.entries.Entry.{Entry}
-use Rattle.rm_types.specs.declared.entries.Entry.TheVariants.{Queued, Quiet}
-use Rattle.rm_types.specs.declared.ids.AppId.{AppId}
-use Rattle.rm_types.specs.declared.ids.AttemptId.{AttemptId}
+use Rattle.rm_invariant.proofs.Common.{◌≡◌, ◌⊎◌, inl, inr, ℕ, ◌&&◌, ◌||◌, suc, List, ◌∷◌, ◌++◌, Bool, true, false, not, Option, None, Some, refl, ◌∙◌, ap, subst, arith, list_any, nat_tests, or_right, AskOf, Entry, Quiet, AppId, AttemptId, AppRecord, Settings, is_app, is_attempt, record_of, app_itself, AsksOf, is_app_end_op, is_attempt_op, AppState, AttemptState, SchedEvent, AppRow, Current, Tables, found_in, sched_popped, sched_worked, row_of, master_asked, queued_at, queued_with, queued_by, History, abstract_scene}
+use Rattle.std.proofs.Common.{◌≢◌, ◌==◌, is_some, option_map}
+use Rattle.rm_types.specs.declared.entries.Entry.TheVariants.{Queued}
 use Rattle.rm_types.specs.declared.messages.Lane.TheVariants.{Sched as SchedLane}
 use Rattle.rm_types.specs.declared.operations.Op.TheVariants as ops
-use Rattle.rm_types.specs.declared.records.AppRecord.{AppRecord}
-use Rattle.rm_types.specs.declared.settings.Settings.{Settings}
-use Rattle.rm_types.specs.Ids.{is_app, is_attempt}
-use Rattle.rm_types.specs.Records.{record_of}
-use Rattle.rm_types.proofs.IdLemmas.{app_itself}
-use Rattle.rm_book.specs.AskTables.{AsksOf}
 use Rattle.rm_model.specs.Changes.{master_ask}
-use Rattle.rm_model.specs.Facts.{is_app_end_op, is_attempt_op}
 use Rattle.rm_model.specs.Rules.{MayQueue}
-use Rattle.rm_states.specs.declared.app.states.AppState.{AppState}
-use Rattle.rm_states.specs.declared.attempt.states.AttemptState.{AttemptState}
 use Rattle.rm_states.specs.declared.attempt.states.AttemptState.TheVariants as attempts
 use Rattle.rm_tables.specs.declared.events.MainEvent.TheVariants as mains
-use Rattle.rm_tables.specs.declared.events.SchedEvent.{SchedEvent}
 use Rattle.rm_tables.specs.declared.events.SchedEvent.TheVariants as scheds
-use Rattle.rm_tables.specs.declared.rows.AppRow.{AppRow}
-use Rattle.rm_tables.specs.declared.rows.Current.{Current}
-use Rattle.rm_tables.specs.declared.tables.Tables.{Tables}
-use Rattle.rm_tables.specs.Actions.{found_in, sched_popped, sched_worked}
-use Rattle.rm_tables.specs.Rows.{row_of}
-use Rattle.rm_tables.specs.SchedEvents.{added_by, master_asked, queued_at, queued_with, queued_by}
-use Rattle.rm_refinement.specs.History.{History, abstract_scene}
+use Rattle.rm_tables.specs.SchedEvents.{added_by}
 use Rattle.rm_invariant.specs.apps.View.{View, view, counts, main_view, sched_view, one_if, is_ask, is_attempt_op_of}
 use Rattle.rm_invariant.specs.apps.Invariant.{RowInvariant, StateInvariant, ActiveInvariant, AllHaveEnded, MayFollowInView, is_active, ops_of}
 use Rattle.rm_invariant.specs.Step.{AppsInvariant, Step}

@@ -1,10 +1,5 @@
 -- What is recorded of an application after the record of this or another one was changed.
-use Rattle.std.proofs.Common.{◌≡◌, List, [], ◌∷◌, Bool, true, false, None, refl, sym, ◌∙◌, arith}
-use Rattle.std.proofs.lemmas.Bool.Decides.{nat_tests}
-use Rattle.rm_types.specs.declared.ids.AppId.{AppId}
-use Rattle.rm_types.specs.declared.records.AppRecord.{AppRecord}
-use Rattle.rm_types.specs.Ids.{is_app}
-use Rattle.rm_types.specs.Records.{record_of, with_record}
+use Rattle.rm_invariant.proofs.Common.{◌≡◌, List, [], ◌∷◌, Bool, true, false, None, refl, sym, ◌∙◌, arith, nat_tests, AppId, AppRecord, is_app, record_of, with_record}
 use Rattle.rm_invariant.specs.apps.View.{changed_if}
 use Rattle.rm_invariant.proofs.apps.Found.{same_test}
 

@@ -1,21 +1,9 @@
 -- The removal of an application once it is kept, as a whole step.
-use Rattle.std.proofs.Common.{◌≡◌, suc, List, [], ◌∷◌, ◌++◌, Bool, true, false, Option, None, Some, drop, refl, sym, ◌∙◌, ap, subst, arith}
+use Rattle.rm_invariant.proofs.Common.{◌≡◌, suc, List, [], ◌∷◌, ◌++◌, Bool, true, false, Option, None, Some, drop, refl, sym, ◌∙◌, ap, subst, arith, lookup-set_value, AppId, AttemptId, Op, AppRecord, Settings, is_app, same_app, AppRow, Tables, kept, row_in, row_of, slot_of, without_row, History}
 use Rattle.std.specs.Prelude.{cond}
-use Rattle.std.proofs.lemmas.Map.{lookup-set_value}
 use Rattle.rm_types.specs.declared.entries.Entry.TheVariants.{Kept as KeptEntry}
-use Rattle.rm_types.specs.declared.ids.AppId.{AppId}
-use Rattle.rm_types.specs.declared.ids.AttemptId.{AttemptId}
-use Rattle.rm_types.specs.declared.operations.Op.{Op}
 use Rattle.rm_types.specs.declared.operations.Op.TheVariants as ops
-use Rattle.rm_types.specs.declared.records.AppRecord.{AppRecord}
-use Rattle.rm_types.specs.declared.settings.Settings.{Settings}
-use Rattle.rm_types.specs.Ids.{is_app}
-use Rattle.rm_types.proofs.IdLemmas.{same_app}
-use Rattle.rm_tables.specs.declared.rows.AppRow.{AppRow}
-use Rattle.rm_tables.specs.declared.tables.Tables.{Tables}
-use Rattle.rm_tables.specs.KeptOps.{kept}
-use Rattle.rm_tables.specs.Rows.{row_in, row_of, slot_of, without_row, without_slot}
-use Rattle.rm_refinement.specs.History.{History}
+use Rattle.rm_tables.specs.Rows.{without_slot}
 use Rattle.rm_invariant.specs.apps.View.{View, view, counts, gone_if, op_view, set_if}
 use Rattle.rm_invariant.specs.apps.Invariant.{RowInvariant}
 use Rattle.rm_invariant.specs.Step.{AppsInvariant, Step}

@@ -1,27 +1,11 @@
 -- Why a Remove may be issued of the application whose end was kept first, and the event Retire as a whole step.
-use Rattle.std.proofs.Common.{◌≡◌, ◌≤◌, ◌<◌, ℕ, ◌==◌, ◌&&◌, suc, List, [], ◌∷◌, ◌++◌, Bool, true, false, not, Option, None, Some, is_some, cond, count_by, filter, map, nat_le, drop, length, refl, sym, ◌∙◌, ap, subst, arith}
-use Rattle.std.specs.List.{list_any, list_all, flat_map}
-use Rattle.std.proofs.lemmas.List.{length-map}
+use Rattle.rm_invariant.proofs.Common.{◌≡◌, ◌≤◌, ◌<◌, ℕ, ◌&&◌, suc, List, [], ◌∷◌, ◌++◌, Bool, true, false, not, Option, None, Some, filter, map, nat_le, drop, length, refl, sym, ◌∙◌, ap, subst, arith, list_any, list_all, flat_map, length-map, nat_tests, Issued, AppId, AttemptId, AppRecord, Settings, is_app, is_some_and, record_of, same_app, app_itself, end_in, AppState, MainEvent, AppRow, Tables, row_of, History, abstract_scene}
+use Rattle.std.proofs.Common.{◌==◌, is_some, cond, count_by}
 use Rattle.std.proofs.lemmas.List.Sums.{length-filter}
-use Rattle.std.proofs.lemmas.Bool.Decides.{nat_tests}
-use Rattle.rm_types.specs.declared.entries.Entry.TheVariants.{Issued}
-use Rattle.rm_types.specs.declared.ids.AppId.{AppId}
-use Rattle.rm_types.specs.declared.ids.AttemptId.{AttemptId}
 use Rattle.rm_types.specs.declared.operations.Op.TheVariants as ops
-use Rattle.rm_types.specs.declared.records.AppRecord.{AppRecord}
-use Rattle.rm_types.specs.declared.settings.Settings.{Settings}
-use Rattle.rm_types.specs.Ids.{is_app}
-use Rattle.rm_types.specs.Records.{is_some_and, record_of}
-use Rattle.rm_types.proofs.IdLemmas.{same_app, app_itself}
-use Rattle.rm_model.specs.Facts.{completed, end_in, is_completed, is_remove_op}
+use Rattle.rm_model.specs.Facts.{completed, is_completed, is_remove_op}
 use Rattle.rm_model.specs.Issuing.{MayIssueRemove, is_completed_before}
-use Rattle.rm_states.specs.declared.app.states.AppState.{AppState}
-use Rattle.rm_tables.specs.declared.events.MainEvent.{MainEvent}
 use Rattle.rm_tables.specs.declared.events.MainEvent.TheVariants as mains
-use Rattle.rm_tables.specs.declared.rows.AppRow.{AppRow}
-use Rattle.rm_tables.specs.declared.tables.Tables.{Tables}
-use Rattle.rm_tables.specs.Rows.{row_of}
-use Rattle.rm_refinement.specs.History.{History, abstract_scene}
 use Rattle.rm_invariant.specs.apps.View.{View, view, counts, one_if, op_view}
 use Rattle.rm_invariant.specs.apps.Invariant.{RowInvariant, StateInvariant}
 use Rattle.rm_invariant.specs.Step.{AppsInvariant, Step}

@@ -1,27 +1,11 @@
 -- A submission that is taken, and its App once it is kept, each as a whole step.
-use Rattle.std.proofs.Common.{◌≡◌, ◌+◌, suc, List, [], ◌∷◌, ◌++◌, Bool, true, false, not, Option, None, Some, drop, filter, refl, sym, ◌∙◌, ap, subst, arith}
+use Rattle.rm_invariant.proofs.Common.{◌≡◌, ◌+◌, suc, List, [], ◌∷◌, ◌++◌, Bool, true, false, not, Option, None, Some, drop, filter, refl, sym, ◌∙◌, ap, subst, arith, AppId, AttemptId, Op, Submission, Settings, is_app, Records, recorded, records, no_records, new_record, record_of, same_app, app_itself, waiting_submission, AppState, AppRow, Tables, changed, kept, is_retired, row_of, History}
 use Rattle.std.proofs.lemmas.List.Sums.{fold_push}
 use Rattle.rm_types.specs.declared.entries.Entry.TheVariants.{Kept as KeptEntry}
-use Rattle.rm_types.specs.declared.ids.AppId.{AppId}
-use Rattle.rm_types.specs.declared.ids.AttemptId.{AttemptId}
-use Rattle.rm_types.specs.declared.operations.Op.{Op}
 use Rattle.rm_types.specs.declared.operations.Op.TheVariants as ops
-use Rattle.rm_types.specs.declared.operations.Submission.{Submission}
-use Rattle.rm_types.specs.declared.settings.Settings.{Settings}
-use Rattle.rm_types.specs.Ids.{is_app}
-use Rattle.rm_types.specs.Records.{Records, recorded, records, no_records, new_record, record_of}
-use Rattle.rm_types.proofs.IdLemmas.{same_app, app_itself}
-use Rattle.rm_model.specs.Facts.{waiting_submission}
-use Rattle.rm_states.specs.declared.app.states.AppState.{AppState}
 use Rattle.rm_states.specs.declared.app.states.AppState.TheVariants as apps
 use Rattle.rm_tables.specs.declared.changes.RowChange.TheVariants as of_app
 use Rattle.rm_tables.specs.declared.events.MainEvent.TheVariants as mains
-use Rattle.rm_tables.specs.declared.rows.AppRow.{AppRow}
-use Rattle.rm_tables.specs.declared.tables.Tables.{Tables}
-use Rattle.rm_tables.specs.Changes.{changed}
-use Rattle.rm_tables.specs.KeptOps.{kept}
-use Rattle.rm_tables.specs.Rows.{is_retired, row_of}
-use Rattle.rm_refinement.specs.History.{History}
 use Rattle.rm_invariant.specs.apps.View.{View, view, counts, main_view, op_view, put_if, gone_if}
 use Rattle.rm_invariant.specs.apps.Invariant.{AttemptsInvariant, RowInvariant, StateInvariant}
 use Rattle.rm_invariant.specs.Step.{AppsInvariant, Step}

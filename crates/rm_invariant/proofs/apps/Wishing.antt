@@ -1,18 +1,8 @@
 -- A client's wish to kill an application: the first of a life is noted and is to be followed; a further one changes nothing.
-use Rattle.std.proofs.Common.{◌≡◌, suc, [], ◌∷◌, ◌++◌, Bool, true, false, Some, refl, sym, ◌∙◌, subst}
-use Rattle.rm_types.specs.declared.ids.AppId.{AppId}
-use Rattle.rm_types.specs.declared.ids.AttemptId.{AttemptId}
-use Rattle.rm_types.specs.declared.settings.Settings.{Settings}
-use Rattle.rm_types.specs.Ids.{is_app}
-use Rattle.rm_types.proofs.IdLemmas.{same_app}
+use Rattle.rm_invariant.proofs.Common.{◌≡◌, suc, [], ◌∷◌, ◌++◌, Bool, true, false, Some, refl, sym, ◌∙◌, subst, AppId, AttemptId, Settings, is_app, same_app, AppRow, Tables, changed, row_of, with_row, History}
 use Rattle.rm_tables.specs.declared.changes.RowChange.TheVariants as of_app
 use Rattle.rm_tables.specs.declared.events.MainEvent.TheVariants as mains
-use Rattle.rm_tables.specs.declared.rows.AppRow.{AppRow}
-use Rattle.rm_tables.specs.declared.tables.Tables.{Tables}
-use Rattle.rm_tables.specs.Changes.{changed}
-use Rattle.rm_tables.specs.Rows.{row_of, with_row}
 use Rattle.rm_invariant.specs.apps.Invariant.{AttemptsInvariant, RowInvariant}
-use Rattle.rm_refinement.specs.History.{History}
 use Rattle.rm_invariant.specs.apps.View.{View, changed_if, counts, main_view, set_if, view}
 use Rattle.rm_invariant.proofs.apps.Effects.{main_end}
 use Rattle.rm_invariant.proofs.apps.Found.{has_end, row_changed}

@@ -1,7 +1,6 @@
 -- What the events of each queue stand on is part of what holds of an open life.
-use Rattle.std.proofs.Common.{Bool, ◌&&◌, nat_lt, refl, ap}
-use Rattle.rm_tables.specs.declared.tables.Tables.{Tables}
-use Rattle.rm_refinement.specs.History.{History}
+use Rattle.rm_invariant.proofs.Common.{Bool, ◌&&◌, refl, ap, Tables, History}
+use Rattle.std.proofs.Common.{nat_lt}
 use Rattle.rm_invariant.specs.events.MainFacts.{MainFacts}
 use Rattle.rm_invariant.specs.events.SchedFacts.{SchedFacts}
 use Rattle.rm_invariant.specs.Core.{CoreInvariant}

@@ -1,53 +1,24 @@
 -- Each operation but an Epoch, once it is kept in an open life, keeps what else holds of it.
-use Rattle.std.proofs.Common.{◌≡◌, ◌≤◌, inl, inr, ℕ, ◌+◌, ◌-◌, suc, cond, List, [], ◌∷◌, ◌++◌, Bool, true, false, not, ◌&&◌, ◌||◌, ◌==◌, Option, None, Some, count_by, drop, filter, length, map, is_none, is_some, option_map, refl, sym, ◌∙◌, ap, subst, arith}
-use Rattle.std.specs.List.{flat_map, list_any}
-use Rattle.std.proofs.lemmas.Bool.{false≢true, and_parts}
-use Rattle.std.proofs.lemmas.Bool.Decides.{nat_tests}
+use Rattle.rm_invariant.proofs.Common.{◌≡◌, ◌≤◌, inl, inr, ℕ, ◌+◌, ◌-◌, suc, List, [], ◌∷◌, ◌++◌, Bool, true, false, not, ◌&&◌, ◌||◌, Option, None, Some, drop, filter, length, map, is_none, refl, sym, ◌∙◌, ap, subst, arith, flat_map, list_any, false≢true, and_parts, nat_tests, flat_map-append, lookup-set_value, AppId, AttemptId, ContainerId, How, Op, Submission, AppRecord, Settings, is_app, is_attempt, new_record, record_of, with_end, with_record, same_attempt, same_app, app_itself, attempt_asks, without_asks_of, after, end_in, has_app, is_app_op, is_finished_op, AppState, AttemptState, RowChange, MainEvent, AppRow, Current, Tables, changed, current_after, dropped_at, dropped_by, dropped_of, kept, going_in, is_empty_slot, is_retired, row_of, slot_of, with_row, without_row, finishes_by, History, abstract_scene, live_state}
+use Rattle.std.proofs.Common.{cond, ◌==◌, count_by, is_some, option_map}
 use Rattle.std.proofs.lemmas.List.{append-nil}
-use Rattle.std.proofs.lemmas.Grind.{flat_map-append}
-use Rattle.std.proofs.lemmas.Map.{lookup-set_value}
 use Rattle.rm_types.specs.declared.entries.Entry.TheVariants.{Kept as KeptEntry}
-use Rattle.rm_types.specs.declared.ids.AppId.{AppId}
-use Rattle.rm_types.specs.declared.ids.AttemptId.{AttemptId}
-use Rattle.rm_types.specs.declared.ids.ContainerId.{ContainerId}
-use Rattle.rm_types.specs.declared.operations.How.{How}
-use Rattle.rm_types.specs.declared.operations.Op.{Op}
 use Rattle.rm_types.specs.declared.operations.Op.TheVariants as ops
-use Rattle.rm_types.specs.declared.operations.Submission.{Submission}
-use Rattle.rm_types.specs.declared.records.AppRecord.{AppRecord}
-use Rattle.rm_types.specs.declared.settings.Settings.{Settings}
-use Rattle.rm_types.specs.Ids.{is_app, is_attempt}
-use Rattle.rm_types.specs.Records.{new_record, record_of, with_end, with_record, is_finished}
-use Rattle.rm_types.proofs.IdLemmas.{same_attempt, same_app, app_itself}
-use Rattle.rm_book.specs.AskTables.{attempt_asks, without_asks_of}
-use Rattle.rm_model.specs.Changes.{after}
-use Rattle.rm_model.specs.Facts.{end_in, has_app, is_app_op}
-use Rattle.rm_model.specs.MasterReplies.{is_finished_op}
+use Rattle.rm_types.specs.Records.{is_finished}
 use Rattle.rm_model.specs.State.{Release}
-use Rattle.rm_states.specs.declared.app.states.AppState.{AppState}
 use Rattle.rm_states.specs.declared.app.states.AppState.TheVariants as apps
-use Rattle.rm_states.specs.declared.attempt.states.AttemptState.{AttemptState}
 use Rattle.rm_states.specs.declared.attempt.states.AttemptState.TheVariants as attempts
 use Rattle.rm_states.specs.declared.attempt.states.AttemptEvent.TheVariants as attempt_events
 use Rattle.rm_states.specs.attempt.Table.{next_attempt_state as next_attempt_state}
 use Rattle.rm_tables.specs.declared.changes.AttemptChange.TheVariants as of_attempt
-use Rattle.rm_tables.specs.declared.changes.RowChange.{RowChange}
 use Rattle.rm_tables.specs.declared.changes.RowChange.TheVariants as of_app
-use Rattle.rm_tables.specs.declared.events.MainEvent.{MainEvent}
 use Rattle.rm_tables.specs.declared.events.MainEvent.TheVariants as mains
 use Rattle.rm_tables.specs.declared.events.SchedEvent.TheVariants as scheds
-use Rattle.rm_tables.specs.declared.rows.AppRow.{AppRow}
-use Rattle.rm_tables.specs.declared.rows.Current.{Current}
-use Rattle.rm_tables.specs.declared.tables.Tables.{Tables}
-use Rattle.rm_tables.specs.Changes.{changed, current_after}
-use Rattle.rm_tables.specs.KeptOps.{dropped_at, dropped_by, dropped_of, kept}
-use Rattle.rm_tables.specs.Opening.{going_in}
-use Rattle.rm_tables.specs.Rows.{is_empty_slot, is_retired, row_of, slot_of, with_row, without_row, without_slot}
-use Rattle.rm_refinement.specs.Services.{finishes_by, finishes_with}
+use Rattle.rm_tables.specs.Rows.{without_slot}
+use Rattle.rm_refinement.specs.Services.{finishes_with}
 use Rattle.rm_invariant.specs.apps.Completed.{Completes, is_retire, order_in, completion_order}
 use Rattle.rm_invariant.specs.apps.Invariant.{is_active, ActiveInvariant, EndKeptInvariant, EndIssuedInvariant, RowInvariant, StateInvariant}
 use Rattle.rm_invariant.specs.apps.Submissions.{Lists, saving, starting, submitted_ids}
-use Rattle.rm_refinement.specs.History.{History, abstract_scene, live_state}
 use Rattle.rm_invariant.specs.apps.View.{View, changed_if, gone_if, is_own_op, is_start, one_if, op_view, set_if, view}
 use Rattle.rm_invariant.proofs.apps.Completing.{completes_ended, completes_new, completes_removed, going_removed, once_changed, one_less, order_same, retire_posted, retire_still}
 use Rattle.rm_invariant.proofs.apps.Counts.{at_front, count_append, none_under}

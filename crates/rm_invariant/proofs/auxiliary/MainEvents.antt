@@ -1,48 +1,21 @@
 -- Each event of the main queue keeps what else holds of an open life.
-use Rattle.std.proofs.Common.{◌≡◌, ◌≢◌, inl, inr, ℕ, List, [], ◌∷◌, ◌++◌, Bool, true, false, ◌&&◌, ◌||◌, ◌==◌, Option, None, Some, drop, is_some, refl, sym, ◌∙◌, ap, subst, arith}
-use Rattle.std.specs.List.{flat_map, list_any}
-use Rattle.std.proofs.lemmas.Bool.Decides.{nat_tests}
-use Rattle.std.proofs.lemmas.Bool.{false≢true, and_parts}
+use Rattle.rm_invariant.proofs.Common.{◌≡◌, inl, inr, ℕ, List, [], ◌∷◌, ◌++◌, Bool, true, false, ◌&&◌, ◌||◌, Option, None, Some, drop, refl, sym, ◌∙◌, ap, subst, arith, flat_map, list_any, nat_tests, false≢true, and_parts, flat_map-append, list_any-append, Entry, AppId, AttemptId, How, is_app, is_attempt, Records, attempt_asks, without_asks_of, capability_of, after, is_finished_op, AttemptState, is_alive, RowChange, MainEvent, AppRow, Current, Tables, main_worked, changed, current_after, killed_state, scheduled, main_step, node_row, ordered_row, row_of, with_row, killed_text, finishes_by, is_ending, History, abstract_scene, live_state, AppState, Submission, Settings, Scene, Op, same_attempt, start_of_submission}
+use Rattle.std.proofs.Common.{◌≢◌, ◌==◌, is_some}
 use Rattle.std.proofs.lemmas.List.{append_assoc, append-nil}
-use Rattle.std.proofs.lemmas.Grind.{flat_map-append}
-use Rattle.std.proofs.lemmas.List.Folds.{list_any-append}
-use Rattle.rm_types.specs.declared.entries.Entry.{Entry}
-use Rattle.rm_types.specs.declared.ids.AppId.{AppId}
-use Rattle.rm_types.specs.declared.ids.AttemptId.{AttemptId}
-use Rattle.rm_types.specs.declared.operations.How.{How}
 use Rattle.rm_types.specs.declared.operations.How.TheVariants as ways
 use Rattle.rm_types.specs.declared.operations.Op.TheVariants as ops
-use Rattle.rm_types.specs.Ids.{is_app, is_attempt}
-use Rattle.rm_types.specs.Records.{Records, is_finished}
-use Rattle.rm_book.specs.AskTables.{attempt_asks, without_asks_of}
-use Rattle.rm_book.specs.Books.{capability_of}
-use Rattle.rm_model.specs.Changes.{after}
-use Rattle.rm_model.specs.MasterReplies.{is_finished_op}
+use Rattle.rm_types.specs.Records.{is_finished}
 use Rattle.rm_model.specs.State.{Release}
-use Rattle.rm_states.specs.declared.attempt.states.AttemptState.{AttemptState}
 use Rattle.rm_states.specs.declared.attempt.states.AttemptState.TheVariants as attempts
-use Rattle.rm_states.specs.attempt.Table.{is_alive}
 use Rattle.rm_states.specs.declared.app.states.AppState.TheVariants as apps
 use Rattle.rm_tables.specs.declared.changes.AttemptChange.TheVariants as of_attempt
-use Rattle.rm_tables.specs.declared.changes.RowChange.{RowChange}
 use Rattle.rm_tables.specs.declared.changes.RowChange.TheVariants as of_app
-use Rattle.rm_tables.specs.declared.events.MainEvent.{MainEvent}
 use Rattle.rm_tables.specs.declared.events.MainEvent.TheVariants as mains
 use Rattle.rm_tables.specs.declared.events.SchedEvent.TheVariants as scheds
-use Rattle.rm_tables.specs.declared.rows.AppRow.{AppRow}
-use Rattle.rm_tables.specs.declared.rows.Current.{Current}
-use Rattle.rm_tables.specs.declared.tables.Tables.{Tables}
-use Rattle.rm_tables.specs.Actions.{main_worked}
-use Rattle.rm_tables.specs.Changes.{changed, current_after, dropped_state, killed_state, scheduled}
-use Rattle.rm_tables.specs.MainEvents.{main_step}
-use Rattle.rm_tables.specs.Nodes.{node_row, ordered_row}
-use Rattle.rm_tables.specs.Rows.{row_of, with_row}
-use Rattle.rm_model.specs.Issuing.{killed_text}
+use Rattle.rm_tables.specs.Changes.{dropped_state}
 use Rattle.rm_invariant.proofs.apps.Found.{row_changed}
-use Rattle.rm_refinement.specs.Services.{finishes_by, is_ending}
 use Rattle.rm_invariant.specs.apps.Invariant.{RowInvariant, StateInvariant}
 use Rattle.rm_invariant.specs.Step.{AppsInvariant}
-use Rattle.rm_refinement.specs.History.{History, abstract_scene, live_state}
 use Rattle.rm_invariant.specs.apps.View.{view}
 use Rattle.rm_invariant.proofs.apps.Events.{at}
 use Rattle.rm_invariant.specs.events.Outcomes.{IsCurrentOf, Outcome, MayEndApp, accepts, adds, delays, ends, ends_one, follows, idles, issues, kills, loses, orders, removes, requeues, rests_at, saves, is_past_grant}
@@ -52,9 +25,6 @@ use Rattle.rm_invariant.specs.events.Here.{AreServed, FirstsKnown, NoneAbsent}
 use Rattle.rm_invariant.specs.events.Masters.{are_single}
 use Rattle.rm_invariant.proofs.events.Firsts.{firsts_with}
 use Rattle.rm_invariant.proofs.events.Moving.{other_gone, own_gone}
-use Rattle.rm_states.specs.declared.app.states.AppState.{AppState}
-use Rattle.rm_types.specs.declared.operations.Submission.{Submission}
-use Rattle.rm_types.specs.declared.settings.Settings.{Settings}
 use Rattle.rm_invariant.proofs.events.Registered.{registered_with}
 use Rattle.rm_invariant.proofs.events.Silent.{main_silent}
 use Rattle.rm_invariant.proofs.events.Still.{main_apt, main_completes}
@@ -62,11 +32,7 @@ use Rattle.rm_invariant.specs.auxiliary.Parts.{FixedParts, fixed_parts, parts_in
 use Rattle.rm_invariant.proofs.auxiliary.Parts.{parts_after}
 use Rattle.rm_invariant.proofs.opening.Starting.{is_new}
 use Rattle.rm_invariant.specs.Core.{CoreInvariant, PreservesCore}
-use Rattle.rm_model.specs.State.{Scene}
 use Rattle.rm_invariant.specs.apps.Submissions.{Lists, saving, starting, submitted_ids}
-use Rattle.rm_types.specs.declared.operations.Op.{Op}
-use Rattle.rm_types.proofs.IdLemmas.{same_attempt}
-use Rattle.rm_tables.specs.MainEvents.{start_of_submission}
 use Rattle.rm_invariant.specs.auxiliary.Invariant.{AreUnfinished, FinishesKnown, HasNotFinished, MastersSingle, NoneFirst, OthersGo, RetiredKnown, AuxInvariant, goes_by, goes_numbered, end_is_issued}
 use Rattle.rm_invariant.proofs.auxiliary.Rows.{each_with, finishes_with_row, goes_on, goes_with_row, killed_goes, none_finished, none_first_with, retired_with, served_append, still_node}
 

@@ -1,68 +1,26 @@
 -- Each message keeps what else holds of an open life; each that is served is counted.
-use Rattle.std.proofs.Common.{◌≡◌, ◌≤◌, inl, inr, ℕ, ◌+◌, List, [], ◌∷◌, ◌++◌, Bool, true, false, not, ◌&&◌, ◌==◌, nat_le, nat_lt, Option, None, Some, count_by, filter, length, length-append, map, is_some, option_map, refl, sym, ◌∙◌, ap, subst, arith}
-use Rattle.std.specs.Prelude.{if◌then◌else◌}
-use Rattle.std.specs.List.{flat_map, list_any}
-use Rattle.std.proofs.lemmas.Bool.{false≢true, and_parts}
-use Rattle.std.proofs.lemmas.Bool.Decides.{nat_tests}
-use Rattle.std.proofs.lemmas.List.{append_assoc, append-nil, map-append}
-use Rattle.std.proofs.lemmas.Grind.{flat_map-append}
-use Rattle.rm_types.specs.declared.containers.Ask.{Ask}
-use Rattle.rm_types.specs.declared.containers.Held.{Held}
-use Rattle.rm_types.specs.declared.entries.Entry.TheVariants.{Served}
-use Rattle.rm_types.specs.declared.ids.AppId.{AppId}
-use Rattle.rm_types.specs.declared.ids.AttemptId.{AttemptId}
-use Rattle.rm_types.specs.declared.ids.ContainerId.{ContainerId}
-use Rattle.rm_types.specs.declared.messages.ClientAsk.{ClientAsk}
+use Rattle.rm_invariant.proofs.Common.{◌≡◌, ◌≤◌, inl, inr, ℕ, ◌+◌, List, [], ◌∷◌, ◌++◌, Bool, true, false, not, ◌&&◌, nat_le, Option, None, Some, filter, length, map, refl, sym, ◌∙◌, ap, subst, arith, if◌then◌else◌, flat_map, list_any, false≢true, and_parts, nat_tests, map-append, flat_map-append, Ask, Held, Served, AppId, AttemptId, ContainerId, ClientAsk, ClockAsk, Tick, ExpireNode, ExpireMaster, MasterAsk, Register, Finish, Allocate, NodeAsk, Submission, Reply, Resource, is_app, is_attempt, record_of, AsksOf, attempt_asks, asks_set, is_for, renewed_ask, all_asked, after, has_app, is_known, Scene, is_alive, MainEvent, SchedEvent, NodeRow, AppRow, Current, Dialogue, Tables, changed, current_after, node_row, going_in, is_retired, row_of, with_row, was_first, attempt_was_first, dialogue_begun, registered_row, said_row, told_row, with_answer, with_text, without_closings, finishes_by, lives_by, after_client, submitted_row, after_master, allocated_with, is_new_to, registered, release_events, said, spoken_by, after_clock, after_node, beat_events, is_next_beat, registered_by, OnlyNodesOffer, History, abstract_life, abstract_scene, live_state, is_later_turn, is_new_to_node, life_after_clock, life_after_node, scene, is_some_and, same_attempt, same_app, has_registered, is_live, is_registered, client_reply, is_new_to_master, life_after_master, master_reply, register_reply, MasterState, CurrentAgrees, NumberAgrees, PlainDialogue, RowAgrees, bare_dialogue, session_of, plain_dialogue, IsAsk}
+use Rattle.std.proofs.Common.{◌==◌, nat_lt, count_by, length-append, is_some, option_map}
+use Rattle.std.proofs.lemmas.List.{append_assoc, append-nil}
 use Rattle.rm_types.specs.declared.messages.ClientAsk.TheVariants as clients
-use Rattle.rm_types.specs.declared.messages.ClockAsk.{ClockAsk}
-use Rattle.rm_types.specs.declared.messages.ClockAsk.TheVariants.{Tick, ExpireNode, ExpireMaster}
-use Rattle.rm_types.specs.declared.messages.MasterAsk.{MasterAsk}
-use Rattle.rm_types.specs.declared.messages.MasterAsk.TheVariants.{Register, Finish, Allocate}
 use Rattle.rm_types.specs.declared.messages.Message.TheVariants as messages
-use Rattle.rm_types.specs.declared.messages.NodeAsk.{NodeAsk}
 use Rattle.rm_types.specs.declared.messages.NodeAsk.TheVariants as nodes
 use Rattle.rm_types.specs.declared.messages.Sender.TheVariants as senders
-use Rattle.rm_types.specs.declared.operations.Submission.{Submission}
-use Rattle.rm_types.specs.declared.replies.Reply.{Reply}
 use Rattle.rm_types.specs.declared.replies.Reply.TheVariants as replies
-use Rattle.rm_types.specs.declared.resources.Resource.{Resource}
-use Rattle.rm_types.specs.Ids.{is_app, is_attempt}
-use Rattle.rm_types.specs.Records.{record_of}
-use Rattle.rm_book.specs.AskTables.{AsksOf, attempt_asks, asks_set, is_for, renewed_ask}
-use Rattle.rm_book.specs.ManyAsks.{all_asked, asks_after, one_asked}
-use Rattle.rm_model.specs.Changes.{after}
-use Rattle.rm_model.specs.Facts.{has_app, is_known}
-use Rattle.rm_model.specs.State.{Release, Scene}
+use Rattle.rm_book.specs.ManyAsks.{asks_after, one_asked}
+use Rattle.rm_model.specs.State.{Release}
 use Rattle.rm_states.specs.declared.attempt.states.AttemptState.TheVariants as attempts
 use Rattle.rm_states.specs.declared.attempt.states.AttemptEvent.TheVariants as attempt_events
-use Rattle.rm_states.specs.attempt.Table.{next_attempt_state as next_attempt_state, is_alive}
+use Rattle.rm_states.specs.attempt.Table.{next_attempt_state as next_attempt_state}
 use Rattle.rm_tables.specs.declared.changes.RowChange.TheVariants as of_app
-use Rattle.rm_tables.specs.declared.events.MainEvent.{MainEvent}
 use Rattle.rm_tables.specs.declared.events.MainEvent.TheVariants as mains
-use Rattle.rm_tables.specs.declared.events.SchedEvent.{SchedEvent}
 use Rattle.rm_tables.specs.declared.events.SchedEvent.TheVariants as scheds
-use Rattle.rm_tables.specs.declared.nodes.NodeRow.{NodeRow}
-use Rattle.rm_tables.specs.declared.rows.AppRow.{AppRow}
-use Rattle.rm_tables.specs.declared.rows.Current.{Current}
-use Rattle.rm_tables.specs.declared.rows.Dialogue.{Dialogue}
-use Rattle.rm_tables.specs.declared.tables.Tables.{Tables}
-use Rattle.rm_tables.specs.Changes.{changed, current_after}
-use Rattle.rm_tables.specs.Nodes.{node_row}
-use Rattle.rm_tables.specs.Opening.{going_in}
-use Rattle.rm_tables.specs.Rows.{is_retired, row_of, with_row}
-use Rattle.rm_tables.specs.Absorbing.{was_first}
-use Rattle.rm_model.specs.Attempts.{attempt_was_first}
-use Rattle.rm_tables.specs.Talks.{dialogue_begun, registered_row, said_row, told_row, with_answer, with_text, without_closings}
-use Rattle.rm_refinement.specs.Services.{finishes_by, lives_by, lives_with}
-use Rattle.rm_client.specs.Answers.{after_client, with_submission, submitted_row}
-use Rattle.rm_master.specs.Answers.{after_master, allocated_with, is_new_to, registered, release_events, said}
-use Rattle.rm_master.specs.Told.{goes_on as talks_on, spoken_by}
-use Rattle.rm_tracker.specs.Answers.{after_clock, after_node, beat_events, is_next_beat, registered_by}
-use Rattle.rm_tracker.specs.Offers.{OnlyNodesOffer}
+use Rattle.rm_refinement.specs.Services.{lives_with}
+use Rattle.rm_client.specs.Answers.{with_submission}
+use Rattle.rm_master.specs.Told.{goes_on as talks_on}
 use Rattle.rm_tracker.proofs.Offered.{clock_offers, node_offers}
 use Rattle.rm_invariant.specs.apps.Completed.{is_retire}
 use Rattle.rm_invariant.specs.apps.Submissions.{Lists, saving, starting, submitted_ids}
-use Rattle.rm_refinement.specs.History.{History, abstract_life, abstract_scene, live_state}
 use Rattle.rm_invariant.specs.apps.View.{put_if}
 use Rattle.rm_invariant.proofs.apps.Completing.{completes_still}
 use Rattle.rm_invariant.proofs.apps.Counts.{count_append}
@@ -76,21 +34,12 @@ use Rattle.rm_invariant.specs.Core.{CoreInvariant, PreservesCore}
 use Rattle.rm_invariant.proofs.events.Answered.{other_asks, own_asks}
 use Rattle.rm_invariant.proofs.events.Firsts.{firsts_with}
 use Rattle.rm_invariant.proofs.messages.Present.{clock_present, node_present}
-use Rattle.rm_model.specs.NodeReplies.{is_later_turn, is_new_to_node, life_after_clock, life_after_node}
 use Rattle.rm_model.specs.Nodes.{judged_node as node_told}
-use Rattle.rm_model.specs.State.{scene}
 use Rattle.std.specs.Prelude.{All}
 use Rattle.std.specs.List.{AllByRecursion}
 use Rattle.std.proofs.lemmas.List.Elements.{recursion_from_All}
-use Rattle.rm_types.specs.Records.{is_some_and}
-use Rattle.rm_types.proofs.IdLemmas.{same_attempt, same_app}
-use Rattle.rm_model.specs.Attempts.{has_registered, is_live, is_registered}
-use Rattle.rm_model.specs.ClientReplies.{client_reply, is_given}
-use Rattle.rm_model.specs.MasterReplies.{is_new_to_master, life_after_master, master_reply, register_reply}
-use Rattle.rm_model.specs.State.{MasterState}
-use Rattle.rm_refinement.specs.Agreement.{CurrentAgrees, NumberAgrees, PlainDialogue, RowAgrees, bare_dialogue, session_of, plain_dialogue}
+use Rattle.rm_model.specs.ClientReplies.{is_given}
 use Rattle.rm_invariant.specs.messages.Ranges.{IsMasterAsk}
-use Rattle.rm_types.specs.Messages.{IsAsk}
 use Rattle.rm_invariant.specs.auxiliary.Parts.{FixedParts, life_parts, fixed_parts, parts_in}
 use Rattle.rm_invariant.specs.auxiliary.Invariant.{FinishesKnown, HasNotFinished, MastersSingle, NoneFirst, OthersGo, AuxInvariant, goes_by, goes_numbered}
 use Rattle.rm_invariant.proofs.auxiliary.KeptOps.{finishes_stays, goes_stays, unfinished_stays}

@@ -1,8 +1,5 @@
 -- What a life remembers after a step is read off the state after its entry.
-use Rattle.std.proofs.Common.{◌≡◌, Some, sym, ◌∙◌, ap}
-use Rattle.rm_model.specs.State.{Manager}
-use Rattle.rm_tables.specs.declared.tables.Tables.{Tables}
-use Rattle.rm_refinement.specs.History.{History, live_state}
+use Rattle.rm_invariant.proofs.Common.{◌≡◌, Some, sym, ◌∙◌, ap, Manager, Tables, History, live_state}
 use Rattle.rm_invariant.specs.auxiliary.Parts.{FixedParts, fixed_parts, parts_in}
 
 pub parts_after : (g : History) (next : Tables) (s : Manager) (p : FixedParts) → s ≡ live_state g next → parts_in s ≡ Some p → fixed_parts g ≡ p

@@ -1,43 +1,17 @@
 -- What holds of each row holds after one changes: whether it is there, whether its attempt goes on, and what it says of the end that awaits.
-use Rattle.std.proofs.Common.{◌≡◌, ℕ, List, ◌∷◌, [], ◌++◌, Bool, true, false, ◌&&◌, ◌||◌, ◌==◌, Option, None, Some, fold, option_map, refl, sym, ◌∙◌, ap, subst, arith}
-use Rattle.std.specs.List.{list_any}
-use Rattle.std.proofs.lemmas.List.Folds.{list_any-append}
-use Rattle.rm_types.specs.declared.ids.AppId.{AppId}
-use Rattle.rm_types.specs.declared.ids.AttemptId.{AttemptId}
-use Rattle.rm_types.specs.declared.operations.Op.{Op}
-use Rattle.rm_types.specs.Ids.{is_app}
-use Rattle.rm_types.specs.Records.{Records}
-use Rattle.rm_model.specs.MasterReplies.{is_finished_op}
-use Rattle.rm_states.specs.declared.attempt.states.AttemptState.{AttemptState}
+use Rattle.rm_invariant.proofs.Common.{◌≡◌, ℕ, List, ◌∷◌, [], ◌++◌, Bool, true, false, ◌&&◌, ◌||◌, Option, None, Some, fold, refl, sym, ◌∙◌, ap, subst, arith, list_any, list_any-append, AppId, AttemptId, Op, is_app, Records, is_finished_op, AttemptState, is_alive, AppRow, Current, changed, killed_state, row_of, with_row, finishes_by, is_ending, SchedEvent, bytes_eq, and_parts, Closing, Grant, ContainerId, same_app, same_text, NodeRow, closed, closed_in, closed_one, node_row, with_node, rows_after_grant, other_row, own_row}
+use Rattle.std.proofs.Common.{◌==◌, option_map}
 use Rattle.rm_states.specs.declared.attempt.states.AttemptState.TheVariants as attempts
 use Rattle.rm_states.specs.declared.attempt.states.AttemptEvent.TheVariants as attempt_events
-use Rattle.rm_states.specs.attempt.Table.{next_attempt_state as next_attempt_state, is_alive}
+use Rattle.rm_states.specs.attempt.Table.{next_attempt_state as next_attempt_state}
 use Rattle.rm_invariant.specs.events.MainFacts.{is_unissued}
-use Rattle.rm_tables.specs.declared.rows.AppRow.{AppRow}
-use Rattle.rm_tables.specs.declared.rows.Current.{Current}
-use Rattle.rm_tables.specs.Changes.{changed, killed_state}
-use Rattle.rm_tables.specs.Rows.{row_of, with_row}
-use Rattle.rm_refinement.specs.Services.{finishes_by, is_ending}
 use Rattle.rm_invariant.specs.apps.View.{changed_if}
 use Rattle.rm_invariant.proofs.apps.Found.{retired_changed, row_changed}
 use Rattle.rm_model.specs.State.{Release}
-use Rattle.rm_tables.specs.declared.events.SchedEvent.{SchedEvent}
 use Rattle.rm_tables.specs.declared.events.SchedEvent.TheVariants as scheds
 use Rattle.rm_invariant.specs.events.Here.{AreServed}
-use Rattle.std.specs.Str.{bytes_eq}
-use Rattle.std.proofs.lemmas.Bool.{and_parts}
-use Rattle.rm_types.specs.declared.containers.Closing.{Closing}
-use Rattle.rm_types.specs.declared.containers.Grant.{Grant}
-use Rattle.rm_types.specs.declared.ids.ContainerId.{ContainerId}
-use Rattle.rm_types.proofs.IdLemmas.{same_app}
-use Rattle.rm_types.proofs.TestLemmas.{same_text}
 use Rattle.rm_tables.specs.declared.changes.AttemptChange.TheVariants as of_attempt
 use Rattle.rm_tables.specs.declared.changes.RowChange.TheVariants as of_app
-use Rattle.rm_tables.specs.declared.nodes.NodeRow.{NodeRow}
-use Rattle.rm_tables.specs.Leaving.{closed, closed_in, closed_one}
-use Rattle.rm_tables.specs.Nodes.{node_row, with_node}
-use Rattle.rm_tables.specs.Passing.{rows_after_grant}
-use Rattle.rm_refinement.proofs.Found.{other_row, own_row}
 use Rattle.rm_invariant.specs.auxiliary.Invariant.{NoneFirst, RetiredKnown, goes_by, goes_numbered, end_is_issued}
 
 -- an application is without a row after a change only where it was before

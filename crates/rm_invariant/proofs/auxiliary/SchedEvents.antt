@@ -1,52 +1,20 @@
 -- Each event of the scheduler's queue keeps what else holds of an open life.
-use Rattle.std.proofs.Common.{◌≡◌, ◌≤◌, ℕ, List, [], ◌∷◌, ◌++◌, Bool, true, false, ◌&&◌, ◌==◌, Option, None, Some, count_by, filter, map, refl, sym, ◌∙◌, ap, subst, arith}
-use Rattle.std.specs.List.{flat_map, list_any}
-use Rattle.std.specs.Str.{bytes_eq}
+use Rattle.rm_invariant.proofs.Common.{◌≡◌, ◌≤◌, ℕ, List, [], ◌∷◌, ◌++◌, Bool, true, false, ◌&&◌, Option, None, Some, filter, map, refl, sym, ◌∙◌, ap, subst, arith, flat_map, list_any, bytes_eq, flat_map-append, and_parts, Cause, Closing, Grant, Entry, AppId, AttemptId, ContainerId, same_text, BookOf, capability_of, after, once, AttemptState, MainEvent, SchedEvent, Absorb, Unlaunch, NodeRow, AppRow, Current, Tables, absorbed_by, absorbed_if, unlaunched_here, unlaunched_on, sched_worked, changed, current_after, granted, is_finished_op, closed, closings_of, ended_by, losts_of, unlaunched, unlaunched_at, unlaunched_one, is_masters_in, changed_row, is_waiting_row, node_row, with_node, grants_on, masters_granted, updated_by, waits_for_master, row_of, with_row, is_on, is_released, queued_at, queued_by, queued_with, sched_step, finishes_by, History, live_state, OnlyNodesOffer}
+use Rattle.std.proofs.Common.{◌==◌, count_by}
 use Rattle.std.proofs.lemmas.List.{append-nil}
-use Rattle.std.proofs.lemmas.Grind.{flat_map-append}
-use Rattle.std.proofs.lemmas.Bool.{and_parts}
-use Rattle.rm_types.specs.declared.containers.Cause.{Cause}
 use Rattle.rm_types.specs.declared.containers.Cause.TheVariants as causes
-use Rattle.rm_types.specs.declared.containers.Closing.{Closing}
-use Rattle.rm_types.specs.declared.containers.Grant.{Grant}
-use Rattle.rm_types.specs.declared.entries.Entry.{Entry}
-use Rattle.rm_types.specs.declared.ids.AppId.{AppId}
-use Rattle.rm_types.specs.declared.ids.AttemptId.{AttemptId}
-use Rattle.rm_types.specs.declared.ids.ContainerId.{ContainerId}
-use Rattle.rm_types.proofs.TestLemmas.{same_text}
-use Rattle.rm_book.specs.Books.{BookOf, capability_of, book_row as book_row_of}
+use Rattle.rm_book.specs.Books.{book_row as book_row_of}
 use Rattle.rm_book.proofs.Nodes.{capability_in-with_capability}
-use Rattle.rm_model.specs.Changes.{after}
-use Rattle.rm_model.specs.Containers.{once}
-use Rattle.rm_states.specs.declared.attempt.states.AttemptState.{AttemptState}
 use Rattle.rm_states.specs.declared.attempt.states.AttemptState.TheVariants as attempts
 use Rattle.rm_tables.specs.declared.changes.AttemptChange.TheVariants as of_attempt
 use Rattle.rm_tables.specs.declared.changes.RowChange.TheVariants as of_app
-use Rattle.rm_tables.specs.declared.events.MainEvent.{MainEvent}
 use Rattle.rm_tables.specs.declared.events.MainEvent.TheVariants as mains
-use Rattle.rm_tables.specs.declared.events.SchedEvent.{SchedEvent}
 use Rattle.rm_tables.specs.declared.events.SchedEvent.TheVariants as scheds
-use Rattle.rm_tables.specs.declared.nodes.NodeChange.TheVariants.{Absorb, Unlaunch}
-use Rattle.rm_tables.specs.declared.nodes.NodeRow.{NodeRow}
-use Rattle.rm_tables.specs.declared.rows.AppRow.{AppRow}
-use Rattle.rm_tables.specs.declared.rows.Current.{Current}
-use Rattle.rm_tables.specs.declared.tables.Tables.{Tables}
-use Rattle.rm_tables.specs.Absorbing.{absorbed_by, absorbed_if, unlaunched_here, unlaunched_on}
-use Rattle.rm_tables.specs.Actions.{sched_worked}
-use Rattle.rm_tables.specs.Changes.{changed, current_after, granted}
-use Rattle.rm_model.specs.MasterReplies.{is_finished_op}
-use Rattle.rm_tables.specs.Leaving.{closed, closings_of, ended_by, losts_of, unlaunched, unlaunched_at, unlaunched_one, is_masters_in}
-use Rattle.rm_tables.specs.Nodes.{changed_row, is_waiting_row, node_row, with_node}
-use Rattle.rm_tables.specs.Passing.{grants_on, masters_granted, updated_by, waits_for_master}
-use Rattle.rm_tables.specs.Rows.{row_of, with_row}
-use Rattle.rm_tables.specs.SchedEvents.{is_on, is_released, queued_at, queued_by, queued_with, sched_step}
-use Rattle.rm_refinement.specs.Services.{finishes_by, finishes_with}
+use Rattle.rm_refinement.specs.Services.{finishes_with}
 use Rattle.rm_invariant.specs.apps.Completed.{is_retire}
 use Rattle.rm_invariant.specs.apps.Submissions.{starting}
-use Rattle.rm_refinement.specs.History.{History, live_state}
 use Rattle.rm_invariant.proofs.apps.Completing.{completes_still}
 use Rattle.rm_invariant.proofs.apps.Counts.{count_append}
-use Rattle.rm_tracker.specs.Offers.{OnlyNodesOffer}
 use Rattle.rm_invariant.specs.events.Asking.{OthersCurrent, is_numbered_in}
 use Rattle.rm_invariant.specs.events.Masters.{MastersAskOnce, goes_in}
 use Rattle.rm_invariant.specs.events.SchedFacts.{SchedFacts}

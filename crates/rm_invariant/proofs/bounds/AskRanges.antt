@@ -1,21 +1,8 @@
 -- What is asked for stays in its range.
-use Rattle.std.proofs.Common.{◌≡◌, ◌==◌, ◌-◌, ℕ, List, [], ◌∷◌, ◌++◌, Bool, true, false, not, nat_lt, Option, None, Some, filter, find, fold, map, refl, sym, ◌∙◌, subst}
-use Rattle.std.specs.Prelude.{if◌then◌else◌}
-use Rattle.std.specs.List.{list_any}
-use Rattle.std.proofs.lemmas.Bool.{false≢true}
-use Rattle.rm_types.specs.declared.containers.Ask.{Ask}
-use Rattle.rm_types.specs.declared.containers.Grant.{Grant}
-use Rattle.rm_types.specs.declared.ids.AttemptId.{AttemptId}
-use Rattle.rm_types.specs.declared.records.AppRecord.{AppRecord}
-use Rattle.rm_types.specs.declared.resources.Resource.{Resource}
-use Rattle.rm_types.specs.Ids.{is_attempt}
-use Rattle.rm_types.specs.Passes.{by_priority, put_by_priority}
-use Rattle.rm_types.proofs.IdLemmas.{same_attempt}
-use Rattle.rm_book.specs.AskTables.{AsksOf, asks_granted, attempt_asks, asks_set, table_granted, is_for, one_less, renewed_ask, with_asks_of, without_asks_of}
-use Rattle.rm_book.specs.ManyAsks.{all_asked, one_asked}
-use Rattle.rm_model.specs.Containers.{is_size}
-use Rattle.rm_tables.specs.Passing.{asks_after_answer, table_without_granted}
-use Rattle.rm_tables.specs.SchedEvents.{master_asked}
+use Rattle.rm_invariant.proofs.Common.{◌≡◌, ◌-◌, ℕ, List, [], ◌∷◌, ◌++◌, Bool, true, false, not, Option, None, Some, filter, find, fold, map, refl, sym, ◌∙◌, subst, if◌then◌else◌, list_any, false≢true, Ask, Grant, AttemptId, AppRecord, Resource, is_attempt, by_priority, same_attempt, AsksOf, asks_granted, attempt_asks, asks_set, table_granted, is_for, one_less, renewed_ask, with_asks_of, without_asks_of, all_asked, is_size, asks_after_answer, table_without_granted, master_asked}
+use Rattle.std.proofs.Common.{◌==◌, nat_lt}
+use Rattle.rm_types.specs.Passes.{put_by_priority}
+use Rattle.rm_book.specs.ManyAsks.{one_asked}
 use Rattle.rm_invariant.specs.nodes.Book.{All}
 use Rattle.rm_invariant.proofs.nodes.Holds.{all_append, all_filter, all_map}
 use Rattle.rm_invariant.proofs.events.Answered.{other_asks, other_granted, own_asks, own_granted}

@@ -1,33 +1,14 @@
 -- What stands in the book stays in its range, and so does what its nodes offer.
-use Rattle.std.proofs.Common.{◌≡◌, ℕ, ◌+◌, List, [], ◌∷◌, ◌++◌, Bool, true, false, not, ◌&&◌, nat_lt, Option, None, Some, filter, find, fold, is_some, map, refl, ◌∙◌, subst}
-use Rattle.std.specs.Prelude.{if◌then◌else◌, All as Every}
-use Rattle.std.specs.List.{AllByRecursion, list_any}
-use Rattle.std.specs.Str.{bytes_eq}
+use Rattle.rm_invariant.proofs.Common.{◌≡◌, ℕ, ◌+◌, List, [], ◌∷◌, ◌++◌, Bool, true, false, not, ◌&&◌, Option, None, Some, filter, find, fold, map, refl, ◌∙◌, subst, if◌then◌else◌, list_any, bytes_eq, BookRow, ContainerState, Acquired, Running, Grant, Held, ContainerId, Resource, Node, is_container, IsContainerId, IsText, is_some_and, NodeCapability, BookOf, capability_of, entering, granted_rows, has_row, is_of, book_row_taken, taken_rows, with_grants, book_with_taken, without_rows, is_held, has_container, NodeRow, Tables, counted_in, tables_may_take, taken_in, was_first, tables_with_counted, row_of, acquired, acquired_row, beaten_book, is_row_on, is_untold_row, IsSize, IsList, IsHeld}
+use Rattle.std.proofs.Common.{nat_lt, is_some}
+use Rattle.std.specs.Prelude.{All as Every}
+use Rattle.std.specs.List.{AllByRecursion}
 use Rattle.std.proofs.lemmas.List.Elements.{recursion_from_All}
-use Rattle.rm_types.specs.declared.containers.BookRow.{BookRow}
-use Rattle.rm_types.specs.declared.containers.ContainerState.{ContainerState}
-use Rattle.rm_types.specs.declared.containers.ContainerState.TheVariants.{Acquired, Running}
-use Rattle.rm_types.specs.declared.containers.Grant.{Grant}
-use Rattle.rm_types.specs.declared.containers.Held.{Held}
-use Rattle.rm_types.specs.declared.ids.ContainerId.{ContainerId}
-use Rattle.rm_types.specs.declared.resources.Resource.{Resource}
-use Rattle.rm_types.specs.declared.texts.TextKind.TheVariants.{Node}
-use Rattle.rm_types.specs.Ids.{is_container}
-use Rattle.rm_types.specs.Ranges.{IsContainerId, IsText}
-use Rattle.rm_types.specs.Records.{is_some_and}
-use Rattle.rm_book.specs.declared.plain.NodeCapability.{NodeCapability}
-use Rattle.rm_book.specs.Books.{BookOf, capability_of, entering, granted_rows, has_row, is_node, is_of, book_row as book_row_of, book_row_taken, taken_rows, with_capability, with_grants, with_state, book_with_taken, without_rows}
-use Rattle.rm_types.specs.Containers.{is_held}
-use Rattle.rm_model.specs.Facts.{has_container}
-use Rattle.rm_tables.specs.declared.nodes.NodeRow.{NodeRow}
-use Rattle.rm_tables.specs.declared.tables.Tables.{Tables}
-use Rattle.rm_tables.specs.Absorbing.{booked_at, counted_in, tables_may_take, reported_in, taken_in, was_first, tables_with_counted}
-use Rattle.rm_tables.specs.Rows.{row_of}
-use Rattle.rm_master.specs.Answers.{acquired, acquired_row}
-use Rattle.rm_tracker.specs.Answers.{beaten_book, brought_all, brought_one, is_row_on, is_untold_row}
+use Rattle.rm_book.specs.Books.{is_node, book_row as book_row_of, with_capability, with_state}
+use Rattle.rm_tables.specs.Absorbing.{booked_at, reported_in}
+use Rattle.rm_tracker.specs.Answers.{brought_all, brought_one}
 use Rattle.rm_invariant.specs.nodes.Book.{All}
 use Rattle.rm_invariant.proofs.nodes.Holds.{all_append, all_filter, all_map}
-use Rattle.rm_types.specs.Messages.{IsSize, IsList, IsHeld}
 use Rattle.rm_invariant.specs.bounds.InBounds.{IsBooked, IsOffer}
 
 -- what holds of each of a list

@@ -1,11 +1,5 @@
 -- What calls take of numbers: the next epoch, and how many attempts an application has, fit their type.
-use Rattle.std.proofs.Common.{◌<◌, ◌+◌, ◌^◌, length, arith}
-use Rattle.rm_types.specs.declared.ids.AppId.{AppId}
-use Rattle.rm_types.specs.declared.settings.Settings.{Settings}
-use Rattle.rm_model.specs.Facts.{attempts_in}
-use Rattle.rm_tables.specs.declared.tables.Tables.{Tables}
-use Rattle.rm_tables.specs.Actions.{found_in}
-use Rattle.rm_refinement.specs.History.{History}
+use Rattle.rm_invariant.proofs.Common.{◌<◌, ◌+◌, ◌^◌, length, arith, AppId, Settings, attempts_in, Tables, found_in, History}
 use Rattle.rm_invariant.specs.Core.{CoreInvariant}
 use Rattle.rm_invariant.specs.bounds.InBounds.{InBounds}
 use Rattle.rm_invariant.proofs.bounds.Passable.{few_attempts}

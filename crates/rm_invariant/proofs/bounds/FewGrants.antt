@@ -1,24 +1,12 @@
 -- A pass grants at most 256 containers, as each takes a core at least of what a node offers.
-use Rattle.std.proofs.Common.{◌≡◌, ◌≤◌, ℕ, ◌+◌, List, [], ◌∷◌, Bool, true, false, not, ◌&&◌, Option, None, Some, Result, Ok, length, length-append, refl, sym, ◌∙◌, subst, arith}
-use Rattle.std.specs.Prelude.{if◌then◌else◌}
-use Rattle.std.proofs.lemmas.Bool.{and_parts}
-use Rattle.rm_types.specs.declared.containers.Ask.{Ask}
-use Rattle.rm_types.specs.declared.containers.Grant.{Grant}
-use Rattle.rm_types.specs.declared.containers.Turn.{Turn}
-use Rattle.rm_types.specs.declared.ids.AttemptId.{AttemptId}
-use Rattle.rm_types.specs.declared.resources.Resource.{Resource}
-use Rattle.rm_types.specs.Passes.{PassNode, by_priority, pass_list, total_of}
+use Rattle.rm_invariant.proofs.Common.{◌≡◌, ◌≤◌, ℕ, ◌+◌, List, [], ◌∷◌, Bool, true, false, not, ◌&&◌, Option, None, Some, length, refl, sym, ◌∙◌, subst, arith, if◌then◌else◌, and_parts, Ask, Grant, Turn, AttemptId, Resource, PassNode, by_priority, pass_list, attempt_asks, capability_of, sizes_on, NodeRow, Tables, is_ready_row, fitted_on, grants_on, still_waits, turns_in}
+use Rattle.std.proofs.Common.{Result, Ok, length-append}
+use Rattle.rm_types.specs.Passes.{total_of}
 use Rattle.rm_types.specs.Resources.{difference_of}
-use Rattle.rm_book.specs.AskTables.{attempt_asks}
-use Rattle.rm_book.specs.Books.{capability_of, sizes_on}
 use Rattle.rm_book.proofs.LineOrders.{all_by_priority}
 use Rattle.rm_sched.specs.fit.Conditions.{are_some_sizes, have_sizes, is_some_size}
 use Rattle.rm_sched.specs.fit.Turns.{Spot, turn_grants, turn_left}
 use Rattle.rm_sched.proofs.fit.Passing.{pass_grants, pass_whole, turn_within}
-use Rattle.rm_tables.specs.declared.nodes.NodeRow.{NodeRow}
-use Rattle.rm_tables.specs.declared.tables.Tables.{Tables}
-use Rattle.rm_tables.specs.Nodes.{is_ready_row}
-use Rattle.rm_tables.specs.Passing.{fitted_on, grants_on, still_waits, turns_in}
 use Rattle.rm_sched.specs.CanWork.{CanPass}
 
 -- a turn's grants take no more cores than there were

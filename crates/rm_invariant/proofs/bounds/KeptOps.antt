@@ -1,32 +1,13 @@
 -- Each operation that is kept keeps what is in its range, and so does the store's part of a life.
-use Rattle.std.proofs.Common.{◌≡◌, ◌-◌, ℕ, List, [], ◌∷◌, ◌++◌, Bool, true, false, Option, None, Some, count_by, drop, is_some, refl, sym, subst, arith}
-use Rattle.std.specs.Prelude.{if◌then◌else◌}
-use Rattle.rm_types.specs.declared.ids.AppId.{AppId}
-use Rattle.rm_types.specs.declared.ids.AttemptId.{AttemptId}
-use Rattle.rm_types.specs.declared.operations.How.{How}
-use Rattle.rm_types.specs.declared.operations.Op.{Op}
+use Rattle.rm_invariant.proofs.Common.{◌≡◌, ◌-◌, ℕ, List, [], ◌∷◌, ◌++◌, Bool, true, false, Option, None, Some, drop, refl, sym, subst, arith, if◌then◌else◌, AppId, AttemptId, How, Op, AppRecord, AttemptRecord, IsAppId, IsOperation, last_attempt, AttemptState, AsksOf, without_asks_of, MainEvent, SchedEvent, AppRow, Current, Tables, changed, dropped_at, dropped_by, dropped_of, kept, handed_out, opening_main, opening_sched, sched_by, sched_of, row_of, with_row, without_row}
+use Rattle.std.proofs.Common.{count_by, is_some}
 use Rattle.rm_types.specs.declared.operations.Op.TheVariants as ops
-use Rattle.rm_types.specs.declared.records.AppRecord.{AppRecord}
-use Rattle.rm_types.specs.declared.records.AttemptRecord.{AttemptRecord}
-use Rattle.rm_types.specs.Ranges.{IsAppId, IsOperation}
-use Rattle.rm_types.specs.Records.{last_attempt}
-use Rattle.rm_states.specs.declared.attempt.states.AttemptState.{AttemptState}
 use Rattle.rm_states.specs.declared.attempt.states.AttemptState.TheVariants as attempts
-use Rattle.rm_book.specs.AskTables.{AsksOf, without_asks_of}
 use Rattle.rm_tables.specs.declared.changes.AttemptChange.TheVariants as of_attempt
 use Rattle.rm_tables.specs.declared.changes.RowChange.TheVariants as of_app
-use Rattle.rm_tables.specs.declared.events.MainEvent.{MainEvent}
 use Rattle.rm_tables.specs.declared.events.MainEvent.TheVariants as mains
-use Rattle.rm_tables.specs.declared.events.SchedEvent.{SchedEvent}
 use Rattle.rm_tables.specs.declared.events.SchedEvent.TheVariants as scheds
-use Rattle.rm_tables.specs.declared.rows.AppRow.{AppRow}
-use Rattle.rm_tables.specs.declared.rows.Current.{Current}
-use Rattle.rm_tables.specs.declared.tables.Tables.{Tables}
-use Rattle.rm_tables.specs.Changes.{changed}
-use Rattle.rm_tables.specs.KeptOps.{dropped_at, dropped_by, dropped_of, kept, taken_up}
-use Rattle.rm_tables.specs.Lives.{handed_out}
-use Rattle.rm_tables.specs.Opening.{opening_main, opening_sched, sched_by, sched_of}
-use Rattle.rm_tables.specs.Rows.{row_of, with_row, without_row}
+use Rattle.rm_tables.specs.KeptOps.{taken_up}
 use Rattle.rm_invariant.proofs.apps.Counts.{count_append, none_among}
 use Rattle.rm_invariant.specs.nodes.Book.{All}
 use Rattle.rm_invariant.proofs.nodes.Holds.{all_append}

@@ -1,46 +1,18 @@
 -- Each event of the main queue keeps what is in its range.
-use Rattle.std.proofs.Common.{◌≡◌, ◌≢◌, ◌≤◌, ◌<◌, ◌==◌, ◌^◌, ◌-◌, ◌⊎◌, inl, inr, ℕ, ◌+◌, List, [], ◌∷◌, ◌++◌, Bool, true, false, nat_le, Option, None, Some, count_by, drop, is_some, length, min, refl, sym, ◌∙◌, ap, subst, arith}
-use Rattle.std.specs.Prelude.{if◌then◌else◌, option_and_then}
-use Rattle.std.proofs.lemmas.Bool.Decides.{nat_tests}
-use Rattle.rm_types.specs.declared.entries.Entry.{Entry}
-use Rattle.rm_types.specs.declared.ids.AppId.{AppId}
-use Rattle.rm_types.specs.declared.ids.AttemptId.{AttemptId}
-use Rattle.rm_types.specs.declared.ids.ContainerId.{ContainerId}
-use Rattle.rm_types.specs.declared.containers.BookRow.{BookRow}
-use Rattle.rm_types.specs.declared.operations.How.{How}
+use Rattle.rm_invariant.proofs.Common.{◌≡◌, ◌≤◌, ◌<◌, ◌^◌, ◌-◌, ◌⊎◌, inl, inr, ℕ, ◌+◌, List, [], ◌∷◌, ◌++◌, Bool, true, false, nat_le, Option, None, Some, drop, length, refl, sym, ◌∙◌, ap, subst, arith, if◌then◌else◌, nat_tests, Entry, AppId, AttemptId, ContainerId, BookRow, How, Op, AppRecord, AttemptRecord, Settings, Node, Note, IsAppId, IsContainerId, IsOperation, IsText, IsWithin, last_attempt, AsksOf, without_asks_of, BookOf, is_of, AppState, attempts_in, reaches_bound, expired_text, killed_text, lost_text, MainEvent, SchedEvent, NodeRow, AppRow, Current, Tables, found_in, main_popped, main_worked, next_in, changed, ordered_row, with_node, end_with, finishing_in, is_master_of, last_end_in, main_step, node_at, with_row, History}
+use Rattle.std.proofs.Common.{◌≢◌, ◌==◌, count_by, is_some, min}
+use Rattle.std.specs.Prelude.{option_and_then}
 use Rattle.rm_types.specs.declared.operations.How.TheVariants as ways
-use Rattle.rm_types.specs.declared.operations.Op.{Op}
 use Rattle.rm_types.specs.declared.operations.Op.TheVariants as ops
-use Rattle.rm_types.specs.declared.records.AppRecord.{AppRecord}
-use Rattle.rm_types.specs.declared.records.AttemptRecord.{AttemptRecord}
-use Rattle.rm_types.specs.declared.settings.Settings.{Settings}
-use Rattle.rm_types.specs.declared.texts.TextKind.TheVariants.{Node, Note}
-use Rattle.rm_types.specs.Ranges.{IsAppId, IsAttemptId, IsContainerId, IsOperation, IsSubmission, IsText, IsWithin}
-use Rattle.rm_types.specs.Records.{last_attempt}
-use Rattle.rm_book.specs.AskTables.{AsksOf, without_asks_of}
-use Rattle.rm_book.specs.Books.{BookOf, is_of, book_row as book_row_of}
-use Rattle.rm_states.specs.declared.app.states.AppState.{AppState}
+use Rattle.rm_types.specs.Ranges.{IsAttemptId, IsSubmission}
+use Rattle.rm_book.specs.Books.{book_row as book_row_of}
 use Rattle.rm_states.specs.declared.app.states.AppState.TheVariants as apps
 use Rattle.rm_states.specs.declared.attempt.states.AttemptState.TheVariants as attempts
-use Rattle.rm_model.specs.Facts.{attempts_in, reaches_bound}
-use Rattle.rm_model.specs.Issuing.{expired_text, killed_text, lost_text}
 use Rattle.rm_tables.specs.declared.changes.AttemptChange.TheVariants as of_attempt
 use Rattle.rm_tables.specs.declared.changes.RowChange.TheVariants as of_app
-use Rattle.rm_tables.specs.declared.events.MainEvent.{MainEvent}
 use Rattle.rm_tables.specs.declared.events.MainEvent.TheVariants as mains
-use Rattle.rm_tables.specs.declared.events.SchedEvent.{SchedEvent}
 use Rattle.rm_tables.specs.declared.events.SchedEvent.TheVariants as scheds
-use Rattle.rm_tables.specs.declared.nodes.NodeRow.{NodeRow}
-use Rattle.rm_tables.specs.declared.rows.AppRow.{AppRow}
-use Rattle.rm_tables.specs.declared.rows.Current.{Current}
-use Rattle.rm_tables.specs.declared.tables.Tables.{Tables}
-use Rattle.rm_tables.specs.Actions.{found_in, main_popped, main_worked, next_in}
-use Rattle.rm_tables.specs.Changes.{changed}
-use Rattle.rm_tables.specs.Nodes.{ordered_row, with_node}
-use Rattle.rm_tables.specs.MainEvents.{end_with, finishing_in, is_master_of, last_end_in, main_step, node_at}
-use Rattle.rm_tables.specs.Rows.{with_row}
 use Rattle.rm_invariant.specs.apps.Invariant.{ActiveInvariant, CurrentInvariant, AllHaveEnded as HasStoppedRecord, RowInvariant, StateInvariant, is_active}
-use Rattle.rm_refinement.specs.History.{History}
 use Rattle.rm_invariant.specs.apps.View.{one_if, view}
 use Rattle.rm_invariant.proofs.apps.Counts.{at_end}
 use Rattle.rm_invariant.specs.nodes.Book.{All}

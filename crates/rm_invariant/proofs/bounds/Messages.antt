@@ -1,53 +1,22 @@
 -- Each message whose parts are in their ranges keeps what is in its range, as long as at most a hundred thousand are served.
-use Rattle.std.proofs.Common.{◌≡◌, ◌≤◌, ◌<◌, ℕ, ◌+◌, nat_lt, List, [], ◌∷◌, ◌++◌, Bool, true, false, Option, None, Some, count_by, refl, sym, ◌∙◌, ap, subst, arith}
-use Rattle.std.specs.Prelude.{if◌then◌else◌}
-use Rattle.rm_types.specs.declared.containers.Ask.{Ask}
-use Rattle.rm_types.specs.declared.containers.Held.{Held}
-use Rattle.rm_types.specs.declared.ids.AppId.{AppId}
-use Rattle.rm_types.specs.declared.ids.AttemptId.{AttemptId}
-use Rattle.rm_types.specs.declared.ids.ContainerId.{ContainerId}
-use Rattle.rm_types.specs.declared.messages.ClientAsk.{ClientAsk}
+use Rattle.rm_invariant.proofs.Common.{◌≡◌, ◌≤◌, ◌<◌, ℕ, ◌+◌, List, [], ◌∷◌, ◌++◌, Bool, true, false, Option, None, Some, refl, sym, ◌∙◌, ap, subst, arith, if◌then◌else◌, Ask, Held, AppId, AttemptId, ContainerId, ClientAsk, ClockAsk, MasterAsk, NodeAsk, Reply, Resource, Settings, Node, IsText, AsksOf, BookOf, all_asked, client_reply, reported, MainEvent, SchedEvent, Lose, NodeRow, AppRow, Tables, changed, beaten_row, changed_row, new_node_row, node_row, with_node, row_of, with_row, dialogue_begun, registered_row, said_row, told_row, with_answer, with_text, without_closings, after_client, taken_by, wished_by, acquired, after_master, is_new_to, release_events, goes_on, spoken_by, after_clock, after_node, beat_events, beaten_book, is_next_beat, registered_by, History, abstract_scene, IsSize, IsList, IsHeld, IsAsk}
+use Rattle.std.proofs.Common.{nat_lt, count_by}
 use Rattle.rm_types.specs.declared.messages.ClientAsk.TheVariants as clients
-use Rattle.rm_types.specs.declared.messages.ClockAsk.{ClockAsk}
 use Rattle.rm_types.specs.declared.messages.ClockAsk.TheVariants as clocks
-use Rattle.rm_types.specs.declared.messages.MasterAsk.{MasterAsk}
 use Rattle.rm_types.specs.declared.messages.MasterAsk.TheVariants as masters
-use Rattle.rm_types.specs.declared.messages.NodeAsk.{NodeAsk}
 use Rattle.rm_types.specs.declared.messages.NodeAsk.TheVariants as nodes
-use Rattle.rm_types.specs.declared.replies.Reply.{Reply}
 use Rattle.rm_types.specs.declared.replies.Reply.TheVariants as replies
-use Rattle.rm_types.specs.declared.resources.Resource.{Resource}
-use Rattle.rm_types.specs.declared.settings.Settings.{Settings}
-use Rattle.rm_types.specs.declared.texts.TextKind.TheVariants.{Node}
-use Rattle.rm_types.specs.Ranges.{IsText}
 use Rattle.rm_types.specs.Limits.{most_served}
-use Rattle.rm_book.specs.AskTables.{AsksOf}
-use Rattle.rm_book.specs.Books.{BookOf}
-use Rattle.rm_book.specs.ManyAsks.{all_asked}
-use Rattle.rm_model.specs.ClientReplies.{client_reply}
-use Rattle.rm_model.specs.NodeReplies.{reported}
 use Rattle.rm_tables.specs.declared.changes.RowChange.TheVariants as of_app
-use Rattle.rm_tables.specs.declared.events.MainEvent.{MainEvent}
 use Rattle.rm_tables.specs.declared.events.MainEvent.TheVariants as mains
-use Rattle.rm_tables.specs.declared.events.SchedEvent.{SchedEvent}
 use Rattle.rm_tables.specs.declared.events.SchedEvent.TheVariants as scheds
-use Rattle.rm_tables.specs.declared.nodes.NodeChange.TheVariants.{Lose}
-use Rattle.rm_tables.specs.declared.nodes.NodeRow.{NodeRow}
-use Rattle.rm_tables.specs.declared.rows.AppRow.{AppRow}
-use Rattle.rm_tables.specs.declared.tables.Tables.{Tables}
-use Rattle.rm_tables.specs.Changes.{changed}
-use Rattle.rm_tables.specs.Nodes.{beaten_row, changed_row, new_node_row, node_row, registered_node_row as node_registered, with_node}
-use Rattle.rm_tables.specs.Rows.{row_of, with_row}
-use Rattle.rm_tables.specs.Talks.{dialogue_begun, registered_row, said_row, told_row, with_answer, with_text, without_closings}
-use Rattle.rm_client.specs.Answers.{after_client, submitted_row as row_new, taken_by, wished_by}
-use Rattle.rm_master.specs.Answers.{acquired, after_master, is_new_to, release_events, containers_told}
-use Rattle.rm_master.specs.Told.{goes_on, spoken_by}
-use Rattle.rm_tracker.specs.Answers.{after_clock, after_node, beat_events, beaten_book, is_next_beat, launched_by, registered_by}
-use Rattle.rm_refinement.specs.History.{History, abstract_scene}
+use Rattle.rm_tables.specs.Nodes.{registered_node_row as node_registered}
+use Rattle.rm_client.specs.Answers.{submitted_row as row_new}
+use Rattle.rm_master.specs.Answers.{containers_told}
+use Rattle.rm_tracker.specs.Answers.{launched_by}
 use Rattle.rm_invariant.proofs.apps.Counts.{count_append}
 use Rattle.rm_invariant.specs.nodes.Book.{All}
 use Rattle.rm_invariant.specs.messages.Ranges.{IsClientAsk, IsClockAsk, IsMasterAsk, IsNodeAsk}
-use Rattle.rm_types.specs.Messages.{IsSize, IsList, IsHeld, IsAsk}
 use Rattle.rm_invariant.specs.bounds.InBounds.{AreAsked, AreGrants, AreNodes, AreRows, IsAsked, IsBooked, IsOffer, InBounds, is_update}
 use Rattle.rm_invariant.proofs.bounds.AskRanges.{asked_all}
 use Rattle.rm_invariant.proofs.bounds.BookRanges.{booked_acquired, booked_beaten, each_of, offers_beaten}

@@ -1,25 +1,11 @@
 -- The operation that awaits first fits what is recorded.
-use Rattle.std.proofs.Common.{◌≡◌, ℕ, ◌+◌, ◌==◌, ◌&&◌, suc, List, ◌∷◌, true, false, Option, None, Some, drop, is_none, is_some, length, option_map, refl, subst, arith}
-use Rattle.std.proofs.lemmas.Bool.{and_from}
-use Rattle.rm_types.specs.declared.ids.AttemptId.{AttemptId}
-use Rattle.rm_types.specs.declared.operations.How.{How}
-use Rattle.rm_types.specs.declared.operations.Op.{Op}
+use Rattle.rm_invariant.proofs.Common.{◌≡◌, ℕ, ◌+◌, ◌&&◌, suc, List, ◌∷◌, true, false, Option, None, Some, drop, is_none, length, refl, subst, arith, and_from, AttemptId, How, Op, AppRecord, Settings, is_attempt, all_ended, fits_records, is_some_and, last_attempt, record_of, app_itself, AppState, attempts_in, end_in, is_epoch_op, AppRow, Tables, row_of, History}
+use Rattle.std.proofs.Common.{◌==◌, is_some, option_map}
 use Rattle.rm_types.specs.declared.operations.Op.TheVariants as ops
-use Rattle.rm_types.specs.declared.records.AppRecord.{AppRecord}
-use Rattle.rm_types.specs.declared.settings.Settings.{Settings}
-use Rattle.rm_types.specs.Ids.{is_attempt}
-use Rattle.rm_types.specs.Records.{all_ended, fits_records, is_some_and, last_attempt, record_of}
-use Rattle.rm_types.proofs.IdLemmas.{app_itself}
 use Rattle.rm_types.proofs.TestLemmas.{number_itself}
-use Rattle.rm_states.specs.declared.app.states.AppState.{AppState}
 use Rattle.rm_states.specs.declared.app.states.AppState.TheVariants as apps
-use Rattle.rm_model.specs.Facts.{attempts_in, end_in, is_epoch_op}
-use Rattle.rm_tables.specs.declared.rows.AppRow.{AppRow}
-use Rattle.rm_tables.specs.declared.tables.Tables.{Tables}
-use Rattle.rm_tables.specs.Rows.{row_of}
 use Rattle.rm_invariant.specs.apps.Invariant.{LastIsOpen, AllHaveEnded, RowInvariant, StateInvariant}
 use Rattle.rm_invariant.specs.Step.{AppsInvariant}
-use Rattle.rm_refinement.specs.History.{History}
 use Rattle.rm_invariant.specs.apps.View.{View, op_view, view}
 use Rattle.rm_invariant.proofs.apps.Effects.{op_taken}
 use Rattle.rm_invariant.proofs.apps.Saving.{app_unkept}

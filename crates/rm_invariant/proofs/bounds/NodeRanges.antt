@@ -1,21 +1,7 @@
 -- The rows of nodes stay in their ranges.
-use Rattle.std.proofs.Common.{◌≡◌, ℕ, List, [], ◌∷◌, ◌++◌, Bool, true, false, ◌⊎◌, inl, inr, Option, None, Some, option_map, refl, sym, ◌∙◌, ap, subst}
-use Rattle.std.specs.Prelude.{if◌then◌else◌}
-use Rattle.std.specs.Str.{bytes_eq}
-use Rattle.rm_types.specs.declared.containers.Held.{Held}
-use Rattle.rm_types.specs.declared.ids.ContainerId.{ContainerId}
-use Rattle.rm_types.specs.declared.replies.Reply.{Reply}
-use Rattle.rm_types.specs.declared.resources.Resource.{Resource}
-use Rattle.rm_types.proofs.TestLemmas.{same_text}
-use Rattle.rm_book.specs.Books.{BookOf, book_row as book_row_of}
-use Rattle.rm_tables.specs.declared.nodes.NodeChange.{NodeChange}
-use Rattle.rm_tables.specs.declared.nodes.NodeChange.TheVariants.{Absorb, Lose, Unlaunch}
-use Rattle.rm_tables.specs.declared.nodes.NodeRow.{NodeRow}
-use Rattle.rm_tables.specs.Absorbing.{unlaunched_here, unlaunched_on}
-use Rattle.rm_tables.specs.Leaving.{unlaunched, unlaunched_at, unlaunched_one}
-use Rattle.rm_tables.specs.Nodes.{beaten_row, changed_row, node_row, ordered_row, registered_node_row, with_node}
-use Rattle.rm_refinement.proofs.Found.{other_row, own_row}
-use Rattle.rm_types.specs.Messages.{IsSize, IsList, IsHeld}
+use Rattle.rm_invariant.proofs.Common.{◌≡◌, ℕ, List, [], ◌∷◌, ◌++◌, Bool, true, false, ◌⊎◌, inl, inr, Option, None, Some, refl, sym, ◌∙◌, ap, subst, if◌then◌else◌, bytes_eq, Held, ContainerId, Reply, Resource, same_text, BookOf, NodeChange, Absorb, Lose, Unlaunch, NodeRow, unlaunched_here, unlaunched_on, unlaunched, unlaunched_at, unlaunched_one, beaten_row, changed_row, node_row, ordered_row, registered_node_row, with_node, other_row, own_row, IsSize, IsList, IsHeld}
+use Rattle.std.proofs.Common.{option_map}
+use Rattle.rm_book.specs.Books.{book_row as book_row_of}
 use Rattle.rm_invariant.specs.bounds.InBounds.{AreNodes, IsNode}
 
 -- the row of a node changes

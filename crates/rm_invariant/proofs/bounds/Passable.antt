@@ -1,35 +1,9 @@
 -- What is in its range is enough for a pass: what each node offers, what is asked for, and how many were granted.
-use Rattle.std.proofs.Common.{◌≡◌, ◌≤◌, ◌<◌, ◌==◌, ◌^◌, ℕ, zero, suc, ◌+◌, nat_le, nat_lt, List, [], ◌∷◌, Bool, true, false, Option, None, Some, cond, count_by, filter, map, length, refl, sym, ◌∙◌, ap, subst, arith}
-use Rattle.std.specs.Prelude.{slice_get}
-use Rattle.std.specs.List.{list_all, list_any}
-use Rattle.std.proofs.lemmas.Bool.{and_from}
-use Rattle.std.proofs.lemmas.Bool.Decides.{nat_tests}
-use Rattle.rm_types.specs.declared.containers.Ask.{Ask}
-use Rattle.rm_types.specs.declared.containers.BookRow.{BookRow}
-use Rattle.rm_book.specs.declared.plain.NodeCapability.{NodeCapability}
-use Rattle.rm_types.specs.declared.containers.Turn.{Turn}
-use Rattle.rm_types.specs.declared.ids.AppId.{AppId}
-use Rattle.rm_types.specs.declared.ids.AttemptId.{AttemptId}
-use Rattle.rm_types.specs.declared.ids.ContainerId.{ContainerId}
-use Rattle.rm_types.specs.declared.records.AppRecord.{AppRecord}
-use Rattle.rm_types.specs.declared.records.AttemptRecord.{AttemptRecord}
-use Rattle.rm_types.specs.declared.resources.Resource.{Resource}
-use Rattle.rm_types.specs.declared.settings.Settings.{Settings}
-use Rattle.rm_types.specs.Ids.{is_app, is_attempt}
-use Rattle.rm_types.specs.Records.{record_of}
-use Rattle.rm_types.proofs.IdLemmas.{same_attempt}
-use Rattle.rm_book.specs.AskTables.{attempt_asks}
+use Rattle.rm_invariant.proofs.Common.{◌≡◌, ◌≤◌, ◌<◌, ◌^◌, ℕ, zero, suc, ◌+◌, nat_le, List, [], ◌∷◌, Bool, true, false, Option, None, Some, filter, map, length, refl, sym, ◌∙◌, ap, subst, arith, slice_get, list_all, list_any, and_from, nat_tests, Ask, BookRow, NodeCapability, Turn, AppId, AttemptId, ContainerId, AppRecord, AttemptRecord, Resource, Settings, is_app, is_attempt, record_of, same_attempt, attempt_asks, attempt_at, attempts_in, LifeState, Row, Tables, found_in, asks_some, turn_in, turns_in, PlainRow, SameRows, bare_row, grants_of, plain_row, History, abstract_life, IsSize}
+use Rattle.std.proofs.Common.{◌==◌, nat_lt, cond, count_by}
 use Rattle.rm_book.specs.Books.{capability_in, is_node}
 use Rattle.rm_sched.specs.fit.Conditions.{TurnsAreApart, are_past, are_some_sizes, has_turn, have_sizes, is_past, is_some_size}
-use Rattle.rm_model.specs.Attempts.{attempt_at}
-use Rattle.rm_model.specs.Facts.{attempts_in}
-use Rattle.rm_model.specs.State.{LifeState, Row}
-use Rattle.rm_tables.specs.declared.tables.Tables.{Tables}
-use Rattle.rm_tables.specs.Actions.{found_in}
-use Rattle.rm_tables.specs.Passing.{asks_some, turn_in, turns_in}
 use Rattle.rm_sched.specs.CanWork.{AreFew, CanPass}
-use Rattle.rm_refinement.specs.Agreement.{PlainRow, SameRows, bare_row, grants_of, plain_row}
-use Rattle.rm_refinement.specs.History.{History, abstract_life}
 use Rattle.rm_invariant.specs.apps.View.{one_if}
 use Rattle.rm_invariant.proofs.apps.Counts.{at_front, passes_once}
 use Rattle.rm_invariant.specs.nodes.Book.{All, IsGranted, BookRowInvariant as IsBookRow}
@@ -38,7 +12,6 @@ use Rattle.rm_invariant.specs.events.SchedFacts.{SchedFacts}
 use Rattle.rm_invariant.specs.Core.{Nothing, CoreInvariant}
 use Rattle.rm_invariant.proofs.events.Askers.{askers_current}
 use Rattle.rm_invariant.proofs.events.Turns.{first_seq}
-use Rattle.rm_types.specs.Messages.{IsSize}
 use Rattle.rm_invariant.specs.bounds.InBounds.{AreAsked, AreRecords, IsAppRecord, IsAsked, IsAttemptRecord, IsOffer, InBounds}
 
 -- WHAT A NODE OFFERS

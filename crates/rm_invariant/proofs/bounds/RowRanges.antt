@@ -1,32 +1,11 @@
 -- The rows of applications stay in their ranges by each change, and nothing more is granted by any but a grant.
-use Rattle.std.proofs.Common.{◌≡◌, ◌≤◌, ◌==◌, ◌^◌, ◌-◌, ◌⊎◌, inl, inr, ℕ, ◌+◌, List, [], ◌∷◌, ◌++◌, Bool, true, false, Option, None, Some, count_by, refl, sym, ◌∙◌, ap, subst, arith}
-use Rattle.std.specs.Prelude.{if◌then◌else◌}
-use Rattle.rm_types.specs.declared.containers.Closing.{Closing}
-use Rattle.rm_types.specs.declared.ids.AppId.{AppId}
-use Rattle.rm_types.specs.declared.ids.AttemptId.{AttemptId}
-use Rattle.rm_types.specs.declared.ids.ContainerId.{ContainerId}
-use Rattle.rm_types.specs.declared.operations.Submission.{Submission}
-use Rattle.rm_types.specs.declared.replies.Reply.{Reply}
-use Rattle.rm_types.specs.declared.texts.TextKind.TheVariants.{Note}
-use Rattle.rm_types.specs.Ids.{is_app}
-use Rattle.rm_types.specs.Ranges.{IsContainerId, IsSubmission, IsText, IsWithin}
-use Rattle.rm_types.proofs.IdLemmas.{same_app}
-use Rattle.rm_states.specs.declared.attempt.states.AttemptState.{AttemptState}
+use Rattle.rm_invariant.proofs.Common.{◌≡◌, ◌≤◌, ◌^◌, ◌-◌, ◌⊎◌, inl, inr, ℕ, ◌+◌, List, [], ◌∷◌, ◌++◌, Bool, true, false, Option, None, Some, refl, sym, ◌∙◌, ap, subst, arith, if◌then◌else◌, Closing, AppId, AttemptId, ContainerId, Submission, Reply, Note, is_app, IsContainerId, IsText, IsWithin, same_app, AttemptState, AttemptChange, RowChange, SchedEvent, AppRow, Current, Dialogue, attempt_after, changed, current_after, granted_at, closed, closed_in, closed_one, finishing_in, granted_number, granted_to, row_in, row_of, with_row, without_row, dialogue_begun, registered_row, said_row, told_row, with_answer, with_text, without_closings}
+use Rattle.std.proofs.Common.{◌==◌, count_by}
+use Rattle.rm_types.specs.Ranges.{IsSubmission}
 use Rattle.rm_states.specs.declared.attempt.states.AttemptState.TheVariants as attempts
-use Rattle.rm_tables.specs.declared.changes.AttemptChange.{AttemptChange}
 use Rattle.rm_tables.specs.declared.changes.AttemptChange.TheVariants as of_attempt
-use Rattle.rm_tables.specs.declared.changes.RowChange.{RowChange}
 use Rattle.rm_tables.specs.declared.changes.RowChange.TheVariants as of_app
-use Rattle.rm_tables.specs.declared.events.SchedEvent.{SchedEvent}
-use Rattle.rm_tables.specs.declared.rows.AppRow.{AppRow}
-use Rattle.rm_tables.specs.declared.rows.Current.{Current}
-use Rattle.rm_tables.specs.declared.rows.Dialogue.{Dialogue}
-use Rattle.rm_tables.specs.Changes.{attempt_after, changed, current_after, dialogue_after, granted_at, pending_after}
-use Rattle.rm_tables.specs.Leaving.{closed, closed_in, closed_one}
-use Rattle.rm_tables.specs.MainEvents.{finishing_in}
-use Rattle.rm_tables.specs.Passing.{granted_number, granted_to}
-use Rattle.rm_tables.specs.Rows.{row_in, row_of, with_row, without_row}
-use Rattle.rm_tables.specs.Talks.{dialogue_begun, registered_row, said_row, told_row, with_answer, with_text, without_closings}
+use Rattle.rm_tables.specs.Changes.{dialogue_after, pending_after}
 use Rattle.rm_invariant.specs.apps.View.{changed_if, gone_if}
 use Rattle.rm_invariant.proofs.apps.Found.{row_changed}
 use Rattle.rm_invariant.proofs.apps.Removing.{row_gone}

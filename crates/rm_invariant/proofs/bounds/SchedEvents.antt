@@ -1,45 +1,14 @@
 -- Each event of the scheduler's queue keeps what is in its range.
-use Rattle.std.proofs.Common.{◌≡◌, ◌≤◌, ◌==◌, ◌*◌, ◌^◌, ◌-◌, ℕ, suc, ◌+◌, List, [], ◌∷◌, ◌++◌, Bool, true, false, ◌&&◌, Option, None, Some, count_by, drop, filter, fold, length, refl, sym, ◌∙◌, ap, subst, arith}
-use Rattle.std.specs.Prelude.{if◌then◌else◌}
-use Rattle.std.proofs.lemmas.Bool.Decides.{nat_tests}
-use Rattle.rm_types.specs.declared.containers.Ask.{Ask}
-use Rattle.rm_types.specs.declared.containers.Cause.{Cause}
+use Rattle.rm_invariant.proofs.Common.{◌≡◌, ◌≤◌, ◌*◌, ◌^◌, ◌-◌, ℕ, suc, ◌+◌, List, [], ◌∷◌, ◌++◌, Bool, true, false, ◌&&◌, Option, None, Some, drop, filter, fold, length, refl, sym, ◌∙◌, ap, subst, arith, if◌then◌else◌, nat_tests, Ask, Cause, Grant, AppId, AttemptId, ContainerId, Settings, Node, is_app, is_attempt, by_priority, IsContainerId, IsText, IsWithin, AttemptState, AsksOf, attempt_asks, BookOf, with_grants, book_with_taken, without_rows, once, MainEvent, SchedEvent, Absorb, NodeRow, AppRow, Current, Tables, absorbed_by, absorbed_if, taken_in, unlaunched_on, found_in, sched_popped, sched_worked, changed, granted_at, closed_in, closings_of, ended_by, losts_of, unlaunched, changed_row, is_waiting_row, node_row, with_node, granted_number, granted_to, grants_on, masters_granted, rows_after_grant, turns_in, updated_by, table_without_granted, row_of, is_on, is_released, master_asked, queued_at, queued_by, queued_with, sched_step, grants_of, History, abstract_life, IsSize}
+use Rattle.std.proofs.Common.{◌==◌, count_by}
 use Rattle.rm_types.specs.declared.containers.Cause.TheVariants as causes
-use Rattle.rm_types.specs.declared.containers.Grant.{Grant}
-use Rattle.rm_types.specs.declared.ids.AppId.{AppId}
-use Rattle.rm_types.specs.declared.ids.AttemptId.{AttemptId}
-use Rattle.rm_types.specs.declared.ids.ContainerId.{ContainerId}
-use Rattle.rm_types.specs.declared.settings.Settings.{Settings}
-use Rattle.rm_types.specs.declared.texts.TextKind.TheVariants.{Node}
-use Rattle.rm_types.specs.Ids.{is_app, is_attempt}
-use Rattle.rm_types.specs.Passes.{by_priority}
-use Rattle.rm_types.specs.Ranges.{IsAttemptId, IsContainerId, IsText, IsWithin}
-use Rattle.rm_states.specs.declared.attempt.states.AttemptState.{AttemptState}
+use Rattle.rm_types.specs.Ranges.{IsAttemptId}
 use Rattle.rm_states.specs.declared.attempt.states.AttemptState.TheVariants as attempts
-use Rattle.rm_book.specs.AskTables.{AsksOf, attempt_asks}
-use Rattle.rm_book.specs.Books.{BookOf, book_row as book_row_of, with_grants, book_with_taken, without_rows}
-use Rattle.rm_model.specs.Containers.{once}
+use Rattle.rm_book.specs.Books.{book_row as book_row_of}
 use Rattle.rm_tables.specs.declared.changes.AttemptChange.TheVariants as of_attempt
 use Rattle.rm_tables.specs.declared.changes.RowChange.TheVariants as of_app
-use Rattle.rm_tables.specs.declared.events.MainEvent.{MainEvent}
 use Rattle.rm_tables.specs.declared.events.MainEvent.TheVariants as mains
-use Rattle.rm_tables.specs.declared.events.SchedEvent.{SchedEvent}
 use Rattle.rm_tables.specs.declared.events.SchedEvent.TheVariants as scheds
-use Rattle.rm_tables.specs.declared.nodes.NodeChange.TheVariants.{Absorb}
-use Rattle.rm_tables.specs.declared.nodes.NodeRow.{NodeRow}
-use Rattle.rm_tables.specs.declared.rows.AppRow.{AppRow}
-use Rattle.rm_tables.specs.declared.rows.Current.{Current}
-use Rattle.rm_tables.specs.declared.tables.Tables.{Tables}
-use Rattle.rm_tables.specs.Absorbing.{absorbed_by, absorbed_if, taken_in, unlaunched_on}
-use Rattle.rm_tables.specs.Actions.{found_in, sched_popped, sched_worked}
-use Rattle.rm_tables.specs.Changes.{changed, granted_at}
-use Rattle.rm_tables.specs.Leaving.{closed_in, closings_of, ended_by, losts_of, unlaunched}
-use Rattle.rm_tables.specs.Nodes.{changed_row, is_waiting_row, node_row, with_node}
-use Rattle.rm_tables.specs.Passing.{granted_number, granted_to, grants_on, masters_granted, rows_after_grant, turns_in, updated_by, table_without_granted}
-use Rattle.rm_tables.specs.Rows.{row_of}
-use Rattle.rm_tables.specs.SchedEvents.{is_on, is_released, master_asked, queued_at, queued_by, queued_with, sched_step}
-use Rattle.rm_refinement.specs.Agreement.{grants_of}
-use Rattle.rm_refinement.specs.History.{History, abstract_life}
 use Rattle.rm_invariant.specs.apps.View.{changed_if, one_if}
 use Rattle.rm_invariant.proofs.apps.Counts.{at_end, at_front}
 use Rattle.rm_invariant.proofs.apps.Found.{row_changed}
@@ -52,7 +21,6 @@ use Rattle.rm_invariant.proofs.events.Askers.{askers_current}
 use Rattle.rm_invariant.proofs.events.Next.{grants_next}
 use Rattle.rm_invariant.proofs.events.OnNode.{EachAsk, all_now, all_on, grants_each, pass_at}
 use Rattle.rm_invariant.proofs.events.Turns.{first_seq}
-use Rattle.rm_types.specs.Messages.{IsSize}
 use Rattle.rm_invariant.specs.bounds.InBounds.{AreAsked, AreGrants, AreNodes, AreRows, IfThere, IsAsked, IsBooked, IsCurrent, IsNode, IsOffer, InBounds, is_update}
 use Rattle.rm_invariant.proofs.bounds.AskRanges.{asked_granted, asked_master, by_priority_asked}
 use Rattle.rm_invariant.proofs.bounds.BookRanges.{IsGrant, booked_granted, booked_taken, booked_without, held_taken, offers_with}

@@ -1,16 +1,8 @@
 -- What is recorded stays in its range by each operation whose parts are in theirs.
-use Rattle.std.proofs.Common.{ℕ, List, [], ◌∷◌, ◌++◌, Bool, true, false, not, None, Some, cond, map}
-use Rattle.rm_types.specs.declared.ids.AppId.{AppId}
-use Rattle.rm_types.specs.declared.ids.AttemptId.{AttemptId}
-use Rattle.rm_types.specs.declared.operations.How.{How}
-use Rattle.rm_types.specs.declared.operations.Op.{Op}
+use Rattle.rm_invariant.proofs.Common.{ℕ, List, [], ◌∷◌, ◌++◌, Bool, true, false, not, None, Some, map, AppId, AttemptId, How, Op, AppRecord, AttemptRecord, Note, is_app, is_attempt, IsOperation, IsText, new_record, with_end, with_record}
+use Rattle.std.proofs.Common.{cond}
 use Rattle.rm_types.specs.declared.operations.Op.TheVariants.{Epoch, App, Attempt, AttemptEnd, AppEnd, Remove}
-use Rattle.rm_types.specs.declared.records.AppRecord.{AppRecord}
-use Rattle.rm_types.specs.declared.records.AttemptRecord.{AttemptRecord}
-use Rattle.rm_types.specs.declared.texts.TextKind.TheVariants.{Note}
-use Rattle.rm_types.specs.Ids.{is_app, is_attempt}
-use Rattle.rm_types.specs.Ranges.{IsOperation, IsText}
-use Rattle.rm_types.specs.Records.{apps_recorded, new_record, with_end, with_record}
+use Rattle.rm_types.specs.Records.{apps_recorded}
 use Rattle.rm_invariant.proofs.nodes.Holds.{all_append, all_filter, all_map}
 use Rattle.rm_invariant.specs.bounds.InBounds.{AreRecords, IsAppRecord, IsAttemptRecord}
 

@@ -1,38 +1,15 @@
 -- The report of a node is absorbed: the tables agree with the judge's life again.
-use Rattle.std.proofs.Common.{◌≡◌, ℕ, ◌+◌, List, [], ◌∷◌, ◌++◌, Bool, true, false, not, ◌&&◌, Some, Option, map, filter, refl, sym, ◌∙◌, ap, subst}
-use Rattle.std.specs.Prelude.{if◌then◌else◌, option_map}
-use Rattle.std.specs.List.{list_any, list_all}
-use Rattle.std.specs.Str.{bytes_eq}
-use Rattle.std.proofs.lemmas.List.{map-append}
-use Rattle.std.proofs.lemmas.Bool.{and_parts}
-use Rattle.rm_types.specs.declared.containers.BookRow.{BookRow}
+use Rattle.rm_invariant.proofs.Common.{◌≡◌, ℕ, ◌+◌, List, [], ◌∷◌, ◌++◌, Bool, true, false, not, ◌&&◌, Some, Option, map, filter, refl, sym, ◌∙◌, ap, subst, if◌then◌else◌, list_any, list_all, bytes_eq, map-append, and_parts, BookRow, Running, Held, ContainerId, Resource, is_container, text_itself, BookOf, capability_of, entering, has_row, book_row_taken, taken_rows, book_with_taken, without_rows, is_held, absorbed, absorbs, row_absorbed, is_living, leave, without_launches, has_app, has_container, Row, Scene, is_waiting_row, Absorb, NodeRow, Tables, absorbed_with, unlaunched_on, closings_of, unlaunched, changed_row, node_row, with_node, PlainNode, PlainRow, SameNodes, SameRows, bare_row, bare_node, plain_row, plain_node, tidied_same}
+use Rattle.std.specs.Prelude.{option_map}
 use Rattle.rm_types.specs.declared.containers.Cause.TheVariants.{Gone}
-use Rattle.rm_types.specs.declared.containers.ContainerState.TheVariants.{Running}
-use Rattle.rm_types.specs.declared.containers.Held.{Held}
-use Rattle.rm_types.specs.declared.ids.ContainerId.{ContainerId}
-use Rattle.rm_types.specs.declared.resources.Resource.{Resource}
-use Rattle.rm_types.specs.Ids.{is_container}
-use Rattle.rm_types.proofs.TestLemmas.{text_itself}
-use Rattle.rm_book.specs.Books.{BookOf, capability_of, entering, has_row, book_row_taken, taken_rows, book_with_taken, without_rows}
-use Rattle.rm_types.specs.Containers.{is_held}
 use Rattle.rm_book.proofs.Lists.{any_view, map_view}
 use Rattle.rm_book.proofs.Nodes.{capability_in-with_capability}
-use Rattle.rm_model.specs.Absorbing.{absorbed, absorbs, book_taken, row_absorbed, row_taken as row_taken_told}
-use Rattle.rm_model.specs.Containers.{is_living, leave, without_launches}
-use Rattle.rm_model.specs.Facts.{has_app, has_container}
+use Rattle.rm_model.specs.Absorbing.{book_taken, row_taken as row_taken_told}
 use Rattle.rm_model.specs.Nodes.{judged_node as node_told, with_judged_node as with_told}
-use Rattle.rm_model.specs.State.{NodeState, Ready, Row, Scene}
+use Rattle.rm_model.specs.State.{NodeState, Ready}
 use Rattle.rm_states.specs.declared.node.states.NodeState.{NodeState as NodePhase}
 use Rattle.rm_states.specs.declared.node.states.NodeState.TheVariants as states
-use Rattle.rm_tables.specs.Nodes.{is_waiting_row}
-use Rattle.rm_tables.specs.declared.nodes.NodeChange.TheVariants.{Absorb}
-use Rattle.rm_tables.specs.declared.nodes.NodeRow.{NodeRow}
-use Rattle.rm_tables.specs.declared.tables.Tables.{Tables}
-use Rattle.rm_tables.specs.Absorbing.{absorbed_with, unlaunched_on}
-use Rattle.rm_tables.specs.Leaving.{closings_of, unlaunched}
-use Rattle.rm_tables.specs.Nodes.{changed_row, node_row, with_node}
-use Rattle.rm_refinement.specs.Agreement.{PlainNode, PlainRow, SameNodes, SameRows, bare_row, bare_node, plain_row, plain_node}
-use Rattle.rm_refinement.proofs.Nodes.{changed_same, tidied_same}
+use Rattle.rm_refinement.proofs.Nodes.{changed_same}
 use Rattle.rm_invariant.proofs.masters.Leaving.{living_filter}
 use Rattle.rm_invariant.specs.events.Refines.{Refines}
 use Rattle.rm_invariant.specs.events.Here.{LaunchesHere, RowsKnow, are_containers_on}

@@ -1,39 +1,20 @@
 -- NodeAdded, as a whole step that keeps all that holds of an open life: the report of a node that waits is absorbed, where the event is of
 -- its last registration; else there is nothing to do.
-use Rattle.std.proofs.Common.{◌≡◌, ◌≢◌, ℕ, ◌==◌, List, [], ◌∷◌, Bool, true, false, not, ◌&&◌, ◌||◌, Option, None, Some, drop, filter, refl, sym, ◌∙◌, ap, subst, arith}
-use Rattle.std.specs.List.{list_all}
-use Rattle.std.proofs.lemmas.Bool.{and_from, false≢true, not-true}
-use Rattle.std.proofs.lemmas.Bool.Decides.{nat_tests}
-use Rattle.std.proofs.lemmas.List.Sorted.{IsPermutation-sym}
+use Rattle.rm_invariant.proofs.Common.{◌≡◌, ℕ, List, [], ◌∷◌, Bool, true, false, not, ◌&&◌, ◌||◌, Option, None, Some, drop, filter, refl, sym, ◌∙◌, ap, subst, arith, list_all, and_from, false≢true, not-true, nat_tests, IsPermutation-sym, Held, ContainerId, Settings, is_container, Ascend, container_itself, text_itself, same_text, absorbs, taken_of, is_held, ids_on, is_living, leave, has_container, LifeState, SchedEvent, NodeRow, Tables, absorbed_by, absorbed_if, absorbed_with, taken_in, sched_popped, sched_quiet, sched_worked, is_waiting_row, node_row, EndsByEvent, is_on, sched_step, PlainNode, bare_node, plain_node, History, abstract_scene}
+use Rattle.std.proofs.Common.{◌≢◌, ◌==◌}
 use Rattle.rm_types.specs.declared.containers.Cause.TheVariants.{Gone}
-use Rattle.rm_types.specs.declared.containers.Held.{Held}
 use Rattle.rm_types.specs.declared.entries.Entry.TheVariants.{Absorbed}
-use Rattle.rm_types.specs.declared.ids.ContainerId.{ContainerId}
-use Rattle.rm_types.specs.declared.settings.Settings.{Settings}
-use Rattle.rm_types.specs.Ids.{is_container}
-use Rattle.rm_types.specs.Order.{Ascend}
-use Rattle.rm_types.proofs.IdLemmas.{container_itself}
-use Rattle.rm_types.proofs.TestLemmas.{text_itself, same_text}
 use Rattle.rm_book.specs.Books.{book_row as book_row_of}
-use Rattle.rm_model.specs.Absorbing.{absorbs, taken_of, with_taken}
-use Rattle.rm_types.specs.Containers.{is_held}
-use Rattle.rm_model.specs.Containers.{ids_on, is_living, leave}
-use Rattle.rm_model.specs.Facts.{has_container}
+use Rattle.rm_model.specs.Absorbing.{with_taken}
 use Rattle.rm_model.specs.Nodes.{is_waiting as waits_told, judged_node as node_told}
 use Rattle.rm_model.specs.Rules.{MayAbsorb}
-use Rattle.rm_model.specs.State.{LifeState, NodeState}
+use Rattle.rm_model.specs.State.{NodeState}
 use Rattle.rm_states.specs.declared.node.states.NodeState.{NodeState as NodePhase}
 use Rattle.rm_states.specs.declared.node.states.NodeState.TheVariants as states
-use Rattle.rm_tables.specs.declared.events.SchedEvent.{SchedEvent}
 use Rattle.rm_tables.specs.declared.events.SchedEvent.TheVariants as scheds
-use Rattle.rm_tables.specs.declared.nodes.NodeRow.{NodeRow}
-use Rattle.rm_tables.specs.declared.tables.Tables.{Tables}
-use Rattle.rm_tables.specs.Absorbing.{absorbed_by, absorbed_if, absorbed_with, book_not_taken, taken_in}
-use Rattle.rm_tables.specs.Actions.{sched_popped, sched_quiet, sched_worked}
-use Rattle.rm_tables.specs.Nodes.{is_waiting_row, node_row}
-use Rattle.rm_tables.specs.SchedEvents.{EndsAbsorbed, EndsByEvent, EndsIf, is_on, sched_step}
-use Rattle.rm_refinement.specs.Agreement.{PlainNode, bare_node, phase_of, plain_node}
-use Rattle.rm_refinement.specs.History.{History, abstract_scene}
+use Rattle.rm_tables.specs.Absorbing.{book_not_taken}
+use Rattle.rm_tables.specs.SchedEvents.{EndsAbsorbed, EndsIf}
+use Rattle.rm_refinement.specs.Agreement.{phase_of}
 use Rattle.rm_invariant.specs.nodes.Invariant.{NodesInvariant}
 use Rattle.rm_invariant.specs.nodes.Book.{All, BookInvariant}
 use Rattle.rm_invariant.proofs.nodes.Absorbs.{taken_holds}

@@ -1,23 +1,9 @@
 -- A grant answers an ask of its attempt: each attempt asks for the same again, in the tables and by the judge.
-use Rattle.std.proofs.Common.{◌≡◌, ℕ, ◌-◌, List, [], ◌∷◌, Bool, true, false, nat_lt, Option, None, Some, filter, find, fold, map, refl, sym, ◌∙◌, ap, subst, arith}
-use Rattle.std.specs.Prelude.{if◌then◌else◌}
-use Rattle.std.specs.List.{list_any}
-use Rattle.std.proofs.lemmas.Bool.{false≢true}
-use Rattle.std.proofs.lemmas.Bool.Decides.{nat_tests}
-use Rattle.rm_types.specs.declared.containers.Ask.{Ask}
-use Rattle.rm_types.specs.declared.containers.AskOf.{AskOf}
-use Rattle.rm_types.specs.declared.containers.Grant.{Grant}
-use Rattle.rm_types.specs.declared.ids.AttemptId.{AttemptId}
-use Rattle.rm_types.specs.declared.resources.Resource.{Resource}
-use Rattle.rm_types.specs.Ids.{is_attempt}
-use Rattle.rm_types.specs.Passes.{by_priority}
-use Rattle.rm_types.proofs.IdLemmas.{same_attempt, attempt_itself}
+use Rattle.rm_invariant.proofs.Common.{◌≡◌, ℕ, ◌-◌, List, [], ◌∷◌, Bool, true, false, Option, None, Some, filter, find, fold, map, refl, sym, ◌∙◌, ap, subst, arith, if◌then◌else◌, list_any, false≢true, nat_tests, Ask, AskOf, Grant, AttemptId, Resource, is_attempt, by_priority, same_attempt, attempt_itself, AsksOf, asks_granted, attempt_asks, table_granted, is_for, one_less, with_asks_of, is_size, asks_after_answer, table_without_granted, SameAsks}
+use Rattle.std.proofs.Common.{nat_lt}
 use Rattle.rm_types.proofs.TestLemmas.{found_passes}
-use Rattle.rm_book.specs.AskTables.{AsksOf, asks_granted, attempt_asks, table_granted, is_for, one_less, with_asks_of}
-use Rattle.rm_model.specs.Containers.{is_same_ask, is_size}
+use Rattle.rm_model.specs.Containers.{is_same_ask}
 use Rattle.rm_model.specs.Passing.{ask_lessened, asks_lessened, asks_of as asks_told, without_granted as without_told}
-use Rattle.rm_tables.specs.Passing.{asks_after_answer, table_without_granted}
-use Rattle.rm_refinement.specs.Agreement.{SameAsks}
 
 -- THE TABLES
 

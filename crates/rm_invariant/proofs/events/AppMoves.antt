@@ -1,39 +1,18 @@
 -- The events of the main queue that are of applications, each as a whole step that keeps all that holds of an open life: AppStart, AppSaved,
 -- AppAccepted, AppKill, AttemptDone and Retire.
-use Rattle.std.proofs.Common.{◌≡◌, ◌<◌, ℕ, List, [], ◌∷◌, ◌++◌, Bool, true, false, Option, None, Some, is_some, drop, length, nat_lt, refl, sym, ◌∙◌, ap, subst, arith}
-use Rattle.std.proofs.lemmas.Bool.Decides.{nat_tests}
-use Rattle.std.specs.Prelude.{if◌then◌else◌}
-use Rattle.rm_types.specs.declared.entries.Entry.{Entry}
-use Rattle.rm_types.specs.declared.entries.Entry.TheVariants.{Accepted, Issued, Quiet}
-use Rattle.rm_types.specs.declared.ids.AppId.{AppId}
-use Rattle.rm_types.specs.declared.ids.AttemptId.{AttemptId}
+use Rattle.rm_invariant.proofs.Common.{◌≡◌, ◌<◌, ℕ, List, [], ◌∷◌, ◌++◌, Bool, true, false, Option, None, Some, drop, length, refl, sym, ◌∙◌, ap, subst, arith, nat_tests, if◌then◌else◌, Entry, Accepted, Issued, Quiet, AppId, AttemptId, How, Submission, Settings, record_of, app_itself, attempts_in, MayIssueApp, killed_text, AppState, AttemptState, MainEvent, AppRow, Current, Tables, found_in, main_popped, main_quiet, main_worked, next_in, accept_of_row, accept_of_state, decision_of_end, decision_of_attempt_state, decision_of_row, decision_of_current, end_with, kill_of_attempt_state, kill_of_row, kill_of_state, attempt_kill, last_end_in, main_step, removal_of_first, save_of_row, save_of_state, start_of_submission, row_of, History, abstract_life, abstract_scene}
+use Rattle.std.proofs.Common.{is_some, nat_lt}
 use Rattle.rm_types.specs.declared.messages.Lane.TheVariants as lanes
-use Rattle.rm_types.specs.declared.operations.How.{How}
 use Rattle.rm_types.specs.declared.operations.How.TheVariants as ways
 use Rattle.rm_types.specs.declared.operations.Op.TheVariants as ops
-use Rattle.rm_types.specs.declared.operations.Submission.{Submission}
-use Rattle.rm_types.specs.declared.settings.Settings.{Settings}
-use Rattle.rm_types.specs.Records.{record_of}
-use Rattle.rm_types.proofs.IdLemmas.{app_itself}
-use Rattle.rm_model.specs.Facts.{attempts_in}
-use Rattle.rm_model.specs.Issuing.{MayIssueApp, killed_text}
-use Rattle.rm_states.specs.declared.app.states.AppState.{AppState}
 use Rattle.rm_states.specs.declared.app.states.AppState.TheVariants as apps
-use Rattle.rm_states.specs.declared.attempt.states.AttemptState.{AttemptState}
 use Rattle.rm_states.specs.declared.attempt.states.AttemptState.TheVariants as attempts
 use Rattle.rm_tables.specs.declared.changes.RowChange.TheVariants as of_app
-use Rattle.rm_tables.specs.declared.events.MainEvent.{MainEvent}
 use Rattle.rm_tables.specs.declared.events.MainEvent.TheVariants as mains
 use Rattle.rm_tables.specs.declared.events.SchedEvent.TheVariants as scheds
-use Rattle.rm_tables.specs.declared.rows.AppRow.{AppRow}
-use Rattle.rm_tables.specs.declared.rows.Current.{Current}
-use Rattle.rm_tables.specs.declared.tables.Tables.{Tables}
-use Rattle.rm_tables.specs.Actions.{found_in, main_popped, main_quiet, main_worked, next_in}
-use Rattle.rm_tables.specs.MainEvents.{accept_of_row, accept_of_state, decision_of_end, decision_of_attempt_state, decision_of_row, decision_of_current, end_with, kill_of_attempt_state, kill_of_row, kill_of_state, attempt_kill, last_end_in, main_step, removal_of_first, save_of_row, save_of_state, start_of_submission, start_of_row}
-use Rattle.rm_tables.specs.Rows.{row_of}
+use Rattle.rm_tables.specs.MainEvents.{start_of_row}
 use Rattle.rm_invariant.specs.apps.Completed.{Completes}
 use Rattle.rm_invariant.specs.apps.Invariant.{ActiveInvariant, CurrentInvariant, RowInvariant, StateInvariant, is_active}
-use Rattle.rm_refinement.specs.History.{History, abstract_life, abstract_scene}
 use Rattle.rm_invariant.specs.apps.View.{View, view}
 use Rattle.rm_invariant.proofs.apps.Effects.{main_taken}
 use Rattle.rm_invariant.proofs.apps.Own.{active_row, start_more}

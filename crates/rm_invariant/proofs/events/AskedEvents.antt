@@ -1,37 +1,10 @@
 -- Each event of the scheduler keeps what a pass takes of the asks: that masters are asked for once and only what goes on asks for more, and
 -- that those which ask for more are current.
-use Rattle.std.proofs.Common.{◌≡◌, ◌≤◌, ℕ, ◌==◌, ◌&&◌, ◌||◌, List, [], ◌∷◌, ◌++◌, Bool, true, false, not, Option, None, Some, count_by, map, refl, sym, ◌∙◌, ap, subst, arith}
-use Rattle.std.specs.Prelude.{if◌then◌else◌}
-use Rattle.std.specs.List.{list_any}
-use Rattle.std.proofs.lemmas.Bool.{false≢true}
-use Rattle.std.proofs.lemmas.Bool.Decides.{nat_tests}
-use Rattle.rm_types.specs.declared.containers.Ask.{Ask}
-use Rattle.rm_types.specs.declared.containers.Cause.{Cause}
+use Rattle.rm_invariant.proofs.Common.{◌≡◌, ◌≤◌, ℕ, ◌&&◌, ◌||◌, List, [], ◌∷◌, ◌++◌, Bool, true, false, not, Option, None, Some, map, refl, sym, ◌∙◌, ap, subst, arith, if◌then◌else◌, list_any, false≢true, nat_tests, Ask, Cause, Closing, AppId, AttemptId, ContainerId, AppRecord, Resource, is_app, is_attempt, same_attempt, AsksOf, attempt_asks, asks_set, is_for, renewed_ask, with_asks_of, AttemptState, SchedEvent, NodeRow, AppRow, Current, Tables, absorbed_by, absorbed_if, found_in, sched_worked, closed, closed_in, closed_one, closings_of, ended_by, is_waiting_row, node_row, grants_on, updated_by, row_of, master_asked, queued_at, queued_by, queued_with, sched_step}
+use Rattle.std.proofs.Common.{◌==◌, count_by}
 use Rattle.rm_types.specs.declared.containers.Cause.TheVariants.{Gone}
-use Rattle.rm_types.specs.declared.containers.Closing.{Closing}
-use Rattle.rm_types.specs.declared.ids.AppId.{AppId}
-use Rattle.rm_types.specs.declared.ids.AttemptId.{AttemptId}
-use Rattle.rm_types.specs.declared.ids.ContainerId.{ContainerId}
-use Rattle.rm_types.specs.declared.records.AppRecord.{AppRecord}
-use Rattle.rm_types.specs.declared.resources.Resource.{Resource}
-use Rattle.rm_types.specs.Ids.{is_app, is_attempt}
-use Rattle.rm_types.proofs.IdLemmas.{same_attempt}
-use Rattle.rm_book.specs.AskTables.{AsksOf, attempt_asks, asks_set, is_for, renewed_ask, with_asks_of}
-use Rattle.rm_states.specs.declared.attempt.states.AttemptState.{AttemptState}
 use Rattle.rm_states.specs.declared.attempt.states.AttemptState.TheVariants as attempts
-use Rattle.rm_tables.specs.declared.events.SchedEvent.{SchedEvent}
 use Rattle.rm_tables.specs.declared.events.SchedEvent.TheVariants as scheds
-use Rattle.rm_tables.specs.declared.nodes.NodeRow.{NodeRow}
-use Rattle.rm_tables.specs.declared.rows.AppRow.{AppRow}
-use Rattle.rm_tables.specs.declared.rows.Current.{Current}
-use Rattle.rm_tables.specs.declared.tables.Tables.{Tables}
-use Rattle.rm_tables.specs.Absorbing.{absorbed_by, absorbed_if}
-use Rattle.rm_tables.specs.Actions.{found_in, sched_worked}
-use Rattle.rm_tables.specs.Leaving.{closed, closed_in, closed_one, closings_of, ended_by}
-use Rattle.rm_tables.specs.Nodes.{is_waiting_row, node_row}
-use Rattle.rm_tables.specs.Passing.{grants_on, updated_by}
-use Rattle.rm_tables.specs.Rows.{row_of}
-use Rattle.rm_tables.specs.SchedEvents.{master_asked, queued_at, queued_by, queued_with, sched_step}
 use Rattle.rm_invariant.specs.apps.View.{changed_if}
 use Rattle.rm_invariant.proofs.apps.Found.{row_changed}
 use Rattle.rm_invariant.specs.events.Asking.{OthersCurrent, asks_others, is_current_number, is_numbered_in}

@@ -1,29 +1,8 @@
 -- A pass keeps what it takes: that masters are asked for once and only what goes on asks for more, that those are current, and that no two
 -- records are of one application.
-use Rattle.std.proofs.Common.{◌≡◌, ◌⊎◌, inl, inr, ℕ, ◌-◌, ◌==◌, ◌||◌, nat_lt, List, [], ◌∷◌, Bool, true, false, Option, None, Some, filter, find, fold, map, refl, sym, ◌∙◌, ap, subst, arith}
-use Rattle.std.proofs.lemmas.Bool.{false≢true}
-use Rattle.std.proofs.lemmas.Bool.Decides.{nat_tests}
-use Rattle.rm_types.specs.declared.containers.Ask.{Ask}
-use Rattle.rm_types.specs.declared.containers.Grant.{Grant}
-use Rattle.rm_types.specs.declared.ids.AppId.{AppId}
-use Rattle.rm_types.specs.declared.ids.AttemptId.{AttemptId}
-use Rattle.rm_types.specs.declared.resources.Resource.{Resource}
-use Rattle.rm_types.specs.Ids.{is_app, is_attempt}
-use Rattle.rm_types.specs.Passes.{by_priority}
-use Rattle.rm_types.proofs.IdLemmas.{same_attempt}
-use Rattle.rm_book.specs.AskTables.{AsksOf, asks_granted, attempt_asks, table_granted, is_for, one_less}
-use Rattle.rm_states.specs.declared.attempt.states.AttemptState.{AttemptState}
+use Rattle.rm_invariant.proofs.Common.{◌≡◌, ◌⊎◌, inl, inr, ℕ, ◌-◌, ◌||◌, List, [], ◌∷◌, Bool, true, false, Option, None, Some, filter, find, fold, map, refl, sym, ◌∙◌, ap, subst, arith, false≢true, nat_tests, Ask, Grant, AppId, AttemptId, Resource, is_app, is_attempt, by_priority, same_attempt, AsksOf, asks_granted, attempt_asks, table_granted, is_for, one_less, AttemptState, is_alive, is_size, AppRow, Current, Tables, sched_popped, granted_at, asks_after_answer, passed_with, rows_after_grant, table_without_granted, row_of, is_ending}
+use Rattle.std.proofs.Common.{◌==◌, nat_lt}
 use Rattle.rm_states.specs.declared.attempt.states.AttemptState.TheVariants as attempts
-use Rattle.rm_states.specs.attempt.Table.{is_alive}
-use Rattle.rm_model.specs.Containers.{is_size}
-use Rattle.rm_tables.specs.declared.rows.AppRow.{AppRow}
-use Rattle.rm_tables.specs.declared.rows.Current.{Current}
-use Rattle.rm_tables.specs.declared.tables.Tables.{Tables}
-use Rattle.rm_tables.specs.Actions.{sched_popped}
-use Rattle.rm_tables.specs.Changes.{granted_at}
-use Rattle.rm_tables.specs.Passing.{asks_after_answer, passed_with, rows_after_grant, table_without_granted}
-use Rattle.rm_tables.specs.Rows.{row_of}
-use Rattle.rm_refinement.specs.Services.{is_ending}
 use Rattle.rm_invariant.specs.apps.View.{changed_if}
 use Rattle.rm_invariant.proofs.apps.Found.{row_changed}
 use Rattle.rm_invariant.specs.events.Asking.{OthersCurrent, asks_others}

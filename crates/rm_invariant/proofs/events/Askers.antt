@@ -1,34 +1,11 @@
 -- The attempts that ask for something are current: those that ask for their master by what holds of every attempt, the others by what holds of
 -- them; and a pass keeps that.
-use Rattle.std.proofs.Common.{◌≡◌, ◌≤◌, ◌==◌, ℕ, ◌||◌, nat_lt, List, [], ◌∷◌, Bool, true, false, not, Option, None, Some, find, fold, map, refl, sym, ◌∙◌, ap, subst, arith}
-use Rattle.std.specs.List.{list_any}
-use Rattle.std.proofs.lemmas.Bool.{false≢true}
-use Rattle.rm_types.specs.declared.containers.Ask.{Ask}
-use Rattle.rm_types.specs.declared.containers.AskOf.{AskOf}
-use Rattle.rm_types.specs.declared.containers.Grant.{Grant}
-use Rattle.rm_types.specs.declared.ids.AppId.{AppId}
-use Rattle.rm_types.specs.declared.ids.AttemptId.{AttemptId}
-use Rattle.rm_types.specs.declared.resources.Resource.{Resource}
-use Rattle.rm_types.specs.declared.settings.Settings.{Settings}
-use Rattle.rm_types.specs.Ids.{is_attempt}
-use Rattle.rm_types.specs.Lists.{is_nil}
-use Rattle.rm_types.specs.Passes.{by_priority}
-use Rattle.rm_types.proofs.IdLemmas.{same_attempt}
-use Rattle.rm_book.specs.AskTables.{AsksOf, asks_granted, attempt_asks, table_granted, is_for, one_less}
+use Rattle.rm_invariant.proofs.Common.{◌≡◌, ◌≤◌, ℕ, ◌||◌, List, [], ◌∷◌, Bool, true, false, not, Option, None, Some, find, fold, map, refl, sym, ◌∙◌, ap, subst, arith, list_any, false≢true, Ask, AskOf, Grant, AppId, AttemptId, Resource, Settings, is_attempt, is_nil, by_priority, same_attempt, AsksOf, asks_granted, attempt_asks, table_granted, is_for, one_less, AppState, attempt_at, is_size, AppRow, Current, Tables, asks_after_answer, passed_with, rows_after_grant, table_without_granted, row_of, SameAsks, History}
+use Rattle.std.proofs.Common.{◌==◌, nat_lt}
 use Rattle.rm_book.proofs.Lists.{any_filter}
-use Rattle.rm_states.specs.declared.app.states.AppState.{AppState}
 use Rattle.rm_states.specs.declared.app.states.AppState.TheVariants as apps
-use Rattle.rm_model.specs.Attempts.{attempt_at}
-use Rattle.rm_model.specs.Containers.{is_size}
 use Rattle.rm_model.specs.Passing.{asks_of as asks_told}
-use Rattle.rm_tables.specs.declared.rows.AppRow.{AppRow}
-use Rattle.rm_tables.specs.declared.rows.Current.{Current}
-use Rattle.rm_tables.specs.declared.tables.Tables.{Tables}
-use Rattle.rm_tables.specs.Passing.{asks_after_answer, passed_with, rows_after_grant, table_without_granted}
-use Rattle.rm_tables.specs.Rows.{row_of}
-use Rattle.rm_refinement.specs.Agreement.{SameAsks}
 use Rattle.rm_invariant.specs.apps.Invariant.{ActiveInvariant, AttemptsInvariant, AttemptCounts, EndIssuedInvariant, RowInvariant, StateInvariant}
-use Rattle.rm_refinement.specs.History.{History}
 use Rattle.rm_invariant.specs.apps.View.{View, is_ask, view}
 use Rattle.rm_invariant.proofs.apps.Counts.{passes_once}
 use Rattle.rm_invariant.specs.events.Asking.{AskersCurrent, OthersCurrent, asks_others, is_current_number, is_numbered, is_numbered_in}

@@ -1,24 +1,10 @@
 -- The row of an application changes: the tables agree with the judge's life again, whatever happens to the application or its attempt.
-use Rattle.std.proofs.Common.{◌≡◌, ◌<◌, ◌≤◌, ℕ, ◌==◌, nat_lt, List, Bool, true, false, Option, None, Some, is_some, refl, sym, ◌∙◌, ap, arith}
+use Rattle.rm_invariant.proofs.Common.{◌≡◌, ◌<◌, ◌≤◌, ℕ, List, Bool, true, false, Option, None, Some, refl, sym, ◌∙◌, ap, arith, nat_tests, AppId, AttemptId, ContainerId, is_app, same_app, has_app, LifeState, MasterState, AttemptChange, RowChange, AppRow, Current, Tables, changed, current_after, scheduled, row_of, AttemptAgrees, ClosingsAgree, NumberAgrees, RowAgrees, plain_dialogue}
+use Rattle.std.proofs.Common.{◌==◌, nat_lt, is_some}
 use Rattle.std.specs.Prelude.{option_map}
-use Rattle.std.proofs.lemmas.Bool.Decides.{nat_tests}
-use Rattle.rm_types.specs.declared.ids.AppId.{AppId}
-use Rattle.rm_types.specs.declared.ids.AttemptId.{AttemptId}
-use Rattle.rm_types.specs.declared.ids.ContainerId.{ContainerId}
-use Rattle.rm_types.specs.Ids.{is_app}
-use Rattle.rm_types.proofs.IdLemmas.{same_app}
-use Rattle.rm_model.specs.Facts.{has_app}
-use Rattle.rm_model.specs.State.{LifeState, MasterState}
-use Rattle.rm_tables.specs.declared.changes.AttemptChange.{AttemptChange}
 use Rattle.rm_tables.specs.declared.changes.AttemptChange.TheVariants as of_attempt
-use Rattle.rm_tables.specs.declared.changes.RowChange.{RowChange}
 use Rattle.rm_tables.specs.declared.changes.RowChange.TheVariants as of_app
-use Rattle.rm_tables.specs.declared.rows.AppRow.{AppRow}
-use Rattle.rm_tables.specs.declared.rows.Current.{Current}
-use Rattle.rm_tables.specs.declared.tables.Tables.{Tables}
-use Rattle.rm_tables.specs.Changes.{changed, current_after, scheduled}
-use Rattle.rm_tables.specs.Rows.{row_of}
-use Rattle.rm_refinement.specs.Agreement.{AttemptAgrees, ClosingsAgree, HasNoSession, NumberAgrees, RowAgrees, plain_dialogue}
+use Rattle.rm_refinement.specs.Agreement.{HasNoSession}
 use Rattle.rm_invariant.specs.apps.View.{changed_if}
 use Rattle.rm_invariant.specs.events.Refines.{Refines}
 

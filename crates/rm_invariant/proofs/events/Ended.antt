@@ -1,23 +1,7 @@
 -- Containers leave the book: the tables agree with the judge's life again.
-use Rattle.std.proofs.Common.{◌≡◌, List, ◌++◌, not, filter, sym, ◌∙◌, ap, subst}
-use Rattle.std.specs.List.{list_any}
-use Rattle.rm_types.specs.declared.containers.BookRow.{BookRow}
-use Rattle.rm_types.specs.declared.containers.Cause.{Cause}
-use Rattle.rm_types.specs.declared.containers.Closing.{Closing}
-use Rattle.rm_types.specs.declared.ids.AppId.{AppId}
-use Rattle.rm_types.specs.declared.ids.ContainerId.{ContainerId}
-use Rattle.rm_types.specs.Ids.{is_container}
-use Rattle.rm_book.specs.Books.{without_rows}
+use Rattle.rm_invariant.proofs.Common.{◌≡◌, List, ◌++◌, not, filter, sym, ◌∙◌, ap, subst, list_any, BookRow, Cause, Closing, AppId, ContainerId, is_container, without_rows, leave, has_app, has_container, tidied, Row, Scene, Tables, closed_in, closings_of, left_all, unlaunched, row_of, ClosingsAgree, PlainRow, SameRows, bare_row, plain_row, tidied_same}
 use Rattle.rm_book.proofs.Lists.{filter_view}
-use Rattle.rm_model.specs.Containers.{closings, leave}
-use Rattle.rm_model.specs.Facts.{has_app, has_container}
-use Rattle.rm_model.specs.Nodes.{tidied}
-use Rattle.rm_model.specs.State.{Row, Scene}
-use Rattle.rm_tables.specs.declared.tables.Tables.{Tables}
-use Rattle.rm_tables.specs.Leaving.{closed_in, closings_of, left_all, unlaunched}
-use Rattle.rm_tables.specs.Rows.{row_of}
-use Rattle.rm_refinement.specs.Agreement.{ClosingsAgree, PlainRow, SameRows, bare_row, plain_row}
-use Rattle.rm_refinement.proofs.Nodes.{tidied_same}
+use Rattle.rm_model.specs.Containers.{closings}
 use Rattle.rm_invariant.specs.events.Refines.{Refines}
 use Rattle.rm_invariant.specs.events.Here.{LaunchesHere, RowsKnow}
 use Rattle.rm_invariant.proofs.events.Launches.{launches_same}

@@ -1,21 +1,8 @@
 -- Granted containers enter the book: what holds of the book holds after them.
-use Rattle.std.proofs.Common.{◌≡◌, ◌≤◌, ℕ, ◌+◌, List, [], ◌∷◌, ◌++◌, Bool, true, false, ◌&&◌, Option, None, Some, is_some, map, refl, sym, ◌∙◌, ap, subst, append_assoc, append-nil, arith}
-use Rattle.std.specs.Prelude.{option_and_then, option_map, if◌then◌else◌}
-use Rattle.std.specs.Str.{bytes_eq}
-use Rattle.std.proofs.lemmas.Bool.{false≢true}
-use Rattle.rm_types.specs.declared.containers.Grant.{Grant}
-use Rattle.rm_types.specs.declared.ids.AppId.{AppId}
-use Rattle.rm_types.specs.declared.ids.ContainerId.{ContainerId}
-use Rattle.rm_types.specs.declared.resources.Resource.{Resource}
-use Rattle.rm_types.specs.Ids.{is_attempt, is_container}
-use Rattle.rm_types.proofs.IdLemmas.{attempt_itself, container_itself, same_container}
-use Rattle.rm_model.specs.Containers.{is_living, lives_on}
-use Rattle.rm_model.specs.Nodes.{judged_node, with_judged_node}
-use Rattle.rm_model.specs.Passing.{passed, passes, row_granted}
-use Rattle.rm_model.specs.State.{LifeState, NodeState, Row, Scene}
-use Rattle.rm_refinement.specs.Agreement.{grants_of}
-use Rattle.rm_refinement.proofs.Found.{found_each}
-use Rattle.rm_tables.specs.declared.rows.AppRow.{AppRow}
+use Rattle.rm_invariant.proofs.Common.{◌≡◌, ◌≤◌, ℕ, ◌+◌, List, [], ◌∷◌, ◌++◌, Bool, true, false, ◌&&◌, Option, None, Some, map, refl, sym, ◌∙◌, ap, subst, arith, if◌then◌else◌, bytes_eq, false≢true, Grant, AppId, ContainerId, Resource, is_attempt, is_container, attempt_itself, container_itself, same_container, is_living, lives_on, judged_node, with_judged_node, passed, passes, row_granted, LifeState, Row, Scene, grants_of, found_each, AppRow}
+use Rattle.std.proofs.Common.{is_some, append_assoc, append-nil}
+use Rattle.std.specs.Prelude.{option_and_then, option_map}
+use Rattle.rm_model.specs.State.{NodeState}
 use Rattle.rm_invariant.specs.apps.View.{one_if, set_if}
 use Rattle.rm_invariant.proofs.apps.Counts.{at_end}
 use Rattle.rm_invariant.specs.nodes.Book.{All, LivingRowsAreApart, AreLaunches, BookInvariant, IsAbsorbed, IsGranted, BookRowInvariant}

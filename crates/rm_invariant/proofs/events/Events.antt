@@ -1,30 +1,12 @@
 -- The scheduler's events by which containers leave, each as a whole step that keeps all that holds of an open life: AttemptRemoved, Release,
 -- NodeDone and NodeLost; and AttemptRecovered, which has nothing to do.
-use Rattle.std.proofs.Common.{◌≡◌, ◌≢◌, inl, inr, ℕ, List, [], ◌∷◌, Bool, true, false, not, ◌&&◌, filter, map, refl, sym, ◌∙◌, ap, subst}
-use Rattle.std.specs.List.{list_any}
-use Rattle.std.proofs.lemmas.List.Elements.{filter_agree}
-use Rattle.std.proofs.lemmas.List.Sorted.{IsPermutation-sym}
+use Rattle.rm_invariant.proofs.Common.{◌≡◌, inl, inr, ℕ, List, [], ◌∷◌, Bool, true, false, not, ◌&&◌, filter, map, refl, sym, ◌∙◌, ap, subst, list_any, filter_agree, IsPermutation-sym, Ended, AttemptId, ContainerId, Settings, is_nil, Ascend, is_masters, is_living, ids_on, lives_on, once, has_container, Allowed, judged_node, SchedEvent, Tables, sched_worked, ended_by, EndsByEvent, is_on, is_released, sched_step, History, abstract_scene, live_state, Contains, is_attempt, container_itself, text_itself}
+use Rattle.std.proofs.Common.{◌≢◌}
 use Rattle.rm_types.specs.declared.containers.Cause.TheVariants as causes
-use Rattle.rm_types.specs.declared.entries.Entry.TheVariants.{Ended}
-use Rattle.rm_types.specs.declared.ids.AttemptId.{AttemptId}
-use Rattle.rm_types.specs.declared.ids.ContainerId.{ContainerId}
-use Rattle.rm_types.specs.declared.settings.Settings.{Settings}
-use Rattle.rm_types.specs.Lists.{is_nil}
-use Rattle.rm_types.specs.Order.{Ascend}
 use Rattle.rm_book.specs.Books.{book_row as book_row_of}
-use Rattle.rm_model.specs.Attempts.{is_masters}
-use Rattle.rm_model.specs.Containers.{is_living, released_by as released_told, ids_of, ids_on, lives_on, once}
-use Rattle.rm_model.specs.Facts.{has_container}
-use Rattle.rm_model.specs.Rules.{Allowed}
+use Rattle.rm_model.specs.Containers.{released_by as released_told, ids_of}
 use Rattle.rm_model.specs.Ending.{MayEnd}
-use Rattle.rm_model.specs.Nodes.{judged_node}
-use Rattle.rm_tables.specs.declared.events.SchedEvent.{SchedEvent}
 use Rattle.rm_tables.specs.declared.events.SchedEvent.TheVariants as scheds
-use Rattle.rm_tables.specs.declared.tables.Tables.{Tables}
-use Rattle.rm_tables.specs.Actions.{sched_worked}
-use Rattle.rm_tables.specs.Leaving.{ended_by}
-use Rattle.rm_tables.specs.SchedEvents.{EndsByEvent, is_on, is_released, sched_step}
-use Rattle.rm_refinement.specs.History.{History, abstract_scene, live_state}
 use Rattle.rm_invariant.proofs.apps.Keeping.{in_scene}
 use Rattle.rm_invariant.specs.nodes.Invariant.{NodesInvariant, RegisteredInvariant, NodeInvariant, NodeView, UpdatesFollow, are_turns, events_of, pending, node_view}
 use Rattle.rm_invariant.proofs.nodes.Ascending.{permuted_has}
@@ -36,10 +18,6 @@ use Rattle.rm_invariant.proofs.masters.OverAttempts.{ids_live, removed_joins, sa
 use Rattle.rm_model.specs.State.{Release}
 use Rattle.rm_invariant.proofs.masters.Masters.{masters_same}
 use Rattle.rm_invariant.proofs.nodes.Moved.{Contains-first, Contains-more}
-use Rattle.std.specs.Prelude.{Contains}
-use Rattle.rm_types.specs.Ids.{is_attempt}
-use Rattle.rm_types.proofs.IdLemmas.{container_itself}
-use Rattle.rm_types.proofs.TestLemmas.{text_itself}
 use Rattle.rm_invariant.specs.events.Here.{AreServed, IsServedRelease}
 use Rattle.rm_invariant.specs.Core.{CoreInvariant, PreservesCore}
 use Rattle.rm_invariant.proofs.events.Knowing.{on_node, rows_apart}

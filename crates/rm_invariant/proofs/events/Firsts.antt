@@ -1,42 +1,14 @@
 -- The rows know which attempts were kept when the life began: whatever changes a row and not that number keeps it, and so does each event
 -- of the scheduler.
-use Rattle.std.proofs.Common.{◌≡◌, ℕ, nat_lt, nat_le, List, [], ◌∷◌, Bool, true, false, ◌&&◌, ◌==◌, Option, None, Some, filter, fold, refl, sym, ◌∙◌, ap, subst}
+use Rattle.rm_invariant.proofs.Common.{◌≡◌, ℕ, nat_le, List, [], ◌∷◌, Bool, true, false, ◌&&◌, Option, None, Some, filter, fold, refl, sym, ◌∙◌, ap, subst, Cause, Closing, Grant, Entry, AppId, AttemptId, ContainerId, Settings, is_app, Records, AttemptState, attempt_was_first, after, once, LifeState, Manager, Scene, SchedEvent, NodeRow, AppRow, Current, Tables, absorbed_by, absorbed_if, was_first, sched_worked, changed, closed, closed_in, closed_one, closings_of, ended_by, is_waiting_row, node_row, grants_on, rows_after_grant, updated_by, row_of, with_row, is_on, is_released, queued_at, queued_by, queued_with, sched_step, History, abstract_scene, live_state}
+use Rattle.std.proofs.Common.{nat_lt, ◌==◌}
 use Rattle.std.specs.Prelude.{option_map}
-use Rattle.rm_types.specs.declared.containers.Cause.{Cause}
 use Rattle.rm_types.specs.declared.containers.Cause.TheVariants as causes
-use Rattle.rm_types.specs.declared.containers.Closing.{Closing}
-use Rattle.rm_types.specs.declared.containers.Grant.{Grant}
-use Rattle.rm_types.specs.declared.entries.Entry.{Entry}
-use Rattle.rm_types.specs.declared.ids.AppId.{AppId}
-use Rattle.rm_types.specs.declared.ids.AttemptId.{AttemptId}
-use Rattle.rm_types.specs.declared.ids.ContainerId.{ContainerId}
-use Rattle.rm_types.specs.declared.settings.Settings.{Settings}
-use Rattle.rm_types.specs.Ids.{is_app}
-use Rattle.rm_types.specs.Records.{Records}
-use Rattle.rm_states.specs.declared.attempt.states.AttemptState.{AttemptState}
 use Rattle.rm_states.specs.declared.attempt.states.AttemptState.TheVariants as attempts
 use Rattle.rm_book.specs.Books.{book_row as book_row_of}
-use Rattle.rm_model.specs.Attempts.{attempt_was_first}
-use Rattle.rm_model.specs.Changes.{after}
-use Rattle.rm_model.specs.Containers.{once}
-use Rattle.rm_model.specs.State.{LifeState, Manager, Scene}
 use Rattle.rm_tables.specs.declared.changes.AttemptChange.TheVariants as of_attempt
 use Rattle.rm_tables.specs.declared.changes.RowChange.TheVariants as of_app
-use Rattle.rm_tables.specs.declared.events.SchedEvent.{SchedEvent}
 use Rattle.rm_tables.specs.declared.events.SchedEvent.TheVariants as scheds
-use Rattle.rm_tables.specs.declared.nodes.NodeRow.{NodeRow}
-use Rattle.rm_tables.specs.declared.rows.AppRow.{AppRow}
-use Rattle.rm_tables.specs.declared.rows.Current.{Current}
-use Rattle.rm_tables.specs.declared.tables.Tables.{Tables}
-use Rattle.rm_tables.specs.Absorbing.{absorbed_by, absorbed_if, was_first}
-use Rattle.rm_tables.specs.Actions.{sched_worked}
-use Rattle.rm_tables.specs.Changes.{changed}
-use Rattle.rm_tables.specs.Leaving.{closed, closed_in, closed_one, closings_of, ended_by}
-use Rattle.rm_tables.specs.Nodes.{is_waiting_row, node_row}
-use Rattle.rm_tables.specs.Passing.{grants_on, rows_after_grant, updated_by}
-use Rattle.rm_tables.specs.Rows.{row_of, with_row}
-use Rattle.rm_tables.specs.SchedEvents.{is_on, is_released, queued_at, queued_by, queued_with, sched_step}
-use Rattle.rm_refinement.specs.History.{History, abstract_scene, live_state}
 use Rattle.rm_invariant.specs.apps.View.{changed_if}
 use Rattle.rm_invariant.proofs.apps.Found.{row_changed}
 use Rattle.rm_invariant.specs.events.Here.{FirstsKnown}

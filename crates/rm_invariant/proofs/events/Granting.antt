@@ -1,33 +1,14 @@
 -- Containers are granted: the rows of applications count them, tell the same endings, and agree with what was said of attempts.
-use Rattle.std.proofs.Common.{◌≡◌, ◌==◌, ℕ, ◌+◌, nat_lt, List, [], ◌∷◌, ◌++◌, Bool, true, false, Option, None, Some, fold, map, refl, sym, ◌∙◌, ap, subst, append_assoc, append-nil, arith}
+use Rattle.rm_invariant.proofs.Common.{◌≡◌, ℕ, ◌+◌, List, [], ◌∷◌, ◌++◌, Bool, true, false, Option, None, Some, fold, map, refl, sym, ◌∙◌, ap, subst, arith, bytes_eq, nat_tests, map-append, Closing, Grant, AppId, AttemptId, ContainerId, is_app, is_attempt, same_attempt, same_app, same_text, BookOf, granted_rows, with_grants, AttemptState, passed, MasterState, Row, NodeRow, AppRow, Current, changed, current_after, granted, granted_at, rows_after_grant, row_of, AttemptAgrees, ClosingsAgree, NumberAgrees, RowAgrees, SameNodes, SameRows, bare_row, grants_of, plain_row, plain_node}
+use Rattle.std.proofs.Common.{◌==◌, nat_lt, append_assoc, append-nil}
 use Rattle.std.specs.Prelude.{option_map}
-use Rattle.std.specs.Str.{bytes_eq}
-use Rattle.std.proofs.lemmas.Bool.Decides.{nat_tests}
-use Rattle.std.proofs.lemmas.List.{map-append}
-use Rattle.rm_types.specs.declared.containers.Closing.{Closing}
 use Rattle.rm_types.specs.declared.containers.ContainerState.TheVariants.{Granted}
-use Rattle.rm_types.specs.declared.containers.Grant.{Grant}
-use Rattle.rm_types.specs.declared.ids.AppId.{AppId}
-use Rattle.rm_types.specs.declared.ids.AttemptId.{AttemptId}
-use Rattle.rm_types.specs.declared.ids.ContainerId.{ContainerId}
-use Rattle.rm_types.specs.Ids.{is_app, is_attempt}
-use Rattle.rm_types.proofs.IdLemmas.{same_attempt, same_app}
-use Rattle.rm_types.proofs.TestLemmas.{same_text}
-use Rattle.rm_book.specs.Books.{BookOf, granted_rows, with_grants}
-use Rattle.rm_states.specs.declared.attempt.states.AttemptState.{AttemptState}
 use Rattle.rm_states.specs.declared.attempt.states.AttemptState.TheVariants as attempts
 use Rattle.rm_model.specs.Nodes.{judged_node as node_told, with_judged_node as with_told}
-use Rattle.rm_model.specs.Passing.{passed, row_granted as row_told}
-use Rattle.rm_model.specs.State.{MasterState, NodeState, Row}
+use Rattle.rm_model.specs.Passing.{row_granted as row_told}
+use Rattle.rm_model.specs.State.{NodeState}
 use Rattle.rm_tables.specs.declared.changes.AttemptChange.TheVariants as of_attempt
 use Rattle.rm_tables.specs.declared.changes.RowChange.TheVariants as of_app
-use Rattle.rm_tables.specs.declared.nodes.NodeRow.{NodeRow}
-use Rattle.rm_tables.specs.declared.rows.AppRow.{AppRow}
-use Rattle.rm_tables.specs.declared.rows.Current.{Current}
-use Rattle.rm_tables.specs.Changes.{changed, current_after, granted, granted_at}
-use Rattle.rm_tables.specs.Passing.{rows_after_grant}
-use Rattle.rm_tables.specs.Rows.{row_of}
-use Rattle.rm_refinement.specs.Agreement.{AttemptAgrees, ClosingsAgree, NumberAgrees, RowAgrees, SameNodes, SameRows, bare_row, grants_of, plain_row, plain_node}
 use Rattle.rm_refinement.proofs.Found.{other_told, own_told}
 use Rattle.rm_invariant.specs.apps.View.{changed_if, one_if}
 use Rattle.rm_invariant.proofs.apps.Counts.{at_end}

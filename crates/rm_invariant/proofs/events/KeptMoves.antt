@@ -1,44 +1,18 @@
 -- An operation is kept, as a whole step that keeps all that holds of an open life: an App, an Attempt, the end of an attempt or an application, and a Remove.
 -- Each fits what is recorded.
-use Rattle.std.proofs.Common.{◌≡◌, ℕ, List, [], ◌∷◌, ◌++◌, Bool, true, false, ◌||◌, Option, None, Some, refl, sym, ◌∙◌, ap, subst, append-nil}
-use Rattle.std.proofs.lemmas.List.Elements.{filter-append}
+use Rattle.rm_invariant.proofs.Common.{◌≡◌, ℕ, List, [], ◌∷◌, ◌++◌, Bool, true, false, ◌||◌, Option, None, Some, refl, sym, ◌∙◌, ap, subst, filter-append, AppId, AttemptId, Op, Settings, How, Submission, is_app, fits_records, without_asks_of, life_keeps, ids_on, judged_node, LifeState, SchedEvent, Tables, changed, dropped_at, dropped_by, dropped_of, kept, ClosingsAgree, RowAgrees, History, abstract_life, ContainerId, has_app, row_of, without_row, AppRow, Current, AttemptState, list_any-append}
+use Rattle.std.proofs.Common.{append-nil}
 use Rattle.rm_types.specs.declared.entries.Entry.TheVariants.{Kept as KeptEntry}
-use Rattle.rm_types.specs.declared.ids.AppId.{AppId}
-use Rattle.rm_types.specs.declared.ids.AttemptId.{AttemptId}
-use Rattle.rm_types.specs.declared.operations.Op.{Op}
 use Rattle.rm_types.specs.declared.operations.Op.TheVariants as ops
-use Rattle.rm_types.specs.declared.settings.Settings.{Settings}
-use Rattle.rm_types.specs.declared.operations.How.{How}
-use Rattle.rm_types.specs.declared.operations.Submission.{Submission}
-use Rattle.rm_types.specs.Ids.{is_app}
-use Rattle.rm_types.specs.Records.{fits_records}
-use Rattle.rm_book.specs.AskTables.{without_asks_of}
-use Rattle.rm_model.specs.Changes.{life_keeps}
-use Rattle.rm_model.specs.Containers.{ids_on}
-use Rattle.rm_model.specs.Nodes.{judged_node}
-use Rattle.rm_model.specs.State.{LifeState}
 use Rattle.rm_tables.specs.declared.changes.AttemptChange.TheVariants as of_attempt
 use Rattle.rm_tables.specs.declared.changes.RowChange.TheVariants as of_app
-use Rattle.rm_tables.specs.declared.events.SchedEvent.{SchedEvent}
 use Rattle.rm_tables.specs.declared.events.SchedEvent.TheVariants as scheds
-use Rattle.rm_tables.specs.declared.tables.Tables.{Tables}
-use Rattle.rm_tables.specs.Changes.{changed}
-use Rattle.rm_tables.specs.KeptOps.{dropped_at, dropped_by, dropped_of, kept}
-use Rattle.rm_refinement.specs.Agreement.{ClosingsAgree, RowAgrees}
-use Rattle.rm_refinement.specs.History.{History, abstract_life}
 use Rattle.rm_invariant.proofs.apps.Found.{row_changed}
 use Rattle.rm_invariant.specs.nodes.Invariant.{NodesInvariant, NodeInvariant, events_of, is_nodes_event}
 use Rattle.rm_invariant.proofs.masters.KeptApps.{app_end_kept_joins, app_kept_joins, attempt_end_kept_joins, remove_kept_joins}
 use Rattle.rm_invariant.proofs.masters.KeptAttempts.{attempt_kept_joins}
 use Rattle.rm_invariant.proofs.apps.Removing.{row_gone}
-use Rattle.rm_types.specs.declared.ids.ContainerId.{ContainerId}
-use Rattle.rm_model.specs.Facts.{has_app}
-use Rattle.rm_tables.specs.Rows.{row_of, without_row}
-use Rattle.rm_tables.specs.declared.rows.AppRow.{AppRow}
-use Rattle.rm_tables.specs.declared.rows.Current.{Current}
-use Rattle.rm_states.specs.declared.attempt.states.AttemptState.{AttemptState}
 use Rattle.rm_states.specs.declared.attempt.states.AttemptState.TheVariants as attempts
-use Rattle.std.proofs.lemmas.List.Folds.{list_any-append}
 use Rattle.rm_invariant.proofs.masters.Sounding.{sound_step}
 use Rattle.rm_invariant.specs.Core.{CoreInvariant, PreservesCore}
 use Rattle.rm_invariant.proofs.events.Changes.{kept_agrees}

@@ -1,27 +1,11 @@
 -- What holds of an open life gives what the agreement rests on.
-use Rattle.std.proofs.Common.{◌≡◌, ℕ, List, [], ◌∷◌, Bool, true, false, ◌&&◌, Option, None, Some, find, refl, sym, ◌∙◌, ap, subst}
-use Rattle.std.specs.List.{list_any}
-use Rattle.std.specs.Str.{bytes_eq}
-use Rattle.std.proofs.lemmas.Bool.{and_from}
-use Rattle.rm_types.specs.declared.containers.BookRow.{BookRow}
-use Rattle.rm_types.specs.declared.ids.AttemptId.{AttemptId}
-use Rattle.rm_types.specs.declared.ids.ContainerId.{ContainerId}
-use Rattle.rm_types.specs.declared.settings.Settings.{Settings}
-use Rattle.rm_types.specs.Ids.{is_container}
-use Rattle.rm_types.specs.Records.{is_some_and}
-use Rattle.rm_types.proofs.TestLemmas.{same_text}
-use Rattle.rm_book.specs.Books.{BookRowsAreApart as ApartRows, BookOf, is_of}
-use Rattle.rm_model.specs.Containers.{lives_on}
+use Rattle.rm_invariant.proofs.Common.{◌≡◌, ℕ, List, [], ◌∷◌, Bool, true, false, ◌&&◌, Option, None, Some, find, refl, sym, ◌∙◌, ap, subst, list_any, bytes_eq, and_from, BookRow, AttemptId, ContainerId, Settings, is_container, is_some_and, same_text, BookOf, is_of, lives_on, Row, NodeRow, Tables, is_on, PlainNode, PlainRow, SameNodes, SameRows, bare_row, bare_node, plain_row, plain_node, History}
+use Rattle.rm_book.specs.Books.{BookRowsAreApart as ApartRows}
 use Rattle.rm_model.specs.Nodes.{judged_node as node_told}
-use Rattle.rm_model.specs.State.{NodeState, Row}
-use Rattle.rm_tables.specs.declared.nodes.NodeRow.{NodeRow}
-use Rattle.rm_tables.specs.declared.tables.Tables.{Tables}
-use Rattle.rm_tables.specs.SchedEvents.{is_on}
-use Rattle.rm_refinement.specs.Agreement.{PlainNode, PlainRow, SameNodes, SameRows, bare_row, bare_node, plain_row, plain_node}
+use Rattle.rm_model.specs.State.{NodeState}
 use Rattle.rm_refinement.proofs.Rows.{any_alike, first_alone}
 use Rattle.rm_invariant.specs.Step.{AppsInvariant}
 use Rattle.rm_invariant.specs.apps.Invariant.{RowInvariant}
-use Rattle.rm_refinement.specs.History.{History}
 use Rattle.rm_invariant.specs.apps.View.{view}
 use Rattle.rm_invariant.specs.nodes.Book.{All, LivingRowsAreApart, AreLaunches}
 use Rattle.rm_invariant.specs.events.Here.{LaunchesHere, RowsKnow, are_containers_on}

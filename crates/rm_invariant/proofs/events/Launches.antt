@@ -1,28 +1,13 @@
 -- Where containers leave, what is to be launched of them goes at each node: by the tables, one by one and on the node where the book has it;
 -- by the judge, at all nodes at once.
-use Rattle.std.proofs.Common.{◌≡◌, ℕ, List, [], ◌∷◌, Bool, true, false, not, Option, None, Some, filter, map, refl, sym, ◌∙◌, ap, subst}
-use Rattle.std.specs.Prelude.{option_map, if◌then◌else◌}
-use Rattle.std.specs.Str.{bytes_eq}
-use Rattle.std.proofs.lemmas.Bool.{false≢true, and_parts}
-use Rattle.rm_types.specs.declared.containers.BookRow.{BookRow}
-use Rattle.rm_types.specs.declared.ids.ContainerId.{ContainerId}
-use Rattle.rm_types.specs.Ids.{is_container}
-use Rattle.rm_types.proofs.IdLemmas.{container_back, same_container}
-use Rattle.rm_types.proofs.TestLemmas.{same_text}
-use Rattle.rm_book.specs.Books.{BookOf, book_row, without_rows}
+use Rattle.rm_invariant.proofs.Common.{◌≡◌, ℕ, List, [], ◌∷◌, Bool, true, false, not, Option, None, Some, filter, map, refl, sym, ◌∙◌, ap, subst, if◌then◌else◌, bytes_eq, false≢true, and_parts, BookRow, ContainerId, is_container, same_container, same_text, BookOf, without_rows, without_launches, has_container, Unlaunch, NodeRow, unlaunched_here, unlaunched_on, unlaunched, unlaunched_at, unlaunched_one, changed_row, node_row, with_node, is_on, PlainNode, SameNodes, bare_node, plain_node, found_each, other_row, own_row}
+use Rattle.std.specs.Prelude.{option_map}
+use Rattle.rm_types.proofs.IdLemmas.{container_back}
+use Rattle.rm_book.specs.Books.{book_row}
 use Rattle.rm_book.proofs.Lists.{all_filter}
-use Rattle.rm_model.specs.Containers.{without_launches}
-use Rattle.rm_model.specs.Facts.{has_container}
 use Rattle.rm_model.specs.Nodes.{judged_node as node_told}
 use Rattle.rm_model.specs.State.{NodeState}
-use Rattle.rm_tables.specs.declared.nodes.NodeChange.TheVariants.{Unlaunch}
-use Rattle.rm_tables.specs.declared.nodes.NodeRow.{NodeRow}
-use Rattle.rm_tables.specs.Absorbing.{unlaunched_here, unlaunched_on}
-use Rattle.rm_tables.specs.Leaving.{unlaunched, unlaunched_at, unlaunched_one}
-use Rattle.rm_tables.specs.Nodes.{changed_row, node_row, row_without_launch, with_node}
-use Rattle.rm_tables.specs.SchedEvents.{is_on}
-use Rattle.rm_refinement.specs.Agreement.{PlainNode, SameNodes, bare_node, plain_node}
-use Rattle.rm_refinement.proofs.Found.{found_each, other_row, own_row}
+use Rattle.rm_tables.specs.Nodes.{row_without_launch}
 use Rattle.rm_invariant.specs.events.Here.{LaunchesHere, are_containers_on}
 
 -- LISTS OF LAUNCHES

@@ -1,26 +1,9 @@
 -- Containers leave by an event of the scheduler, as a whole step: all that holds of an open life holds after it.
-use Rattle.std.proofs.Common.{◌≡◌, ◌≢◌, ℕ, List, [], ◌∷◌, Bool, true, false, ◌||◌, Option, None, Some, is_some, drop, map, refl, sym, ◌∙◌, ap, subst}
+use Rattle.rm_invariant.proofs.Common.{◌≡◌, ℕ, List, [], ◌∷◌, Bool, true, false, ◌||◌, Option, None, Some, drop, map, refl, sym, ◌∙◌, ap, subst, Cause, Entry, Ended, Quiet, ContainerId, Settings, is_container, container_itself, after, is_living, leave, has_container, judged_node, tidied, tidied_node, LifeState, Manager, Row, Scene, scene, MainEvent, SchedEvent, Tables, sched_popped, sched_worked, ended_by, left_all, found_each, History, abstract_life, live_state}
+use Rattle.std.proofs.Common.{◌≢◌, is_some}
 use Rattle.std.specs.Prelude.{option_and_then}
-use Rattle.rm_types.specs.declared.containers.Cause.{Cause}
-use Rattle.rm_types.specs.declared.entries.Entry.{Entry}
-use Rattle.rm_types.specs.declared.entries.Entry.TheVariants.{Ended, Quiet}
-use Rattle.rm_types.specs.declared.ids.ContainerId.{ContainerId}
 use Rattle.rm_types.specs.declared.messages.Lane.TheVariants as lanes
-use Rattle.rm_types.specs.declared.settings.Settings.{Settings}
-use Rattle.rm_types.specs.Ids.{is_container}
-use Rattle.rm_types.proofs.IdLemmas.{container_itself}
-use Rattle.rm_model.specs.Changes.{after}
-use Rattle.rm_model.specs.Containers.{is_living, leave}
-use Rattle.rm_model.specs.Facts.{has_container}
-use Rattle.rm_model.specs.Nodes.{judged_node, tidied, tidied_node}
-use Rattle.rm_model.specs.State.{LifeState, Manager, NodeState, Row, Scene, scene}
-use Rattle.rm_tables.specs.declared.events.MainEvent.{MainEvent}
-use Rattle.rm_tables.specs.declared.events.SchedEvent.{SchedEvent}
-use Rattle.rm_tables.specs.declared.tables.Tables.{Tables}
-use Rattle.rm_tables.specs.Actions.{sched_popped, sched_worked}
-use Rattle.rm_tables.specs.Leaving.{ended_by, left_all}
-use Rattle.rm_refinement.proofs.Found.{found_each}
-use Rattle.rm_refinement.specs.History.{History, abstract_life, live_state}
+use Rattle.rm_model.specs.State.{NodeState}
 use Rattle.rm_invariant.specs.nodes.Invariant.{NodesInvariant}
 use Rattle.rm_invariant.specs.nodes.Book.{All, AreLaunches, BookInvariant, BookRowInvariant}
 use Rattle.rm_invariant.proofs.nodes.Holds.{all_map, leave_holds}

@@ -1,12 +1,7 @@
 -- Each event of the main queue but EpochStart, as a whole step that keeps all that holds of an open life.
-use Rattle.std.proofs.Common.{◌≡◌, ◌≢◌, List, ◌∷◌, refl}
-use Rattle.rm_types.specs.declared.settings.Settings.{Settings}
-use Rattle.rm_tables.specs.declared.events.MainEvent.{MainEvent}
+use Rattle.rm_invariant.proofs.Common.{◌≡◌, List, ◌∷◌, refl, Settings, MainEvent, Tables, main_worked, main_step, History}
+use Rattle.std.proofs.Common.{◌≢◌}
 use Rattle.rm_tables.specs.declared.events.MainEvent.TheVariants as mains
-use Rattle.rm_tables.specs.declared.tables.Tables.{Tables}
-use Rattle.rm_tables.specs.Actions.{main_worked}
-use Rattle.rm_tables.specs.MainEvents.{main_step}
-use Rattle.rm_refinement.specs.History.{History}
 use Rattle.rm_invariant.specs.events.MainFacts.{MainFacts}
 use Rattle.rm_invariant.specs.Core.{CoreInvariant, PreservesCore}
 use Rattle.rm_invariant.proofs.events.AppMoves.{accepted_whole, attempt_done_whole, kill_whole, retire_whole, saved_whole, started_whole}

@@ -1,33 +1,16 @@
 -- The events of the main queue that are of attempts and their masters, each as a whole step that keeps all that holds of an open life:
 -- AttemptFinish, AttemptExpired, MasterLost and MasterGranted.
-use Rattle.std.proofs.Common.{◌≡◌, ◌==◌, ◌&&◌, ℕ, List, ◌∷◌, Bool, true, false, Option, None, Some, is_some, refl, sym, ◌∙◌, ap, subst, arith}
-use Rattle.std.proofs.lemmas.Bool.Decides.{nat_tests}
-use Rattle.rm_types.specs.declared.entries.Entry.{Entry}
-use Rattle.rm_types.specs.declared.entries.Entry.TheVariants.{Quiet}
-use Rattle.rm_types.specs.declared.ids.AttemptId.{AttemptId}
-use Rattle.rm_types.specs.declared.ids.ContainerId.{ContainerId}
+use Rattle.rm_invariant.proofs.Common.{◌≡◌, ◌&&◌, ℕ, List, ◌∷◌, Bool, true, false, Option, None, Some, refl, sym, ◌∙◌, ap, subst, arith, nat_tests, Entry, Quiet, AttemptId, ContainerId, How, Settings, expired_text, lost_text, AttemptState, MainEvent, AppRow, Current, Tables, main_popped, main_quiet, main_worked, changed, current_after, expiry_of_row, expiry_of_living, expiry_of_current, finish_of_row, finish_of_living, finish_of_current, finishing_in, grant_of_state, grant_of_row, grant_of_place, grant_of_current, is_master_of, is_living_one, loss_of_state, loss_of_row, loss_of_current, main_step, node_at, with_attempt_requeued, row_of, AttemptAgrees, CurrentAgrees, History, abstract_life}
+use Rattle.std.proofs.Common.{◌==◌, is_some}
 use Rattle.rm_types.specs.declared.messages.Lane.TheVariants as lanes
-use Rattle.rm_types.specs.declared.operations.How.{How}
 use Rattle.rm_types.specs.declared.operations.How.TheVariants as ways
 use Rattle.rm_types.specs.declared.operations.Op.TheVariants as ops
-use Rattle.rm_types.specs.declared.settings.Settings.{Settings}
-use Rattle.rm_model.specs.Issuing.{expired_text, lost_text}
-use Rattle.rm_states.specs.declared.attempt.states.AttemptState.{AttemptState}
 use Rattle.rm_states.specs.declared.attempt.states.AttemptState.TheVariants as attempts
 use Rattle.rm_tables.specs.declared.changes.AttemptChange.TheVariants as of_attempt
 use Rattle.rm_tables.specs.declared.changes.RowChange.TheVariants as of_app
-use Rattle.rm_tables.specs.declared.events.MainEvent.{MainEvent}
 use Rattle.rm_tables.specs.declared.events.MainEvent.TheVariants as mains
 use Rattle.rm_tables.specs.declared.events.SchedEvent.TheVariants as scheds
-use Rattle.rm_tables.specs.declared.rows.AppRow.{AppRow}
-use Rattle.rm_tables.specs.declared.rows.Current.{Current}
-use Rattle.rm_tables.specs.declared.tables.Tables.{Tables}
-use Rattle.rm_tables.specs.Actions.{ends_attempt, main_popped, main_quiet, main_worked}
-use Rattle.rm_tables.specs.Changes.{changed, current_after}
-use Rattle.rm_tables.specs.MainEvents.{expiry_of_row, expiry_of_living, expiry_of_current, finish_of_row, finish_of_living, finish_of_current, finishing_in, grant_of_state, grant_of_row, grant_of_place, grant_of_current, is_master_of, is_living_one, loss_of_state, loss_of_row, loss_of_current, main_step, node_at, with_attempt_requeued}
-use Rattle.rm_tables.specs.Rows.{row_of}
-use Rattle.rm_refinement.specs.Agreement.{AttemptAgrees, CurrentAgrees}
-use Rattle.rm_refinement.specs.History.{History, abstract_life}
+use Rattle.rm_tables.specs.Actions.{ends_attempt}
 use Rattle.rm_invariant.proofs.apps.Found.{row_changed}
 use Rattle.rm_invariant.specs.masters.Preserves.{PreservesContainersTo}
 use Rattle.rm_invariant.proofs.masters.Agreeing.{finishing_agrees}

@@ -1,39 +1,14 @@
 -- What the events of the main queue have alike: nothing enters the book or leaves it, no node changes, and what is posted to the scheduler is
 -- of no node. All that holds of an open life is kept by a step that only changes a row, what is asked for or the applications.
-use Rattle.std.proofs.Common.{◌≡◌, ◌<◌, ℕ, List, [], ◌∷◌, ◌++◌, Bool, true, false, Some, drop, filter, refl, sym, ◌∙◌, ap, subst, append-nil}
-use Rattle.std.proofs.lemmas.Bool.{false≢true}
-use Rattle.std.proofs.lemmas.List.Elements.{filter-append}
-use Rattle.rm_types.specs.declared.containers.AskOf.{AskOf}
-use Rattle.rm_types.specs.declared.entries.Entry.{Entry}
-use Rattle.rm_types.specs.declared.entries.Entry.TheVariants.{Issued, Quiet}
-use Rattle.rm_types.specs.declared.ids.AppId.{AppId}
-use Rattle.rm_types.specs.declared.ids.AttemptId.{AttemptId}
+use Rattle.rm_invariant.proofs.Common.{◌≡◌, ◌<◌, ℕ, List, [], ◌∷◌, ◌++◌, Bool, true, false, Some, drop, filter, refl, sym, ◌∙◌, ap, subst, false≢true, filter-append, AskOf, Entry, Issued, Quiet, AppId, AttemptId, How, Op, Settings, is_attempt, Records, same_attempt, AsksOf, attempt_asks, without_asks_of, after, asks_without, ids_on, judged_node, LifeState, scene, RowChange, SchedEvent, AppRow, Current, Tables, app_changed, app_ends, ends_app, main_popped, main_quiet, main_worked, next_in, schedules, changed, row_of, with_row, SameAsks, History, abstract_life, live_state}
+use Rattle.std.proofs.Common.{append-nil}
 use Rattle.rm_types.specs.declared.messages.Lane.TheVariants as lanes
-use Rattle.rm_types.specs.declared.operations.How.{How}
-use Rattle.rm_types.specs.declared.operations.Op.{Op}
 use Rattle.rm_types.specs.declared.operations.Op.TheVariants as ops
-use Rattle.rm_types.specs.declared.settings.Settings.{Settings}
-use Rattle.rm_types.specs.Ids.{is_attempt}
-use Rattle.rm_types.specs.Records.{Records}
-use Rattle.rm_types.proofs.IdLemmas.{same_attempt}
-use Rattle.rm_book.specs.AskTables.{AsksOf, attempt_asks, without_asks_of}
-use Rattle.rm_model.specs.Changes.{after, asks_without, life_issues}
-use Rattle.rm_model.specs.Containers.{ids_on}
-use Rattle.rm_model.specs.Nodes.{judged_node}
+use Rattle.rm_model.specs.Changes.{life_issues}
 use Rattle.rm_model.specs.Passing.{asks_of as asks_told}
-use Rattle.rm_model.specs.State.{Applications, LifeState, scene}
-use Rattle.rm_tables.specs.declared.changes.RowChange.{RowChange}
+use Rattle.rm_model.specs.State.{Applications}
 use Rattle.rm_tables.specs.declared.changes.RowChange.TheVariants as of_app
-use Rattle.rm_tables.specs.declared.events.SchedEvent.{SchedEvent}
 use Rattle.rm_tables.specs.declared.events.SchedEvent.TheVariants as scheds
-use Rattle.rm_tables.specs.declared.rows.AppRow.{AppRow}
-use Rattle.rm_tables.specs.declared.rows.Current.{Current}
-use Rattle.rm_tables.specs.declared.tables.Tables.{Tables}
-use Rattle.rm_tables.specs.Actions.{app_changed, app_ends, ends_app, main_popped, main_quiet, main_worked, next_in, schedules}
-use Rattle.rm_tables.specs.Changes.{changed}
-use Rattle.rm_tables.specs.Rows.{row_of, with_row}
-use Rattle.rm_refinement.specs.Agreement.{SameAsks}
-use Rattle.rm_refinement.specs.History.{History, abstract_life, live_state}
 use Rattle.rm_invariant.proofs.apps.Found.{row_changed}
 use Rattle.rm_invariant.specs.nodes.Invariant.{NodeInvariant, events_of, is_nodes_event}
 use Rattle.rm_invariant.specs.masters.Preserves.{PreservesContainersTo}

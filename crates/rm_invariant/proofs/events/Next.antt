@@ -1,28 +1,6 @@
 -- What a pass of the tables grants to an attempt is numbered on from what was granted to it before.
-use Rattle.std.proofs.Common.{◌≡◌, ℕ, zero, suc, ◌+◌, List, [], ◌∷◌, ◌++◌, Bool, true, false, ◌&&◌, not, Option, None, Some, count_by, cond, filter, fold, map, refl, sym, ◌∙◌, ap, subst, append_assoc, append-nil, arith}
-use Rattle.std.specs.Prelude.{if◌then◌else◌, slice_get}
-use Rattle.std.specs.List.{range_with_len}
-use Rattle.rm_types.specs.declared.containers.Ask.{Ask}
-use Rattle.rm_types.specs.declared.containers.Grant.{Grant}
-use Rattle.rm_types.specs.declared.containers.Turn.{Turn}
-use Rattle.rm_types.specs.declared.ids.AppId.{AppId}
-use Rattle.rm_types.specs.declared.ids.AttemptId.{AttemptId}
-use Rattle.rm_types.specs.declared.ids.ContainerId.{ContainerId}
-use Rattle.rm_types.specs.declared.records.AppRecord.{AppRecord}
-use Rattle.rm_types.specs.declared.resources.Resource.{Resource}
-use Rattle.rm_types.specs.Ids.{is_attempt}
-use Rattle.rm_types.specs.Passes.{PassNode, by_priority, fitting, turn_grant, left_of, seq_after, with_granted, with_turn}
-use Rattle.rm_types.proofs.IdLemmas.{attempt_itself}
-use Rattle.rm_book.specs.AskTables.{AsksOf, attempt_asks}
-use Rattle.rm_book.specs.Books.{capability_of, sizes_on}
-use Rattle.rm_model.specs.Attempts.{attempt_at}
-use Rattle.rm_model.specs.State.{LifeState}
-use Rattle.rm_tables.specs.declared.nodes.NodeRow.{NodeRow}
-use Rattle.rm_tables.specs.declared.rows.AppRow.{AppRow}
-use Rattle.rm_tables.specs.declared.tables.Tables.{Tables}
-use Rattle.rm_tables.specs.Nodes.{is_ready_row}
-use Rattle.rm_tables.specs.Passing.{asks_some, fitted_on, grants_on, still_waits, turn_in}
-use Rattle.rm_refinement.specs.Agreement.{grants_of}
+use Rattle.rm_invariant.proofs.Common.{◌≡◌, ℕ, zero, suc, ◌+◌, List, [], ◌∷◌, ◌++◌, Bool, true, false, ◌&&◌, not, Option, None, Some, filter, fold, map, refl, sym, ◌∙◌, ap, subst, arith, if◌then◌else◌, slice_get, range_with_len, Ask, Grant, Turn, AppId, AttemptId, ContainerId, AppRecord, Resource, is_attempt, PassNode, by_priority, fitting, turn_grant, left_of, seq_after, with_granted, with_turn, attempt_itself, AsksOf, attempt_asks, capability_of, sizes_on, attempt_at, LifeState, NodeRow, AppRow, Tables, is_ready_row, asks_some, fitted_on, grants_on, still_waits, turn_in, grants_of}
+use Rattle.std.proofs.Common.{count_by, cond, append_assoc, append-nil}
 use Rattle.rm_invariant.specs.apps.View.{one_if}
 use Rattle.rm_invariant.proofs.apps.Counts.{at_end, at_front, count_append}
 use Rattle.rm_invariant.specs.events.Refines.{Refines}

@@ -1,22 +1,8 @@
 -- What a pass grants, grant by grant: each is for an ask of its turn, stands on the node of the pass and has the epoch of the life.
-use Rattle.std.proofs.Common.{◌≡◌, ℕ, zero, suc, ◌+◌, List, [], ◌∷◌, Bool, true, false, ◌&&◌, not, Option, None, Some, fold, map, refl}
-use Rattle.std.specs.Prelude.{if◌then◌else◌}
-use Rattle.std.specs.List.{range_with_len}
-use Rattle.rm_types.specs.declared.containers.Ask.{Ask}
-use Rattle.rm_types.specs.declared.containers.Grant.{Grant}
-use Rattle.rm_types.specs.declared.containers.Turn.{Turn}
-use Rattle.rm_types.specs.declared.ids.AttemptId.{AttemptId}
-use Rattle.rm_types.specs.declared.resources.Resource.{Resource}
-use Rattle.rm_types.specs.Passes.{PassNode, by_priority, fitting, turn_grant, left_of, seq_after, with_granted, with_turn}
-use Rattle.rm_book.specs.AskTables.{attempt_asks}
-use Rattle.rm_book.specs.Books.{capability_of, sizes_on}
+use Rattle.rm_invariant.proofs.Common.{◌≡◌, ℕ, zero, suc, ◌+◌, List, [], ◌∷◌, Bool, true, false, ◌&&◌, not, Option, None, Some, fold, map, refl, if◌then◌else◌, range_with_len, Ask, Grant, Turn, AttemptId, Resource, PassNode, by_priority, fitting, turn_grant, left_of, seq_after, with_granted, with_turn, attempt_asks, capability_of, sizes_on, NodeRow, Tables, is_ready_row, fitted_on, grants_on, still_waits, turns_in}
 use Rattle.rm_invariant.specs.nodes.Book.{All}
 use Rattle.rm_invariant.proofs.nodes.Entries.{AllOn}
 use Rattle.rm_invariant.proofs.nodes.Holds.{all_append}
-use Rattle.rm_tables.specs.declared.nodes.NodeRow.{NodeRow}
-use Rattle.rm_tables.specs.declared.tables.Tables.{Tables}
-use Rattle.rm_tables.specs.Nodes.{is_ready_row}
-use Rattle.rm_tables.specs.Passing.{fitted_on, grants_on, still_waits, turns_in}
 
 module _ (P : Grant → Type 0) (pass : PassNode) where
   -- what holds of each grant for these asks of a turn

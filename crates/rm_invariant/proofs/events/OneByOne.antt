@@ -1,24 +1,9 @@
 -- The grants of a pass, one by one: what holds of every attempt and of every container holds after all of them.
-use Rattle.std.proofs.Common.{◌≡◌, ◌≤◌, List, [], ◌∷◌, ◌++◌, Bool, true, false, Option, count_by, cond, fold, map, refl, sym, ◌∙◌, ap, subst, append_assoc, append-nil, arith}
-use Rattle.std.specs.List.{list_any}
-use Rattle.std.proofs.lemmas.Bool.{false≢true}
-use Rattle.rm_types.specs.declared.containers.AskOf.{AskOf}
-use Rattle.rm_types.specs.declared.containers.Grant.{Grant}
-use Rattle.rm_types.specs.declared.ids.AppId.{AppId}
-use Rattle.rm_types.specs.declared.ids.ContainerId.{ContainerId}
-use Rattle.rm_types.specs.declared.settings.Settings.{Settings}
-use Rattle.rm_types.specs.Ids.{is_app}
-use Rattle.rm_types.proofs.IdLemmas.{app_itself}
+use Rattle.rm_invariant.proofs.Common.{◌≡◌, ◌≤◌, List, [], ◌∷◌, ◌++◌, Bool, true, false, Option, fold, map, refl, sym, ◌∙◌, ap, subst, arith, list_any, false≢true, AskOf, Grant, AppId, ContainerId, Settings, is_app, app_itself, Row, MainEvent, AppRow, Tables, masters_granted, rows_after_grant, waits_for_master, row_of, History, abstract_life}
+use Rattle.std.proofs.Common.{count_by, cond, append_assoc, append-nil}
 use Rattle.rm_model.specs.Passing.{row_granted as row_told, without_granted as without_told}
-use Rattle.rm_model.specs.State.{Row}
-use Rattle.rm_tables.specs.declared.events.MainEvent.{MainEvent}
 use Rattle.rm_tables.specs.declared.events.MainEvent.TheVariants as mains
-use Rattle.rm_tables.specs.declared.rows.AppRow.{AppRow}
-use Rattle.rm_tables.specs.declared.tables.Tables.{Tables}
-use Rattle.rm_tables.specs.Passing.{masters_granted, rows_after_grant, waits_for_master}
-use Rattle.rm_tables.specs.Rows.{row_of}
 use Rattle.rm_invariant.specs.apps.Invariant.{AttemptsInvariant}
-use Rattle.rm_refinement.specs.History.{History, abstract_life}
 use Rattle.rm_invariant.specs.apps.View.{one_if}
 use Rattle.rm_invariant.proofs.apps.Counts.{at_front, none_under}
 use Rattle.rm_invariant.specs.nodes.Book.{All, BookInvariant, IsAbsorbed}

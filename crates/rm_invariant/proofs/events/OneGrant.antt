@@ -1,37 +1,14 @@
 -- One grant of a pass, to an attempt that is ready for it: what holds of every attempt and of every container holds after it, and the other
 -- attempts stay ready.
-use Rattle.std.proofs.Common.{◌≡◌, ◌≤◌, ◌⊎◌, inl, inr, ℕ, ◌+◌, ◌-◌, ◌==◌, ◌||◌, nat_lt, List, [], ◌∷◌, ◌++◌, Bool, true, false, Option, None, Some, count_by, cond, filter, find, map, refl, sym, ◌∙◌, ap, subst, append-nil, arith}
-use Rattle.std.specs.Prelude.{if◌then◌else◌}
-use Rattle.std.specs.List.{list_any}
-use Rattle.std.proofs.lemmas.Bool.{false≢true}
-use Rattle.std.proofs.lemmas.Bool.Decides.{nat_tests}
-use Rattle.rm_types.specs.declared.containers.Ask.{Ask}
-use Rattle.rm_types.specs.declared.containers.AskOf.{AskOf}
-use Rattle.rm_types.specs.declared.containers.Grant.{Grant}
-use Rattle.rm_types.specs.declared.ids.AppId.{AppId}
-use Rattle.rm_types.specs.declared.ids.AttemptId.{AttemptId}
-use Rattle.rm_types.specs.declared.ids.ContainerId.{ContainerId}
-use Rattle.rm_types.specs.declared.resources.Resource.{Resource}
-use Rattle.rm_types.specs.declared.settings.Settings.{Settings}
-use Rattle.rm_types.specs.Ids.{is_app, is_attempt}
-use Rattle.rm_types.specs.Passes.{by_priority}
-use Rattle.rm_types.proofs.IdLemmas.{same_attempt, same_app}
+use Rattle.rm_invariant.proofs.Common.{◌≡◌, ◌≤◌, ◌⊎◌, inl, inr, ℕ, ◌+◌, ◌-◌, ◌||◌, List, [], ◌∷◌, ◌++◌, Bool, true, false, Option, None, Some, filter, find, map, refl, sym, ◌∙◌, ap, subst, arith, if◌then◌else◌, list_any, false≢true, nat_tests, Ask, AskOf, Grant, AppId, AttemptId, ContainerId, Resource, Settings, is_app, is_attempt, by_priority, same_attempt, same_app, AttemptState, is_size, MainEvent, AppRow, Current, Tables, granted, granted_at, masters_granted, rows_after_grant, waits_for_master, row_of, grants_of, History, abstract_life}
+use Rattle.std.proofs.Common.{◌==◌, nat_lt, count_by, cond, append-nil}
 use Rattle.rm_book.proofs.Lists.{any_filter}
-use Rattle.rm_states.specs.declared.attempt.states.AttemptState.{AttemptState}
 use Rattle.rm_states.specs.declared.attempt.states.AttemptState.TheVariants as attempts
-use Rattle.rm_model.specs.Containers.{is_same_ask, is_size}
+use Rattle.rm_model.specs.Containers.{is_same_ask}
 use Rattle.rm_model.specs.Passing.{answered_ask, ask_lessened, asks_lessened, asks_of as asks_told, row_granted as row_told, without_granted as without_told}
-use Rattle.rm_tables.specs.declared.events.MainEvent.{MainEvent}
 use Rattle.rm_tables.specs.declared.events.MainEvent.TheVariants as mains
-use Rattle.rm_tables.specs.declared.rows.AppRow.{AppRow}
-use Rattle.rm_tables.specs.declared.rows.Current.{Current}
-use Rattle.rm_tables.specs.declared.tables.Tables.{Tables}
-use Rattle.rm_tables.specs.Changes.{granted, granted_at}
-use Rattle.rm_tables.specs.Passing.{masters_granted, rows_after_grant, waits_at, waits_for_master, waits_with}
-use Rattle.rm_tables.specs.Rows.{row_of}
-use Rattle.rm_refinement.specs.Agreement.{grants_of}
+use Rattle.rm_tables.specs.Passing.{waits_at, waits_with}
 use Rattle.rm_invariant.specs.apps.Invariant.{AttemptsInvariant, RowInvariant}
-use Rattle.rm_refinement.specs.History.{History, abstract_life}
 use Rattle.rm_invariant.specs.apps.View.{changed_if, is_ask, one_if, view}
 use Rattle.rm_invariant.proofs.apps.Counts.{fails_never, none_under}
 use Rattle.rm_invariant.proofs.apps.Found.{row_changed}

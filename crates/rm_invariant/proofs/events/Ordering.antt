@@ -1,34 +1,13 @@
 -- AttemptSaved, as a whole step that keeps all that holds of an open life: the attempt is ended, or the launch of its master is ordered at the
 -- node where that stands.
-use Rattle.std.proofs.Common.{◌≡◌, ℕ, List, [], ◌∷◌, ◌++◌, Bool, true, false, Option, None, Some, is_some, refl, sym, ◌∙◌, ap, subst}
-use Rattle.std.specs.Prelude.{if◌then◌else◌, option_and_then, option_map}
-use Rattle.std.specs.Str.{bytes_eq}
-use Rattle.rm_types.specs.declared.entries.Entry.{Entry}
-use Rattle.rm_types.specs.declared.entries.Entry.TheVariants.{Ordered}
-use Rattle.rm_types.specs.declared.ids.AttemptId.{AttemptId}
-use Rattle.rm_types.specs.declared.ids.ContainerId.{ContainerId}
+use Rattle.rm_invariant.proofs.Common.{◌≡◌, ℕ, List, [], ◌∷◌, ◌++◌, Bool, true, false, Option, None, Some, refl, sym, ◌∙◌, ap, subst, if◌then◌else◌, bytes_eq, Entry, Ordered, AttemptId, ContainerId, Settings, same_text, ids_on, lives_on, killed_text, lost_text, judged_node, with_judged_node, LifeState, Row, MainEvent, SchedEvent, AppRow, Current, Tables, main_popped, main_quiet, main_worked, launch_of_master, launch_of_row, launch_of_tests, launch_of_place, launch_of_living, launch_of_current, is_living_one, main_step, node_at, with_order, ordered_row, row_of, PlainNode, with_same, History, abstract_life}
+use Rattle.std.proofs.Common.{is_some}
+use Rattle.std.specs.Prelude.{option_and_then, option_map}
 use Rattle.rm_types.specs.declared.operations.How.TheVariants as ways
-use Rattle.rm_types.specs.declared.settings.Settings.{Settings}
-use Rattle.rm_types.proofs.TestLemmas.{same_text}
 use Rattle.rm_model.specs.Changes.{orders}
-use Rattle.rm_model.specs.Containers.{ids_on, lives_on}
-use Rattle.rm_model.specs.Issuing.{killed_text, lost_text}
-use Rattle.rm_model.specs.Nodes.{judged_node, with_judged_node}
-use Rattle.rm_model.specs.State.{LifeState, NodeState, Row}
-use Rattle.rm_tables.specs.declared.events.MainEvent.{MainEvent}
+use Rattle.rm_model.specs.State.{NodeState}
 use Rattle.rm_tables.specs.declared.events.MainEvent.TheVariants as mains
-use Rattle.rm_tables.specs.declared.events.SchedEvent.{SchedEvent}
-use Rattle.rm_tables.specs.declared.rows.AppRow.{AppRow}
-use Rattle.rm_tables.specs.declared.rows.Current.{Current}
-use Rattle.rm_tables.specs.declared.tables.Tables.{Tables}
-use Rattle.rm_tables.specs.Actions.{main_popped, main_quiet, main_worked}
-use Rattle.rm_tables.specs.MainEvents.{launch_of_master, launch_of_row, launch_of_tests, launch_of_place, launch_of_living, launch_of_current, is_living_one, main_step, node_at, with_order}
-use Rattle.rm_tables.specs.Nodes.{ordered_row}
-use Rattle.rm_tables.specs.Rows.{row_of}
-use Rattle.rm_refinement.specs.Agreement.{PlainNode}
 use Rattle.rm_refinement.proofs.Found.{other_told, own_told}
-use Rattle.rm_refinement.proofs.Nodes.{with_same}
-use Rattle.rm_refinement.specs.History.{History, abstract_life}
 use Rattle.rm_invariant.specs.nodes.Invariant.{NodesInvariant, NodeInvariant, events_of}
 use Rattle.rm_invariant.specs.nodes.Book.{All, AreLaunches, BookInvariant, BookRowInvariant}
 use Rattle.rm_invariant.proofs.nodes.Holds.{all_append, all_map}

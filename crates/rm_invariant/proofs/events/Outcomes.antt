@@ -1,28 +1,11 @@
 -- Each event of the main queue but EpochStart comes to one of the things that may happen.
-use Rattle.std.proofs.Common.{◌≡◌, ◌≢◌, ◌<◌, ◌==◌, ◌&&◌, ℕ, List, [], ◌∷◌, Bool, true, false, nat_lt, Option, None, Some, length, inl, inr, refl, sym, ◌∙◌, ap, arith}
-use Rattle.std.proofs.lemmas.Bool.Decides.{nat_tests}
-use Rattle.std.proofs.lemmas.Bool.{and_parts}
-use Rattle.rm_types.specs.declared.ids.AppId.{AppId}
-use Rattle.rm_types.specs.declared.ids.AttemptId.{AttemptId}
-use Rattle.rm_types.specs.declared.ids.ContainerId.{ContainerId}
-use Rattle.rm_types.specs.declared.operations.How.{How}
+use Rattle.rm_invariant.proofs.Common.{◌≡◌, ◌<◌, ◌&&◌, ℕ, List, [], ◌∷◌, Bool, true, false, Option, None, Some, length, inl, inr, refl, sym, ◌∙◌, ap, arith, nat_tests, and_parts, AppId, AttemptId, ContainerId, How, Submission, reaches_bound, expired_text, killed_text, lost_text, AppState, AttemptState, is_alive, MainEvent, AppRow, Current, Tables, found_in, accept_of_row, accept_of_state, decision_of_end, decision_of_attempt_state, decision_of_row, decision_of_current, end_with, expiry_of_row, expiry_of_living, expiry_of_current, finish_of_row, finish_of_living, finish_of_current, finishing_in, grant_of_state, grant_of_row, grant_of_place, grant_of_current, is_master_of, kill_of_attempt_state, kill_of_row, kill_of_state, last_end_in, launch_of_master, launch_of_row, launch_of_tests, launch_of_place, launch_of_living, launch_of_current, is_living_one, loss_of_state, loss_of_row, loss_of_current, main_step, node_at, removal_of_first, save_of_row, save_of_state, start_of_submission, row_of}
+use Rattle.std.proofs.Common.{◌≢◌, ◌==◌, nat_lt}
 use Rattle.rm_types.specs.declared.operations.How.TheVariants as ways
-use Rattle.rm_types.specs.declared.operations.Submission.{Submission}
-use Rattle.rm_model.specs.Facts.{reaches_bound}
-use Rattle.rm_model.specs.Issuing.{expired_text, killed_text, lost_text}
-use Rattle.rm_states.specs.declared.app.states.AppState.{AppState}
 use Rattle.rm_states.specs.declared.app.states.AppState.TheVariants as apps
-use Rattle.rm_states.specs.declared.attempt.states.AttemptState.{AttemptState}
 use Rattle.rm_states.specs.declared.attempt.states.AttemptState.TheVariants as attempts
-use Rattle.rm_states.specs.attempt.Table.{is_alive}
-use Rattle.rm_tables.specs.declared.events.MainEvent.{MainEvent}
 use Rattle.rm_tables.specs.declared.events.MainEvent.TheVariants as mains
-use Rattle.rm_tables.specs.declared.rows.AppRow.{AppRow}
-use Rattle.rm_tables.specs.declared.rows.Current.{Current}
-use Rattle.rm_tables.specs.declared.tables.Tables.{Tables}
-use Rattle.rm_tables.specs.Actions.{found_in}
-use Rattle.rm_tables.specs.MainEvents.{accept_of_row, accept_of_state, decision_of_end, decision_of_attempt_state, decision_of_row, decision_of_current, end_with, expiry_of_row, expiry_of_living, expiry_of_current, finish_of_row, finish_of_living, finish_of_current, finishing_in, grant_of_state, grant_of_row, grant_of_place, grant_of_current, is_master_of, kill_of_attempt_state, kill_of_row, kill_of_state, last_end_in, launch_of_master, launch_of_row, launch_of_tests, launch_of_place, launch_of_living, launch_of_current, is_living_one, loss_of_state, loss_of_row, loss_of_current, main_step, node_at, removal_of_first, save_of_row, save_of_state, start_of_submission, start_of_row}
-use Rattle.rm_tables.specs.Rows.{row_of}
+use Rattle.rm_tables.specs.MainEvents.{start_of_row}
 use Rattle.rm_invariant.specs.events.Outcomes.{IsEndOfApp, Outcome, accepts, adds, delays, ends, ends_one, follows, idles, issues, kills, loses, orders, removes, requeues, saves}
 use Rattle.rm_invariant.specs.apps.Invariant.{is_active}
 

@@ -1,14 +1,7 @@
 -- A pass answers the beat of a node: the tables agree with the judge's life again.
-use Rattle.std.proofs.Common.{ℕ, List, ◌++◌, map}
-use Rattle.rm_types.specs.declared.containers.Grant.{Grant}
-use Rattle.rm_book.specs.Books.{with_grants}
-use Rattle.rm_model.specs.Facts.{has_app}
+use Rattle.rm_invariant.proofs.Common.{ℕ, List, ◌++◌, map, Grant, with_grants, has_app, passed, passes, Scene, Tables, passed_with, tidied_same}
 use Rattle.rm_model.specs.Nodes.{with_judged_node as with_told}
-use Rattle.rm_model.specs.Passing.{passed, passes, row_granted as row_told}
-use Rattle.rm_model.specs.State.{Scene}
-use Rattle.rm_tables.specs.declared.tables.Tables.{Tables}
-use Rattle.rm_tables.specs.Passing.{passed_with}
-use Rattle.rm_refinement.proofs.Nodes.{tidied_same}
+use Rattle.rm_model.specs.Passing.{row_granted as row_told}
 use Rattle.rm_invariant.specs.events.Refines.{Refines}
 use Rattle.rm_invariant.specs.events.Asking.{AreNext}
 use Rattle.rm_invariant.proofs.events.Answered.{asks_answered}

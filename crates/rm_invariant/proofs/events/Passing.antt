@@ -1,30 +1,16 @@
 -- The tables grant on a node what the judge grants there.
-use Rattle.std.proofs.Common.{◌≡◌, ℕ, List, [], Bool, ◌&&◌, not, Option, None, Some, filter, map, refl, sym, ◌∙◌, ap}
-use Rattle.std.specs.Prelude.{option_map, if◌then◌else◌}
-use Rattle.std.specs.Str.{bytes_eq}
+use Rattle.rm_invariant.proofs.Common.{◌≡◌, ℕ, List, [], Bool, ◌&&◌, not, Option, None, Some, filter, map, refl, sym, ◌∙◌, ap, if◌then◌else◌, bytes_eq, Ask, BookRow, Grant, AttemptId, Resource, Settings, pass_list, same_text, attempt_asks, sizes_on, Row, Scene, NodeRow, Tables, is_ready_row, node_row, fitted_on, grants_on, still_waits, PlainNode, PlainRow, SameRows, bare_row, bare_node, plain_row, plain_node}
+use Rattle.std.specs.Prelude.{option_map}
 use Rattle.std.proofs.lemmas.Simd.{map-map}
-use Rattle.rm_types.specs.declared.containers.Ask.{Ask}
-use Rattle.rm_types.specs.declared.containers.BookRow.{BookRow}
-use Rattle.rm_types.specs.declared.containers.Grant.{Grant}
-use Rattle.rm_types.specs.declared.ids.AttemptId.{AttemptId}
-use Rattle.rm_types.specs.declared.resources.Resource.{Resource}
-use Rattle.rm_types.specs.declared.settings.Settings.{Settings}
-use Rattle.rm_types.specs.Passes.{pass_list}
-use Rattle.rm_types.proofs.TestLemmas.{found_passes, same_text}
-use Rattle.rm_book.specs.AskTables.{attempt_asks}
-use Rattle.rm_book.specs.Books.{sizes_on}
+use Rattle.rm_types.proofs.TestLemmas.{found_passes}
 use Rattle.rm_book.proofs.Lists.{filter_view}
 use Rattle.rm_model.specs.Containers.{rows_on}
 use Rattle.rm_model.specs.Nodes.{is_ready as ready_told, judged_node as node_told}
 use Rattle.rm_model.specs.Passing.{asks_of as asks_told, first_fit_on, pass_of, turns, waits_for_nodes}
-use Rattle.rm_model.specs.State.{NodeState, Row, Scene}
+use Rattle.rm_model.specs.State.{NodeState}
 use Rattle.rm_states.specs.declared.node.states.NodeState.{NodeState as NodePhase}
 use Rattle.rm_states.specs.declared.node.states.NodeState.TheVariants as states
-use Rattle.rm_tables.specs.declared.nodes.NodeRow.{NodeRow}
-use Rattle.rm_tables.specs.declared.tables.Tables.{Tables}
-use Rattle.rm_tables.specs.Nodes.{is_ready_row, node_row}
-use Rattle.rm_tables.specs.Passing.{fitted_on, grants_on, still_waits}
-use Rattle.rm_refinement.specs.Agreement.{PlainNode, PlainRow, SameRows, bare_row, bare_node, phase_of, plain_row, plain_node}
+use Rattle.rm_refinement.specs.Agreement.{phase_of}
 use Rattle.rm_invariant.specs.events.Refines.{Refines}
 use Rattle.rm_invariant.specs.events.Asking.{AskersCurrent}
 use Rattle.rm_invariant.proofs.events.Turns.{turns_same}

@@ -1,41 +1,14 @@
 -- AppAdded and AttemptAdded, each as a whole step that keeps all that holds of an open life: an application is to be accepted, and an attempt
 -- that is scheduled asks for its master's container.
-use Rattle.std.proofs.Common.{◌≡◌, List, [], ◌∷◌, ◌++◌, Bool, true, false, ◌==◌, Option, None, Some, count_by, drop, filter, map, refl, sym, ◌∙◌, ap, subst, suc, append-nil, arith}
-use Rattle.std.specs.List.{list_any}
-use Rattle.std.proofs.lemmas.Bool.Decides.{nat_tests}
-use Rattle.std.proofs.lemmas.List.{map-append}
-use Rattle.std.proofs.lemmas.List.Elements.{filter-append}
-use Rattle.rm_types.specs.declared.containers.Ask.{Ask}
-use Rattle.rm_types.specs.declared.containers.AskOf.{AskOf}
+use Rattle.rm_invariant.proofs.Common.{◌≡◌, List, [], ◌∷◌, ◌++◌, Bool, true, false, Option, None, Some, drop, filter, map, refl, sym, ◌∙◌, ap, subst, suc, arith, list_any, nat_tests, map-append, filter-append, Ask, AskOf, AppId, AttemptId, ContainerId, AppRecord, Resource, Settings, is_attempt, record_of, same_attempt, app_itself, AsksOf, attempt_asks, asks_set, is_for, if◌then◌else◌, LifeState, AttemptState, SchedEvent, AppRow, Current, Tables, found_in, sched_popped, sched_quiet, sched_worked, row_of, master_asked, queued_at, queued_by, queued_with, sched_step, SameAsks, History, abstract_life}
+use Rattle.std.proofs.Common.{◌==◌, count_by, append-nil}
 use Rattle.rm_types.specs.declared.entries.Entry.TheVariants.{Queued}
-use Rattle.rm_types.specs.declared.ids.AppId.{AppId}
-use Rattle.rm_types.specs.declared.ids.AttemptId.{AttemptId}
-use Rattle.rm_types.specs.declared.ids.ContainerId.{ContainerId}
-use Rattle.rm_types.specs.declared.records.AppRecord.{AppRecord}
-use Rattle.rm_types.specs.declared.resources.Resource.{Resource}
-use Rattle.rm_types.specs.declared.settings.Settings.{Settings}
-use Rattle.rm_types.specs.Ids.{is_attempt}
-use Rattle.rm_types.specs.Records.{record_of}
-use Rattle.rm_types.proofs.IdLemmas.{same_attempt, app_itself}
-use Rattle.rm_book.specs.AskTables.{AsksOf, attempt_asks, asks_set, is_for}
 use Rattle.rm_model.specs.Changes.{master_ask}
-use Rattle.std.specs.Prelude.{if◌then◌else◌}
 use Rattle.rm_model.specs.Passing.{asks_of as asks_told}
-use Rattle.rm_model.specs.State.{LifeState}
-use Rattle.rm_states.specs.declared.attempt.states.AttemptState.{AttemptState}
 use Rattle.rm_states.specs.declared.attempt.states.AttemptState.TheVariants as attempts
-use Rattle.rm_tables.specs.declared.events.SchedEvent.{SchedEvent}
 use Rattle.rm_tables.specs.declared.events.SchedEvent.TheVariants as scheds
 use Rattle.rm_tables.specs.declared.events.MainEvent.TheVariants as mains
-use Rattle.rm_tables.specs.declared.rows.AppRow.{AppRow}
-use Rattle.rm_tables.specs.declared.rows.Current.{Current}
-use Rattle.rm_tables.specs.declared.tables.Tables.{Tables}
-use Rattle.rm_tables.specs.Actions.{found_in, sched_popped, sched_quiet, sched_worked}
-use Rattle.rm_tables.specs.Rows.{row_of}
-use Rattle.rm_tables.specs.SchedEvents.{master_asked, queued_at, queued_by, queued_with, sched_step}
-use Rattle.rm_refinement.specs.Agreement.{SameAsks}
 use Rattle.rm_invariant.specs.apps.Invariant.{RowInvariant}
-use Rattle.rm_refinement.specs.History.{History, abstract_life}
 use Rattle.rm_invariant.specs.apps.View.{View, is_ask, one_if, sched_view, view}
 use Rattle.rm_invariant.proofs.apps.Counts.{at_front}
 use Rattle.rm_invariant.proofs.apps.Effects.{sched_taken}

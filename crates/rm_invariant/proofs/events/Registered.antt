@@ -1,37 +1,17 @@
 -- No node that registered is absent: whatever changes the table of nodes keeps it, and so does each event of the scheduler.
-use Rattle.std.proofs.Common.{◌≡◌, ◌≢◌, ℕ, List, [], ◌∷◌, ◌++◌, Bool, true, false, ◌&&◌, ◌==◌, Option, None, Some, filter, refl, sym, ◌∙◌, subst, arith}
+use Rattle.rm_invariant.proofs.Common.{◌≡◌, ℕ, List, [], ◌∷◌, ◌++◌, Bool, true, false, ◌&&◌, Option, None, Some, filter, refl, sym, ◌∙◌, subst, arith, bytes_eq, BookRow, Cause, ContainerId, same_text, AttemptState, BookOf, once, SchedEvent, NodeChange, Absorb, Lose, Unlaunch, NodeRow, AppRow, Current, Tables, absorbed_by, absorbed_if, unlaunched_here, unlaunched_on, sched_worked, ended_by, unlaunched, unlaunched_at, unlaunched_one, changed_row, is_waiting_row, node_row, with_node, updated_by, row_of, is_on, is_released, queued_at, queued_by, queued_with, sched_step, other_added, other_row, own_row}
+use Rattle.std.proofs.Common.{◌≢◌, ◌==◌}
 use Rattle.std.specs.Prelude.{option_map}
-use Rattle.std.specs.Str.{bytes_eq}
-use Rattle.rm_types.specs.declared.containers.BookRow.{BookRow}
-use Rattle.rm_types.specs.declared.containers.Cause.{Cause}
 use Rattle.rm_types.specs.declared.containers.Cause.TheVariants as causes
-use Rattle.rm_types.specs.declared.ids.ContainerId.{ContainerId}
-use Rattle.rm_types.proofs.TestLemmas.{same_text}
-use Rattle.rm_states.specs.declared.attempt.states.AttemptState.{AttemptState}
 use Rattle.rm_states.specs.declared.attempt.states.AttemptState.TheVariants as attempts
-use Rattle.rm_book.specs.Books.{BookOf, book_row as book_row_of}
-use Rattle.rm_model.specs.Containers.{once}
+use Rattle.rm_book.specs.Books.{book_row as book_row_of}
 use Rattle.rm_states.specs.declared.node.states.NodeState.TheVariants as states
 use Rattle.rm_states.specs.declared.node.states.NodeState.{NodeState}
 use Rattle.rm_states.specs.declared.node.states.NodeEvent.{NodeEvent}
 use Rattle.rm_states.specs.declared.node.states.NodeEvent.TheVariants as events
 use Rattle.rm_states.specs.node.Table.{next_node_state}
-use Rattle.rm_tables.specs.declared.events.SchedEvent.{SchedEvent}
 use Rattle.rm_tables.specs.declared.events.SchedEvent.TheVariants as scheds
-use Rattle.rm_tables.specs.declared.nodes.NodeChange.{NodeChange}
-use Rattle.rm_tables.specs.declared.nodes.NodeChange.TheVariants.{Absorb, Lose, Unlaunch}
-use Rattle.rm_tables.specs.declared.nodes.NodeRow.{NodeRow}
-use Rattle.rm_tables.specs.declared.rows.AppRow.{AppRow}
-use Rattle.rm_tables.specs.declared.rows.Current.{Current}
-use Rattle.rm_tables.specs.declared.tables.Tables.{Tables}
-use Rattle.rm_tables.specs.Absorbing.{absorbed_by, absorbed_if, unlaunched_here, unlaunched_on}
-use Rattle.rm_tables.specs.Actions.{sched_worked}
-use Rattle.rm_tables.specs.Leaving.{ended_by, unlaunched, unlaunched_at, unlaunched_one}
-use Rattle.rm_tables.specs.Nodes.{changed_row, is_waiting_row, node_row, with_node}
-use Rattle.rm_tables.specs.Passing.{updated_by}
-use Rattle.rm_tables.specs.Rows.{row_of}
-use Rattle.rm_tables.specs.SchedEvents.{is_on, is_released, queued_at, queued_by, queued_with, sched_step}
-use Rattle.rm_refinement.proofs.Found.{other_added, other_row, own_added, own_row}
+use Rattle.rm_refinement.proofs.Found.{own_added}
 use Rattle.rm_invariant.specs.events.Here.{NoneAbsent}
 
 -- a change of a row that leaves no node absent

@@ -1,34 +1,12 @@
 -- Each event of the scheduler's queue keeps what its events take besides all that holds of an open life.
-use Rattle.std.proofs.Common.{◌≡◌, ℕ, List, [], ◌∷◌, filter, is_none, Bool, true, false, ◌&&◌, nat_lt, Option, None, Some, drop, refl, sym, ◌∙◌, ap, subst}
+use Rattle.rm_invariant.proofs.Common.{◌≡◌, ℕ, List, [], ◌∷◌, filter, is_none, Bool, true, false, ◌&&◌, Option, None, Some, drop, refl, sym, ◌∙◌, ap, subst, list_any, Cause, Entry, AttemptId, ContainerId, Records, Settings, after, once, LifeState, Manager, AttemptState, SchedEvent, NodeRow, AppRow, Current, Tables, absorbed_by, absorbed_if, sched_worked, ended_by, is_waiting_row, node_row, still_waits, updated_by, row_of, is_on, is_released, queued_at, queued_by, queued_with, sched_step, History, live_state}
+use Rattle.std.proofs.Common.{nat_lt}
 use Rattle.std.specs.Prelude.{◌==◌, option_map}
-use Rattle.std.specs.List.{list_any}
-use Rattle.rm_types.specs.declared.containers.Cause.{Cause}
 use Rattle.rm_types.specs.declared.containers.Cause.TheVariants as causes
-use Rattle.rm_types.specs.declared.entries.Entry.{Entry}
-use Rattle.rm_types.specs.declared.ids.AttemptId.{AttemptId}
-use Rattle.rm_types.specs.declared.ids.ContainerId.{ContainerId}
-use Rattle.rm_types.specs.Records.{Records}
-use Rattle.rm_types.specs.declared.settings.Settings.{Settings}
 use Rattle.rm_book.specs.Books.{book_row as book_row_of}
-use Rattle.rm_model.specs.Changes.{after}
-use Rattle.rm_model.specs.Containers.{once}
-use Rattle.rm_model.specs.State.{LifeState, Manager, Release}
-use Rattle.rm_states.specs.declared.attempt.states.AttemptState.{AttemptState}
+use Rattle.rm_model.specs.State.{Release}
 use Rattle.rm_states.specs.declared.attempt.states.AttemptState.TheVariants as attempts
-use Rattle.rm_tables.specs.declared.events.SchedEvent.{SchedEvent}
 use Rattle.rm_tables.specs.declared.events.SchedEvent.TheVariants as scheds
-use Rattle.rm_tables.specs.declared.nodes.NodeRow.{NodeRow}
-use Rattle.rm_tables.specs.declared.rows.AppRow.{AppRow}
-use Rattle.rm_tables.specs.declared.rows.Current.{Current}
-use Rattle.rm_tables.specs.declared.tables.Tables.{Tables}
-use Rattle.rm_tables.specs.Absorbing.{absorbed_by, absorbed_if}
-use Rattle.rm_tables.specs.Actions.{sched_worked}
-use Rattle.rm_tables.specs.Leaving.{ended_by}
-use Rattle.rm_tables.specs.Nodes.{is_waiting_row, node_row}
-use Rattle.rm_tables.specs.Passing.{still_waits, updated_by}
-use Rattle.rm_tables.specs.Rows.{row_of}
-use Rattle.rm_tables.specs.SchedEvents.{is_on, is_released, queued_at, queued_by, queued_with, sched_step}
-use Rattle.rm_refinement.specs.History.{History, live_state}
 use Rattle.rm_invariant.specs.events.Here.{AreServed}
 use Rattle.rm_invariant.specs.events.SchedFacts.{SchedFacts}
 use Rattle.rm_invariant.specs.Core.{PreservesCore}

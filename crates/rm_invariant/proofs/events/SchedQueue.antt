@@ -1,14 +1,7 @@
 -- Each event of the scheduler's queue, as a whole step that keeps all that holds of an open life.
-use Rattle.std.proofs.Common.{◌≡◌, List, ◌∷◌, sym, subst}
-use Rattle.rm_types.specs.declared.entries.Entry.{Entry}
-use Rattle.rm_types.specs.declared.ids.ContainerId.{ContainerId}
-use Rattle.rm_types.specs.declared.settings.Settings.{Settings}
-use Rattle.rm_tables.specs.declared.events.SchedEvent.{SchedEvent}
+use Rattle.rm_invariant.proofs.Common.{◌≡◌, List, ◌∷◌, sym, subst, Entry, ContainerId, Settings, SchedEvent, Tables, sched_worked, EndsByEvent, sched_step, History}
 use Rattle.rm_tables.specs.declared.events.SchedEvent.TheVariants as scheds
-use Rattle.rm_tables.specs.declared.tables.Tables.{Tables}
-use Rattle.rm_tables.specs.Actions.{sched_worked}
-use Rattle.rm_tables.specs.SchedEvents.{EndsByEvent, SchedDoes, sched_step}
-use Rattle.rm_refinement.specs.History.{History}
+use Rattle.rm_tables.specs.SchedEvents.{SchedDoes}
 use Rattle.rm_invariant.specs.events.SchedFacts.{SchedFacts}
 use Rattle.rm_invariant.specs.Core.{CoreInvariant, PreservesCore}
 use Rattle.rm_invariant.proofs.events.Absorption.{added_whole}

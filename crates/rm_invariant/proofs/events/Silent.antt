@@ -1,28 +1,13 @@
 -- An attempt that isn't issued has no dialogue with a master: whatever happens to an application keeps it, and so does each event of the main
 -- queue.
-use Rattle.std.proofs.Common.{◌≡◌, List, Bool, true, false, Option, None, Some, refl, sym, ◌∙◌, ap, subst, arith}
-use Rattle.rm_types.specs.declared.entries.Entry.{Entry}
-use Rattle.rm_types.specs.declared.ids.AppId.{AppId}
-use Rattle.rm_types.specs.declared.ids.ContainerId.{ContainerId}
-use Rattle.rm_types.specs.declared.operations.How.{How}
-use Rattle.rm_types.specs.Ids.{is_app}
-use Rattle.rm_types.proofs.IdLemmas.{same_app}
-use Rattle.rm_states.specs.declared.attempt.states.AttemptState.{AttemptState}
+use Rattle.rm_invariant.proofs.Common.{◌≡◌, List, Bool, true, false, Option, None, Some, refl, sym, ◌∙◌, ap, subst, arith, Entry, AppId, ContainerId, How, is_app, same_app, AttemptState, AttemptChange, RowChange, AppRow, Current, Dialogue, Tables, main_worked, next_in, attempt_after, changed, current_after, granted_at, row_of, with_row}
 use Rattle.rm_states.specs.declared.attempt.states.AttemptState.TheVariants as attempts
 use Rattle.rm_states.specs.declared.attempt.states.AttemptEvent.{AttemptEvent}
 use Rattle.rm_states.specs.declared.attempt.states.AttemptEvent.TheVariants as attempt_events
 use Rattle.rm_states.specs.attempt.Table.{next_attempt_state as next_attempt_state}
-use Rattle.rm_tables.specs.declared.changes.AttemptChange.{AttemptChange}
 use Rattle.rm_tables.specs.declared.changes.AttemptChange.TheVariants as of_attempt
-use Rattle.rm_tables.specs.declared.changes.RowChange.{RowChange}
 use Rattle.rm_tables.specs.declared.changes.RowChange.TheVariants as of_app
-use Rattle.rm_tables.specs.declared.rows.AppRow.{AppRow}
-use Rattle.rm_tables.specs.declared.rows.Current.{Current}
-use Rattle.rm_tables.specs.declared.rows.Dialogue.{Dialogue}
-use Rattle.rm_tables.specs.declared.tables.Tables.{Tables}
-use Rattle.rm_tables.specs.Actions.{main_worked, next_in}
-use Rattle.rm_tables.specs.Changes.{attempt_after, changed, current_after, dialogue_after, granted_at}
-use Rattle.rm_tables.specs.Rows.{row_of, with_row}
+use Rattle.rm_tables.specs.Changes.{dialogue_after}
 use Rattle.rm_invariant.specs.apps.View.{changed_if}
 use Rattle.rm_invariant.proofs.apps.Found.{row_changed}
 use Rattle.rm_invariant.specs.events.Outcomes.{IsCurrentOf, Outcome, accepts, adds, delays, ends, ends_one, follows, idles, issues, kills, loses, orders, removes, requeues, saves}

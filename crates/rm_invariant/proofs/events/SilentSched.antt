@@ -1,33 +1,12 @@
 -- An attempt that isn't issued has no dialogue with a master: each event of the scheduler's queue keeps it.
-use Rattle.std.proofs.Common.{◌≡◌, ◌==◌, ◌&&◌, ℕ, List, [], ◌∷◌, Bool, true, false, Option, None, Some, filter, fold, sym, refl, ◌∙◌, subst}
-use Rattle.rm_types.specs.declared.containers.Cause.{Cause}
+use Rattle.rm_invariant.proofs.Common.{◌≡◌, ◌&&◌, ℕ, List, [], ◌∷◌, Bool, true, false, Option, None, Some, filter, fold, sym, refl, ◌∙◌, subst, Cause, Closing, Grant, Entry, AppId, AttemptId, ContainerId, is_app, once, AttemptState, SchedEvent, NodeRow, AppRow, Current, Tables, absorbed_by, absorbed_if, sched_worked, closed, closed_in, closed_one, closings_of, ended_by, is_waiting_row, node_row, grants_on, rows_after_grant, updated_by, row_of, is_on, is_released, queued_at, queued_by, queued_with, sched_step}
+use Rattle.std.proofs.Common.{◌==◌}
 use Rattle.rm_types.specs.declared.containers.Cause.TheVariants as causes
-use Rattle.rm_types.specs.declared.containers.Closing.{Closing}
-use Rattle.rm_types.specs.declared.containers.Grant.{Grant}
-use Rattle.rm_types.specs.declared.entries.Entry.{Entry}
-use Rattle.rm_types.specs.declared.ids.AppId.{AppId}
-use Rattle.rm_types.specs.declared.ids.AttemptId.{AttemptId}
-use Rattle.rm_types.specs.declared.ids.ContainerId.{ContainerId}
-use Rattle.rm_types.specs.Ids.{is_app}
 use Rattle.rm_book.specs.Books.{book_row as book_row_of}
-use Rattle.rm_model.specs.Containers.{once}
-use Rattle.rm_states.specs.declared.attempt.states.AttemptState.{AttemptState}
 use Rattle.rm_states.specs.declared.attempt.states.AttemptState.TheVariants as attempts
 use Rattle.rm_tables.specs.declared.changes.AttemptChange.TheVariants as of_attempt
 use Rattle.rm_tables.specs.declared.changes.RowChange.TheVariants as of_app
-use Rattle.rm_tables.specs.declared.events.SchedEvent.{SchedEvent}
 use Rattle.rm_tables.specs.declared.events.SchedEvent.TheVariants as scheds
-use Rattle.rm_tables.specs.declared.nodes.NodeRow.{NodeRow}
-use Rattle.rm_tables.specs.declared.rows.AppRow.{AppRow}
-use Rattle.rm_tables.specs.declared.rows.Current.{Current}
-use Rattle.rm_tables.specs.declared.tables.Tables.{Tables}
-use Rattle.rm_tables.specs.Absorbing.{absorbed_by, absorbed_if}
-use Rattle.rm_tables.specs.Actions.{sched_worked}
-use Rattle.rm_tables.specs.Leaving.{closed, closed_in, closed_one, closings_of, ended_by}
-use Rattle.rm_tables.specs.Nodes.{is_waiting_row, node_row}
-use Rattle.rm_tables.specs.Passing.{grants_on, rows_after_grant, updated_by}
-use Rattle.rm_tables.specs.Rows.{row_of}
-use Rattle.rm_tables.specs.SchedEvents.{is_on, is_released, queued_at, queued_by, queued_with, sched_step}
 use Rattle.rm_invariant.specs.apps.View.{changed_if}
 use Rattle.rm_invariant.proofs.apps.Found.{row_changed}
 use Rattle.rm_invariant.specs.events.MainFacts.{AreSilent, IsSilent, UnissuedSilent}

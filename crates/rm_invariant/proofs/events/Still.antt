@@ -1,18 +1,9 @@
 -- What no event of the main queue touches: the records, the settings, and but for Retire what is completed and what else waits in the queue.
 -- So the completed applications are still told in order.
-use Rattle.std.proofs.Common.{◌⊎◌, inl, inr, ◌≡◌, ◌≤◌, ◌<◌, List, [], ◌∷◌, ◌++◌, Bool, true, false, nat_lt, count_by, drop, length, refl, sym, subst, arith}
-use Rattle.std.specs.Prelude.{if◌then◌else◌}
-use Rattle.std.proofs.lemmas.Bool.Decides.{nat_tests}
-use Rattle.rm_types.specs.declared.entries.Entry.{Entry}
-use Rattle.rm_types.specs.declared.entries.Entry.TheVariants.{Issued}
-use Rattle.rm_types.specs.declared.ids.AppId.{AppId}
+use Rattle.rm_invariant.proofs.Common.{◌⊎◌, inl, inr, ◌≡◌, ◌≤◌, ◌<◌, List, [], ◌∷◌, ◌++◌, Bool, true, false, drop, length, refl, sym, subst, arith, if◌then◌else◌, nat_tests, Entry, Issued, AppId, Records, MainEvent, Tables, main_quiet, main_worked, main_step, removal_of_first}
+use Rattle.std.proofs.Common.{nat_lt, count_by}
 use Rattle.rm_types.specs.declared.operations.Op.TheVariants as ops
-use Rattle.rm_types.specs.Records.{Records}
-use Rattle.rm_tables.specs.declared.events.MainEvent.{MainEvent}
 use Rattle.rm_tables.specs.declared.events.MainEvent.TheVariants as mains
-use Rattle.rm_tables.specs.declared.tables.Tables.{Tables}
-use Rattle.rm_tables.specs.Actions.{main_quiet, main_worked}
-use Rattle.rm_tables.specs.MainEvents.{main_step, removal_of_first}
 use Rattle.rm_invariant.specs.events.Outcomes.{Outcome, accepts, adds, delays, ends, ends_one, follows, idles, issues, kills, loses, orders, removes, requeues, saves}
 use Rattle.rm_invariant.specs.apps.Completed.{Completes, is_retire}
 use Rattle.rm_invariant.proofs.apps.Completing.{completes_still, retire_left, retire_posted}

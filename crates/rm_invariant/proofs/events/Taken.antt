@@ -1,25 +1,13 @@
 -- Of a node's report the tables take what the judge takes.
-use Rattle.std.proofs.Common.{◌≡◌, ℕ, List, [], ◌∷◌, ◌++◌, Bool, true, false, not, ◌&&◌, nat_lt, Option, None, Some, is_some, find, fold, refl, sym, ◌∙◌, ap, subst}
-use Rattle.std.specs.Prelude.{if◌then◌else◌, option_map}
-use Rattle.std.specs.Str.{bytes_eq}
-use Rattle.std.proofs.lemmas.Bool.{false≢true}
-use Rattle.rm_types.specs.declared.containers.BookRow.{BookRow}
-use Rattle.rm_types.specs.declared.containers.Held.{Held}
-use Rattle.rm_types.specs.declared.ids.ContainerId.{ContainerId}
-use Rattle.rm_types.specs.Ids.{is_container}
-use Rattle.rm_types.specs.Records.{is_some_and}
-use Rattle.rm_book.specs.Books.{BookRowsAreApart, capability_of, is_of}
-use Rattle.rm_model.specs.Absorbing.{as_booked, as_counted, as_reported, may_take as may_take_told, taken_of, with_counted as with_told}
-use Rattle.rm_types.specs.Containers.{is_held}
-use Rattle.rm_model.specs.Attempts.{attempt_was_first, is_current}
-use Rattle.rm_model.specs.Containers.{lives_elsewhere, lives_on, judged_row as row_told}
-use Rattle.rm_model.specs.State.{NodeState, Row, Scene}
-use Rattle.rm_tables.specs.declared.nodes.NodeRow.{NodeRow}
-use Rattle.rm_tables.specs.declared.rows.AppRow.{AppRow}
-use Rattle.rm_tables.specs.declared.tables.Tables.{Tables}
-use Rattle.rm_tables.specs.Absorbing.{booked_at, counted_in, is_current_in, is_elsewhere, tables_may_take, reported_in, taken_in, was_first, tables_with_counted}
-use Rattle.rm_tables.specs.Rows.{row_of}
-use Rattle.rm_refinement.specs.Agreement.{PlainNode, PlainRow, SameRows, bare_row, bare_node, plain_row, plain_node}
+use Rattle.rm_invariant.proofs.Common.{◌≡◌, ℕ, List, [], ◌∷◌, ◌++◌, Bool, true, false, not, ◌&&◌, Option, None, Some, find, fold, refl, sym, ◌∙◌, ap, subst, if◌then◌else◌, bytes_eq, false≢true, BookRow, Held, ContainerId, is_container, is_some_and, capability_of, is_of, as_booked, as_counted, as_reported, taken_of, is_held, attempt_was_first, lives_on, Row, Scene, NodeRow, AppRow, Tables, counted_in, tables_may_take, taken_in, was_first, tables_with_counted, row_of, PlainNode, PlainRow, SameRows, bare_row, bare_node, plain_row, plain_node}
+use Rattle.std.proofs.Common.{nat_lt, is_some}
+use Rattle.std.specs.Prelude.{option_map}
+use Rattle.rm_book.specs.Books.{BookRowsAreApart}
+use Rattle.rm_model.specs.Absorbing.{may_take as may_take_told, with_counted as with_told}
+use Rattle.rm_model.specs.Attempts.{is_current}
+use Rattle.rm_model.specs.Containers.{lives_elsewhere, judged_row as row_told}
+use Rattle.rm_model.specs.State.{NodeState}
+use Rattle.rm_tables.specs.Absorbing.{booked_at, is_current_in, is_elsewhere, reported_in}
 use Rattle.rm_refinement.proofs.Rows.{any_alike, first_alone, found_alike}
 use Rattle.rm_invariant.specs.events.Here.{FirstsKnown, RowsKnow}
 

@@ -1,26 +1,9 @@
 -- Where containers leave, the tables and the judge tell the same endings, and the rows of applications change in nothing else.
-use Rattle.std.proofs.Common.{◌≡◌, ◌==◌, nat_lt, List, [], ◌∷◌, ◌++◌, Bool, true, false, ◌||◌, Option, None, Some, is_some, map, refl, sym, ◌∙◌, ap, subst, append_assoc, append-nil}
+use Rattle.rm_invariant.proofs.Common.{◌≡◌, List, [], ◌∷◌, ◌++◌, Bool, true, false, ◌||◌, Option, None, Some, map, refl, sym, ◌∙◌, ap, subst, false≢true, filter-append, filter_agree, Cause, Closing, AppId, AttemptId, ContainerId, AppRecord, AttemptRecord, is_app, record_of, same_app, is_over, MasterState, Scene, AppRow, Current, closed, closed_in, closed_one, closings_of, row_of, AttemptAgrees, ClosingsAgree, NumberAgrees, RowAgrees, closings_for}
+use Rattle.std.proofs.Common.{◌==◌, nat_lt, is_some, append_assoc, append-nil}
 use Rattle.std.specs.Prelude.{option_and_then, option_map}
-use Rattle.std.proofs.lemmas.Bool.{false≢true}
-use Rattle.std.proofs.lemmas.List.Elements.{filter-append, filter_agree}
-use Rattle.rm_types.specs.declared.containers.Cause.{Cause}
-use Rattle.rm_types.specs.declared.containers.Closing.{Closing}
-use Rattle.rm_types.specs.declared.ids.AppId.{AppId}
-use Rattle.rm_types.specs.declared.ids.AttemptId.{AttemptId}
-use Rattle.rm_types.specs.declared.ids.ContainerId.{ContainerId}
-use Rattle.rm_types.specs.declared.records.AppRecord.{AppRecord}
-use Rattle.rm_types.specs.declared.records.AttemptRecord.{AttemptRecord}
-use Rattle.rm_types.specs.Ids.{is_app}
-use Rattle.rm_types.specs.Records.{record_of}
-use Rattle.rm_types.proofs.IdLemmas.{same_app}
-use Rattle.rm_model.specs.Attempts.{is_over}
 use Rattle.rm_model.specs.Containers.{closings, is_told}
-use Rattle.rm_model.specs.State.{MasterState, Scene}
-use Rattle.rm_tables.specs.declared.rows.AppRow.{AppRow}
-use Rattle.rm_tables.specs.declared.rows.Current.{Current}
-use Rattle.rm_tables.specs.Leaving.{attempt_in, closed, closed_in, closed_one, closings_of, has_end, is_over_in, is_told_in}
-use Rattle.rm_tables.specs.Rows.{row_of}
-use Rattle.rm_refinement.specs.Agreement.{AttemptAgrees, ClosingsAgree, NumberAgrees, RowAgrees, closings_for}
+use Rattle.rm_tables.specs.Leaving.{attempt_in, has_end, is_over_in, is_told_in}
 use Rattle.rm_invariant.specs.apps.View.{changed_if}
 use Rattle.rm_invariant.proofs.apps.Found.{row_changed}
 use Rattle.rm_invariant.proofs.masters.Masters.{masters_same}

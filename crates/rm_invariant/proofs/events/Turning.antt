@@ -1,33 +1,10 @@
 -- The turns of a pass: each attempt that asks for something is ready for what it is granted, and of an application that waits for its
 -- master's container at most one is granted.
-use Rattle.std.proofs.Common.{◌≡◌, ◌≤◌, ℕ, zero, suc, ◌+◌, List, [], ◌∷◌, Bool, true, false, ◌&&◌, not, Option, None, Some, cond, count_by, filter, fold, map, refl, sym, ◌∙◌, ap, subst, arith}
-use Rattle.std.specs.Prelude.{if◌then◌else◌, slice_get}
-use Rattle.std.specs.List.{range_with_len}
-use Rattle.std.proofs.lemmas.Bool.Decides.{nat_tests}
-use Rattle.rm_types.specs.declared.containers.Ask.{Ask}
-use Rattle.rm_types.specs.declared.containers.Grant.{Grant}
-use Rattle.rm_types.specs.declared.containers.Turn.{Turn}
-use Rattle.rm_types.specs.declared.ids.AppId.{AppId}
-use Rattle.rm_types.specs.declared.ids.AttemptId.{AttemptId}
-use Rattle.rm_types.specs.declared.records.AppRecord.{AppRecord}
-use Rattle.rm_types.specs.declared.resources.Resource.{Resource}
-use Rattle.rm_types.specs.declared.settings.Settings.{Settings}
-use Rattle.rm_types.specs.Ids.{is_app}
-use Rattle.rm_types.specs.Passes.{PassNode, by_priority, fitting, turn_grant, left_of, seq_after, with_granted, with_turn}
+use Rattle.rm_invariant.proofs.Common.{◌≡◌, ◌≤◌, ℕ, zero, suc, ◌+◌, List, [], ◌∷◌, Bool, true, false, ◌&&◌, not, Option, None, Some, filter, fold, map, refl, sym, ◌∙◌, ap, subst, arith, if◌then◌else◌, slice_get, range_with_len, nat_tests, Ask, Grant, Turn, AppId, AttemptId, AppRecord, Resource, Settings, is_app, PassNode, by_priority, fitting, turn_grant, left_of, seq_after, with_granted, with_turn, same_app, attempt_asks, capability_of, attempt_at, NodeRow, Tables, is_ready_row, asks_some, fitted_on, grants_on, still_waits, turn_in, turns_in, waits_for_master, row_of, SameAsks, History}
+use Rattle.std.proofs.Common.{cond, count_by}
 use Rattle.rm_types.specs.Resources.{fits}
 use Rattle.rm_types.specs.Passes.{times}
-use Rattle.rm_types.proofs.IdLemmas.{same_app}
-use Rattle.rm_book.specs.AskTables.{attempt_asks}
-use Rattle.rm_book.specs.Books.{capability_of}
-use Rattle.rm_model.specs.Attempts.{attempt_at}
-use Rattle.rm_tables.specs.declared.nodes.NodeRow.{NodeRow}
-use Rattle.rm_tables.specs.declared.tables.Tables.{Tables}
-use Rattle.rm_tables.specs.Nodes.{is_ready_row}
-use Rattle.rm_tables.specs.Passing.{asks_some, fitted_on, grants_on, still_waits, turn_in, turns_in, waits_for_master}
-use Rattle.rm_tables.specs.Rows.{row_of}
-use Rattle.rm_refinement.specs.Agreement.{SameAsks}
 use Rattle.rm_invariant.specs.apps.Invariant.{AttemptsInvariant}
-use Rattle.rm_refinement.specs.History.{History}
 use Rattle.rm_invariant.specs.apps.View.{one_if}
 use Rattle.rm_invariant.proofs.apps.Counts.{at_front, count_append}
 use Rattle.rm_invariant.specs.nodes.Book.{All}

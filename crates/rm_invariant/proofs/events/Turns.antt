@@ -1,27 +1,7 @@
 -- The tables go over the attempts that ask for something, the judge over all: a pass grants the same.
-use Rattle.std.proofs.Common.{◌≡◌, ℕ, ◌+◌, suc, List, [], ◌∷◌, Bool, true, false, Option, None, Some, map, filter, fold, refl, sym, ◌∙◌, ap}
-use Rattle.std.specs.Prelude.{slice_get}
-use Rattle.rm_types.specs.declared.containers.Ask.{Ask}
-use Rattle.rm_types.specs.declared.containers.Grant.{Grant}
-use Rattle.rm_types.specs.declared.containers.Turn.{Turn}
-use Rattle.rm_types.specs.declared.ids.AppId.{AppId}
-use Rattle.rm_types.specs.declared.ids.AttemptId.{AttemptId}
-use Rattle.rm_types.specs.declared.ids.ContainerId.{ContainerId}
-use Rattle.rm_types.specs.declared.records.AppRecord.{AppRecord}
-use Rattle.rm_types.specs.Lists.{is_nil}
-use Rattle.rm_types.specs.Passes.{PassNode, by_priority, pass_list, with_granted, with_turn}
+use Rattle.rm_invariant.proofs.Common.{◌≡◌, ℕ, ◌+◌, suc, List, [], ◌∷◌, Bool, true, false, Option, None, Some, map, filter, fold, refl, sym, ◌∙◌, ap, slice_get, Ask, Grant, Turn, AppId, AttemptId, ContainerId, AppRecord, is_nil, PassNode, by_priority, pass_list, with_granted, with_turn, AsksOf, attempt_asks, attempt_at, has_app, LifeState, MasterState, Scene, AppRow, Current, Tables, asks_some, granted_number, granted_to, turn_in, turns_in, row_of, AttemptAgrees, RowAgrees, grants_of}
 use Rattle.rm_types.proofs.TestLemmas.{nil_is}
-use Rattle.rm_book.specs.AskTables.{AsksOf, attempt_asks}
-use Rattle.rm_model.specs.Attempts.{attempt_at}
-use Rattle.rm_model.specs.Facts.{has_app}
 use Rattle.rm_model.specs.Passing.{turn_of, turns}
-use Rattle.rm_model.specs.State.{LifeState, MasterState, Scene}
-use Rattle.rm_tables.specs.declared.rows.AppRow.{AppRow}
-use Rattle.rm_tables.specs.declared.rows.Current.{Current}
-use Rattle.rm_tables.specs.declared.tables.Tables.{Tables}
-use Rattle.rm_tables.specs.Passing.{asks_some, granted_number, granted_to, turn_in, turns_in}
-use Rattle.rm_tables.specs.Rows.{row_of}
-use Rattle.rm_refinement.specs.Agreement.{AttemptAgrees, RowAgrees, grants_of}
 use Rattle.rm_invariant.specs.events.Refines.{Refines}
 use Rattle.rm_invariant.specs.events.Asking.{AskersCurrent, is_current_number, is_numbered, is_numbered_in}
 

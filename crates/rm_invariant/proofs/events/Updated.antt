@@ -1,36 +1,22 @@
 -- NodeUpdate: a pass answers the beat of a node, as a whole step that keeps all that holds of an open life.
-use Rattle.std.proofs.Common.{◌≡◌, ℕ, List, [], ◌∷◌, Bool, true, false, ◌&&◌, not, Option, None, Some, is_some, drop, fold, refl, sym, ◌∙◌, ap, subst}
-use Rattle.std.specs.Prelude.{option_and_then, option_map, if◌then◌else◌}
-use Rattle.rm_types.specs.declared.containers.Grant.{Grant}
+use Rattle.rm_invariant.proofs.Common.{◌≡◌, ℕ, List, [], ◌∷◌, Bool, true, false, ◌&&◌, not, Option, None, Some, drop, fold, refl, sym, ◌∙◌, ap, subst, if◌then◌else◌, Grant, ContainerId, Resource, Settings, text_itself, passes, Allowed, LifeState, Scene, SchedEvent, NodeRow, Tables, sched_popped, sched_worked, node_row, grants_on, passed_with, rows_after_grant, still_waits, updated_by, sched_step, bare_node, plain_node, row_of, History, abstract_life, abstract_scene, live_state}
+use Rattle.std.proofs.Common.{is_some}
+use Rattle.std.specs.Prelude.{option_and_then, option_map}
 use Rattle.rm_types.specs.declared.entries.Entry.TheVariants.{Pass}
-use Rattle.rm_types.specs.declared.ids.ContainerId.{ContainerId}
-use Rattle.rm_types.specs.declared.resources.Resource.{Resource}
-use Rattle.rm_types.specs.declared.settings.Settings.{Settings}
-use Rattle.rm_types.proofs.TestLemmas.{text_itself}
 use Rattle.rm_model.specs.Nodes.{is_ready as ready_told}
-use Rattle.rm_model.specs.Passing.{first_fit_on, pass_of, passes, waits_for_nodes}
-use Rattle.rm_model.specs.Rules.{Allowed, MayPass}
-use Rattle.rm_model.specs.State.{LifeState, NodeState, Scene}
-use Rattle.rm_tables.specs.declared.events.SchedEvent.{SchedEvent}
+use Rattle.rm_model.specs.Passing.{first_fit_on, pass_of, waits_for_nodes}
+use Rattle.rm_model.specs.Rules.{MayPass}
+use Rattle.rm_model.specs.State.{NodeState}
 use Rattle.rm_tables.specs.declared.events.SchedEvent.TheVariants as scheds
-use Rattle.rm_tables.specs.declared.nodes.NodeRow.{NodeRow}
-use Rattle.rm_tables.specs.declared.tables.Tables.{Tables}
-use Rattle.rm_tables.specs.Actions.{sched_popped, sched_worked}
-use Rattle.rm_tables.specs.Nodes.{node_row}
-use Rattle.rm_tables.specs.Passing.{grants_on, passed_with, rows_after_grant, still_waits, updated_by}
-use Rattle.rm_tables.specs.SchedEvents.{sched_step}
-use Rattle.rm_refinement.specs.Agreement.{bare_node, plain_node}
 use Rattle.rm_invariant.specs.apps.Invariant.{RowInvariant}
 use Rattle.rm_invariant.specs.apps.View.{View}
 use Rattle.rm_invariant.proofs.apps.Effects as views
 use Rattle.rm_invariant.specs.masters.View.{ContainerView}
 use Rattle.rm_invariant.specs.masters.Invariant.{ContainerInvariant, RemovalInvariant}
 use Rattle.rm_invariant.proofs.masters.Effects.{sched_taken}
-use Rattle.rm_tables.specs.Rows.{row_of}
 use Rattle.rm_invariant.specs.events.Masters.{AppsOnce, MastersAskOnce}
 use Rattle.rm_invariant.proofs.events.OneByOne.{BothSay, all_say, history_after, tables_after}
 use Rattle.rm_invariant.proofs.events.Turning.{all_ready, masters_once}
-use Rattle.rm_refinement.specs.History.{History, abstract_life, abstract_scene, live_state}
 use Rattle.rm_invariant.proofs.apps.Keeping.{in_scene}
 use Rattle.rm_invariant.specs.nodes.Invariant.{NodesInvariant}
 use Rattle.rm_invariant.specs.nodes.Book.{All, BookInvariant, IsAbsorbed}

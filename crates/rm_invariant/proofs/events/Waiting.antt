@@ -1,31 +1,10 @@
 -- An attempt that asks for something waits for its master, for which it asks by its only line, or it lives, or its end is issued.
-use Rattle.std.proofs.Common.{◌≡◌, ◌≤◌, ◌⊎◌, inl, inr, ℕ, ◌==◌, ◌||◌, List, [], ◌∷◌, Bool, true, false, not, Option, None, Some, count_by, refl, sym, ◌∙◌, ap, subst, arith}
-use Rattle.std.proofs.lemmas.Bool.{false≢true}
-use Rattle.std.proofs.lemmas.Bool.Decides.{nat_tests}
-use Rattle.rm_types.specs.declared.containers.Ask.{Ask}
-use Rattle.rm_types.specs.declared.containers.AskOf.{AskOf}
-use Rattle.rm_types.specs.declared.ids.AttemptId.{AttemptId}
-use Rattle.rm_types.specs.declared.resources.Resource.{Resource}
-use Rattle.rm_types.specs.declared.settings.Settings.{Settings}
-use Rattle.rm_types.specs.Ids.{is_attempt}
-use Rattle.rm_types.specs.Lists.{is_nil}
-use Rattle.rm_types.specs.Passes.{by_priority}
-use Rattle.rm_book.specs.AskTables.{attempt_asks}
-use Rattle.rm_states.specs.declared.app.states.AppState.{AppState}
+use Rattle.rm_invariant.proofs.Common.{◌≡◌, ◌≤◌, ◌⊎◌, inl, inr, ℕ, ◌||◌, List, [], ◌∷◌, Bool, true, false, not, Option, None, Some, refl, sym, ◌∙◌, ap, subst, arith, false≢true, nat_tests, Ask, AskOf, AttemptId, Resource, Settings, is_attempt, is_nil, by_priority, attempt_asks, AppState, AttemptState, is_alive, AppRow, Current, Tables, asks_some, waits_for_master, row_of, SameAsks, is_ending, History}
+use Rattle.std.proofs.Common.{◌==◌, count_by}
 use Rattle.rm_states.specs.declared.app.states.AppState.TheVariants as apps
-use Rattle.rm_states.specs.declared.attempt.states.AttemptState.{AttemptState}
 use Rattle.rm_states.specs.declared.attempt.states.AttemptState.TheVariants as attempts
-use Rattle.rm_states.specs.attempt.Table.{is_alive}
 use Rattle.rm_model.specs.Passing.{asks_of as asks_told}
-use Rattle.rm_tables.specs.declared.rows.AppRow.{AppRow}
-use Rattle.rm_tables.specs.declared.rows.Current.{Current}
-use Rattle.rm_tables.specs.declared.tables.Tables.{Tables}
-use Rattle.rm_tables.specs.Passing.{asks_some, waits_for_master}
-use Rattle.rm_tables.specs.Rows.{row_of}
-use Rattle.rm_refinement.specs.Agreement.{SameAsks}
-use Rattle.rm_refinement.specs.Services.{is_ending}
 use Rattle.rm_invariant.specs.apps.Invariant.{ActiveInvariant, AttemptsInvariant, AttemptCounts, EndIssuedInvariant, RowInvariant, StateInvariant}
-use Rattle.rm_refinement.specs.History.{History}
 use Rattle.rm_invariant.specs.apps.View.{View, is_ask, one_if, view}
 use Rattle.rm_invariant.proofs.apps.Counts.{at_front}
 use Rattle.rm_invariant.specs.nodes.Book.{All}

@@ -1,49 +1,21 @@
 -- NodeAdded, as a whole step: the report of a node that registered is absorbed. What is taken of it is of attempts that were kept when the
 -- life began and go on, and what is not taken leaves the book.
-use Rattle.std.proofs.Common.{◌≡◌, ◌⊎◌, inl, inr, ℕ, ◌==◌, ◌&&◌, not, List, [], ◌∷◌, ◌++◌, append_assoc, Bool, true, false, Option, None, Some, filter, fold, nat_lt, is_none, is_some, map, refl, sym, ◌∙◌, subst, arith}
-use Rattle.std.specs.List.{list_any}
-use Rattle.std.proofs.lemmas.Bool.Decides.{nat_tests}
+use Rattle.rm_invariant.proofs.Common.{◌≡◌, ◌⊎◌, inl, inr, ℕ, ◌&&◌, not, List, [], ◌∷◌, ◌++◌, Bool, true, false, Option, None, Some, filter, fold, is_none, map, refl, sym, ◌∙◌, subst, arith, list_any, nat_tests, IsPermutation-sym, not-true, or_right, AttemptId, ContainerId, AppRecord, AttemptRecord, Settings, is_attempt, is_container, all_ended, is_some_and, last_attempt, record_of, How, Held, Quiet, Resource, and_first, container_itself, same_container, absorbs, as_booked, as_counted, as_reported, row_absorbed, row_taken, taken_of, is_held, attempt_was_first, ids_on, is_living, lives_on, judged_node, LifeState, Row, Scene, scene, attempts_in, has_container, AppState, AttemptState, absorbed_with, SchedEvent, AppRow, Current, Tables, row_of, sched_popped, History, abstract_scene, abstract_life, live_state}
+use Rattle.std.proofs.Common.{◌==◌, append_assoc, nat_lt, is_some}
 use Rattle.std.proofs.lemmas.List.{append-nil}
-use Rattle.std.proofs.lemmas.List.Sorted.{IsPermutation-sym}
-use Rattle.std.proofs.lemmas.Bool.{not-true, or_right}
-use Rattle.rm_types.specs.declared.ids.AttemptId.{AttemptId}
-use Rattle.rm_types.specs.declared.ids.ContainerId.{ContainerId}
-use Rattle.rm_types.specs.declared.records.AppRecord.{AppRecord}
-use Rattle.rm_types.specs.declared.records.AttemptRecord.{AttemptRecord}
-use Rattle.rm_types.specs.declared.settings.Settings.{Settings}
-use Rattle.rm_types.specs.Ids.{is_attempt, is_container}
-use Rattle.rm_types.specs.Records.{all_ended, is_some_and, last_attempt, record_of}
-use Rattle.rm_types.specs.declared.operations.How.{How}
-use Rattle.rm_types.specs.declared.containers.Held.{Held}
-use Rattle.rm_types.specs.declared.entries.Entry.TheVariants.{Absorbed, Quiet}
+use Rattle.rm_types.specs.declared.entries.Entry.TheVariants.{Absorbed}
 use Rattle.rm_types.specs.declared.messages.Lane.TheVariants.{Sched as SchedLane}
-use Rattle.rm_types.specs.declared.resources.Resource.{Resource}
 use Rattle.rm_types.specs.declared.operations.How.TheVariants as ways
 use Rattle.rm_types.specs.declared.containers.Cause.TheVariants as causes
-use Rattle.rm_types.proofs.TestLemmas.{and_first}
-use Rattle.rm_types.proofs.IdLemmas.{container_itself, same_container}
-use Rattle.rm_model.specs.Absorbing.{absorbs, as_booked, as_counted, as_reported, may_take, not_taken, row_absorbed, row_taken, taken_of, with_counted}
-use Rattle.rm_types.specs.Containers.{is_held}
-use Rattle.rm_model.specs.Attempts.{attempt_was_first, is_current}
-use Rattle.rm_model.specs.Containers.{ids_on, is_living, lives_on, judged_row as book_row_of}
-use Rattle.rm_model.specs.Nodes.{judged_node}
+use Rattle.rm_model.specs.Absorbing.{may_take, not_taken, with_counted}
+use Rattle.rm_model.specs.Attempts.{is_current}
+use Rattle.rm_model.specs.Containers.{judged_row as book_row_of}
 use Rattle.rm_model.specs.Rules.{MayAbsorb}
-use Rattle.rm_model.specs.State.{LifeState, NodeState, Row, Scene, scene}
-use Rattle.rm_model.specs.Facts.{attempts_in, has_container}
-use Rattle.rm_states.specs.declared.app.states.AppState.{AppState}
+use Rattle.rm_model.specs.State.{NodeState}
 use Rattle.rm_states.specs.declared.app.states.AppState.TheVariants as apps
-use Rattle.rm_states.specs.declared.attempt.states.AttemptState.{AttemptState}
 use Rattle.rm_states.specs.declared.attempt.states.AttemptState.TheVariants as attempts
-use Rattle.rm_tables.specs.Absorbing.{absorbed_with}
-use Rattle.rm_tables.specs.declared.events.SchedEvent.{SchedEvent}
-use Rattle.rm_tables.specs.declared.rows.AppRow.{AppRow}
-use Rattle.rm_tables.specs.declared.rows.Current.{Current}
-use Rattle.rm_tables.specs.declared.tables.Tables.{Tables}
-use Rattle.rm_tables.specs.Rows.{row_of}
-use Rattle.rm_tables.specs.Actions.{sched_popped}
 use Rattle.rm_tables.specs.declared.events.SchedEvent.TheVariants as scheds
 use Rattle.rm_invariant.specs.apps.Invariant.{ActiveInvariant, AttemptsInvariant, CurrentInvariant, LastIsOpen, RowInvariant, StateInvariant, is_open_one}
-use Rattle.rm_refinement.specs.History.{History, abstract_scene, abstract_life, live_state}
 use Rattle.rm_invariant.specs.apps.View.{view, View}
 use Rattle.rm_invariant.specs.Step.{AppsInvariant}
 use Rattle.rm_invariant.proofs.apps.Keeping.{in_scene}

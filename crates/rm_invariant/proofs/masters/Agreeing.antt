@@ -1,17 +1,6 @@
 -- The text with which a master finishes is the same in the tables and in the judge's life, where the dialogues with masters are.
-use Rattle.std.proofs.Common.{◌≡◌, ◌==◌, true, Option, None, Some, option_and_then, option_map, refl, ap, subst}
-use Rattle.rm_types.specs.declared.ids.AttemptId.{AttemptId}
-use Rattle.rm_model.specs.Attempts.{finishing_text}
-use Rattle.rm_model.specs.Facts.{has_app}
-use Rattle.rm_model.specs.State.{MasterState}
-use Rattle.rm_tables.specs.declared.rows.AppRow.{AppRow}
-use Rattle.rm_tables.specs.declared.rows.Current.{Current}
-use Rattle.rm_tables.specs.declared.rows.Dialogue.{Dialogue}
-use Rattle.rm_tables.specs.declared.tables.Tables.{Tables}
-use Rattle.rm_tables.specs.MainEvents.{finishing_in}
-use Rattle.rm_tables.specs.Rows.{row_of}
-use Rattle.rm_refinement.specs.Agreement.{CurrentAgrees, PlainDialogue, RowAgrees, AttemptAgrees, bare_dialogue, session_of, plain_dialogue}
-use Rattle.rm_refinement.specs.History.{History, abstract_scene}
+use Rattle.rm_invariant.proofs.Common.{◌≡◌, true, Option, None, Some, refl, ap, subst, AttemptId, finishing_text, has_app, MasterState, AppRow, Current, Dialogue, Tables, finishing_in, row_of, CurrentAgrees, PlainDialogue, RowAgrees, AttemptAgrees, bare_dialogue, session_of, plain_dialogue, History, abstract_scene}
+use Rattle.std.proofs.Common.{◌==◌, option_and_then, option_map}
 
 same_text : (dialogue : Option Dialogue) (told : Option MasterState) → option_map bare_dialogue dialogue ≡ option_map plain_dialogue told → finishing_in dialogue ≡ option_and_then (λ one. one.finishing) told
 same_text None None e = refl

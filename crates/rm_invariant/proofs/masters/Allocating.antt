@@ -1,37 +1,13 @@
 -- A master allocates, as a whole step: it asks for containers, releases some, and is told of some and of endings. It has no say over its own
 -- container: priority 0 is the manager's.
-use Rattle.std.proofs.Common.{◌≡◌, ℕ, ◌+◌, ◌==◌, ◌||◌, not, List, [], ◌∷◌, ◌++◌, Bool, true, false, Option, None, Some, count_by, filter, map, refl, sym, ◌∙◌, ap, subst, arith}
-use Rattle.std.specs.Prelude.{if◌then◌else◌}
-use Rattle.std.specs.List.{list_any}
-use Rattle.std.proofs.lemmas.Bool.Decides.{nat_tests}
-use Rattle.rm_types.specs.declared.containers.Ask.{Ask}
-use Rattle.rm_types.specs.declared.containers.AskOf.{AskOf}
-use Rattle.rm_types.specs.declared.entries.Entry.TheVariants.{Served}
-use Rattle.rm_types.specs.declared.containers.Closing.{Closing}
-use Rattle.rm_types.specs.declared.containers.Grant.{Grant}
-use Rattle.rm_types.specs.declared.ids.AppId.{AppId}
-use Rattle.rm_types.specs.declared.ids.AttemptId.{AttemptId}
-use Rattle.rm_types.specs.declared.ids.ContainerId.{ContainerId}
-use Rattle.rm_types.specs.declared.messages.MasterAsk.TheVariants.{Allocate}
-use Rattle.rm_types.specs.declared.replies.Reply.{Reply}
+use Rattle.rm_invariant.proofs.Common.{◌≡◌, ℕ, ◌+◌, ◌||◌, not, List, [], ◌∷◌, ◌++◌, Bool, true, false, Option, None, Some, filter, map, refl, sym, ◌∙◌, ap, subst, arith, if◌then◌else◌, list_any, nat_tests, Ask, AskOf, Served, Closing, Grant, AppId, AttemptId, ContainerId, Allocate, Reply, Settings, is_app, is_attempt, is_container, and_false, released_by, is_new_to_master, row_allocated, untold_rows, reply_to, LifeState, MasterState, Row, SchedEvent, AppRow, Dialogue, Tables, row_of, with_row, History, abstract_scene}
+use Rattle.std.proofs.Common.{◌==◌, count_by}
 use Rattle.rm_types.specs.declared.replies.Reply.TheVariants.{Allocated}
-use Rattle.rm_types.specs.declared.settings.Settings.{Settings}
-use Rattle.rm_types.specs.Ids.{is_app, is_attempt, is_container}
 use Rattle.rm_types.specs.declared.messages.Message.TheVariants as messages
 use Rattle.rm_types.specs.declared.messages.Sender.TheVariants as senders
-use Rattle.rm_types.proofs.TestLemmas.{and_false}
-use Rattle.rm_model.specs.Containers.{released_by}
-use Rattle.rm_model.specs.MasterReplies.{allocates, is_line_of, is_new_to_master, row_allocated, untold_rows, with_ask, with_asks}
-use Rattle.rm_model.specs.Replies.{reply_to}
-use Rattle.rm_model.specs.State.{LifeState, MasterState, Row}
-use Rattle.rm_tables.specs.declared.events.SchedEvent.{SchedEvent}
-use Rattle.rm_tables.specs.declared.rows.AppRow.{AppRow}
-use Rattle.rm_tables.specs.declared.rows.Dialogue.{Dialogue}
-use Rattle.rm_tables.specs.declared.tables.Tables.{Tables}
-use Rattle.rm_tables.specs.Rows.{row_of, with_row}
+use Rattle.rm_model.specs.MasterReplies.{allocates, is_line_of, with_ask, with_asks}
 use Rattle.rm_tables.specs.declared.events.SchedEvent.TheVariants as scheds
 use Rattle.rm_invariant.specs.apps.View.{is_ask, View, changed_if, is_add, is_queueing, one_if, view}
-use Rattle.rm_refinement.specs.History.{History, abstract_scene}
 use Rattle.rm_invariant.specs.Step.{AppsInvariant}
 use Rattle.rm_invariant.specs.apps.Invariant.{RowInvariant}
 use Rattle.rm_invariant.proofs.apps.Counts.{at_end, at_front, count_append}

@@ -1,45 +1,19 @@
 -- The events of applications, each as a whole step that keeps what holds of containers too: AppStart, AppSaved, AppAccepted, AppKill,
 -- AttemptDone and Retire of the main queue, and AppAdded, AttemptAdded and AttemptRecovered of the scheduler's.
-use Rattle.std.proofs.Common.{◌≡◌, ◌≢◌, ◌⊎◌, inl, inr, ℕ, ◌+◌, ◌==◌, suc, List, [], ◌∷◌, ◌++◌, Bool, true, false, Option, None, Some, drop, length, refl, sym, ◌∙◌, subst}
-use Rattle.rm_types.specs.declared.entries.Entry.{Entry}
-use Rattle.rm_types.specs.declared.entries.Entry.TheVariants.{Accepted, Issued, Quiet}
-use Rattle.rm_types.specs.declared.ids.AppId.{AppId}
-use Rattle.rm_types.specs.declared.ids.AttemptId.{AttemptId}
-use Rattle.rm_types.specs.declared.ids.ContainerId.{ContainerId}
+use Rattle.rm_invariant.proofs.Common.{◌≡◌, ◌⊎◌, inl, inr, ℕ, ◌+◌, suc, List, [], ◌∷◌, ◌++◌, Bool, true, false, Option, None, Some, drop, length, refl, sym, ◌∙◌, subst, Entry, Accepted, Issued, Quiet, AppId, AttemptId, ContainerId, Submission, How, Settings, is_app, record_of, same_app, attempts_in, MayIssueApp, killed_text, after, AppState, AttemptState, RowChange, MainEvent, SchedEvent, AppRow, Current, Tables, killed_state, changed, accept_of_row, accept_of_state, decision_of_end, decision_of_attempt_state, decision_of_row, decision_of_current, end_with, kill_of_attempt_state, kill_of_row, kill_of_state, attempt_kill, last_end_in, save_of_row, save_of_state, main_step, schedules, app_changed, app_ends, ends_app, found_in, main_popped, main_quiet, main_worked, next_in, sched_popped, sched_worked, row_of, with_row, sched_step, History, live_state, abstract_scene}
+use Rattle.std.proofs.Common.{◌≢◌, ◌==◌}
 use Rattle.rm_types.specs.declared.messages.Lane.TheVariants.{Main as MainLane, Sched as SchedLane}
-use Rattle.rm_types.specs.declared.operations.Submission.{Submission}
-use Rattle.rm_types.specs.declared.operations.How.{How}
-use Rattle.rm_types.specs.declared.settings.Settings.{Settings}
-use Rattle.rm_types.specs.Ids.{is_app}
-use Rattle.rm_types.specs.Records.{record_of}
 use Rattle.rm_types.specs.declared.containers.Cause.TheVariants as causes
 use Rattle.rm_types.specs.declared.operations.How.TheVariants as ways
 use Rattle.rm_types.specs.declared.operations.Op.TheVariants as ops
-use Rattle.rm_types.proofs.IdLemmas.{same_app}
-use Rattle.rm_model.specs.Facts.{attempts_in}
-use Rattle.rm_model.specs.Issuing.{MayIssueApp, killed_text}
-use Rattle.rm_model.specs.Changes.{after}
-use Rattle.rm_states.specs.declared.app.states.AppState.{AppState}
 use Rattle.rm_states.specs.declared.app.states.AppState.TheVariants as apps
-use Rattle.rm_states.specs.declared.attempt.states.AttemptState.{AttemptState}
 use Rattle.rm_states.specs.declared.attempt.states.AttemptState.TheVariants as attempts
 use Rattle.rm_states.specs.declared.app.states.AppEvent.TheVariants as app_events
-use Rattle.rm_tables.specs.declared.changes.RowChange.{RowChange}
-use Rattle.rm_tables.specs.declared.events.MainEvent.{MainEvent}
-use Rattle.rm_tables.specs.declared.events.SchedEvent.{SchedEvent}
-use Rattle.rm_tables.specs.declared.rows.AppRow.{AppRow}
-use Rattle.rm_tables.specs.declared.rows.Current.{Current}
-use Rattle.rm_tables.specs.declared.tables.Tables.{Tables}
-use Rattle.rm_tables.specs.Changes.{killed_state, changed}
-use Rattle.rm_tables.specs.MainEvents.{accept_of_row, accept_of_state, decision_of_end, decision_of_attempt_state, decision_of_row, decision_of_current, end_with, kill_of_attempt_state, kill_of_row, kill_of_state, attempt_kill, last_end_in, save_of_row, save_of_state, main_step}
-use Rattle.rm_tables.specs.Actions.{schedules, app_changed, app_ends, ends_app, found_in, main_popped, main_quiet, main_worked, next_in, sched_popped, sched_worked}
-use Rattle.rm_tables.specs.Rows.{row_of, with_row}
-use Rattle.rm_tables.specs.SchedEvents.{added_by, sched_step}
+use Rattle.rm_tables.specs.SchedEvents.{added_by}
 use Rattle.rm_tables.specs.declared.changes.RowChange.TheVariants as of_app
 use Rattle.rm_tables.specs.declared.events.MainEvent.TheVariants as mains
 use Rattle.rm_tables.specs.declared.events.SchedEvent.TheVariants as scheds
 use Rattle.rm_invariant.specs.apps.Invariant.{ActiveInvariant, CurrentInvariant, RowInvariant, StateInvariant, is_active}
-use Rattle.rm_refinement.specs.History.{History, live_state, abstract_scene}
 use Rattle.rm_invariant.specs.Step.{AppsInvariant, Step}
 use Rattle.rm_invariant.specs.apps.View.{View, view}
 use Rattle.rm_invariant.proofs.apps.Events.{accepted_idle, accepted_none, accepted_now, accepting, quiet, saved_in_state, saved_none, retire_idle, started}

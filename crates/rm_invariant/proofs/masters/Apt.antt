@@ -1,17 +1,6 @@
 -- The masters that records name stay containers of their attempts, where each Attempt that is kept names such a one.
-use Rattle.std.proofs.Common.{◌≡◌, ◌⊎◌, inl, inr, ℕ, List, [], ◌∷◌, ◌++◌, Bool, true, false, Option, None, Some, find, map, refl, sym, ◌∙◌, ap, arith}
-use Rattle.std.proofs.lemmas.Bool.Decides.{nat_tests}
-use Rattle.rm_types.specs.declared.ids.AppId.{AppId}
-use Rattle.rm_types.specs.declared.ids.AttemptId.{AttemptId}
-use Rattle.rm_types.specs.declared.ids.ContainerId.{ContainerId}
-use Rattle.rm_types.specs.declared.operations.How.{How}
-use Rattle.rm_types.specs.declared.operations.Op.{Op}
-use Rattle.rm_types.specs.declared.records.AppRecord.{AppRecord}
-use Rattle.rm_types.specs.declared.records.AttemptRecord.{AttemptRecord}
-use Rattle.rm_types.specs.Ids.{is_app, is_attempt}
-use Rattle.rm_types.specs.Records.{Records, new_record, record_of, recorded, with_end, with_record}
+use Rattle.rm_invariant.proofs.Common.{◌≡◌, ◌⊎◌, inl, inr, ℕ, List, [], ◌∷◌, ◌++◌, Bool, true, false, Option, None, Some, find, map, refl, sym, ◌∙◌, ap, arith, nat_tests, AppId, AttemptId, ContainerId, How, Op, AppRecord, AttemptRecord, is_app, is_attempt, Records, new_record, record_of, recorded, with_end, with_record, attempts_in}
 use Rattle.rm_types.specs.declared.operations.Op.TheVariants as ops
-use Rattle.rm_model.specs.Facts.{attempts_in}
 use Rattle.rm_invariant.specs.apps.View.{changed_if, gone_if, put_if}
 use Rattle.rm_invariant.proofs.apps.Found.{found_gone, record_put}
 use Rattle.rm_invariant.proofs.apps.Recorded.{record_changed}

@@ -1,21 +1,9 @@
 -- What the entries of nodes do to what holds of a container, over its marks alone: containers leave the book, and enter it.
-use Rattle.std.proofs.Common.{◌⊎◌, inl, inr, ◌≡◌, ◌≤◌, ℕ, ◌+◌, ◌==◌, ◌&&◌, ◌||◌, not, Bool, true, false, Option, None, Some, refl, arith}
-use Rattle.std.proofs.lemmas.Bool.Decides.{nat_tests}
-use Rattle.rm_types.specs.declared.ids.AttemptId.{AttemptId}
-use Rattle.rm_types.specs.declared.ids.ContainerId.{ContainerId}
-use Rattle.rm_types.specs.declared.settings.Settings.{Settings}
-use Rattle.rm_types.specs.Ids.{is_container}
-use Rattle.rm_states.specs.declared.app.states.AppState.{AppState}
-use Rattle.rm_states.specs.declared.attempt.states.AttemptState.{AttemptState}
+use Rattle.rm_invariant.proofs.Common.{◌⊎◌, inl, inr, ◌≡◌, ◌≤◌, ℕ, ◌+◌, ◌&&◌, ◌||◌, not, Bool, true, false, Option, None, Some, refl, arith, nat_tests, AttemptId, ContainerId, Settings, is_container, AppState, AttemptState, is_alive, AppRow, Current, changed, granted, is_master_of, is_ending}
+use Rattle.std.proofs.Common.{◌==◌}
 use Rattle.rm_states.specs.declared.attempt.states.AttemptState.TheVariants as attempts
-use Rattle.rm_states.specs.attempt.Table.{is_alive}
-use Rattle.rm_tables.specs.declared.rows.AppRow.{AppRow}
-use Rattle.rm_tables.specs.declared.rows.Current.{Current}
-use Rattle.rm_tables.specs.Changes.{changed, granted}
-use Rattle.rm_tables.specs.MainEvents.{is_master_of}
 use Rattle.rm_tables.specs.declared.changes.RowChange.TheVariants as of_app
 use Rattle.rm_tables.specs.declared.changes.AttemptChange.TheVariants as of_attempt
-use Rattle.rm_refinement.specs.Services.{is_ending}
 use Rattle.rm_invariant.specs.apps.Invariant.{ActiveInvariant, RowInvariant, StateInvariant, is_active}
 use Rattle.rm_invariant.specs.apps.View.{View, one_if, set_if}
 use Rattle.rm_invariant.proofs.apps.Own.{active_row}

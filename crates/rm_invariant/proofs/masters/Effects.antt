@@ -1,12 +1,5 @@
 -- What each primitive does to the marks of a container, once: an event or an operation is taken from the front of its list, or put at its end.
-use Rattle.std.proofs.Common.{◌≡◌, List, [], ◌∷◌, ◌++◌, drop, refl}
-use Rattle.rm_types.specs.declared.ids.ContainerId.{ContainerId}
-use Rattle.rm_types.specs.declared.operations.Op.{Op}
-use Rattle.rm_tables.specs.declared.events.MainEvent.{MainEvent}
-use Rattle.rm_tables.specs.declared.events.SchedEvent.{SchedEvent}
-use Rattle.rm_tables.specs.declared.tables.Tables.{Tables}
-use Rattle.rm_tables.specs.Actions.{main_popped}
-use Rattle.rm_refinement.specs.History.{History}
+use Rattle.rm_invariant.proofs.Common.{◌≡◌, List, [], ◌∷◌, ◌++◌, drop, refl, ContainerId, Op, MainEvent, SchedEvent, Tables, main_popped, History}
 use Rattle.rm_invariant.specs.apps.View.{is_launch}
 use Rattle.rm_invariant.proofs.apps.Counts.{at_end, at_front}
 use Rattle.rm_invariant.specs.masters.View.{is_expiry, is_finish, is_granting, is_losing, is_attempt_removal, is_saving, container_view_main, container_view, container_view_op, container_view_sched}

@@ -1,34 +1,12 @@
 -- An attempt that lives goes to have its end saved, as the step that four events have in common.
-use Rattle.std.proofs.Common.{◌≡◌, ◌⊎◌, inl, inr, ℕ, ◌==◌, List, [], ◌∷◌, Bool, true, false, Option, None, Some, is_some, find, refl, sym, ap, subst, arith}
-use Rattle.std.proofs.lemmas.Bool.Decides.{nat_tests}
-use Rattle.rm_types.specs.declared.entries.Entry.TheVariants.{Issued}
-use Rattle.rm_types.specs.declared.ids.AttemptId.{AttemptId}
-use Rattle.rm_types.specs.declared.ids.ContainerId.{ContainerId}
-use Rattle.rm_types.specs.declared.operations.How.{How}
-use Rattle.rm_types.specs.declared.records.AttemptRecord.{AttemptRecord}
-use Rattle.rm_types.specs.declared.settings.Settings.{Settings}
-use Rattle.rm_types.specs.Ids.{is_app, is_attempt, is_container}
-use Rattle.rm_types.specs.Records.{record_of, last_attempt, is_some_and}
+use Rattle.rm_invariant.proofs.Common.{◌≡◌, ◌⊎◌, inl, inr, ℕ, List, [], ◌∷◌, Bool, true, false, Option, None, Some, find, refl, sym, ap, subst, arith, nat_tests, Issued, AttemptId, ContainerId, How, AttemptRecord, Settings, is_app, is_attempt, is_container, record_of, last_attempt, is_some_and, container_itself, kept_attempt, attempts_in, EndsFor, AttemptState, is_alive, MainEvent, AppRow, Current, Tables, attempt_ends, main_popped, changed, is_master_of, row_of, with_row, History, abstract_scene}
+use Rattle.std.proofs.Common.{◌==◌, is_some}
 use Rattle.rm_types.specs.declared.operations.Op.TheVariants as ops
-use Rattle.rm_types.proofs.IdLemmas.{container_itself}
-use Rattle.rm_model.specs.Attempts.{kept_attempt}
-use Rattle.rm_model.specs.Facts.{attempts_in}
-use Rattle.rm_model.specs.Issuing.{EndsFor, MayIssueAttemptEnd}
-use Rattle.rm_states.specs.declared.attempt.states.AttemptState.{AttemptState}
+use Rattle.rm_model.specs.Issuing.{MayIssueAttemptEnd}
 use Rattle.rm_states.specs.declared.attempt.states.AttemptState.TheVariants as attempts
-use Rattle.rm_states.specs.attempt.Table.{is_alive}
-use Rattle.rm_tables.specs.declared.events.MainEvent.{MainEvent}
-use Rattle.rm_tables.specs.declared.rows.AppRow.{AppRow}
-use Rattle.rm_tables.specs.declared.rows.Current.{Current}
-use Rattle.rm_tables.specs.declared.tables.Tables.{Tables}
-use Rattle.rm_tables.specs.Actions.{attempt_ends, main_popped}
-use Rattle.rm_tables.specs.Changes.{changed}
-use Rattle.rm_tables.specs.MainEvents.{is_master_of}
-use Rattle.rm_tables.specs.Rows.{row_of, with_row}
 use Rattle.rm_tables.specs.declared.changes.RowChange.TheVariants as of_app
 use Rattle.rm_tables.specs.declared.changes.AttemptChange.TheVariants as of_attempt
 use Rattle.rm_invariant.specs.apps.Invariant.{LastIsOpen, RowInvariant, is_active, is_open_one}
-use Rattle.rm_refinement.specs.History.{History, abstract_scene}
 use Rattle.rm_invariant.specs.Step.{AppsInvariant}
 use Rattle.rm_invariant.specs.apps.View.{View, counts, main_view, one_if, op_view, view}
 use Rattle.rm_invariant.proofs.apps.Found.{row_changed}

@@ -1,29 +1,10 @@
 -- AttemptExpired and AttemptFinish, each as a whole step: an attempt that lives ends.
-use Rattle.std.proofs.Common.{◌≡◌, ◌≤◌, ℕ, ◌==◌, ◌&&◌, suc, List, ◌∷◌, Bool, true, false, Option, None, Some, is_some, refl, sym, ◌∙◌, ap, subst, arith}
-use Rattle.std.proofs.lemmas.Bool.Decides.{nat_tests}
-use Rattle.rm_types.specs.declared.entries.Entry.TheVariants.{Issued}
-use Rattle.rm_types.specs.declared.ids.AttemptId.{AttemptId}
-use Rattle.rm_types.specs.declared.ids.ContainerId.{ContainerId}
-use Rattle.rm_types.specs.declared.operations.How.{How}
-use Rattle.rm_types.specs.declared.settings.Settings.{Settings}
-use Rattle.rm_types.specs.Ids.{is_attempt}
+use Rattle.rm_invariant.proofs.Common.{◌≡◌, ◌≤◌, ℕ, ◌&&◌, suc, List, ◌∷◌, Bool, true, false, Option, None, Some, refl, sym, ◌∙◌, ap, subst, arith, nat_tests, Issued, AttemptId, ContainerId, How, Settings, is_attempt, and_first, finishing_text, has_expired, EndsFor, expired_text, AttemptState, is_alive, MainEvent, AppRow, Current, Tables, attempt_ends, main_popped, main_quiet, main_worked, expiry_of_row, expiry_of_living, expiry_of_current, finish_of_row, finish_of_living, finish_of_current, finishing_in, is_master_of, main_step, row_of, History, abstract_scene}
+use Rattle.std.proofs.Common.{◌==◌, is_some}
 use Rattle.rm_types.specs.declared.operations.How.TheVariants as ways
 use Rattle.rm_types.specs.declared.operations.Op.TheVariants as ops
-use Rattle.rm_types.proofs.TestLemmas.{and_first}
-use Rattle.rm_model.specs.Attempts.{finishing_text, has_expired}
-use Rattle.rm_model.specs.Issuing.{EndsFor, expired_text}
-use Rattle.rm_states.specs.declared.attempt.states.AttemptState.{AttemptState}
 use Rattle.rm_states.specs.declared.attempt.states.AttemptState.TheVariants as attempts
-use Rattle.rm_states.specs.attempt.Table.{is_alive}
-use Rattle.rm_tables.specs.declared.events.MainEvent.{MainEvent}
-use Rattle.rm_tables.specs.declared.rows.AppRow.{AppRow}
-use Rattle.rm_tables.specs.declared.rows.Current.{Current}
-use Rattle.rm_tables.specs.declared.tables.Tables.{Tables}
-use Rattle.rm_tables.specs.Actions.{attempt_ends, main_popped, main_quiet, main_worked}
-use Rattle.rm_tables.specs.MainEvents.{expiry_of_row, expiry_of_living, expiry_of_current, finish_of_row, finish_of_living, finish_of_current, finishing_in, is_master_of, main_step}
-use Rattle.rm_tables.specs.Rows.{row_of}
 use Rattle.rm_tables.specs.declared.events.MainEvent.TheVariants as mains
-use Rattle.rm_refinement.specs.History.{History, abstract_scene}
 use Rattle.rm_invariant.specs.Step.{AppsInvariant}
 use Rattle.rm_invariant.specs.apps.Invariant.{RowInvariant}
 use Rattle.rm_invariant.specs.apps.View.{View, counts, main_view, one_if, view}

@@ -1,11 +1,7 @@
 -- Which attempts are finishing once a registered master said that it finishes.
-use Rattle.std.proofs.Common.{◌≡◌, ℕ, List, [], ◌∷◌, Bool, true, false, Option, None, Some, ◌++◌, is_some, find, map, option_and_then, refl, arith}
-use Rattle.std.specs.Prelude.{if◌then◌else◌}
-use Rattle.std.proofs.lemmas.Bool.Decides.{nat_tests}
-use Rattle.rm_types.specs.declared.ids.AttemptId.{AttemptId}
+use Rattle.rm_invariant.proofs.Common.{◌≡◌, ℕ, List, [], ◌∷◌, Bool, true, false, Option, None, Some, ◌++◌, find, map, refl, arith, if◌then◌else◌, nat_tests, AttemptId, is_attempt, MasterState}
+use Rattle.std.proofs.Common.{is_some, option_and_then}
 use Rattle.rm_types.specs.declared.replies.Reply.TheVariants.{MasterRegistered}
-use Rattle.rm_types.specs.Ids.{is_attempt}
-use Rattle.rm_model.specs.State.{MasterState}
 use Rattle.rm_invariant.specs.apps.View.{set_if}
 
 -- a master with what it said as it finished

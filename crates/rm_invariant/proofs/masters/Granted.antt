@@ -1,39 +1,15 @@
 -- MasterGranted, as a whole step: the attempt is issued with its master, where that stands still, and else waits for another one.
-use Rattle.std.proofs.Common.{◌≡◌, ◌≢◌, inl, inr, ℕ, ◌==◌, ◌&&◌, suc, List, ◌∷◌, Bool, true, false, Option, None, Some, is_some, refl, sym, ◌∙◌, ap, subst, arith}
-use Rattle.std.specs.List.{list_any}
-use Rattle.std.proofs.lemmas.Bool.Decides.{nat_tests}
-use Rattle.std.proofs.lemmas.Bool.{or_right}
-use Rattle.rm_types.specs.declared.entries.Entry.{Entry}
-use Rattle.rm_types.specs.declared.entries.Entry.TheVariants.{Issued, Quiet}
-use Rattle.rm_types.specs.declared.ids.AttemptId.{AttemptId}
-use Rattle.rm_types.specs.declared.ids.ContainerId.{ContainerId}
+use Rattle.rm_invariant.proofs.Common.{◌≡◌, inl, inr, ℕ, ◌&&◌, suc, List, ◌∷◌, Bool, true, false, Option, None, Some, refl, sym, ◌∙◌, ap, subst, arith, list_any, nat_tests, or_right, Entry, Issued, Quiet, AttemptId, ContainerId, Op, Settings, is_app, is_attempt, is_container, record_of, and_first, container_itself, same_container, is_living, is_app_end_op, is_attempt_op, AttemptState, MainEvent, AppRow, Current, Tables, grant_of_state, grant_of_row, grant_of_place, grant_of_current, is_master_of, main_step, node_at, with_attempt_requeued, changed, main_popped, main_quiet, main_worked, row_of, with_row, SameRows, History, abstract_scene}
+use Rattle.std.proofs.Common.{◌≢◌, ◌==◌, is_some}
 use Rattle.rm_types.specs.declared.messages.Lane.TheVariants.{Main as MainLane}
-use Rattle.rm_types.specs.declared.operations.Op.{Op}
-use Rattle.rm_types.specs.declared.settings.Settings.{Settings}
-use Rattle.rm_types.specs.Ids.{is_app, is_attempt, is_container}
-use Rattle.rm_types.specs.Records.{record_of}
 use Rattle.rm_types.specs.declared.operations.Op.TheVariants as ops
-use Rattle.rm_types.proofs.TestLemmas.{and_first}
-use Rattle.rm_types.proofs.IdLemmas.{container_itself, same_container}
-use Rattle.rm_model.specs.Containers.{is_living}
-use Rattle.rm_model.specs.Facts.{is_app_end_op, is_attempt_op}
 use Rattle.rm_model.specs.Issuing.{MayIssueAttempt}
-use Rattle.rm_states.specs.declared.attempt.states.AttemptState.{AttemptState}
 use Rattle.rm_states.specs.declared.attempt.states.AttemptState.TheVariants as attempts
-use Rattle.rm_tables.specs.declared.events.MainEvent.{MainEvent}
-use Rattle.rm_tables.specs.declared.rows.AppRow.{AppRow}
-use Rattle.rm_tables.specs.declared.rows.Current.{Current}
-use Rattle.rm_tables.specs.declared.tables.Tables.{Tables}
-use Rattle.rm_tables.specs.MainEvents.{with_attempt_issued, grant_of_state, grant_of_row, grant_of_place, grant_of_current, is_master_of, main_step, node_at, with_attempt_requeued}
-use Rattle.rm_tables.specs.Changes.{changed}
-use Rattle.rm_tables.specs.Actions.{main_popped, main_quiet, main_worked}
-use Rattle.rm_tables.specs.Rows.{row_of, with_row}
+use Rattle.rm_tables.specs.MainEvents.{with_attempt_issued}
 use Rattle.rm_tables.specs.declared.events.MainEvent.TheVariants as mains
 use Rattle.rm_tables.specs.declared.events.SchedEvent.TheVariants as scheds
 use Rattle.rm_tables.specs.declared.changes.RowChange.TheVariants as of_app
 use Rattle.rm_tables.specs.declared.changes.AttemptChange.TheVariants as of_attempt
-use Rattle.rm_refinement.specs.Agreement.{SameRows}
-use Rattle.rm_refinement.specs.History.{History, abstract_scene}
 use Rattle.rm_invariant.specs.Step.{AppsInvariant}
 use Rattle.rm_invariant.specs.apps.Invariant.{RowInvariant, is_active}
 use Rattle.rm_invariant.specs.apps.View.{counts, is_attempt_op_of, one_if, op_view, sched_view, view}

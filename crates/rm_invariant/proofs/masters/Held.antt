@@ -1,18 +1,7 @@
 -- What the book tells of a container and of all containers of an attempt, and that the tables and the judge find a container on the same node.
-use Rattle.std.proofs.Common.{◌≡◌, ℕ, ◌||◌, List, [], ◌∷◌, ◌++◌, Bool, true, false, Option, None, Some, refl, sym, ◌∙◌, ap, find, option_map}
-use Rattle.std.specs.List.{list_any}
-use Rattle.rm_types.specs.declared.ids.AttemptId.{AttemptId}
-use Rattle.rm_types.specs.declared.ids.ContainerId.{ContainerId}
-use Rattle.rm_types.specs.Ids.{is_attempt, is_container}
-use Rattle.rm_types.specs.declared.containers.BookRow.{BookRow}
-use Rattle.rm_types.proofs.IdLemmas.{container_itself, same_container}
-use Rattle.rm_types.proofs.TestLemmas.{text_itself}
-use Rattle.rm_model.specs.Containers.{is_living, lives_on, judged_row as book_row_of}
-use Rattle.rm_model.specs.Facts.{has_container}
-use Rattle.rm_model.specs.State.{Row}
-use Rattle.rm_book.specs.Books.{BookOf, is_of}
-use Rattle.rm_tables.specs.MainEvents.{is_master_of, node_at}
-use Rattle.rm_refinement.specs.Agreement.{PlainRow, SameRows, bare_row, plain_row}
+use Rattle.rm_invariant.proofs.Common.{◌≡◌, ℕ, ◌||◌, List, [], ◌∷◌, ◌++◌, Bool, true, false, Option, None, Some, refl, sym, ◌∙◌, ap, find, list_any, AttemptId, ContainerId, is_attempt, is_container, BookRow, container_itself, same_container, text_itself, is_living, lives_on, has_container, Row, BookOf, is_of, is_master_of, node_at, PlainRow, SameRows, bare_row, plain_row}
+use Rattle.std.proofs.Common.{option_map}
+use Rattle.rm_model.specs.Containers.{judged_row as book_row_of}
 use Rattle.rm_invariant.specs.apps.View.{set_if}
 
 -- the row's master, twice

@@ -1,29 +1,13 @@
 -- An Attempt once it is kept, as a whole step: it lives, and its master is to be launched.
-use Rattle.std.proofs.Common.{◌≡◌, ◌⊎◌, inl, inr, ℕ, ◌+◌, ◌==◌, ◌||◌, suc, List, [], ◌∷◌, ◌++◌, Bool, true, false, Option, None, Some, find, option_map, length, length-append, drop, refl, sym, ◌∙◌, ap, subst, arith}
-use Rattle.std.proofs.lemmas.Bool.Decides.{nat_tests}
+use Rattle.rm_invariant.proofs.Common.{◌≡◌, ◌⊎◌, inl, inr, ℕ, ◌+◌, ◌||◌, suc, List, [], ◌∷◌, ◌++◌, Bool, true, false, Option, None, Some, find, length, drop, refl, sym, ◌∙◌, ap, subst, arith, nat_tests, AppId, AttemptId, ContainerId, Op, AppRecord, Settings, is_app, is_attempt, is_container, record_of, same_app, app_itself, container_itself, attempts_in, Tables, changed, is_master_of, kept, row_of, History}
+use Rattle.std.proofs.Common.{◌==◌, option_map, length-append}
 use Rattle.rm_types.specs.declared.entries.Entry.TheVariants.{Kept as KeptEntry}
-use Rattle.rm_types.specs.declared.ids.AppId.{AppId}
-use Rattle.rm_types.specs.declared.ids.AttemptId.{AttemptId}
-use Rattle.rm_types.specs.declared.ids.ContainerId.{ContainerId}
-use Rattle.rm_types.specs.declared.operations.Op.{Op}
-use Rattle.rm_types.specs.declared.records.AppRecord.{AppRecord}
-use Rattle.rm_types.specs.declared.settings.Settings.{Settings}
-use Rattle.rm_types.specs.Ids.{is_app, is_attempt, is_container}
-use Rattle.rm_types.specs.Records.{record_of}
 use Rattle.rm_types.specs.declared.operations.Op.TheVariants as ops
-use Rattle.rm_types.proofs.IdLemmas.{same_app, app_itself, container_itself}
-use Rattle.rm_model.specs.Facts.{attempts_in}
 use Rattle.rm_states.specs.declared.attempt.states.AttemptState.TheVariants as attempts
-use Rattle.rm_tables.specs.declared.tables.Tables.{Tables}
-use Rattle.rm_tables.specs.Changes.{changed}
-use Rattle.rm_tables.specs.MainEvents.{is_master_of}
-use Rattle.rm_tables.specs.KeptOps.{kept}
-use Rattle.rm_tables.specs.Rows.{row_of}
 use Rattle.rm_tables.specs.declared.events.MainEvent.TheVariants as mains
 use Rattle.rm_tables.specs.declared.changes.RowChange.TheVariants as of_app
 use Rattle.rm_tables.specs.declared.changes.AttemptChange.TheVariants as of_attempt
 use Rattle.rm_invariant.specs.apps.Invariant.{LastIsOpen, RowInvariant}
-use Rattle.rm_refinement.specs.History.{History}
 use Rattle.rm_invariant.specs.Step.{AppsInvariant}
 use Rattle.rm_invariant.specs.apps.View.{View, changed_if, counts, is_launch, main_view, one_if, op_view, view}
 use Rattle.rm_invariant.proofs.apps.Counts.{at_end}

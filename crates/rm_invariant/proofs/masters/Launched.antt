@@ -1,44 +1,15 @@
 -- AttemptSaved, as a whole step: an attempt whose kill is wished or whose master was lost meanwhile ends, and else its master is ordered where
 -- it stands.
-use Rattle.std.proofs.Common.{◌≡◌, ◌≤◌, ℕ, ◌==◌, ◌&&◌, suc, List, [], ◌∷◌, ◌++◌, Bool, true, false, Option, None, Some, is_some, refl, sym, ◌∙◌, ap, subst, arith}
-use Rattle.std.specs.List.{list_any}
-use Rattle.std.proofs.lemmas.Bool.Decides.{nat_tests}
-use Rattle.rm_types.specs.declared.entries.Entry.TheVariants.{Issued, Ordered, Quiet}
-use Rattle.rm_types.specs.declared.ids.AttemptId.{AttemptId}
-use Rattle.rm_types.specs.declared.ids.ContainerId.{ContainerId}
+use Rattle.rm_invariant.proofs.Common.{◌≡◌, ◌≤◌, ℕ, ◌&&◌, suc, List, [], ◌∷◌, ◌++◌, Bool, true, false, Option, None, Some, refl, sym, ◌∙◌, ap, subst, arith, list_any, nat_tests, Issued, Ordered, Quiet, AttemptId, ContainerId, How, Op, AttemptRecord, Settings, is_app, is_attempt, is_container, record_of, is_some_and, Entry, app_itself, same_container, and_first, attempt_was_first, kept_attempt, is_living, is_attempt_end_op, EndsFor, killed_text, lost_text, Row, with_judged_node, AttemptState, is_alive, MainEvent, with_order, is_master_of, launch_of_master, launch_of_row, launch_of_tests, launch_of_place, launch_of_living, launch_of_current, main_step, node_at, AppRow, Current, Tables, attempt_ends, main_popped, main_quiet, main_worked, row_of, SameRows, History, abstract_scene}
+use Rattle.std.proofs.Common.{◌==◌, is_some}
 use Rattle.rm_types.specs.declared.messages.Lane.TheVariants.{Main as MainLane}
-use Rattle.rm_types.specs.declared.operations.How.{How}
-use Rattle.rm_types.specs.declared.operations.Op.{Op}
-use Rattle.rm_types.specs.declared.records.AttemptRecord.{AttemptRecord}
-use Rattle.rm_types.specs.declared.settings.Settings.{Settings}
-use Rattle.rm_types.specs.Ids.{is_app, is_attempt, is_container}
-use Rattle.rm_types.specs.Records.{record_of, is_some_and}
-use Rattle.rm_types.specs.declared.entries.Entry.{Entry}
 use Rattle.rm_types.specs.declared.operations.How.TheVariants as ways
 use Rattle.rm_types.specs.declared.operations.Op.TheVariants as ops
-use Rattle.rm_types.proofs.IdLemmas.{app_itself, same_container}
-use Rattle.rm_types.proofs.TestLemmas.{and_first}
-use Rattle.rm_model.specs.Attempts.{attempt_was_first, has_lost_master, kept_attempt}
-use Rattle.rm_model.specs.Containers.{is_living}
-use Rattle.rm_model.specs.Facts.{is_attempt_end_op}
-use Rattle.rm_model.specs.Issuing.{EndsFor, killed_text, lost_text}
-use Rattle.rm_model.specs.State.{Row}
-use Rattle.rm_model.specs.Nodes.{with_judged_node}
+use Rattle.rm_model.specs.Attempts.{has_lost_master}
 use Rattle.rm_model.specs.Rules.{MayOrder}
-use Rattle.rm_states.specs.declared.attempt.states.AttemptState.{AttemptState}
 use Rattle.rm_states.specs.declared.attempt.states.AttemptState.TheVariants as attempts
-use Rattle.rm_states.specs.attempt.Table.{is_alive}
-use Rattle.rm_tables.specs.declared.events.MainEvent.{MainEvent}
-use Rattle.rm_tables.specs.MainEvents.{with_order, is_master_of, launch_of_master, launch_of_row, launch_of_tests, launch_of_place, launch_of_living, launch_of_current, main_step, node_at}
-use Rattle.rm_tables.specs.declared.rows.AppRow.{AppRow}
-use Rattle.rm_tables.specs.declared.rows.Current.{Current}
-use Rattle.rm_tables.specs.declared.tables.Tables.{Tables}
-use Rattle.rm_tables.specs.Actions.{attempt_ends, main_popped, main_quiet, main_worked}
-use Rattle.rm_tables.specs.Rows.{row_of}
 use Rattle.rm_tables.specs.declared.events.MainEvent.TheVariants as mains
-use Rattle.rm_refinement.specs.Agreement.{SameRows}
 use Rattle.rm_invariant.specs.apps.Invariant.{LastIsOpen, RowInvariant}
-use Rattle.rm_refinement.specs.History.{History, abstract_scene}
 use Rattle.rm_invariant.specs.Step.{AppsInvariant}
 use Rattle.rm_invariant.specs.apps.View.{counts, is_attempt_end_op_of, main_view, one_if, set_if, view}
 use Rattle.rm_invariant.proofs.apps.Counts.{none_under}

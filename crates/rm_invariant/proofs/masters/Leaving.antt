@@ -1,14 +1,6 @@
 -- What becomes of lists where containers leave: of the book, of those that left, and of the main queue, which is told of masters'.
-use Rattle.std.proofs.Common.{◌≡◌, ◌≤◌, ◌&&◌, ◌||◌, not, suc, List, [], ◌∷◌, ◌++◌, Bool, true, false, count_by, filter, map, refl, sym, ◌∙◌, subst, arith}
-use Rattle.std.specs.List.{list_any}
-use Rattle.rm_types.specs.declared.ids.ContainerId.{ContainerId}
-use Rattle.rm_types.specs.Ids.{is_container}
-use Rattle.rm_types.proofs.TestLemmas.{and_false}
-use Rattle.rm_types.proofs.IdLemmas.{same_container}
-use Rattle.rm_model.specs.Containers.{is_living}
-use Rattle.rm_model.specs.Facts.{has_container}
-use Rattle.rm_model.specs.State.{Row}
-use Rattle.rm_tables.specs.declared.events.MainEvent.{MainEvent}
+use Rattle.rm_invariant.proofs.Common.{◌≡◌, ◌≤◌, ◌&&◌, ◌||◌, not, suc, List, [], ◌∷◌, ◌++◌, Bool, true, false, filter, map, refl, sym, ◌∙◌, subst, arith, list_any, ContainerId, is_container, and_false, same_container, is_living, has_container, Row, MainEvent}
+use Rattle.std.proofs.Common.{count_by}
 use Rattle.rm_tables.specs.declared.events.MainEvent.TheVariants as mains
 use Rattle.rm_invariant.proofs.apps.Counts.{at_front, count_append}
 use Rattle.rm_invariant.specs.masters.View.{is_losing}

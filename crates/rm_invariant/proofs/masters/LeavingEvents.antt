@@ -1,30 +1,9 @@
 -- Release, NodeDone and NodeLost, each as a whole step: the containers that they end leave the book, if there are any.
-use Rattle.std.proofs.Common.{◌≡◌, ℕ, ◌&&◌, not, List, [], ◌∷◌, Bool, true, false, filter, find, map, refl, sym, ◌∙◌, ap, subst}
-use Rattle.std.specs.List.{list_any}
-use Rattle.std.specs.Str.{bytes_eq}
-use Rattle.std.proofs.lemmas.List.Sorted.{IsPermutation-sym}
-use Rattle.rm_types.specs.declared.containers.BookRow.{BookRow}
-use Rattle.rm_types.specs.declared.ids.AttemptId.{AttemptId}
-use Rattle.rm_types.specs.declared.ids.ContainerId.{ContainerId}
-use Rattle.rm_types.specs.declared.settings.Settings.{Settings}
-use Rattle.rm_types.specs.Ids.{is_attempt, is_container}
-use Rattle.rm_types.specs.Order.{Ascend}
+use Rattle.rm_invariant.proofs.Common.{◌≡◌, ℕ, ◌&&◌, not, List, [], ◌∷◌, Bool, true, false, filter, find, map, refl, sym, ◌∙◌, ap, subst, list_any, bytes_eq, IsPermutation-sym, BookRow, AttemptId, ContainerId, Settings, is_attempt, is_container, Ascend, and_first, same_container, ids_on, is_living, lives_on, once, has_container, Allowed, Row, has_row, is_of, SchedEvent, Tables, ended_by, is_masters_in, EndsByEvent, is_on, is_released, sched_step, sched_worked, PlainRow, bare_row, plain_row, SameRows, History, live_state}
 use Rattle.rm_types.specs.declared.containers.Cause.TheVariants as causes
-use Rattle.rm_types.proofs.TestLemmas.{and_first}
-use Rattle.rm_types.proofs.IdLemmas.{same_container}
-use Rattle.rm_model.specs.Containers.{ids_on, is_living, lives_on, once}
-use Rattle.rm_model.specs.Facts.{has_container}
-use Rattle.rm_model.specs.Rules.{Allowed}
-use Rattle.rm_model.specs.State.{Row}
-use Rattle.rm_book.specs.Books.{has_row, is_of, book_row as book_row_of}
-use Rattle.rm_tables.specs.declared.events.SchedEvent.{SchedEvent}
-use Rattle.rm_tables.specs.declared.tables.Tables.{Tables}
-use Rattle.rm_tables.specs.Leaving.{ended_by, is_masters_in}
-use Rattle.rm_tables.specs.SchedEvents.{EndsByEvent, done_by, is_on, is_released, release_step, sched_step}
-use Rattle.rm_tables.specs.Actions.{sched_worked}
+use Rattle.rm_book.specs.Books.{book_row as book_row_of}
+use Rattle.rm_tables.specs.SchedEvents.{done_by, release_step}
 use Rattle.rm_tables.specs.declared.events.SchedEvent.TheVariants as scheds
-use Rattle.rm_refinement.specs.Agreement.{PlainRow, bare_row, plain_row, SameRows}
-use Rattle.rm_refinement.specs.History.{History, live_state}
 use Rattle.rm_invariant.specs.Step.{AppsInvariant}
 use Rattle.rm_invariant.specs.masters.Invariant.{ContainersInvariant}
 use Rattle.rm_invariant.specs.masters.Sound.{RecordsAreSound}

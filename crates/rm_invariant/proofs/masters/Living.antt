@@ -1,31 +1,11 @@
 -- An attempt is live for the judge exactly where it is the current one of its application and lives.
-use Rattle.std.proofs.Common.{◌≡◌, ◌⊎◌, inl, inr, ℕ, ◌==◌, ◌||◌, List, [], ◌∷◌, Bool, true, false, Option, None, Some, find, is_some, option_map, refl, sym, ◌∙◌, subst, arith}
-use Rattle.std.specs.List.{list_all, list_any}
-use Rattle.std.proofs.lemmas.Bool.Decides.{nat_tests}
-use Rattle.rm_types.specs.declared.ids.AttemptId.{AttemptId}
-use Rattle.rm_types.specs.declared.operations.How.{How}
-use Rattle.rm_types.specs.declared.operations.Op.{Op}
-use Rattle.rm_types.specs.declared.records.AppRecord.{AppRecord}
-use Rattle.rm_types.specs.declared.records.AttemptRecord.{AttemptRecord}
-use Rattle.rm_types.specs.declared.settings.Settings.{Settings}
-use Rattle.rm_types.specs.Ids.{is_attempt}
-use Rattle.rm_types.specs.Records.{all_ended, record_of}
+use Rattle.rm_invariant.proofs.Common.{◌≡◌, ◌⊎◌, inl, inr, ℕ, ◌||◌, List, [], ◌∷◌, Bool, true, false, Option, None, Some, find, refl, sym, ◌∙◌, subst, arith, list_all, list_any, nat_tests, AttemptId, How, Op, AppRecord, AttemptRecord, Settings, is_attempt, all_ended, record_of, and_false, and_first, is_live, kept_attempt, attempts_in, end_in, is_attempt_end_op, is_attempt_op, AppState, AttemptState, is_alive, AppRow, Current, Tables, row_of, lives_by, History, abstract_scene}
+use Rattle.std.proofs.Common.{◌==◌, is_some, option_map}
 use Rattle.rm_types.specs.declared.operations.How.TheVariants as ways
-use Rattle.rm_types.proofs.TestLemmas.{and_false, and_first}
-use Rattle.rm_model.specs.Attempts.{is_live, kept_attempt}
-use Rattle.rm_model.specs.Facts.{attempts_in, end_in, is_attempt_end_op, is_attempt_op}
-use Rattle.rm_states.specs.declared.app.states.AppState.{AppState}
 use Rattle.rm_states.specs.declared.app.states.AppState.TheVariants as apps
-use Rattle.rm_states.specs.declared.attempt.states.AttemptState.{AttemptState}
 use Rattle.rm_states.specs.declared.attempt.states.AttemptState.TheVariants as attempts
-use Rattle.rm_states.specs.attempt.Table.{is_alive}
-use Rattle.rm_tables.specs.declared.rows.AppRow.{AppRow}
-use Rattle.rm_tables.specs.declared.rows.Current.{Current}
-use Rattle.rm_tables.specs.declared.tables.Tables.{Tables}
-use Rattle.rm_tables.specs.Rows.{row_of}
-use Rattle.rm_refinement.specs.Services.{lives_by, lives_with}
+use Rattle.rm_refinement.specs.Services.{lives_with}
 use Rattle.rm_invariant.specs.apps.Invariant.{EndIssuedInvariant, ActiveInvariant, AttemptCounts, CurrentInvariant, LastIsOpen, AllHaveEnded, RowInvariant, StateInvariant, has_ended_or_is, ops_of}
-use Rattle.rm_refinement.specs.History.{History, abstract_scene}
 use Rattle.rm_invariant.specs.Step.{AppsInvariant}
 use Rattle.rm_invariant.specs.apps.View.{View, is_attempt_end_op_of, is_attempt_op_of, is_own_op, view}
 use Rattle.rm_invariant.proofs.apps.Counts.{none_under, some_passes}

@@ -1,34 +1,14 @@
 -- MasterLost, as a whole step: an attempt that is being saved is marked, and one that lives ends.
-use Rattle.std.proofs.Common.{◌≡◌, ◌≢◌, ◌⊎◌, inl, inr, ◌==◌, ◌&&◌, suc, List, ◌∷◌, Bool, true, false, Option, None, Some, refl, sym, ◌∙◌, ap, arith}
-use Rattle.rm_types.specs.declared.entries.Entry.{Entry}
-use Rattle.rm_types.specs.declared.entries.Entry.TheVariants.{Issued, Quiet}
-use Rattle.rm_types.specs.declared.ids.ContainerId.{ContainerId}
+use Rattle.rm_invariant.proofs.Common.{◌≡◌, ◌⊎◌, inl, inr, ◌&&◌, suc, List, ◌∷◌, Bool, true, false, Option, None, Some, refl, sym, ◌∙◌, ap, arith, Entry, Issued, Quiet, ContainerId, AttemptRecord, Settings, is_container, is_some_and, and_first, container_itself, same_container, kept_attempt, has_container, EndsFor, lost_text, AttemptState, MainEvent, AppRow, Current, Tables, app_changed, attempt_ends, main_popped, main_quiet, main_worked, changed, is_master_of, loss_of_state, loss_of_row, loss_of_current, main_step, row_of, History, abstract_scene}
+use Rattle.std.proofs.Common.{◌≢◌, ◌==◌}
 use Rattle.rm_types.specs.declared.messages.Lane.TheVariants.{Main as MainLane}
-use Rattle.rm_types.specs.declared.records.AttemptRecord.{AttemptRecord}
-use Rattle.rm_types.specs.declared.settings.Settings.{Settings}
-use Rattle.rm_types.specs.Ids.{is_container}
-use Rattle.rm_types.specs.Records.{is_some_and}
 use Rattle.rm_types.specs.declared.operations.How.TheVariants as ways
 use Rattle.rm_types.specs.declared.operations.Op.TheVariants as ops
-use Rattle.rm_types.proofs.TestLemmas.{and_first}
-use Rattle.rm_types.proofs.IdLemmas.{container_itself, same_container}
-use Rattle.rm_model.specs.Attempts.{has_lost_master, kept_attempt}
-use Rattle.rm_model.specs.Facts.{has_container}
-use Rattle.rm_model.specs.Issuing.{EndsFor, lost_text}
-use Rattle.rm_states.specs.declared.attempt.states.AttemptState.{AttemptState}
+use Rattle.rm_model.specs.Attempts.{has_lost_master}
 use Rattle.rm_states.specs.declared.attempt.states.AttemptState.TheVariants as attempts
-use Rattle.rm_tables.specs.declared.events.MainEvent.{MainEvent}
-use Rattle.rm_tables.specs.declared.rows.AppRow.{AppRow}
-use Rattle.rm_tables.specs.declared.rows.Current.{Current}
-use Rattle.rm_tables.specs.declared.tables.Tables.{Tables}
-use Rattle.rm_tables.specs.Actions.{app_changed, attempt_ends, main_popped, main_quiet, main_worked}
-use Rattle.rm_tables.specs.Changes.{changed}
-use Rattle.rm_tables.specs.MainEvents.{is_master_of, loss_of_state, loss_of_row, loss_of_current, main_step}
-use Rattle.rm_tables.specs.Rows.{row_of}
 use Rattle.rm_tables.specs.declared.events.MainEvent.TheVariants as mains
 use Rattle.rm_tables.specs.declared.changes.RowChange.TheVariants as of_app
 use Rattle.rm_tables.specs.declared.changes.AttemptChange.TheVariants as of_attempt
-use Rattle.rm_refinement.specs.History.{History, abstract_scene}
 use Rattle.rm_invariant.specs.Step.{AppsInvariant}
 use Rattle.rm_invariant.specs.apps.Invariant.{RowInvariant}
 use Rattle.rm_invariant.specs.apps.View.{counts, view}

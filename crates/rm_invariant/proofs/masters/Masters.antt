@@ -1,28 +1,11 @@
 -- The container that a row names is a master's for the judge, while its attempt is being saved or lives; and the tables tell masters' containers
 -- as the judge does.
-use Rattle.std.proofs.Common.{◌≡◌, ◌⊎◌, inl, inr, ◌+◌, ◌==◌, ◌||◌, not, true, Option, None, Some, is_some, find, length, refl, ◌∙◌, arith}
-use Rattle.std.proofs.lemmas.Bool.Decides.{nat_tests}
-use Rattle.std.proofs.lemmas.Bool.{or_right}
-use Rattle.rm_types.specs.declared.ids.ContainerId.{ContainerId}
-use Rattle.rm_types.specs.declared.records.AppRecord.{AppRecord}
-use Rattle.rm_types.specs.declared.settings.Settings.{Settings}
-use Rattle.rm_types.specs.Ids.{is_attempt, is_container}
-use Rattle.rm_types.specs.declared.records.AttemptRecord.{AttemptRecord}
-use Rattle.rm_types.specs.Records.{is_some_and, record_of}
-use Rattle.rm_model.specs.State.{Scene}
-use Rattle.rm_model.specs.Attempts.{attempt_is_kept, is_masters}
-use Rattle.rm_model.specs.Facts.{attempts_in}
-use Rattle.rm_states.specs.declared.attempt.states.AttemptState.{AttemptState}
+use Rattle.rm_invariant.proofs.Common.{◌≡◌, ◌⊎◌, inl, inr, ◌+◌, ◌||◌, not, true, Option, None, Some, find, length, refl, ◌∙◌, arith, nat_tests, or_right, ContainerId, AppRecord, Settings, is_attempt, is_container, AttemptRecord, is_some_and, record_of, Scene, is_masters, attempts_in, AttemptState, is_masters_in, AppRow, Current, Tables, is_master_of, kept, row_of, History, abstract_scene}
+use Rattle.std.proofs.Common.{◌==◌, is_some}
+use Rattle.rm_model.specs.Attempts.{attempt_is_kept}
 use Rattle.rm_states.specs.declared.attempt.states.AttemptState.TheVariants as attempts
-use Rattle.rm_tables.specs.Leaving.{attempt_in, is_masters_in, is_own_or_unkept}
-use Rattle.rm_tables.specs.declared.rows.AppRow.{AppRow}
-use Rattle.rm_tables.specs.declared.rows.Current.{Current}
-use Rattle.rm_tables.specs.declared.tables.Tables.{Tables}
-use Rattle.rm_tables.specs.MainEvents.{is_master_of}
-use Rattle.rm_tables.specs.KeptOps.{kept}
-use Rattle.rm_tables.specs.Rows.{row_of}
+use Rattle.rm_tables.specs.Leaving.{attempt_in, is_own_or_unkept}
 use Rattle.rm_invariant.specs.apps.Invariant.{ActiveInvariant, CurrentInvariant, RowInvariant}
-use Rattle.rm_refinement.specs.History.{History, abstract_scene}
 use Rattle.rm_invariant.specs.Step.{AppsInvariant}
 use Rattle.rm_invariant.specs.apps.View.{view}
 use Rattle.rm_invariant.proofs.apps.Own.{active_row}

@@ -1,16 +1,8 @@
 -- An attempt that is over stays so, whatever is kept.
-use Rattle.std.proofs.Common.{◌≡◌, ℕ, ◌||◌, List, [], ◌∷◌, ◌++◌, Bool, true, false, Option, None, Some, find, is_some, map, option_map, refl, ◌∙◌, ap, arith}
+use Rattle.rm_invariant.proofs.Common.{◌≡◌, ℕ, ◌||◌, List, [], ◌∷◌, ◌++◌, Bool, true, false, Option, None, Some, find, map, refl, ◌∙◌, ap, arith, or_right, AttemptId, ContainerId, How, AppRecord, AttemptRecord, is_attempt, with_end, attempts_in}
+use Rattle.std.proofs.Common.{is_some, option_map}
 use Rattle.std.specs.Prelude.{option_and_then}
-use Rattle.std.proofs.lemmas.Bool.{or_right}
-use Rattle.rm_types.specs.declared.ids.AttemptId.{AttemptId}
-use Rattle.rm_types.specs.declared.ids.ContainerId.{ContainerId}
-use Rattle.rm_types.specs.declared.operations.How.{How}
-use Rattle.rm_types.specs.declared.records.AppRecord.{AppRecord}
-use Rattle.rm_types.specs.declared.records.AttemptRecord.{AttemptRecord}
-use Rattle.rm_types.specs.Ids.{is_attempt}
-use Rattle.rm_types.specs.Records.{with_end}
 use Rattle.rm_types.proofs.EndLemmas.{end_stays, id_ended}
-use Rattle.rm_model.specs.Facts.{attempts_in}
 use Rattle.rm_invariant.specs.apps.View.{one_if}
 use Rattle.rm_invariant.specs.masters.Invariant.{RemovalInvariant, has_end_in}
 use Rattle.rm_invariant.specs.masters.View.{ContainerView}

@@ -1,32 +1,9 @@
 -- AttemptRemoved, as a whole step: the containers of an attempt that is over leave the book, if there are any.
-use Rattle.std.proofs.Common.{◌≡◌, List, [], ◌∷◌, Bool, true, false, filter, map, refl, ap, subst, inl, inr, ◌⊎◌, suc, ◌||◌, not, is_some, Option, None, Some, ◌∙◌, arith}
-use Rattle.std.proofs.lemmas.Bool.Decides.{nat_tests}
-use Rattle.std.proofs.lemmas.List.Sorted.{IsPermutation-sym}
-use Rattle.rm_types.specs.declared.containers.BookRow.{BookRow}
-use Rattle.rm_types.specs.declared.entries.Entry.TheVariants.{Ended}
-use Rattle.rm_types.specs.declared.ids.AttemptId.{AttemptId}
-use Rattle.rm_types.specs.declared.ids.ContainerId.{ContainerId}
-use Rattle.rm_types.specs.declared.settings.Settings.{Settings}
-use Rattle.rm_types.specs.Ids.{is_attempt, is_container}
-use Rattle.rm_types.specs.Order.{Ascend}
-use Rattle.rm_types.specs.Records.{record_of}
+use Rattle.rm_invariant.proofs.Common.{◌≡◌, List, [], ◌∷◌, Bool, true, false, filter, map, refl, ap, subst, inl, inr, ◌⊎◌, suc, ◌||◌, not, Option, None, Some, ◌∙◌, arith, nat_tests, IsPermutation-sym, BookRow, Ended, AttemptId, ContainerId, Settings, is_attempt, is_container, Ascend, record_of, same_container, is_over, is_living, has_app, has_container, Allowed, Row, AppRow, SchedEvent, Tables, ended_by, EndsByEvent, sched_step, sched_worked, sched_popped, row_of, PlainRow, bare_row, plain_row, SameRows, History, abstract_scene, live_state}
+use Rattle.std.proofs.Common.{is_some}
 use Rattle.rm_types.specs.declared.containers.Cause.TheVariants as causes
-use Rattle.rm_types.proofs.IdLemmas.{same_container}
-use Rattle.rm_model.specs.Attempts.{is_over}
-use Rattle.rm_model.specs.Containers.{ids_of, is_living}
-use Rattle.rm_model.specs.Facts.{has_app, has_container}
-use Rattle.rm_model.specs.Rules.{Allowed}
-use Rattle.rm_model.specs.State.{Row}
-use Rattle.rm_tables.specs.declared.rows.AppRow.{AppRow}
-use Rattle.rm_tables.specs.declared.events.SchedEvent.{SchedEvent}
-use Rattle.rm_tables.specs.declared.tables.Tables.{Tables}
-use Rattle.rm_tables.specs.Leaving.{ended_by}
-use Rattle.rm_tables.specs.SchedEvents.{EndsByEvent, sched_step}
-use Rattle.rm_tables.specs.Actions.{sched_worked, sched_popped}
-use Rattle.rm_tables.specs.Rows.{row_of}
+use Rattle.rm_model.specs.Containers.{ids_of}
 use Rattle.rm_tables.specs.declared.events.SchedEvent.TheVariants as scheds
-use Rattle.rm_refinement.specs.Agreement.{PlainRow, bare_row, plain_row, SameRows}
-use Rattle.rm_refinement.specs.History.{History, abstract_scene, live_state}
 use Rattle.rm_invariant.specs.Step.{AppsInvariant}
 use Rattle.rm_invariant.specs.apps.Invariant.{RowInvariant}
 use Rattle.rm_invariant.specs.apps.View.{view}

@@ -1,22 +1,8 @@
 -- A step at which nothing is to be done: its event may go.
-use Rattle.std.proofs.Common.{◌≡◌, ◌≢◌, inl, ◌==◌, suc, List, ◌∷◌, Bool, true, false, Option, None, Some, refl, arith}
-use Rattle.rm_types.specs.declared.entries.Entry.TheVariants.{Quiet}
-use Rattle.rm_types.specs.declared.ids.AppId.{AppId}
-use Rattle.rm_types.specs.declared.ids.AttemptId.{AttemptId}
-use Rattle.rm_types.specs.declared.ids.ContainerId.{ContainerId}
+use Rattle.rm_invariant.proofs.Common.{◌≡◌, inl, suc, List, ◌∷◌, Bool, true, false, Option, None, Some, refl, arith, Quiet, AppId, AttemptId, ContainerId, Settings, is_app, AppState, is_alive, MainEvent, AppRow, Current, Tables, main_popped, row_of, History}
+use Rattle.std.proofs.Common.{◌≢◌, ◌==◌}
 use Rattle.rm_types.specs.declared.messages.Lane.TheVariants.{Main as MainLane}
-use Rattle.rm_types.specs.declared.settings.Settings.{Settings}
-use Rattle.rm_types.specs.Ids.{is_app}
-use Rattle.rm_states.specs.declared.app.states.AppState.{AppState}
 use Rattle.rm_states.specs.declared.attempt.states.AttemptState.TheVariants as attempts
-use Rattle.rm_states.specs.attempt.Table.{is_alive}
-use Rattle.rm_tables.specs.declared.events.MainEvent.{MainEvent}
-use Rattle.rm_tables.specs.declared.rows.AppRow.{AppRow}
-use Rattle.rm_tables.specs.declared.rows.Current.{Current}
-use Rattle.rm_tables.specs.declared.tables.Tables.{Tables}
-use Rattle.rm_tables.specs.Actions.{main_popped}
-use Rattle.rm_tables.specs.Rows.{row_of}
-use Rattle.rm_refinement.specs.History.{History}
 use Rattle.rm_invariant.specs.Step.{AppsInvariant}
 use Rattle.rm_invariant.specs.apps.Invariant.{RowInvariant, StateInvariant}
 use Rattle.rm_invariant.specs.apps.View.{View, main_view, one_if, view}

@@ -1,33 +1,7 @@
 -- Events of the scheduler's queue by which containers leave the book, each as a whole step: AttemptRemoved, and any other one.
-use Rattle.std.proofs.Common.{◌≡◌, ◌≤◌, ◌⊎◌, inl, inr, ℕ, ◌==◌, ◌&&◌, not, suc, List, [], ◌∷◌, Bool, true, false, Option, None, Some, count_by, filter, refl, sym, ◌∙◌, subst, arith}
-use Rattle.std.specs.List.{list_any}
-use Rattle.rm_types.specs.declared.containers.Cause.{Cause}
-use Rattle.rm_types.specs.declared.entries.Entry.TheVariants.{Ended}
-use Rattle.rm_types.specs.declared.ids.AppId.{AppId}
-use Rattle.rm_types.specs.declared.ids.AttemptId.{AttemptId}
-use Rattle.rm_types.specs.declared.ids.ContainerId.{ContainerId}
-use Rattle.rm_types.specs.declared.settings.Settings.{Settings}
-use Rattle.rm_types.specs.Ids.{is_attempt}
-use Rattle.rm_types.specs.declared.entries.Entry.{Entry}
-use Rattle.rm_model.specs.Attempts.{is_masters}
-use Rattle.rm_model.specs.Containers.{is_living, leave}
-use Rattle.rm_model.specs.Facts.{has_container}
-use Rattle.rm_model.specs.Nodes.{tidied}
-use Rattle.rm_model.specs.Rules.{Allowed}
-use Rattle.rm_model.specs.State.{LifeState, scene}
-use Rattle.rm_model.specs.Changes.{after}
-use Rattle.rm_states.specs.declared.attempt.states.AttemptState.{AttemptState}
+use Rattle.rm_invariant.proofs.Common.{◌≡◌, ◌≤◌, ◌⊎◌, inl, inr, ℕ, ◌&&◌, not, suc, List, [], ◌∷◌, Bool, true, false, Option, None, Some, filter, refl, sym, ◌∙◌, subst, arith, list_any, Cause, Ended, AppId, AttemptId, ContainerId, Settings, is_attempt, Entry, is_masters, is_living, leave, has_container, tidied, Allowed, LifeState, scene, after, AttemptState, MainEvent, SchedEvent, AppRow, Current, Tables, ended_by, left_all, losts_of, closings_of, is_masters_in, is_master_of, row_of, sched_popped, sched_worked, History, abstract_life, abstract_scene, live_state}
+use Rattle.std.proofs.Common.{◌==◌, count_by}
 use Rattle.rm_states.specs.declared.attempt.states.AttemptState.TheVariants as attempts
-use Rattle.rm_tables.specs.declared.events.MainEvent.{MainEvent}
-use Rattle.rm_tables.specs.declared.events.SchedEvent.{SchedEvent}
-use Rattle.rm_tables.specs.declared.rows.AppRow.{AppRow}
-use Rattle.rm_tables.specs.declared.rows.Current.{Current}
-use Rattle.rm_tables.specs.declared.tables.Tables.{Tables}
-use Rattle.rm_tables.specs.Leaving.{ended_by, left_all, losts_of, closings_of, is_masters_in}
-use Rattle.rm_tables.specs.MainEvents.{is_master_of}
-use Rattle.rm_tables.specs.Rows.{row_of}
-use Rattle.rm_tables.specs.Actions.{sched_popped, sched_worked}
-use Rattle.rm_refinement.specs.History.{History, abstract_life, abstract_scene, live_state}
 use Rattle.rm_invariant.specs.Step.{AppsInvariant}
 use Rattle.rm_invariant.specs.apps.Invariant.{RowInvariant}
 use Rattle.rm_invariant.specs.apps.View.{View, is_accept, is_done, is_grant, is_kill, is_launch, is_save, is_start, one_if, sched_view, view}

@@ -1,19 +1,10 @@
 -- What the events of masters do to the facts of an application and its attempt of a number.
-use Rattle.std.proofs.Common.{◌≡◌, ◌⊎◌, ℕ, ◌==◌, suc, Bool, true, false, Option, Some, refl, arith}
-use Rattle.std.proofs.lemmas.Bool.Decides.{nat_tests}
-use Rattle.rm_types.specs.declared.ids.AttemptId.{AttemptId}
-use Rattle.rm_types.specs.declared.operations.How.{How}
-use Rattle.rm_types.specs.declared.settings.Settings.{Settings}
-use Rattle.rm_states.specs.declared.app.states.AppState.{AppState}
+use Rattle.rm_invariant.proofs.Common.{◌≡◌, ◌⊎◌, ℕ, suc, Bool, true, false, Option, Some, refl, arith, nat_tests, AttemptId, How, Settings, AppState, next_app_state, AttemptState, AppRow, Current, changed}
+use Rattle.std.proofs.Common.{◌==◌}
 use Rattle.rm_states.specs.declared.app.states.AppState.TheVariants as apps
 use Rattle.rm_states.specs.declared.app.states.AppEvent.{AppEvent}
 use Rattle.rm_states.specs.declared.app.states.AppEvent.TheVariants as app_events
-use Rattle.rm_states.specs.app.Table.{next_app_state}
-use Rattle.rm_states.specs.declared.attempt.states.AttemptState.{AttemptState}
 use Rattle.rm_states.specs.declared.attempt.states.AttemptState.TheVariants as attempts
-use Rattle.rm_tables.specs.declared.rows.AppRow.{AppRow}
-use Rattle.rm_tables.specs.declared.rows.Current.{Current}
-use Rattle.rm_tables.specs.Changes.{changed}
 use Rattle.rm_tables.specs.declared.changes.RowChange.TheVariants as of_app
 use Rattle.rm_tables.specs.declared.changes.AttemptChange.TheVariants as of_attempt
 use Rattle.rm_invariant.specs.apps.Invariant.{ActiveInvariant, RowInvariant, StateInvariant, is_active}

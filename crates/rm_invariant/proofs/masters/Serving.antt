@@ -1,40 +1,17 @@
 -- The clock and a master are served, of an attempt that lives, each as a whole step: its master's lease ran out; its master finishes.
-use Rattle.std.proofs.Common.{◌≡◌, inl, inr, ℕ, ◌==◌, ◌||◌, suc, List, [], ◌∷◌, ◌++◌, Bool, true, false, Option, Some, refl, ap, arith}
-use Rattle.std.proofs.lemmas.Bool.Decides.{nat_tests}
-use Rattle.rm_types.specs.declared.entries.Entry.{Entry}
-use Rattle.rm_types.specs.declared.entries.Entry.TheVariants.{Served}
-use Rattle.rm_types.specs.declared.ids.AppId.{AppId}
-use Rattle.rm_types.specs.declared.ids.AttemptId.{AttemptId}
-use Rattle.rm_types.specs.declared.ids.ContainerId.{ContainerId}
-use Rattle.rm_types.specs.declared.messages.ClockAsk.TheVariants.{ExpireMaster}
-use Rattle.rm_types.specs.declared.messages.MasterAsk.TheVariants.{Finish, Register}
-use Rattle.rm_types.specs.declared.settings.Settings.{Settings}
-use Rattle.rm_types.specs.Ids.{is_app, is_attempt}
-use Rattle.rm_types.specs.Records.{records}
+use Rattle.rm_invariant.proofs.Common.{◌≡◌, inl, inr, ℕ, ◌||◌, suc, List, [], ◌∷◌, ◌++◌, Bool, true, false, Option, Some, refl, ap, arith, nat_tests, Entry, Served, AppId, AttemptId, ContainerId, ExpireMaster, Finish, Register, Settings, is_app, is_attempt, records, has_registered, is_registered, after, reply_to, AllowedIn, AttemptState, AppRow, Current, Dialogue, Tables, changed, is_master_of, row_of, with_row, History, abstract_scene, live_state}
+use Rattle.std.proofs.Common.{◌==◌}
 use Rattle.rm_types.specs.declared.messages.Message.TheVariants as messages
 use Rattle.rm_types.specs.declared.messages.Sender.TheVariants as senders
 use Rattle.rm_types.specs.declared.replies.Reply.TheVariants as replies
-use Rattle.rm_model.specs.Attempts.{has_registered, is_registered}
-use Rattle.rm_model.specs.Changes.{after}
 use Rattle.rm_model.specs.MasterReplies.{with_master}
-use Rattle.rm_model.specs.Replies.{reply_to}
-use Rattle.rm_model.specs.Rules.{AllowedIn}
-use Rattle.rm_states.specs.declared.attempt.states.AttemptState.{AttemptState}
 use Rattle.rm_states.specs.declared.attempt.states.AttemptState.TheVariants as attempts
 use Rattle.rm_states.specs.declared.app.states.AppEvent.TheVariants as app_events
 use Rattle.rm_states.specs.declared.attempt.states.AttemptEvent.TheVariants as attempt_events
 use Rattle.rm_states.specs.attempt.Table.{next_attempt_state as next_attempt_state}
-use Rattle.rm_tables.specs.declared.rows.AppRow.{AppRow}
-use Rattle.rm_tables.specs.declared.rows.Current.{Current}
-use Rattle.rm_tables.specs.declared.rows.Dialogue.{Dialogue}
-use Rattle.rm_tables.specs.declared.tables.Tables.{Tables}
-use Rattle.rm_tables.specs.Changes.{changed}
-use Rattle.rm_tables.specs.MainEvents.{is_master_of}
-use Rattle.rm_tables.specs.Rows.{row_of, with_row}
 use Rattle.rm_tables.specs.declared.events.MainEvent.TheVariants as mains
 use Rattle.rm_tables.specs.declared.changes.RowChange.TheVariants as of_app
 use Rattle.rm_tables.specs.declared.changes.AttemptChange.TheVariants as of_attempt
-use Rattle.rm_refinement.specs.History.{History, abstract_scene, live_state}
 use Rattle.rm_invariant.specs.Step.{AppsInvariant}
 use Rattle.rm_invariant.specs.apps.Invariant.{RowInvariant, is_active}
 use Rattle.rm_invariant.specs.apps.View.{changed_if, is_launch, one_if, set_if, view}

@@ -1,22 +1,10 @@
 -- The clock and a master are served, of an attempt that is live for the judge: each whole step as `Serving` has it, whose row is found.
-use Rattle.std.proofs.Common.{◌≡◌, List, [], ◌∷◌, ◌++◌, true, Option, inl, inr, refl, ℕ}
-use Rattle.rm_types.specs.declared.entries.Entry.TheVariants.{Served}
-use Rattle.rm_types.specs.declared.ids.AttemptId.{AttemptId}
-use Rattle.rm_types.specs.declared.messages.ClockAsk.TheVariants.{ExpireMaster}
-use Rattle.rm_types.specs.declared.messages.MasterAsk.TheVariants.{Finish, Register}
-use Rattle.rm_types.specs.declared.settings.Settings.{Settings}
+use Rattle.rm_invariant.proofs.Common.{◌≡◌, List, [], ◌∷◌, ◌++◌, true, Option, inl, inr, refl, ℕ, Served, AttemptId, ExpireMaster, Finish, Register, Settings, has_registered, is_live, is_registered, reply_to, AttemptState, Dialogue, Tables, with_row, History, abstract_scene}
 use Rattle.rm_types.specs.declared.messages.Message.TheVariants as messages
 use Rattle.rm_types.specs.declared.messages.Sender.TheVariants as senders
 use Rattle.rm_types.specs.declared.replies.Reply.TheVariants as replies
-use Rattle.rm_model.specs.Attempts.{has_registered, is_live, is_registered}
 use Rattle.rm_model.specs.MasterReplies.{with_master}
-use Rattle.rm_model.specs.Replies.{reply_to}
-use Rattle.rm_states.specs.declared.attempt.states.AttemptState.{AttemptState}
-use Rattle.rm_tables.specs.declared.rows.Dialogue.{Dialogue}
-use Rattle.rm_tables.specs.declared.tables.Tables.{Tables}
-use Rattle.rm_tables.specs.Rows.{with_row}
 use Rattle.rm_tables.specs.declared.events.MainEvent.TheVariants as mains
-use Rattle.rm_refinement.specs.History.{History, abstract_scene}
 use Rattle.rm_invariant.specs.Step.{AppsInvariant}
 use Rattle.rm_invariant.specs.apps.Invariant.{is_active}
 use Rattle.rm_invariant.specs.apps.View.{view}

@@ -1,19 +1,8 @@
 -- Sound records stay sound with each operation that fits them, and a life can recover them.
-use Rattle.std.proofs.Common.{◌≡◌, ◌<◌, ℕ, ◌+◌, ◌==◌, ◌&&◌, List, [], ◌∷◌, ◌++◌, Bool, true, false, Option, None, Some, is_some, is_none, find, map, length, refl, sym, ◌∙◌, ap, subst, arith}
+use Rattle.rm_invariant.proofs.Common.{◌≡◌, ◌<◌, ℕ, ◌+◌, ◌&&◌, List, [], ◌∷◌, ◌++◌, Bool, true, false, Option, None, Some, is_none, find, map, length, refl, sym, ◌∙◌, ap, subst, arith, list_all, nat_tests, AppId, AttemptId, ContainerId, How, Op, AppRecord, AttemptRecord, is_app, is_attempt, Records, record_of, recorded, fits_records, with_record, with_end, new_record, all_ended, last_attempt, is_some_and, same_app}
+use Rattle.std.proofs.Common.{◌==◌, is_some}
 use Rattle.std.specs.Prelude.{option_and_then}
-use Rattle.std.specs.List.{list_all}
-use Rattle.std.proofs.lemmas.Bool.Decides.{nat_tests}
-use Rattle.rm_types.specs.declared.ids.AppId.{AppId}
-use Rattle.rm_types.specs.declared.ids.AttemptId.{AttemptId}
-use Rattle.rm_types.specs.declared.ids.ContainerId.{ContainerId}
-use Rattle.rm_types.specs.declared.operations.How.{How}
-use Rattle.rm_types.specs.declared.operations.Op.{Op}
-use Rattle.rm_types.specs.declared.records.AppRecord.{AppRecord}
-use Rattle.rm_types.specs.declared.records.AttemptRecord.{AttemptRecord}
-use Rattle.rm_types.specs.Ids.{is_app, is_attempt}
-use Rattle.rm_types.specs.Records.{Records, record_of, recorded, fits_records, with_record, with_end, new_record, all_ended, last_attempt, is_some_and}
 use Rattle.rm_types.specs.declared.operations.Op.TheVariants as ops
-use Rattle.rm_types.proofs.IdLemmas.{same_app}
 use Rattle.rm_types.proofs.EndLemmas.{all_ended-map, end_stays, id_ended}
 use Rattle.rm_invariant.specs.apps.Invariant.{LastIsOpen, has_ended_or_is, is_open_one}
 use Rattle.rm_invariant.specs.apps.Recovered.{Recoverable}

@@ -1,26 +1,7 @@
 -- A step of an application's own event or operation, which keeps what holds of every attempt and of every container: what is left to show is
 -- what becomes of its own ones.
-use Rattle.std.proofs.Common.{◌≡◌, List, ◌∷◌, Bool, true, false, Option, Some, option_map, refl, sym, ◌∙◌, ap, subst, count_by, is_some}
-use Rattle.rm_types.specs.declared.entries.Entry.{Entry}
-use Rattle.rm_types.specs.declared.ids.AppId.{AppId}
-use Rattle.rm_types.specs.declared.ids.AttemptId.{AttemptId}
-use Rattle.rm_types.specs.declared.ids.ContainerId.{ContainerId}
-use Rattle.rm_types.specs.declared.settings.Settings.{Settings}
-use Rattle.rm_types.specs.Ids.{is_app}
-use Rattle.rm_types.specs.Records.{record_of, records}
-use Rattle.rm_types.proofs.IdLemmas.{same_app}
-use Rattle.rm_model.specs.Changes.{after}
-use Rattle.rm_model.specs.Rules.{AllowedIn}
-use Rattle.rm_model.specs.State.{LifeState, Manager}
-use Rattle.rm_model.specs.Containers.{is_living}
-use Rattle.rm_model.specs.Facts.{has_app, has_container}
-use Rattle.rm_model.specs.Attempts.{attempt_was_first, finishing_text, has_expired}
-use Rattle.rm_tables.specs.declared.events.MainEvent.{MainEvent}
-use Rattle.rm_tables.specs.declared.rows.AppRow.{AppRow}
-use Rattle.rm_tables.specs.declared.tables.Tables.{Tables}
-use Rattle.rm_tables.specs.Actions.{main_popped}
-use Rattle.rm_tables.specs.Rows.{row_of}
-use Rattle.rm_refinement.specs.History.{History, abstract_scene, live_state, abstract_life}
+use Rattle.rm_invariant.proofs.Common.{◌≡◌, List, ◌∷◌, Bool, true, false, Option, Some, refl, sym, ◌∙◌, ap, subst, Entry, AppId, AttemptId, ContainerId, Settings, is_app, record_of, records, same_app, after, AllowedIn, LifeState, Manager, is_living, has_app, has_container, attempt_was_first, finishing_text, has_expired, MainEvent, AppRow, Tables, main_popped, row_of, History, abstract_scene, live_state, abstract_life}
+use Rattle.std.proofs.Common.{option_map, count_by, is_some}
 use Rattle.rm_invariant.specs.Step.{AppsInvariant, Step}
 use Rattle.rm_invariant.specs.apps.Invariant.{RowInvariant}
 use Rattle.rm_invariant.specs.apps.View.{View, changed_if, main_view, view, is_launch}

@@ -1,17 +1,7 @@
 -- What is said of an application whose row differs in its dialogue with its master alone, and in the endings that are to be told: nothing
 -- is said of those.
-use Rattle.std.proofs.Common.{◌≡◌, List, [], ◌∷◌, Bool, true, false, Option, None, Some, option_map, refl, sym, subst, arith}
-use Rattle.rm_types.specs.declared.containers.Closing.{Closing}
-use Rattle.rm_types.specs.declared.ids.AppId.{AppId}
-use Rattle.rm_types.specs.declared.ids.AttemptId.{AttemptId}
-use Rattle.rm_types.specs.declared.ids.ContainerId.{ContainerId}
-use Rattle.rm_types.specs.declared.settings.Settings.{Settings}
-use Rattle.rm_types.specs.Ids.{is_app}
-use Rattle.rm_states.specs.declared.app.states.AppState.{AppState}
-use Rattle.rm_tables.specs.declared.rows.AppRow.{AppRow}
-use Rattle.rm_tables.specs.declared.rows.Dialogue.{Dialogue}
-use Rattle.rm_tables.specs.Leaving.{closed, closed_in, closed_one}
-use Rattle.rm_tables.specs.Rows.{row_of}
+use Rattle.rm_invariant.proofs.Common.{◌≡◌, List, [], ◌∷◌, Bool, true, false, Option, None, Some, refl, sym, subst, arith, Closing, AppId, AttemptId, ContainerId, Settings, is_app, AppState, AppRow, Dialogue, closed, closed_in, closed_one, row_of}
+use Rattle.std.proofs.Common.{option_map}
 use Rattle.rm_invariant.specs.apps.Invariant.{RowInvariant, StateInvariant}
 use Rattle.rm_invariant.specs.apps.View.{View, changed_if}
 use Rattle.rm_invariant.proofs.apps.Found.{row_changed}

@@ -1,6 +1,5 @@
 -- What two tests say together.
-use Rattle.std.proofs.Common.{◌≡◌, ◌&&◌, ◌||◌, List, [], ◌∷◌, ◌++◌, Bool, true, false, refl}
-use Rattle.std.specs.List.{list_any}
+use Rattle.rm_invariant.proofs.Common.{◌≡◌, ◌&&◌, ◌||◌, List, [], ◌∷◌, ◌++◌, Bool, true, false, refl, list_any}
 use Rattle.rm_invariant.specs.apps.View.{set_if}
 
 pub and_right : (a b : Bool) → (a && b) ≡ true → b ≡ true

@@ -1,33 +1,16 @@
 -- Each thing that an event of the main queue may come to makes less of what is left to do.
-use Rattle.std.proofs.Common.{inl, inr, ◌≡◌, ◌<◌, ◌≤◌, ℕ, ◌+◌, ◌*◌, ◌-◌, List, [], ◌∷◌, ◌++◌, true, drop, Option, Some, length, refl, arith}
+use Rattle.rm_invariant.proofs.Common.{inl, inr, ◌≡◌, ◌<◌, ◌≤◌, ℕ, ◌+◌, ◌*◌, ◌-◌, List, [], ◌∷◌, ◌++◌, true, drop, Option, Some, length, refl, arith, sum_by-cons, Entry, Accepted, Issued, Ordered, Quiet, AppId, ContainerId, How, Op, Submission, is_alive, AsksOf, without_asks_of, MainEvent, SchedEvent, AppRow, Current, Tables, app_changed, ends_app, main_quiet, main_worked, next_in, schedules, changed, attempt_kill, with_order, with_attempt_requeued, start_of_submission, row_of, with_row}
 use Rattle.std.specs.List.{sum_by}
-use Rattle.std.proofs.lemmas.List.Sums.{sum_by-cons}
-use Rattle.rm_types.specs.declared.entries.Entry.{Entry}
-use Rattle.rm_types.specs.declared.entries.Entry.TheVariants.{Accepted, Issued, Ordered, Quiet}
-use Rattle.rm_types.specs.declared.ids.AppId.{AppId}
-use Rattle.rm_types.specs.declared.ids.ContainerId.{ContainerId}
 use Rattle.rm_types.specs.declared.messages.Lane.TheVariants as lanes
-use Rattle.rm_types.specs.declared.operations.How.{How}
-use Rattle.rm_types.specs.declared.operations.Op.{Op}
 use Rattle.rm_types.specs.declared.operations.Op.TheVariants as ops
-use Rattle.rm_types.specs.declared.operations.Submission.{Submission}
 use Rattle.rm_states.specs.declared.app.states.AppState.TheVariants as apps
 use Rattle.rm_states.specs.declared.attempt.states.AttemptState.TheVariants as attempts
-use Rattle.rm_states.specs.attempt.Table.{is_alive}
-use Rattle.rm_book.specs.AskTables.{AsksOf, without_asks_of}
 use Rattle.rm_tables.specs.declared.changes.AttemptChange.TheVariants as of_attempt
 use Rattle.rm_tables.specs.declared.changes.RowChange.TheVariants as of_app
-use Rattle.rm_tables.specs.declared.events.MainEvent.{MainEvent}
 use Rattle.rm_tables.specs.declared.events.MainEvent.TheVariants as mains
-use Rattle.rm_tables.specs.declared.events.SchedEvent.{SchedEvent}
 use Rattle.rm_tables.specs.declared.events.SchedEvent.TheVariants as scheds
-use Rattle.rm_tables.specs.declared.rows.AppRow.{AppRow}
-use Rattle.rm_tables.specs.declared.rows.Current.{Current}
-use Rattle.rm_tables.specs.declared.tables.Tables.{Tables}
-use Rattle.rm_tables.specs.Actions.{app_changed, ends_app, ends_attempt, main_quiet, main_worked, next_in, schedules}
-use Rattle.rm_tables.specs.Changes.{changed}
-use Rattle.rm_tables.specs.MainEvents.{with_attempt_issued, attempt_kill, with_order, with_attempt_requeued, start_of_submission}
-use Rattle.rm_tables.specs.Rows.{row_of, with_row}
+use Rattle.rm_tables.specs.Actions.{ends_attempt}
+use Rattle.rm_tables.specs.MainEvents.{with_attempt_issued}
 use Rattle.rm_invariant.specs.events.Outcomes.{is_past_grant}
 use Rattle.rm_invariant.specs.apps.Invariant.{is_active}
 use Rattle.rm_invariant.specs.measure.Measure.{app_end_measure, app_op_measure, app_measure, attempt_op_measure, attempt_measure, main_measure, next_measure, current_number, op_measure, row_measure, rows_measure, sched_measure, untried_measure, measure}

@@ -1,24 +1,11 @@
 -- Where another attempt follows one that has ended, that one was the last kept one, and the settings allow one more.
-use Rattle.std.proofs.Common.{◌≡◌, ◌<◌, ◌≤◌, ◌==◌, ◌+◌, Bool, true, false, Option, None, Some, length, refl, arith}
-use Rattle.std.proofs.lemmas.Bool.Decides.{nat_tests}
-use Rattle.rm_types.specs.declared.ids.AppId.{AppId}
-use Rattle.rm_types.specs.declared.ids.AttemptId.{AttemptId}
-use Rattle.rm_types.specs.declared.operations.Submission.{Submission}
-use Rattle.rm_types.specs.declared.records.AppRecord.{AppRecord}
-use Rattle.rm_types.specs.declared.settings.Settings.{Settings}
-use Rattle.rm_model.specs.Facts.{attempts_in, bound, reaches_bound}
-use Rattle.rm_states.specs.declared.app.states.AppState.{AppState}
+use Rattle.rm_invariant.proofs.Common.{◌≡◌, ◌<◌, ◌≤◌, ◌+◌, Bool, true, false, Option, None, Some, length, refl, arith, nat_tests, AppId, AttemptId, Submission, AppRecord, Settings, attempts_in, reaches_bound, AppState, AppRow, Current, Tables, found_in, next_in, end_with, last_end_in, row_of, History}
+use Rattle.std.proofs.Common.{◌==◌}
+use Rattle.rm_model.specs.Facts.{bound}
 use Rattle.rm_states.specs.declared.app.states.AppState.TheVariants as apps
 use Rattle.rm_states.specs.declared.attempt.states.AttemptState.TheVariants as attempts
-use Rattle.rm_tables.specs.declared.rows.AppRow.{AppRow}
-use Rattle.rm_tables.specs.declared.rows.Current.{Current}
-use Rattle.rm_tables.specs.declared.tables.Tables.{Tables}
-use Rattle.rm_tables.specs.Actions.{found_in, next_in}
-use Rattle.rm_tables.specs.MainEvents.{end_with, last_end_in}
-use Rattle.rm_tables.specs.Rows.{row_of}
 use Rattle.rm_invariant.specs.apps.Invariant.{ActiveInvariant, CurrentInvariant, RowInvariant, is_active}
 use Rattle.rm_invariant.specs.Step.{AppsInvariant}
-use Rattle.rm_refinement.specs.History.{History}
 use Rattle.rm_invariant.specs.apps.View.{view}
 use Rattle.rm_invariant.proofs.apps.Own.{active_row}
 use Rattle.rm_invariant.proofs.apps.Deciding.{done_facts, retry_facts}

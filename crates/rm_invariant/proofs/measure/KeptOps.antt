@@ -1,33 +1,14 @@
 -- An operation that is kept makes less of what is left to do.
-use Rattle.std.proofs.Common.{◌≡◌, ℕ, ◌+◌, ◌*◌, ◌<◌, ◌≤◌, ◌⊎◌, inl, inr, List, [], ◌∷◌, ◌++◌, Bool, true, false, None, Some, Option, is_some, length, refl, append-nil, arith}
-use Rattle.std.specs.List.{flat_map, sum_by}
+use Rattle.rm_invariant.proofs.Common.{◌≡◌, ℕ, ◌+◌, ◌*◌, ◌<◌, ◌≤◌, ◌⊎◌, inl, inr, List, [], ◌∷◌, ◌++◌, Bool, true, false, None, Some, Option, length, refl, arith, flat_map, sum_by-append, sum_by-cons, AppId, AttemptId, ContainerId, How, Op, Submission, AppRecord, AttemptRecord, last_attempt, is_epoch_op, AttemptState, SchedEvent, AppRow, Current, Tables, changed, dropped_at, dropped_by, dropped_of, kept, main_by, main_of, opening_sched, sched_by, sched_of, row_of}
+use Rattle.std.proofs.Common.{is_some, append-nil}
+use Rattle.std.specs.List.{sum_by}
 use Rattle.std.proofs.lemmas.List.{length-append}
-use Rattle.std.proofs.lemmas.List.Sums.{sum_by-append, sum_by-cons}
-use Rattle.rm_types.specs.declared.ids.AppId.{AppId}
-use Rattle.rm_types.specs.declared.ids.AttemptId.{AttemptId}
-use Rattle.rm_types.specs.declared.ids.ContainerId.{ContainerId}
-use Rattle.rm_types.specs.declared.operations.How.{How}
-use Rattle.rm_types.specs.declared.operations.Op.{Op}
 use Rattle.rm_types.specs.declared.operations.Op.TheVariants as ops
-use Rattle.rm_types.specs.declared.operations.Submission.{Submission}
-use Rattle.rm_types.specs.declared.records.AppRecord.{AppRecord}
-use Rattle.rm_types.specs.declared.records.AttemptRecord.{AttemptRecord}
-use Rattle.rm_types.specs.Records.{last_attempt}
-use Rattle.rm_model.specs.Facts.{is_epoch_op}
-use Rattle.rm_states.specs.declared.attempt.states.AttemptState.{AttemptState}
 use Rattle.rm_states.specs.declared.attempt.states.AttemptState.TheVariants as attempts
 use Rattle.rm_tables.specs.declared.changes.AttemptChange.TheVariants as of_attempt
 use Rattle.rm_tables.specs.declared.changes.RowChange.TheVariants as of_app
 use Rattle.rm_tables.specs.declared.events.MainEvent.TheVariants as mains
-use Rattle.rm_tables.specs.declared.events.SchedEvent.{SchedEvent}
 use Rattle.rm_tables.specs.declared.events.SchedEvent.TheVariants as scheds
-use Rattle.rm_tables.specs.declared.rows.AppRow.{AppRow}
-use Rattle.rm_tables.specs.declared.rows.Current.{Current}
-use Rattle.rm_tables.specs.declared.tables.Tables.{Tables}
-use Rattle.rm_tables.specs.Changes.{changed}
-use Rattle.rm_tables.specs.KeptOps.{dropped_at, dropped_by, dropped_of, kept}
-use Rattle.rm_tables.specs.Opening.{main_by, main_of, opening_sched, sched_by, sched_of}
-use Rattle.rm_tables.specs.Rows.{row_of}
 use Rattle.rm_invariant.specs.measure.Measure.{attempt_end_measure, main_measure, opening_measure, sched_measure, untried_measure, measure}
 use Rattle.rm_invariant.proofs.measure.Rows.{attempt_end_falls, attempt_rises, end_kept_falls, saved_rises}
 use Rattle.rm_invariant.proofs.measure.Sums.{main_push, op_front, row_removed, row_rises, sched_push}

@@ -1,25 +1,10 @@
 -- Of the containers that leave no more MasterLost are posted than rows go from the book.
-use Rattle.std.proofs.Common.{◌≡◌, ℕ, ◌+◌, ◌≤◌, List, [], ◌∷◌, Bool, true, false, not, ◌||◌, filter, map, Option, length, refl, sym, ◌∙◌, arith}
+use Rattle.rm_invariant.proofs.Common.{◌≡◌, ℕ, ◌+◌, ◌≤◌, List, [], ◌∷◌, Bool, true, false, not, ◌||◌, filter, map, Option, length, refl, sym, ◌∙◌, arith, list_any, false≢true, length-map, sum_by-cons, BookRow, Closing, AppId, ContainerId, AppRecord, is_container, container_itself, same_container, is_of, once, has_container, AppRow, closed, closed_in, closed_one, is_masters_in, losts_of}
 use Rattle.std.specs.Prelude.{IsPermutation}
-use Rattle.std.specs.List.{list_any, sum_by}
-use Rattle.std.proofs.lemmas.Bool.{false≢true}
-use Rattle.std.proofs.lemmas.List.{length-map}
+use Rattle.std.specs.List.{sum_by}
 use Rattle.std.proofs.lemmas.List.Sorted.{length_permutation}
-use Rattle.std.proofs.lemmas.List.Sums.{sum_by-cons}
-use Rattle.rm_types.specs.declared.containers.BookRow.{BookRow}
-use Rattle.rm_types.specs.declared.containers.Closing.{Closing}
-use Rattle.rm_types.specs.declared.ids.AppId.{AppId}
-use Rattle.rm_types.specs.declared.ids.ContainerId.{ContainerId}
-use Rattle.rm_types.specs.declared.records.AppRecord.{AppRecord}
-use Rattle.rm_types.specs.Ids.{is_container}
-use Rattle.rm_types.proofs.IdLemmas.{container_itself, same_container}
-use Rattle.rm_book.specs.Books.{is_of}
-use Rattle.rm_model.specs.Containers.{once}
-use Rattle.rm_model.specs.Facts.{has_container}
 use Rattle.rm_invariant.proofs.nodes.Ascending.{permuted_has}
 use Rattle.rm_tables.specs.declared.events.MainEvent.TheVariants as mains
-use Rattle.rm_tables.specs.declared.rows.AppRow.{AppRow}
-use Rattle.rm_tables.specs.Leaving.{closed, closed_in, closed_one, is_masters_in, losts_of}
 use Rattle.rm_invariant.specs.measure.Measure.{main_measure, rows_measure}
 use Rattle.rm_invariant.proofs.measure.Sums.{row_rises}
 

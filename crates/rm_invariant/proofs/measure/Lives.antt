@@ -1,19 +1,11 @@
 -- What a life begins with, that nothing is left of one that goes down, and that an operation that is handed, or refused, weighs less.
-use Rattle.std.proofs.Common.{◌≡◌, ℕ, ◌+◌, ◌*◌, ◌<◌, ◌≤◌, ◌≢◌, zero, suc, List, [], ◌∷◌, Bool, true, false, None, Some, Option, is_some, nat_le, fold, length, refl, ap, arith}
+use Rattle.rm_invariant.proofs.Common.{◌≡◌, ℕ, ◌+◌, ◌*◌, ◌<◌, ◌≤◌, zero, suc, List, [], ◌∷◌, Bool, true, false, None, Some, Option, nat_le, fold, length, refl, ap, arith, sum_by-cons, length-map, AppRecord, AttemptRecord, Records, last_attempt, Completion, Tables, completion_of, completions_in, ended_in, put_completion, with_completed, begun, handed_out, refused, recovered_attempt, recovered_row, recovered_rows}
+use Rattle.std.proofs.Common.{◌≢◌, is_some}
 use Rattle.std.specs.Prelude.{option_map}
 use Rattle.std.specs.Map.{values_of}
 use Rattle.std.proofs.Math.Nat.{mul-suc}
-use Rattle.std.proofs.lemmas.List.Sums.{sum_by-cons}
-use Rattle.std.proofs.lemmas.List.{length-map}
-use Rattle.rm_types.specs.declared.records.AppRecord.{AppRecord}
-use Rattle.rm_types.specs.declared.records.AttemptRecord.{AttemptRecord}
-use Rattle.rm_types.specs.Records.{Records, last_attempt}
-use Rattle.rm_tables.specs.declared.completed.Completion.{Completion}
 use Rattle.rm_tables.specs.declared.events.MainEvent.TheVariants as mains
-use Rattle.rm_tables.specs.declared.tables.Tables.{Tables}
-use Rattle.rm_tables.specs.Completed.{completion_of, completions_in, ended_in, put_completion, with_completed}
-use Rattle.rm_tables.specs.Lives.{begun, tables_gone_down, handed_out, refused}
-use Rattle.rm_tables.specs.Opening.{recovered_attempt, recovered_row, recovered_rows}
+use Rattle.rm_tables.specs.Lives.{tables_gone_down}
 use Rattle.rm_invariant.specs.measure.Measure.{begin_measure, current_measure, main_measure, current_number, row_measure, rows_measure, slot_measure, untried_measure, measure}
 use Rattle.rm_invariant.proofs.measure.Rows.{app_most}
 

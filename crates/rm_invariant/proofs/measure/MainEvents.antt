@@ -1,18 +1,10 @@
 -- Each event of the main queue makes less of what is left to do.
-use Rattle.std.proofs.Common.{◌∙◌, sym, inl, inr, ◌≡◌, ◌<◌, ◌≤◌, ℕ, ◌+◌, List, ◌∷◌, true, subst, arith}
-use Rattle.rm_types.specs.declared.entries.Entry.{Entry}
+use Rattle.rm_invariant.proofs.Common.{◌∙◌, sym, inl, inr, ◌≡◌, ◌<◌, ◌≤◌, ℕ, ◌+◌, List, ◌∷◌, true, subst, arith, Entry, Settings, MainEvent, AppRow, Tables, main_worked, main_step, History}
 use Rattle.rm_types.specs.declared.operations.Op.TheVariants as ops
-use Rattle.rm_types.specs.declared.settings.Settings.{Settings}
 use Rattle.rm_states.specs.declared.app.states.AppState.TheVariants as apps
-use Rattle.rm_tables.specs.declared.events.MainEvent.{MainEvent}
 use Rattle.rm_tables.specs.declared.events.MainEvent.TheVariants as mains
-use Rattle.rm_tables.specs.declared.rows.AppRow.{AppRow}
-use Rattle.rm_tables.specs.declared.tables.Tables.{Tables}
-use Rattle.rm_tables.specs.Actions.{main_worked}
-use Rattle.rm_tables.specs.MainEvents.{main_step}
 use Rattle.rm_invariant.specs.events.Outcomes.{MayEndApp, Outcome, accepts, adds, delays, ends, ends_one, follows, idles, issues, kills, loses, orders, removes, requeues, saves}
 use Rattle.rm_invariant.specs.Step.{AppsInvariant}
-use Rattle.rm_refinement.specs.History.{History}
 use Rattle.rm_invariant.specs.messages.Ranges.{KeepsLimits}
 use Rattle.rm_invariant.specs.apps.Invariant.{is_active}
 use Rattle.rm_invariant.specs.measure.Measure.{app_end_measure, app_op_measure, app_measure, main_measure, current_number, measure}

@@ -1,48 +1,19 @@
 -- A message of a client, of a master, of a node or of the clock adds little, whatever it is answered.
-use Rattle.std.proofs.Common.{◌≡◌, ℕ, ◌+◌, ◌≤◌, List, [], ◌∷◌, ◌++◌, Bool, true, false, nat_lt, Option, None, Some, length, refl, ◌∙◌, arith}
-use Rattle.std.specs.Prelude.{if◌then◌else◌}
+use Rattle.rm_invariant.proofs.Common.{◌≡◌, ℕ, ◌+◌, ◌≤◌, List, [], ◌∷◌, ◌++◌, Bool, true, false, Option, None, Some, length, refl, ◌∙◌, arith, if◌then◌else◌, length-map, sum_by-append, sum_by-cons, Ask, BookRow, ContainerState, Acquired, Running, Closing, Held, AttemptId, ContainerId, ClientAsk, ClockAsk, MasterAsk, NodeAsk, Reply, Resource, is_some_and, BookOf, is_of, reported, NodeRow, AppRow, Current, Dialogue, Tables, changed, current_after, node_row, row_of, with_row, dialogue_begun, registered_row, said_row, told_row, with_answer, with_text, without_closings, after_client, submitted_row, taken_by, wished_by, acquired, acquired_row, after_master, allocated_with, is_new_to, registered, release_events, said, goes_on, spoken_by, after_clock, after_node, beat_events, beaten_book, is_next_beat, is_row_on, is_untold_row, registered_by}
+use Rattle.std.proofs.Common.{nat_lt}
 use Rattle.std.specs.List.{sum_by}
-use Rattle.std.proofs.lemmas.List.{length-map}
-use Rattle.std.proofs.lemmas.List.Sums.{sum_by-append, sum_by-cons}
-use Rattle.rm_types.specs.declared.containers.Ask.{Ask}
-use Rattle.rm_types.specs.declared.containers.BookRow.{BookRow}
-use Rattle.rm_types.specs.declared.containers.ContainerState.{ContainerState}
-use Rattle.rm_types.specs.declared.containers.ContainerState.TheVariants.{Acquired, Running}
-use Rattle.rm_types.specs.declared.containers.Closing.{Closing}
-use Rattle.rm_types.specs.declared.containers.Held.{Held}
-use Rattle.rm_types.specs.declared.ids.AttemptId.{AttemptId}
-use Rattle.rm_types.specs.declared.ids.ContainerId.{ContainerId}
-use Rattle.rm_types.specs.declared.messages.ClientAsk.{ClientAsk}
 use Rattle.rm_types.specs.declared.messages.ClientAsk.TheVariants as clients
-use Rattle.rm_types.specs.declared.messages.ClockAsk.{ClockAsk}
 use Rattle.rm_types.specs.declared.messages.ClockAsk.TheVariants as clocks
-use Rattle.rm_types.specs.declared.messages.MasterAsk.{MasterAsk}
 use Rattle.rm_types.specs.declared.messages.MasterAsk.TheVariants as masters
-use Rattle.rm_types.specs.declared.messages.NodeAsk.{NodeAsk}
 use Rattle.rm_types.specs.declared.messages.NodeAsk.TheVariants as nodes
-use Rattle.rm_types.specs.declared.replies.Reply.{Reply}
 use Rattle.rm_types.specs.declared.replies.Reply.TheVariants as replies
-use Rattle.rm_types.specs.declared.resources.Resource.{Resource}
-use Rattle.rm_types.specs.Records.{is_some_and}
-use Rattle.rm_book.specs.Books.{BookOf, is_of, book_row as book_row_of, with_state}
-use Rattle.rm_model.specs.NodeReplies.{reported}
+use Rattle.rm_book.specs.Books.{book_row as book_row_of, with_state}
 use Rattle.rm_tables.specs.declared.changes.AttemptChange.TheVariants as of_attempt
 use Rattle.rm_tables.specs.declared.changes.RowChange.TheVariants as of_app
 use Rattle.rm_tables.specs.declared.events.MainEvent.TheVariants as mains
 use Rattle.rm_tables.specs.declared.events.SchedEvent.TheVariants as scheds
-use Rattle.rm_tables.specs.declared.nodes.NodeRow.{NodeRow}
-use Rattle.rm_tables.specs.declared.rows.AppRow.{AppRow}
-use Rattle.rm_tables.specs.declared.rows.Current.{Current}
-use Rattle.rm_tables.specs.declared.rows.Dialogue.{Dialogue}
-use Rattle.rm_tables.specs.declared.tables.Tables.{Tables}
-use Rattle.rm_tables.specs.Changes.{changed, current_after}
-use Rattle.rm_tables.specs.Nodes.{node_row}
-use Rattle.rm_tables.specs.Rows.{row_of, with_row}
-use Rattle.rm_tables.specs.Talks.{dialogue_begun, registered_row, said_row, told_row, with_answer, with_text, without_closings}
-use Rattle.rm_client.specs.Answers.{after_client, submitted_row, taken_by, wished_by}
-use Rattle.rm_master.specs.Answers.{acquired, acquired_row, after_master, allocated_with, is_new_to, registered, release_events, said, containers_told}
-use Rattle.rm_master.specs.Told.{goes_on, spoken_by}
-use Rattle.rm_tracker.specs.Answers.{after_clock, after_node, beat_events, beaten_book, beaten_with, brought_all, brought_one, is_next_beat, is_row_on, is_untold_row, launched_by, registered_by}
+use Rattle.rm_master.specs.Answers.{containers_told}
+use Rattle.rm_tracker.specs.Answers.{beaten_with, brought_all, brought_one, launched_by}
 use Rattle.rm_invariant.specs.messages.Ranges.{KeepsLimits}
 use Rattle.rm_invariant.specs.measure.Measure.{app_measure, current_measure, message_measure, current_number, row_measure, sched_measure, measure}
 use Rattle.rm_invariant.proofs.measure.Rows.{finish_weighs, row_most, wished_same}

@@ -1,56 +1,19 @@
 -- No node reported more than a thousand containers: each move keeps it.
-use Rattle.std.proofs.Common.{◌≡◌, ◌≤◌, ◌==◌, ◌&&◌, ℕ, ◌+◌, List, [], ◌∷◌, ◌++◌, Bool, true, false, nat_lt, filter, Option, None, Some, length, refl, sym, ◌∙◌, subst}
+use Rattle.rm_invariant.proofs.Common.{◌≡◌, ◌≤◌, ◌&&◌, ℕ, ◌+◌, List, [], ◌∷◌, ◌++◌, Bool, true, false, filter, Option, None, Some, length, refl, sym, ◌∙◌, subst, bytes_eq, BookRow, Cause, Held, Entry, AttemptId, ContainerId, ClientAsk, ClockAsk, MasterAsk, NodeAsk, Op, Reply, Resource, same_text, AttemptState, BookOf, once, MainEvent, SchedEvent, NodeChange, Absorb, Lose, Unlaunch, NodeRow, AppRow, Current, Tables, absorbed_by, absorbed_if, unlaunched_here, unlaunched_on, main_worked, sched_worked, kept, ended_by, unlaunched, unlaunched_at, unlaunched_one, main_step, beaten_row, changed_row, is_waiting_row, new_node_row, node_row, ordered_row, registered_node_row, with_node, updated_by, row_of, is_on, is_released, queued_at, queued_by, queued_with, sched_step, other_added, other_row, own_row, after_client, taken_by, wished_by, after_master, is_new_to, goes_on, spoken_by, after_clock, after_node, is_next_beat, registered_by}
+use Rattle.std.proofs.Common.{◌==◌, nat_lt}
 use Rattle.std.specs.Prelude.{option_map}
-use Rattle.std.specs.Str.{bytes_eq}
-use Rattle.rm_types.specs.declared.containers.BookRow.{BookRow}
-use Rattle.rm_types.specs.declared.containers.Cause.{Cause}
 use Rattle.rm_types.specs.declared.containers.Cause.TheVariants as causes
-use Rattle.rm_types.specs.declared.containers.Held.{Held}
-use Rattle.rm_types.specs.declared.entries.Entry.{Entry}
-use Rattle.rm_types.specs.declared.ids.AttemptId.{AttemptId}
-use Rattle.rm_types.specs.declared.ids.ContainerId.{ContainerId}
-use Rattle.rm_types.specs.declared.messages.ClientAsk.{ClientAsk}
 use Rattle.rm_types.specs.declared.messages.ClientAsk.TheVariants as clients
-use Rattle.rm_types.specs.declared.messages.ClockAsk.{ClockAsk}
 use Rattle.rm_types.specs.declared.messages.ClockAsk.TheVariants as clocks
-use Rattle.rm_types.specs.declared.messages.MasterAsk.{MasterAsk}
 use Rattle.rm_types.specs.declared.messages.MasterAsk.TheVariants as masters
-use Rattle.rm_types.specs.declared.messages.NodeAsk.{NodeAsk}
 use Rattle.rm_types.specs.declared.messages.NodeAsk.TheVariants as asks
-use Rattle.rm_types.specs.declared.operations.Op.{Op}
 use Rattle.rm_types.specs.declared.operations.Op.TheVariants as ops
-use Rattle.rm_types.specs.declared.replies.Reply.{Reply}
 use Rattle.rm_types.specs.declared.replies.Reply.TheVariants as replies
-use Rattle.rm_types.specs.declared.resources.Resource.{Resource}
-use Rattle.rm_types.proofs.TestLemmas.{same_text}
-use Rattle.rm_states.specs.declared.attempt.states.AttemptState.{AttemptState}
 use Rattle.rm_states.specs.declared.attempt.states.AttemptState.TheVariants as attempts
-use Rattle.rm_book.specs.Books.{BookOf, book_row as book_row_of}
-use Rattle.rm_model.specs.Containers.{once}
-use Rattle.rm_tables.specs.declared.events.MainEvent.{MainEvent}
+use Rattle.rm_book.specs.Books.{book_row as book_row_of}
 use Rattle.rm_tables.specs.declared.events.MainEvent.TheVariants as mains
-use Rattle.rm_tables.specs.declared.events.SchedEvent.{SchedEvent}
 use Rattle.rm_tables.specs.declared.events.SchedEvent.TheVariants as scheds
-use Rattle.rm_tables.specs.declared.nodes.NodeChange.{NodeChange}
-use Rattle.rm_tables.specs.declared.nodes.NodeChange.TheVariants.{Absorb, Lose, Unlaunch}
-use Rattle.rm_tables.specs.declared.nodes.NodeRow.{NodeRow}
-use Rattle.rm_tables.specs.declared.rows.AppRow.{AppRow}
-use Rattle.rm_tables.specs.declared.rows.Current.{Current}
-use Rattle.rm_tables.specs.declared.tables.Tables.{Tables}
-use Rattle.rm_tables.specs.Absorbing.{absorbed_by, absorbed_if, unlaunched_here, unlaunched_on}
-use Rattle.rm_tables.specs.Actions.{main_worked, sched_worked}
-use Rattle.rm_tables.specs.KeptOps.{kept}
-use Rattle.rm_tables.specs.Leaving.{ended_by, unlaunched, unlaunched_at, unlaunched_one}
-use Rattle.rm_tables.specs.MainEvents.{main_step}
-use Rattle.rm_tables.specs.Nodes.{beaten_row, changed_row, is_waiting_row, new_node_row, node_row, ordered_row, registered_node_row, with_node}
-use Rattle.rm_tables.specs.Passing.{updated_by}
-use Rattle.rm_tables.specs.Rows.{row_of}
-use Rattle.rm_tables.specs.SchedEvents.{is_on, is_released, queued_at, queued_by, queued_with, sched_step}
-use Rattle.rm_refinement.proofs.Found.{other_added, other_row, own_added, own_row}
-use Rattle.rm_client.specs.Answers.{after_client, taken_by, wished_by}
-use Rattle.rm_master.specs.Answers.{after_master, is_new_to}
-use Rattle.rm_master.specs.Told.{goes_on, spoken_by}
-use Rattle.rm_tracker.specs.Answers.{after_clock, after_node, is_next_beat, registered_by}
+use Rattle.rm_refinement.proofs.Found.{own_added}
 use Rattle.rm_invariant.specs.messages.Ranges.{IsNodeAsk}
 use Rattle.rm_invariant.specs.events.Outcomes.{Outcome, accepts, adds, delays, ends, ends_one, follows, idles, issues, kills, loses, orders, removes, requeues, saves}
 use Rattle.rm_invariant.proofs.events.Outcomes.{main_outcome}

@@ -1,22 +1,15 @@
 -- What a row of an application weighs at most, and how that changes with what happens to it.
-use Rattle.std.proofs.Common.{◌⊎◌, inl, inr, ◌≡◌, ◌≤◌, ℕ, ◌+◌, ◌*◌, ◌-◌, true, Option, None, Some, refl, arith}
-use Rattle.rm_types.specs.declared.ids.ContainerId.{ContainerId}
-use Rattle.rm_types.specs.declared.operations.How.{How}
+use Rattle.rm_invariant.proofs.Common.{◌⊎◌, inl, inr, ◌≡◌, ◌≤◌, ℕ, ◌+◌, ◌*◌, ◌-◌, true, Option, None, Some, refl, arith, ContainerId, How, AppState, next_app_state, is_alive, AttemptState, AppRow, Current, after_failure, changed, current_after, granted, granted_at, killed_state}
 use Rattle.rm_types.specs.declared.operations.How.TheVariants as ways
-use Rattle.rm_states.specs.declared.app.states.AppState.{AppState}
 use Rattle.rm_states.specs.declared.app.states.AppState.TheVariants as apps
 use Rattle.rm_states.specs.app.Table.{end_state}
 use Rattle.rm_states.specs.declared.app.states.AppEvent.TheVariants as app_events
-use Rattle.rm_states.specs.app.Table.{next_app_state}
 use Rattle.rm_states.specs.declared.attempt.states.AttemptEvent.TheVariants as attempt_events
-use Rattle.rm_states.specs.attempt.Table.{next_attempt_state as next_attempt_state, is_alive}
-use Rattle.rm_states.specs.declared.attempt.states.AttemptState.{AttemptState}
+use Rattle.rm_states.specs.attempt.Table.{next_attempt_state as next_attempt_state}
 use Rattle.rm_states.specs.declared.attempt.states.AttemptState.TheVariants as attempts
 use Rattle.rm_tables.specs.declared.changes.AttemptChange.TheVariants as of_attempt
 use Rattle.rm_tables.specs.declared.changes.RowChange.TheVariants as of_app
-use Rattle.rm_tables.specs.declared.rows.AppRow.{AppRow}
-use Rattle.rm_tables.specs.declared.rows.Current.{Current}
-use Rattle.rm_tables.specs.Changes.{after_failure, changed, current_after, dropped_state, granted, granted_at, killed_state}
+use Rattle.rm_tables.specs.Changes.{dropped_state}
 use Rattle.rm_invariant.specs.events.Outcomes.{is_past_grant}
 use Rattle.rm_invariant.specs.apps.Invariant.{is_active}
 use Rattle.rm_invariant.specs.measure.Measure.{app_end_measure, app_measure, attempt_end_measure, attempt_op_measure, attempt_measure, current_measure, next_measure, current_number, row_measure, untried_measure}

@@ -1,46 +1,16 @@
 -- Each event of the scheduler's queue makes less of what is left to do.
-use Rattle.std.proofs.Common.{◌≡◌, ◌<◌, ◌≤◌, ◌==◌, ◌&&◌, ℕ, ◌+◌, ◌*◌, List, [], ◌∷◌, ◌++◌, Bool, true, false, not, filter, fold, map, find, Option, None, Some, length, refl, ap, arith}
-use Rattle.std.specs.Prelude.{if◌then◌else◌}
-use Rattle.std.specs.Str.{bytes_eq}
-use Rattle.std.specs.List.{list_any, sum_by}
-use Rattle.std.proofs.lemmas.Bool.{false≢true}
-use Rattle.std.proofs.lemmas.List.{length-append, length-map}
-use Rattle.std.proofs.lemmas.List.Sums.{sum_by-append, sum_by-cons}
-use Rattle.rm_types.specs.declared.containers.BookRow.{BookRow}
-use Rattle.rm_types.specs.declared.containers.Cause.{Cause}
+use Rattle.rm_invariant.proofs.Common.{◌≡◌, ◌<◌, ◌≤◌, ◌&&◌, ℕ, ◌+◌, ◌*◌, List, [], ◌∷◌, ◌++◌, Bool, true, false, not, filter, fold, map, find, Option, None, Some, length, refl, ap, arith, if◌then◌else◌, bytes_eq, list_any, false≢true, length-map, sum_by-append, sum_by-cons, BookRow, Cause, Grant, Held, Entry, AppId, AttemptId, ContainerId, Resource, is_attempt, and_first, AttemptState, AsksOf, entering, granted_rows, has_row, is_of, book_row_taken, taken_rows, is_held, once, SchedEvent, NodeRow, AppRow, Current, Tables, absorbed_by, absorbed_if, counted_in, tables_may_take, taken_in, tables_with_counted, found_in, sched_popped, sched_quiet, sched_worked, changed, closings_of, ended_by, is_masters_in, losts_of, is_waiting_row, node_row, grants_on, masters_granted, rows_after_grant, updated_by, waits_for_master, row_of, EndsByEvent, is_on, is_released, master_asked, queued_at, queued_by, queued_with, sched_step}
+use Rattle.std.proofs.Common.{◌==◌}
+use Rattle.std.specs.List.{sum_by}
+use Rattle.std.proofs.lemmas.List.{length-append}
 use Rattle.rm_types.specs.declared.containers.Cause.TheVariants as causes
-use Rattle.rm_types.specs.declared.containers.Grant.{Grant}
-use Rattle.rm_types.specs.declared.containers.Held.{Held}
-use Rattle.rm_types.specs.declared.entries.Entry.{Entry}
-use Rattle.rm_types.specs.declared.ids.AppId.{AppId}
-use Rattle.rm_types.specs.declared.ids.AttemptId.{AttemptId}
-use Rattle.rm_types.specs.declared.ids.ContainerId.{ContainerId}
-use Rattle.rm_types.specs.declared.resources.Resource.{Resource}
-use Rattle.rm_types.specs.Ids.{is_attempt}
-use Rattle.rm_types.proofs.TestLemmas.{and_first}
-use Rattle.rm_states.specs.declared.attempt.states.AttemptState.{AttemptState}
 use Rattle.rm_states.specs.declared.attempt.states.AttemptState.TheVariants as attempts
-use Rattle.rm_book.specs.AskTables.{AsksOf}
-use Rattle.rm_book.specs.Books.{entering, granted_rows, has_row, is_of, book_row as book_row_of, book_row_taken, taken_rows}
-use Rattle.rm_types.specs.Containers.{is_held}
-use Rattle.rm_model.specs.Containers.{once}
+use Rattle.rm_book.specs.Books.{book_row as book_row_of}
 use Rattle.rm_tables.specs.declared.changes.AttemptChange.TheVariants as of_attempt
 use Rattle.rm_tables.specs.declared.changes.RowChange.TheVariants as of_app
 use Rattle.rm_tables.specs.declared.events.MainEvent.TheVariants as mains
-use Rattle.rm_tables.specs.declared.events.SchedEvent.{SchedEvent}
 use Rattle.rm_tables.specs.declared.events.SchedEvent.TheVariants as scheds
-use Rattle.rm_tables.specs.declared.nodes.NodeRow.{NodeRow}
-use Rattle.rm_tables.specs.declared.rows.AppRow.{AppRow}
-use Rattle.rm_tables.specs.declared.rows.Current.{Current}
-use Rattle.rm_tables.specs.declared.tables.Tables.{Tables}
-use Rattle.rm_tables.specs.Absorbing.{absorbed_by, absorbed_if, counted_in, tables_may_take, taken_in, tables_with_counted}
-use Rattle.rm_tables.specs.Actions.{found_in, sched_popped, sched_quiet, sched_worked}
-use Rattle.rm_tables.specs.Changes.{changed}
-use Rattle.rm_tables.specs.Leaving.{closings_of, ended_by, is_masters_in, losts_of}
-use Rattle.rm_tables.specs.Nodes.{is_waiting_row, node_row}
-use Rattle.rm_tables.specs.Passing.{grants_on, masters_granted, rows_after_grant, updated_by, waits_for_master}
-use Rattle.rm_tables.specs.Rows.{row_of}
-use Rattle.rm_tables.specs.SchedEvents.{EndsAbsorbed, EndsByEvent, EndsIf, is_on, is_released, master_asked, queued_at, queued_by, queued_with, sched_step}
+use Rattle.rm_tables.specs.SchedEvents.{EndsAbsorbed, EndsIf}
 use Rattle.rm_invariant.specs.measure.Reports.{FewGranted, FewReported}
 use Rattle.rm_invariant.specs.measure.Measure.{main_measure, most_grants, most_reported, rows_measure, sched_measure, measure}
 use Rattle.rm_invariant.proofs.measure.Leaving.{all_leave, closed_weighs, each_leaves, left_of, losts_weigh, once_leave, passing_have}

@@ -1,16 +1,8 @@
 -- What is added to a queue, to what awaits or to the rows of applications adds its weight, and what is taken takes it away.
-use Rattle.std.proofs.Common.{◌≡◌, ℕ, ◌+◌, ◌≤◌, List, [], ◌∷◌, ◌++◌, Option, None, Some, drop, sum_by, refl, ap, arith}
+use Rattle.rm_invariant.proofs.Common.{◌≡◌, ℕ, ◌+◌, ◌≤◌, List, [], ◌∷◌, ◌++◌, Option, None, Some, drop, refl, ap, arith, map-append, sum_by-cons, sum_by-append, AppId, Op, is_app, MainEvent, SchedEvent, AppRow, row_in, row_of, slot_of, with_row, without_row}
+use Rattle.std.proofs.Common.{sum_by}
 use Rattle.std.specs.Map.{values_of}
-use Rattle.std.proofs.lemmas.List.{map-append}
-use Rattle.std.proofs.lemmas.List.Sums.{sum_by-cons, sum_by-append}
 use Rattle.std.proofs.lemmas.Map.Entries.{sum_by-set_value}
-use Rattle.rm_types.specs.declared.ids.AppId.{AppId}
-use Rattle.rm_types.specs.declared.operations.Op.{Op}
-use Rattle.rm_types.specs.Ids.{is_app}
-use Rattle.rm_tables.specs.declared.events.MainEvent.{MainEvent}
-use Rattle.rm_tables.specs.declared.events.SchedEvent.{SchedEvent}
-use Rattle.rm_tables.specs.declared.rows.AppRow.{AppRow}
-use Rattle.rm_tables.specs.Rows.{row_in, row_of, slot_of, with_row, without_row}
 use Rattle.rm_invariant.specs.measure.Measure.{main_measure, op_measure, row_measure, rows_measure, sched_measure, slot_measure}
 
 -- one more at the end

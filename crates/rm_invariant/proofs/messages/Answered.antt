@@ -1,31 +1,13 @@
 -- A message of a node or of the clock as a whole step: the rows of applications stay and nothing that is counted changes, so all that holds of
 -- an open life is kept where the tables agree, the nodes are good and the book holds.
-use Rattle.std.proofs.Common.{◌≡◌, ℕ, List, ◌++◌, Bool, true, false, ◌||◌, count_by, refl, sym, ◌∙◌, ap, subst, arith}
-use Rattle.std.specs.Prelude.{if◌then◌else◌}
-use Rattle.std.specs.List.{list_any}
-use Rattle.rm_types.specs.declared.entries.Entry.TheVariants.{Served}
-use Rattle.rm_types.specs.declared.ids.AttemptId.{AttemptId}
-use Rattle.rm_types.specs.declared.ids.ContainerId.{ContainerId}
-use Rattle.rm_types.specs.declared.messages.Message.{Message}
-use Rattle.rm_types.specs.declared.replies.Reply.{Reply}
-use Rattle.rm_types.specs.declared.settings.Settings.{Settings}
-use Rattle.rm_types.specs.Ids.{is_attempt}
+use Rattle.rm_invariant.proofs.Common.{◌≡◌, ℕ, List, ◌++◌, Bool, true, false, ◌||◌, refl, sym, ◌∙◌, ap, subst, arith, if◌then◌else◌, list_any, Served, AttemptId, ContainerId, Message, Reply, Settings, is_attempt, Records, BookOf, after, is_living, life_after, AllowedIn, LifeState, Row, SchedEvent, NodeRow, Tables, row_of, SameNodes, SameRows, History, abstract_life, abstract_scene, live_state}
+use Rattle.std.proofs.Common.{count_by}
 use Rattle.rm_types.specs.Lanes.{sender_of}
-use Rattle.rm_types.specs.Records.{Records}
-use Rattle.rm_book.specs.Books.{BookOf}
-use Rattle.rm_model.specs.Changes.{after, in_life}
-use Rattle.rm_model.specs.Containers.{is_living}
-use Rattle.rm_model.specs.Replies.{life_after, open_reply}
-use Rattle.rm_model.specs.Rules.{AllowedIn}
-use Rattle.rm_model.specs.State.{LifeState, NodeState, Row}
-use Rattle.rm_tables.specs.declared.events.SchedEvent.{SchedEvent}
-use Rattle.rm_tables.specs.declared.nodes.NodeRow.{NodeRow}
-use Rattle.rm_tables.specs.declared.tables.Tables.{Tables}
-use Rattle.rm_tables.specs.Rows.{row_of}
-use Rattle.rm_refinement.specs.Agreement.{SameNodes, SameRows}
+use Rattle.rm_model.specs.Changes.{in_life}
+use Rattle.rm_model.specs.Replies.{open_reply}
+use Rattle.rm_model.specs.State.{NodeState}
 use Rattle.rm_invariant.specs.apps.Invariant.{RowInvariant}
 use Rattle.rm_invariant.specs.Step.{AppsInvariant}
-use Rattle.rm_refinement.specs.History.{History, abstract_life, abstract_scene, live_state}
 use Rattle.rm_invariant.specs.apps.View.{View, is_add, is_queueing, view}
 use Rattle.rm_invariant.proofs.apps.Counts.{count_append}
 use Rattle.rm_invariant.proofs.apps.Keeping.{in_scene}

@@ -1,36 +1,19 @@
 -- A node beats, as a whole step that keeps all that holds of an open life: a new beat changes the states of containers on the node, and the
 -- node; one that is refused or repeated changes nothing. And a node is answered, whatever it says.
-use Rattle.std.proofs.Common.{◌≡◌, ℕ, ◌+◌, List, [], ◌∷◌, ◌++◌, Bool, true, false, not, ◌||◌, Option, None, Some, filter, map, refl, sym, ◌∙◌, ap, subst, arith}
-use Rattle.std.specs.Prelude.{if◌then◌else◌, ◌==◌, option_map}
+use Rattle.rm_invariant.proofs.Common.{◌≡◌, ℕ, ◌+◌, List, [], ◌∷◌, ◌++◌, Bool, true, false, not, ◌||◌, Option, None, Some, filter, map, refl, sym, ◌∙◌, ap, subst, arith, if◌then◌else◌, nat_tests, Held, Served, ContainerId, NodeAsk, Reply, Settings, BookOf, has_container, beaten, is_new_to_node, life_after_node, node_reply, reported, row_beaten, is_waiting, Row, SchedEvent, NodeRow, Tables, beaten_row, is_ready_row, with_node, after_node, beat_events, beaten_book, is_next_beat, OnlyNodesOffer, PlainNode, SameNodes, SameRows, bare_node, plain_node, with_same, History, abstract_life, abstract_scene}
+use Rattle.std.specs.Prelude.{◌==◌, option_map}
 use Rattle.std.proofs.lemmas.Bool.{eqb-true}
-use Rattle.std.proofs.lemmas.Bool.Decides.{nat_tests}
-use Rattle.rm_types.specs.declared.containers.Held.{Held}
-use Rattle.rm_types.specs.declared.entries.Entry.TheVariants.{Served}
-use Rattle.rm_types.specs.declared.ids.ContainerId.{ContainerId}
 use Rattle.rm_types.specs.declared.messages.Message.TheVariants as messages
-use Rattle.rm_types.specs.declared.messages.NodeAsk.{NodeAsk}
 use Rattle.rm_types.specs.declared.messages.NodeAsk.TheVariants as asks
 use Rattle.rm_types.specs.declared.messages.Sender.TheVariants as senders
-use Rattle.rm_types.specs.declared.replies.Reply.{Reply}
 use Rattle.rm_types.specs.declared.replies.Reply.TheVariants.{Beat as TellBeat, Resync}
-use Rattle.rm_types.specs.declared.settings.Settings.{Settings}
-use Rattle.rm_book.specs.Books.{BookOf}
-use Rattle.rm_model.specs.Facts.{has_container}
-use Rattle.rm_model.specs.NodeReplies.{beat_reply, beaten, beaten_reply, is_new_to_node, life_after_node, node_reply, reported, row_beaten, strangers}
-use Rattle.rm_model.specs.Nodes.{is_ready as is_ready_told, is_waiting, judged_node as node_told, with_judged_node as with_told}
-use Rattle.rm_model.specs.State.{NodeState, Row}
-use Rattle.rm_tables.specs.declared.events.SchedEvent.{SchedEvent}
-use Rattle.rm_tables.specs.declared.nodes.NodeRow.{NodeRow}
-use Rattle.rm_tables.specs.declared.tables.Tables.{Tables}
-use Rattle.rm_tables.specs.Nodes.{beaten_row, is_ready_row, node_row as node_in, with_node}
-use Rattle.rm_tracker.specs.Answers.{after_node, beat_events, beaten_book, is_next_beat}
-use Rattle.rm_tracker.specs.Offers.{OnlyNodesOffer}
+use Rattle.rm_model.specs.NodeReplies.{beat_reply, beaten_reply, strangers}
+use Rattle.rm_model.specs.Nodes.{is_ready as is_ready_told, judged_node as node_told, with_judged_node as with_told}
+use Rattle.rm_model.specs.State.{NodeState}
+use Rattle.rm_tables.specs.Nodes.{node_row as node_in}
 use Rattle.rm_tracker.proofs.Alike.{book_at_once, rows_beaten_same}
 use Rattle.rm_tracker.proofs.Replies.{ready_alike}
 use Rattle.rm_tracker.proofs.Same.{all_left, none_left}
-use Rattle.rm_refinement.specs.Agreement.{PlainNode, SameNodes, SameRows, bare_node, plain_node}
-use Rattle.rm_refinement.proofs.Nodes.{with_same}
-use Rattle.rm_refinement.specs.History.{History, abstract_life, abstract_scene}
 use Rattle.rm_invariant.specs.nodes.Invariant.{NodesInvariant}
 use Rattle.rm_invariant.proofs.nodes.Entries.{beat_good}
 use Rattle.rm_invariant.proofs.nodes.Views.{beat_events as events_told}

@@ -1,18 +1,7 @@
 -- The book holds after a node joins, changes or beats: what it offers stays, and the containers stand where they stood.
-use Rattle.std.proofs.Common.{◌≡◌, ℕ, List, [], ◌∷◌, ◌++◌, Bool, true, false, not, ◌&&◌, Option, None, Some, map, refl, ◌∙◌, ap}
-use Rattle.std.specs.Prelude.{if◌then◌else◌, is_some, option_and_then, option_map}
-use Rattle.std.specs.List.{list_any}
-use Rattle.std.specs.Str.{bytes_eq}
-use Rattle.rm_types.specs.declared.containers.ContainerState.TheVariants.{Acquired, Running}
-use Rattle.rm_types.specs.declared.ids.ContainerId.{ContainerId}
-use Rattle.rm_types.specs.declared.replies.Reply.{Reply}
-use Rattle.rm_types.specs.Ids.{is_attempt, is_container}
-use Rattle.rm_model.specs.Containers.{ids_on, lives_on}
-use Rattle.rm_types.specs.Containers.{is_granted}
-use Rattle.rm_model.specs.Facts.{has_container}
-use Rattle.rm_model.specs.NodeReplies.{beaten, row_beaten}
-use Rattle.rm_model.specs.Nodes.{judged_node, with_judged_node}
-use Rattle.rm_model.specs.State.{LifeState, NodeState, Row}
+use Rattle.rm_invariant.proofs.Common.{◌≡◌, ℕ, List, [], ◌∷◌, ◌++◌, Bool, true, false, not, ◌&&◌, Option, None, Some, map, refl, ◌∙◌, ap, if◌then◌else◌, list_any, bytes_eq, Acquired, Running, ContainerId, Reply, is_attempt, is_container, ids_on, lives_on, is_granted, has_container, beaten, row_beaten, judged_node, with_judged_node, LifeState, Row}
+use Rattle.std.specs.Prelude.{is_some, option_and_then, option_map}
+use Rattle.rm_model.specs.State.{NodeState}
 use Rattle.rm_refinement.proofs.Found.{KeepsName}
 use Rattle.rm_invariant.specs.nodes.Book.{All, LivingRowsAreApart, AreLaunches, BookInvariant, IsAbsorbed, BookRowInvariant}
 use Rattle.rm_invariant.proofs.nodes.Holds.{all_append, all_filter, all_map}

@@ -1,32 +1,15 @@
 -- A client is answered, as whole steps that keep all that holds of an open life: it is given an id, it submits, it is told, it wishes to kill.
-use Rattle.std.proofs.Common.{◌≡◌, ℕ, ◌+◌, List, [], ◌∷◌, ◌++◌, Bool, true, false, not, Option, None, Some, refl, sym, ◌∙◌, subst}
-use Rattle.std.specs.Prelude.{if◌then◌else◌}
-use Rattle.rm_types.specs.declared.entries.Entry.TheVariants.{Served}
-use Rattle.rm_types.specs.declared.ids.AppId.{AppId}
-use Rattle.rm_types.specs.declared.ids.AttemptId.{AttemptId}
-use Rattle.rm_types.specs.declared.messages.ClientAsk.{ClientAsk}
+use Rattle.rm_invariant.proofs.Common.{◌≡◌, ℕ, ◌+◌, List, [], ◌∷◌, ◌++◌, Bool, true, false, not, Option, None, Some, refl, sym, ◌∙◌, subst, if◌then◌else◌, Served, AppId, AttemptId, ClientAsk, Submission, Reply, Settings, is_app, same_app, client_reply, has_app, life_after, AppRow, Tables, changed, row_of, with_row, after_client, taken_by, wished_by, ClosingsAgree, RowAgrees, History, abstract_life, abstract_scene}
 use Rattle.rm_types.specs.declared.messages.ClientAsk.TheVariants as asks
 use Rattle.rm_types.specs.declared.messages.Message.TheVariants as messages
 use Rattle.rm_types.specs.declared.messages.Sender.TheVariants as senders
-use Rattle.rm_types.specs.declared.operations.Submission.{Submission}
-use Rattle.rm_types.specs.declared.replies.Reply.{Reply}
 use Rattle.rm_types.specs.declared.replies.Reply.TheVariants as replies
-use Rattle.rm_types.specs.declared.settings.Settings.{Settings}
-use Rattle.rm_types.specs.Ids.{is_app}
-use Rattle.rm_types.proofs.IdLemmas.{same_app}
-use Rattle.rm_model.specs.ClientReplies.{client_reply, is_given, kill_reply, next_app}
-use Rattle.rm_model.specs.Facts.{has_app, submission_of}
-use Rattle.rm_model.specs.Replies.{life_after}
+use Rattle.rm_model.specs.ClientReplies.{is_given, kill_reply, next_app}
+use Rattle.rm_model.specs.Facts.{submission_of}
 use Rattle.rm_tables.specs.declared.changes.RowChange.TheVariants as of_app
 use Rattle.rm_tables.specs.declared.events.MainEvent.TheVariants as mains
-use Rattle.rm_tables.specs.declared.rows.AppRow.{AppRow}
-use Rattle.rm_tables.specs.declared.tables.Tables.{Tables}
-use Rattle.rm_tables.specs.Changes.{changed}
-use Rattle.rm_tables.specs.Rows.{row_of, with_row}
-use Rattle.rm_client.specs.Answers.{after_client, with_submission, taken_by, wished_by}
-use Rattle.rm_refinement.specs.Agreement.{ClosingsAgree, RowAgrees}
+use Rattle.rm_client.specs.Answers.{with_submission}
 use Rattle.rm_invariant.specs.Step.{AppsInvariant}
-use Rattle.rm_refinement.specs.History.{History, abstract_life, abstract_scene}
 use Rattle.rm_invariant.specs.apps.View.{put_if, view}
 use Rattle.rm_invariant.proofs.apps.Found.{row_changed, row_put}
 use Rattle.rm_invariant.proofs.apps.Saving.{joined_says, row_new, submitting}

@@ -1,31 +1,17 @@
 -- The clock is answered, as whole steps that keep all that holds of an open life: the time goes on, a node's lease runs out, a master's does.
-use Rattle.std.proofs.Common.{◌≡◌, ℕ, ◌+◌, List, [], ◌∷◌, ◌++◌, Bool, true, false, ◌||◌, Option, None, Some, refl, sym, ◌∙◌, ap, subst}
-use Rattle.rm_types.specs.declared.entries.Entry.TheVariants.{Served}
-use Rattle.rm_types.specs.declared.ids.AttemptId.{AttemptId}
-use Rattle.rm_types.specs.declared.messages.ClockAsk.{ClockAsk}
-use Rattle.rm_types.specs.declared.messages.ClockAsk.TheVariants.{Tick, ExpireNode, ExpireMaster}
+use Rattle.rm_invariant.proofs.Common.{◌≡◌, ℕ, ◌+◌, List, [], ◌∷◌, ◌++◌, Bool, true, false, ◌||◌, Option, None, Some, refl, sym, ◌∙◌, ap, subst, Served, AttemptId, ClockAsk, Tick, ExpireNode, ExpireMaster, Reply, Settings, is_some_and, is_live, expired, is_waiting, judged_node, tidied, LifeState, Lost, Tables, changed_row, with_node, after_clock, PlainNode, tidied_same, with_same, History, abstract_life, abstract_scene}
 use Rattle.rm_types.specs.declared.messages.Message.TheVariants as messages
 use Rattle.rm_types.specs.declared.messages.Sender.TheVariants as senders
-use Rattle.rm_types.specs.declared.replies.Reply.{Reply}
 use Rattle.rm_types.specs.declared.replies.Reply.TheVariants.{Ok, Unknown}
-use Rattle.rm_types.specs.declared.settings.Settings.{Settings}
-use Rattle.rm_types.specs.Records.{is_some_and}
-use Rattle.rm_model.specs.Attempts.{is_live}
-use Rattle.rm_model.specs.NodeReplies.{clock_reply, expired, may_expire}
-use Rattle.rm_model.specs.Nodes.{is_ready, is_waiting, judged_node, tidied, with_judged_node as with_told}
-use Rattle.rm_model.specs.State.{LifeState, Lost, NodeState}
+use Rattle.rm_model.specs.NodeReplies.{clock_reply, may_expire}
+use Rattle.rm_model.specs.Nodes.{is_ready, with_judged_node as with_told}
+use Rattle.rm_model.specs.State.{NodeState}
 use Rattle.rm_states.specs.declared.node.states.NodeState.TheVariants as states
 use Rattle.rm_states.specs.declared.node.states.NodeEvent.TheVariants as node_events
 use Rattle.rm_tables.specs.declared.events.MainEvent.TheVariants as mains
 use Rattle.rm_tables.specs.declared.events.SchedEvent.TheVariants as scheds
 use Rattle.rm_tables.specs.declared.nodes.NodeChange.TheVariants as of_node
-use Rattle.rm_tables.specs.declared.tables.Tables.{Tables}
-use Rattle.rm_tables.specs.Nodes.{changed_row, with_node}
-use Rattle.rm_tracker.specs.Answers.{after_clock}
 use Rattle.rm_tracker.proofs.Same.{expires}
-use Rattle.rm_refinement.specs.Agreement.{PlainNode}
-use Rattle.rm_refinement.proofs.Nodes.{tidied_same, with_same}
-use Rattle.rm_refinement.specs.History.{History, abstract_life, abstract_scene}
 use Rattle.rm_invariant.proofs.nodes.Entries.{expire_good}
 use Rattle.rm_invariant.proofs.masters.ServingLive.{expire_live_joins}
 use Rattle.rm_invariant.specs.Core.{Nothing, CoreInvariant, PreservesCore}

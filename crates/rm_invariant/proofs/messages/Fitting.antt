@@ -1,43 +1,12 @@
 -- The current attempt of an application is the last recorded one, or the next one, with whose master nobody spoke: each event of both queues
 -- keeps it.
-use Rattle.std.proofs.Common.{◌≡◌, ℕ, ◌≤◌, ◌⊎◌, inl, inr, List, [], ◌∷◌, Bool, true, false, ◌||◌, Option, None, Some, option_map, length, fold, refl, sym, ◌∙◌, ap, subst, arith}
-use Rattle.std.proofs.lemmas.Bool.{false≢true, or_right}
-use Rattle.rm_types.specs.declared.containers.Closing.{Closing}
-use Rattle.rm_types.specs.declared.containers.Grant.{Grant}
-use Rattle.rm_types.specs.declared.ids.AppId.{AppId}
-use Rattle.rm_types.specs.declared.ids.AttemptId.{AttemptId}
-use Rattle.rm_types.specs.declared.ids.ContainerId.{ContainerId}
-use Rattle.rm_types.specs.declared.records.AppRecord.{AppRecord}
-use Rattle.rm_types.specs.declared.records.AttemptRecord.{AttemptRecord}
-use Rattle.rm_types.specs.declared.settings.Settings.{Settings}
-use Rattle.rm_types.specs.Ids.{is_app}
-use Rattle.rm_types.specs.Lists.{is_nil}
-use Rattle.rm_types.specs.Records.{is_some_and, last_attempt, record_of}
-use Rattle.rm_types.proofs.IdLemmas.{same_app}
-use Rattle.rm_model.specs.Attempts.{has_failed}
-use Rattle.rm_model.specs.Facts.{attempts_in}
-use Rattle.rm_states.specs.declared.attempt.states.AttemptState.{AttemptState}
+use Rattle.rm_invariant.proofs.Common.{◌≡◌, ℕ, ◌≤◌, ◌⊎◌, inl, inr, List, [], ◌∷◌, Bool, true, false, ◌||◌, Option, None, Some, length, fold, refl, sym, ◌∙◌, ap, subst, arith, false≢true, or_right, Closing, Grant, AppId, AttemptId, ContainerId, AppRecord, AttemptRecord, Settings, is_app, is_nil, is_some_and, last_attempt, record_of, same_app, has_failed, attempts_in, AttemptState, AttemptChange, RowChange, MainEvent, SchedEvent, AppRow, Current, Tables, main_worked, sched_worked, attempt_after, changed, current_after, granted_at, closed_in, main_step, rows_after_grant, row_of, with_row, sched_step, closings_for, History}
+use Rattle.std.proofs.Common.{option_map}
 use Rattle.rm_states.specs.declared.attempt.states.AttemptState.TheVariants as attempts
-use Rattle.rm_tables.specs.declared.changes.AttemptChange.{AttemptChange}
 use Rattle.rm_tables.specs.declared.changes.AttemptChange.TheVariants as of_attempt
-use Rattle.rm_tables.specs.declared.changes.RowChange.{RowChange}
 use Rattle.rm_tables.specs.declared.changes.RowChange.TheVariants as of_app
-use Rattle.rm_tables.specs.declared.events.MainEvent.{MainEvent}
-use Rattle.rm_tables.specs.declared.events.SchedEvent.{SchedEvent}
-use Rattle.rm_tables.specs.declared.rows.AppRow.{AppRow}
-use Rattle.rm_tables.specs.declared.rows.Current.{Current}
-use Rattle.rm_tables.specs.declared.tables.Tables.{Tables}
-use Rattle.rm_tables.specs.Actions.{main_worked, sched_worked}
-use Rattle.rm_tables.specs.Changes.{attempt_after, changed, current_after, granted_at}
-use Rattle.rm_tables.specs.Leaving.{closed_in}
-use Rattle.rm_tables.specs.MainEvents.{main_step}
-use Rattle.rm_tables.specs.Passing.{rows_after_grant}
-use Rattle.rm_tables.specs.Rows.{row_of, with_row}
-use Rattle.rm_tables.specs.SchedEvents.{sched_step}
-use Rattle.rm_refinement.specs.Agreement.{closings_for}
 use Rattle.rm_invariant.specs.apps.Invariant.{CurrentInvariant, MayFollowInView, LastIsOpen, RowInvariant, is_active, is_open_one}
 use Rattle.rm_invariant.specs.Step.{AppsInvariant}
-use Rattle.rm_refinement.specs.History.{History}
 use Rattle.rm_invariant.specs.apps.View.{View, changed_if, view}
 use Rattle.rm_invariant.proofs.apps.Events.{at}
 use Rattle.rm_invariant.proofs.apps.Found.{row_changed}

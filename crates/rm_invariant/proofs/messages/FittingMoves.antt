@@ -1,63 +1,25 @@
 -- The current attempt of an application is the last recorded one, or the next one, with whose master nobody spoke: each message and each kept
 -- operation keeps it, and a life opens so.
-use Rattle.std.proofs.Common.{◌&&◌, ◌≡◌, ℕ, ◌+◌, ◌≤◌, ◌⊎◌, drop, inl, inr, List, [], ◌∷◌, ◌++◌, Bool, true, false, ◌==◌, Option, None, Some, map, option_map, length, refl, sym, ◌∙◌, ap, subst, arith}
-use Rattle.std.proofs.lemmas.Bool.{false≢true}
-use Rattle.rm_types.specs.declared.entries.Entry.TheVariants.{Kept, Served}
-use Rattle.rm_types.specs.declared.ids.AppId.{AppId}
-use Rattle.rm_types.specs.declared.ids.AttemptId.{AttemptId}
-use Rattle.rm_types.specs.declared.ids.ContainerId.{ContainerId}
-use Rattle.rm_types.specs.declared.messages.ClientAsk.{ClientAsk}
+use Rattle.rm_invariant.proofs.Common.{◌&&◌, ◌≡◌, ℕ, ◌+◌, ◌≤◌, ◌⊎◌, drop, inl, inr, List, [], ◌∷◌, ◌++◌, Bool, true, false, Option, None, Some, map, length, refl, sym, ◌∙◌, ap, subst, arith, false≢true, Served, AppId, AttemptId, ContainerId, ClientAsk, ClockAsk, MasterAsk, NodeAsk, How, Op, Submission, AppRecord, AttemptRecord, Reply, Settings, is_app, last_attempt, new_record, record_of, with_end, app_itself, attempts_in, is_epoch_op, AppState, AttemptState, is_alive, lives_by, is_live, master_reply, register_reply, Scene, AppRow, Current, Dialogue, Tables, after_failure, changed, kept, recovered_attempt, recovered_row, recovered_rows, row_of, with_row, dialogue_begun, registered_row, said_row, told_row, with_answer, with_text, without_closings, after_client, submitted_row, taken_by, wished_by, after_master, allocated_with, is_new_to, registered, said, goes_on, spoken_by, after_clock, after_node, History, abstract_scene}
+use Rattle.std.proofs.Common.{◌==◌, option_map}
+use Rattle.rm_types.specs.declared.entries.Entry.TheVariants.{Kept}
 use Rattle.rm_types.specs.declared.messages.ClientAsk.TheVariants as clients
-use Rattle.rm_types.specs.declared.messages.ClockAsk.{ClockAsk}
-use Rattle.rm_types.specs.declared.messages.MasterAsk.{MasterAsk}
 use Rattle.rm_types.specs.declared.messages.MasterAsk.TheVariants as masters
 use Rattle.rm_types.specs.declared.messages.Message.TheVariants as messages
-use Rattle.rm_types.specs.declared.messages.NodeAsk.{NodeAsk}
 use Rattle.rm_types.specs.declared.messages.Sender.TheVariants as senders
-use Rattle.rm_types.specs.declared.operations.How.{How}
 use Rattle.rm_types.specs.declared.operations.How.TheVariants as ways
-use Rattle.rm_types.specs.declared.operations.Op.{Op}
 use Rattle.rm_types.specs.declared.operations.Op.TheVariants as ops
-use Rattle.rm_types.specs.declared.operations.Submission.{Submission}
-use Rattle.rm_types.specs.declared.records.AppRecord.{AppRecord}
-use Rattle.rm_types.specs.declared.records.AttemptRecord.{AttemptRecord}
-use Rattle.rm_types.specs.declared.replies.Reply.{Reply}
 use Rattle.rm_types.specs.declared.replies.Reply.TheVariants as replies
-use Rattle.rm_types.specs.declared.settings.Settings.{Settings}
-use Rattle.rm_types.specs.Ids.{is_app}
-use Rattle.rm_types.specs.Records.{last_attempt, new_record, record_of, with_end}
-use Rattle.rm_types.proofs.IdLemmas.{app_itself}
 use Rattle.rm_types.proofs.TestLemmas.{number_itself}
-use Rattle.rm_model.specs.Facts.{attempts_in, is_epoch_op}
-use Rattle.rm_states.specs.declared.app.states.AppState.{AppState}
 use Rattle.rm_states.specs.declared.app.states.AppState.TheVariants as apps
-use Rattle.rm_states.specs.declared.attempt.states.AttemptState.{AttemptState}
 use Rattle.rm_states.specs.declared.attempt.states.AttemptEvent.TheVariants as attempt_events
-use Rattle.rm_states.specs.attempt.Table.{next_attempt_state as next_attempt_state, is_alive}
-use Rattle.rm_refinement.specs.Services.{lives_by}
-use Rattle.rm_model.specs.Attempts.{is_live}
-use Rattle.rm_model.specs.MasterReplies.{master_reply, register_reply}
-use Rattle.rm_model.specs.State.{Scene}
+use Rattle.rm_states.specs.attempt.Table.{next_attempt_state as next_attempt_state}
 use Rattle.rm_invariant.proofs.masters.Saying.{goes_on as attempt_goes_on}
 use Rattle.rm_tables.specs.declared.changes.AttemptChange.TheVariants as of_attempt
 use Rattle.rm_tables.specs.declared.changes.RowChange.TheVariants as of_app
 use Rattle.rm_tables.specs.declared.events.MainEvent.TheVariants as mains
-use Rattle.rm_tables.specs.declared.rows.AppRow.{AppRow}
-use Rattle.rm_tables.specs.declared.rows.Current.{Current}
-use Rattle.rm_tables.specs.declared.rows.Dialogue.{Dialogue}
-use Rattle.rm_tables.specs.declared.tables.Tables.{Tables}
-use Rattle.rm_tables.specs.Changes.{after_failure, changed}
-use Rattle.rm_tables.specs.KeptOps.{kept}
-use Rattle.rm_tables.specs.Opening.{recovered_attempt, recovered_row, recovered_rows}
-use Rattle.rm_tables.specs.Rows.{row_of, with_row}
-use Rattle.rm_tables.specs.Talks.{dialogue_begun, registered_row, said_row, told_row, with_answer, with_text, without_closings}
-use Rattle.rm_client.specs.Answers.{after_client, submitted_row, taken_by, wished_by}
-use Rattle.rm_master.specs.Answers.{after_master, allocated_with, is_new_to, registered, said}
-use Rattle.rm_master.specs.Told.{goes_on, spoken_by}
-use Rattle.rm_tracker.specs.Answers.{after_clock, after_node}
 use Rattle.rm_invariant.specs.apps.Invariant.{RowInvariant, is_active}
 use Rattle.rm_invariant.specs.Step.{AppsInvariant}
-use Rattle.rm_refinement.specs.History.{History, abstract_scene}
 use Rattle.rm_invariant.specs.apps.View.{View, changed_if, gone_if, op_view, put_if, view}
 use Rattle.rm_invariant.proofs.apps.Effects.{op_taken}
 use Rattle.rm_invariant.proofs.apps.Found.{found_gone, record_put}

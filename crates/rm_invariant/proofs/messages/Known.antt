@@ -1,31 +1,13 @@
 -- What a client may be told of an application follows from what holds of its row: whether it is known, has tried, is being saved.
-use Rattle.std.proofs.Common.{◌≡◌, ℕ, ◌≤◌, ◌⊎◌, inl, inr, List, [], ◌∷◌, Bool, true, false, ◌||◌, not, Option, None, Some, is_some, option_map, length, refl, ◌∙◌, ap, arith}
-use Rattle.std.proofs.lemmas.Bool.{or_right}
-use Rattle.rm_types.specs.declared.ids.AppId.{AppId}
-use Rattle.rm_types.specs.declared.ids.AttemptId.{AttemptId}
-use Rattle.rm_types.specs.declared.operations.How.{How}
-use Rattle.rm_types.specs.declared.operations.Submitted.{Submitted}
-use Rattle.rm_types.specs.declared.records.AppRecord.{AppRecord}
-use Rattle.rm_types.specs.declared.records.AttemptRecord.{AttemptRecord}
-use Rattle.rm_types.specs.declared.settings.Settings.{Settings}
-use Rattle.rm_types.specs.Ids.{is_app}
-use Rattle.rm_types.specs.Lists.{is_nil}
-use Rattle.rm_types.specs.Records.{is_some_and, last_attempt, record_of}
-use Rattle.rm_model.specs.Facts.{attempts_in, end_in, is_known, is_submitted, waiting_submission}
-use Rattle.rm_states.specs.declared.app.states.AppState.{AppState}
+use Rattle.rm_invariant.proofs.Common.{◌≡◌, ℕ, ◌≤◌, ◌⊎◌, inl, inr, List, [], ◌∷◌, Bool, true, false, ◌||◌, not, Option, None, Some, length, refl, ◌∙◌, ap, arith, or_right, AppId, AttemptId, How, Submitted, AppRecord, AttemptRecord, Settings, is_app, is_nil, is_some_and, last_attempt, record_of, attempts_in, end_in, is_known, waiting_submission, AppState, AttemptState, AppRow, Current, Tables, row_of, History, abstract_scene, has_failed}
+use Rattle.std.proofs.Common.{is_some, option_map}
+use Rattle.rm_model.specs.Facts.{is_submitted}
 use Rattle.rm_states.specs.declared.app.states.AppState.TheVariants as apps
-use Rattle.rm_states.specs.declared.attempt.states.AttemptState.{AttemptState}
 use Rattle.rm_states.specs.declared.attempt.states.AttemptState.TheVariants as attempts
-use Rattle.rm_tables.specs.declared.rows.AppRow.{AppRow}
-use Rattle.rm_tables.specs.declared.rows.Current.{Current}
-use Rattle.rm_tables.specs.declared.tables.Tables.{Tables}
-use Rattle.rm_tables.specs.Rows.{row_of}
 use Rattle.rm_invariant.specs.apps.Invariant.{ActiveInvariant, CurrentInvariant, MayFollowInView, EndIssuedInvariant, RowInvariant, StateInvariant, has_tried}
-use Rattle.rm_refinement.specs.History.{History, abstract_scene}
 use Rattle.rm_invariant.specs.apps.View.{View, view}
 use Rattle.rm_invariant.proofs.apps.Events.{at}
 use Rattle.rm_refinement.specs.Clients.{is_saving_app}
-use Rattle.rm_model.specs.Attempts.{has_failed}
 use Rattle.rm_invariant.specs.Step.{AppsInvariant}
 
 -- an attempt is found only where there is one

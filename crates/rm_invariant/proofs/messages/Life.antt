@@ -1,9 +1,5 @@
 -- The tables of an open life show the judge's scene, as far as masters, nodes and the clock are answered from it.
-use Rattle.std.proofs.Common.{refl}
-use Rattle.rm_types.specs.declared.settings.Settings.{Settings}
-use Rattle.rm_tables.specs.declared.tables.Tables.{Tables}
-use Rattle.rm_refinement.specs.Services.{RefinesLife}
-use Rattle.rm_refinement.specs.History.{History, abstract_scene}
+use Rattle.rm_invariant.proofs.Common.{refl, Settings, Tables, RefinesLife, History, abstract_scene}
 use Rattle.rm_invariant.proofs.masters.Living.{live_is}
 use Rattle.rm_invariant.specs.Core.{CoreInvariant}
 use Rattle.rm_invariant.specs.messages.Clients.{FinishesRefine}

@@ -1,65 +1,20 @@
 -- Each row with the released mark has its release on its way: each message keeps it. An allocation marks what it releases, and its release is
 -- posted.
-use Rattle.std.proofs.Common.{◌≡◌, ℕ, List, [], ◌∷◌, ◌++◌, Bool, true, false, not, ◌&&◌, ◌||◌, Option, None, Some, filter, map, refl, sym, ◌∙◌, subst}
-use Rattle.std.specs.Prelude.{if◌then◌else◌, nat_lt}
-use Rattle.std.specs.List.{list_any}
-use Rattle.std.specs.Str.{bytes_eq}
+use Rattle.rm_invariant.proofs.Common.{◌≡◌, ℕ, List, [], ◌∷◌, ◌++◌, Bool, true, false, not, ◌&&◌, ◌||◌, Option, None, Some, filter, map, refl, sym, ◌∙◌, subst, if◌then◌else◌, list_any, bytes_eq, list_any-append, false≢true, is_masters_in, Acquired, Running, Ask, Closing, Grant, Held, Served, AppId, AttemptId, ContainerId, ClientAsk, ClockAsk, Tick, ExpireNode, ExpireMaster, MasterAsk, Message, NodeAsk, Submission, Reply, AppRecord, Resource, Settings, is_attempt, Records, is_living, released_by, is_granted, has_container, is_known, is_new_to_master, life_after_master, master_reply, row_allocated, untold_rows, is_masters, is_registered, is_later_turn, is_new_to_node, life_after_clock, life_after_node, reported, row_beaten, life_after, Row, Scene, scene, SchedEvent, NodeRow, AppRow, Tables, row_of, after_client, taken_by, wished_by, after_master, is_new_to, release_events, goes_on, spoken_by, after_clock, after_node, beat_events, is_next_beat, registered_by, History, abstract_life, abstract_scene, live_state}
+use Rattle.std.specs.Prelude.{nat_lt}
 use Rattle.std.proofs.lemmas.List.{append-nil}
-use Rattle.std.proofs.lemmas.List.Folds.{list_any-append}
-use Rattle.std.proofs.lemmas.Bool.{false≢true}
-use Rattle.rm_tables.specs.Leaving.{is_masters_in}
-use Rattle.rm_types.specs.declared.containers.ContainerState.TheVariants.{Acquired, Running}
-use Rattle.rm_types.specs.declared.containers.Ask.{Ask}
-use Rattle.rm_types.specs.declared.containers.Closing.{Closing}
-use Rattle.rm_types.specs.declared.containers.Grant.{Grant}
-use Rattle.rm_types.specs.declared.containers.Held.{Held}
-use Rattle.rm_types.specs.declared.entries.Entry.TheVariants.{Served}
-use Rattle.rm_types.specs.declared.ids.AppId.{AppId}
-use Rattle.rm_types.specs.declared.ids.AttemptId.{AttemptId}
-use Rattle.rm_types.specs.declared.ids.ContainerId.{ContainerId}
-use Rattle.rm_types.specs.declared.messages.ClientAsk.{ClientAsk}
 use Rattle.rm_types.specs.declared.messages.ClientAsk.TheVariants as clients
-use Rattle.rm_types.specs.declared.messages.ClockAsk.{ClockAsk}
-use Rattle.rm_types.specs.declared.messages.ClockAsk.TheVariants.{Tick, ExpireNode, ExpireMaster}
-use Rattle.rm_types.specs.declared.messages.MasterAsk.{MasterAsk}
 use Rattle.rm_types.specs.declared.messages.MasterAsk.TheVariants as masters
-use Rattle.rm_types.specs.declared.messages.Message.{Message}
 use Rattle.rm_types.specs.declared.messages.Message.TheVariants as messages
-use Rattle.rm_types.specs.declared.messages.NodeAsk.{NodeAsk}
 use Rattle.rm_types.specs.declared.messages.NodeAsk.TheVariants as asks
 use Rattle.rm_types.specs.declared.messages.Sender.{Sender}
 use Rattle.rm_types.specs.declared.messages.Sender.TheVariants as senders
-use Rattle.rm_types.specs.declared.operations.Submission.{Submission}
-use Rattle.rm_types.specs.declared.replies.Reply.{Reply}
 use Rattle.rm_types.specs.declared.replies.Reply.TheVariants as replies
-use Rattle.rm_types.specs.declared.records.AppRecord.{AppRecord}
-use Rattle.rm_types.specs.declared.resources.Resource.{Resource}
-use Rattle.rm_types.specs.declared.settings.Settings.{Settings}
-use Rattle.rm_types.specs.Ids.{is_attempt}
-use Rattle.rm_types.specs.Records.{Records}
 use Rattle.rm_model.specs.ClientReplies.{joins, life_after_client}
-use Rattle.rm_model.specs.Containers.{is_living, released_by}
-use Rattle.rm_types.specs.Containers.{is_granted}
-use Rattle.rm_model.specs.Facts.{has_container, is_known}
-use Rattle.rm_model.specs.MasterReplies.{is_new_to_master, life_after_master, master_reply, row_allocated, untold_rows}
-use Rattle.rm_model.specs.Attempts.{is_masters, is_registered}
-use Rattle.rm_model.specs.NodeReplies.{is_later_turn, is_new_to_node, life_after_clock, life_after_node, reported, row_beaten}
 use Rattle.rm_model.specs.Nodes.{judged_node as node_told}
-use Rattle.rm_model.specs.Replies.{life_after}
-use Rattle.rm_model.specs.State.{Row, Scene, scene}
-use Rattle.rm_tables.specs.declared.events.SchedEvent.{SchedEvent}
 use Rattle.rm_tables.specs.declared.events.SchedEvent.TheVariants as scheds
-use Rattle.rm_tables.specs.declared.nodes.NodeRow.{NodeRow}
-use Rattle.rm_tables.specs.declared.rows.AppRow.{AppRow}
-use Rattle.rm_tables.specs.declared.tables.Tables.{Tables}
 use Rattle.rm_tables.specs.Nodes.{node_row as node_in}
-use Rattle.rm_tables.specs.Rows.{row_of}
-use Rattle.rm_client.specs.Answers.{after_client, taken_by, wished_by}
-use Rattle.rm_master.specs.Answers.{after_master, is_new_to, release_events}
-use Rattle.rm_master.specs.Told.{goes_on, spoken_by}
 use Rattle.rm_master.proofs.Granted.{masters_same}
-use Rattle.rm_tracker.specs.Answers.{after_clock, after_node, beat_events, is_next_beat, registered_by}
-use Rattle.rm_refinement.specs.History.{History, abstract_life, abstract_scene, live_state}
 use Rattle.rm_invariant.specs.nodes.Book.{All}
 use Rattle.rm_invariant.proofs.nodes.Holds.{all_map}
 use Rattle.rm_invariant.proofs.masters.LeavingEvents.{of_once, of_passing}

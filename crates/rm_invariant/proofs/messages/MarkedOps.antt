@@ -1,36 +1,15 @@
 -- Each row with the released mark has its release on its way: each operation that is kept in an open life keeps it, since no container of an
 -- attempt that is recorded becomes a master's.
-use Rattle.std.proofs.Common.{◌≡◌, ℕ, List, [], ◌∷◌, ◌++◌, Bool, true, false, Option, None, Some, find, map, refl, sym, ◌∙◌, ap, subst}
-use Rattle.std.specs.Prelude.{if◌then◌else◌, option_map}
-use Rattle.std.specs.List.{list_any}
-use Rattle.std.proofs.lemmas.Bool.{false≢true}
+use Rattle.rm_invariant.proofs.Common.{◌≡◌, ℕ, List, [], ◌∷◌, ◌++◌, Bool, true, false, Option, None, Some, find, map, refl, sym, ◌∙◌, ap, subst, if◌then◌else◌, list_any, false≢true, AppId, AttemptId, ContainerId, How, Op, Submission, AppRecord, AttemptRecord, Settings, is_app, is_attempt, is_container, new_record, record_of, with_end, attempt_itself, same_app, is_epoch_op, Row, SchedEvent, Tables, dropped_by, kept, is_masters_in, row_of, AppState, History, after, live_state}
+use Rattle.std.specs.Prelude.{option_map}
 use Rattle.std.proofs.lemmas.List.{append-nil}
 use Rattle.rm_types.specs.declared.entries.Entry.TheVariants.{Kept}
-use Rattle.rm_types.specs.declared.ids.AppId.{AppId}
-use Rattle.rm_types.specs.declared.ids.AttemptId.{AttemptId}
-use Rattle.rm_types.specs.declared.ids.ContainerId.{ContainerId}
-use Rattle.rm_types.specs.declared.operations.How.{How}
-use Rattle.rm_types.specs.declared.operations.Op.{Op}
 use Rattle.rm_types.specs.declared.operations.Op.TheVariants as ops
-use Rattle.rm_types.specs.declared.operations.Submission.{Submission}
-use Rattle.rm_types.specs.declared.records.AppRecord.{AppRecord}
-use Rattle.rm_types.specs.declared.records.AttemptRecord.{AttemptRecord}
-use Rattle.rm_types.specs.declared.settings.Settings.{Settings}
-use Rattle.rm_types.specs.Ids.{is_app, is_attempt, is_container}
-use Rattle.rm_types.specs.Records.{apps_recorded, new_record, record_of, with_end}
-use Rattle.rm_types.proofs.IdLemmas.{attempt_itself, same_app}
-use Rattle.rm_model.specs.Facts.{is_epoch_op}
-use Rattle.rm_model.specs.State.{Row}
-use Rattle.rm_tables.specs.declared.events.SchedEvent.{SchedEvent}
+use Rattle.rm_types.specs.Records.{apps_recorded}
 use Rattle.rm_tables.specs.declared.events.SchedEvent.TheVariants as scheds
-use Rattle.rm_tables.specs.declared.tables.Tables.{Tables}
-use Rattle.rm_tables.specs.KeptOps.{dropped_by, kept}
-use Rattle.rm_tables.specs.Leaving.{is_masters_in, is_own_or_unkept, masters_by}
-use Rattle.rm_tables.specs.Rows.{row_of}
-use Rattle.rm_states.specs.declared.app.states.AppState.{AppState}
+use Rattle.rm_tables.specs.Leaving.{is_own_or_unkept, masters_by}
 use Rattle.rm_invariant.specs.apps.Invariant.{RowInvariant, StateInvariant}
 use Rattle.rm_invariant.specs.Step.{AppsInvariant}
-use Rattle.rm_refinement.specs.History.{History}
 use Rattle.rm_invariant.specs.apps.View.{changed_if, gone_if, put_if, view}
 use Rattle.rm_invariant.proofs.apps.Found.{found_gone, record_put}
 use Rattle.rm_invariant.proofs.apps.Saving.{app_waits}
@@ -38,8 +17,6 @@ use Rattle.rm_invariant.proofs.apps.Recorded.{record_changed}
 use Rattle.rm_invariant.specs.nodes.Book.{All}
 use Rattle.rm_invariant.specs.Core.{PreservesCore}
 use Rattle.rm_invariant.specs.messages.Released.{IsOnWay, ReleasesOnWay}
-use Rattle.rm_model.specs.Changes.{after}
-use Rattle.rm_refinement.specs.History.{live_state}
 use Rattle.rm_invariant.proofs.messages.Shapes.{book_of}
 use Rattle.rm_invariant.proofs.messages.Marked.{all_both, all_found, all_later, step_on_way}
 use Rattle.rm_invariant.proofs.events.Entering.{all_weaker}

@@ -1,47 +1,10 @@
 -- Each row with the released mark has its release on its way: each event of both queues keeps it. Once the release comes, what it names has left.
-use Rattle.std.proofs.Common.{◌≡◌, drop, inl, inr, ℕ, List, [], ◌∷◌, Bool, true, false, not, ◌&&◌, ◌==◌, Option, None, Some, filter, map, refl, sym, ◌∙◌, ap, subst}
-use Rattle.std.specs.Prelude.{if◌then◌else◌}
-use Rattle.std.specs.List.{list_any}
-use Rattle.std.proofs.lemmas.Bool.{false≢true}
-use Rattle.rm_types.specs.declared.containers.Cause.{Cause}
+use Rattle.rm_invariant.proofs.Common.{◌≡◌, drop, inl, inr, ℕ, List, [], ◌∷◌, Bool, true, false, not, ◌&&◌, Option, None, Some, filter, map, refl, sym, ◌∙◌, ap, subst, if◌then◌else◌, list_any, false≢true, Cause, Running, Grant, Held, Entry, AttemptId, ContainerId, AppRecord, Settings, is_attempt, is_container, Records, container_itself, same_container, AttemptState, has_row, row_absorbed, row_taken, is_held, after, is_living, once, has_container, row_granted, Row, MainEvent, SchedEvent, NodeRow, AppRow, Current, Tables, absorbed_by, absorbed_if, main_worked, sched_quiet, sched_worked, ended_by, is_masters_in, main_step, is_waiting_row, node_row, updated_by, row_of, is_on, is_released, queued_at, queued_by, queued_with, sched_step, History, live_state}
+use Rattle.std.proofs.Common.{◌==◌}
 use Rattle.rm_types.specs.declared.containers.Cause.TheVariants as causes
-use Rattle.rm_types.specs.declared.containers.ContainerState.TheVariants.{Running}
-use Rattle.rm_types.specs.declared.containers.Grant.{Grant}
-use Rattle.rm_types.specs.declared.containers.Held.{Held}
-use Rattle.rm_types.specs.declared.entries.Entry.{Entry}
-use Rattle.rm_types.specs.declared.ids.AttemptId.{AttemptId}
-use Rattle.rm_types.specs.declared.ids.ContainerId.{ContainerId}
-use Rattle.rm_types.specs.declared.records.AppRecord.{AppRecord}
-use Rattle.rm_types.specs.declared.settings.Settings.{Settings}
-use Rattle.rm_types.specs.Ids.{is_attempt, is_container}
-use Rattle.rm_types.specs.Records.{Records}
-use Rattle.rm_types.proofs.IdLemmas.{container_itself, same_container}
-use Rattle.rm_states.specs.declared.attempt.states.AttemptState.{AttemptState}
 use Rattle.rm_states.specs.declared.attempt.states.AttemptState.TheVariants as attempts
-use Rattle.rm_book.specs.Books.{has_row, book_row as book_row_of}
-use Rattle.rm_model.specs.Absorbing.{row_absorbed, row_taken}
-use Rattle.rm_types.specs.Containers.{is_held}
-use Rattle.rm_model.specs.Changes.{after}
-use Rattle.rm_model.specs.Containers.{is_living, once}
-use Rattle.rm_model.specs.Facts.{has_container}
-use Rattle.rm_model.specs.Passing.{row_granted}
-use Rattle.rm_model.specs.State.{Row}
-use Rattle.rm_tables.specs.declared.events.MainEvent.{MainEvent}
-use Rattle.rm_tables.specs.declared.events.SchedEvent.{SchedEvent}
+use Rattle.rm_book.specs.Books.{book_row as book_row_of}
 use Rattle.rm_tables.specs.declared.events.SchedEvent.TheVariants as scheds
-use Rattle.rm_tables.specs.declared.nodes.NodeRow.{NodeRow}
-use Rattle.rm_tables.specs.declared.rows.AppRow.{AppRow}
-use Rattle.rm_tables.specs.declared.rows.Current.{Current}
-use Rattle.rm_tables.specs.declared.tables.Tables.{Tables}
-use Rattle.rm_tables.specs.Absorbing.{absorbed_by, absorbed_if}
-use Rattle.rm_tables.specs.Actions.{main_worked, sched_quiet, sched_worked}
-use Rattle.rm_tables.specs.Leaving.{ended_by, is_masters_in}
-use Rattle.rm_tables.specs.MainEvents.{main_step}
-use Rattle.rm_tables.specs.Nodes.{is_waiting_row, node_row}
-use Rattle.rm_tables.specs.Passing.{updated_by}
-use Rattle.rm_tables.specs.Rows.{row_of}
-use Rattle.rm_tables.specs.SchedEvents.{is_on, is_released, queued_at, queued_by, queued_with, sched_step}
-use Rattle.rm_refinement.specs.History.{History, live_state}
 use Rattle.rm_invariant.specs.nodes.Book.{All}
 use Rattle.rm_invariant.proofs.nodes.Holds.{all_append, all_filter, all_map, all_passing}
 use Rattle.rm_invariant.proofs.nodes.Lists.{once_has}

@@ -1,42 +1,18 @@
 -- A master is answered, as whole steps that keep all that holds of an open life: it registers, it says that it finishes, it allocates.
-use Rattle.std.proofs.Common.{◌≡◌, ℕ, suc, ◌+◌, List, [], ◌∷◌, ◌++◌, Bool, true, false, ◌&&◌, ◌||◌, not, Option, None, Some, is_none, is_some, map, refl, sym, ◌∙◌, ap, subst, arith}
-use Rattle.std.specs.Prelude.{if◌then◌else◌, option_map, ◌==◌, All}
-use Rattle.std.specs.List.{list_any}
+use Rattle.rm_invariant.proofs.Common.{◌≡◌, ℕ, suc, ◌+◌, List, [], ◌∷◌, ◌++◌, Bool, true, false, ◌&&◌, ◌||◌, not, Option, None, Some, is_none, map, refl, sym, ◌∙◌, ap, subst, arith, if◌then◌else◌, list_any, nat_tests, Ask, Closing, Grant, Served, AttemptId, ContainerId, MasterAsk, Register, Finish, Allocate, Reply, Settings, has_registered, is_live, is_registered, released_by, is_new_to_master, life_after_master, master_reply, register_reply, row_allocated, untold_rows, judged_node, LifeState, MasterState, Row, Scene, Dialogue, Tables, row_of, dialogue_begun, with_answer, with_text, without_closings, PlainDialogue, bare_dialogue, plain_dialogue, RefinesLife, lives_by, after_master, allocated_with, is_new_to, registered, release_events, said, goes_on, spoken_by, IsAsk, History, abstract_life, abstract_scene}
+use Rattle.std.proofs.Common.{is_some}
+use Rattle.std.specs.Prelude.{option_map, ◌==◌, All}
 use Rattle.std.proofs.lemmas.Bool.{eqb-true}
-use Rattle.std.proofs.lemmas.Bool.Decides.{nat_tests}
-use Rattle.rm_types.specs.declared.containers.Ask.{Ask}
-use Rattle.rm_types.specs.declared.containers.Closing.{Closing}
-use Rattle.rm_types.specs.declared.containers.Grant.{Grant}
-use Rattle.rm_types.specs.declared.entries.Entry.TheVariants.{Served}
-use Rattle.rm_types.specs.declared.ids.AttemptId.{AttemptId}
-use Rattle.rm_types.specs.declared.ids.ContainerId.{ContainerId}
-use Rattle.rm_types.specs.declared.messages.MasterAsk.{MasterAsk}
-use Rattle.rm_types.specs.declared.messages.MasterAsk.TheVariants.{Register, Finish, Allocate}
 use Rattle.rm_types.specs.declared.messages.Message.TheVariants as messages
 use Rattle.rm_types.specs.declared.messages.Sender.TheVariants as senders
-use Rattle.rm_types.specs.declared.replies.Reply.{Reply}
 use Rattle.rm_types.specs.declared.replies.Reply.TheVariants.{MasterRegistered, Already, Gone, Resync, TooLarge, Full, Allocated, NotRegistered, Finishing, Finished}
-use Rattle.rm_types.specs.declared.settings.Settings.{Settings}
 use Rattle.rm_types.specs.Resources.{fits}
-use Rattle.rm_model.specs.Attempts.{has_registered, is_finishing, is_last, is_live, is_registered, master_of}
-use Rattle.rm_model.specs.Containers.{released_by}
+use Rattle.rm_model.specs.Attempts.{is_finishing, is_last, master_of}
 use Rattle.rm_model.specs.Facts.{kept_end}
-use Rattle.rm_model.specs.MasterReplies.{allocate_reply, allocated_reply, allocates, finish_reply, finished_issued, has_too_many, is_new_to_master, life_after_master, master_reply, outbox_of, register_reply, registers, row_allocated, untold_rows, with_asks}
-use Rattle.rm_model.specs.Nodes.{judged_node}
-use Rattle.rm_model.specs.State.{LifeState, MasterState, Row, Scene}
-use Rattle.rm_tables.specs.declared.rows.Dialogue.{Dialogue}
-use Rattle.rm_tables.specs.declared.tables.Tables.{Tables}
-use Rattle.rm_tables.specs.Rows.{row_of}
-use Rattle.rm_tables.specs.Talks.{dialogue_begun, with_answer, with_text, without_closings}
-use Rattle.rm_refinement.specs.Agreement.{PlainDialogue, bare_dialogue, plain_dialogue}
-use Rattle.rm_refinement.specs.Services.{RefinesLife, lives_by}
-use Rattle.rm_master.specs.Answers.{after_master, allocated_with, is_new_to, registered, release_events, said}
-use Rattle.rm_master.specs.Told.{goes_on, spoken_by}
+use Rattle.rm_model.specs.MasterReplies.{allocate_reply, allocated_reply, allocates, finish_reply, finished_issued, has_too_many, outbox_of, registers, with_asks}
 use Rattle.rm_master.proofs.Replies.{Lives, lives_here, none_lives, row_lives}
 use Rattle.rm_master.proofs.Same.{goes_alike, master_same}
 use Rattle.rm_invariant.specs.messages.Ranges.{IsMasterAsk}
-use Rattle.rm_types.specs.Messages.{IsAsk}
-use Rattle.rm_refinement.specs.History.{History, abstract_life, abstract_scene}
 use Rattle.rm_invariant.specs.nodes.Invariant.{NodesInvariant, NodeInvariant, events_of}
 use Rattle.rm_invariant.specs.nodes.Book.{BookInvariant}
 use Rattle.rm_invariant.specs.masters.Preserves.{PreservesContainersTo}

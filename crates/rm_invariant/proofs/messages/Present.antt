@@ -1,19 +1,9 @@
 -- No node that registered is absent: each message of a node and of the clock keeps it.
-use Rattle.std.proofs.Common.{◌≡◌, ℕ, ◌+◌, List, Bool, true, false, Option, None, Some, refl}
+use Rattle.rm_invariant.proofs.Common.{◌≡◌, ℕ, ◌+◌, List, Bool, true, false, Option, None, Some, refl, Held, ClockAsk, Tick, ExpireNode, ExpireMaster, NodeAsk, Reply, Resource, NodeRow, Tables, beaten_row, changed_row, new_node_row, node_row, registered_node_row, after_clock, after_node, is_next_beat, registered_by}
 use Rattle.std.specs.Prelude.{nat_lt}
-use Rattle.rm_types.specs.declared.containers.Held.{Held}
-use Rattle.rm_types.specs.declared.messages.ClockAsk.{ClockAsk}
-use Rattle.rm_types.specs.declared.messages.ClockAsk.TheVariants.{Tick, ExpireNode, ExpireMaster}
-use Rattle.rm_types.specs.declared.messages.NodeAsk.{NodeAsk}
 use Rattle.rm_types.specs.declared.messages.NodeAsk.TheVariants as asks
-use Rattle.rm_types.specs.declared.replies.Reply.{Reply}
 use Rattle.rm_types.specs.declared.replies.Reply.TheVariants.{Beat as TellBeat, Ok}
-use Rattle.rm_types.specs.declared.resources.Resource.{Resource}
 use Rattle.rm_tables.specs.declared.nodes.NodeChange.TheVariants as of_node
-use Rattle.rm_tables.specs.declared.nodes.NodeRow.{NodeRow}
-use Rattle.rm_tables.specs.declared.tables.Tables.{Tables}
-use Rattle.rm_tables.specs.Nodes.{beaten_row, changed_row, new_node_row, node_row, registered_node_row}
-use Rattle.rm_tracker.specs.Answers.{after_clock, after_node, is_next_beat, registered_by}
 use Rattle.rm_invariant.specs.events.Here.{NoneAbsent}
 use Rattle.rm_invariant.proofs.events.Registered.{changes_registered, registered_more, registered_with}
 

@@ -1,32 +1,17 @@
 -- A node registers, as a whole step that keeps all that holds of an open life: for the first time, with a later turn, and with one that isn't
 -- later, which changes nothing.
-use Rattle.std.proofs.Common.{◌≡◌, ℕ, ◌<◌, List, [], ◌∷◌, ◌++◌, Bool, true, false, Option, None, Some, refl, sym, ◌∙◌, ap, subst, arith}
+use Rattle.rm_invariant.proofs.Common.{◌≡◌, ℕ, ◌<◌, List, [], ◌∷◌, ◌++◌, Bool, true, false, Option, None, Some, refl, sym, ◌∙◌, ap, subst, arith, nat_tests, Held, Served, NodeAsk, Reply, Resource, Settings, text_itself, new_node, node_reply, node_after_registration, tidied, LifeState, Registered, Registration, Scene, Waiting, SchedEvent, NodeRow, Tables, new_node_row, registered_node_row, with_node, after_node, registered_by, OnlyNodesOffer, PlainNode, bare_node, plain_node, tidied_same, with_same, History, abstract_life, abstract_scene}
 use Rattle.std.specs.Prelude.{nat_lt, option_map}
-use Rattle.std.proofs.lemmas.Bool.Decides.{nat_tests}
-use Rattle.rm_types.specs.declared.containers.Held.{Held}
-use Rattle.rm_types.specs.declared.entries.Entry.TheVariants.{Served}
 use Rattle.rm_types.specs.declared.messages.Message.TheVariants as messages
-use Rattle.rm_types.specs.declared.messages.NodeAsk.{NodeAsk}
 use Rattle.rm_types.specs.declared.messages.NodeAsk.TheVariants as asks
 use Rattle.rm_types.specs.declared.messages.Sender.TheVariants as senders
-use Rattle.rm_types.specs.declared.replies.Reply.{Reply}
 use Rattle.rm_types.specs.declared.replies.Reply.TheVariants.{NodeRegistered}
-use Rattle.rm_types.specs.declared.resources.Resource.{Resource}
-use Rattle.rm_types.specs.declared.settings.Settings.{Settings}
-use Rattle.rm_types.proofs.TestLemmas.{text_itself}
-use Rattle.rm_model.specs.NodeReplies.{new_node, node_register_reply, node_reply, node_after_registration}
-use Rattle.rm_model.specs.Nodes.{judged_node as node_told, tidied, with_judged_node as with_told}
-use Rattle.rm_model.specs.State.{LifeState, NodeState, Registered, Registration, Scene, Waiting}
-use Rattle.rm_tables.specs.declared.events.SchedEvent.{SchedEvent}
+use Rattle.rm_model.specs.NodeReplies.{node_register_reply}
+use Rattle.rm_model.specs.Nodes.{judged_node as node_told, with_judged_node as with_told}
+use Rattle.rm_model.specs.State.{NodeState}
 use Rattle.rm_tables.specs.declared.events.SchedEvent.TheVariants as scheds
-use Rattle.rm_tables.specs.declared.nodes.NodeRow.{NodeRow}
-use Rattle.rm_tables.specs.declared.tables.Tables.{Tables}
-use Rattle.rm_tables.specs.Nodes.{new_node_row, node_row as node_in, registered_node_row, with_node}
-use Rattle.rm_tracker.specs.Answers.{after_node, registered_by}
-use Rattle.rm_tracker.specs.Offers.{OnlyNodesOffer}
-use Rattle.rm_refinement.specs.Agreement.{PlainNode, bare_node, plain_node}
-use Rattle.rm_refinement.proofs.Nodes.{added_same, tidied_same, with_same}
-use Rattle.rm_refinement.specs.History.{History, abstract_life, abstract_scene}
+use Rattle.rm_tables.specs.Nodes.{node_row as node_in}
+use Rattle.rm_refinement.proofs.Nodes.{added_same}
 use Rattle.rm_invariant.specs.nodes.Invariant.{NodesInvariant, RegisteredInvariant, is_idle_by, node_view}
 use Rattle.rm_invariant.proofs.nodes.Entries.{one_other, one_own, pushed, register_good, still_tidy}
 use Rattle.rm_invariant.specs.Core.{Nothing, CoreInvariant, PreservesCore}

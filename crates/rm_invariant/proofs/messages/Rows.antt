@@ -1,18 +1,9 @@
 -- A message of a node or of the clock leaves the rows of applications as they are.
-use Rattle.std.proofs.Common.{◌≡◌, ℕ, List, Bool, true, false, Option, None, Some, refl}
+use Rattle.rm_invariant.proofs.Common.{◌≡◌, ℕ, List, Bool, true, false, Option, None, Some, refl, Held, ClockAsk, Tick, ExpireNode, ExpireMaster, NodeAsk, Reply, Resource, NodeRow, Tables, after_clock, after_node, is_next_beat, registered_by}
 use Rattle.std.specs.Prelude.{nat_lt}
-use Rattle.rm_types.specs.declared.containers.Held.{Held}
-use Rattle.rm_types.specs.declared.messages.ClockAsk.{ClockAsk}
-use Rattle.rm_types.specs.declared.messages.ClockAsk.TheVariants.{Tick, ExpireNode, ExpireMaster}
-use Rattle.rm_types.specs.declared.messages.NodeAsk.{NodeAsk}
 use Rattle.rm_types.specs.declared.messages.NodeAsk.TheVariants as asks
-use Rattle.rm_types.specs.declared.replies.Reply.{Reply}
 use Rattle.rm_types.specs.declared.replies.Reply.TheVariants.{Beat as TellBeat, Ok}
-use Rattle.rm_types.specs.declared.resources.Resource.{Resource}
-use Rattle.rm_tables.specs.declared.nodes.NodeRow.{NodeRow}
-use Rattle.rm_tables.specs.declared.tables.Tables.{Tables}
 use Rattle.rm_tables.specs.Nodes.{node_row as node_in}
-use Rattle.rm_tracker.specs.Answers.{after_clock, after_node, is_next_beat, registered_by}
 
 registered_rows : (r : Option NodeRow) (name : List ℕ) (turn : ℕ) (capability : Resource) (running : List Held) (reply : Reply) (t : Tables) → (registered_by r name turn capability running reply t).rows ≡ t.rows
 registered_rows None name turn capability running reply t = refl

@@ -1,39 +1,14 @@
 -- What each event of the main queue may change: the row of one application, by a change, or none; the scheduler's queue, by one event more or
 -- none; neither what is recorded nor the judge's book. And each event of the scheduler's: rows, by endings or by grants, or none.
-use Rattle.std.proofs.Common.{◌≡◌, ◌==◌, ◌&&◌, ◌⊎◌, inl, inr, ℕ, List, [], ◌∷◌, ◌++◌, Bool, true, false, Option, None, Some, option_map, filter, fold, refl}
-use Rattle.rm_types.specs.declared.entries.Entry.{Entry}
-use Rattle.rm_types.specs.declared.ids.AppId.{AppId}
-use Rattle.rm_types.specs.declared.ids.AttemptId.{AttemptId}
-use Rattle.rm_types.specs.declared.ids.ContainerId.{ContainerId}
-use Rattle.rm_states.specs.declared.attempt.states.AttemptState.{AttemptState}
+use Rattle.rm_invariant.proofs.Common.{◌≡◌, ◌&&◌, ◌⊎◌, inl, inr, ℕ, List, [], ◌∷◌, ◌++◌, Bool, true, false, Option, None, Some, filter, fold, refl, Entry, AppId, AttemptId, ContainerId, AttemptState, RowChange, AppRow, Current, Tables, next_in, sched_quiet, row_of, with_row, SchedEvent, changed, after, LifeState, Manager, Row, History, live_state, Cause, Closing, Grant, once, NodeRow, absorbed_by, absorbed_if, closed_in, closings_of, ended_by, is_waiting_row, node_row, grants_on, rows_after_grant, updated_by, is_on, is_released, queued_at, queued_by, queued_with, sched_step}
+use Rattle.std.proofs.Common.{◌==◌, option_map}
 use Rattle.rm_states.specs.declared.attempt.states.AttemptState.TheVariants as attempts
 use Rattle.rm_tables.specs.declared.changes.AttemptChange.TheVariants as of_attempt
-use Rattle.rm_tables.specs.declared.changes.RowChange.{RowChange}
 use Rattle.rm_tables.specs.declared.changes.RowChange.TheVariants as of_app
-use Rattle.rm_tables.specs.declared.rows.AppRow.{AppRow}
-use Rattle.rm_tables.specs.declared.rows.Current.{Current}
-use Rattle.rm_tables.specs.declared.tables.Tables.{Tables}
-use Rattle.rm_tables.specs.Actions.{next_in, sched_quiet}
-use Rattle.rm_tables.specs.Rows.{row_of, with_row}
-use Rattle.rm_tables.specs.declared.events.SchedEvent.{SchedEvent}
 use Rattle.rm_tables.specs.declared.events.SchedEvent.TheVariants as scheds
-use Rattle.rm_tables.specs.Changes.{changed}
-use Rattle.rm_model.specs.Changes.{after}
-use Rattle.rm_model.specs.State.{LifeState, Manager, Row}
-use Rattle.rm_refinement.specs.History.{History, live_state}
 use Rattle.rm_invariant.specs.events.Outcomes.{Outcome, accepts, adds, delays, ends, ends_one, follows, idles, issues, kills, loses, orders, removes, requeues, saves}
-use Rattle.rm_types.specs.declared.containers.Cause.{Cause}
 use Rattle.rm_types.specs.declared.containers.Cause.TheVariants as causes
-use Rattle.rm_types.specs.declared.containers.Closing.{Closing}
-use Rattle.rm_types.specs.declared.containers.Grant.{Grant}
 use Rattle.rm_book.specs.Books.{book_row as book_row_of}
-use Rattle.rm_model.specs.Containers.{once}
-use Rattle.rm_tables.specs.declared.nodes.NodeRow.{NodeRow}
-use Rattle.rm_tables.specs.Absorbing.{absorbed_by, absorbed_if}
-use Rattle.rm_tables.specs.Leaving.{closed_in, closings_of, ended_by}
-use Rattle.rm_tables.specs.Nodes.{is_waiting_row, node_row}
-use Rattle.rm_tables.specs.Passing.{grants_on, rows_after_grant, updated_by}
-use Rattle.rm_tables.specs.SchedEvents.{is_on, is_released, queued_at, queued_by, queued_with, sched_step}
 
 -- the judge's book, where a life stands
 abbrev pub book_of : Manager → Option (List Row)

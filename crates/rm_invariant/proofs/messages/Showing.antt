@@ -1,29 +1,14 @@
 -- The tables of an open life show the judge's scene, as far as clients are answered from it.
-use Rattle.std.proofs.Common.{◌≡◌, ℕ, ◌≤◌, ◌⊎◌, inl, inr, List, [], ◌∷◌, Bool, true, false, ◌&&◌, ◌||◌, not, Option, None, Some, is_some, map, count_by, length, refl, sym, ◌∙◌, ap, subst, arith}
+use Rattle.rm_invariant.proofs.Common.{◌≡◌, ℕ, ◌≤◌, ◌⊎◌, inl, inr, List, [], ◌∷◌, Bool, true, false, ◌&&◌, ◌||◌, not, Option, None, Some, map, length, refl, sym, ◌∙◌, ap, subst, arith, nat_tests, AppId, AttemptId, AppRecord, AttemptRecord, Settings, is_app, is_nil, is_some_and, last_attempt, record_of, and_false, has_failed, attempts_in, has_app, is_app_op, AppRow, Current, Tables, row_of, AttemptAgrees, CurrentAgrees, PlainRow, bare_row, session_of, plain_row, History, abstract_scene}
+use Rattle.std.proofs.Common.{is_some, count_by}
 use Rattle.std.specs.Prelude.{◌==◌}
-use Rattle.std.proofs.lemmas.Bool.Decides.{nat_tests}
-use Rattle.rm_types.specs.declared.ids.AppId.{AppId}
-use Rattle.rm_types.specs.declared.ids.AttemptId.{AttemptId}
-use Rattle.rm_types.specs.declared.records.AppRecord.{AppRecord}
-use Rattle.rm_types.specs.declared.records.AttemptRecord.{AttemptRecord}
-use Rattle.rm_types.specs.declared.settings.Settings.{Settings}
-use Rattle.rm_types.specs.Ids.{is_app}
-use Rattle.rm_types.specs.Lists.{is_nil}
-use Rattle.rm_types.specs.Records.{is_some_and, last_attempt, record_of}
-use Rattle.rm_types.proofs.TestLemmas.{and_false}
-use Rattle.rm_model.specs.Attempts.{has_failed, has_registered as has_spoken}
+use Rattle.rm_model.specs.Attempts.{has_registered as has_spoken}
 use Rattle.rm_model.specs.ClientReplies.{is_running}
-use Rattle.rm_model.specs.Facts.{attempts_in, awaits, has_app, is_app_op}
-use Rattle.rm_tables.specs.declared.rows.AppRow.{AppRow}
-use Rattle.rm_tables.specs.declared.rows.Current.{Current}
-use Rattle.rm_tables.specs.declared.tables.Tables.{Tables}
-use Rattle.rm_tables.specs.Rows.{row_of}
+use Rattle.rm_model.specs.Facts.{awaits}
 use Rattle.rm_refinement.specs.Clients.{RowRefines, RefinesAt, is_saving_app, runs}
-use Rattle.rm_refinement.specs.Agreement.{AttemptAgrees, CurrentAgrees, PlainRow, bare_row, session_of, plain_row}
 use Rattle.rm_master.proofs.Replies.{same_some}
 use Rattle.rm_invariant.specs.apps.Invariant.{NeverKnownInvariant, RowInvariant, has_tried}
 use Rattle.rm_invariant.specs.apps.Submissions.{Lists}
-use Rattle.rm_refinement.specs.History.{History, abstract_scene}
 use Rattle.rm_invariant.specs.apps.View.{one_if, view}
 use Rattle.rm_invariant.proofs.apps.Counts.{at_front, none_under, some_passes}
 use Rattle.rm_invariant.proofs.apps.Events.{at}

@@ -1,25 +1,14 @@
 -- What holds of the book after a node's report was absorbed.
-use Rattle.std.proofs.Common.{◌≡◌, ◌⊎◌, inl, inr, ℕ, ◌<◌, List, [], ◌∷◌, ◌++◌, Bool, true, false, not, ◌&&◌, ◌||◌, nat_lt, Option, None, Some, filter, fold, map, refl, sym, ◌∙◌, ap, subst, arith}
-use Rattle.std.specs.Prelude.{if◌then◌else◌, is_some, option_map, option_and_then}
-use Rattle.std.specs.Str.{bytes_eq}
-use Rattle.std.proofs.lemmas.Bool.{false≢true, or_right, or_left, not-true}
-use Rattle.std.proofs.lemmas.Bool.Decides.{nat_tests}
-use Rattle.std.proofs.lemmas.List.Folds.{list_any-append}
+use Rattle.rm_invariant.proofs.Common.{◌≡◌, ◌⊎◌, inl, inr, ℕ, ◌<◌, List, [], ◌∷◌, ◌++◌, Bool, true, false, not, ◌&&◌, ◌||◌, Option, None, Some, filter, fold, map, refl, sym, ◌∙◌, ap, subst, arith, if◌then◌else◌, bytes_eq, false≢true, or_right, not-true, nat_tests, list_any-append, Held, ContainerId, is_container, and_first, container_itself, same_container, absorbed, as_booked, as_counted, as_reported, row_absorbed, row_taken, taken_of, is_held, attempt_was_first, is_living, leave, lives_on, without_launches, has_container, judged_node, with_judged_node, LifeState, Row, Scene}
+use Rattle.std.proofs.Common.{nat_lt}
+use Rattle.std.specs.Prelude.{is_some, option_map, option_and_then}
+use Rattle.std.proofs.lemmas.Bool.{or_left}
 use Rattle.rm_types.specs.declared.containers.Cause.TheVariants.{Gone}
-use Rattle.rm_types.specs.declared.containers.Held.{Held}
-use Rattle.rm_types.specs.declared.ids.ContainerId.{ContainerId}
-use Rattle.rm_types.specs.Ids.{is_container}
-use Rattle.rm_types.proofs.TestLemmas.{and_first}
-use Rattle.rm_types.proofs.IdLemmas.{container_itself, same_container}
 use Rattle.rm_book.specs.Books.{AreOnce}
 use Rattle.rm_book.proofs.TakenRows.{held_filter}
-use Rattle.rm_model.specs.Absorbing.{absorbed, as_booked, as_counted, as_reported, may_take, row_absorbed, row_taken, taken_of, with_counted, with_taken}
-use Rattle.rm_types.specs.Containers.{is_held}
-use Rattle.rm_model.specs.Attempts.{attempt_was_first}
-use Rattle.rm_model.specs.Containers.{is_living, leave, lives_on, judged_row, without_launches}
-use Rattle.rm_model.specs.Facts.{has_container}
-use Rattle.rm_model.specs.Nodes.{judged_node, with_judged_node}
-use Rattle.rm_model.specs.State.{LifeState, NodeState, Row, Scene}
+use Rattle.rm_model.specs.Absorbing.{may_take, with_counted, with_taken}
+use Rattle.rm_model.specs.Containers.{judged_row}
+use Rattle.rm_model.specs.State.{NodeState}
 use Rattle.rm_sched.proofs.Absorbable.{once_more}
 use Rattle.rm_invariant.specs.nodes.Book.{All, LivingRowsAreApart, AreLaunches, BookInvariant, IsAbsorbed, BookRowInvariant}
 use Rattle.rm_invariant.proofs.nodes.Entries.{KeepsPlace, taken_place}

@@ -1,12 +1,7 @@
 -- Lists in ascending order told by a relation: a permutation that is sorted. Nothing of a list is lost in one.
-use Rattle.std.proofs.Common.{◌≡◌, ℕ, zero, suc, ◌<◌, List, [], ◌∷◌, length, get_or, Bool, true, false, not, ◌||◌, filter, refl, subst, arith}
-use Rattle.std.specs.Prelude.{Contains, IsPermutation}
-use Rattle.std.proofs.lemmas.Bool.{false≢true}
+use Rattle.rm_invariant.proofs.Common.{◌≡◌, ℕ, zero, suc, ◌<◌, List, [], ◌∷◌, length, get_or, Bool, true, false, not, ◌||◌, filter, refl, subst, arith, Contains, false≢true, ContainerId, is_container, container_itself, same_container, has_container}
+use Rattle.std.specs.Prelude.{IsPermutation}
 use Rattle.std.proofs.lemmas.List.Sorted.{Contains-permutation}
-use Rattle.rm_types.specs.declared.ids.ContainerId.{ContainerId}
-use Rattle.rm_types.specs.Ids.{is_container}
-use Rattle.rm_types.proofs.IdLemmas.{container_itself, same_container}
-use Rattle.rm_model.specs.Facts.{has_container}
 use Rattle.rm_invariant.proofs.nodes.Lists.{all_go}
 use Rattle.rm_invariant.proofs.nodes.Moved.{Contains-first, Contains-more}
 

@@ -1,32 +1,14 @@
 -- Each entry that a node's event logs is the judge's, and keeps what holds at each node.
-use Rattle.std.proofs.Common.{◌≡◌, ℕ, ◌<◌, List, [], ◌∷◌, ◌++◌, Bool, true, false, not, ◌||◌, Option, None, Some, filter, map, refl, sym, ◌∙◌, ap, subst, append-nil, arith}
-use Rattle.std.specs.Prelude.{if◌then◌else◌, ◌==◌, ◌≢◌, is_some, Contains, slice_get}
-use Rattle.std.specs.List.{list_any}
-use Rattle.std.specs.Str.{bytes_eq}
-use Rattle.std.proofs.lemmas.Bool.{false≢true}
-use Rattle.std.proofs.lemmas.Bool.Decides.{nat_tests}
-use Rattle.std.proofs.lemmas.List.{map-append}
-use Rattle.std.proofs.lemmas.List.Elements.{filter-append, filter_agree}
+use Rattle.rm_invariant.proofs.Common.{◌≡◌, ℕ, ◌<◌, List, [], ◌∷◌, ◌++◌, Bool, true, false, not, ◌||◌, Option, None, Some, filter, map, refl, sym, ◌∙◌, ap, subst, arith, if◌then◌else◌, Contains, slice_get, list_any, bytes_eq, false≢true, nat_tests, map-append, filter-append, filter_agree, Cause, Grant, Held, ContainerId, Reply, is_nil, Ascend, text_itself, same_text, Registration, Row, Scene, Waiting, Lost, Undone, Registered, Beat, Expired, has_container, ids_on, leave, lives_on, once, without_launches, without_idle, is_waiting, judged_node, with_judged_node, tidied, tidied_node, node_after_registration, new_node, row_beaten, beaten, expired, reported, passed, passes, row_granted, absorbed, absorbs, row_taken, row_absorbed, is_held, SchedEvent}
+use Rattle.std.proofs.Common.{append-nil}
+use Rattle.std.specs.Prelude.{◌==◌, ◌≢◌, is_some}
 use Rattle.std.proofs.lemmas.Simd.{map-map}
-use Rattle.rm_types.specs.declared.containers.Cause.{Cause}
 use Rattle.rm_types.specs.declared.containers.Cause.TheVariants.{Done, Node as NodeGone}
-use Rattle.rm_types.specs.declared.containers.Grant.{Grant}
-use Rattle.rm_types.specs.declared.containers.Held.{Held}
-use Rattle.rm_types.specs.declared.ids.ContainerId.{ContainerId}
-use Rattle.rm_types.specs.declared.replies.Reply.{Reply}
-use Rattle.rm_types.specs.Lists.{is_nil}
-use Rattle.rm_types.specs.Order.{Ascend}
-use Rattle.rm_types.proofs.TestLemmas.{text_itself, same_text}
-use Rattle.rm_model.specs.State.{NodeState, Registration, Row, Scene, Waiting, Lost, Undone, Registered, Beat, Expired}
-use Rattle.rm_model.specs.Facts.{has_container}
-use Rattle.rm_model.specs.Containers.{ids_on, leave, lives_on, once, without_launches}
-use Rattle.rm_model.specs.Nodes.{beat_at, expiry_at, without_idle, is_waiting, judged_node, with_judged_node, tidied, tidied_node}
-use Rattle.rm_model.specs.NodeReplies.{node_after_registration, new_node, nodes_registered, row_beaten, beaten, expired, reported}
+use Rattle.rm_model.specs.State.{NodeState}
+use Rattle.rm_model.specs.Nodes.{beat_at, expiry_at}
+use Rattle.rm_model.specs.NodeReplies.{nodes_registered}
 use Rattle.rm_model.specs.Ending.{done_on, MayEnd}
-use Rattle.rm_model.specs.Passing.{passed, passes, row_granted}
-use Rattle.rm_model.specs.Absorbing.{absorbed, absorbs, book_taken, row_taken, row_absorbed}
-use Rattle.rm_types.specs.Containers.{is_held}
-use Rattle.rm_tables.specs.declared.events.SchedEvent.{SchedEvent}
+use Rattle.rm_model.specs.Absorbing.{book_taken}
 use Rattle.rm_tables.specs.declared.events.SchedEvent.TheVariants.{NodeAdded, NodeDone, NodeUpdate, NodeLost}
 use Rattle.rm_invariant.specs.nodes.Invariant.{is_idle_by, is_nodes_event, pending, NodeView, RegisteredInvariant, events_of, node_view, NodeInvariant, NodesInvariant}
 use Rattle.rm_invariant.proofs.nodes.Views.{added_quiet, added_front, added_keeps, done_front, done_keeps, update_front, update_keeps, lost_quiet, lost_front, lost_keeps, register_keeps, beat_events, beat_keeps, expire_keeps}

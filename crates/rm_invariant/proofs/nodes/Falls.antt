@@ -1,7 +1,5 @@
 -- What falls away at the front.
-use Rattle.std.proofs.Common.{◌≡◌, List, [], ◌∷◌, ◌++◌, Bool, true, false, refl}
-use Rattle.rm_model.specs.State.{Undone}
-use Rattle.rm_model.specs.Nodes.{without_idle}
+use Rattle.rm_invariant.proofs.Common.{◌≡◌, List, [], ◌∷◌, ◌++◌, Bool, true, false, refl, Undone, without_idle}
 
 -- what was idle stays idle, of each in the list
 abbrev pub Stays : (Undone → Bool) → (Undone → Bool) → List Undone → Type 0

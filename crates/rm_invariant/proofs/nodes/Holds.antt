@@ -1,17 +1,7 @@
 -- What holds of the book after containers left it.
-use Rattle.std.proofs.Common.{◌≡◌, ℕ, ◌<◌, List, [], ◌∷◌, ◌++◌, Bool, true, false, not, ◌&&◌, Option, None, Some, filter, map, refl, sym, ◌∙◌, subst, arith}
+use Rattle.rm_invariant.proofs.Common.{◌≡◌, ℕ, ◌<◌, List, [], ◌∷◌, ◌++◌, Bool, true, false, not, ◌&&◌, Option, None, Some, filter, map, refl, sym, ◌∙◌, subst, arith, bytes_eq, false≢true, not-true, list_any-append, Cause, ContainerId, is_attempt, is_container, same_container, LifeState, Row, Scene, has_container, is_living, leave, lives_on, without_launches, judged_node}
 use Rattle.std.specs.Prelude.{is_some, option_map, option_and_then, count_by}
-use Rattle.std.specs.Str.{bytes_eq}
-use Rattle.std.proofs.lemmas.Bool.{false≢true, not-true}
-use Rattle.std.proofs.lemmas.List.Folds.{list_any-append}
-use Rattle.rm_types.specs.declared.containers.Cause.{Cause}
-use Rattle.rm_types.specs.declared.ids.ContainerId.{ContainerId}
-use Rattle.rm_types.specs.Ids.{is_attempt, is_container}
-use Rattle.rm_types.proofs.IdLemmas.{same_container}
-use Rattle.rm_model.specs.State.{LifeState, NodeState, Row, Scene}
-use Rattle.rm_model.specs.Facts.{has_container}
-use Rattle.rm_model.specs.Containers.{is_living, leave, lives_on, without_launches}
-use Rattle.rm_model.specs.Nodes.{judged_node}
+use Rattle.rm_model.specs.State.{NodeState}
 use Rattle.rm_invariant.specs.nodes.Book.{All, LivingRowsAreApart, IsGranted, IsAbsorbed, BookRowInvariant, AreLaunches, BookInvariant}
 use Rattle.rm_invariant.proofs.nodes.Moved.{node_of-map}
 

@@ -1,14 +1,5 @@
 -- Lists of containers: each once, and what is left of a list without them.
-use Rattle.std.proofs.Common.{◌≡◌, ℕ, List, [], ◌∷◌, Bool, true, false, not, ◌||◌, filter, refl, sym, ◌∙◌}
-use Rattle.std.specs.List.{list_any}
-use Rattle.std.specs.Str.{bytes_eq}
-use Rattle.std.proofs.lemmas.Bool.{false≢true}
-use Rattle.rm_types.specs.declared.ids.ContainerId.{ContainerId}
-use Rattle.rm_types.specs.Ids.{is_container}
-use Rattle.rm_types.proofs.IdLemmas.{container_itself, same_container}
-use Rattle.rm_model.specs.State.{Row}
-use Rattle.rm_model.specs.Facts.{has_container}
-use Rattle.rm_model.specs.Containers.{ids_on, lives_on, once}
+use Rattle.rm_invariant.proofs.Common.{◌≡◌, ℕ, List, [], ◌∷◌, Bool, true, false, not, ◌||◌, filter, refl, sym, ◌∙◌, list_any, bytes_eq, false≢true, ContainerId, is_container, container_itself, same_container, Row, has_container, ids_on, lives_on, once}
 use Rattle.rm_invariant.proofs.nodes.Views.{fewer}
 
 -- what is among those that go does not stay

@@ -1,18 +1,10 @@
 -- Nodes by name, and what an entry must show so that what holds at each node is kept.
-use Rattle.std.proofs.Common.{◌≡◌, ℕ, List, [], ◌∷◌, Bool, true, false, not, Option, None, Some, filter, map, refl, sym, ◌∙◌, subst}
-use Rattle.std.specs.Prelude.{option_map, Contains}
-use Rattle.std.specs.List.{list_any}
-use Rattle.std.specs.Str.{bytes_eq}
-use Rattle.std.proofs.lemmas.Bool.{false≢true}
+use Rattle.rm_invariant.proofs.Common.{◌≡◌, ℕ, List, [], ◌∷◌, Bool, true, false, not, Option, None, Some, filter, map, refl, sym, ◌∙◌, subst, Contains, list_any, bytes_eq, false≢true, ContainerId, is_nil, same_text, Row, Undone, Registered, Beat, Expired, ids_on, judged_node, tidied_node, SchedEvent}
+use Rattle.std.specs.Prelude.{option_map}
 use Rattle.std.proofs.lemmas.List.Elements.{Contains-append_left, Contains-append_right, Contains-push}
 use Rattle.std.proofs.lemmas.Slice.Eq.{bytes_eq-Decides}
-use Rattle.rm_types.specs.declared.ids.ContainerId.{ContainerId}
-use Rattle.rm_types.specs.Lists.{is_nil}
-use Rattle.rm_types.proofs.TestLemmas.{same_text}
-use Rattle.rm_model.specs.State.{NodeState, Row, Undone, Registered, Beat, Expired}
-use Rattle.rm_model.specs.Containers.{ids_on}
-use Rattle.rm_model.specs.Nodes.{is_idle, judged_node, tidied_node}
-use Rattle.rm_tables.specs.declared.events.SchedEvent.{SchedEvent}
+use Rattle.rm_model.specs.State.{NodeState}
+use Rattle.rm_model.specs.Nodes.{is_idle}
 use Rattle.rm_invariant.specs.nodes.Invariant.{is_idle_by, RegisteredInvariant, events_of, node_view, NodeInvariant, NodesInvariant}
 use Rattle.rm_invariant.proofs.nodes.Views.{leaving_keeps}
 

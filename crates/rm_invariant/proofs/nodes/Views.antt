@@ -1,16 +1,8 @@
 -- Each event of a node keeps what holds there, and the entry that it logs is the judge's.
-use Rattle.std.proofs.Common.{◌≡◌, ℕ, ◌<◌, ◌≤◌, List, [], ◌∷◌, ◌++◌, Bool, true, false, not, ◌||◌, drop, filter, refl, sym, ◌∙◌, ap, subst, arith}
+use Rattle.rm_invariant.proofs.Common.{◌≡◌, ℕ, ◌<◌, ◌≤◌, List, [], ◌∷◌, ◌++◌, Bool, true, false, not, ◌||◌, drop, filter, refl, sym, ◌∙◌, ap, subst, arith, list_any, false≢true, nat_tests, ContainerId, is_nil, SchedEvent, Waiting, Lost, Undone, Registered, Beat, Expired, has_container, without_idle, is_waiting}
 use Rattle.std.specs.Prelude.{◌==◌}
-use Rattle.std.specs.List.{list_any}
-use Rattle.std.proofs.lemmas.Bool.{false≢true}
-use Rattle.std.proofs.lemmas.Bool.Decides.{nat_tests}
-use Rattle.rm_types.specs.declared.ids.ContainerId.{ContainerId}
-use Rattle.rm_types.specs.Lists.{is_nil}
-use Rattle.rm_tables.specs.declared.events.SchedEvent.{SchedEvent}
 use Rattle.rm_tables.specs.declared.events.SchedEvent.TheVariants.{AppAdded, AttemptRecovered, AttemptAdded, AttemptRemoved, Release, NodeAdded, NodeDone, NodeUpdate, NodeLost}
-use Rattle.rm_model.specs.State.{Phase, Waiting, Ready, Lost, Undone, Registered, Beat, Expired}
-use Rattle.rm_model.specs.Facts.{has_container}
-use Rattle.rm_model.specs.Nodes.{without_idle, is_waiting}
+use Rattle.rm_model.specs.State.{Phase, Ready}
 use Rattle.rm_invariant.specs.nodes.Invariant.{is_idle_by, pending, UpdatesFollow, are_turns, NodeView, idle_in, RegisteredInvariant}
 use Rattle.rm_invariant.proofs.nodes.Falls.{Stays, stays_all, fall_end, fall_again}
 

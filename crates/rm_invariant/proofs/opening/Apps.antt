@@ -1,37 +1,16 @@
 -- The Epoch of a life is kept: over recovered tables there holds all that holds of an open life.
-use Rattle.std.proofs.Common.{◌≡◌, ◌≤◌, inl, ℕ, ◌+◌, ◌==◌, ◌&&◌, suc, List, [], ◌∷◌, ◌++◌, Bool, true, false, not, Option, None, Some, is_some, is_none, option_map, count_by, length, refl, sym, ◌∙◌, ap, subst, arith}
-use Rattle.std.specs.Prelude.{if◌then◌else◌}
-use Rattle.std.specs.List.{flat_map}
+use Rattle.rm_invariant.proofs.Common.{◌≡◌, ◌≤◌, inl, ℕ, ◌+◌, ◌&&◌, suc, List, [], ◌∷◌, ◌++◌, Bool, true, false, not, Option, None, Some, is_none, length, refl, sym, ◌∙◌, ap, subst, arith, if◌then◌else◌, flat_map, nat_tests, AppId, AttemptId, How, Op, AppRecord, AttemptRecord, Settings, is_app, is_nil, Records, recorded, no_records, all_ended, is_some_and, last_attempt, record_of, AppState, MainEvent, SchedEvent, AppRow, Current, Tables, kept, recovered_row, recovered_rows, recovered_attempt, main_by, main_of, sched_by, sched_of, opening_main, opening_sched, slot_of, row_in, row_of, is_empty_slot, is_retired, History}
+use Rattle.std.proofs.Common.{◌==◌, is_some, option_map, count_by}
 use Rattle.std.proofs.lemmas.List.Sums.{fold_push}
-use Rattle.std.proofs.lemmas.Bool.Decides.{nat_tests}
 use Rattle.rm_types.specs.declared.entries.Entry.TheVariants.{Kept as KeptEntry}
-use Rattle.rm_types.specs.declared.ids.AppId.{AppId}
-use Rattle.rm_types.specs.declared.ids.AttemptId.{AttemptId}
-use Rattle.rm_types.specs.declared.operations.How.{How}
 use Rattle.rm_types.specs.declared.operations.How.TheVariants as ways
-use Rattle.rm_types.specs.declared.operations.Op.{Op}
 use Rattle.rm_types.specs.declared.operations.Op.TheVariants as ops
-use Rattle.rm_types.specs.declared.records.AppRecord.{AppRecord}
-use Rattle.rm_types.specs.declared.records.AttemptRecord.{AttemptRecord}
-use Rattle.rm_types.specs.declared.settings.Settings.{Settings}
-use Rattle.rm_types.specs.Ids.{is_app}
-use Rattle.rm_types.specs.Lists.{is_nil}
-use Rattle.rm_types.specs.Records.{Records, recorded, no_records, all_ended, is_some_and, last_attempt, record_of}
-use Rattle.rm_states.specs.declared.app.states.AppState.{AppState}
 use Rattle.rm_states.specs.declared.app.states.AppState.TheVariants as apps
 use Rattle.rm_states.specs.app.Table.{end_state}
 use Rattle.rm_states.specs.declared.attempt.states.AttemptState.TheVariants as attempts
-use Rattle.rm_tables.specs.declared.events.MainEvent.{MainEvent}
 use Rattle.rm_tables.specs.declared.events.MainEvent.TheVariants as mains
-use Rattle.rm_tables.specs.declared.events.SchedEvent.{SchedEvent}
 use Rattle.rm_tables.specs.declared.events.SchedEvent.TheVariants as scheds
-use Rattle.rm_tables.specs.declared.rows.AppRow.{AppRow}
-use Rattle.rm_tables.specs.declared.rows.Current.{Current}
-use Rattle.rm_tables.specs.declared.tables.Tables.{Tables}
-use Rattle.rm_tables.specs.KeptOps.{kept}
-use Rattle.rm_tables.specs.Opening.{recovered_row, recovered_rows, recovered_state, recovered_attempt, main_by, main_of, sched_by, sched_of, opening_main, opening_sched}
-use Rattle.rm_tables.specs.Rows.{slot_of, row_in, row_of, is_empty_slot, is_retired}
-use Rattle.rm_refinement.specs.History.{History}
+use Rattle.rm_tables.specs.Opening.{recovered_state}
 use Rattle.rm_invariant.specs.apps.View.{View, view, one_if, is_start, is_save, is_accept, is_kill, is_done, is_grant, is_launch, is_add, is_queueing}
 use Rattle.rm_invariant.specs.apps.Invariant.{RowInvariant, IsKnown, StateInvariant, ActiveInvariant, AttemptCounts, EndIssuedInvariant, LastIsOpen, has_tried}
 use Rattle.rm_invariant.specs.Step.{Step}

@@ -1,37 +1,14 @@
 -- The life's Epoch is kept: all that holds of an open life holds from then on, whatever was recorded.
-use Rattle.std.proofs.Common.{◌≡◌, ℕ, ◌+◌, suc, List, [], ◌∷◌, ◌++◌, Bool, true, false, ◌&&◌, ◌||◌, ◌==◌, nat_le, nat_lt, Option, None, Some, is_none, is_some, length, option_map, refl, sym, ◌∙◌, ap, subst, arith}
-use Rattle.std.specs.Prelude.{if◌then◌else◌}
-use Rattle.std.specs.List.{flat_map, list_any}
-use Rattle.std.proofs.lemmas.Bool.Decides.{nat_tests}
+use Rattle.rm_invariant.proofs.Common.{◌≡◌, ℕ, ◌+◌, suc, List, [], ◌∷◌, ◌++◌, Bool, true, false, ◌&&◌, ◌||◌, nat_le, Option, None, Some, is_none, length, refl, sym, ◌∙◌, ap, subst, arith, if◌then◌else◌, flat_map, list_any, nat_tests, AppId, AttemptId, How, AppRecord, AttemptRecord, is_attempt, last_attempt, record_of, attempt_was_first, after, life_keeps, has_app, LifeState, SchedEvent, AppRow, Current, Tables, was_first, kept, going_in, main_of, opening_sched, recovered_attempt, recovered_row, recovered_rows, sched_by, sched_of, row_of, AttemptAgrees, ClosingsAgree, NumberAgrees, RowAgrees, finishes_by, is_ending, History, abstract_life, abstract_scene, live_state}
+use Rattle.std.proofs.Common.{◌==◌, nat_lt, is_some, option_map}
 use Rattle.rm_types.specs.declared.entries.Entry.TheVariants.{Kept as KeptEntry}
-use Rattle.rm_types.specs.declared.ids.AppId.{AppId}
-use Rattle.rm_types.specs.declared.ids.AttemptId.{AttemptId}
-use Rattle.rm_types.specs.declared.operations.How.{How}
 use Rattle.rm_types.specs.declared.operations.Op.TheVariants as ops
-use Rattle.rm_types.specs.declared.records.AppRecord.{AppRecord}
-use Rattle.rm_types.specs.declared.records.AttemptRecord.{AttemptRecord}
-use Rattle.rm_types.specs.Ids.{is_attempt}
-use Rattle.rm_types.specs.Records.{last_attempt, record_of}
-use Rattle.rm_model.specs.Attempts.{attempt_was_first}
-use Rattle.rm_model.specs.Changes.{after, life_keeps}
-use Rattle.rm_model.specs.Facts.{has_app}
-use Rattle.rm_model.specs.State.{LifeState, Release}
+use Rattle.rm_model.specs.State.{Release}
 use Rattle.rm_states.specs.declared.attempt.states.AttemptState.TheVariants as attempts
 use Rattle.rm_tables.specs.declared.events.MainEvent.TheVariants as mains
-use Rattle.rm_tables.specs.declared.events.SchedEvent.{SchedEvent}
 use Rattle.rm_tables.specs.declared.events.SchedEvent.TheVariants as scheds
-use Rattle.rm_tables.specs.declared.rows.AppRow.{AppRow}
-use Rattle.rm_tables.specs.declared.rows.Current.{Current}
-use Rattle.rm_tables.specs.declared.tables.Tables.{Tables}
-use Rattle.rm_tables.specs.Absorbing.{was_first}
-use Rattle.rm_tables.specs.KeptOps.{kept}
-use Rattle.rm_tables.specs.Opening.{going_in, main_of, opening_sched, recovered_attempt, recovered_row, recovered_rows, sched_by, sched_of}
-use Rattle.rm_tables.specs.Rows.{row_of}
-use Rattle.rm_refinement.specs.Agreement.{AttemptAgrees, ClosingsAgree, NumberAgrees, RowAgrees}
-use Rattle.rm_refinement.specs.Services.{finishes_by, is_ending}
 use Rattle.rm_invariant.specs.apps.Recovered.{IsRecovered}
 use Rattle.rm_invariant.specs.apps.Submissions.{Lists}
-use Rattle.rm_refinement.specs.History.{History, abstract_life, abstract_scene, live_state}
 use Rattle.rm_invariant.proofs.apps.Completing.{retire_posted}
 use Rattle.rm_invariant.proofs.apps.Completions.{ended_counts, ended_in_order}
 use Rattle.rm_invariant.proofs.apps.Counts.{at_front}

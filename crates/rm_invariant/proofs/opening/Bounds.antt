@@ -1,25 +1,6 @@
 -- A life that begins over records in their ranges is in its range.
-use Rattle.std.proofs.Common.{◌≡◌, ◌<◌, ◌^◌, ℕ, nat_le, List, [], ◌∷◌, Bool, true, false, Option, None, Some, fold, is_some, map, option_map, refl, sym, ◌∙◌, ap, subst, arith}
-use Rattle.std.specs.Prelude.{if◌then◌else◌}
-use Rattle.rm_types.specs.declared.ids.AppId.{AppId}
-use Rattle.rm_types.specs.declared.ids.AttemptId.{AttemptId}
-use Rattle.rm_types.specs.declared.records.AppRecord.{AppRecord}
-use Rattle.rm_types.specs.declared.records.AttemptRecord.{AttemptRecord}
-use Rattle.rm_types.specs.Ids.{is_app}
-use Rattle.rm_types.specs.Ranges.{IsAppId, IsOperation}
-use Rattle.rm_types.specs.Records.{Records, last_attempt, record_of}
-use Rattle.rm_book.specs.declared.plain.NodeCapability.{NodeCapability}
-use Rattle.rm_types.specs.declared.containers.BookRow.{BookRow}
-use Rattle.rm_types.proofs.IdLemmas.{same_app}
-use Rattle.rm_tables.specs.declared.completed.Completion.{Completion}
-use Rattle.rm_tables.specs.declared.events.SchedEvent.{SchedEvent}
-use Rattle.rm_tables.specs.declared.rows.AppRow.{AppRow}
-use Rattle.rm_tables.specs.declared.tables.Tables.{Tables}
-use Rattle.rm_tables.specs.Completed.{completion_of, completions_in, ended_in, put_completion, with_completed}
-use Rattle.rm_tables.specs.Lives.{begun}
-use Rattle.rm_tables.specs.Opening.{recovered_attempt, recovered_row, recovered_rows}
-use Rattle.rm_tables.specs.Passing.{granted_number, granted_to}
-use Rattle.rm_tables.specs.Rows.{row_of}
+use Rattle.rm_invariant.proofs.Common.{◌≡◌, ◌<◌, ◌^◌, ℕ, nat_le, List, [], ◌∷◌, Bool, true, false, Option, None, Some, fold, map, refl, sym, ◌∙◌, ap, subst, arith, if◌then◌else◌, AppId, AttemptId, AppRecord, AttemptRecord, is_app, IsAppId, IsOperation, Records, last_attempt, record_of, NodeCapability, BookRow, same_app, Completion, SchedEvent, AppRow, Tables, completion_of, completions_in, ended_in, put_completion, with_completed, begun, recovered_attempt, recovered_row, recovered_rows, granted_number, granted_to, row_of}
+use Rattle.std.proofs.Common.{is_some, option_map}
 use Rattle.rm_invariant.proofs.opening.Apps.{recovered_found}
 use Rattle.rm_invariant.specs.nodes.Book.{All}
 use Rattle.rm_invariant.specs.bounds.InBounds.{AreAsked, AreCounts, AreGrants, AreNodes, AreRecords, AreRows, IfThere, IsAttemptRecord, IsBooked, IsCurrent, IsOffer, IsRow, InBounds}

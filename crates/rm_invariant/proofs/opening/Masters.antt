@@ -1,33 +1,12 @@
 -- What holds of a container as a life opens, by the record of its application alone.
-use Rattle.std.proofs.Common.{◌≡◌, ◌+◌, ◌==◌, List, [], ◌∷◌, Bool, true, false, Option, None, Some, is_some, find, length, refl, sym, ◌∙◌, ap, subst, arith, ℕ, count_by, option_map, ◌++◌}
-use Rattle.std.specs.Prelude.{if◌then◌else◌}
-use Rattle.std.specs.List.{flat_map, list_any}
-use Rattle.std.proofs.lemmas.Bool.Decides.{nat_tests}
-use Rattle.rm_types.specs.declared.ids.AttemptId.{AttemptId}
-use Rattle.rm_types.specs.declared.ids.ContainerId.{ContainerId}
-use Rattle.rm_types.specs.declared.records.AppRecord.{AppRecord}
-use Rattle.rm_types.specs.declared.records.AttemptRecord.{AttemptRecord}
-use Rattle.rm_types.specs.Ids.{is_attempt, is_container}
-use Rattle.rm_types.specs.Records.{last_attempt, record_of}
-use Rattle.rm_types.specs.declared.ids.AppId.{AppId}
-use Rattle.rm_types.specs.declared.operations.How.{How}
-use Rattle.rm_types.specs.declared.settings.Settings.{Settings}
+use Rattle.rm_invariant.proofs.Common.{◌≡◌, ◌+◌, List, [], ◌∷◌, Bool, true, false, Option, None, Some, find, length, refl, sym, ◌∙◌, ap, subst, arith, ℕ, ◌++◌, if◌then◌else◌, flat_map, list_any, nat_tests, AttemptId, ContainerId, AppRecord, AttemptRecord, is_attempt, is_container, last_attempt, record_of, AppId, How, Settings, attempts_in, AttemptState, MainEvent, SchedEvent, AppRow, Tables, main_by, main_of, opening_main, opening_sched, recovered_row, sched_by, sched_of, kept, row_of, History}
+use Rattle.std.proofs.Common.{◌==◌, is_some, count_by, option_map}
 use Rattle.rm_types.specs.declared.entries.Entry.TheVariants.{Kept as KeptEntry}
 use Rattle.rm_types.specs.declared.operations.Op.TheVariants as ops
-use Rattle.rm_model.specs.Facts.{attempts_in}
-use Rattle.rm_states.specs.declared.attempt.states.AttemptState.{AttemptState}
 use Rattle.rm_states.specs.declared.attempt.states.AttemptState.TheVariants as attempts
-use Rattle.rm_tables.specs.declared.events.MainEvent.{MainEvent}
-use Rattle.rm_tables.specs.declared.events.SchedEvent.{SchedEvent}
-use Rattle.rm_tables.specs.declared.rows.AppRow.{AppRow}
-use Rattle.rm_tables.specs.declared.tables.Tables.{Tables}
-use Rattle.rm_tables.specs.Opening.{main_by, main_of, opening_main, opening_sched, recovered_row, sched_by, sched_of}
-use Rattle.rm_tables.specs.KeptOps.{kept}
-use Rattle.rm_tables.specs.Rows.{row_of}
 use Rattle.rm_tables.specs.declared.events.MainEvent.TheVariants as mains
 use Rattle.rm_tables.specs.declared.events.SchedEvent.TheVariants as scheds
 use Rattle.rm_invariant.specs.apps.Recovered.{IsRecovered}
-use Rattle.rm_refinement.specs.History.{History}
 use Rattle.rm_invariant.specs.apps.View.{is_launch, one_if}
 use Rattle.rm_invariant.proofs.apps.Counts.{none_among, at_end, at_front}
 use Rattle.rm_invariant.proofs.opening.Apps.{opening_step, recovered_found}

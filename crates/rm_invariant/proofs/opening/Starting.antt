@@ -1,26 +1,12 @@
 -- The submissions of a life are issued in their order: the one whose AppStart is the first event may be issued.
-use Rattle.std.proofs.Common.{◌≡◌, ◌≤◌, suc, List, [], ◌∷◌, false, ◌||◌, Option, None, Some, count_by, refl, sym, ◌∙◌, ap, subst, arith}
-use Rattle.std.specs.List.{flat_map, list_any}
-use Rattle.rm_types.specs.declared.ids.AppId.{AppId}
-use Rattle.rm_types.specs.declared.operations.Op.{Op}
+use Rattle.rm_invariant.proofs.Common.{◌≡◌, ◌≤◌, suc, List, [], ◌∷◌, false, ◌||◌, Option, None, Some, refl, sym, ◌∙◌, ap, subst, arith, flat_map, list_any, AppId, Op, Submission, Settings, is_app, record_of, app_itself, has_app, is_app_op, AppState, MainEvent, AppRow, Tables, row_of, History, abstract_scene}
+use Rattle.std.proofs.Common.{count_by}
 use Rattle.rm_types.specs.declared.operations.Op.TheVariants as ops
-use Rattle.rm_types.specs.declared.operations.Submission.{Submission}
-use Rattle.rm_types.specs.declared.settings.Settings.{Settings}
-use Rattle.rm_types.specs.Ids.{is_app}
-use Rattle.rm_types.specs.Records.{record_of}
-use Rattle.rm_types.proofs.IdLemmas.{app_itself}
-use Rattle.rm_model.specs.Facts.{has_app, is_app_op}
-use Rattle.rm_states.specs.declared.app.states.AppState.{AppState}
 use Rattle.rm_states.specs.declared.app.states.AppState.TheVariants as apps
-use Rattle.rm_tables.specs.declared.events.MainEvent.{MainEvent}
 use Rattle.rm_tables.specs.declared.events.MainEvent.TheVariants as mains
-use Rattle.rm_tables.specs.declared.rows.AppRow.{AppRow}
-use Rattle.rm_tables.specs.declared.tables.Tables.{Tables}
-use Rattle.rm_tables.specs.Rows.{row_of}
 use Rattle.rm_invariant.specs.apps.Invariant.{RowInvariant, StateInvariant}
 use Rattle.rm_invariant.specs.Step.{AppsInvariant}
 use Rattle.rm_invariant.specs.apps.Submissions.{Lists, saving, starting}
-use Rattle.rm_refinement.specs.History.{History, abstract_scene}
 use Rattle.rm_invariant.specs.apps.View.{is_start, one_if, view}
 use Rattle.rm_invariant.proofs.apps.Counts.{at_front, none_under}
 use Rattle.rm_invariant.proofs.apps.Events.{at}

@@ -1,10 +1,8 @@
 -- What the operations of a store amount to is in its range where they are, is sound where each fits, and names masters of its attempts.
-use Rattle.std.proofs.Common.{◌≡◌, List, [], ◌∷◌, Bool, true, false, None, fold, refl}
+use Rattle.rm_invariant.proofs.Common.{◌≡◌, List, [], ◌∷◌, Bool, true, false, None, fold, refl, Op, IsOperation, Records, fits_records, no_records, recorded, records}
 use Rattle.std.specs.Prelude.{All as Every}
-use Rattle.rm_types.specs.declared.operations.Op.{Op}
 use Rattle.rm_types.specs.declared.operations.Op.TheVariants.{Epoch, App, Attempt, AttemptEnd, AppEnd, Remove}
-use Rattle.rm_types.specs.Ranges.{IsOperation}
-use Rattle.rm_types.specs.Records.{Records, fits_records, no_records, recorded, records, stray, stray_from}
+use Rattle.rm_types.specs.Records.{stray, stray_from}
 use Rattle.rm_invariant.specs.nodes.Book.{All}
 use Rattle.rm_invariant.specs.masters.Invariant.{MastersAreOwn}
 use Rattle.rm_invariant.specs.masters.Sound.{RecordsAreSound}

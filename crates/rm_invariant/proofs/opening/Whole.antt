@@ -1,26 +1,10 @@
 -- A life begins over whatever is recorded, issues its Epoch, and is open once that is kept.
-use Rattle.std.proofs.Common.{◌≡◌, ◌<◌, ◌^◌, ℕ, List, [], ◌∷◌, Bool, true, false, Option, None, Some, drop, refl, sym, ◌∙◌, ap, subst, arith}
-use Rattle.std.specs.Prelude.{if◌then◌else◌, is_some}
-use Rattle.std.specs.List.{flat_map, list_any}
+use Rattle.rm_invariant.proofs.Common.{◌≡◌, ◌<◌, ◌^◌, ℕ, List, [], ◌∷◌, Bool, true, false, Option, None, Some, drop, refl, sym, ◌∙◌, ap, subst, arith, if◌then◌else◌, flat_map, list_any, How, Op, AppRecord, AttemptRecord, Records, last_attempt, records, after, Allowed, Manager, MainEvent, Tables, main_worked, kept, begun, handed_out, main_step, main_by, main_of, History, live_state}
+use Rattle.std.specs.Prelude.{is_some}
 use Rattle.rm_types.specs.declared.entries.Entry.TheVariants.{Kept as KeptEntry}
-use Rattle.rm_types.specs.declared.operations.How.{How}
-use Rattle.rm_types.specs.declared.operations.Op.{Op}
 use Rattle.rm_types.specs.declared.operations.Op.TheVariants as ops
-use Rattle.rm_types.specs.declared.records.AppRecord.{AppRecord}
-use Rattle.rm_types.specs.declared.records.AttemptRecord.{AttemptRecord}
-use Rattle.rm_types.specs.Records.{Records, last_attempt, records}
-use Rattle.rm_model.specs.Changes.{after}
-use Rattle.rm_model.specs.Rules.{Allowed}
-use Rattle.rm_model.specs.State.{Manager}
-use Rattle.rm_tables.specs.declared.events.MainEvent.{MainEvent}
 use Rattle.rm_tables.specs.declared.events.MainEvent.TheVariants as mains
-use Rattle.rm_tables.specs.declared.tables.Tables.{Tables}
-use Rattle.rm_tables.specs.Actions.{main_worked}
-use Rattle.rm_tables.specs.KeptOps.{kept}
-use Rattle.rm_tables.specs.Lives.{begun, handed_out}
-use Rattle.rm_tables.specs.MainEvents.{main_step}
-use Rattle.rm_tables.specs.Opening.{main_by, main_of}
-use Rattle.rm_refinement.specs.History.{History, initial_history, live_state, abstract_state}
+use Rattle.rm_refinement.specs.History.{initial_history, abstract_state}
 use Rattle.rm_invariant.specs.Core.{PreservesCore}
 use Rattle.rm_invariant.specs.messages.Ranges.{KeepsLimits}
 use Rattle.rm_invariant.proofs.messages.FittingMoves.{opened_fits}

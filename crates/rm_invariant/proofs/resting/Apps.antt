@@ -1,29 +1,13 @@
 -- The cover of applications: why nothing is owed of them in an open life where both queues and the awaiting list are empty. Of each that is
 -- known the facts then say how it rests, and none that rests so is owed anything.
-use Rattle.std.proofs.Common.{◌≡◌, ◌≢◌, ◌≤◌, inl, inr, ℕ, ◌==◌, ◌||◌, List, [], ◌∷◌, Bool, true, false, Option, None, Some, is_some, is_none, option_map, length, refl, ◌∙◌, subst, arith}
-use Rattle.std.proofs.lemmas.Bool.Decides.{nat_tests}
+use Rattle.rm_invariant.proofs.Common.{◌≡◌, ◌≤◌, inl, inr, ℕ, ◌||◌, List, [], ◌∷◌, Bool, true, false, Option, None, Some, is_none, length, refl, ◌∙◌, subst, arith, nat_tests, AppId, AttemptId, Submitted, AppRecord, AttemptRecord, Settings, is_app, all_ended, is_some_and, last_attempt, record_of, has_failed, end_in, is_known, reaches_bound, waiting_submission, Scene, AppState, AttemptState, AppRow, Current, Tables, row_of, History, abstract_scene}
+use Rattle.std.proofs.Common.{◌≢◌, ◌==◌, is_some, option_map}
 use Rattle.std.proofs.lemmas.Bool.{false_from_ne_true}
-use Rattle.rm_types.specs.declared.ids.AppId.{AppId}
-use Rattle.rm_types.specs.declared.ids.AttemptId.{AttemptId}
-use Rattle.rm_types.specs.declared.operations.Submitted.{Submitted}
-use Rattle.rm_types.specs.declared.records.AppRecord.{AppRecord}
-use Rattle.rm_types.specs.declared.records.AttemptRecord.{AttemptRecord}
-use Rattle.rm_types.specs.declared.settings.Settings.{Settings}
-use Rattle.rm_types.specs.Ids.{is_app}
-use Rattle.rm_types.specs.Records.{all_ended, is_some_and, last_attempt, record_of}
-use Rattle.rm_model.specs.Attempts.{has_failed, has_master_ask}
-use Rattle.rm_model.specs.Facts.{end_in, is_accepted, is_kept, is_known, is_submitted, is_wished, kept_attempts, kept_end, kept_record, next_attempt, reaches_bound, waiting_submission}
-use Rattle.rm_model.specs.State.{Scene}
+use Rattle.rm_model.specs.Attempts.{has_master_ask}
+use Rattle.rm_model.specs.Facts.{is_accepted, is_kept, is_submitted, is_wished, kept_attempts, kept_end, kept_record, next_attempt}
 use Rattle.rm_model.specs.Owed.{ended_not_failed}
-use Rattle.rm_states.specs.declared.app.states.AppState.{AppState}
 use Rattle.rm_states.specs.declared.app.states.AppState.TheVariants as apps
-use Rattle.rm_states.specs.declared.attempt.states.AttemptState.{AttemptState}
 use Rattle.rm_states.specs.declared.attempt.states.AttemptState.TheVariants as attempts
-use Rattle.rm_tables.specs.declared.rows.AppRow.{AppRow}
-use Rattle.rm_tables.specs.declared.rows.Current.{Current}
-use Rattle.rm_tables.specs.declared.tables.Tables.{Tables}
-use Rattle.rm_tables.specs.Rows.{row_of}
-use Rattle.rm_refinement.specs.History.{History, abstract_scene}
 use Rattle.rm_invariant.specs.apps.View.{View, Counts, view, counts, is_ask}
 use Rattle.rm_invariant.specs.apps.Invariant.{RowInvariant, StateInvariant, ActiveInvariant, CurrentInvariant, AttemptCounts, AllHaveEnded, LastIsOpen, MayFollowInView, ops_of, way, is_open_one}
 use Rattle.rm_invariant.specs.Step.{AppsInvariant}

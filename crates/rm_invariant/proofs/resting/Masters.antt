@@ -1,32 +1,11 @@
 -- Why nothing is owed of masters and of the book where both queues and the awaiting list of an open life are empty.
-use Rattle.std.proofs.Common.{◌≡◌, ◌≤◌, ◌<◌, ◌⊎◌, inl, inr, ℕ, zero, ◌+◌, ◌==◌, ◌&&◌, ◌||◌, not, suc, List, [], ◌∷◌, Bool, true, false, Option, None, Some, is_some, find, get_or, length, refl, sym, ◌∙◌, ap, subst, arith}
-use Rattle.std.specs.Prelude.{Contains}
-use Rattle.std.specs.List.{list_all}
-use Rattle.std.proofs.lemmas.Bool.Decides.{nat_tests}
-use Rattle.rm_types.specs.declared.ids.AppId.{AppId}
-use Rattle.rm_types.specs.declared.ids.AttemptId.{AttemptId}
-use Rattle.rm_types.specs.declared.ids.ContainerId.{ContainerId}
-use Rattle.rm_types.specs.declared.records.AppRecord.{AppRecord}
-use Rattle.rm_types.specs.declared.records.AttemptRecord.{AttemptRecord}
-use Rattle.rm_types.specs.declared.settings.Settings.{Settings}
-use Rattle.rm_types.specs.Ids.{is_attempt, is_container}
-use Rattle.rm_types.specs.Records.{all_ended, record_of, is_some_and}
-use Rattle.rm_types.proofs.IdLemmas.{container_itself}
-use Rattle.rm_model.specs.Attempts.{attempt_is_kept, attempt_was_first, finishing_text, has_expired, is_over, kept_here}
-use Rattle.rm_model.specs.Containers.{is_living}
-use Rattle.rm_model.specs.Facts.{attempts_in, end_in, has_container}
+use Rattle.rm_invariant.proofs.Common.{◌≡◌, ◌≤◌, ◌<◌, ◌⊎◌, inl, inr, ℕ, zero, ◌+◌, ◌&&◌, ◌||◌, not, suc, List, [], ◌∷◌, Bool, true, false, Option, None, Some, find, get_or, length, refl, sym, ◌∙◌, ap, subst, arith, Contains, list_all, nat_tests, AppId, AttemptId, ContainerId, AppRecord, AttemptRecord, Settings, is_attempt, is_container, all_ended, record_of, is_some_and, container_itself, attempt_was_first, finishing_text, has_expired, is_over, is_living, attempts_in, end_in, has_container, AppState, AttemptState, AppRow, Current, Tables, is_master_of, row_of, History, abstract_scene}
+use Rattle.std.proofs.Common.{◌==◌, is_some}
+use Rattle.rm_model.specs.Attempts.{attempt_is_kept, kept_here}
 use Rattle.rm_model.specs.Owed.{IsAlive}
-use Rattle.rm_states.specs.declared.app.states.AppState.{AppState}
 use Rattle.rm_states.specs.declared.app.states.AppState.TheVariants as apps
-use Rattle.rm_states.specs.declared.attempt.states.AttemptState.{AttemptState}
 use Rattle.rm_states.specs.declared.attempt.states.AttemptState.TheVariants as attempts
-use Rattle.rm_tables.specs.declared.rows.AppRow.{AppRow}
-use Rattle.rm_tables.specs.declared.rows.Current.{Current}
-use Rattle.rm_tables.specs.declared.tables.Tables.{Tables}
-use Rattle.rm_tables.specs.MainEvents.{is_master_of}
-use Rattle.rm_tables.specs.Rows.{row_of}
 use Rattle.rm_invariant.specs.apps.Invariant.{ActiveInvariant, CurrentInvariant, LastIsOpen, RowInvariant, StateInvariant, has_ended_or_is, ops_of}
-use Rattle.rm_refinement.specs.History.{History, abstract_scene}
 use Rattle.rm_invariant.specs.Step.{AppsInvariant}
 use Rattle.rm_invariant.specs.apps.View.{View, counts, view}
 use Rattle.rm_invariant.specs.masters.Invariant.{AliveInvariant, ContainersInvariant, ContainerByNumber, ContainerByState, ContainerByCurrent, MastersAreOwn, ContainerInvariant, ContainerByRow, own_of}

@@ -1,43 +1,18 @@
 -- Every entry of the judge keeps the names of nodes apart: nodes change in place and keep their names, and one that is added has a name that none has.
-use Rattle.std.proofs.Common.{◌≡◌, ℕ, List, [], ◌∷◌, ◌++◌, Bool, true, false, Option, None, Some, refl, subst}
-use Rattle.std.specs.Prelude.{if◌then◌else◌}
-use Rattle.std.specs.Str.{bytes_eq}
-use Rattle.rm_types.specs.declared.containers.Cause.{Cause}
+use Rattle.rm_invariant.proofs.Common.{◌≡◌, ℕ, List, [], ◌∷◌, ◌++◌, Bool, true, false, Option, None, Some, refl, subst, if◌then◌else◌, bytes_eq, Cause, Held, Entry, AttemptId, ContainerId, ClientAsk, ClockAsk, MasterAsk, Message, NodeAsk, Op, Reply, Settings, LifeState, Manager, Registration, Scene, scene, absorbed, absorbs, after, life_keeps, leave, without_launches, is_known, is_new_to_master, life_after_master, is_registered, beaten, expired, is_later_turn, is_new_to_node, life_after_clock, life_after_node, new_node, node_after_registration, judged_node, tidied, tidied_node, with_judged_node, passed, life_after, Tables, History, live_state}
 use Rattle.rm_types.specs.declared.containers.Cause.TheVariants.{Gone}
-use Rattle.rm_types.specs.declared.containers.Held.{Held}
-use Rattle.rm_types.specs.declared.entries.Entry.{Entry}
 use Rattle.rm_types.specs.declared.entries.Entry.TheVariants as entries
-use Rattle.rm_types.specs.declared.ids.AttemptId.{AttemptId}
-use Rattle.rm_types.specs.declared.ids.ContainerId.{ContainerId}
-use Rattle.rm_types.specs.declared.messages.ClientAsk.{ClientAsk}
 use Rattle.rm_types.specs.declared.messages.ClientAsk.TheVariants as clients
-use Rattle.rm_types.specs.declared.messages.ClockAsk.{ClockAsk}
 use Rattle.rm_types.specs.declared.messages.ClockAsk.TheVariants as clocks
-use Rattle.rm_types.specs.declared.messages.MasterAsk.{MasterAsk}
 use Rattle.rm_types.specs.declared.messages.MasterAsk.TheVariants as masters
-use Rattle.rm_types.specs.declared.messages.Message.{Message}
 use Rattle.rm_types.specs.declared.messages.Message.TheVariants as messages
-use Rattle.rm_types.specs.declared.messages.NodeAsk.{NodeAsk}
 use Rattle.rm_types.specs.declared.messages.NodeAsk.TheVariants as asks
-use Rattle.rm_types.specs.declared.operations.Op.{Op}
 use Rattle.rm_types.specs.declared.operations.Op.TheVariants as ops
-use Rattle.rm_types.specs.declared.replies.Reply.{Reply}
 use Rattle.rm_types.specs.declared.replies.Reply.TheVariants as replies
-use Rattle.rm_types.specs.declared.settings.Settings.{Settings}
-use Rattle.rm_model.specs.State.{LifeState, Manager, NodeState, Registration, Scene, scene}
-use Rattle.rm_model.specs.Absorbing.{absorbed, absorbs}
-use Rattle.rm_model.specs.Changes.{after, after_in, after_where, life_issues, life_keeps}
+use Rattle.rm_model.specs.State.{NodeState}
+use Rattle.rm_model.specs.Changes.{after_in, after_where, life_issues}
 use Rattle.rm_model.specs.ClientReplies.{joins, life_after_client}
-use Rattle.rm_model.specs.Containers.{leave, without_launches}
-use Rattle.rm_model.specs.Facts.{is_known}
-use Rattle.rm_model.specs.MasterReplies.{is_new_to_master, life_after_master}
-use Rattle.rm_model.specs.Attempts.{is_registered}
-use Rattle.rm_model.specs.NodeReplies.{beaten, expired, is_later_turn, is_new_to_node, life_after_clock, life_after_node, new_node, nodes_registered, node_after_registration}
-use Rattle.rm_model.specs.Nodes.{judged_node, tidied, tidied_node, with_judged_node}
-use Rattle.rm_model.specs.Passing.{passed}
-use Rattle.rm_model.specs.Replies.{life_after}
-use Rattle.rm_tables.specs.declared.tables.Tables.{Tables}
-use Rattle.rm_refinement.specs.History.{History, live_state}
+use Rattle.rm_model.specs.NodeReplies.{nodes_registered}
 use Rattle.rm_refinement.proofs.Found.{apart_names}
 use Rattle.rm_invariant.specs.Step.{Step}
 use Rattle.rm_invariant.proofs.nodes.Entries.{at_name}

@@ -1,11 +1,6 @@
 -- Where no event of a node waits, nothing of it is left to work off.
-use Rattle.std.proofs.Common.{◌≡◌, ℕ, zero, suc, ◌<◌, List, [], ◌∷◌, length, get_or, Bool, true, false, Option, None, Some, map, refl, ◌∙◌, ap, arith}
-use Rattle.std.specs.Prelude.{Contains}
-use Rattle.std.specs.Str.{bytes_eq}
-use Rattle.rm_types.proofs.TestLemmas.{text_itself, same_text}
-use Rattle.rm_model.specs.State.{NodeState, Row}
-use Rattle.rm_model.specs.Containers.{ids_on}
-use Rattle.rm_model.specs.Nodes.{judged_node}
+use Rattle.rm_invariant.proofs.Common.{◌≡◌, ℕ, zero, suc, ◌<◌, List, [], ◌∷◌, length, get_or, Bool, true, false, Option, None, Some, map, refl, ◌∙◌, ap, arith, Contains, bytes_eq, text_itself, same_text, Row, ids_on, judged_node}
+use Rattle.rm_model.specs.State.{NodeState}
 use Rattle.rm_invariant.specs.nodes.Names.{NamesApart}
 use Rattle.rm_invariant.specs.nodes.Invariant.{RegisteredInvariant, node_view, NodesInvariant}
 use Rattle.rm_invariant.proofs.nodes.Moved.{KeepsName, node_of-map}

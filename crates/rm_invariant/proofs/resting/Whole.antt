@@ -1,13 +1,8 @@
 -- The cover: why an open life with both queues and the awaiting list empty owes nothing. Each item of what is owed contradicts one of the facts.
-use Rattle.std.proofs.Common.{◌≡◌, ◌≤◌, ◌<◌, ℕ, zero, suc, List, [], ◌∷◌, Bool, true, false, ◌||◌, length, get_or, count_by, refl, subst, arith}
-use Rattle.rm_types.specs.Ids.{is_container}
-use Rattle.rm_types.proofs.IdLemmas.{container_itself}
-use Rattle.rm_model.specs.Containers.{is_living}
+use Rattle.rm_invariant.proofs.Common.{◌≡◌, ◌≤◌, ◌<◌, ℕ, zero, suc, List, [], ◌∷◌, Bool, true, false, ◌||◌, length, get_or, refl, subst, arith, is_container, container_itself, is_living, Row, Tables, History, abstract_scene}
+use Rattle.std.proofs.Common.{count_by}
 use Rattle.rm_model.specs.Owed.{Owed, opening, keeping, killing, accepting, deciding, asking, finishing, expiring, losing, ordering, working, leaving, retiring}
-use Rattle.rm_model.specs.State.{Row}
-use Rattle.rm_tables.specs.declared.tables.Tables.{Tables}
 use Rattle.rm_invariant.specs.apps.Completed.{is_retire}
-use Rattle.rm_refinement.specs.History.{History, abstract_scene}
 use Rattle.rm_invariant.specs.nodes.Book.{All}
 use Rattle.rm_invariant.specs.nodes.Names.{NamesApart}
 use Rattle.rm_invariant.proofs.resting.Nodes.{nothing_undone}

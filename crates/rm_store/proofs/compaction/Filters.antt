@@ -1,9 +1,5 @@
 -- Records and ids that pass a test by their application.
-use Rattle.std.proofs.Common.{◌≡◌, Bool, true, false, List, [], ◌∷◌, ◌++◌, filter, refl, ◌∙◌, ap, if◌then◌else◌}
-use Rattle.rm_types.specs.declared.ids.AppId.{AppId}
-use Rattle.rm_types.specs.declared.records.AppRecord.{AppRecord}
-use Rattle.rm_types.specs.Ids.{is_app}
-use Rattle.rm_types.specs.Records.{record_of, with_record}
+use Rattle.rm_store.proofs.Common.{◌≡◌, Bool, true, false, List, [], ◌∷◌, ◌++◌, filter, refl, ◌∙◌, ap, if◌then◌else◌, AppId, AppRecord, is_app, record_of, with_record}
 use Rattle.rm_types.proofs.IdLemmas.{same_app}
 
 module _ {X : Type 0} where

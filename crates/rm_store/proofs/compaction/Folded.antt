@@ -1,17 +1,13 @@
 -- What a list of operations amounts to, and what it amounts to once it is folded.
-use Rattle.std.proofs.Common.{◌≡◌, ℕ, Bool, true, false, List, [], ◌∷◌, ◌++◌, map, filter, fold, not, ◌&&◌, ◌||◌, Option, None, Some, is_none, is_some, refl, sym, ◌∙◌, ap, subst, arith, if◌then◌else◌, length, option_map, ◌+◌, ◌==◌}
+use Rattle.rm_store.proofs.Common.{◌≡◌, ℕ, Bool, true, false, List, [], ◌∷◌, ◌++◌, map, filter, fold, not, ◌&&◌, Option, None, Some, is_none, is_some, refl, sym, ◌∙◌, ap, subst, arith, if◌then◌else◌, length, option_map, ◌+◌, nat_tests, AppId, Op, Epoch, App, Attempt, AttemptEnd, AppEnd, Remove, AppRecord, is_app, Records, record_of, with_record, with_end, fits_records, recorded, stray_from, stray, no_records, stays, folded}
+use Rattle.std.proofs.Common.{◌||◌, ◌==◌}
 use Rattle.std.specs.List.{list_any}
-use Rattle.std.proofs.lemmas.Bool.Decides.{nat_tests}
 use Rattle.std.proofs.lemmas.List.{map-append}
 use Rattle.std.proofs.lemmas.Bool.{not-false, not-true}
-use Rattle.rm_types.specs.declared.ids.AppId.{AppId}
-use Rattle.rm_types.specs.declared.operations.Op.{Op}
-use Rattle.rm_types.specs.declared.operations.Op.TheVariants.{Epoch, App, Attempt, AttemptEnd, AppEnd, Remove}
-use Rattle.rm_types.specs.declared.records.AppRecord.{AppRecord}
-use Rattle.rm_types.specs.Ids.{is_app, is_attempt}
-use Rattle.rm_types.specs.Records.{Records, record_of, with_record, with_end, new_record, apps_recorded, epoch_recorded, stamp_recorded, fits_records, recorded, stray_from, stray, no_records, is_some_and, all_ended, last_attempt}
+use Rattle.rm_types.specs.Ids.{is_attempt}
+use Rattle.rm_types.specs.Records.{new_record, apps_recorded, epoch_recorded, stamp_recorded, is_some_and, all_ended, last_attempt}
 use Rattle.rm_store.specs.compaction.Amounts.{Amounts, amounted, amounts, no_amounts}
-use Rattle.rm_types.specs.Folded.{is_epoch, is_removal, is_gone, stays, put_where, folded}
+use Rattle.rm_types.specs.Folded.{is_epoch, is_removal, is_gone, put_where}
 use Rattle.rm_store.proofs.compaction.Filters.{filter_all, filter_both, filter_push, passing, passing_changed, passing_apart, passing_found}
 
 abbrev lasts : List Op → AppId → Bool

@@ -1,17 +1,11 @@
 -- The numbers of the ends stand in the order in which the applications ended, and folding keeps it.
-use Rattle.std.proofs.Common.{◌≡◌, ℕ, Bool, true, false, List, [], ◌∷◌, ◌++◌, map, filter, fold, not, ◌&&◌, ◌||◌, Option, None, Some, is_some, refl, sym, ◌∙◌, ap, subst, arith, if◌then◌else◌, ◌<◌, nat_lt, option_map, ◌+◌}
+use Rattle.rm_store.proofs.Common.{◌≡◌, ℕ, Bool, true, false, List, [], ◌∷◌, ◌++◌, map, filter, fold, not, ◌&&◌, Option, None, Some, is_some, refl, sym, ◌∙◌, ap, subst, arith, if◌then◌else◌, ◌<◌, option_map, ◌+◌, nat_tests, AppId, Op, Epoch, App, Attempt, AttemptEnd, AppEnd, Remove, AppRecord, is_app, Records, record_of, with_record, with_end, recorded, no_records, records, folded, IsAlike}
+use Rattle.std.proofs.Common.{◌||◌, nat_lt}
 use Rattle.std.specs.List.{list_any}
-use Rattle.std.proofs.lemmas.Bool.Decides.{nat_tests}
-use Rattle.rm_types.specs.declared.ids.AppId.{AppId}
-use Rattle.rm_types.specs.declared.operations.Op.{Op}
-use Rattle.rm_types.specs.declared.operations.Op.TheVariants.{Epoch, App, Attempt, AttemptEnd, AppEnd, Remove}
 use Rattle.rm_types.specs.declared.operations.Submission.{Submission}
-use Rattle.rm_types.specs.declared.records.AppRecord.{AppRecord}
-use Rattle.rm_types.specs.Ids.{is_app}
-use Rattle.rm_types.specs.Records.{Records, record_of, with_record, with_end, new_record, apps_recorded, recorded, no_records, records}
+use Rattle.rm_types.specs.Records.{new_record, apps_recorded}
 use Rattle.rm_store.specs.compaction.Amounts.{Amounts, amounted, amounts, no_amounts, completed_after}
-use Rattle.rm_types.specs.Folded.{folded}
-use Rattle.rm_types.specs.Alike.{without_end_order, end_number, is_lower, ends_before, IsAlike}
+use Rattle.rm_types.specs.Alike.{without_end_order, end_number, is_lower, ends_before}
 use Rattle.rm_store.proofs.compaction.Folded.{Tells, tells_more, bare_found, folded_amounts}
 
 apart : (x id a : AppId) → is_app x id ≡ true → is_app a id ≡ false → is_app x a ≡ false

@@ -1,9 +1,8 @@
 -- What is left of the operations that were looked at, from the last one on.
-use Rattle.std.proofs.Common.{◌≡◌, ℕ, ◌+◌, ◌-◌, ◌<◌, Bool, true, false, List, [], ◌∷◌, ◌++◌, length, drop, get_or, slice_get, reverse, Some, if◌then◌else◌, refl, sym, ap, ◌∙◌, arith}
+use Rattle.rm_store.proofs.Common.{◌≡◌, ℕ, ◌+◌, ◌-◌, ◌<◌, Bool, true, false, List, [], ◌∷◌, ◌++◌, length, drop, slice_get, Some, if◌then◌else◌, refl, sym, ap, ◌∙◌, arith, Op, folded, stays}
+use Rattle.std.proofs.Common.{get_or, reverse}
 use Rattle.std.proofs.lemmas.List.{drop_more, reverse-append}
 use Rattle.std.proofs.lemmas.Option.{get_or_from_slice_get}
-use Rattle.rm_types.specs.declared.operations.Op.{Op}
-use Rattle.rm_types.specs.Folded.{folded, stays}
 
 -- one more operation before those that were looked at, last first
 pub looked : (op : Op) (ops left now : List Op) (b : Bool) → b ≡ stays op ops → now ≡ (if b then left ++ op ∷ [] else left) → reverse left ≡ folded ops → reverse now ≡ folded (op ∷ ops)

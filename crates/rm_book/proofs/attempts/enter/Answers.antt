@@ -1,7 +1,4 @@
-use Rattle.std.proofs.Common.{◌∙◌, ap}
-use Rattle.std.proofs.lemmas.Result.{on_ok_weaker}
-use Rattle.indexmap.specs.IndexMap.{insert_entry}
-use Rattle.rm_types.specs.Ids.{is_attempt}
+use Rattle.rm_book.proofs.Common.{◌∙◌, ap, on_ok_weaker, insert_entry, is_attempt}
 use Rattle.rm_book.specs.AskLines.{lines_set}
 use Rattle.rm_book.proofs.AskEntries.{last_entered}
 use Rattle.rm_book.proofs.attempts.enter.Goals as goal

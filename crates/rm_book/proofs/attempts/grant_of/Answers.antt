@@ -1,5 +1,4 @@
-use Rattle.std.proofs.Common.{rules, refl, ◌∙◌}
-use Rattle.std.specs.List.{list_any}
+use Rattle.rm_book.proofs.Common.{rules, refl, ◌∙◌, list_any}
 use Rattle.rm_book.specs.AskLines.{is_line_for, lines_granted}
 use Rattle.rm_book.proofs.AskEntries.{answered_by, changed_by}
 use Rattle.rm_book.proofs.attempts.grant_of.Goals as goal

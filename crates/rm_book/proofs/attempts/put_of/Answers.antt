@@ -1,8 +1,4 @@
-use Rattle.std.proofs.Common.{◌≡◌, Bool, true, cond, is_some, rules, ap, sym, ◌∙◌}
-use Rattle.std.specs.Map.{lookup}
-use Rattle.std.proofs.lemmas.Result.{on_ok_weaker}
-use Rattle.indexmap.specs.IndexMap.{insert_entry}
-use Rattle.rm_types.specs.Ids.{is_attempt}
+use Rattle.rm_book.proofs.Common.{◌≡◌, Bool, true, cond, is_some, rules, ap, sym, ◌∙◌, lookup, on_ok_weaker, insert_entry, is_attempt}
 use Rattle.rm_book.proofs.AskEntries.{changed_by, last_entered, lent, nothing}
 use Rattle.rm_book.proofs.attempts.put_of.Goals as goal
 

@@ -1,4 +1,4 @@
-use Rattle.std.proofs.Common.{rules}
+use Rattle.rm_book.proofs.Common.{rules}
 use Rattle.rm_book.specs.AskLines.{lines_set}
 use Rattle.rm_book.proofs.AskEntries.{set_tried}
 use Rattle.rm_book.proofs.attempts.set_of.Goals as goal

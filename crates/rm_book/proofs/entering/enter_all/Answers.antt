@@ -1,4 +1,4 @@
-use Rattle.std.proofs.Common.{arith}
+use Rattle.rm_book.proofs.Common.{arith}
 use Rattle.rm_book.proofs.Batch.{last_undone}
 use Rattle.rm_book.proofs.entering.enter_all.Goals as goal
 

@@ -1,4 +1,5 @@
-use Rattle.std.proofs.Common.{◌≡◌, ◌≤◌, ◌++◌, length, take}
+use Rattle.rm_book.proofs.Common.{◌≡◌, ◌++◌, length, take}
+use Rattle.std.proofs.Common.{◌≤◌}
 use Rattle.rm_book.specs.Kept.{entered_rows}
 use Rattle.rm_book.proofs.entering.enter_all.Given as goal
 

@@ -1,4 +1,4 @@
-use Rattle.std.proofs.Common.{◌+◌, sym, ◌∙◌, arith}
+use Rattle.rm_book.proofs.Common.{◌+◌, sym, ◌∙◌, arith}
 use Rattle.rm_book.proofs.Batch.{fresh_at, one_entered}
 use Rattle.rm_book.proofs.GroupSteps.{at_ok}
 use Rattle.rm_book.proofs.entering.enter_each.Goals as goal

@@ -1,4 +1,4 @@
-use Rattle.std.proofs.Common.{◌≡◌, ◌+◌, ◌++◌, take}
+use Rattle.rm_book.proofs.Common.{◌≡◌, ◌+◌, ◌++◌, take}
 use Rattle.rm_book.specs.Kept.{entered_rows}
 use Rattle.rm_book.proofs.entering.enter_each.Given as goal
 

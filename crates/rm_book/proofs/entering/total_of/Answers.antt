@@ -1,4 +1,4 @@
-use Rattle.std.proofs.Common.{arith}
+use Rattle.rm_book.proofs.Common.{arith}
 use Rattle.rm_book.proofs.Batch.{no_held, sum_more, sum_within}
 use Rattle.rm_book.proofs.entering.total_of.Goals as goal
 

@@ -1,5 +1,4 @@
-use Rattle.std.proofs.Common.{◌≡◌, ◌+◌, map, take}
-use Rattle.rm_types.specs.Passes.{total_of}
+use Rattle.rm_book.proofs.Common.{◌≡◌, ◌+◌, map, take, total_of}
 use Rattle.rm_book.proofs.entering.total_of.Given as goal
 
 abbrev pub invariant-list : goal.invariant-list

@@ -1,5 +1,5 @@
-use Rattle.std.proofs.Common.{append-nil, ◌≡◌, ◌∷◌, [], ◌++◌, take, sym, ap, ◌∙◌, subst}
-use Rattle.std.specs.List.{filter_map, cons_option}
+use Rattle.rm_book.proofs.Common.{append-nil, ◌≡◌, ◌∷◌, [], ◌++◌, take, sym, ap, ◌∙◌, subst, filter_map}
+use Rattle.std.specs.List.{cons_option}
 use Rattle.std.proofs.lemmas.List.{take_all}
 use Rattle.rm_book.specs.Granted.{AllMayBeTold, grant_in, grants_to}
 use Rattle.rm_book.proofs.IdLists.{granted_all, granted_more}

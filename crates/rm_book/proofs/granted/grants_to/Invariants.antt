@@ -1,5 +1,4 @@
-use Rattle.std.proofs.Common.{◌≡◌, take}
-use Rattle.std.specs.List.{filter_map}
+use Rattle.rm_book.proofs.Common.{◌≡◌, take, filter_map}
 use Rattle.rm_book.specs.Granted.{grant_in}
 use Rattle.rm_book.proofs.granted.grants_to.Given as goal
 

@@ -1,4 +1,4 @@
-use Rattle.std.proofs.Common.{refl, ◌∙◌}
+use Rattle.rm_book.proofs.Common.{refl, ◌∙◌}
 use Rattle.rm_book.proofs.LeavingSteps.{left_more, none_left}
 use Rattle.rm_book.proofs.leaving.end_each.Goals as goal
 

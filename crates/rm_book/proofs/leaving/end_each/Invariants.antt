@@ -1,6 +1,4 @@
-use Rattle.std.proofs.Common.{◌≡◌, not, filter, take}
-use Rattle.std.specs.List.{list_any}
-use Rattle.rm_types.specs.Ids.{is_container}
+use Rattle.rm_book.proofs.Common.{◌≡◌, not, filter, take, list_any, is_container}
 use Rattle.rm_book.specs.Kept.{AreUsed, nodes_shown}
 use Rattle.rm_book.proofs.leaving.end_each.Given as goal
 

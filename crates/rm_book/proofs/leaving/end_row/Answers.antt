@@ -1,4 +1,4 @@
-use Rattle.std.proofs.Common.{sym, ◌∙◌, subst}
+use Rattle.rm_book.proofs.Common.{sym, ◌∙◌, subst}
 use Rattle.rm_book.specs.Kept.{AreUsed}
 use Rattle.rm_book.proofs.LeavingSteps.{all_left, holds_row, used_lowered}
 use Rattle.rm_book.proofs.leaving.end_row.Goals as goal

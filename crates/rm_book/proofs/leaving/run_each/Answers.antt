@@ -1,4 +1,4 @@
-use Rattle.std.proofs.Common.{◌∙◌}
+use Rattle.rm_book.proofs.Common.{◌∙◌}
 use Rattle.rm_book.proofs.LeavingSteps.{none_ran, ran_more}
 use Rattle.rm_book.proofs.leaving.run_each.Goals as goal
 

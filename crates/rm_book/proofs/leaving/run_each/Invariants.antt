@@ -1,4 +1,4 @@
-use Rattle.std.proofs.Common.{◌≡◌, map, take}
+use Rattle.rm_book.proofs.Common.{◌≡◌, map, take}
 use Rattle.rm_book.specs.Books.{book_row_taken}
 use Rattle.rm_book.proofs.leaving.run_each.Given as goal
 

@@ -1,5 +1,4 @@
-use Rattle.std.proofs.Common.{◌≡◌, filter, take}
-use Rattle.std.specs.List.{list_any}
+use Rattle.rm_book.proofs.Common.{◌≡◌, filter, take, list_any}
 use Rattle.rm_book.specs.Books.{is_of}
 use Rattle.rm_book.proofs.leaving.those_there.Given as goal
 

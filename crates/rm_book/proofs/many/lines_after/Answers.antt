@@ -1,6 +1,5 @@
-use Rattle.std.proofs.Common.{sym, ap, ◌∙◌, List, arith}
+use Rattle.rm_book.proofs.Common.{sym, ap, ◌∙◌, List, arith, Ask}
 use Rattle.std.proofs.lemmas.List.{drop_all}
-use Rattle.rm_types.specs.declared.containers.Ask.{Ask}
 use Rattle.rm_book.specs.ManyAsks.{lines_after}
 use Rattle.rm_book.proofs.ManyAsks.{step}
 use Rattle.rm_book.proofs.many.lines_after.Goals as goal

@@ -1,4 +1,4 @@
-use Rattle.std.proofs.Common.{◌≡◌, ◌+◌, drop}
+use Rattle.rm_book.proofs.Common.{◌≡◌, ◌+◌, drop}
 use Rattle.rm_book.specs.ManyAsks.{lines_after}
 use Rattle.rm_book.proofs.many.lines_after.Given as goal
 

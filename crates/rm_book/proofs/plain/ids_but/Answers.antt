@@ -1,7 +1,5 @@
-use Rattle.std.proofs.Common.{not, filter, ap, ◌∙◌, rules}
-use Rattle.std.proofs.lemmas.Fn.{filter_same}
+use Rattle.rm_book.proofs.Common.{not, filter, ap, ◌∙◌, rules, filter_same, is_container}
 use Rattle.indexmap.specs.IndexSet.{contains}
-use Rattle.rm_types.specs.Ids.{is_container}
 use Rattle.rm_book.proofs.plain.ids_but.Goals as goal
 
 pub returns : goal.returns

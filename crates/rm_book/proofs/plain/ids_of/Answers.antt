@@ -1,6 +1,4 @@
-use Rattle.std.proofs.Common.{ap, filter, ◌∙◌, rules}
-use Rattle.std.proofs.lemmas.Fn.{filter_same}
-use Rattle.rm_types.specs.Ids.{is_attempt}
+use Rattle.rm_book.proofs.Common.{ap, filter, ◌∙◌, rules, filter_same, is_attempt}
 use Rattle.rm_book.proofs.IdLists.{attempt_ids}
 use Rattle.rm_book.proofs.plain.ids_of.Goals as goal
 

@@ -1,6 +1,5 @@
-use Rattle.std.proofs.Common.{◌≡◌, ◌↔◌, Bool, true, false, not, IsTrue, refl}
-use Rattle.rm_types.specs.declared.containers.ContainerState.{ContainerState}
-use Rattle.rm_types.specs.declared.containers.ContainerState.TheVariants.{Granted, Acquired, Running, Completed}
+use Rattle.rm_book.proofs.Common.{◌≡◌, Bool, true, false, not, refl, ContainerState, Granted, Acquired, Running, Completed}
+use Rattle.std.proofs.Common.{◌↔◌, IsTrue}
 use Rattle.rm_book.specs.Books.{is_living_state}
 use Rattle.rm_book.proofs.plain.is_living.Goals as goal
 

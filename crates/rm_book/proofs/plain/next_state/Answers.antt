@@ -1,4 +1,4 @@
-use Rattle.std.proofs.Common.{sym}
+use Rattle.rm_book.proofs.Common.{sym}
 use Rattle.rm_states.proofs.container.Rows.{row_leads, stays_without_row}
 use Rattle.rm_book.proofs.plain.next_state.Goals as goal
 

@@ -1,8 +1,5 @@
-use Rattle.std.proofs.lemmas.Bool.{and_parts}
-use Rattle.rm_types.proofs.IdLemmas.{same_attempt}
-use Rattle.rm_types.specs.Ids.{is_attempt}
+use Rattle.rm_book.proofs.Common.{and_parts, same_attempt, is_attempt, is_granted}
 use Rattle.rm_book.specs.Granted.{is_untold_to_attempt}
-use Rattle.rm_types.specs.Containers.{is_granted}
 use Rattle.rm_book.proofs.Kept.{added_undone, none_under}
 use Rattle.rm_book.proofs.row_table.enter.Goals as goal
 

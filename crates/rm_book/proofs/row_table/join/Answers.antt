@@ -1,6 +1,4 @@
-use Rattle.std.proofs.Common.{sym, ◌∙◌}
-use Rattle.std.specs.Str.{bytes_eq}
-use Rattle.rm_types.proofs.TestLemmas.{same_text}
+use Rattle.rm_book.proofs.Common.{sym, ◌∙◌, bytes_eq, same_text}
 use Rattle.rm_book.proofs.GroupSteps.{at_err}
 use Rattle.rm_book.proofs.Kept.{added_undone, none_under}
 use Rattle.rm_book.proofs.row_table.join.Goals as goal

@@ -1,7 +1,5 @@
-use Rattle.std.proofs.Common.{ap, ◌∙◌, List, take}
-use Rattle.rm_types.specs.declared.ids.ContainerId.{ContainerId}
-use Rattle.rm_types.specs.declared.containers.ContainerState.TheVariants.{Acquired}
-use Rattle.rm_book.specs.Books.{BookOf, with_state}
+use Rattle.rm_master.proofs.Common.{ap, ◌∙◌, List, take, ContainerId, Acquired, BookOf}
+use Rattle.rm_book.specs.Books.{with_state}
 use Rattle.rm_master.specs.Answers.{acquired, ids_granted}
 use Rattle.rm_master.proofs.Acquired.{more_granted, none_acquired, one_acquired, told_at}
 use Rattle.rm_master.proofs.allocating.acquire_all.Goals as goal

@@ -1,4 +1,4 @@
-use Rattle.std.proofs.Common.{◌≡◌, take}
+use Rattle.rm_master.proofs.Common.{◌≡◌, take}
 use Rattle.rm_master.specs.Answers.{acquired, ids_granted}
 use Rattle.rm_master.proofs.allocating.acquire_all.Given as goal
 

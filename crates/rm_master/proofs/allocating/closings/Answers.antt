@@ -1,6 +1,6 @@
-use Rattle.std.proofs.Common.{refl, rules}
+use Rattle.rm_master.proofs.Common.{refl, is_attempt}
+use Rattle.std.proofs.Common.{rules}
 use Rattle.std.proofs.lemmas.Fn.{filter_same}
-use Rattle.rm_types.specs.Ids.{is_attempt}
 use Rattle.rm_master.proofs.allocating.closings.Goals as goal
 
 pub returns : goal.returns

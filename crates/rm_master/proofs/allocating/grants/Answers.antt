@@ -1,7 +1,7 @@
-use Rattle.std.proofs.Common.{not, refl, rules}
+use Rattle.rm_master.proofs.Common.{not, refl, is_masters_in}
+use Rattle.std.proofs.Common.{rules}
 use Rattle.std.proofs.lemmas.Fn.{filter_same}
 use Rattle.rm_book.proofs.UntoldGrants.{told_filter}
-use Rattle.rm_tables.specs.Leaving.{is_masters_in}
 use Rattle.rm_master.proofs.allocating.grants.Goals as goal
 
 pub returns-clause-grants : goal.returns-clause-grants

@@ -1,7 +1,5 @@
-use Rattle.std.proofs.Common.{◌≡◌, true, false, Err, Some, ap, refl, sym, ◌∙◌}
-use Rattle.std.proofs.lemmas.Result.{err_from_is_err_and}
-use Rattle.std.specs.Prelude.{is_ok}
-use Rattle.rm_types.specs.declared.scripts.Close.{Close}
+use Rattle.rm_plain.proofs.Common.{true, false, Err, Some, ap, refl, sym, ◌∙◌, err_from_is_err_and, is_ok, Close}
+use Rattle.std.proofs.Common.{◌≡◌}
 use Rattle.rm_plain.specs.declared.halts.Halt.{Halt}
 use Rattle.rm_plain.proofs.Halting.{halts_still}
 use Rattle.rm_plain.proofs.Moving.{err_holds, ok_holds}

@@ -1,6 +1,4 @@
-use Rattle.std.proofs.Common.{[], List, ℕ, Err, ◌∙◌, ap, subst}
-use Rattle.std.proofs.lemmas.Result.{err_from_is_err_and}
-use Rattle.rm_store.specs.Store.{seen}
+use Rattle.rm_plain.proofs.Common.{[], List, ℕ, Err, ◌∙◌, ap, subst, err_from_is_err_and, seen}
 use Rattle.rm_plain.specs.declared.halts.Halt.{Halt}
 use Rattle.rm_plain.specs.Keeping.{HaltsBy, IsKeptOn}
 use Rattle.rm_plain.specs.Lives.{ComesToRest, TakesStep, WentDown}

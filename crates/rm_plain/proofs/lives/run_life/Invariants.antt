@@ -1,7 +1,5 @@
-use Rattle.std.proofs.Common.{◌≡◌, [], true, List}
-use Rattle.rm_types.specs.declared.operations.Op.{Op}
-use Rattle.rm_store.specs.Store.{seen}
-use Rattle.rm_core.specs.Words.{stands}
+use Rattle.rm_plain.proofs.Common.{[], true, List, Op, seen, stands}
+use Rattle.std.proofs.Common.{◌≡◌}
 use Rattle.rm_desk.specs.Runs.{moves_left}
 use Rattle.rm_plain.specs.Goes.{ExtendsRun}
 use Rattle.rm_plain.specs.Keeping.{FuseStays, Serves, StoresOn}

@@ -1,14 +1,6 @@
-use Rattle.std.proofs.Common.{◌≡◌, true, false, Err, Some, refl, sym, ◌∙◌, ap}
-use Rattle.std.proofs.lemmas.Result.{err_from_is_err_and}
-use Rattle.std.specs.Prelude.{is_ok}
-use Rattle.rm_types.specs.declared.messages.Lane.TheVariants.{End}
-use Rattle.rm_types.specs.declared.scripts.Close.TheVariants.{Settle}
-use Rattle.rm_types.proofs.TestLemmas.{on_ok_map, on_ok}
-use Rattle.rm_model.specs.Place.{close_left}
-use Rattle.rm_core.specs.Words.{is_blown}
-use Rattle.rm_desk.specs.Effects.{LaneEffect}
+use Rattle.rm_plain.proofs.Common.{true, false, Err, Some, refl, sym, ◌∙◌, ap, err_from_is_err_and, is_ok, End, Settle, on_ok_map, on_ok, close_left, is_blown, LaneEffect, DeskView}
+use Rattle.std.proofs.Common.{◌≡◌}
 use Rattle.rm_desk.specs.Runs.{IsPlaceSound}
-use Rattle.rm_desk.specs.View.{DeskView}
 use Rattle.rm_plain.specs.declared.halts.Halt.{Halt}
 use Rattle.rm_plain.specs.Keeping.{HaltsBy, armed_by}
 use Rattle.rm_plain.specs.Schedule.{order_of}

@@ -1,7 +1,5 @@
-use Rattle.std.proofs.Common.{◌≡◌, ℕ, List, [], None, Err, sym, ◌∙◌, ap}
-use Rattle.std.proofs.lemmas.Result.{err_from_is_err_and}
-use Rattle.rm_types.specs.declared.entries.Entry.{Entry}
-use Rattle.rm_types.specs.declared.messages.Lane.{Lane}
+use Rattle.rm_plain.proofs.Common.{ℕ, List, [], None, Err, sym, ◌∙◌, ap, err_from_is_err_and, Entry, Lane}
+use Rattle.std.proofs.Common.{◌≡◌}
 use Rattle.rm_plain.specs.declared.halts.Halt.{Halt}
 use Rattle.rm_plain.specs.declared.schedule.Step.{Step}
 use Rattle.rm_plain.specs.Policy.{first_ready}

@@ -1,6 +1,5 @@
-use Rattle.std.proofs.Common.{◌≡◌, true, false, Err, refl, sym, ◌∙◌, ap}
-use Rattle.std.proofs.lemmas.Result.{err_from_is_err_and}
-use Rattle.std.specs.Prelude.{is_ok}
+use Rattle.rm_plain.proofs.Common.{true, false, Err, refl, sym, ◌∙◌, ap, err_from_is_err_and, is_ok}
+use Rattle.std.proofs.Common.{◌≡◌}
 use Rattle.rm_plain.specs.declared.halts.Halt.{Halt}
 use Rattle.rm_plain.proofs.Halting.{halts_still}
 use Rattle.rm_plain.proofs.Moving.{err_holds, ok_holds, works}

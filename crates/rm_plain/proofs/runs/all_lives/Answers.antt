@@ -1,5 +1,4 @@
-use Rattle.std.proofs.Common.{ℕ, List, inr, subst, sym, ◌∙◌}
-use Rattle.std.specs.Prelude.{OnOk}
+use Rattle.rm_plain.proofs.Common.{ℕ, List, inr, subst, sym, ◌∙◌, OnOk}
 use Rattle.rm_plain.specs.Later.{FirstTo, LaterTo}
 use Rattle.rm_plain.specs.Schedule.{by_letters, course_left, order_of, steps_of}
 use Rattle.rm_plain.proofs.Choosing.{chosen_begin, dead_over, letters_halt}

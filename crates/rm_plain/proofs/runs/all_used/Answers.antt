@@ -1,7 +1,5 @@
-use Rattle.std.proofs.Common.{◌≡◌, ◌⊎◌, inl, inr, List, [], ◌∷◌, false, refl, sym, ◌∙◌, subst}
-use Rattle.rm_types.specs.declared.messages.Lane.{Lane}
-use Rattle.rm_desk.specs.Lanes.{is_ready_at}
-use Rattle.rm_desk.specs.View.{DeskView}
+use Rattle.rm_plain.proofs.Common.{◌⊎◌, inl, inr, List, [], ◌∷◌, false, refl, sym, ◌∙◌, subst, Lane, is_ready_at, DeskView}
+use Rattle.std.proofs.Common.{◌≡◌}
 use Rattle.rm_plain.specs.Schedule.{StopsAt, course_left}
 use Rattle.rm_plain.specs.declared.schedule.Step.{Step}
 use Rattle.rm_plain.proofs.Choosing.{none_moved, no_step}

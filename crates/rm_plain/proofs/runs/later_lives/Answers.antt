@@ -1,9 +1,5 @@
-use Rattle.std.proofs.Common.{◌≡◌, ◌⊎◌, ℕ, List, [], Bool, true, false, Err, Ok, inl, inr, refl, sym, ◌∙◌, ap, subst}
-use Rattle.rm_types.specs.declared.messages.Lane.{Lane}
-use Rattle.rm_types.specs.declared.messages.Lane.TheVariants.{Begin}
-use Rattle.rm_core.specs.Words.{stands}
-use Rattle.rm_desk.specs.Lanes.{is_ready_at}
-use Rattle.rm_desk.specs.View.{DeskView}
+use Rattle.rm_plain.proofs.Common.{◌⊎◌, ℕ, List, [], Bool, true, false, Err, Ok, inl, inr, refl, sym, ◌∙◌, ap, subst, Lane, Begin, stands, is_ready_at, DeskView}
+use Rattle.std.proofs.Common.{◌≡◌}
 use Rattle.rm_plain.specs.Later.{LaterTo}
 use Rattle.rm_plain.specs.Schedule.{by_letters, letters_left, course_left, order_of, steps_of}
 use Rattle.rm_plain.specs.declared.schedule.Step.{Step}

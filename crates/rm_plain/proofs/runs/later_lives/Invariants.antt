@@ -1,7 +1,6 @@
-use Rattle.std.proofs.Common.{◌≡◌, ◌≢◌, length, [], true}
-use Rattle.rm_store.specs.Store.{seen}
+use Rattle.rm_plain.proofs.Common.{◌≢◌, [], true, seen, stands}
+use Rattle.std.proofs.Common.{◌≡◌, length}
 use Rattle.rm_plain.specs.Keeping.{IsKeptOn}
-use Rattle.rm_core.specs.Words.{stands}
 use Rattle.rm_plain.specs.Schedule.{IsAt, course_left, order_of}
 use Rattle.rm_plain.specs.Starts.{IsAtEase, Lives}
 use Rattle.rm_plain.proofs.runs.later_lives.Given as goal

@@ -1,5 +1,5 @@
-use Rattle.std.proofs.Common.{◌≡◌, ℕ, List, refl, ◌∙◌, ap, subst}
-use Rattle.rm_model.specs.Place.{Place}
+use Rattle.rm_plain.proofs.Common.{ℕ, List, refl, ◌∙◌, ap, subst, Place}
+use Rattle.std.proofs.Common.{◌≡◌}
 use Rattle.rm_core.specs.Words.{new_manager}
 use Rattle.rm_plain.specs.Later.{IsDueAt}
 use Rattle.rm_plain.specs.Order.{StopsHere}

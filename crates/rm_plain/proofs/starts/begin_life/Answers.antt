@@ -1,11 +1,6 @@
-use Rattle.std.proofs.Common.{◌≡◌, List, true, false, Err, inl, inr, refl, sym, ◌∙◌, ap}
-use Rattle.std.proofs.lemmas.Result.{err_from_is_err_and}
-use Rattle.std.specs.Prelude.{is_ok}
-use Rattle.rm_types.specs.declared.operations.Op.{Op}
-use Rattle.rm_types.specs.Lanes.{lane_of_entry}
-use Rattle.rm_types.proofs.TestLemmas.{on_ok_map, on_err, on_ok}
-use Rattle.rm_store.specs.Store.{seen}
-use Rattle.rm_core.specs.Moves.{IsLeftAfter}
+use Rattle.rm_plain.proofs.Common.{List, true, false, Err, inl, inr, refl, sym, ◌∙◌, ap, err_from_is_err_and, is_ok, Op, lane_of_entry, on_ok_map, on_ok, seen, IsLeftAfter}
+use Rattle.std.proofs.Common.{◌≡◌}
+use Rattle.rm_types.proofs.TestLemmas.{on_err}
 use Rattle.rm_plain.specs.declared.halts.Halt.{Halt}
 use Rattle.rm_plain.specs.Keeping.{HaltsOver, IsFoundOn}
 use Rattle.rm_plain.proofs.Halting.{goes_any, halts_same, if_memory}

@@ -1,13 +1,6 @@
-use Rattle.std.proofs.Common.{◌≡◌, ℕ, List, [], ◌∷◌, ◌++◌, Result, Some, subst, sym, ◌∙◌, ap}
-use Rattle.std.specs.Prelude.{IfOk, IfErr}
-use Rattle.rm_types.specs.declared.entries.Entry.{Entry}
-use Rattle.rm_types.specs.declared.messages.Lane.{Lane}
-use Rattle.rm_types.specs.declared.messages.Lane.TheVariants.{Begin}
-use Rattle.rm_types.specs.declared.operations.Op.{Op}
-use Rattle.rm_types.specs.Lanes.{lane_of_entry}
-use Rattle.rm_store.specs.Store.{seen}
-use Rattle.rm_core.specs.Moves.{IsLeftAfter}
-use Rattle.rm_desk.specs.View.{DeskView}
+use Rattle.rm_plain.proofs.Common.{ℕ, List, [], ◌∷◌, ◌++◌, Result, Some, subst, sym, ◌∙◌, ap, IfErr, Entry, Lane, Begin, Op, lane_of_entry, seen, IsLeftAfter, DeskView}
+use Rattle.std.proofs.Common.{◌≡◌}
+use Rattle.std.specs.Prelude.{IfOk}
 use Rattle.rm_plain.specs.Keeping.{HaltsBy, IsFoundOn}
 use Rattle.rm_plain.specs.Lives.{EndsBy}
 use Rattle.rm_plain.specs.Order.{May}

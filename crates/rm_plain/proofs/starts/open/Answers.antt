@@ -1,4 +1,4 @@
-use Rattle.std.proofs.Common.{true, false}
+use Rattle.rm_plain.proofs.Common.{true, false}
 use Rattle.rm_plain.proofs.Starting.{opened, unopened}
 use Rattle.rm_plain.proofs.starts.open.Goals as goal
 

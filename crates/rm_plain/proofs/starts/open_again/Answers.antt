@@ -1,4 +1,5 @@
-use Rattle.std.proofs.Common.{◌≡◌, Bool, true, false}
+use Rattle.rm_plain.proofs.Common.{Bool, true, false}
+use Rattle.std.proofs.Common.{◌≡◌}
 use Rattle.rm_plain.proofs.Onward.{is_again, left_found, unopened_again}
 use Rattle.rm_plain.proofs.starts.open_again.Goals as goal
 

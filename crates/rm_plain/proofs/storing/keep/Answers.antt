@@ -1,16 +1,6 @@
-use Rattle.std.proofs.Common.{◌≡◌, ◌++◌, ◌∷◌, [], Bool, true, false, Option, Err, refl, sym, ◌∙◌, ap, subst}
-use Rattle.std.proofs.lemmas.Result.{err_from_is_err_and}
-use Rattle.std.specs.Prelude.{is_ok}
-use Rattle.std.proofs.lemmas.Option.{same_Some}
-use Rattle.rm_types.specs.declared.entries.Entry.{Entry}
+use Rattle.rm_plain.proofs.Common.{◌++◌, ◌∷◌, [], Bool, true, false, Option, Err, refl, sym, ◌∙◌, ap, subst, err_from_is_err_and, is_ok, same_Some, Entry, Op, Fused, state_after, LifeState, StoreError, seen, HasBlown}
+use Rattle.std.proofs.Common.{◌≡◌}
 use Rattle.rm_types.specs.declared.entries.Entry.TheVariants.{Kept as KeptEntry}
-use Rattle.rm_types.specs.declared.operations.Op.{Op}
-use Rattle.rm_disk.specs.Fuse.{Fused}
-use Rattle.rm_model.specs.Lawful.{state_after}
-use Rattle.rm_model.specs.State.{LifeState}
-use Rattle.rm_store.specs.declared.fault.StoreError.{StoreError}
-use Rattle.rm_store.specs.Store.{seen}
-use Rattle.rm_desk.specs.Runs.{HasBlown}
 use Rattle.rm_plain.specs.declared.halts.Halt.{Halt}
 use Rattle.rm_plain.proofs.Moving.{blown_goes, err_holds, goes_same, kept_goes, no_err, ok_holds, told_blown}
 use Rattle.rm_plain.proofs.Stored.{blown_stores, op_stores}

@@ -1,7 +1,4 @@
-use Rattle.std.proofs.Common.{sym, subst, List}
-use Rattle.std.specs.Prelude.{All}
-use Rattle.rm_types.specs.declared.operations.Op.{Op}
-use Rattle.rm_types.specs.Ranges.{IsOperation}
+use Rattle.rm_store.proofs.Common.{sym, subst, List, All, Op, IsOperation}
 use Rattle.rm_store.proofs.Contents.{framed_left}
 use Rattle.rm_store.proofs.Owned.{still_keeps}
 use Rattle.rm_store.proofs.Puts.{ops_same}

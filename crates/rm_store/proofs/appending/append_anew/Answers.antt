@@ -1,10 +1,4 @@
-use Rattle.std.proofs.Common.{◌≡◌, ℕ, ◌+◌, ◌≤◌, true, false, List, [], ◌∷◌, ◌++◌, take, length, sym, ◌∙◌, ap, subst}
-use Rattle.std.specs.Prelude.{All}
-use Rattle.std.proofs.lemmas.Result.{err_from_is_err_and}
-use Rattle.rm_types.specs.declared.operations.Op.{Op}
-use Rattle.rm_types.specs.Ranges.{IsOperation}
-use Rattle.rm_formats.specs.Frames.{frame}
-use Rattle.rm_types.specs.Folded.{folded}
+use Rattle.rm_store.proofs.Common.{◌≡◌, ℕ, ◌+◌, ◌≤◌, true, false, List, [], ◌∷◌, ◌++◌, take, length, sym, ◌∙◌, ap, subst, All, err_from_is_err_and, Op, IsOperation, frame, folded}
 use Rattle.rm_store.proofs.Contents.{framed_left}
 use Rattle.rm_store.proofs.Owned.{still_keeps, own_after, changed_own}
 use Rattle.rm_store.proofs.Puts.{ops_same, take_front, room_enough, room_after, refold_only, both_leave, both_add, kept_more, now_reads}

@@ -1,10 +1,5 @@
-use Rattle.std.proofs.Common.{Bool, false, Ok, Err, Result, ◌≡◌, ◌⊎◌, ◌+◌, ℕ, length, List, [], ◌∷◌, ◌++◌, sym, ◌∙◌, ap, subst, arith}
-use Rattle.rm_formats.specs.Frames.{frame}
-use Rattle.rm_disk.specs.Disk.{AtEachMoment, IfTold}
-use Rattle.std.specs.Prelude.{OnOk}
-use Rattle.rm_journal.specs.declared.fault.JournalError.{JournalError}
-use Rattle.rm_journal.specs.Journal.{broken_after}
-use Rattle.rm_journal.specs.two_areas.Areas.{AreasHold, HasLayout, HoldsPayloads}
+use Rattle.rm_store.proofs.Common.{Bool, false, Ok, Err, Result, ◌≡◌, ◌⊎◌, ◌+◌, ℕ, length, List, [], ◌∷◌, ◌++◌, sym, ◌∙◌, ap, subst, arith, frame, AtEachMoment, IfTold, OnOk, JournalError, broken_after, AreasHold, HasLayout}
+use Rattle.rm_journal.specs.two_areas.Areas.{HoldsPayloads}
 use Rattle.rm_store.proofs.Puts.{put_same, now_has, same_half}
 use Rattle.rm_store.proofs.Owned.{still_keeps, put_own}
 use Rattle.rm_store.proofs.Changes.{only_folds}

@@ -1,6 +1,4 @@
-use Rattle.std.proofs.Common.{◌+◌, length, arith}
-use Rattle.rm_types.specs.declared.operations.Op.{Op}
-use Rattle.rm_formats.specs.Frames.{frame}
+use Rattle.rm_store.proofs.Common.{◌+◌, length, arith, Op, frame}
 use Rattle.rm_store.proofs.Puts.{sums_got}
 use Rattle.rm_store.proofs.appending.room_of.Goals as goal
 

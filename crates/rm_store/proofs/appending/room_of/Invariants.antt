@@ -1,5 +1,4 @@
-use Rattle.std.proofs.Common.{◌≡◌, ◌-◌, ◌+◌, map, sum, take, length}
-use Rattle.rm_formats.specs.Frames.{frame}
+use Rattle.rm_store.proofs.Common.{◌≡◌, ◌-◌, ◌+◌, map, sum, take, length, frame}
 use Rattle.rm_store.proofs.appending.room_of.Given as goal
 
 abbrev pub invariant-ops : goal.invariant-ops

@@ -1,10 +1,5 @@
-use Rattle.std.proofs.Common.{true, false, List, map, subst, arith}
-use Rattle.std.proofs.lemmas.Result.{err_from_is_err_and}
+use Rattle.rm_store.proofs.Common.{true, false, List, map, subst, arith, err_from_is_err_and, nat_tests, Op, frame, IsBuilt}
 use Rattle.std.proofs.lemmas.List.{take_all}
-use Rattle.std.proofs.lemmas.Bool.Decides.{nat_tests}
-use Rattle.rm_types.specs.declared.operations.Op.{Op}
-use Rattle.rm_formats.specs.Frames.{frame}
-use Rattle.rm_journal.specs.two_areas.Areas.{IsBuilt}
 use Rattle.rm_store.proofs.Owned.{still_keeps, own_more}
 use Rattle.rm_store.proofs.Changes.{got_there, all_after, all_same, built_on, on_same, room_there}
 use Rattle.rm_store.proofs.changing.add_all.Goals as goal

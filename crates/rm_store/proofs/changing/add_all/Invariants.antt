@@ -1,5 +1,4 @@
-use Rattle.std.proofs.Common.{◌≡◌, true, map, take, ◌≤◌, ◌+◌, []}
-use Rattle.rm_formats.specs.Frames.{frame}
+use Rattle.rm_store.proofs.Common.{◌≡◌, true, map, take, ◌≤◌, ◌+◌, [], frame}
 use Rattle.rm_store.specs.Store.{KeepsOwn}
 use Rattle.rm_store.proofs.Changes.{Building}
 use Rattle.rm_store.proofs.changing.add_all.Given as goal

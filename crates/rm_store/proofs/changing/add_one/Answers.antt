@@ -1,7 +1,4 @@
-use Rattle.std.proofs.Common.{◌≡◌, ℕ, ◌+◌, List, [], ◌∷◌, ◌++◌, length, sym, ◌∙◌, ap, subst, arith}
-use Rattle.std.specs.Prelude.{OnOk}
-use Rattle.rm_formats.specs.Frames.{frame}
-use Rattle.rm_journal.specs.two_areas.Areas.{IsBuilt}
+use Rattle.rm_store.proofs.Common.{◌≡◌, ℕ, ◌+◌, List, [], ◌∷◌, ◌++◌, length, sym, ◌∙◌, ap, subst, arith, OnOk, frame, IsBuilt}
 use Rattle.rm_store.proofs.Owned.{still_keeps, add_own}
 use Rattle.rm_store.proofs.Changes.{all_same, only_folds, some_gate}
 use Rattle.rm_store.proofs.changing.add_one.Goals as goal

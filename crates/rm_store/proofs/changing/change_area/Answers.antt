@@ -1,9 +1,4 @@
-use Rattle.std.proofs.Common.{◌⊎◌, ℕ, true, Bool, List, map, inl, sym, ◌∙◌, ap, subst, ◌<◌, arith}
-use Rattle.rm_formats.specs.Frames.{frame}
-use Rattle.rm_journal.specs.Journal.{broken_after}
-use Rattle.rm_disk.specs.Disk.{AtEachMoment, IfTold}
-use Rattle.rm_journal.proofs.two_areas.Moments.{moment_of}
-use Rattle.rm_journal.specs.two_areas.Areas.{AreasHold, HasLayout}
+use Rattle.rm_store.proofs.Common.{◌⊎◌, ℕ, true, Bool, List, map, inl, sym, ◌∙◌, ap, subst, ◌<◌, arith, frame, broken_after, AtEachMoment, IfTold, moment_of, AreasHold, HasLayout}
 use Rattle.rm_store.specs.Changing.{KeepsPayloads, TellsPayloads}
 use Rattle.rm_disk.proofs.Views.{goes_on_trans}
 use Rattle.rm_store.proofs.Owned.{other_own, own_after}

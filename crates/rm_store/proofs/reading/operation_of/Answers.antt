@@ -1,7 +1,5 @@
-use Rattle.std.proofs.Common.{◌≡◌, ℕ, List, length, take_all, ◌∙◌, arith}
-use Rattle.rm_types.specs.declared.operations.Op.{Op}
-use Rattle.rm_formats.specs.Frames.{frame}
-use Rattle.rm_types.specs.Ranges.{IsOperation}
+use Rattle.rm_store.proofs.Common.{◌≡◌, ℕ, List, length, ◌∙◌, arith, Op, frame, IsOperation}
+use Rattle.std.proofs.Common.{take_all}
 use Rattle.rm_frame.specs.Framed.{IsFramed}
 use Rattle.rm_store.proofs.reading.operation_of.Goals as goal
 

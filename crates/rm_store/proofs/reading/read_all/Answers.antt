@@ -1,14 +1,8 @@
-use Rattle.std.proofs.Common.{◌≡◌, ℕ, ◌/◌, true, false, Option, None, Some, Ok, Err, Result, List, [], ◌∷◌, ◌++◌, refl, sym, ap, subst, ◌∙◌}
-use Rattle.std.specs.Prelude.{OnOk}
-use Rattle.std.proofs.lemmas.Result.{err_from_is_err_and}
-use Rattle.rm_disk.specs.Disk.{IfTold}
+use Rattle.rm_store.proofs.Common.{◌≡◌, ℕ, ◌/◌, true, false, Option, None, Some, Ok, Err, Result, List, [], ◌∷◌, ◌++◌, refl, sym, ap, subst, ◌∙◌, OnOk, err_from_is_err_and, IfTold, HasWalked, IsDamagedLayout, quiet_trans}
 use Rattle.rm_journal.specs.declared.fault.JournalError
 use Rattle.rm_journal.specs.Fault.{IsReadError}
-use Rattle.rm_journal.specs.Walk.{HasWalked}
-use Rattle.rm_journal.specs.two_areas.Areas.{IsDamagedLayout}
 use Rattle.rm_store.specs.Content.{half_of}
 use Rattle.rm_store.specs.declared.fault.StoreError
-use Rattle.rm_disk.proofs.Views.{quiet_trans}
 use Rattle.rm_store.specs.Errors.{of_journal, IsOpenError}
 use Rattle.rm_store.specs.Causes.{IsWhy}
 use Rattle.rm_store.proofs.SoFar.{begun, read_more, read_all_of, content_of, reads_up_to}

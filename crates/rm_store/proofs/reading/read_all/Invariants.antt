@@ -1,4 +1,4 @@
-use Rattle.std.proofs.Common.{◌-◌, true}
+use Rattle.rm_store.proofs.Common.{◌-◌, true}
 use Rattle.rm_store.proofs.SoFar.{ReadSoFar}
 use Rattle.rm_store.proofs.reading.read_all.Given as goal
 

@@ -1,5 +1,4 @@
-use Rattle.std.proofs.Common.{◌≡◌, Bool, true, false, length, refl, sym, ap, ◌∙◌}
-use Rattle.rm_types.specs.Records.{records, fits_records}
+use Rattle.rm_store.proofs.Common.{◌≡◌, Bool, true, false, length, refl, sym, ap, ◌∙◌, records, fits_records}
 use Rattle.rm_store.proofs.Ops.{records_push, told_count}
 use Rattle.rm_store.proofs.reading.take_in.Goals as goal
 

@@ -1,9 +1,6 @@
-use Rattle.std.proofs.Common.{◌≡◌, ℕ, ◌/◌, true, false, Option, None, Some, Err, Result, refl, sym, ◌∙◌, ap, subst}
-use Rattle.std.proofs.lemmas.Result.{err_from_is_err_and}
-use Rattle.rm_disk.proofs.Views.{quiet_same, quiet_trans}
-use Rattle.rm_journal.specs.declared.fault.JournalError.{JournalError}
+use Rattle.rm_store.proofs.Common.{◌≡◌, ℕ, ◌/◌, true, false, Option, None, Some, Err, Result, refl, sym, ◌∙◌, ap, subst, err_from_is_err_and, quiet_trans, JournalError, IsDamagedLayout}
+use Rattle.rm_disk.proofs.Views.{quiet_same}
 use Rattle.rm_journal.specs.declared.fault.JournalError.TheVariants.{Damaged}
-use Rattle.rm_journal.specs.two_areas.Areas.{IsDamagedLayout}
 use Rattle.rm_journal.specs.two_areas.Reading.{ReadingAt}
 use Rattle.rm_store.proofs.WalkingOn.{walked_none, walked_more, walked_all}
 use Rattle.rm_store.proofs.reading.walk_on.Goals as goal

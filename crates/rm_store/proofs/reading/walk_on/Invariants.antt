@@ -1,5 +1,4 @@
-use Rattle.std.proofs.Common.{◌≡◌, ◌-◌, true}
-use Rattle.rm_disk.specs.Disk.{IfTold, IsQuiet}
+use Rattle.rm_store.proofs.Common.{◌≡◌, ◌-◌, true, IfTold, IsQuiet}
 use Rattle.rm_journal.specs.two_areas.Reading.{IsReading}
 use Rattle.rm_store.specs.Reading.{WalkedOn}
 use Rattle.rm_store.proofs.reading.walk_on.Given as goal

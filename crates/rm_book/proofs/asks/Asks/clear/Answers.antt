@@ -1,4 +1,4 @@
-use Rattle.std.proofs.Common.{refl, []}
+use Rattle.rm_book.proofs.Common.{refl, []}
 use Rattle.rm_book.proofs.Entries.{cleared}
 use Rattle.rm_book.proofs.AskViews.{changed_view, without_view}
 use Rattle.rm_book.proofs.asks.Asks.clear.Goals as goal

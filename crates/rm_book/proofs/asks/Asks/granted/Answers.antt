@@ -1,5 +1,4 @@
-use Rattle.std.proofs.Common.{sym, ◌∙◌, ap, map}
-use Rattle.std.specs.List.{list_any}
+use Rattle.rm_book.proofs.Common.{sym, ◌∙◌, ap, map, list_any}
 use Rattle.rm_book.specs.AskLines.{asks_of_entry, lines_in}
 use Rattle.rm_book.specs.AskTables.{asks_granted, is_for}
 use Rattle.rm_book.proofs.Entries.{granted_leaves}

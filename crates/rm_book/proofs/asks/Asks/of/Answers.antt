@@ -1,4 +1,4 @@
-use Rattle.std.proofs.Common.{sym, ◌∙◌}
+use Rattle.rm_book.proofs.Common.{sym, ◌∙◌}
 use Rattle.rm_book.proofs.AskViews.{none_view, some_view}
 use Rattle.rm_book.proofs.asks.Asks.of.Goals as goal
 

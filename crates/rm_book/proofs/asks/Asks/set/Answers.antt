@@ -1,4 +1,4 @@
-use Rattle.std.proofs.Common.{◌∙◌, ap, map}
+use Rattle.rm_book.proofs.Common.{◌∙◌, ap, map}
 use Rattle.rm_book.specs.AskLines.{asks_of_entry, lines_in}
 use Rattle.rm_book.specs.AskTables.{asks_set}
 use Rattle.rm_book.proofs.Entries.{set_leaves, lawful_lines}

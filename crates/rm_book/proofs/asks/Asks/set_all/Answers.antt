@@ -1,5 +1,4 @@
-use Rattle.std.proofs.Common.{sym, ◌∙◌, ap, map, length, arith}
-use Rattle.rm_types.specs.declared.containers.AskLine.{AskLine}
+use Rattle.rm_book.proofs.Common.{sym, ◌∙◌, ap, map, length, arith, AskLine}
 use Rattle.rm_book.specs.AskLines.{asks_of_entry}
 use Rattle.rm_book.proofs.ManyAsks.{after_leaves, all_view, are_few, are_many, count_after, few_enough, no_asks, some_asks_left}
 use Rattle.rm_book.proofs.asks.Asks.set_all.Goals as goal

@@ -1,4 +1,4 @@
-use Rattle.std.proofs.Common.{ap, ◌∙◌}
+use Rattle.rm_book.proofs.Common.{ap, ◌∙◌}
 use Rattle.rm_book.specs.AskEntries.{entries_in}
 use Rattle.rm_book.proofs.AskEntries.{gone, kept_removed}
 use Rattle.rm_book.proofs.attempts.Attempts.clear.Goals as goal

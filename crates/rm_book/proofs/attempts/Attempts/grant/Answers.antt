@@ -1,5 +1,4 @@
-use Rattle.std.proofs.Common.{◌∙◌, ap, sym, refl}
-use Rattle.std.specs.List.{list_any}
+use Rattle.rm_book.proofs.Common.{◌∙◌, ap, sym, refl, list_any}
 use Rattle.rm_book.specs.AskLines.{is_line_for, lines_granted}
 use Rattle.rm_book.proofs.AskEntries.{granted_entries, kept_granted, kept_still, lines_are}
 use Rattle.rm_book.proofs.attempts.Attempts.grant.Goals as goal

@@ -1,4 +1,4 @@
-use Rattle.std.proofs.Common.{◌∙◌}
+use Rattle.rm_book.proofs.Common.{◌∙◌}
 use Rattle.rm_book.proofs.attempts.Attempts.lines_of.Goals as goal
 
 pub returns-in-Some : goal.returns-in-Some

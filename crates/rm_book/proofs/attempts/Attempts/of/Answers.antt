@@ -1,4 +1,4 @@
-use Rattle.std.proofs.Common.{[], sym, ap, ◌∙◌, unwrap_or}
+use Rattle.rm_book.proofs.Common.{[], sym, ap, ◌∙◌, unwrap_or}
 use Rattle.rm_book.proofs.AskEntries.{lines_are}
 use Rattle.rm_book.proofs.attempts.Attempts.of.Goals as goal
 

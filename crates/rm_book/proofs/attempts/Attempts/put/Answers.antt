@@ -1,4 +1,4 @@
-use Rattle.std.proofs.Common.{◌∙◌, ap, sym, subst}
+use Rattle.rm_book.proofs.Common.{◌∙◌, ap, sym, subst}
 use Rattle.rm_book.specs.AskEntries.{AreKept, entries_in}
 use Rattle.rm_book.proofs.AskEntries.{entered, kept_entered}
 use Rattle.rm_book.proofs.attempts.Attempts.put.Goals as goal

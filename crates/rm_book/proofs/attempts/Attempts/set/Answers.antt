@@ -1,5 +1,4 @@
-use Rattle.std.proofs.Common.{◌∙◌, ap, sym, subst, List}
-use Rattle.rm_types.specs.declared.containers.AskLine.{AskLine}
+use Rattle.rm_book.proofs.Common.{◌∙◌, ap, sym, subst, List, AskLine}
 use Rattle.rm_book.specs.AskEntries.{AreKept, entries_in, lines_at}
 use Rattle.rm_book.specs.AskLines.{lines_set, with_lines}
 use Rattle.rm_book.proofs.AskEntries.{entered, kept_entered, lines_are}

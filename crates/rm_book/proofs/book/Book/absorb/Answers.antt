@@ -1,10 +1,4 @@
-use Rattle.std.proofs.Common.{◌≡◌, ◌+◌, ◌++◌, List, map, cond, length, refl, sym, ap, subst, ◌∙◌, arith}
-use Rattle.std.specs.Str.{bytes_eq}
-use Rattle.rm_types.specs.declared.containers.BookRow.{BookRow}
-use Rattle.rm_types.specs.declared.containers.ContainerState.TheVariants.{Running}
-use Rattle.rm_types.specs.declared.containers.Held.{Held}
-use Rattle.rm_types.specs.declared.resources.Resource.{Resource}
-use Rattle.rm_types.specs.Passes.{total_of}
+use Rattle.rm_book.proofs.Common.{◌≡◌, ◌+◌, ◌++◌, List, map, cond, length, refl, sym, ap, subst, ◌∙◌, arith, bytes_eq, BookRow, Running, Held, Resource, total_of}
 use Rattle.rm_book.specs.Books.{AreLiving, entering, total_on, with_capability}
 use Rattle.rm_book.specs.Kept.{entered_rows, nodes_shown}
 use Rattle.rm_book.proofs.AbsorbSteps.{absorbed_kept, entering_fits, fresh_entering, gone_of, left_after, living_left, ran_after}

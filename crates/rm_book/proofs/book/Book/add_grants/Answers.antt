@@ -1,11 +1,4 @@
-use Rattle.std.proofs.Common.{◌≡◌, ◌+◌, ◌++◌, List, map, cond, subst, sym, refl, ap, ◌∙◌}
-use Rattle.std.specs.Str.{bytes_eq}
-use Rattle.rm_types.specs.declared.containers.BookRow.{BookRow}
-use Rattle.rm_types.specs.declared.containers.ContainerState.TheVariants.{Granted}
-use Rattle.rm_types.specs.declared.containers.Held.{Held}
-use Rattle.rm_types.specs.declared.resources.Resource.{Resource}
-use Rattle.rm_types.specs.Passes.{total_of}
-use Rattle.rm_types.specs.Resources.{Fits}
+use Rattle.rm_book.proofs.Common.{◌≡◌, ◌+◌, ◌++◌, List, map, cond, subst, sym, refl, ap, ◌∙◌, bytes_eq, BookRow, Granted, Held, Resource, total_of, Fits}
 use Rattle.rm_book.specs.Books.{granted_rows, total_on}
 use Rattle.rm_book.specs.Kept.{entered_rows, held_of}
 use Rattle.rm_book.proofs.Batch.{entered_granted, fresh_grants}

@@ -1,5 +1,4 @@
-use Rattle.std.proofs.Common.{sym, ap, ◌∙◌}
-use Rattle.std.specs.Option.{option_map}
+use Rattle.rm_book.proofs.Common.{sym, ap, ◌∙◌, option_map}
 use Rattle.rm_book.proofs.Loads.{capability_shown}
 use Rattle.rm_book.proofs.book.Book.capability_of.Goals as goal
 

@@ -1,6 +1,4 @@
-use Rattle.std.proofs.Common.{not}
-use Rattle.std.specs.List.{list_any}
-use Rattle.rm_types.specs.Ids.{is_container}
+use Rattle.rm_book.proofs.Common.{not, list_any, is_container}
 use Rattle.rm_book.proofs.BookSteps.{left_kept}
 use Rattle.rm_book.proofs.book.Book.end_all.Goals as goal
 

@@ -1,5 +1,4 @@
-use Rattle.std.proofs.Common.{List, ap}
-use Rattle.rm_types.specs.declared.containers.BookRow.{BookRow}
+use Rattle.rm_book.proofs.Common.{List, ap, BookRow}
 use Rattle.rm_book.proofs.BookSteps.{ran_kept, seen}
 use Rattle.rm_book.proofs.book.Book.run.Goals as goal
 

@@ -1,6 +1,4 @@
-use Rattle.std.proofs.Common.{◌∷◌, ◌++◌, [], sym, ap, ◌∙◌}
-use Rattle.std.specs.Map.{keys_of}
-use Rattle.rm_types.specs.Ids.{is_container}
+use Rattle.rm_book.proofs.Common.{◌∷◌, ◌++◌, [], sym, ap, ◌∙◌, keys_of, is_container}
 use Rattle.rm_types.proofs.TestLemmas.{on_ok_map}
 use Rattle.rm_book.proofs.GroupSteps.{absent, changed_group, kept_group, on_err_map, one_more, there}
 use Rattle.rm_book.proofs.groups.Groups.add.Goals as goal

@@ -1,8 +1,6 @@
-use Rattle.std.proofs.Common.{refl, sym, ap, ◌∙◌, length}
-use Rattle.std.specs.Map.{keys_of}
+use Rattle.rm_book.proofs.Common.{refl, sym, ap, ◌∙◌, length, keys_of, is_container}
 use Rattle.indexmap.proofs.CallerLemmas.{keys-shift_remove_entry}
 use Rattle.indexmap.specs.IndexSet.{remove_key}
-use Rattle.rm_types.specs.Ids.{is_container}
 use Rattle.rm_book.specs.Kept.{ids_in, ids_under}
 use Rattle.rm_book.proofs.GroupSteps.{changed_group, no_group, there}
 use Rattle.rm_book.proofs.groups.Groups.leave.Goals as goal

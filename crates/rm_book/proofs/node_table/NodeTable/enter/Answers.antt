@@ -1,5 +1,4 @@
-use Rattle.std.proofs.Common.{sym, ap, ◌∙◌}
-use Rattle.std.specs.Str.{bytes_eq}
+use Rattle.rm_book.proofs.Common.{sym, ap, ◌∙◌, bytes_eq}
 use Rattle.indexmap.proofs.CallerLemmas.{insert_entry-new}
 use Rattle.rm_book.specs.declared.node_table.NodeLoad.{NodeLoad}
 use Rattle.rm_book.specs.Kept.{nodes_shown}

@@ -1,4 +1,4 @@
-use Rattle.std.proofs.Common.{sym, ap, ◌∙◌}
+use Rattle.rm_book.proofs.Common.{sym, ap, ◌∙◌}
 use Rattle.rm_book.specs.Kept.{nodes_shown}
 use Rattle.rm_book.proofs.Loads.{shown_offer}
 use Rattle.rm_book.proofs.node_table.NodeTable.set.Goals as goal

@@ -1,6 +1,4 @@
-use Rattle.std.proofs.Common.{sym, ◌∙◌}
-use Rattle.std.specs.Str.{bytes_eq}
-use Rattle.rm_types.specs.Ids.{is_app}
+use Rattle.rm_book.proofs.Common.{sym, ◌∙◌, bytes_eq, is_app}
 use Rattle.rm_book.proofs.GroupSteps.{at_err, at_ok}
 use Rattle.rm_book.proofs.Kept.{added_undone, added_kept, new_of, new_on, new_to, none_kept, same_kept}
 use Rattle.rm_book.proofs.row_table.RowTable.add.Goals as goal

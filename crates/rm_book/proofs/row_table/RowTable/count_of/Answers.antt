@@ -1,6 +1,4 @@
-use Rattle.std.proofs.Common.{length, ap, ◌∙◌}
-use Rattle.std.specs.Map.{values_of}
-use Rattle.rm_types.specs.Ids.{is_app}
+use Rattle.rm_book.proofs.Common.{length, ap, ◌∙◌, values_of, is_app}
 use Rattle.rm_book.proofs.Kept.{count_where}
 use Rattle.rm_book.proofs.row_table.RowTable.count_of.Goals as goal
 

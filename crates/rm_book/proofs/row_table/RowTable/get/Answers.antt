@@ -1,4 +1,4 @@
-use Rattle.std.proofs.Common.{◌∙◌}
+use Rattle.rm_book.proofs.Common.{◌∙◌}
 use Rattle.rm_book.proofs.Kept.{found_kept}
 use Rattle.rm_book.proofs.row_table.RowTable.get.Goals as goal
 

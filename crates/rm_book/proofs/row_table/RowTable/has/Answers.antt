@@ -1,4 +1,4 @@
-use Rattle.std.proofs.Common.{is_some, ap, ◌∙◌}
+use Rattle.rm_book.proofs.Common.{is_some, ap, ◌∙◌}
 use Rattle.rm_book.proofs.Kept.{has_kept}
 use Rattle.rm_book.proofs.GroupSteps.{some_copied}
 use Rattle.rm_book.proofs.row_table.RowTable.has.Goals as goal

@@ -1,9 +1,5 @@
-use Rattle.std.proofs.Common.{◌==◌, ◌&&◌, nat_lt, ap, ◌∙◌, rules}
-use Rattle.std.specs.List.{list_any}
-use Rattle.std.specs.Map.{values_of}
-use Rattle.rm_types.specs.declared.ids.ContainerId.{ContainerId}
-use Rattle.rm_types.specs.Ids.{is_attempt}
-use Rattle.std.proofs.Common.{Bool}
+use Rattle.rm_book.proofs.Common.{◌&&◌, nat_lt, ap, ◌∙◌, rules, list_any, values_of, ContainerId, is_attempt, Bool}
+use Rattle.std.proofs.Common.{◌==◌}
 use Rattle.rm_book.proofs.IdLists.{later_ids}
 use Rattle.rm_book.proofs.row_table.RowTable.has_later.Goals as goal
 

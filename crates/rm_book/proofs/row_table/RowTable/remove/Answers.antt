@@ -1,5 +1,4 @@
-use Rattle.std.proofs.Common.{sym, ap, ◌∙◌}
-use Rattle.std.specs.Map.{values_of}
+use Rattle.rm_book.proofs.Common.{sym, ap, ◌∙◌, values_of}
 use Rattle.rm_book.proofs.Kept.{found_kept, removed_kept, removed_none, removed_view}
 use Rattle.rm_book.proofs.row_table.RowTable.remove.Goals as goal
 

@@ -1,8 +1,4 @@
-use Rattle.std.proofs.Common.{◌≡◌, Some, sym, ap, ◌∙◌, rules}
-use Rattle.std.specs.Map.{lookup, set_value, values_of}
-use Rattle.rm_types.specs.declared.containers.BookRow.{BookRow}
-use Rattle.rm_types.specs.Ids.{is_container}
-use Rattle.rm_states.specs.container.Table.{next_container_state}
+use Rattle.rm_book.proofs.Common.{◌≡◌, Some, sym, ap, ◌∙◌, rules, lookup, set_value, values_of, BookRow, is_container, next_container_state}
 use Rattle.rm_book.specs.Kept.{RowsAreIndexed}
 use Rattle.rm_book.proofs.Kept.{has_kept, rows_stepped, stepped_kept, unstepped_view}
 use Rattle.rm_book.proofs.row_table.RowTable.step.Goals as goal

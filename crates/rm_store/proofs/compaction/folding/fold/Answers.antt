@@ -1,4 +1,4 @@
-use Rattle.std.proofs.Common.{◌-◌, length, drop, ap}
+use Rattle.rm_store.proofs.Common.{◌-◌, length, drop, ap}
 use Rattle.rm_store.proofs.compaction.Walked.{one_more}
 use Rattle.rm_store.proofs.compaction.folding.fold.Goals as goal
 

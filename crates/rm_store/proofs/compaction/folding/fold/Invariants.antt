@@ -1,5 +1,5 @@
-use Rattle.std.proofs.Common.{◌≡◌, ◌-◌, length, drop, reverse}
-use Rattle.rm_types.specs.Folded.{folded}
+use Rattle.rm_store.proofs.Common.{◌≡◌, ◌-◌, length, drop, folded}
+use Rattle.std.proofs.Common.{reverse}
 use Rattle.rm_store.specs.compaction.Later.{IsLater}
 use Rattle.rm_store.proofs.compaction.folding.fold.Given as goal
 

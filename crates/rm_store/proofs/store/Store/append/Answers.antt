@@ -1,6 +1,4 @@
-use Rattle.std.proofs.Common.{◌≡◌, true, false, List, sym, ap, subst, ◌∙◌, arith}
-use Rattle.rm_types.specs.declared.operations.Op.{Op}
-use Rattle.rm_types.specs.Records.{records, fits_records}
+use Rattle.rm_store.proofs.Common.{◌≡◌, true, false, List, sym, ap, subst, ◌∙◌, arith, Op, records, fits_records}
 use Rattle.rm_store.specs.Kept.{HasOps, LeavesOps, told_room}
 use Rattle.rm_store.specs.Store.{seen, IsBelowLast, LooksOwn, StaysOwn, room_behind}
 use Rattle.rm_store.proofs.Rooms.{room_told}

@@ -1,7 +1,6 @@
-use Rattle.std.proofs.Common.{◌∙◌, true, false}
+use Rattle.rm_store.proofs.Common.{◌∙◌, true, false, each_has}
 use Rattle.rm_disk.specs.FuseLaws.{keeps_fuse_same, keeps_fuse_on}
 use Rattle.rm_store.specs.Store.{seen}
-use Rattle.rm_journal.proofs.two_areas.Steps.{each_has}
 use Rattle.rm_store.proofs.SoFar.{content_of}
 use Rattle.rm_store.proofs.store.Store.open.Goals as goal
 

@@ -1,4 +1,4 @@
-use Rattle.std.proofs.Common.{not, ap, ◌∙◌}
+use Rattle.rm_store.proofs.Common.{not, ap, ◌∙◌}
 use Rattle.rm_store.proofs.compaction.folding.Later.keeps.Goals as goal
 
 pub returns : goal.returns
