@@ -16,7 +16,7 @@ pub fn end_row(rows: &mut RowTable, nodes: &mut NodeTable, id: ContainerId) -> O
     requires { AreUsed nodes.old.map.entries rows.old }
     ensures row { result ≡ find (is_of id) rows.old }
     ensures rest { rows.new ≡ filter (λ row. not (is_of id row)) rows.old }
-    ensures nodes_shown { nodes_shown nodes.new.map.entries ≡ nodes_shown nodes.old.map.entries }
+    ensures shown { nodes_shown nodes.new.map.entries ≡ nodes_shown nodes.old.map.entries }
     ensures used { AreUsed nodes.new.map.entries rows.new }
 {
     let row = rows.remove(id)?;
@@ -28,7 +28,7 @@ pub fn end_row(rows: &mut RowTable, nodes: &mut NodeTable, id: ContainerId) -> O
 pub fn end_each(rows: &mut RowTable, nodes: &mut NodeTable, ids: &[ContainerId])
     requires { AreUsed nodes.old.map.entries rows.old }
     ensures rest { rows.new ≡ filter (λ row. not (list_any (λ id. is_container id row.id) ids.now)) rows.old }
-    ensures nodes_shown { nodes_shown nodes.new.map.entries ≡ nodes_shown nodes.old.map.entries }
+    ensures shown { nodes_shown nodes.new.map.entries ≡ nodes_shown nodes.old.map.entries }
     ensures used { AreUsed nodes.new.map.entries rows.new }
 {
     'ids: for id in ids {

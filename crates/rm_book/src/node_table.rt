@@ -93,7 +93,7 @@ impl NodeTable {
     pub fn set(&mut self, node: Text, capability: Resource, more: Resource)
         requires room { 0 < spare self.old.map }
         requires within { IfSome (lookup (bytes_eq node) self.old.map.entries) FitsCapability }
-        ensures nodes_shown { nodes_shown self.new.map.entries ≡ with_capability node capability (nodes_shown self.old.map.entries) }
+        ensures shown { nodes_shown self.new.map.entries ≡ with_capability node capability (nodes_shown self.old.map.entries) }
         ensures loads { (other : List ℕ) → lookup (bytes_eq other) self.new.map.entries ≡ (if bytes_eq node other then Some (record { capability = capability; used = sum_with (used_in (lookup (bytes_eq other) self.old.map.entries)) more }) else lookup (bytes_eq other) self.old.map.entries) }
     {
         match self.map.get_mut(&node) {
@@ -109,7 +109,7 @@ impl NodeTable {
     fn enter(&mut self, node: Text, capability: Resource, used: Resource)
         requires room { 0 < spare self.old.map }
         requires none { lookup (bytes_eq node) self.old.map.entries ≡ None }
-        ensures nodes_shown { nodes_shown self.new.map.entries ≡ with_capability node capability (nodes_shown self.old.map.entries) }
+        ensures shown { nodes_shown self.new.map.entries ≡ with_capability node capability (nodes_shown self.old.map.entries) }
         ensures loads { (other : List ℕ) → lookup (bytes_eq other) self.new.map.entries ≡ (if bytes_eq node other then Some (record { capability = capability; used = sum_with (used_in (lookup (bytes_eq other) self.old.map.entries)) used }) else lookup (bytes_eq other) self.old.map.entries) }
     {
         let used = SizeSum {
@@ -125,7 +125,7 @@ impl NodeTable {
     /// More stands on a node, where it has a capability, which what stood there fits.
     pub fn raise(&mut self, node: &Text, size: Resource)
         requires { IfSome (lookup (bytes_eq node.now) self.old.map.entries) FitsCapability }
-        ensures nodes_shown { nodes_shown self.new.map.entries ≡ nodes_shown self.old.map.entries }
+        ensures shown { nodes_shown self.new.map.entries ≡ nodes_shown self.old.map.entries }
         ensures loads { (other : List ℕ) → lookup (bytes_eq other) self.new.map.entries ≡ option_map (λ load. if bytes_eq node.now other then record load { used = sum_with load.used size } else load) (lookup (bytes_eq other) self.old.map.entries) }
     {
         if let Some(load) = self.map.get_mut(node) {
@@ -136,7 +136,7 @@ impl NodeTable {
     /// Less stands on a node, where it has a capability; so much must stand there.
     pub fn lower(&mut self, node: &Text, size: Resource)
         requires { IfSome (lookup (bytes_eq node.now) self.old.map.entries) (λ load. Holds load.used size) }
-        ensures nodes_shown { nodes_shown self.new.map.entries ≡ nodes_shown self.old.map.entries }
+        ensures shown { nodes_shown self.new.map.entries ≡ nodes_shown self.old.map.entries }
         ensures loads { (other : List ℕ) → lookup (bytes_eq other) self.new.map.entries ≡ option_map (λ load. if bytes_eq node.now other then record load { used = sum_without load.used size } else load) (lookup (bytes_eq other) self.old.map.entries) }
     {
         if let Some(load) = self.map.get_mut(node) {

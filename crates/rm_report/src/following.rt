@@ -20,7 +20,7 @@ use std::alloc::Global;
 /// `NotAnId` comes only where the text is no id and can't be a node's name; `NotAPage` comes only where the bytes are no
 /// page, and names the first line that is none of one; `Memory` may come of any bytes.
 pub fn follow(alloc: Global, page: &[u8], id: &str) -> Result<Vec<u8>, ReportError>
-    ensures line_told { IfOk result (λ report. IsFollowed page.now id.now report.items) }
+    ensures told { IfOk result (λ report. IsFollowed page.now id.now report.items) }
     ensures not_an_id { result ≡ Err ReportError.NotAnId → IsText kinds.Node id.now → ⊥ }
     ensures not_a_page { (line : ℕ) → result ≡ Err (ReportError.NotAPage line) → IsNoPage page.now }
 {
