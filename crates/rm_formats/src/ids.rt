@@ -4,7 +4,7 @@
 //! ranges, that it otherwise says how far the bytes are the beginning of some such text, and that a writer
 //! appends an id's text. No two ids in their ranges have one text.
 //!
-//! It stands on `rm_types`, whose `Ranges` defines the ranges, on `rm_formats`, whose `IdTexts` defines the texts,
+//! It stands on `rm_types`, whose `Ranges` defines the ranges, on `IdTexts`, which defines the texts,
 //! and on `itoa` for digits. `Fronts` defines how far bytes go along some id's text.
 
 mod laws;

@@ -2,6 +2,8 @@
 //! log, the frames of store operations, and what a device holds. They are plain definitions in `specs/`: `IdTexts`, `Wording`,
 //! `Page`, `Frames` and `Device`, told in words in `docs/FORMATS.md`.
 //!
+//! `ids` reads and writes the texts of ids.
+//!
 //! It stands on `rm_types`, whose values it speaks of, and knows nothing of what the manager does.
 #![tactic(auto)]
 

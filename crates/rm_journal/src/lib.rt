@@ -5,6 +5,8 @@
 //! over every disk that keeps the trait `Disk`, anywhere on it. What bytes a journal is, and what it holds,
 //! is defined in `specs/Device.antt` of `rm_formats`.
 //!
+//! `two_areas` has two such regions, so that what one holds can be written anew into the other.
+//!
 //! It stands on `rm_disk`, and on the definitions of `rm_formats`.
 #![tactic(auto)]
 

@@ -5,7 +5,7 @@
 //! the payloads from before, or the added ones. `Reading` walks once over what a disk holds, and `Areas::open` and `next` read it
 //! payload by payload. What bytes two areas are, and where they are damaged, is defined in `specs/Areas.antt`.
 //!
-//! It stands on `rm_journal`, which it uses as it is for the current area, and on `rm_disk`.
+//! It stands on the journal of one region, which it uses as it is for the current area, and on `rm_disk`.
 
 mod areas;
 mod laws;

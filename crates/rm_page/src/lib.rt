@@ -4,8 +4,7 @@
 //! It also promises what a page tells: no two operations and no two messages have one text, and a line
 //! determines all of its entry but what `Shown` names.
 //!
-//! It stands on `rm_types` for the values, on `rm_formats` for the definitions, on `rm_ids` for the texts of ids,
-//! and on `itoa` for digits.
+//! It stands on `rm_types` for the values, on `rm_formats` for the definitions and the texts of ids, and on `itoa` for digits.
 #![tactic(auto)]
 
 mod entries;

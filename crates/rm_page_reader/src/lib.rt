@@ -7,7 +7,7 @@
 //! part answers.
 //!
 //! It stands on `rm_types` for the values, on `rm_page`, which writes what was read again, on `rm_script`, whose lines
-//! messages are, on `rm_ids` for the texts of ids, and on `itoa` for digits.
+//! messages are, on `rm_formats` for the texts of ids, and on `itoa` for digits.
 #![tactic(auto)]
 
 mod entries;

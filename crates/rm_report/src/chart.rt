@@ -4,7 +4,7 @@
 //! It promises that what is drawn is of the page that was handed, and that each node of which the page tells has a row. How things look is
 //! tried by tests alone.
 //!
-//! It stands on `rm_types` for the values, on `rm_page_reader`, which reads pages, on `rm_ids` for the texts of
+//! It stands on `rm_types` for the values, on `rm_page_reader`, which reads pages, on `rm_formats` for the texts of
 //! ids, on `indexmap` for what is found by its id, and on `itoa` for digits.
 
 mod bars;

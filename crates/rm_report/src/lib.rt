@@ -4,8 +4,10 @@
 //! page's summary, each number in its place. Of its `specs/`, `Naming` says which ids a line tells, `Meanings` what it means, and `Following`
 //! what is told of it; `Counting` says what is counted, and `Summaries` what is told of that.
 //!
+//! `chart` draws the run of a page, as an SVG.
+//!
 //! It stands on `rm_types` for the values, on `rm_page_reader`, which reads pages, on `rm_page`, which writes a line again, on
-//! `rm_ids` for the texts of ids, on `rm_frame` for the length of an operation, and on `itoa` for digits.
+//! `rm_formats` for the texts of ids, on `rm_frame` for the length of an operation, and on `itoa` for digits.
 #![tactic(auto)]
 
 pub mod chart;

@@ -4,7 +4,7 @@
 //! Attempts ask for their masters' containers, reports of nodes are absorbed, passes grant what fits first, and containers end. It takes its memory
 //! first, and leaves all as it was where there is none.
 //!
-//! It stands on `rm_tables`, whose book, asks, nodes and queues it changes, and on `rm_fit` for what a pass grants.
+//! It stands on `rm_tables`, whose book, asks, nodes and queues it changes. What a pass grants is found in `fit`.
 #![tactic(auto)]
 
 mod absorbing;

@@ -8,8 +8,7 @@
 //! others say what the private functions answer. Of a refused script `why` says the cause, for a person; a limit that is
 //! broken is told exactly where it is, as `Faults` says.
 //!
-//! It stands on the values of `rm_types`, on the wording of messages in `rm_formats`, on `rm_ids`, which
-//! reads ids, and on the law of `rm_page` that no two messages have one text.
+//! It stands on the values of `rm_types`, on `rm_formats`, which has the wording of messages and reads ids, and on the law of `rm_page` that no two messages have one text.
 #![tactic(auto)]
 
 mod clients;

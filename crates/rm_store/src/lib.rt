@@ -6,7 +6,8 @@
 //! one: so a store is full only where what is left of them has no room. Its contracts speak of operations
 //! alone: what bytes they are on a disk is `DeviceHolds`, in `specs/Content.antt`.
 //!
-//! It stands on `rm_areas`, `rm_folding`, `rm_frame` and `rm_tree`, and on the definitions of `rm_formats`.
+//! What is left of the operations is found in `compaction`. It stands on `rm_journal`, `rm_frame` and `rm_tree`, and on the definitions of
+//! `rm_formats`.
 #![tactic(auto)]
 
 mod appending;

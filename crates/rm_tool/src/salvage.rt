@@ -5,8 +5,8 @@
 //! bytes, and else the fault for which it doesn't. `old_operations` gives what is left of a whole store of the old form. `write_anew` writes
 //! operations as the store of a new disk: at every moment a crash leaves a store without operations or one with them all.
 //!
-//! It stands on `rm_journal`, `rm_areas` and `rm_store`, by whose definitions it says what stands in bytes and where they are damaged, on
-//! `rm_frame` and `rm_tree`, and on `rm_folding` for what is left of an old store.
+//! It stands on `rm_journal` and `rm_store`, by whose definitions it says what stands in bytes and where they are damaged and what is left of
+//! an old store, on `rm_frame` and on `rm_tree`.
 
 mod checks;
 mod errors;
