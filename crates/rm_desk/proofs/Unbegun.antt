@@ -1,5 +1,5 @@
 -- A desk before the first life of its script.
-use Rattle.std.proofs.Common.{◌≡◌, List, [], true, false, refl, sym, subst}
+use Rattle.std.proofs.Common.{◌≡◌, List, [], false, refl, sym, subst}
 use Rattle.rm_types.specs.declared.entries.Entry.{Entry}
 use Rattle.rm_types.specs.declared.operations.Op.{Op}
 use Rattle.rm_types.specs.declared.scripts.Script.{Script}

@@ -18,7 +18,7 @@ use Rattle.rm_types.specs.Ranges.{IsWithin, IsAppId, IsAttemptId, IsContainerId}
 use Rattle.rm_types.specs.Limits.{greatest_attempts, greatest_memory_mb, greatest_vcores}
 use Rattle.rm_types.specs.declared.limits.TheConstants.{EPOCHS, SEQUENCES, NUMBERS, STAMPS}
 use Rattle.rm_formats.specs.declared.codes.TheConstants.{EPOCH_CODE, APP_CODE, ATTEMPT_CODE, ATTEMPT_END_CODE, APP_END_CODE, REMOVE_CODE, FINISHED_CODE, KILLED_CODE}
-use Rattle.rm_frame.specs.Fields.{Field, ByteFrom, NumberFrom, TextOf, told_length, left_at_fault, stamp_field, number_field, kind_field, how_field, app_id_fields, attempt_id_fields, master_fields, submission_fields, end_fields, epoch_fields, layout, attempts_field, cores_field, memory_field}
+use Rattle.rm_frame.specs.Fields.{Field, NumberFrom, TextOf, told_length, left_at_fault, stamp_field, number_field, kind_field, how_field, app_id_fields, attempt_id_fields, master_fields, submission_fields, end_fields, epoch_fields, layout, attempts_field, cores_field, memory_field}
 use Rattle.rm_frame.specs.Framed.{IsFramed}
 use Rattle.rm_frame.specs.Reads.{TakesFields, StopsReading}
 use Rattle.rm_frame.proofs.Numbers.{IsWide, wide16, wide32, wide64, again_before}

@@ -1,5 +1,5 @@
 -- Each move brings the state of a container in the book along a row of its table, or leaves it.
-use Rattle.rm_invariant.proofs.Common.{◌≡◌, ◌⊎◌, inl, inr, ℕ, ◌+◌, List, [], ◌∷◌, ◌++◌, Bool, true, false, ◌&&◌, ◌||◌, not, Option, None, Some, filter, find, map, refl, sym, ◌∙◌, ap, subst, arith, nat_tests, if◌then◌else◌, list_any, bytes_eq, Ask, BookRow, Cause, Closing, ContainerState, Acquired, Running, Grant, Held, Entry, AppId, AttemptId, ContainerId, ClientAsk, ClockAsk, MasterAsk, NodeAsk, Op, Reply, Resource, is_container, same_container, AttemptState, BookOf, entering, granted_rows, is_of, book_row_taken, taken_rows, with_grants, book_with_taken, without_rows, is_held, is_granted, once, has_container, reported, master_reply, Scene, MainEvent, SchedEvent, NodeRow, AppRow, Current, Dialogue, Tables, absorbed_by, absorbed_if, taken_in, main_worked, sched_worked, kept, ended_by, is_masters_in, main_step, is_waiting_row, node_row, grants_on, updated_by, is_released, queued_at, queued_by, queued_with, sched_step, History, abstract_scene, RefinesLife, after_client, taken_by, wished_by, acquired, acquired_row, after_master, is_new_to, goes_on, spoken_by, after_clock, after_node, beaten_book, is_next_beat, is_row_on, is_untold_row, registered_by}
+use Rattle.rm_invariant.proofs.Common.{◌≡◌, ◌⊎◌, inl, inr, ℕ, ◌+◌, List, [], ◌∷◌, ◌++◌, Bool, true, false, ◌&&◌, ◌||◌, not, Option, None, Some, filter, find, map, refl, sym, ◌∙◌, ap, subst, arith, nat_tests, if◌then◌else◌, list_any, bytes_eq, Ask, BookRow, Cause, Closing, ContainerState, Acquired, Running, Grant, Held, Entry, AttemptId, ContainerId, ClientAsk, ClockAsk, MasterAsk, NodeAsk, Op, Reply, Resource, is_container, same_container, AttemptState, BookOf, entering, granted_rows, is_of, book_row_taken, taken_rows, with_grants, book_with_taken, without_rows, is_held, is_granted, once, has_container, reported, master_reply, Scene, MainEvent, SchedEvent, NodeRow, AppRow, Current, Dialogue, Tables, absorbed_by, absorbed_if, taken_in, main_worked, sched_worked, kept, ended_by, is_masters_in, main_step, is_waiting_row, node_row, grants_on, updated_by, is_released, queued_at, queued_by, queued_with, sched_step, History, abstract_scene, RefinesLife, after_client, taken_by, wished_by, acquired, acquired_row, after_master, is_new_to, goes_on, spoken_by, after_clock, after_node, beaten_book, is_next_beat, is_row_on, is_untold_row, registered_by}
 use Rattle.std.proofs.Common.{◌==◌, nat_lt, IfSome, is_some, option_map}
 use Rattle.rm_types.specs.declared.containers.Cause.TheVariants as causes
 use Rattle.rm_types.specs.declared.containers.ContainerState.TheVariants.{Granted, Completed}

@@ -1,5 +1,5 @@
 -- Each move brings the state of a node along a row of its table, or leaves it.
-use Rattle.rm_invariant.proofs.Common.{◌≡◌, ◌⊎◌, inl, inr, ℕ, ◌+◌, List, [], ◌∷◌, ◌++◌, Bool, true, false, ◌&&◌, Option, None, Some, filter, refl, sym, ◌∙◌, ap, subst, bytes_eq, BookRow, Cause, Held, Entry, AppId, AttemptId, ContainerId, ClientAsk, ClockAsk, MasterAsk, NodeAsk, Op, Reply, Resource, same_text, AttemptState, BookOf, once, MainEvent, SchedEvent, NodeChange, NodeRow, AppRow, Current, Tables, absorbed_by, absorbed_if, unlaunched_here, unlaunched_on, main_worked, sched_worked, kept, ended_by, unlaunched, unlaunched_at, unlaunched_one, main_step, beaten_row, changed_row, is_waiting_row, new_node_row, node_row, ordered_row, registered_node_row, with_node, updated_by, row_of, is_on, is_released, queued_at, queued_by, queued_with, sched_step, other_added, other_row, own_row, after_client, taken_by, wished_by, after_master, is_new_to, goes_on, spoken_by, after_clock, after_node, is_next_beat, registered_by}
+use Rattle.rm_invariant.proofs.Common.{◌≡◌, ◌⊎◌, inl, ℕ, ◌+◌, List, [], ◌∷◌, ◌++◌, Bool, true, false, ◌&&◌, Option, None, Some, filter, refl, sym, ◌∙◌, subst, bytes_eq, BookRow, Cause, Entry, AttemptId, ContainerId, ClientAsk, ClockAsk, MasterAsk, NodeAsk, Op, Reply, same_text, AttemptState, BookOf, once, MainEvent, SchedEvent, NodeRow, AppRow, Current, Tables, absorbed_by, absorbed_if, unlaunched_here, unlaunched_on, main_worked, sched_worked, kept, ended_by, unlaunched, unlaunched_at, unlaunched_one, main_step, beaten_row, changed_row, is_waiting_row, new_node_row, node_row, ordered_row, registered_node_row, with_node, updated_by, row_of, is_on, is_released, queued_at, queued_by, queued_with, sched_step, other_added, other_row, own_row, after_client, taken_by, wished_by, after_master, is_new_to, goes_on, spoken_by, after_clock, after_node, is_next_beat, registered_by}
 use Rattle.std.proofs.Common.{◌≢◌, ◌==◌, nat_lt, option_map}
 use Rattle.rm_types.specs.declared.containers.Cause.TheVariants as causes
 use Rattle.rm_types.specs.declared.messages.ClientAsk.TheVariants as clients

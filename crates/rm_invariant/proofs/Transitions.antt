@@ -1,6 +1,6 @@
 -- Each move brings the state of an application, and that of its current attempt, along a row of its table, or leaves it.
-use Rattle.rm_invariant.proofs.Common.{◌≡◌, ◌⊎◌, inl, inr, ℕ, ◌+◌, length, arith, List, [], ◌∷◌, ◌++◌, Bool, true, false, Option, None, Some, fold, drop, refl, sym, ◌∙◌, ap, subst, Closing, Grant, Entry, AppId, AttemptId, ContainerId, How, Op, is_app, ClientAsk, ClockAsk, MasterAsk, NodeAsk, Submission, Reply, dialogue_begun, registered_row, said_row, told_row, with_answer, with_text, without_closings, after_client, submitted_row, taken_by, wished_by, after_master, is_new_to, goes_on, spoken_by, after_clock, after_node, Settings, same_app, attempts_in, found_in, next_in, AppState, next_app_state, AttemptState, AttemptChange, RowChange, MainEvent, SchedEvent, AppRow, Current, Tables, main_worked, sched_worked, after_failure, attempt_after, changed, current_after, granted, granted_at, kept, closed_in, main_step, rows_after_grant, is_retired, row_of, with_row, sched_step, closings_for, History}
-use Rattle.std.proofs.Common.{nat_lt, option_map}
+use Rattle.rm_invariant.proofs.Common.{◌≡◌, ◌⊎◌, inl, inr, ℕ, ◌+◌, length, arith, List, [], ◌∷◌, ◌++◌, Bool, true, false, Option, None, Some, fold, refl, sym, ◌∙◌, ap, subst, Closing, Grant, Entry, AppId, AttemptId, ContainerId, How, Op, is_app, ClientAsk, ClockAsk, MasterAsk, NodeAsk, Reply, dialogue_begun, registered_row, said_row, told_row, with_answer, with_text, without_closings, after_client, submitted_row, taken_by, wished_by, after_master, is_new_to, goes_on, spoken_by, after_clock, after_node, Settings, same_app, attempts_in, found_in, next_in, AppState, next_app_state, AttemptState, AttemptChange, RowChange, MainEvent, SchedEvent, AppRow, Current, Tables, main_worked, sched_worked, after_failure, attempt_after, changed, current_after, granted, granted_at, kept, closed_in, main_step, rows_after_grant, row_of, with_row, sched_step, closings_for, History}
+use Rattle.std.proofs.Common.{option_map}
 use Rattle.rm_types.specs.declared.operations.How.TheVariants as ways
 use Rattle.rm_types.specs.declared.operations.Op.TheVariants as ops
 use Rattle.rm_types.specs.declared.messages.ClientAsk.TheVariants as clients
@@ -28,11 +28,11 @@ use Rattle.rm_states.proofs.attempt.Rows.{stays_or_row as attempt_stays_or_row}
 use Rattle.rm_tables.specs.declared.changes.AttemptChange.TheVariants as of_attempt
 use Rattle.rm_tables.specs.declared.changes.RowChange.TheVariants as of_app
 use Rattle.rm_tables.specs.Changes.{changed_state}
-use Rattle.rm_invariant.specs.apps.View.{changed_if, gone_if, put_if}
-use Rattle.rm_invariant.proofs.apps.Found.{row_changed, row_put}
+use Rattle.rm_invariant.specs.apps.View.{changed_if, gone_if}
+use Rattle.rm_invariant.proofs.apps.Found.{row_changed}
 use Rattle.rm_invariant.proofs.apps.Removing.{row_gone}
 use Rattle.rm_invariant.proofs.events.Told.{rows_told, telling_more}
-use Rattle.rm_invariant.proofs.messages.Shapes.{RowsAfter, RowsBy, SchedShape, Shape, main_shape, sched_shape}
+use Rattle.rm_invariant.proofs.messages.Shapes.{RowsAfter, SchedShape, sched_shape}
 use Rattle.rm_invariant.specs.Transitions.{AppFollowsTable, AttemptFollowsTable, CurrentFollowsTable, RowFollowsTables, RowsFollowTables}
 
 -- ONE ROW

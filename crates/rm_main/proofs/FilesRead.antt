@@ -1,13 +1,11 @@
 -- Which files of a run were read, by what it came to.
-use Rattle.std.proofs.Common.{◌≡◌, ◌⊎◌, ℕ, List, Option, None, Some, inl, inr, refl, subst, sym}
+use Rattle.std.proofs.Common.{◌≡◌, ◌⊎◌, ℕ, List, Option, inl, inr}
 use Rattle.rm_types.specs.declared.outcomes.Outcome.{Outcome}
 use Rattle.rm_types.specs.declared.outcomes.Outcome.TheVariants.{Done, Usage, ReadFault, WriteFault, ClusterRefused, ScriptRefused, ScheduleRefused, DiskFault, StoreDamaged, StoreFull, EpochsSpent, Memory}
-use Rattle.rm_types.specs.declared.scripts.Script.{Script}
-use Rattle.rm_main.specs.Inputs.{IsOneMore, IsUnread, StopsAtCluster, StopsAtScript}
-use Rattle.rm_main.specs.Runs.{IsScriptOf, ReadsAllFiles, ReadsBy, ReadsFor, ReadsScript}
+use Rattle.rm_main.specs.Inputs.{IsUnread, StopsAtCluster, StopsAtScript}
+use Rattle.rm_main.specs.Runs.{ReadsAllFiles, ReadsBy, ReadsScript}
 use Rattle.rm_outside.specs.Shelves.{ShelfTells}
 use Rattle.rm_main.specs.Ways.{IsOfRun}
-use Rattle.rm_words.specs.Words.{Asked, Listing, Run, Soak}
 
 module _ {F : Type 0} (reads : List ℕ → F → F → Type 0) (told : ShelfTells) (cluster script : List ℕ) (schedule : Option (List ℕ)) (old new : F) where
   -- a run that stopped at its cluster file read that alone

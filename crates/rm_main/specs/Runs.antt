@@ -1,5 +1,5 @@
 -- What a call of the program leaves: by its outcome, the log, the device's falls and what the sink took.
-use Rattle.std.specs.Prelude.{◌≡◌, ◌⊎◌, ℕ, ◌≤◌, List, [], ◌++◌, Bool, true, false, Option, None, Some, IfSome, length, take}
+use Rattle.std.specs.Prelude.{◌≡◌, ◌⊎◌, ℕ, ◌≤◌, List, [], ◌++◌, Bool, true, false, Option, None, Some, length, take}
 use Rattle.std.specs.Io.KnownBytes.{Appends}
 use Rattle.std.specs.declared.alloc.Global.{Global}
 use Rattle.rm_types.specs.declared.entries.Entry.{Entry}
@@ -15,7 +15,7 @@ use Rattle.rm_model.specs.Downs.{AllGoDownAtRest}
 use Rattle.rm_model.specs.Lawful.{Lawful, IsDone}
 use Rattle.rm_formats.specs.Page.{page, store_page}
 use Rattle.rm_model.specs.State.{opening_state}
-use Rattle.rm_outside.specs.Shelves.{bytes_read, ShelfTells, WereRead}
+use Rattle.rm_outside.specs.Shelves.{ShelfTells, WereRead}
 use Rattle.rm_outside.specs.Writes.{AppendsPart}
 use Rattle.rm_cluster.specs.Clusters.{IsCluster, IsNoCluster}
 use Rattle.rm_cluster.specs.declared.clusters.ClusterError.TheVariants.{Refused}

@@ -1,5 +1,5 @@
 -- Containers become Acquired one by one, as all at once.
-use Rattle.rm_master.proofs.Common.{◌≡◌, ℕ, ◌+◌, List, [], ◌∷◌, ◌++◌, Bool, true, false, ◌||◌, find, map, length, take, refl, sym, ◌∙◌, ap, subst, arith, if◌then◌else◌, list_any, BookRow, Closing, ContainerState, Acquired, Grant, ContainerId, Reply, Allocated, BookOf}
+use Rattle.rm_master.proofs.Common.{◌≡◌, ℕ, ◌+◌, List, [], ◌∷◌, ◌++◌, Bool, true, false, ◌||◌, find, map, length, take, refl, sym, ◌∙◌, ap, subst, arith, if◌then◌else◌, BookRow, Closing, ContainerState, Acquired, Grant, ContainerId, Reply, Allocated, BookOf}
 use Rattle.std.proofs.Common.{zero, suc, ◌<◌, IfSome, get_or}
 use Rattle.std.proofs.lemmas.List.{map-append, take_more}
 use Rattle.std.proofs.lemmas.List.Folds.{list_any-append}

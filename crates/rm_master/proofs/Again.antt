@@ -6,7 +6,7 @@ use Rattle.rm_types.proofs.IdLemmas.{same_attempt, same_app}
 use Rattle.rm_book.specs.AskTables.{AsksOf}
 use Rattle.rm_states.specs.declared.attempt.states.AttemptState.{AttemptState}
 use Rattle.rm_states.specs.declared.attempt.states.AttemptState.TheVariants as attempts
-use Rattle.rm_model.specs.State.{Endings, LifeState}
+use Rattle.rm_model.specs.State.{Endings}
 use Rattle.rm_tables.specs.declared.events.MainEvent.{MainEvent}
 use Rattle.rm_tables.specs.declared.events.SchedEvent.{SchedEvent}
 use Rattle.rm_tables.specs.declared.rows.Current.{Current}

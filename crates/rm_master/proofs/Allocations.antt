@@ -1,12 +1,11 @@
 -- What an allocation is answered from the tables is what the judge answers, where the tables show the judge's scene.
-use Rattle.rm_master.proofs.Common.{◌≡◌, ℕ, ◌+◌, List, Bool, true, false, not, ◌&&◌, Option, None, Some, is_some, is_none, filter, map, length, count_by, refl, sym, ◌∙◌, ap, subst, if◌then◌else◌, option_map, ◌==◌, nat_lt, list_any, eqb-true, Ask, Closing, Grant, AttemptId, Reply, Resync, WrongId, TooLarge, Full, Allocated, is_attempt, MasterState, Scene, is_live, is_registered, master_of, has_app, untold_rows, with_asks, AppRow, Dialogue, Tables, is_masters_in, row_of, bare_dialogue, closings_for, plain_dialogue, RefinesLife, lives_by}
+use Rattle.rm_master.proofs.Common.{◌≡◌, ℕ, ◌+◌, List, Bool, true, false, not, ◌&&◌, Option, None, Some, is_none, filter, map, length, refl, sym, ◌∙◌, ap, subst, if◌then◌else◌, option_map, ◌==◌, nat_lt, eqb-true, Ask, Closing, Grant, AttemptId, Reply, Resync, WrongId, TooLarge, Full, Allocated, MasterState, Scene, is_live, is_registered, master_of, has_app, untold_rows, with_asks, AppRow, Dialogue, Tables, is_masters_in, row_of, bare_dialogue, closings_for, plain_dialogue, RefinesLife, lives_by}
 use Rattle.rm_types.specs.Records.{Records}
 use Rattle.rm_book.specs.Granted.{grants_to}
-use Rattle.rm_book.specs.AskTables.{attempt_asks as asks_in}
 use Rattle.rm_book.specs.ManyAsks.{asks_after}
-use Rattle.rm_model.specs.MasterReplies.{allocate_reply, allocated_reply, allocation_reply, has_too_many as too_many_told, outbox_of}
+use Rattle.rm_model.specs.MasterReplies.{allocate_reply, allocated_reply, allocation_reply, has_too_many as too_many_told}
 use Rattle.rm_refinement.specs.Agreement.{ClosingsAgree, PlainDialogue}
-use Rattle.rm_master.specs.Told.{allocate_told, allocated_told, asks_too_much, closings_told, grants_told, asks_too_many, living_row, new_told, said_told, spoken_told}
+use Rattle.rm_master.specs.Told.{allocate_told, allocated_told, asks_too_much, closings_told, asks_too_many, living_row, new_told, said_told, spoken_told}
 use Rattle.rm_master.proofs.Asked.{lines_told, many_told}
 use Rattle.rm_master.proofs.Granted.{endings_same, grants_same}
 use Rattle.rm_master.proofs.Replies.{Lives, lives_here, none_lives, row_lives}

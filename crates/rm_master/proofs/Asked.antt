@@ -1,10 +1,9 @@
 -- What attempts ask for, by the judge's lines, after many asks of one of them: the same as in the tables.
 use Rattle.rm_master.proofs.Common.{◌≡◌, ℕ, List, [], ◌∷◌, ◌++◌, Bool, true, false, not, ◌&&◌, filter, map, length, count_by, refl, sym, ◌∙◌, ap, arith, ◌==◌, if◌then◌else◌, list_any, false≢true, nat_tests, Ask, AttemptId, is_attempt, with_asks}
-use Rattle.std.proofs.lemmas.List.{length-map, map-append}
-use Rattle.std.proofs.lemmas.List.Elements.{filter-append}
+use Rattle.std.proofs.lemmas.List.{length-map}
 use Rattle.std.proofs.lemmas.List.Sums.{length-filter}
 use Rattle.rm_types.specs.declared.containers.AskOf.{AskOf}
-use Rattle.rm_types.proofs.IdLemmas.{attempt_back, same_attempt, attempt_itself}
+use Rattle.rm_types.proofs.IdLemmas.{same_attempt, attempt_itself}
 use Rattle.rm_book.specs.AskTables.{AsksOf, attempt_asks as asks_in, asks_set, is_for, renewed_ask, with_asks_of}
 use Rattle.rm_book.specs.ManyAsks.{all_asked, asks_after, one_asked}
 use Rattle.rm_model.specs.MasterReplies.{is_line_of, with_ask}

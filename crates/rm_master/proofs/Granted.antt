@@ -1,12 +1,12 @@
 -- What a master is told of, from the tables and by the judge: grants and endings.
-use Rattle.rm_master.proofs.Common.{◌≡◌, ℕ, List, [], ◌∷◌, Bool, true, false, not, ◌&&◌, ◌||◌, Option, None, Some, is_some, filter, find, map, refl, sym, ◌∙◌, ap, arith, if◌then◌else◌, list_any, false≢true, nat_tests, BookRow, Closing, ContainerState, Acquired, Grant, AttemptId, ContainerId, is_app, is_attempt, Row, Scene, untold_rows, is_masters_in, SameRows, closings_for}
+use Rattle.rm_master.proofs.Common.{◌≡◌, ℕ, List, [], ◌∷◌, Bool, true, false, not, ◌&&◌, ◌||◌, Option, None, Some, is_some, filter, find, map, refl, sym, ◌∙◌, ap, arith, if◌then◌else◌, false≢true, nat_tests, BookRow, Closing, ContainerState, Acquired, Grant, AttemptId, ContainerId, is_app, is_attempt, Row, Scene, untold_rows, is_masters_in, SameRows, closings_for}
 use Rattle.rm_types.specs.declared.containers.ContainerState.TheVariants.{Granted, Running, Completed}
 use Rattle.rm_types.specs.declared.ids.AppId.{AppId}
 use Rattle.rm_types.specs.declared.records.AppRecord.{AppRecord}
 use Rattle.rm_types.specs.declared.records.AttemptRecord.{AttemptRecord}
 use Rattle.rm_types.specs.Ids.{is_container}
 use Rattle.rm_types.specs.Records.{is_some_and, record_of}
-use Rattle.rm_book.specs.Granted.{row_grant, grants_to, is_granted_to}
+use Rattle.rm_book.specs.Granted.{row_grant, grants_to}
 use Rattle.rm_types.specs.Containers.{is_granted as is_granted_in, is_granted}
 use Rattle.rm_model.specs.Attempts.{is_masters}
 use Rattle.rm_model.specs.Facts.{attempts_in}

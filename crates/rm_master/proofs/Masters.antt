@@ -1,5 +1,5 @@
 -- The judge's masters after one registers, and after one changes: that one is found so, and each other as it was.
-use Rattle.rm_master.proofs.Common.{◌≡◌, ℕ, List, [], ◌∷◌, ◌++◌, Bool, true, false, Option, None, Some, is_some, find, map, refl, sym, ◌∙◌, ap, arith, if◌then◌else◌, option_map, false≢true, nat_tests, AttemptId, is_attempt, MasterState, session_of}
+use Rattle.rm_master.proofs.Common.{◌≡◌, ℕ, List, [], ◌∷◌, ◌++◌, Bool, true, false, None, Some, map, refl, ◌∙◌, if◌then◌else◌, option_map, false≢true, AttemptId, is_attempt, MasterState, session_of}
 use Rattle.rm_types.proofs.IdLemmas.{attempt_itself}
 use Rattle.rm_master.proofs.Asked.{not_both}
 

@@ -1,20 +1,20 @@
 -- What a master is answered from the tables is what the judge answers, where the tables show the judge's scene.
-use Rattle.rm_master.proofs.Common.{◌≡◌, ℕ, ◌+◌, List, [], ◌∷◌, ◌++◌, Bool, true, false, not, ◌&&◌, ◌||◌, Option, None, Some, is_some, is_none, filter, find, map, length, count_by, refl, sym, ◌∙◌, ap, subst, arith, if◌then◌else◌, option_map, ◌==◌, nat_lt, list_any, eqb-true, nat_tests, Ask, AttemptId, MasterAsk, Register, Finish, Allocate, Reply, Resync, WrongId, TooLarge, Full, Allocated, is_app, is_attempt, MasterState, Scene, is_live, is_registered, master_of, has_app, is_alive, AppRow, Dialogue, Tables, row_of, bare_dialogue, plain_dialogue, RefinesLife, lives_by}
+use Rattle.rm_master.proofs.Common.{◌≡◌, ℕ, ◌+◌, List, [], ◌∷◌, ◌++◌, Bool, true, false, ◌&&◌, ◌||◌, Option, None, Some, is_some, is_none, find, refl, sym, ◌∙◌, ap, if◌then◌else◌, option_map, ◌==◌, AttemptId, Reply, is_attempt, MasterState, Scene, is_live, is_registered, master_of, has_app, is_alive, AppRow, Dialogue, Tables, row_of, bare_dialogue, plain_dialogue, RefinesLife, lives_by}
 use Rattle.std.specs.Prelude.{option_and_then}
 use Rattle.rm_types.specs.declared.operations.How.{How}
 use Rattle.rm_types.specs.declared.records.AppRecord.{AppRecord}
 use Rattle.rm_types.specs.declared.records.AttemptRecord.{AttemptRecord}
-use Rattle.rm_types.specs.declared.replies.Reply.TheVariants.{MasterRegistered, Already, Gone, NotRegistered, Finishing, Finished}
-use Rattle.rm_types.specs.Records.{is_some_and, record_of, last_attempt, records, is_finished}
-use Rattle.rm_model.specs.Attempts.{attempt_end, finishing_text, has_registered, is_finishing, is_last}
-use Rattle.rm_model.specs.Facts.{attempts_in, awaits, end_in, kept_end}
-use Rattle.rm_model.specs.MasterReplies.{finish_reply, finished_issued, is_finished_op, register_reply}
+use Rattle.rm_types.specs.declared.replies.Reply.TheVariants.{NotRegistered, Finishing, Finished}
+use Rattle.rm_types.specs.Records.{is_some_and, records, is_finished}
+use Rattle.rm_model.specs.Attempts.{attempt_end, has_registered, is_finishing, is_last}
+use Rattle.rm_model.specs.Facts.{attempts_in, awaits, kept_end}
+use Rattle.rm_model.specs.MasterReplies.{finish_reply, is_finished_op, register_reply}
 use Rattle.rm_tables.specs.declared.rows.Current.{Current}
 use Rattle.rm_tables.specs.Actions.{found_in}
 use Rattle.rm_tables.specs.Leaving.{attempt_in}
-use Rattle.rm_refinement.specs.Agreement.{AttemptAgrees, CurrentAgrees, RowAgrees}
+use Rattle.rm_refinement.specs.Agreement.{CurrentAgrees, RowAgrees}
 use Rattle.rm_refinement.specs.Services.{finishes_by, lives_with}
-use Rattle.rm_master.specs.Told.{finish_told, finished_in, goes_on, has_ended_with, has_finished, is_finished_end, living_row, master_register_told, spoken_by, spoken_in}
+use Rattle.rm_master.specs.Told.{finish_told, finished_in, has_ended_with, has_finished, is_finished_end, living_row, master_register_told, spoken_by}
 
 -- an attempt that lives: its application has this row, and this is the current attempt of it
 pub record Lives (m : Scene) (t : Tables) (attempt : AttemptId) : Type 0 where

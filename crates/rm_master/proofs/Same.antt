@@ -1,10 +1,9 @@
 -- After each message of a master the tables show the judge's scene again, in which the life is the one after that message.
-use Rattle.rm_master.proofs.Common.{◌≡◌, ℕ, ◌+◌, List, [], ◌∷◌, ◌++◌, Bool, true, false, not, ◌&&◌, ◌||◌, Option, None, Some, is_some, is_none, filter, map, refl, sym, ◌∙◌, ap, subst, arith, if◌then◌else◌, option_map, ◌==◌, list_any, eqb-true, false≢true, nat_tests, Ask, BookRow, Closing, ContainerState, Acquired, Grant, AttemptId, ContainerId, MasterAsk, Register, Finish, Allocate, Reply, Resync, WrongId, TooLarge, Full, Allocated, is_attempt, MasterState, Row, Scene, is_live, is_registered, master_of, untold_rows, with_asks, is_alive, AppRow, Dialogue, Tables, row_of, SameRows, bare_dialogue, closings_for, session_of, plain_dialogue, RefinesLife, lives_by}
+use Rattle.rm_master.proofs.Common.{◌≡◌, ℕ, ◌+◌, List, [], ◌∷◌, ◌++◌, Bool, true, false, not, ◌&&◌, ◌||◌, Option, None, Some, is_some, is_none, map, refl, sym, ◌∙◌, ap, subst, arith, if◌then◌else◌, option_map, ◌==◌, list_any, eqb-true, false≢true, nat_tests, Ask, BookRow, Acquired, Grant, AttemptId, ContainerId, MasterAsk, Register, Finish, Allocate, Reply, Resync, TooLarge, Full, Allocated, is_attempt, MasterState, Row, Scene, is_live, is_registered, master_of, untold_rows, with_asks, is_alive, Dialogue, Tables, row_of, SameRows, bare_dialogue, plain_dialogue, RefinesLife, lives_by}
 use Rattle.rm_types.specs.declared.replies.Reply.TheVariants.{MasterRegistered, Already, Gone, NotRegistered, Finishing, Finished}
 use Rattle.rm_types.specs.Resources.{fits}
 use Rattle.rm_states.specs.declared.attempt.states.AttemptState.TheVariants as attempts
 use Rattle.rm_book.proofs.Lists.{map_view}
-use Rattle.rm_model.specs.State.{Release}
 use Rattle.rm_model.specs.Attempts.{is_finishing, is_last}
 use Rattle.rm_model.specs.Containers.{released_by}
 use Rattle.rm_model.specs.Facts.{has_container, kept_end}
@@ -15,8 +14,8 @@ use Rattle.rm_states.specs.declared.attempt.states.AttemptEvent.TheVariants as a
 use Rattle.rm_states.specs.attempt.Table.{next_attempt_state as next_attempt_state}
 use Rattle.rm_tables.specs.Talks.{dialogue_begun, registered_row, said_row, told_row, with_answer, with_text, without_closings}
 use Rattle.rm_refinement.specs.Agreement.{PlainDialogue, PlainRow, bare_row, plain_row}
-use Rattle.rm_master.specs.Answers.{acquired, acquired_row, after_master, allocated_with, ids_granted, is_new_to, registered, release_events, said, containers_told}
-use Rattle.rm_master.specs.Told.{goes_on, living_row, spoken_by}
+use Rattle.rm_master.specs.Answers.{acquired, acquired_row, after_master, allocated_with, ids_granted, is_new_to, registered, said}
+use Rattle.rm_master.specs.Told.{goes_on, spoken_by}
 use Rattle.rm_master.proofs.Again.{again}
 use Rattle.rm_master.proofs.Allocations.{closings_alike}
 use Rattle.rm_master.proofs.Asked.{many_same}

@@ -1,5 +1,5 @@
 -- What masters are answered, read off the tables, and the range of what they say. This project's own.
-use Rattle.std.specs.Prelude.{ℕ, ◌+◌, List, [], Bool, true, false, ◌&&◌, ◌||◌, not, ◌==◌, nat_lt, filter, length, Option, None, Some, is_some, option_and_then, if◌then◌else◌}
+use Rattle.std.specs.Prelude.{ℕ, ◌+◌, List, [], Bool, false, ◌&&◌, ◌||◌, not, ◌==◌, nat_lt, filter, length, Option, None, Some, is_some, if◌then◌else◌}
 use Rattle.std.specs.List.{list_any}
 use Rattle.rm_types.specs.declared.containers.Ask.{Ask}
 use Rattle.rm_types.specs.declared.containers.Closing.{Closing}

@@ -3,12 +3,12 @@ use Rattle.std.proofs.Common.{◌≡◌, ◌≢◌, ℕ, zero, suc, ◌-◌, ◌
 use Rattle.std.specs.Prelude.{slice_get, ◌↔◌}
 use Rattle.std.proofs.lemmas.Bool.Decides.{eqb_tells}
 use Rattle.std.proofs.lemmas.List.{length-drop}
-use Rattle.std.proofs.lemmas.Option.{slice_get_past, same_Some}
+use Rattle.std.proofs.lemmas.Option.{slice_get_past}
 use Rattle.rm_script.specs.declared.faults.Limit.{Limit}
 use Rattle.rm_script.specs.declared.faults.ScriptFault.{ScriptFault}
 use Rattle.rm_script.specs.declared.faults.ScriptFault.TheVariants as faults
 use Rattle.rm_script.specs.Lines.{lines_of}
-use Rattle.rm_script.specs.Faults.{line_at, broken_limit, IsOtherFault}
+use Rattle.rm_script.specs.Faults.{line_at, IsOtherFault}
 use Rattle.rm_script.proofs.Loop.{IsCut}
 
 -- what stands first behind so many elements is the one at that place

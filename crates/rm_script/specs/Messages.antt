@@ -1,8 +1,6 @@
 -- The messages that a line may say: each part is in its range. The ranges are this project's own.
-use Rattle.std.specs.Prelude.{◌≡◌, ℕ, ◌<◌, ◌≤◌, List, length, All}
+use Rattle.std.specs.Prelude.{◌≡◌, ℕ, ◌<◌, ◌≤◌, List, length}
 use Rattle.rm_types.specs.Ranges.{IsText, IsWithin, IsAppId, IsAttemptId, IsContainerId}
-use Rattle.rm_types.specs.declared.containers.Ask.{Ask}
-use Rattle.rm_types.specs.declared.containers.Held.{Held}
 use Rattle.rm_types.specs.declared.messages.ClientAsk.{ClientAsk}
 use Rattle.rm_types.specs.declared.messages.ClientAsk.TheVariants as clients
 use Rattle.rm_types.specs.declared.messages.ClockAsk.{ClockAsk}
@@ -14,9 +12,8 @@ use Rattle.rm_types.specs.declared.messages.NodeAsk.TheVariants as nodes
 use Rattle.rm_types.specs.declared.messages.Message.{Message}
 use Rattle.rm_types.specs.declared.messages.Message.TheVariants as messages
 use Rattle.rm_types.specs.declared.operations.Submission.{Submission}
-use Rattle.rm_types.specs.declared.resources.Resource.{Resource}
 use Rattle.rm_types.specs.declared.texts.TextKind.TheVariants.{Name, Node, Queue, Note, AclText}
-use Rattle.rm_types.specs.Limits.{greatest_attempts, greatest_memory_mb, greatest_vcores, most_listed, greatest_priority, greatest_count}
+use Rattle.rm_types.specs.Limits.{greatest_attempts, greatest_memory_mb, greatest_vcores}
 use Rattle.rm_script.specs.Limits.{greatest_response, greatest_turn, greatest_tick}
 use Rattle.rm_types.specs.Messages.{IsSize, IsList, IsHeld, IsAsk}
 

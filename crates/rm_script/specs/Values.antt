@@ -1,5 +1,5 @@
 -- What holds of each script that is read: how its lives close, and the ranges of its values.
-use Rattle.std.specs.Prelude.{◌≡◌, ◌⊎◌, ℕ, ◌≤◌, List, [], ◌∷◌, ◌++◌, length, sum_by, All}
+use Rattle.std.specs.Prelude.{◌≡◌, ◌⊎◌, ℕ, ◌≤◌, List, [], ◌∷◌, ◌++◌, All}
 use Rattle.rm_types.specs.Ranges.{IsWithin}
 use Rattle.rm_types.specs.declared.messages.Message.{Message}
 use Rattle.rm_types.specs.declared.scripts.Close.TheVariants.{Settle, Crash}

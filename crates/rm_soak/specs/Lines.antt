@@ -1,10 +1,8 @@
 -- The line of a soak, with its counts over the log. This project's own.
-use Rattle.std.specs.Prelude.{ℕ, List, [], ◌++◌, Bool, true, false, if◌then◌else◌, length, count_by, sum_by, codes}
+use Rattle.std.specs.Prelude.{ℕ, List, [], ◌++◌, Bool, true, false, if◌then◌else◌, count_by, sum_by, codes}
 use Rattle.std.specs.Fmt.{decimal}
 use Rattle.rm_types.specs.declared.entries.Entry.{Entry}
-use Rattle.rm_types.specs.declared.entries.Entry.TheVariants.{Opened, Served, Kept, Pass}
-use Rattle.rm_types.specs.declared.operations.How.{How}
-use Rattle.rm_types.specs.declared.operations.How.TheVariants.{Finished}
+use Rattle.rm_types.specs.declared.entries.Entry.TheVariants.{Opened, Served, Kept}
 use Rattle.rm_types.specs.declared.operations.Op.{Op}
 use Rattle.rm_types.specs.declared.operations.Op.TheVariants.{AppEnd}
 use Rattle.rm_types.specs.Lists.{is_nil}

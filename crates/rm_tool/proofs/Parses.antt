@@ -5,14 +5,13 @@ use Rattle.std.proofs.lemmas.List.Sums.{sum_by-cons}
 use Rattle.std.specs.Prelude.{option_map}
 use Rattle.clap.specs.Matches.{found_of}
 use Rattle.clap.specs.Walk.{Row, Rule, Text, Waiting, Walk, all_of, finished, idle, positional, rows_of, used, walked, with_default}
-use Rattle.clap.specs.Simple.{HasMatchesOf, Shape, built, entered, matches_of}
+use Rattle.clap.specs.Simple.{HasMatchesOf, Shape, built, entered}
 use Rattle.clap.specs.Takes.{default_passes, entered_passes, is_valid, settle_passes, takes, turn_passes, walk_passes}
 use Rattle.clap.specs.declared.parser.matches.ArgMatches.{ArgMatches}
 use Rattle.clap.proofs.WalkLemmas.{raw_values-rows}
 use Rattle.rm_tool.specs.Words.{are_names}
 use Rattle.rm_types.specs.Texts.{is_flag}
 use Rattle.rm_tool.specs.Reading.{MatchesNames, tool_command}
-use Rattle.rm_types.specs.Lists.{unless_empty}
 use Rattle.rm_tool.proofs.Rows.{name_used, names_listed, names_rule, rows_of_names}
 
 abbrev pub rules : List Rule

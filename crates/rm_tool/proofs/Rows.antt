@@ -1,14 +1,9 @@
 -- The row of the names, as values join it.
-use Rattle.std.proofs.Common.{◌≡◌, ◌∙◌, cond, Bool, true, false, refl, ap, List, [], ◌∷◌, ◌++◌, Option, Some, None, codes}
-use Rattle.std.specs.List.{find}
-use Rattle.std.specs.Str.{bytes_eq}
-use Rattle.std.specs.Prelude.{option_map}
-use Rattle.clap.specs.Walk.{Row, Rule, Text, all_of, has_row, more_values, reading_by, stronger, used, with_default, with_values}
+use Rattle.std.proofs.Common.{◌≡◌, ◌∙◌, refl, List, [], ◌∷◌, ◌++◌, Some, None, codes}
+use Rattle.clap.specs.Walk.{Row, Rule, Text, all_of, reading_by, used, with_default}
 use Rattle.clap.specs.Words.{new_rule}
 use Rattle.clap.specs.declared.builder.action.ArgAction.TheVariants.{Append}
-use Rattle.clap.specs.declared.builder.value_parser.Reading.{Reading}
 use Rattle.clap.specs.declared.builder.value_parser.ValueParser.TheVariants as parser
-use Rattle.clap.specs.declared.parser.matches.ValueSource.{ValueSource}
 use Rattle.clap.specs.declared.parser.matches.ValueSource.TheVariants.{CommandLine}
 use Rattle.rm_types.specs.Lists.{unless_empty}
 

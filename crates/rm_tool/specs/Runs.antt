@@ -1,5 +1,5 @@
 -- What a call of the tool comes to, by what it was asked for. This project's own.
-use Rattle.std.specs.Prelude.{◌≡◌, ◌⊎◌, ◌-◌, ◌≤◌, ◌<◌, ℕ, List, [], ◌++◌, Option, None, Some, IfSome, length, take, replicate}
+use Rattle.std.specs.Prelude.{◌≡◌, ◌⊎◌, ◌-◌, ◌≤◌, ◌<◌, ℕ, List, [], ◌++◌, Option, None, Some, length, take, replicate}
 use Rattle.rm_types.specs.declared.operations.Op.{Op}
 use Rattle.rm_types.specs.Folded.{folded}
 use Rattle.rm_disk.specs.Disk.{DiskView, AtEachMoment, EachImage, IfTold}
@@ -10,7 +10,7 @@ use Rattle.rm_types.specs.declared.texts.TextKind.TheVariants as kinds
 use Rattle.rm_page_reader.specs.Told.{IsNoPage}
 use Rattle.rm_report.specs.Following.{IsFollowed}
 use Rattle.rm_report.specs.Summaries.{IsSummary}
-use Rattle.rm_outside.specs.Shelves.{bytes_read, ShelfTells, WereRead}
+use Rattle.rm_outside.specs.Shelves.{ShelfTells, WereRead}
 use Rattle.rm_outside.specs.declared.shelves.TheConstants.{MOST_READ}
 use Rattle.rm_tool.specs.declared.salvage.checks.Fault.{Fault}
 use Rattle.rm_tool.specs.declared.salvage.forms.Form.{Form}

@@ -1,5 +1,5 @@
 -- What nodes and the clock are answered, read off the tables, and the ranges of what they say. This project's own.
-use Rattle.std.specs.Prelude.{ℕ, ◌+◌, List, [], Bool, true, false, ◌&&◌, not, ◌==◌, nat_lt, filter, Option, None, Some, if◌then◌else◌}
+use Rattle.std.specs.Prelude.{ℕ, ◌+◌, List, [], Bool, false, ◌&&◌, not, ◌==◌, nat_lt, filter, Option, None, Some, if◌then◌else◌}
 use Rattle.std.specs.List.{list_any}
 use Rattle.std.specs.Str.{bytes_eq}
 use Rattle.rm_types.specs.declared.containers.BookRow.{BookRow}

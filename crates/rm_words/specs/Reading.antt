@@ -1,5 +1,5 @@
 -- What `clap` reads the words of the program as. This project's own.
-use Rattle.std.specs.Prelude.{◌≡◌, List, [], ◌∷◌, Bool, true, false, Option, None, Some, codes, option_map}
+use Rattle.std.specs.Prelude.{◌≡◌, List, [], ◌∷◌, Bool, true, false, Some, codes, option_map}
 use Rattle.clap.specs.Words.{App, Rule, Text, found_of, matched_of, new_rule, one_text, raw_values, with_rule}
 use Rattle.clap.specs.Simple.{new_shape}
 use Rattle.clap.specs.declared.builder.action.ArgAction.TheVariants.{Append, SetTrue}

@@ -1,5 +1,5 @@
 -- The words of the program. This project's own.
-use Rattle.std.specs.Prelude.{ℕ, List, [], ◌∷◌, filter, Bool, false, ◌&&◌, ◌||◌, not, ◌==◌, nat_lt, Option, None, Some, option_map, if◌then◌else◌, codes}
+use Rattle.std.specs.Prelude.{ℕ, List, [], ◌∷◌, filter, Bool, ◌&&◌, ◌||◌, not, ◌==◌, nat_lt, Option, None, Some, option_map, if◌then◌else◌, codes}
 use Rattle.std.specs.List.{count_by}
 use Rattle.std.specs.Str.{bytes_eq}
 use Rattle.rm_types.specs.Ranges.{IsWithin}

@@ -1,6 +1,5 @@
 -- Who is called after a hold.
 use Rattle.std.proofs.Common.{◌≡◌, Bool, true, false, true≢false, ◌||◌, refl, sym, ◌∙◌}
-use Rattle.rm_types.specs.declared.messages.Lane.{Lane}
 use Rattle.rm_types.specs.declared.messages.Lane.TheVariants.{Client, Master, Node, Clock, Main, Sched, Hand, Write, End, Begin}
 use Rattle.rm_desk.specs.Lanes.{is_ready_at}
 use Rattle.rm_desk.specs.View.{DeskView}

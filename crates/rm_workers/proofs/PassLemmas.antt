@@ -1,14 +1,13 @@
 -- What a worker knows of its pass after a hold, a split and a join.
-use Rattle.std.proofs.Common.{◌≡◌, Bool, true≢false, ◌||◌, List, sym, ap, ◌∙◌, refl, subst}
+use Rattle.std.proofs.Common.{◌≡◌, true≢false, ◌||◌, List, sym, ap, ◌∙◌, refl, subst}
 use Rattle.std.specs.Prelude.{if◌then◌else◌}
 use mathlib.Core.List.{IsPrefix}
 use Rattle.rm_types.specs.declared.entries.Entry.{Entry}
 use Rattle.rm_baton.specs.declared.carries.Known.{Known}
 use Rattle.rm_baton.specs.Entries.{AddsCommon}
-use Rattle.rm_baton.specs.Views.{MayPut, Meets, gave, helper, joined, started, took, with_half}
-use Rattle.rm_baton.proofs.Growing.{adds_begins}
+use Rattle.rm_baton.specs.Views.{MayPut, Meets, gave, started, took}
 use Rattle.rm_workers.specs.Carried.{HeldView, log_of, run_of}
-use Rattle.rm_workers.specs.Work.{IsHelper, Knows}
+use Rattle.rm_workers.specs.Work.{Knows}
 
 abbrev View : Type 0
 View = Known (Unit {0})

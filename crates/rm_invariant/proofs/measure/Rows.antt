@@ -2,7 +2,6 @@
 use Rattle.rm_invariant.proofs.Common.{◌⊎◌, inl, inr, ◌≡◌, ◌≤◌, ℕ, ◌+◌, ◌*◌, ◌-◌, true, Option, None, Some, refl, arith, ContainerId, How, AppState, next_app_state, is_alive, AttemptState, AppRow, Current, after_failure, changed, current_after, granted, granted_at, killed_state}
 use Rattle.rm_types.specs.declared.operations.How.TheVariants as ways
 use Rattle.rm_states.specs.declared.app.states.AppState.TheVariants as apps
-use Rattle.rm_states.specs.app.Table.{end_state}
 use Rattle.rm_states.specs.declared.app.states.AppEvent.TheVariants as app_events
 use Rattle.rm_states.specs.declared.attempt.states.AttemptEvent.TheVariants as attempt_events
 use Rattle.rm_states.specs.attempt.Table.{next_attempt_state as next_attempt_state}

@@ -2,7 +2,6 @@
 use Rattle.rm_invariant.proofs.Common.{◌≡◌, ℕ, List, [], ◌∷◌, Bool, true, false, not, Option, None, Some, filter, map, refl, sym, ◌∙◌, subst, Contains, list_any, bytes_eq, false≢true, ContainerId, is_nil, same_text, Row, Undone, Registered, Beat, Expired, ids_on, judged_node, tidied_node, SchedEvent}
 use Rattle.std.specs.Prelude.{option_map}
 use Rattle.std.proofs.lemmas.List.Elements.{Contains-append_left, Contains-append_right, Contains-push}
-use Rattle.std.proofs.lemmas.Slice.Eq.{bytes_eq-Decides}
 use Rattle.rm_model.specs.State.{NodeState}
 use Rattle.rm_model.specs.Nodes.{is_idle}
 use Rattle.rm_invariant.specs.nodes.Invariant.{is_idle_by, RegisteredInvariant, events_of, node_view, NodeInvariant, NodesInvariant}

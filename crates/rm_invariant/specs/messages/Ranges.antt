@@ -1,7 +1,5 @@
 -- The messages that a manager serves: each part is in its range, as a script says it. The ranges are this project's own.
-use Rattle.std.specs.Prelude.{◌≤◌, ℕ, List, All, length}
-use Rattle.rm_types.specs.declared.containers.Ask.{Ask}
-use Rattle.rm_types.specs.declared.containers.Held.{Held}
+use Rattle.std.specs.Prelude.{◌≤◌, ℕ}
 use Rattle.rm_types.specs.declared.messages.ClientAsk.{ClientAsk}
 use Rattle.rm_types.specs.declared.messages.ClientAsk.TheVariants as clients
 use Rattle.rm_types.specs.declared.messages.ClockAsk.{ClockAsk}
@@ -13,10 +11,9 @@ use Rattle.rm_types.specs.declared.messages.Message.TheVariants as messages
 use Rattle.rm_types.specs.declared.messages.NodeAsk.{NodeAsk}
 use Rattle.rm_types.specs.declared.messages.NodeAsk.TheVariants as nodes
 use Rattle.rm_types.specs.declared.operations.Op.TheVariants.{App}
-use Rattle.rm_types.specs.declared.resources.Resource.{Resource}
 use Rattle.rm_types.specs.declared.settings.Settings.{Settings}
 use Rattle.rm_types.specs.declared.texts.TextKind.TheVariants.{Node, Note}
-use Rattle.rm_types.specs.Limits.{greatest_attempts, greatest_memory_mb, greatest_vcores}
+use Rattle.rm_types.specs.Limits.{greatest_attempts}
 use Rattle.rm_types.specs.Ranges.{IsContainerId, IsOperation, IsText, IsWithin}
 use Rattle.rm_types.specs.Messages.{IsSize, IsList, IsHeld, IsAsk}
 

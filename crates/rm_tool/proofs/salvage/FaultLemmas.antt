@@ -1,13 +1,12 @@
 -- What is at fault in a store of the old form, by what ends its front.
-use Rattle.std.proofs.Common.{◌≡◌, ℕ, None, Some, List, [], ◌++◌, length, refl, ap, ◌∙◌}
+use Rattle.std.proofs.Common.{◌≡◌, ℕ, List, [], ◌++◌, length, refl, ap, ◌∙◌}
 use Rattle.std.specs.Prelude.{IfNone, IfSome}
 use Rattle.rm_types.specs.declared.operations.Op.{Op}
-use Rattle.rm_formats.specs.Device.{HasPayloads, records, journal_records}
-use Rattle.rm_tool.specs.declared.salvage.forms.Form.TheVariants.{OneJournal}
+use Rattle.rm_formats.specs.Device.{records, journal_records}
 use Rattle.rm_tool.specs.declared.salvage.fronts.Stop.{Stop}
 use Rattle.rm_tool.specs.declared.salvage.fronts.Stop.TheVariants.{End, NoRecord, NoFrame, Stray, NoArea}
 use Rattle.rm_tool.specs.salvage.Checks.{HasOldContent, IsOldFault, front_fault}
-use Rattle.rm_tool.specs.salvage.Fronts.{BeginsFront, IsFront, IsStop, FrontStops}
+use Rattle.rm_tool.specs.salvage.Fronts.{BeginsFront, FrontStops}
 
 pub whole_by : (bytes : List ℕ) (ops : List Op) (stop : Stop) → BeginsFront bytes [] ops → FrontStops bytes 0 [] ops stop → IfNone (front_fault stop (length ops)) (HasOldContent bytes ops)
 whole_by bytes ops (End offset) front at = record {

@@ -1,15 +1,15 @@
 -- Which form bytes are of, by what stands at the first gates; and where its front begins.
-use Rattle.std.proofs.Common.{◌≡◌, ◌≢◌, ℕ, zero, suc, ◌+◌, ◌<◌, ◌≤◌, ◌^◌, Bool, true, false, not, nat_lt, if◌then◌else◌, Option, None, Some, List, [], ◌∷◌, ◌++◌, length, take, drop, get_or, refl, sym, ◌∙◌, ap, subst, arith, take_all, zero-add}
-use Rattle.std.specs.Prelude.{All, IfSome, IfNone}
+use Rattle.std.proofs.Common.{◌≡◌, ◌≢◌, ℕ, zero, suc, ◌+◌, ◌<◌, ◌≤◌, ◌^◌, Bool, true, false, nat_lt, if◌then◌else◌, Option, None, Some, List, [], ◌∷◌, ◌++◌, length, take, drop, get_or, refl, sym, ◌∙◌, ap, subst, arith, take_all}
+use Rattle.std.specs.Prelude.{IfSome, IfNone}
 use Rattle.std.specs.Int.{w64, to_be_bytes, from_be_bytes}
 use Rattle.std.proofs.lemmas.Nat.{from_be_bytes-to_be_bytes_8}
 use Rattle.std.proofs.lemmas.Bool.Decides.{nat_tests}
 use Rattle.std.proofs.lemmas.List.{append-nil, length-drop, length-take-le}
 use Rattle.std.proofs.lemmas.List.Elements.{All-nil, All-cons}
 use Rattle.rm_types.specs.declared.operations.Op.{Op}
-use Rattle.rm_formats.specs.Device.{IsPayload, sized, journal_record, journal_records}
+use Rattle.rm_formats.specs.Device.{IsPayload, journal_record}
 use Rattle.rm_journal.specs.Journal.{region_of}
-use Rattle.rm_journal.specs.two_areas.Areas.{HasGeneration, area_of, area_from, area_end, head_of}
+use Rattle.rm_journal.specs.two_areas.Areas.{HasGeneration, area_of, area_from, head_of}
 use Rattle.rm_journal.proofs.two_areas.Heads.{same_first, small_of}
 use Rattle.rm_store.specs.Content.{IsFrameOf, half_of}
 use Rattle.rm_tool.specs.salvage.Forms.{HasFirst, HasFirstFrame, IsForm, form_by}

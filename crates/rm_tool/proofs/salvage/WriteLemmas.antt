@@ -1,5 +1,5 @@
 -- What stands on a disk on which a store is written anew.
-use Rattle.std.proofs.Common.{◌≡◌, ◌⊎◌, inl, inr, ℕ, suc, ◌+◌, ◌≤◌, ◌<◌, ◌/◌, None, List, [], ◌∷◌, ◌++◌, length, map, sum, refl, sym, ◌∙◌, ap, subst, arith, length-append}
+use Rattle.std.proofs.Common.{◌≡◌, ◌⊎◌, inl, inr, ℕ, suc, ◌+◌, ◌≤◌, ◌<◌, ◌/◌, None, List, [], ◌∷◌, ◌++◌, length, map, sum, refl, ◌∙◌, subst, arith, length-append}
 use Rattle.std.specs.Prelude.{All}
 use Rattle.std.specs.Int.{w64, to_be_bytes}
 use Rattle.std.proofs.lemmas.List.Sums.{sum_by-cons, sum-map}
@@ -8,12 +8,12 @@ use Rattle.rm_types.specs.Ranges.{IsOperation}
 use Rattle.rm_types.specs.Records.{stray}
 use Rattle.rm_formats.specs.Frames.{frame}
 use Rattle.rm_formats.specs.Device.{journal_record, journal_records}
-use Rattle.rm_disk.specs.Disk.{DiskView, AtEachMoment, EachImage, IfTold, IsQuiet, Leaves}
+use Rattle.rm_disk.specs.Disk.{DiskView, EachImage, IfTold, IsQuiet}
 use Rattle.rm_disk.proofs.Views.{leaves_of, leaves_trans}
 use Rattle.rm_journal.proofs.Payloads.{length-journal_record}
 use Rattle.rm_journal.specs.two_areas.Areas.{AreasAt, AreasHold, HasCurrent, HasLayout, LeavesEitherLayout, head_of}
 use Rattle.rm_journal.proofs.two_areas.Steps.{layout}
-use Rattle.rm_store.specs.Content.{HasContent, half_of}
+use Rattle.rm_store.specs.Content.{HasContent}
 use Rattle.rm_store.proofs.Framed.{reads_frames}
 use Rattle.rm_store.proofs.Puts.{own_half}
 use Rattle.rm_store.proofs.SoFar.{content_of}

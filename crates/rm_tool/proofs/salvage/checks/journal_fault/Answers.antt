@@ -1,4 +1,4 @@
-use Rattle.std.proofs.Common.{◌≡◌, ℕ, Option, List, length, sym, ◌∙◌, ap, subst}
+use Rattle.std.proofs.Common.{◌≡◌, ℕ, Option, sym, ◌∙◌, ap, subst}
 use Rattle.std.specs.Prelude.{IfNone, IfSome}
 use Rattle.rm_tool.specs.declared.salvage.checks.Fault.{Fault}
 use Rattle.rm_tool.specs.salvage.Checks.{HasOldContent, IsOldFault, front_fault}

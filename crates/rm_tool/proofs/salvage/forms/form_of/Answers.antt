@@ -1,8 +1,7 @@
-use Rattle.std.proofs.Common.{◌≡◌, ℕ, ◌+◌, ◌/◌, true, false, Option, List, sym, ◌∙◌, ap, subst, zero-add}
+use Rattle.std.proofs.Common.{◌≡◌, ℕ, ◌+◌, ◌/◌, true, false, List, sym, ◌∙◌, ap, subst, zero-add}
 use Rattle.rm_journal.specs.Journal.{region_of}
 use Rattle.rm_journal.specs.two_areas.Areas.{area_of}
 use Rattle.rm_store.specs.Content.{half_of}
-use Rattle.rm_tool.specs.declared.salvage.forms.Form.{Form}
 use Rattle.rm_tool.specs.salvage.Forms.{HasFirstFrame, IsForm}
 use Rattle.rm_tool.proofs.salvage.FormLemmas.{IsKnown, form_is, known}
 use Rattle.rm_tool.proofs.salvage.forms.form_of.Goals as goal

@@ -1,6 +1,5 @@
-use Rattle.std.proofs.Common.{◌≡◌, ℕ, Option, Some, None, List, sym, ◌∙◌, subst}
+use Rattle.std.proofs.Common.{◌≡◌, ℕ, Option, Some, None, ◌∙◌}
 use Rattle.std.specs.Prelude.{IfNone}
-use Rattle.std.specs.Int.{w64, to_be_bytes}
 use Rattle.rm_journal.specs.Journal.{region_of}
 use Rattle.rm_tool.proofs.salvage.FormLemmas.{broken_never, other_never}
 use Rattle.rm_tool.proofs.salvage.forms.generation_at.Goals as goal

@@ -1,14 +1,11 @@
 use Rattle.std.proofs.Common.{◌≡◌, ℕ, ◌+◌, ◌≤◌, ◌/◌, Bool, List, [], length, sym, ◌∙◌, ap, subst, arith}
-use Rattle.std.specs.Prelude.{All}
 use Rattle.std.proofs.lemmas.Result.{IfOk-weaker}
 use Rattle.rm_types.specs.declared.operations.Op.{Op}
-use Rattle.rm_types.specs.Ranges.{IsOperation}
 use Rattle.rm_journal.specs.Journal.{region_of}
 use Rattle.rm_journal.specs.two_areas.Areas.{HasGeneration, area_from, area_of, head_of}
 use Rattle.rm_store.specs.Content.{half_of}
 use Rattle.rm_tool.specs.declared.salvage.forms.Form.{Form}
 use Rattle.rm_tool.specs.declared.salvage.forms.Form.TheVariants.{OneJournal, TwoAreas}
-use Rattle.rm_tool.specs.declared.salvage.fronts.Front.{Front}
 use Rattle.rm_tool.specs.declared.salvage.fronts.Stop.{Stop}
 use Rattle.rm_tool.specs.salvage.Forms.{IsForm}
 use Rattle.rm_tool.specs.salvage.Fronts.{BeginsFront, IsFront, IsLongest, IsStop, FrontStops}

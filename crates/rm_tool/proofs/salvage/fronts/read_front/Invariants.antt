@@ -1,4 +1,4 @@
-use Rattle.std.proofs.Common.{◌≡◌, ◌-◌, ◌<◌, ◌≤◌, ℕ, List, [], length}
+use Rattle.std.proofs.Common.{◌≡◌, ◌-◌, ◌<◌, ◌≤◌, ℕ, List, []}
 use Rattle.rm_types.specs.Records.{records}
 use Rattle.rm_tool.specs.salvage.Steps.{ReadsTo}
 use Rattle.rm_tool.proofs.salvage.fronts.read_front.Given as goal

@@ -1,5 +1,4 @@
-use Rattle.std.proofs.Common.{◌≡◌, ℕ, ◌+◌, ◌<◌, take, drop, Option, Some, List, ◌∷◌, ◌++◌, refl, sym, ◌∙◌, ap, subst, arith}
-use Rattle.rm_formats.specs.Device.{IsPayload, journal_record}
+use Rattle.std.proofs.Common.{◌≡◌, ℕ, ◌+◌, ◌<◌, take, drop, Option, Some, List, ◌∷◌, ◌++◌, refl, sym, ◌∙◌, subst}
 use Rattle.rm_journal.specs.Journal.{region_of, FindsAt}
 use Rattle.rm_journal.proofs.two_areas.Heads.{payload_read}
 use Rattle.rm_tool.specs.salvage.Forms.{HasFirst}

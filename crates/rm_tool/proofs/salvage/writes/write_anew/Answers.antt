@@ -1,17 +1,14 @@
-use Rattle.std.proofs.Common.{◌≡◌, ℕ, zero, suc, ◌+◌, ◌<◌, ◌/◌, ◌^◌, true, false, Err, Result, List, ◌++◌, map, length, refl, sym, ◌∙◌, ap, subst, arith}
-use Rattle.std.specs.Prelude.{All}
+use Rattle.std.proofs.Common.{◌≡◌, ℕ, zero, suc, ◌+◌, ◌<◌, ◌/◌, ◌^◌, true, false, Err, Result, List, ◌++◌, map, length, sym, ◌∙◌, ap, subst, arith}
 use Rattle.std.proofs.lemmas.Result.{err_from_is_err_and}
-use Rattle.std.proofs.lemmas.Bool.Decides.{nat_tests}
 use Rattle.rm_types.specs.declared.operations.Op.{Op}
 use Rattle.rm_formats.specs.Frames.{frame}
 use Rattle.rm_formats.specs.Device.{journal_records}
 use Rattle.rm_journal.specs.declared.fault.JournalError
 use Rattle.rm_disk.specs.Disk.{EachImage, IfTold}
 use Rattle.rm_journal.specs.two_areas.Areas.{AreasHold, IsDamagedLayout, LeavesEitherLayout, head_of}
-use Rattle.rm_store.specs.Content.{half_of}
 use Rattle.rm_tool.specs.declared.salvage.errors.WriteError
 use Rattle.rm_tool.specs.salvage.Errors.{write_error}
-use Rattle.rm_tool.specs.salvage.Writes.{HoldsAll, LeavesNoneOrAll, bytes_before}
+use Rattle.rm_tool.specs.salvage.Writes.{bytes_before}
 use Rattle.rm_tool.proofs.salvage.WriteLemmas.{area_long, built_leaves, holds_all}
 use Rattle.rm_tool.proofs.salvage.writes.write_anew.Goals as goal
 

@@ -3,7 +3,7 @@ use Rattle.std.proofs.Common.{◌≡◌, ◌+◌, ◌-◌, ◌<◌, ◌≤◌, �
 use Rattle.std.specs.Prelude.{option_map}
 use Rattle.std.specs.Int.{w64, to_be_bytes}
 use Rattle.rm_formats.specs.Device.{sized}
-use Rattle.rm_disk.specs.Disk.{DiskView, IsQuiet, AtEachMoment, put, MayWrite, IfTold}
+use Rattle.rm_disk.specs.Disk.{DiskView, AtEachMoment, put, MayWrite, IfTold}
 use Rattle.rm_journal.specs.two_areas.Areas.{AreasAt, AreasInvariant, AreasHold, HasLayout, ClosesGate, other_from}
 use Rattle.rm_journal.proofs.two_areas.Moments.{moment_of}
 use Rattle.rm_journal.proofs.two_areas.Steps.{broken_on, each_has, layout, closing_live, headed_has, headed_builds, headed_stands}
