@@ -3,7 +3,7 @@ use Rattle.std.specs.Prelude.{◌≡◌, List, [], ◌∷◌, ◌++◌}
 use Rattle.rm_types.specs.declared.entries.Entry.{Entry}
 use Rattle.rm_types.specs.declared.entries.Entry.TheVariants.{Opened, Handed, Kept, Blown, Settled, Down}
 
--- any pass may add the entry: it neither opens, settles or ends a life, nor says what the store did
+-- what any worker may add, by its pass: an entry that neither opens, settles or ends a life, nor says what the store did
 abbrev pub IsCommon : Entry → Type 0
 IsCommon (Opened landed epoch stamp) = ⊥
 IsCommon Handed = ⊥

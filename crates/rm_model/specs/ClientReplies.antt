@@ -31,8 +31,8 @@ next_app m = record { stamp = m.life.stamp; number = m.life.given + 1 }
 abbrev pub is_given : Scene → AppId → Bool
 is_given m id = nat_lt id.stamp m.life.stamp || ((id.stamp == m.life.stamp) && nat_le id.number m.life.given)
 
--- how many known applications have no kept end: those submitted and not kept, and those kept without an end (YARN's bound on
--- these is `maximum-applications` of its capacity scheduler)
+-- how many known applications have no kept end, by which FULL is decided: those submitted and not kept, and those kept without an end
+-- (YARN's bound on these is `maximum-applications` of its capacity scheduler)
 abbrev pub going : Scene → ℕ
 going m = length m.life.apps.submitted + count_by (λ app. is_none app.ending) m.records.apps
 

@@ -107,7 +107,7 @@ is_completed_before m app other = not (is_completed m other) || nat_le app.end_o
 abbrev pub completed_first : Scene → AppId → Bool
 completed_first m id = is_some_and (λ app. is_completed m app && list_all (is_completed_before m app) m.records.apps) (kept_record m id)
 
--- a Remove may be issued where more applications are completed than are remembered (YARN's
+-- an id may be retired, by a Remove, where more applications are completed than are remembered (YARN's
 -- `state-store.max-completed-applications`), of the one that completed first
 pub record MayIssueRemove (settings : Settings) (m : Scene) (id : AppId) : Type 0 where
   pub opened : m.life.is_open ≡ true

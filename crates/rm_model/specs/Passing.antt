@@ -17,7 +17,7 @@ use Rattle.rm_model.specs.Attempts.{attempt_at}
 use Rattle.rm_model.specs.Containers.{is_same_ask, is_size, rows_on}
 use Rattle.rm_model.specs.Nodes.{is_ready, tidied, with_judged_node}
 
--- nothing is granted yet: the store held an application without an end when the life began, and its nodes may still report.
+-- after a restart nothing is granted yet: the store held an application without an end when the life began, and its nodes may still report.
 -- From YARN's `work-preserving-recovery.scheduling-wait-ms`
 abbrev pub waits_for_nodes : Settings → Scene → Bool
 waits_for_nodes settings m = list_any (λ app. is_none app.ending) m.life.first.apps && nat_lt m.life.now settings.wait_ms

@@ -73,8 +73,8 @@ pub record MayAccept (m : Scene) (id : AppId) : Type 0 where
   pub no_end : app_end_issued m id ≡ false
   pub once : is_accepted m id ≡ false
 
--- a first attempt follows acceptance, and a later one an attempt that ended FAILED while the bound isn't reached (YARN's
--- `am.max-attempts`)
+-- an attempt is a first one or retries another: a first one follows acceptance, and a later one an attempt that ended FAILED while the
+-- bound isn't reached (YARN's `am.max-attempts`)
 abbrev pub MayFollow : Settings → Scene → AttemptId → Type 0
 MayFollow settings m attempt =
     ((attempt.number ≡ 1) × (is_accepted m attempt.app ≡ true))
