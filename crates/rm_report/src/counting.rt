@@ -1,5 +1,6 @@
 ghost use Rattle.std.specs.Prelude.{◌≡◌, ℕ, sum_by};
 ghost use Rattle.rm_types.specs.declared.entries.Entry.{Entry as AnyEntry};
+ghost use Rattle.rm_types.specs.Entries.{granted_count};
 ghost use Rattle.rm_report.specs.Counting as counting;
 
 use rm_types::{Cause, Entry, How, Op};
@@ -28,7 +29,7 @@ pub(crate) fn total<M: Measure>(entries: &[Entry]) -> u128
 pub(crate) enum Lives {}
 
 impl Measure for Lives {
-    ghost weight = { counting.lives_in };
+    ghost weight = { counting.life_count };
 
     fn weight(entry: &Entry) -> usize {
         match entry {
@@ -42,7 +43,7 @@ impl Measure for Lives {
 pub(crate) enum Served {}
 
 impl Measure for Served {
-    ghost weight = { counting.served_in };
+    ghost weight = { counting.served_count };
 
     fn weight(entry: &Entry) -> usize {
         match entry {
@@ -70,7 +71,7 @@ impl Measure for Passes {
 pub(crate) enum Granted {}
 
 impl Measure for Granted {
-    ghost weight = { counting.granted_in };
+    ghost weight = { granted_count };
 
     fn weight(entry: &Entry) -> usize {
         match entry {
@@ -84,7 +85,7 @@ impl Measure for Granted {
 pub(crate) enum Taken {}
 
 impl Measure for Taken {
-    ghost weight = { counting.taken_in };
+    ghost weight = { counting.taken_count };
 
     fn weight(entry: &Entry) -> usize {
         match entry {
@@ -143,7 +144,7 @@ impl Measure for Jobs {
 pub(crate) enum Finished {}
 
 impl Measure for Finished {
-    ghost weight = { counting.finished_in };
+    ghost weight = { counting.finished_count };
 
     fn weight(entry: &Entry) -> usize {
         match entry {
@@ -254,7 +255,7 @@ impl Measure for Released {
 pub(crate) enum Lost {}
 
 impl Measure for Lost {
-    ghost weight = { counting.lost_in };
+    ghost weight = { counting.lost_count };
 
     fn weight(entry: &Entry) -> usize {
         match entry {
