@@ -3,7 +3,7 @@ use Rattle.std.proofs.Common.{◌≡◌, ◌≢◌, ◌⊎◌, inl, inr, ℕ, ze
 use Rattle.std.specs.Int.{w64, to_be_bytes}
 use Rattle.std.proofs.lemmas.Bool.{true≢false, cases_eq}
 use Rattle.std.proofs.lemmas.Bool.Decides.{nat_tests}
-use Rattle.rm_disk.specs.Disk.{DiskView, IfTold, IsDurable}
+use Rattle.rm_disk.specs.Disk.{DiskView, IfTold, IsDurable, IsQuiet}
 use Rattle.rm_formats.specs.Device.{IsPayload, journal_record, journal_records, HasPayloads, IsDamagedAt}
 use Rattle.rm_journal.specs.Journal.{JournalPlace, IsOpened, HasRead, region_of}
 use Rattle.rm_journal.proofs.Payloads.{empty_none, shut_none, open_first, unique, length-journal_record}
@@ -16,7 +16,7 @@ use Rattle.rm_journal.specs.Walk.{HasWalked}
 use Rattle.rm_journal.proofs.Opens.{none_there}
 use Rattle.rm_journal.proofs.Regions.{region_front}
 use Rattle.rm_journal.specs.two_areas.Reading.{IsPicked, ReadingAt, IsReading}
-use Rattle.rm_journal.specs.two_areas.Areas.{AreasAt, area_from, area_end, area_of, head_of, empty, closed, HasGeneration, IsGeneration, IsOlder, shut, older, OtherIs, AreasHold, AreasInvariant, IsDamagedLayout, later}
+use Rattle.rm_journal.specs.two_areas.Areas.{AreasAt, area_from, area_end, area_of, head_of, empty, closed, HasGeneration, HasBadHead, first_head, twice, IsGeneration, IsOlder, shut, older, OtherIs, AreasHold, AreasInvariant, IsDamagedLayout, later}
 
 size_of : (g : ℕ) → length (to_be_bytes w64 g) ≡ 8
 size_of g = refl
@@ -67,8 +67,21 @@ picked_one v half one two false first last high1 high2 room1 room2 apart alive n
   room = λ some. (let fits = room1 some in omega (arith, fits));
 }
 
-module _ (v : DiskView) (half : ℕ) (second : Bool) (g o : ℕ) (p : IsPicked v half second g o) (half_is : half ≡ v.size / 2) (inside : half + half ≤ v.size) (durable : IsDurable v) (reads : (bytes : List ℕ) → v.told ≡ Some bytes → v.images bytes) (sizes : (image : List ℕ) → v.images image → length image ≡ v.size)
-    (j : JournalPlace) (opened : IsOpened v (area_from half second) half j) (live : Bool) (alive : live ≡ true → o ≢ 0) (dead : live ≡ false → o ≡ 0) (head : ℕ) (none : g ≡ 0 → head ≡ 0) (some : g ≢ 0 → head ≡ 13) where
+-- the area that is the current one was opened, up to behind its generation
+pub record AreOpened (v : DiskView) (half : ℕ) (second : Bool) (g o : ℕ) (j : JournalPlace) (live : Bool) (head : ℕ) : Type 0 where
+  pub picked : IsPicked v half second g o
+  pub size : half ≡ v.size / 2
+  pub inside : half + half ≤ v.size
+  pub durable : IsDurable v
+  pub reads : (bytes : List ℕ) → v.told ≡ Some bytes → v.images bytes
+  pub sizes : (image : List ℕ) → v.images image → length image ≡ v.size
+  pub opened : IsOpened v (area_from half second) half j
+  pub alive : live ≡ true → o ≢ 0
+  pub dead : live ≡ false → o ≡ 0
+  pub none : g ≡ 0 → head ≡ 0
+  pub some : g ≢ 0 → head ≡ 13
+
+module _ (v : DiskView) (half : ℕ) (second : Bool) (g o : ℕ) (j : JournalPlace) (live : Bool) (head : ℕ) (are : AreOpened v half second g o j live head) where
   abbrev placed : JournalPlace
   placed = record j { cursor = area_from half second + head }
 
@@ -77,23 +90,23 @@ module _ (v : DiskView) (half : ℕ) (second : Bool) (g o : ℕ) (p : IsPicked v
 
   has_all : (bytes : List ℕ) → v.told ≡ Some bytes → (payloads : List (List ℕ)) × HasPayloads (area_of half second bytes) (head_of g ++ payloads) × (g ≡ 0 → payloads ≡ [])
   has_all bytes told =
-      let left = opened.stands.payloads bytes told in
+      let left = are.opened.stands.payloads bytes told in
       let all : List (List ℕ) = left.given ++ left.left in
-      let has : HasPayloads (area_of half second bytes) all = subst (λ (n : ℕ). HasPayloads (region_of n (area_end half second) bytes) all) opened.from (subst (λ (n : ℕ). HasPayloads (region_of j.from n bytes) all) opened.end left.read.holds) in
-      let split = head_split (area_of half second bytes) g all (p.current bytes told) has in
+      let has : HasPayloads (area_of half second bytes) all = subst (λ (n : ℕ). HasPayloads (region_of n (area_end half second) bytes) all) are.opened.from (subst (λ (n : ℕ). HasPayloads (region_of j.from n bytes) all) are.opened.end left.read.holds) in
+      let split = head_split (area_of half second bytes) g all (are.picked.current bytes told) has in
       (split.0, subst (λ (l : List (List ℕ)). HasPayloads (area_of half second bytes) l) split.1 has, split.2)
 
   has_current : (bytes : List ℕ) (told : v.told ≡ Some bytes) → AreasHold areas (has_all bytes told).0 bytes
   has_current bytes told =
       let all = has_all bytes told in
-      record { size = half_is ∙ ap (λ (n : ℕ). n / 2) (sym (sizes bytes (reads bytes told))); high = p.high; holds = all.1; none = λ z. (p.zero_is z, all.2 z); other = older_of (area_of half (not second) bytes) o g (p.other bytes told) p.less }
+      record { size = are.size ∙ ap (λ (n : ℕ). n / 2) (sym (are.sizes bytes (are.reads bytes told))); high = are.picked.high; holds = all.1; none = λ z. (are.picked.zero_is z, all.2 z); other = older_of (area_of half (not second) bytes) o g (are.picked.other bytes told) are.picked.less }
 
   read_first : (bytes : List ℕ) (told : v.told ≡ Some bytes) → HasRead placed bytes (head_of g) (has_all bytes told).0
   read_first bytes told =
       let all = has_all bytes told in
       record {
-        holds = subst (λ (n : ℕ). HasPayloads (region_of j.from n bytes) (head_of g ++ all.0)) (sym opened.end) (subst (λ (n : ℕ). HasPayloads (region_of n (area_end half second) bytes) (head_of g ++ all.0)) (sym opened.from) all.1);
-        place = ap (λ (n : ℕ). area_from half second + n) (head_length g head none some) ∙ ap (λ (n : ℕ). n + length (journal_records (head_of g))) (sym opened.from);
+        holds = subst (λ (n : ℕ). HasPayloads (region_of j.from n bytes) (head_of g ++ all.0)) (sym are.opened.end) (subst (λ (n : ℕ). HasPayloads (region_of n (area_end half second) bytes) (head_of g ++ all.0)) (sym are.opened.from) all.1);
+        place = ap (λ (n : ℕ). area_from half second + n) (head_length g head are.none are.some) ∙ ap (λ (n : ℕ). n + length (journal_records (head_of g))) (sym are.opened.from);
       }
 
   pub opened_holds : IfTold v (λ bytes. (payloads : List (List ℕ)) × AreasHold areas payloads bytes × HasRead placed bytes (head_of g) payloads)
@@ -101,27 +114,27 @@ module _ (v : DiskView) (half : ℕ) (second : Bool) (g o : ℕ) (p : IsPicked v
 
   head_fits : area_from half second + head ≤ area_end half second
   head_fits = elim (cases_eq g 0) [
-    | inl z ↦ (let is = none z in omega (arith, is))
-    | inr ne ↦ (let is = some ne in let room = p.room ne in omega (arith, is, room))
+    | inl z ↦ (let is = are.none z in omega (arith, is))
+    | inr ne ↦ (let is = are.some ne in let room = are.picked.room ne in omega (arith, is, room))
   ]
 
   pub opened_stands : AreasInvariant v areas
   opened_stands = record {
-    half = half_is;
-    inside = inside;
-    from = opened.from;
-    end = opened.end;
+    half = are.size;
+    inside = are.inside;
+    from = are.opened.from;
+    end = are.opened.end;
     stands = record {
-      inside = opened.stands.inside;
-      first = omega (arith, opened.from);
-      last = (let fits = head_fits in omega (arith, fits, opened.end));
+      inside = are.opened.stands.inside;
+      first = omega (arith, are.opened.from);
+      last = (let fits = head_fits in omega (arith, fits, are.opened.end));
       payloads = λ bytes told. record { given = head_of g; left = (has_all bytes told).0; read = record { holds = (read_first bytes told).holds; place = (read_first bytes told).place } };
-      gate = opened.stands.gate;
-      images = opened.stands.images;
+      gate = are.opened.stands.gate;
+      images = are.opened.stands.images;
     };
-    unbroken = λ _. opened.sound;
-    has = λ _ bytes told. ((has_all bytes told).0, λ image is. (let same : bytes ≡ image = some_eq bytes image v.told told (durable image is) in subst (λ (l : List ℕ). AreasHold areas (has_all bytes told).0 l) same (has_current bytes told)));
-    other = λ _ image is. other_of (area_of half (not second) image) o g live alive dead (p.other image (durable image is)) p.less;
+    unbroken = λ _. are.opened.sound;
+    has = λ _ bytes told. ((has_all bytes told).0, λ image is. (let same : bytes ≡ image = some_eq bytes image v.told told (are.durable image is) in subst (λ (l : List ℕ). AreasHold areas (has_all bytes told).0 l) same (has_current bytes told)));
+    other = λ _ image is. other_of (area_of half (not second) image) o g live are.alive are.dead (are.picked.other image (are.durable image is)) are.picked.less;
     build = λ _ gate is. cc;
   }
     where
@@ -168,15 +181,19 @@ module _ (v : DiskView) (r : ReadingAt) (is : IsReading v r) (done : r.walk.is_d
   opened_area : IsOpened v (area_from r.half r.second) r.half j
   opened_area = subst (λ (n : ℕ). IsOpened v n r.half j) is.from (subst (λ (n : ℕ). IsOpened v r.walk.from n j) long_enough opened)
 
+  -- they were opened so
+  read_opened : AreOpened v r.half r.second r.generation is.other j r.other_live head
+  read_opened = record { picked = is.picked; size = is.half; inside = is.inside; durable = is.walking.durable; reads = reads; sizes = sizes; opened = opened_area; alive = is.alive; dead = is.dead; none = none; some = some }
+
   abbrev pub read_areas : AreasAt
   read_areas = record { half = r.half; second = r.second; generation = r.generation; journal = record j { cursor = area_from r.half r.second + head }; other_live = r.other_live; build = None; is_broken = false }
 
   pub read_stands : AreasInvariant v read_areas
-  read_stands = opened_stands v r.half r.second r.generation is.other is.picked is.half is.inside is.walking.durable reads sizes j opened_area r.other_live is.alive is.dead head none some
+  read_stands = opened_stands v r.half r.second r.generation is.other j r.other_live head read_opened
 
   pub read_holds : IfTold v (λ bytes. (payloads : List (List ℕ)) → HasWalked r.walk bytes (head_of r.generation ++ payloads) → AreasHold read_areas payloads bytes)
   read_holds bytes told payloads walked =
-      let there = opened_holds v r.half r.second r.generation is.other is.picked is.half is.inside is.walking.durable reads sizes j opened_area r.other_live is.alive is.dead head none some bytes told in
+      let there = opened_holds v r.half r.second r.generation is.other j r.other_live head read_opened bytes told in
       let all = is.walking.done done bytes told (head_of r.generation ++ payloads) walked in
       let area : HasPayloads (area_of r.half r.second bytes) (head_of r.generation ++ payloads) =
       subst (λ (n : ℕ). HasPayloads (region_of n (area_end r.half r.second) bytes) (head_of r.generation ++ payloads)) is.from (subst (λ (n : ℕ). HasPayloads (region_of r.walk.from n bytes) (head_of r.generation ++ payloads)) is.end all) in
@@ -185,7 +202,7 @@ module _ (v : DiskView) (r : ReadingAt) (is : IsReading v r) (done : r.walk.is_d
 
   pub read_fits : area_from r.half r.second + head ≤ j.end
   read_fits =
-      let low = head_fits v r.half r.second r.generation is.other is.picked is.half is.inside is.walking.durable reads sizes j opened_area r.other_live is.alive is.dead head none some in
+      let low = head_fits v r.half r.second r.generation is.other j r.other_live head read_opened in
       let end = opened_area.end in
       omega (arith, low, end)
 
@@ -209,6 +226,35 @@ halves n = grind arith
 pub live_generation : (area : List ℕ) (g : ℕ) → IsGeneration area g → g ≢ 0 → HasGeneration area g
 live_generation area zero is ne = absurd (ne refl)
 live_generation area (suc n) is ne = is
+
+-- of a disk of which both areas were looked at, the current one has the greater generation
+pub picked_both : {v0 v1 v : DiskView} {half one two : ℕ} → IsQuiet v0 v1 → IsQuiet v1 v → IfTold v0 (λ bytes. IsGeneration (region_of 0 half bytes) one) → IfTold v1 (λ bytes. IsGeneration (region_of half (half + half) bytes) two)
+    → one < 2 ^ 64 → two < 2 ^ 64 → (one ≢ 0 → 0 + 13 < half) → (two ≢ 0 → half + 13 < half + half) → (one ≡ two → one ≡ 0) → IsPicked v half (nat_le one two) (if nat_le one two then two else one) (if nat_le one two then one else two)
+picked_both {v0} {v1} {v} {half} {one} {two} quiet1 quiet2 first last high1 high2 room1 room2 apart =
+    picked_one v half one two (nat_le one two) (λ bytes told. first bytes (sym quiet1.told ∙ (sym quiet2.told ∙ told))) (λ bytes told. last bytes (sym quiet2.told ∙ told)) high1 high2 room1 room2 apart (le_yes one two) (le_no one two)
+
+-- a walk from behind the generation of the current one has that record behind it
+pub head_passed : {v : DiskView} {size from head g o : ℕ} {second : Bool} → size ≡ v.size → IsPicked v (size / 2) second g o → ((bytes : List ℕ) → v.told ≡ Some bytes → v.images bytes) → ((image : List ℕ) → v.images image → length image ≡ v.size)
+    → (g ≡ 0 → head ≡ 0) → (g ≢ 0 → head ≡ 13) → from ≡ area_from (size / 2) second → IfTold v (λ bytes. HasWalked (record { from = from; end = from + size / 2; gate = from + head; is_done = false }) bytes (head_of g))
+head_passed {v} {size} {from} {head} {g} {o} {second} is picked reads sizes none some from_is =
+    let fits = halves size in
+    subst (λ (n : ℕ). IfTold v (λ bytes. HasWalked (record { from = n; end = n + size / 2; gate = n + head; is_done = false }) bytes (head_of g))) (sym from_is)
+    (head_walked v (size / 2) second g o picked (omega (arith, fits, is)) (λ bytes told. sizes bytes (reads bytes told)) head none some)
+
+-- the first area is damaged
+pub first_damaged : (v : DiskView) {size offset : ℕ} → size ≡ v.size → (offset ≡ 0) × IfTold v (λ bytes. HasBadHead (region_of 0 (size / 2) bytes)) → IfTold v (λ bytes. IsDamagedLayout (v.size / 2) bytes offset)
+first_damaged v {size} {offset} is bad bytes told =
+    subst (λ (n : ℕ). IsDamagedLayout (n / 2) bytes offset) is (first_head (subst (λ (n : ℕ). HasBadHead (region_of 0 n bytes)) (omega arith) (bad.1 bytes told)) bad.0)
+
+-- both areas have one generation
+pub twice_damaged : {v w : DiskView} {size one two offset : ℕ} → size ≡ v.size → IsQuiet v w → (one ≡ two) × (one ≢ 0) → IfTold v (λ bytes. IsGeneration (region_of 0 (size / 2) bytes) one) → IfTold w (λ bytes. IsGeneration (region_of (size / 2) (size / 2 + size / 2) bytes) two) → offset ≡ size / 2
+    → IfTold v (λ bytes. IsDamagedLayout (v.size / 2) bytes offset)
+twice_damaged {v} {w} {size} {one} {two} {offset} is quiet both first last place bytes told =
+    let half : ℕ = size / 2 in
+    let low = live_generation (region_of 0 half bytes) one (first bytes told) both.1 in
+    let high = live_generation (region_of half (half + half) bytes) two (last bytes (quiet.told ∙ told)) (λ z. both.1 (both.0 ∙ z)) in
+    subst (λ (n : ℕ). IsDamagedLayout (n / 2) bytes offset) is
+    (twice one (subst (λ (n : ℕ). HasGeneration (region_of 0 n bytes) one) (omega arith) low) (subst (λ (n : ℕ). HasGeneration (region_of half (half + half) bytes) n) (sym both.0) high) place)
 
 begins_open : (payloads : List (List ℕ)) (rest : List ℕ) → (more : List ℕ) × (journal_records payloads ++ 1 ∷ rest ≡ 1 ∷ more)
 begins_open [] rest = (rest, refl)
