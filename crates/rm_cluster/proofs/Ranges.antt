@@ -2,12 +2,12 @@
 use Rattle.std.proofs.Common.{◌≡◌, ◌≤◌, ◌&&◌, ℕ, List, [], ◌∷◌, Bool, true, false, cond, leb, Option, Some, None, refl, ap, subst, arith, lit≤}
 use Rattle.std.proofs.lemmas.Bool.Decides.{nat_tests}
 use Rattle.std.proofs.lemmas.List.Elements.{All-nil, All-cons}
+use Rattle.std.proofs.lemmas.Option.{option_and_then_some}
 use Rattle.std.specs.Prelude.{All, codes, is_some, length, option_map, option_and_then}
 use Rattle.std.specs.Option.{option_map_or}
 use Rattle.serde_json.specs.Data.{Data, Items, no_items, item, Members, no_members, member}
 use Rattle.serde_json.specs.Find.{get, as_number, as_str, as_array, as_object, as_u64}
-use Rattle.rm_types.specs.Ranges.{IsText}
-use Rattle.rm_types.specs.Ranges.{IsWithin}
+use Rattle.rm_types.specs.Ranges.{IsText, IsWithin}
 use Rattle.rm_types.specs.Texts.{fault_of}
 use Rattle.rm_types.specs.declared.settings.QueueSpec.{QueueSpec}
 use Rattle.rm_types.specs.declared.settings.Settings.{Settings}
@@ -27,24 +27,23 @@ kept_at_key : {A : Type 0} (P : A → Type 0) (reading : Data → Option A) (abs
 kept_at_key P reading absent None a each default e = let same : absent ≡ a = cc in subst P same default
 kept_at_key P reading absent (Some value) a each default e = each value a e
 
--- ---- numbers
-
-of_test : (test : Bool) (m n : ℕ) → cond test (Some m) None ≡ Some n → (test ≡ true) × (m ≡ n)
+-- a value that is read under a test: the test passed
+of_test : {A : Type 0} (test : Bool) (m n : A) → cond test (Some m) None ≡ Some n → (test ≡ true) × (m ≡ n)
 of_test true m n e = (refl, cc)
 of_test false m n e = absurd cc
 
-within_found : (least greatest : ℕ) (found : Option ℕ) (n : ℕ)
-    → option_and_then (λ number. cond (leb least number && leb number greatest) (Some number) None) found ≡ Some n → IsWithin least greatest n
-within_found least greatest None n e = absurd cc
-within_found least greatest (Some m) n e =
-    let both = of_test (leb least m && leb m greatest) m n e in
-    let low : least ≤ m = grind (arith, nat_tests) in
-    let high : m ≤ greatest = grind (arith, nat_tests) in
-    (omega arith, omega arith)
+-- ---- numbers
 
 within : (least greatest : ℕ) (value : Data) (n : ℕ) → number_within least greatest value ≡ Some n → IsWithin least greatest n
 unfolding number_within
-within least greatest value n e = within_found least greatest (option_and_then as_u64 (as_number value)) n e
+within least greatest value n e = option_and_then_some _ (option_and_then as_u64 (as_number value)) n e (λ m found is. each m n is)
+  where
+    each : (m n : ℕ) → cond (leb least m && leb m greatest) (Some m) None ≡ Some n → IsWithin least greatest n
+    each m n e =
+        let both = of_test (leb least m && leb m greatest) m n e in
+        let low : least ≤ m = grind (arith, nat_tests) in
+        let high : m ≤ greatest = grind (arith, nat_tests) in
+        (omega arith, omega arith)
 
 -- ---- texts
 
@@ -56,36 +55,32 @@ text_is : (kind : TextKind) (bytes text : List ℕ) → text_of kind bytes ≡ S
 unfolding text_of
 text_is kind bytes text e = let both = of_fault (fault_of kind bytes) bytes text e in rw (← both.1) both.0
 
-string_is_found : (kind : TextKind) (found : Option (List ℕ)) (text : List ℕ) → option_and_then (text_of kind) found ≡ Some text → IsText kind text
-string_is_found kind None text e = absurd cc
-string_is_found kind (Some bytes) text e = text_is kind bytes text e
-
 string_is : (kind : TextKind) (value : Data) (text : List ℕ) → string_of kind value ≡ Some text → IsText kind text
 unfolding string_of
-string_is kind value text e = string_is_found kind (as_str value) text e
+string_is kind value text e = option_and_then_some (text_of kind) (as_str value) text e (λ bytes found is. text_is kind bytes text is)
 
 -- ---- lists of what is read one after another
 
-of_cons : {A : Type 0} (first : Option A) (rest : Option (List A)) (all : List A)
-    → option_and_then (λ one. option_map (λ more. one ∷ more) rest) first ≡ Some all
-    → (one : A) × (more : List A) × (first ≡ Some one) × (rest ≡ Some more) × (one ∷ more ≡ all)
-of_cons None rest all e = absurd cc
-of_cons (Some one) None all e = absurd cc
-of_cons (Some one) (Some more) all e = (one, more, refl, refl, cc)
+-- what holds of one that is read and of all that are read behind it holds of all
+kept_by_cons : {A : Type 0} (P : A → Type 0) (first : Option A) (rest : Option (List A)) (all : List A)
+    → ((one : A) → first ≡ Some one → P one) → ((more : List A) → rest ≡ Some more → All P more)
+    → option_and_then (λ one. option_map (λ more. one ∷ more) rest) first ≡ Some all → All P all
+kept_by_cons P None rest all is are e = absurd cc
+kept_by_cons P (Some one) None all is are e = absurd cc
+kept_by_cons P (Some one) (Some more) all is are e =
+    let same : one ∷ more ≡ all = cc in subst (All P) same (All-cons P one more (is one refl) (are more refl))
+
+-- it holds of none
+kept_by_nil : {A : Type 0} (P : A → Type 0) (all : List A) → Some [] ≡ Some all → All P all
+kept_by_nil P all e = let same : [] ≡ all = cc in subst (All P) same (All-nil P)
 
 names_are : (values : Items) (names : List (List ℕ)) → names_of values ≡ Some names → All (IsText Name) names
-names_are no_items names e = let same : [] ≡ names = cc in subst (All (IsText Name)) same (All-nil (IsText Name))
-names_are (item value values) names e =
-    let parts = of_cons (string_of Name value) (names_of values) names e in
-    subst (All (IsText Name)) parts.4 (All-cons (IsText Name) parts.0 parts.1 (string_is Name value parts.0 parts.2) (names_are values parts.1 parts.3))
-
-name_list_found : (found : Option Items) (names : List (List ℕ)) → option_and_then names_of found ≡ Some names → All (IsText Name) names
-name_list_found None names e = absurd cc
-name_list_found (Some values) names e = names_are values names e
+names_are no_items names e = kept_by_nil (IsText Name) names e
+names_are (item value values) names e = kept_by_cons (IsText Name) (string_of Name value) (names_of values) names (string_is Name value) (names_are values) e
 
 name_list_is : (value : Data) (names : List (List ℕ)) → name_list_of value ≡ Some names → All (IsText Name) names
 unfolding name_list_of
-name_list_is value names e = name_list_found (as_array value) names e
+name_list_is value names e = option_and_then_some names_of (as_array value) names e (λ values found is. names_are values names is)
 
 of_user : (name : Option (List ℕ)) (list : Option (List (List ℕ))) (user : UserGroups)
     → option_and_then (λ one. option_map (λ groups. record { user = one; groups = groups }) list) name ≡ Some user
@@ -101,18 +96,12 @@ user_is key value user e =
     record { user = text_is Name key user.user parts.0; groups = name_list_is value user.groups parts.1 }
 
 users_are : (members : Members) (users : List UserGroups) → users_read members ≡ Some users → All HasNames users
-users_are no_members users e = let same : [] ≡ users = cc in subst (All HasNames) same (All-nil HasNames)
-users_are (member key value members) users e =
-    let parts = of_cons (user_of key value) (users_read members) users e in
-    subst (All HasNames) parts.4 (All-cons HasNames parts.0 parts.1 (user_is key value parts.0 parts.2) (users_are members parts.1 parts.3))
-
-groups_found : (found : Option Members) (users : List UserGroups) → option_and_then users_read found ≡ Some users → All HasNames users
-groups_found None users e = absurd cc
-groups_found (Some members) users e = users_are members users e
+users_are no_members users e = kept_by_nil HasNames users e
+users_are (member key value members) users e = kept_by_cons HasNames (user_of key value) (users_read members) users (user_is key value) (users_are members) e
 
 groups_are : (value : Data) (users : List UserGroups) → user_groups_of value ≡ Some users → All HasNames users
 unfolding user_groups_of
-groups_are value users e = groups_found (as_object value) users e
+groups_are value users e = option_and_then_some users_read (as_object value) users e (λ members found is. users_are members users is)
 
 -- ---- queues
 
@@ -137,13 +126,9 @@ of_queue (Some one) (Some submit) (Some admin) queue e =
     let same : record { name = one; submit = submit; admin = admin } ≡ queue = cc in
     (ap (λ q. Some q.name) same, ap (λ q. Some q.submit) same, ap (λ q. Some q.admin) same)
 
-name_found : (found : Option Data) (name : List ℕ) → option_and_then (string_of Queue) found ≡ Some name → IsText Queue name
-name_found None name e = absurd cc
-name_found (Some value) name e = string_is Queue value name e
-
 name_is : (value : Data) (name : List ℕ) → name_of value ≡ Some name → IsText Queue name
 unfolding name_of
-name_is value name e = name_found (get (codes "name") value) name e
+name_is value name e = option_and_then_some (string_of Queue) (get (codes "name") value) name e (λ one found is. string_is Queue one name is)
 
 queue_found : (passes : Bool) (name : Option (List ℕ)) (submit admin : Option (Option (List ℕ))) (queue : QueueSpec)
     → cond passes (option_and_then (λ one. queue_with one submit admin) name) None ≡ Some queue → option_and_then (λ one. queue_with one submit admin) name ≡ Some queue
@@ -162,32 +147,23 @@ queue_is value queue e =
     }
 
 queues_are : (values : Items) (queues : List QueueSpec) → queue_list_of values ≡ Some queues → All HasTexts queues
-queues_are no_items queues e = let same : [] ≡ queues = cc in subst (All HasTexts) same (All-nil HasTexts)
-queues_are (item value values) queues e =
-    let parts = of_cons (queue_of value) (queue_list_of values) queues e in
-    subst (All HasTexts) parts.4 (All-cons HasTexts parts.0 parts.1 (queue_is value parts.0 parts.2) (queues_are values parts.1 parts.3))
+queues_are no_items queues e = kept_by_nil HasTexts queues e
+queues_are (item value values) queues e = kept_by_cons HasTexts (queue_of value) (queue_list_of values) queues (queue_is value) (queues_are values) e
 
-list_of_queues : (found : Option Items) (queues : List QueueSpec) → option_and_then queue_list_of found ≡ Some queues → All HasTexts queues
-list_of_queues None queues e = absurd cc
-list_of_queues (Some values) queues e = queues_are values queues e
-
-of_tree : (test : Bool) (queues tree : List QueueSpec) → cond test (Some queues) None ≡ Some tree → (test ≡ true) × (queues ≡ tree)
-of_tree true queues tree e = (refl, cc)
-of_tree false queues tree e = absurd cc
-
-tree_found : (found : Option (List QueueSpec)) (tree : List QueueSpec) → ((queues : List QueueSpec) → found ≡ Some queues → All HasTexts queues)
-    → option_and_then (λ queues. cond (leb (length queues) most_queues && is_tree queues) (Some queues) None) found ≡ Some tree → AreQueues tree
-tree_found None tree texts e = absurd cc
-tree_found (Some queues) tree texts e =
-    let both = of_tree (leb (length queues) most_queues && is_tree queues) queues tree e in
+-- queues that are read under the tests of a tree are few, and a tree
+tree_of : (queues tree : List QueueSpec) → All HasTexts queues → cond (leb (length queues) most_queues && is_tree queues) (Some queues) None ≡ Some tree → AreQueues tree
+tree_of queues tree texts e =
+    let both = of_test (leb (length queues) most_queues && is_tree queues) queues tree e in
     let few : leb (length queues) most_queues ≡ true = grind arith in
     let tested : is_tree queues ≡ true = grind arith in
     let within : length queues ≤ most_queues = grind (arith, nat_tests) in
-    subst AreQueues both.1 (record { few = within; texts = texts queues refl; tree = tested })
+    subst AreQueues both.1 (record { few = within; texts = texts; tree = tested })
 
-tree_is : (value : Data) (queues : List QueueSpec) → queue_tree_of value ≡ Some queues → AreQueues queues
+tree_is : (value : Data) (tree : List QueueSpec) → queue_tree_of value ≡ Some tree → AreQueues tree
 unfolding queue_tree_of
-tree_is value queues e = tree_found (option_and_then queue_list_of (as_array value)) queues (list_of_queues (as_array value)) e
+tree_is value tree e =
+    option_and_then_some _ (option_and_then queue_list_of (as_array value)) tree e
+    (λ queues found is. tree_of queues tree (option_and_then_some queue_list_of (as_array value) queues found (λ values there are. queues_are values queues are)) is)
 
 default_are : AreQueues default_queues
 default_are = record {

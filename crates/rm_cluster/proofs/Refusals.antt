@@ -10,11 +10,11 @@ use Rattle.rm_cluster.specs.declared.clusters.ClusterError.{ClusterError}
 use Rattle.rm_cluster.specs.declared.clusters.ClusterError.TheVariants.{Refused}
 
 -- what `?` returns where the rule of a place found nothing
-pub refused_at : {A : Type 0} (file : Data) (place : ℕ) (cause error : ClusterError) (found : Option A) (result : Result Settings ClusterError)
+pub refused_at : {A : Type 0} (file : Data) (result : Result Settings ClusterError) {place : ℕ} {cause error : ClusterError} {found : Option A}
     → IsErrAnd result (λ returned. returned ≡ cause) → Err cause ≡ ok_or found error → found ≡ None → error ≡ Refused place → first_broken file ≡ Some place
     → IfErr result (IsBrokenBy file)
-refused_at file place cause error found (Ok settings) same told none refused broken = tt
-refused_at file place cause error found (Err returned) same told none refused broken =
+refused_at file (Ok settings) same told none refused broken = tt
+refused_at file (Err returned) {place = place} same told none refused broken =
     let plain = rw none at told in
     let e : returned ≡ Refused place = cc in
     rw e broken

@@ -1,4 +1,4 @@
-use Rattle.std.proofs.Common.{arith, ◌≡◌, Some, sym, ◌∙◌, ap}
+use Rattle.std.proofs.Common.{arith, Some, sym, ◌∙◌, ap}
 use Rattle.serde_json.specs.View.{view}
 use Rattle.rm_cluster.specs.Rules.{first_broken}
 use Rattle.rm_cluster.proofs.Refusals.{refused_at}
@@ -11,73 +11,43 @@ returns-then-not-has_known_keys-clause-refused c = grind arith
 
 pub returns-in_err-max_attempts-clause-refused : goal.returns-in_err-max_attempts-clause-refused
 unfolding first_broken
-returns-in_err-max_attempts-clause-refused c =
-    let broken : first_broken (view c.args.file.now) ≡ Some 3 = grind arith in
-    let refusal = c.in_err-max_attempts.ensures in
-    refused_at (view c.args.file.now) 3 _ _ _ _ c.from_residual.ensures.1 refusal.value refusal.ok_part c.refused-2.ensures broken
+returns-in_err-max_attempts-clause-refused c = refused_at (view c.args.file.now) _ c.from_residual.ensures.1 c.in_err-max_attempts.ensures.value c.in_err-max_attempts.ensures.ok_part c.refused-2.ensures (grind arith)
 
 pub returns-in_err-max_completed-clause-refused : goal.returns-in_err-max_completed-clause-refused
 unfolding first_broken
-returns-in_err-max_completed-clause-refused c =
-    let broken : first_broken (view c.args.file.now) ≡ Some 4 = grind arith in
-    let refusal = c.in_err-max_completed.ensures in
-    refused_at (view c.args.file.now) 4 _ _ _ _ c.from_residual-in_err-max_completed.ensures.1 refusal.value refusal.ok_part c.refused-3.ensures broken
+returns-in_err-max_completed-clause-refused c = refused_at (view c.args.file.now) _ c.from_residual-in_err-max_completed.ensures.1 c.in_err-max_completed.ensures.value c.in_err-max_completed.ensures.ok_part c.refused-3.ensures (grind arith)
 
 pub returns-in_err-max_apps-clause-refused : goal.returns-in_err-max_apps-clause-refused
 unfolding first_broken
-returns-in_err-max_apps-clause-refused c =
-    let broken : first_broken (view c.args.file.now) ≡ Some 5 = grind arith in
-    let refusal = c.in_err-max_apps.ensures in
-    refused_at (view c.args.file.now) 5 _ _ _ _ c.from_residual-in_err-max_apps.ensures.1 refusal.value refusal.ok_part c.refused-4.ensures broken
+returns-in_err-max_apps-clause-refused c = refused_at (view c.args.file.now) _ c.from_residual-in_err-max_apps.ensures.1 c.in_err-max_apps.ensures.value c.in_err-max_apps.ensures.ok_part c.refused-4.ensures (grind arith)
 
 pub returns-in_err-wait_ms-clause-refused : goal.returns-in_err-wait_ms-clause-refused
 unfolding first_broken
-returns-in_err-wait_ms-clause-refused c =
-    let broken : first_broken (view c.args.file.now) ≡ Some 6 = grind arith in
-    let refusal = c.in_err-wait_ms.ensures in
-    refused_at (view c.args.file.now) 6 _ _ _ _ c.from_residual-in_err-wait_ms.ensures.1 refusal.value refusal.ok_part c.refused-5.ensures broken
+returns-in_err-wait_ms-clause-refused c = refused_at (view c.args.file.now) _ c.from_residual-in_err-wait_ms.ensures.1 c.in_err-wait_ms.ensures.value c.in_err-wait_ms.ensures.ok_part c.refused-5.ensures (grind arith)
 
 pub returns-in_err-acl_enable-clause-refused : goal.returns-in_err-acl_enable-clause-refused
 unfolding first_broken
-returns-in_err-acl_enable-clause-refused c =
-    let broken : first_broken (view c.args.file.now) ≡ Some 7 = grind arith in
-    let refusal = c.in_err-acl_enable.ensures in
-    refused_at (view c.args.file.now) 7 _ _ _ _ c.from_residual-in_err-acl_enable.ensures.1 refusal.value refusal.ok_part c.refused-6.ensures broken
+returns-in_err-acl_enable-clause-refused c = refused_at (view c.args.file.now) _ c.from_residual-in_err-acl_enable.ensures.1 c.in_err-acl_enable.ensures.value c.in_err-acl_enable.ensures.ok_part c.refused-6.ensures (grind arith)
 
 pub returns-in_err-admin_acl-clause-refused : goal.returns-in_err-admin_acl-clause-refused
 unfolding first_broken
-returns-in_err-admin_acl-clause-refused c =
-    let broken : first_broken (view c.args.file.now) ≡ Some 8 = grind arith in
-    let refusal = c.in_err-admin_acl.ensures in
-    refused_at (view c.args.file.now) 8 _ _ _ _ c.from_residual-in_err-admin_acl.ensures.1 refusal.value refusal.ok_part c.refused-7.ensures broken
+returns-in_err-admin_acl-clause-refused c = refused_at (view c.args.file.now) _ c.from_residual-in_err-admin_acl.ensures.1 c.in_err-admin_acl.ensures.value c.in_err-admin_acl.ensures.ok_part c.refused-7.ensures (grind arith)
 
 pub returns-in_err-memory_mb-clause-refused : goal.returns-in_err-memory_mb-clause-refused
 unfolding first_broken
-returns-in_err-memory_mb-clause-refused c =
-    let broken : first_broken (view c.args.file.now) ≡ Some 9 = grind arith in
-    let refusal = c.in_err-memory_mb.ensures in
-    refused_at (view c.args.file.now) 9 _ _ _ _ c.from_residual-in_err-memory_mb.ensures.1 refusal.value refusal.ok_part c.refused-8.ensures broken
+returns-in_err-memory_mb-clause-refused c = refused_at (view c.args.file.now) _ c.from_residual-in_err-memory_mb.ensures.1 c.in_err-memory_mb.ensures.value c.in_err-memory_mb.ensures.ok_part c.refused-8.ensures (grind arith)
 
 pub returns-in_err-vcores-clause-refused : goal.returns-in_err-vcores-clause-refused
 unfolding first_broken
-returns-in_err-vcores-clause-refused c =
-    let broken : first_broken (view c.args.file.now) ≡ Some 10 = grind arith in
-    let refusal = c.in_err-vcores.ensures in
-    refused_at (view c.args.file.now) 10 _ _ _ _ c.from_residual-in_err-vcores.ensures.1 refusal.value refusal.ok_part c.refused-9.ensures broken
+returns-in_err-vcores-clause-refused c = refused_at (view c.args.file.now) _ c.from_residual-in_err-vcores.ensures.1 c.in_err-vcores.ensures.value c.in_err-vcores.ensures.ok_part c.refused-9.ensures (grind arith)
 
 pub returns-in_err-groups-clause-refused : goal.returns-in_err-groups-clause-refused
 unfolding first_broken
-returns-in_err-groups-clause-refused c =
-    let broken : first_broken (view c.args.file.now) ≡ Some 11 = grind arith in
-    let refusal = c.in_err-groups.ensures in
-    refused_at (view c.args.file.now) 11 _ _ _ _ c.from_residual-in_err-groups.ensures.1 refusal.value refusal.ok_part c.refused-10.ensures broken
+returns-in_err-groups-clause-refused c = refused_at (view c.args.file.now) _ c.from_residual-in_err-groups.ensures.1 c.in_err-groups.ensures.value c.in_err-groups.ensures.ok_part c.refused-10.ensures (grind arith)
 
 pub returns-in_err-queues-clause-refused : goal.returns-in_err-queues-clause-refused
 unfolding first_broken
-returns-in_err-queues-clause-refused c =
-    let broken : first_broken (view c.args.file.now) ≡ Some 12 = grind arith in
-    let refusal = c.in_err-queues.ensures in
-    refused_at (view c.args.file.now) 12 _ _ _ _ c.from_residual-in_err-queues.ensures.1 refusal.value refusal.ok_part c.refused-11.ensures broken
+returns-in_err-queues-clause-refused c = refused_at (view c.args.file.now) _ c.from_residual-in_err-queues.ensures.1 c.in_err-queues.ensures.value c.in_err-queues.ensures.ok_part c.refused-11.ensures (grind arith)
 
 pub returns-clause-read : goal.returns-clause-read
 unfolding first_broken
