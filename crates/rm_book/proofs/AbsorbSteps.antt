@@ -14,7 +14,7 @@ use Rattle.rm_book.proofs.TakenRows.{fresh_of, living_taken, running_stay, sizes
 
 module _ (all : List BookRow) (ended : List ContainerId) where
   -- those that ended and have rows
-  abbrev pub gone_of : List ContainerId
+  abbrev gone_of : List ContainerId
   gone_of = filter (λ id. list_any (is_of id) all) ended
 
   -- a row's container is among them where it ended, and no other is
@@ -54,7 +54,7 @@ module _ (all : List BookRow) (ended : List ContainerId) where
           let out = gone_where held.id false has in
           rw (has, out) (ap (λ more. record { id = held.id; node = node; size = held.size; state = Running; told = added + 1 } ∷ more) (rest (added + 1)))
 
-module _ (loads : List (List ℕ × NodeLoad)) (rows : List BookRow) (added : ℕ) (kept : ShowsBook loads rows added)
+module _ {loads : List (List ℕ × NodeLoad)} {rows : List BookRow} {added : ℕ} (kept : ShowsBook loads rows added)
     (node : List ℕ) (capability : Resource) (taken : List Held) (ended : List ContainerId) where
   abbrev book : BookOf
   book = seen loads rows added
@@ -74,6 +74,10 @@ module _ (loads : List (List ℕ × NodeLoad)) (rows : List BookRow) (added : �
   abbrev gone : List ContainerId
   gone = gone_of rows ended
 
+  -- what is left of them
+  abbrev pub rows_left : List BookRow
+  rows_left = staying gone joined
+
   -- what is left, and what has entered
   left_rows : staying gone joined ≡ staying ended rows ++ new_rows
   left_rows =
@@ -82,7 +86,7 @@ module _ (loads : List (List ℕ × NodeLoad)) (rows : List BookRow) (added : �
 
   -- what is left where these rows entered and then those went
   pub left_after : {in_rows left : List BookRow} {held : List Held} {ids : List ContainerId} → in_rows ≡ rows ++ entered_rows Running added node held → held ≡ list
-      → left ≡ staying ids in_rows → ids ≡ gone → left ≡ staying gone joined
+      → left ≡ staying ids in_rows → ids ≡ gone → left ≡ rows_left
   left_after {in_rows} {left} {held} {ids} entered is_list is_left is_gone =
       is_left ∙ ap (λ (ids : List ContainerId). staying ids in_rows) is_gone ∙ ap (staying gone) (entered ∙ ap (λ (l : List Held). rows ++ entered_rows Running added node l) is_list)
 
@@ -95,7 +99,7 @@ module _ (loads : List (List ℕ × NodeLoad)) (rows : List BookRow) (added : �
   pub fresh_entering : AreOnce taken → AreFresh rows list
   fresh_entering once = fresh_of rows rows taken (λ id none. none) once
 
-  pub living_left : AreLiving (staying gone joined)
+  pub living_left : AreLiving rows_left
   living_left =
       living_filter (λ row. not (list_any (λ id. is_container id row.id) gone)) joined
       (living_joined rows new_rows kept.book.living (rw (entered_taken added node list) (living_taken added node list)))
@@ -112,13 +116,13 @@ module _ (loads : List (List ℕ × NodeLoad)) (rows : List BookRow) (added : �
   pub entering_fits : Fits (total_on node after.rows) capability → Fits (total_of (map (λ held. held.size) list)) capability
   entering_fits fits = (omega (arith, fits.0, part_within (λ size. size.memory_mb)), omega (arith, fits.1, part_within (λ size. size.vcores)))
 
-  module _ (new : List (List ℕ × NodeLoad)) (left ran : List BookRow) (is_left : left ≡ staying gone joined) (is_ran : ran ≡ map (book_row_taken taken) left) where
+  module _ {left ran : List BookRow} (is_left : left ≡ rows_left) (is_ran : ran ≡ map (book_row_taken taken) left) where
     pub ran_after : ran ≡ after.rows
     ran_after = is_ran ∙ ap (map (book_row_taken taken)) is_left ∙ rows_after
 
-    pub absorbed_kept : (count : ℕ) → count ≡ added + length list → nodes_shown new ≡ with_capability node capability (nodes_shown loads) → AreUsed new left → AreOnce taken
+    pub absorbed_kept : {new : List (List ℕ × NodeLoad)} {count : ℕ} → count ≡ added + length list → nodes_shown new ≡ with_capability node capability (nodes_shown loads) → AreUsed new left → AreOnce taken
         → Fits (total_on node after.rows) capability → ShowsBook new ran count
-    absorbed_kept count counted seen_new used once fits = record {
+    absorbed_kept {new} counted seen_new used once fits = record {
       book = rw (ran_after, seen_new, counted) (taken_lawful book node capability taken ended kept.book once fits);
       used = used_same new left ran used (λ other. ap (sizes_on other) is_ran ∙ sizes_stay taken other left);
     }

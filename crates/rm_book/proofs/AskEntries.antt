@@ -123,25 +123,30 @@ module _ (attempt : AttemptId) where
       by true e rest = let is : entry.1 ≡ own = (let l' = rw e at l in cc) in rw e (ap (λ (v : List AskLine). (entry.0, v) ∷ entries) (sym is))
       by false e rest = let l' = rw e at l in rw e (ap (λ (more : List AskEntry). entry ∷ more) (rest l'))
 
+  -- the entry of another in front changes nothing of what is found behind a change
+  found_behind : (v : Option (List AskLine)) (one : AttemptId) (entry : AskEntry) (changed entries : List AskEntry) → is_attempt attempt entry.0 ≡ false
+      → lookup (is_attempt one) changed ≡ cond (is_attempt attempt one) v (lookup (is_attempt one) entries)
+      → lookup (is_attempt one) (entry ∷ changed) ≡ cond (is_attempt attempt one) v (lookup (is_attempt one) (entry ∷ entries))
+  found_behind v one entry changed entries e rest = by (is_attempt one entry.0) refl
+    where
+      by : (b : Bool) → is_attempt one entry.0 ≡ b → lookup (is_attempt one) (entry ∷ changed) ≡ cond (is_attempt attempt one) v (lookup (is_attempt one) (entry ∷ entries))
+      by true f = rw (f, apart_beside attempt one entry.0 e f) refl
+      by false f = rw f rest
+
   -- what is found then
   pub found_entered : (lines : List AskLine) (one : AttemptId) (entries : List AskEntry)
       → lookup (is_attempt one) (insert_entry is_attempt entries attempt lines) ≡ cond (is_attempt attempt one) (Some lines) (lookup (is_attempt one) entries)
   found_entered lines one [] = rw (attempt_back attempt one) refl
-  found_entered lines one (entry ∷ entries) = by (is_attempt attempt entry.0) (is_attempt one entry.0) refl refl (found_entered lines one entries)
+  found_entered lines one (entry ∷ entries) = by (is_attempt attempt entry.0) refl (found_entered lines one entries)
     where
-      by : (b c : Bool) → is_attempt attempt entry.0 ≡ b → is_attempt one entry.0 ≡ c
-          → lookup (is_attempt one) (insert_entry is_attempt entries attempt lines) ≡ cond (is_attempt attempt one) (Some lines) (lookup (is_attempt one) entries)
+      first : (b : Bool) → cond b (Some lines) (lookup (is_attempt one) entries) ≡ cond b (Some lines) (cond b (Some entry.1) (lookup (is_attempt one) entries))
+      first true = refl
+      first false = refl
+
+      by : (b : Bool) → is_attempt attempt entry.0 ≡ b → lookup (is_attempt one) (insert_entry is_attempt entries attempt lines) ≡ cond (is_attempt attempt one) (Some lines) (lookup (is_attempt one) entries)
           → lookup (is_attempt one) (insert_entry is_attempt (entry ∷ entries) attempt lines) ≡ cond (is_attempt attempt one) (Some lines) (lookup (is_attempt one) (entry ∷ entries))
-      by true true e f rest =
-          let same : is_attempt attempt one ≡ true = same_beside attempt one entry.0 e ∙ f in
-          rw (e, f, same) refl
-      by true false e f rest =
-          let other : is_attempt attempt one ≡ false = same_beside attempt one entry.0 e ∙ f in
-          rw (e, f, other) refl
-      by false true e f rest =
-          let other : is_attempt attempt one ≡ false = apart_beside attempt one entry.0 e f in
-          rw (e, f, other) refl
-      by false false e f rest = rw (e, f) rest
+      by true e rest = rw (e, same_beside attempt one entry.0 e) (first (is_attempt one entry.0))
+      by false e rest = rw e (found_behind (Some lines) one entry (insert_entry is_attempt entries attempt lines) entries e rest)
 
   -- no two keys are the same then
   all_entered : (key : AttemptId) (lines : List AskLine) (entries : List AskEntry) → is_attempt key attempt ≡ false → AllByRecursion (λ y. is_attempt key y ≡ false) (keys_of entries)
@@ -193,23 +198,18 @@ module _ (attempt : AttemptId) where
   found_removed : (one : AttemptId) (entries : List AskEntry) → IsDistinct is_attempt (keys_of entries)
       → lookup (is_attempt one) (remove_entry (is_attempt attempt) entries) ≡ cond (is_attempt attempt one) None (lookup (is_attempt one) entries)
   found_removed one [] d = none_either (is_attempt attempt one)
-  found_removed one (entry ∷ entries) d =
-      by (is_attempt attempt entry.0) (is_attempt one entry.0) refl refl (found_removed one entries (IsDistinct-tail is_attempt entry.0 (keys_of entries) d))
+  found_removed one (entry ∷ entries) d = by (is_attempt attempt entry.0) refl (found_removed one entries (IsDistinct-tail is_attempt entry.0 (keys_of entries) d))
     where
-      by : (b c : Bool) → is_attempt attempt entry.0 ≡ b → is_attempt one entry.0 ≡ c
-          → lookup (is_attempt one) (remove_entry (is_attempt attempt) entries) ≡ cond (is_attempt attempt one) None (lookup (is_attempt one) entries)
+      first : is_attempt attempt entry.0 ≡ true → (b : Bool) → is_attempt one entry.0 ≡ b → lookup (is_attempt one) entries ≡ cond b None (cond b (Some entry.1) (lookup (is_attempt one) entries))
+      first e true f =
+          subst (λ (a : AttemptId). lookup (is_attempt a) entries ≡ None) (same_attempt attempt one (same_beside attempt one entry.0 e ∙ f))
+          (not_found entries (no_key entries entry.0 e (IsDistinct-head is_attempt entry.0 (keys_of entries) d)))
+      first e false f = refl
+
+      by : (b : Bool) → is_attempt attempt entry.0 ≡ b → lookup (is_attempt one) (remove_entry (is_attempt attempt) entries) ≡ cond (is_attempt attempt one) None (lookup (is_attempt one) entries)
           → lookup (is_attempt one) (remove_entry (is_attempt attempt) (entry ∷ entries)) ≡ cond (is_attempt attempt one) None (lookup (is_attempt one) (entry ∷ entries))
-      by true true e f rest =
-          let same : is_attempt attempt one ≡ true = same_beside attempt one entry.0 e ∙ f in
-          let whole = same_attempt attempt one same in
-          rw (e, f, same) (subst (λ (a : AttemptId). lookup (is_attempt a) entries ≡ None) whole (not_found entries (no_key entries entry.0 e (IsDistinct-head is_attempt entry.0 (keys_of entries) d))))
-      by true false e f rest =
-          let other : is_attempt attempt one ≡ false = same_beside attempt one entry.0 e ∙ f in
-          rw (e, f, other) refl
-      by false true e f rest =
-          let other : is_attempt attempt one ≡ false = apart_beside attempt one entry.0 e f in
-          rw (e, f, other) refl
-      by false false e f rest = rw (e, f) rest
+      by true e rest = rw (e, same_beside attempt one entry.0 e) (first e (is_attempt one entry.0) refl)
+      by false e rest = rw e (found_behind None one entry (remove_entry (is_attempt attempt) entries) entries e rest)
 
   -- those that wait after a change
   pub kept_entered : (lines : List AskLine) (entries new : List AskEntry) (waiting marked : List AttemptId) → AreKept entries waiting → new ≡ insert_entry is_attempt entries attempt lines

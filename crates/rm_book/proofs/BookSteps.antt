@@ -6,13 +6,12 @@ use Rattle.rm_book.specs.Books.{BookRowsAreApart, AreLiving, BookOf, TellUpTo, c
 use Rattle.rm_book.specs.Granted.{may_be_told}
 use Rattle.rm_book.specs.Kept.{AreUsed, ShowsBook, IsSum, FitsCapability, entered_rows, held_of, nodes_shown, sum_with, used_in}
 use Rattle.rm_book.proofs.Batch.{entered_elsewhere, entered_sizes}
-use Rattle.rm_book.proofs.Changes.{acquires, book_left, fits_known}
+use Rattle.rm_book.proofs.Changes.{acquires, book_left, fits_known, runs}
 use Rattle.rm_book.proofs.Kept.{apart_changed}
 use Rattle.rm_book.proofs.LeavingSteps.{stepped}
 use Rattle.rm_book.proofs.Loads.{capability_shown}
-use Rattle.rm_book.proofs.Rows.{sum_joined}
+use Rattle.rm_book.proofs.Rows.{sum_joined, sum_push}
 use Rattle.rm_book.proofs.Splits.{map_none}
-use Rattle.rm_book.proofs.Changes.{runs}
 
 abbrev Loads : Type 0
 Loads = List (List ℕ × NodeLoad)
@@ -26,7 +25,12 @@ resource_of_parts a b p q =
     let make : ℕ → ℕ → Resource = λ memory_mb vcores. record { memory_mb = memory_mb; vcores = vcores } in
     ap (λ (m : ℕ). make m a.vcores) p ∙ ap (make b.memory_mb) q
 
-module _ (loads : Loads) (rows : List BookRow) (added : ℕ) (kept : ShowsBook loads rows added) where
+-- on each node stands what stood there, and on one so much more
+pub record AreRaised (rows more : List BookRow) (node : List ℕ) (size : Resource) : Type 0 where
+  pub memory : (other : List ℕ) → (total_on other more).memory_mb ≡ (total_on other rows).memory_mb + cond (bytes_eq node other) size.memory_mb 0
+  pub cores : (other : List ℕ) → (total_on other more).vcores ≡ (total_on other rows).vcores + cond (bytes_eq node other) size.vcores 0
+
+module _ {loads : Loads} {rows : List BookRow} {added : ℕ} (kept : ShowsBook loads rows added) where
   known : (node : List ℕ) (load : NodeLoad) → lookup (bytes_eq node) loads ≡ Some load → capability_in (nodes_shown loads) node ≡ Some load.capability
   known node load at = capability_shown node loads ∙ ap (option_map (λ one. one.capability)) at
 
@@ -67,9 +71,7 @@ module _ (loads : Loads) (rows : List BookRow) (added : ℕ) (kept : ShowsBook l
       (capability_shown node loads ∙ ap (option_map (λ one. one.capability)) at) (kept.book.fit node)
 
   -- what is said to stand on each node after more enters on one
-  module _ (new : Loads) (more : List BookRow) (node : List ℕ) (size : Resource)
-      (memory : (other : List ℕ) → (total_on other more).memory_mb ≡ (total_on other rows).memory_mb + cond (bytes_eq node other) size.memory_mb 0)
-      (cores : (other : List ℕ) → (total_on other more).vcores ≡ (total_on other rows).vcores + cond (bytes_eq node other) size.vcores 0) where
+  module _ (new : Loads) {more : List BookRow} {node : List ℕ} {size : Resource} (sums : AreRaised rows more node size) where
     pub used_raised : ((other : List ℕ) → lookup (bytes_eq other) new ≡ option_map (λ load. cond (bytes_eq node other) (record load { used = sum_with load.used size }) load) (lookup (bytes_eq other) loads))
         → AreUsed new more
     used_raised set other = by (lookup (bytes_eq other) loads) refl
@@ -77,12 +79,12 @@ module _ (loads : Loads) (rows : List BookRow) (added : ℕ) (kept : ShowsBook l
         raised : (load : NodeLoad) (b : Bool) → bytes_eq node other ≡ b → IsSum load.used (total_on other rows)
             → IsSum (cond b (record load { used = sum_with load.used size }) load).used (total_on other more)
         raised load true e u =
-            let m = rw e at (memory other) in
-            let c = rw e at (cores other) in
+            let m = rw e at (sums.memory other) in
+            let c = rw e at (sums.cores other) in
             (omega (arith, u.0, m), omega (arith, u.1, c))
         raised load false e u =
-            let m = rw e at (memory other) in
-            let c = rw e at (cores other) in
+            let m = rw e at (sums.memory other) in
+            let c = rw e at (sums.cores other) in
             (omega (arith, u.0, m), omega (arith, u.1, c))
 
         by : (o : Option NodeLoad) → lookup (bytes_eq other) loads ≡ o → IfSome (lookup (bytes_eq other) new) (λ load. IsSum load.used (total_on other more))
@@ -101,25 +103,25 @@ module _ (loads : Loads) (rows : List BookRow) (added : ℕ) (kept : ShowsBook l
         by true None e f =
             let s = rw (e, f) at (set other) in
             let n = nothing other f in
-            let m = rw e at (memory other) in
-            let c = rw e at (cores other) in
+            let m = rw e at (sums.memory other) in
+            let c = rw e at (sums.cores other) in
             rw s (omega (arith, n.0, m), omega (arith, n.1, c))
         by true (Some load) e f =
             let s = rw (e, f) at (set other) in
             let u : IsSum load.used (total_on other rows) = rw f at (kept.used other) in
-            let m = rw e at (memory other) in
-            let c = rw e at (cores other) in
+            let m = rw e at (sums.memory other) in
+            let c = rw e at (sums.cores other) in
             rw s (omega (arith, u.0, m), omega (arith, u.1, c))
         by false None e f = let s = rw (e, f) at (set other) in rw s tt
         by false (Some load) e f =
             let s = rw (e, f) at (set other) in
             let u : IsSum load.used (total_on other rows) = rw f at (kept.used other) in
-            let m = rw e at (memory other) in
-            let c = rw e at (cores other) in
+            let m = rw e at (sums.memory other) in
+            let c = rw e at (sums.cores other) in
             rw s (omega (arith, u.0, m), omega (arith, u.1, c))
 
 -- the sums with what enters on a node
-pub sums_entered : (rows : List BookRow) (state : ContainerState) (added : ℕ) (node : List ℕ) (list : List Held) (part : Resource → ℕ) (other : List ℕ)
+sums_entered : (rows : List BookRow) (state : ContainerState) (added : ℕ) (node : List ℕ) (list : List Held) (part : Resource → ℕ) (other : List ℕ)
     → sum_by part (sizes_on other (rows ++ entered_rows state added node list)) ≡ sum_by part (sizes_on other rows) + cond (bytes_eq node other) (sum_by part (map (λ held. held.size) list)) 0
 sums_entered rows state added node list part other = sum_joined part other rows (entered_rows state added node list) ∙ by (bytes_eq node other) refl
   where
@@ -128,9 +130,35 @@ sums_entered rows state added node list part other = sum_joined part other rows 
     by true e = rw (e, entered_sizes state added node other list e) refl
     by false e = rw (e, entered_elsewhere state added node other list e) refl
 
-pub no_more : (b : Bool) (n : ℕ) → n ≡ n + cond b 0 0
-no_more true n = omega arith
-no_more false n = omega arith
+-- so it is where a list of containers entered on the node
+pub raised_by_list : {rows more : List BookRow} {node : List ℕ} {size : Resource} (state : ContainerState) (added : ℕ) (list : List Held)
+    → more ≡ rows ++ entered_rows state added node list → size ≡ total_of (map (λ held. held.size) list) → AreRaised rows more node size
+raised_by_list {rows} {more} {node} {size} state added list entered total =
+    let sums : AreRaised rows (rows ++ entered_rows state added node list) node (total_of (map (λ held. held.size) list)) = record {
+      memory = sums_entered rows state added node list (λ one. one.memory_mb);
+      cores = sums_entered rows state added node list (λ one. one.vcores);
+    } in
+    rw (entered, total) sums
+
+-- where one row was added
+pub raised_by_one : {rows more : List BookRow} (one : BookRow) → more ≡ rows ++ one ∷ [] → AreRaised rows more one.node one.size
+raised_by_one {rows} {more} one added =
+    let sums : AreRaised rows (rows ++ one ∷ []) one.node one.size = record {
+      memory = λ other. sum_push (λ size. size.memory_mb) other rows one;
+      cores = λ other. sum_push (λ size. size.vcores) other rows one;
+    } in
+    rw added sums
+
+-- and where nothing entered
+pub raised_by_none : (rows : List BookRow) (node : List ℕ) → AreRaised rows rows node (record { memory_mb = 0; vcores = 0 })
+raised_by_none rows node = record {
+  memory = λ other. no_more (bytes_eq node other) (total_on other rows).memory_mb;
+  cores = λ other. no_more (bytes_eq node other) (total_on other rows).vcores;
+}
+  where
+    no_more : (b : Bool) (n : ℕ) → n ≡ n + cond b 0 0
+    no_more true n = omega arith
+    no_more false n = omega arith
 
 pub sizes_held : (grants : List Grant) → map (λ held. held.size) (map held_of grants) ≡ sizes_of grants
 sizes_held [] = refl
@@ -141,9 +169,9 @@ pub used_same : (loads : Loads) (rows same : List BookRow) → AreUsed loads row
 used_same loads rows same used sizes node = subst (λ (l : List Resource). IfSome (lookup (bytes_eq node) loads) (λ load. IsSum load.used (total_of l))) (sym (sizes node)) (used node)
 
 -- after rows left
-pub left_kept : (loads new : Loads) (rows : List BookRow) (added : ℕ) (test : BookRow → Bool) (left : List BookRow) → ShowsBook loads rows added → nodes_shown new ≡ nodes_shown loads
+pub left_kept : {loads new : Loads} {rows : List BookRow} {added : ℕ} (test : BookRow → Bool) {left : List BookRow} → ShowsBook loads rows added → nodes_shown new ≡ nodes_shown loads
     → left ≡ filter test rows → AreUsed new left → ShowsBook new left added
-left_kept loads new rows added test left kept same is used = record {
+left_kept {loads} {new} {rows} {added} test kept same is used = record {
   book = rw (same, is) (book_left (seen loads rows added) test kept.book);
   used = used;
 }
@@ -222,13 +250,13 @@ told_rows id (row ∷ rows) apart may = by (is_of id row) refl (told_rows id row
     by false e rest = rw e (ap (λ more. row ∷ more) (rest (rw e at may)))
 
 -- after a container runs, and after somebody is told of it
-pub ran_kept : (loads : Loads) (rows new : List BookRow) (added : ℕ) (id : ContainerId) → ShowsBook loads rows added → new ≡ stepped id rows → ShowsBook loads new added × (new ≡ in_state id Running rows)
-ran_kept loads rows new added id kept is =
+pub ran_kept : {loads : Loads} {rows new : List BookRow} {added : ℕ} (id : ContainerId) → ShowsBook loads rows added → new ≡ stepped id rows → ShowsBook loads new added × (new ≡ in_state id Running rows)
+ran_kept {loads} {rows} {new} {added} id kept is =
     let e : new ≡ in_state id Running rows = is ∙ ran_rows id rows kept.book.living in
     (subst (λ l. ShowsBook loads l added) (sym e) (state_kept id Running loads rows added refl kept), e)
 
-pub told_kept : (loads : Loads) (rows new : List BookRow) (added : ℕ) (id : ContainerId) → ShowsBook loads rows added → IfSome (find (is_of id) rows) (λ row. may_be_told row.state ≡ true)
+pub told_kept : {loads : Loads} {rows new : List BookRow} {added : ℕ} (id : ContainerId) → ShowsBook loads rows added → IfSome (find (is_of id) rows) (λ row. may_be_told row.state ≡ true)
     → new ≡ told_of id rows → ShowsBook loads new added × (new ≡ in_state id Acquired rows)
-told_kept loads rows new added id kept may is =
+told_kept {loads} {rows} {new} {added} id kept may is =
     let e : new ≡ in_state id Acquired rows = is ∙ told_rows id rows kept.book.apart may in
     (subst (λ l. ShowsBook loads l added) (sym e) (state_kept id Acquired loads rows added refl kept), e)

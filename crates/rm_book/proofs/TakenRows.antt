@@ -22,33 +22,25 @@ running_stay taken added node (held ∷ list) = rw (same_row (is_held taken held
 
 -- a row that runs from now on stands as it did
 module _ (taken : List Held) where
-  pub id_stays : (row : BookRow) → (book_row_taken taken row).id ≡ row.id
-  id_stays row = by (is_held taken row.id)
+  -- what a row that runs has as before
+  part_stays : {A : Type 0} (part : BookRow → A) → ((row : BookRow) → part (record row { state = Running }) ≡ part row) → (row : BookRow) → part (book_row_taken taken row) ≡ part row
+  part_stays part same row = by (is_held taken row.id)
     where
-      by : (b : Bool) → (cond b (record row { state = Running }) row).id ≡ row.id
-      by true = refl
+      by : (b : Bool) → part (cond b (record row { state = Running }) row) ≡ part row
+      by true = same row
       by false = refl
+
+  pub id_stays : (row : BookRow) → (book_row_taken taken row).id ≡ row.id
+  id_stays = part_stays (λ (row : BookRow). row.id) (λ row. refl)
 
   told_stays : (row : BookRow) → (book_row_taken taken row).told ≡ row.told
-  told_stays row = by (is_held taken row.id)
-    where
-      by : (b : Bool) → (cond b (record row { state = Running }) row).told ≡ row.told
-      by true = refl
-      by false = refl
+  told_stays = part_stays (λ (row : BookRow). row.told) (λ row. refl)
 
   node_stays : (row : BookRow) → (book_row_taken taken row).node ≡ row.node
-  node_stays row = by (is_held taken row.id)
-    where
-      by : (b : Bool) → (cond b (record row { state = Running }) row).node ≡ row.node
-      by true = refl
-      by false = refl
+  node_stays = part_stays (λ (row : BookRow). row.node) (λ row. refl)
 
   size_stays : (row : BookRow) → (book_row_taken taken row).size ≡ row.size
-  size_stays row = by (is_held taken row.id)
-    where
-      by : (b : Bool) → (cond b (record row { state = Running }) row).size ≡ row.size
-      by true = refl
-      by false = refl
+  size_stays = part_stays (λ (row : BookRow). row.size) (λ row. refl)
 
   any_stays : (id : ContainerId) (rows : List BookRow) → list_any (is_of id) (map (book_row_taken taken) rows) ≡ list_any (is_of id) rows
   any_stays id [] = refl

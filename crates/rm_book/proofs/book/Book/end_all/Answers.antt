@@ -4,5 +4,4 @@ use Rattle.rm_book.proofs.book.Book.end_all.Goals as goal
 
 pub invariant_of-self : goal.invariant_of-self
 invariant_of-self c =
-    left_kept c.self.inside.nodes.map.entries c.end_each.new.nodes.map.entries c.self.inside.rows c.self.inside.added (λ row. not (list_any (λ id. is_container id row.id) c.args.ids.now)) c.end_each.new.rows c.self.invariant
-    c.end_each.ensures.shown c.end_each.ensures.rest c.end_each.ensures.used
+    left_kept (λ row. not (list_any (λ id. is_container id row.id) c.args.ids.now)) c.self.invariant c.end_each.ensures.shown c.end_each.ensures.rest c.end_each.ensures.used
