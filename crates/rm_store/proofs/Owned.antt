@@ -138,8 +138,8 @@ no_content [] (op ∷ content) none reads = absurd reads
 no_content (p ∷ payloads) content none reads = cc
 
 -- a change of area, where nothing is added but what is left of the content
-pub changed_own : (v w : DiskView) (a : AreasAt) (content left : List Op) → IsKept v a content → ((bytes : List ℕ) → v.told ≡ Some bytes → v.images bytes) → left ≡ folded content
+pub changed_own : {v : DiskView} {a : AreasAt} {content left : List Op} (w : DiskView) → IsKept v a content → ((bytes : List ℕ) → v.told ≡ Some bytes → v.images bytes) → left ≡ folded content
     → ((a.generation ≡ 0 → left ≡ []) → KeepsOwn v w) → KeepsOwn v w
-changed_own v w a content left kept reads is change bytes told own =
+changed_own {content = content} w kept reads is change bytes told own =
     let on = kept.has bytes told in
     change (λ none. is ∙ ap folded (no_content on.0 content (on.1.none none).1 on.2)) bytes told own

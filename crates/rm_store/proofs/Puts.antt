@@ -47,11 +47,11 @@ head_long n ops =
 room_is : (half : ℕ) (left content : List Op) → left ≡ folded content → room_for half content ≡ half - 13 - sum (map (λ op. length (frame op) + 5) left)
 room_is half left content is = ap (λ (l : List Op). half - 13 - sum (map (λ op. length (frame op) + 5) l)) (sym is)
 
-pub room_enough : (half n needed : ℕ) (left content : List Op) → left ≡ folded content → needed + 6 ≤ room_for half content → length (journal_records (head_of (suc n) ++ map frame left)) < half
-room_enough half n needed left content is fits = let a = records_long left in let b = head_long n left in let c = room_is half left content is in omega (arith, a, b, c, fits)
+pub room_enough : {left : List Op} (half n needed : ℕ) (content : List Op) → left ≡ folded content → needed + 6 ≤ room_for half content → length (journal_records (head_of (suc n) ++ map frame left)) < half
+room_enough {left} half n needed content is fits = let a = records_long left in let b = head_long n left in let c = room_is half left content is in omega (arith, a, b, c, fits)
 
-pub room_after : (half n needed : ℕ) (left content : List Op) → left ≡ folded content → needed + 6 ≤ room_for half content → needed + 6 ≤ half - length (journal_records (head_of (suc n) ++ map frame left))
-room_after half n needed left content is fits = let a = records_long left in let b = head_long n left in let c = room_is half left content is in omega (arith, a, b, c, fits)
+pub room_after : {left : List Op} (half n needed : ℕ) (content : List Op) → left ≡ folded content → needed + 6 ≤ room_for half content → needed + 6 ≤ half - length (journal_records (head_of (suc n) ++ map frame left))
+room_after {left} half n needed content is fits = let a = records_long left in let b = head_long n left in let c = room_is half left content is in omega (arith, a, b, c, fits)
 
 pub both_ok : {X E : Type 0} {P Q R : Type 0} (r : Result X E) → (P → Q → R) → OnOk r P → OnOk r Q → OnOk r R
 both_ok (Ok x) f p q = f p q
@@ -157,48 +157,63 @@ kept_more v w a b content more op can framed stands sound no_build is goes had p
 }
 
 -- an area changes, or doesn't
-pub refold_only : (v0 v1 : DiskView) (a : AreasAt) (content left : List Op) (op : Op) → IsOperation op → IsKept v0 a content → left ≡ folded content → (ops : List Op) → HasOps v0 ops → fits_records (records ops) op ≡ true
+pub refold_only : {v0 : DiskView} {a : AreasAt} {content left : List Op} (v1 : DiskView) (op : Op) → IsOperation op → IsKept v0 a content → left ≡ folded content → (ops : List Op) → HasOps v0 ops → fits_records (records ops) op ≡ true
     → IfTold v0 (λ bytes. (payloads : List (List ℕ)) → AreasHold a payloads bytes → LeavesEitherLayout v0 v1 a.half payloads (map frame left)) → LeavesOps v0 v1 ops op
-refold_only v0 v1 a content left op can kept is ops has fits at =
+refold_only {v0} {a} {content} {left} v1 op can kept is ops has fits at =
     let t = there_is v0 a content ops kept has in
     moment_of (λ image. DeviceHolds image ops) (λ image. DeviceHolds image ops ⊎ DeviceHolds image (ops ++ op ∷ [])) v0 v1 (λ image h. inl h)
     (refold_leaves t.payloads content ops op t.reads t.none t.same fits can v0 v1 a.half left is (at t.bytes t.told t.payloads t.has))
 
 -- AN AREA CHANGES, AND ONE MORE IS PUT
 
-module _ (v0 v1 v2 : DiskView) (a a1 : AreasAt) (content left : List Op) (op : Op) (can : IsOperation op) (kept : IsKept v0 a content) (is : left ≡ folded content) (goes : IsLaterView v0 v1) (half : a1.half ≡ a.half) (now : IfTold v1 (AreasHold a1 (map frame left))) where
-  pub left_framed : All IsOperation left
-  left_framed = subst (λ (l : List Op). All IsOperation l) (sym is) (framed_left content kept.framed)
+-- what is left of a content was written to the other area anew, and an operation is to be put behind it
+pub record IsAnew (v0 v1 : DiskView) (a a1 : AreasAt) (content left : List Op) (op : Op) : Type 0 where
+  pub can : IsOperation op
+  pub kept : IsKept v0 a content
+  pub is : left ≡ folded content
+  pub goes_on : IsLaterView v0 v1
+  pub half : a1.half ≡ a.half
+  pub now : IfTold v1 (AreasHold a1 (map frame left))
+
+module _ {v0 v1 : DiskView} {a a1 : AreasAt} {content left : List Op} {op : Op} (anew : IsAnew v0 v1 a a1 content left op) where
+  left_framed : All IsOperation left
+  left_framed = subst (λ (l : List Op). All IsOperation l) (sym anew.is) (framed_left content anew.kept.framed)
 
   module _ (ops : List Op) (has : HasOps v0 ops) (fits : fits_records (records ops) op ≡ true) where
     there : IsThere v0 a content ops
-    there = there_is v0 a content ops kept has
+    there = there_is v0 a content ops anew.kept has
 
     left_same : folded left ≡ folded ops
-    left_same = ap folded is ∙ folded_twice content ∙ there.same
+    left_same = ap folded anew.is ∙ folded_twice content ∙ there.same
 
     left_none : stray left ≡ None
-    left_none = ap stray is ∙ folded_none_stray content there.none
+    left_none = ap stray anew.is ∙ folded_none_stray content there.none
 
-    pub both_leave : IfTold v0 (λ bytes. (payloads : List (List ℕ)) → AreasHold a payloads bytes → LeavesEitherLayout v0 v1 a.half payloads (map frame left))
+    pub both_leave : (v2 : DiskView) → IfTold v0 (λ bytes. (payloads : List (List ℕ)) → AreasHold a payloads bytes → LeavesEitherLayout v0 v1 a.half payloads (map frame left))
         → IfTold v1 (λ bytes. (payloads : List (List ℕ)) → AreasHold a1 payloads bytes → LeavesEitherLayout v1 v2 a1.half payloads (payloads ++ frame op ∷ [])) → LeavesOps v0 v2 ops op
-    both_leave at second =
+    both_leave v2 at second =
         let t = there in
-        let b = told_after v0 v1 goes t.bytes t.told in
-        moment_on (λ image. DeviceHolds image ops ⊎ DeviceHolds image (ops ++ op ∷ [])) v0 v1 v2 (refold_only v0 v1 a content left op can kept is ops has fits at)
-        (put_leaves (map frame left) left ops op (reads_frames left left_framed) left_none left_same fits can v1 v2 a1.half (second b.0 b.1 (map frame left) (now b.0 b.1)))
+        let b = told_after v0 v1 anew.goes_on t.bytes t.told in
+        moment_on (λ image. DeviceHolds image ops ⊎ DeviceHolds image (ops ++ op ∷ [])) v0 v1 v2 (refold_only v1 op anew.can anew.kept anew.is ops has fits at)
+        (put_leaves (map frame left) left ops op (reads_frames left left_framed) left_none left_same fits anew.can v1 v2 a1.half (second b.0 b.1 (map frame left) (anew.now b.0 b.1)))
 
-    pub both_add : IsLaterView v1 v2 → IfTold v1 (λ bytes. (payloads : List (List ℕ)) → AreasHold a1 payloads bytes → HoldsPayloads v2 a1.half (payloads ++ frame op ∷ [])) → AddsOp v2 ops op
-    both_add goes2 put =
+    pub both_add : {v2 : DiskView} → IsLaterView v1 v2 → IfTold v1 (λ bytes. (payloads : List (List ℕ)) → AreasHold a1 payloads bytes → HoldsPayloads v2 a1.half (payloads ++ frame op ∷ [])) → AddsOp v2 ops op
+    both_add {v2} goes put =
         let t = there in
-        let b = told_after v0 v1 goes t.bytes t.told in
-        put_adds (map frame left) left ops op (reads_frames left left_framed) left_none left_same fits can v1 v2 b.0 b.1 goes2 a1.half (put b.0 b.1 (map frame left) (now b.0 b.1))
+        let b = told_after v0 v1 anew.goes_on t.bytes t.told in
+        put_adds (map frame left) left ops op (reads_frames left left_framed) left_none left_same fits anew.can v1 v2 b.0 b.1 goes a1.half (put b.0 b.1 (map frame left) (anew.now b.0 b.1))
 
-  pub now_reads : IfTold v1 (λ bytes. (payloads : List (List ℕ)) × AreasHold a1 payloads bytes × ReadsAs payloads left)
-  now_reads bytes told = (map frame left, now bytes told, reads_frames left left_framed)
+  now_reads : IfTold v1 (λ bytes. (payloads : List (List ℕ)) × AreasHold a1 payloads bytes × ReadsAs payloads left)
+  now_reads bytes told = (map frame left, anew.now bytes told, reads_frames left left_framed)
 
-pub take_front : (xs : List Op) (x : Op) (n : ℕ) → n ≡ length xs → take n (xs ++ x ∷ []) ≡ xs
-take_front xs x n is = take_at xs (x ∷ []) n (sym is)
+  -- what is left is kept with the operation
+  pub both_kept : {v2 : DiskView} {b : AreasAt} {more : List Op} → AreasInvariant v2 b → b.is_broken ≡ false → b.build ≡ None → more ≡ left ++ op ∷ [] → IsLaterView v1 v2
+      → IfTold v1 (λ bytes. (payloads : List (List ℕ)) → AreasHold a1 payloads bytes → IfTold v2 (AreasHold b (payloads ++ frame op ∷ []))) → IsKept v2 b more
+  both_kept {v2} {b} {more} stands sound no_build is goes put = kept_more v1 v2 a1 b left more op anew.can left_framed stands sound no_build is goes now_reads put
+
+-- what stands in front of the operation that was pushed is what was left of the content
+pub left_in_front : {left grown : List Op} {many : ℕ} (content : List Op) (op : Op) → grown ≡ left ++ op ∷ [] → many ≡ length left → left ≡ folded content → take many grown ≡ folded content
+left_in_front {left} {grown} {many} content op is counted folds = ap (λ (l : List Op). take many l) is ∙ take_at left (op ∷ []) many (sym counted) ∙ folds
 
 pub sums_got : (f : Op → ℕ) (ops : List Op) (place : ℕ) (x : Op) → slice_get ops place ≡ Some x → sum (map f (take (place + 1) ops)) ≡ sum (map f (take place ops)) + f x
 sums_got f ops place x is =
