@@ -1,12 +1,13 @@
 -- What entries by attempt give of the lists that contracts see, and of the attempts that wait.
 use Rattle.rm_book.proofs.Common.{◌≡◌, Bool, true, false, not, List, [], ◌∷◌, ◌++◌, cond, filter, map, Option, None, Some, IfSome, is_some, unwrap_or, refl, sym, ap, subst, ◌∙◌, list_any, keys_of, lookup, set_value, insert_entry, AskLine, AttemptId, is_attempt, same_attempt}
-use Rattle.std.proofs.Common.{Result, Ok, Err, OnOk, OnErr, IfNone, Bor}
+use Rattle.std.proofs.Common.{Result, Ok, Err, OnOk, OnErr, IfNone, Bor, inl, inr}
 use Rattle.std.specs.Prelude.{IsPermutation}
 use Rattle.std.specs.HashMap.{HashMap}
 use Rattle.std.specs.Option.{option_copied}
 use Rattle.indexmap.specs.Layout.{hash_map}
 use Rattle.std.specs.List.{AllByRecursion, IsDistinct}
 use Rattle.std.specs.Map.{remove_entry}
+use Rattle.std.proofs.lemmas.Bool.{cases_Bool}
 use Rattle.std.proofs.lemmas.List.Sorted.{IsPermutation-map}
 use Rattle.std.proofs.lemmas.Map.Keys.{IsDistinct-cons, IsDistinct-head, IsDistinct-tail}
 use Rattle.std.proofs.lemmas.Map.Lookups.{hash_map_IsPermutation_from_get, map_keys}
@@ -39,32 +40,26 @@ module _ (attempt : AttemptId) where
   -- an attempt's lines
   pub lines_are : (entries : List AskEntry) → lines_in (entries_in entries) attempt ≡ lines_at entries attempt
   lines_are [] = refl
-  lines_are (entry ∷ entries) = by (is_attempt attempt entry.0) refl (lines_are entries)
-    where
-      by : (b : Bool) → is_attempt attempt entry.0 ≡ b → lines_in (entries_in entries) attempt ≡ lines_at entries attempt
-          → lines_in (entries_in (entry ∷ entries)) attempt ≡ lines_at (entry ∷ entries) attempt
-      by true e rest = rw (attempt_back entry.0 attempt, e) refl
-      by false e rest = rw (attempt_back entry.0 attempt, e) rest
+  lines_are (entry ∷ entries) = elim (cases_Bool (is_attempt attempt entry.0)) [
+    | inl e ↦ rw (attempt_back entry.0 attempt, e) refl
+    | inr e ↦ rw (attempt_back entry.0 attempt, e) (lines_are entries)
+  ]
 
   -- whether it has an entry
   pub known : (entries : List AskEntry) → list_any (λ entry. is_attempt entry.attempt attempt) (entries_in entries) ≡ is_some (lookup (is_attempt attempt) entries)
   known [] = refl
-  known (entry ∷ entries) = by (is_attempt attempt entry.0) refl (known entries)
-    where
-      by : (b : Bool) → is_attempt attempt entry.0 ≡ b → list_any (λ entry. is_attempt entry.attempt attempt) (entries_in entries) ≡ is_some (lookup (is_attempt attempt) entries)
-          → list_any (λ entry. is_attempt entry.attempt attempt) (entries_in (entry ∷ entries)) ≡ is_some (lookup (is_attempt attempt) (entry ∷ entries))
-      by true e rest = rw (attempt_back entry.0 attempt, e) refl
-      by false e rest = rw (attempt_back entry.0 attempt, e) rest
+  known (entry ∷ entries) = elim (cases_Bool (is_attempt attempt entry.0)) [
+    | inl e ↦ rw (attempt_back entry.0 attempt, e) refl
+    | inr e ↦ rw (attempt_back entry.0 attempt, e) (known entries)
+  ]
 
   -- other lines of it
   pub entered : (lines : List AskLine) (entries : List AskEntry) → entries_in (insert_entry is_attempt entries attempt lines) ≡ with_lines attempt lines (entries_in entries)
   entered lines [] = refl
-  entered lines (entry ∷ entries) = by (is_attempt attempt entry.0) refl (entered lines entries)
-    where
-      by : (b : Bool) → is_attempt attempt entry.0 ≡ b → entries_in (insert_entry is_attempt entries attempt lines) ≡ with_lines attempt lines (entries_in entries)
-          → entries_in (insert_entry is_attempt (entry ∷ entries) attempt lines) ≡ with_lines attempt lines (entries_in (entry ∷ entries))
-      by true e rest = rw (attempt_back entry.0 attempt, e) refl
-      by false e rest = rw (attempt_back entry.0 attempt, e) (ap (λ (more : List AttemptAsks). entry_of entry ∷ more) rest)
+  entered lines (entry ∷ entries) = elim (cases_Bool (is_attempt attempt entry.0)) [
+    | inl e ↦ rw (attempt_back entry.0 attempt, e) refl
+    | inr e ↦ rw (attempt_back entry.0 attempt, e) (ap (λ (more : List AttemptAsks). entry_of entry ∷ more) (entered lines entries))
+  ]
 
   -- a key that is no other's
   no_key : (entries : List AskEntry) (key : AttemptId) → is_attempt attempt key ≡ true → AllByRecursion (λ y. is_attempt key y ≡ false) (keys_of entries)
@@ -85,131 +80,110 @@ module _ (attempt : AttemptId) where
   pub gone : (entries : List AskEntry) → IsDistinct is_attempt (keys_of entries)
       → entries_in (remove_entry (is_attempt attempt) entries) ≡ filter (λ entry. not (is_attempt entry.attempt attempt)) (entries_in entries)
   gone [] d = refl
-  gone (entry ∷ entries) d = by (is_attempt attempt entry.0) refl (gone entries (IsDistinct-tail is_attempt entry.0 (keys_of entries) d))
-    where
-      by : (b : Bool) → is_attempt attempt entry.0 ≡ b → entries_in (remove_entry (is_attempt attempt) entries) ≡ filter (λ entry. not (is_attempt entry.attempt attempt)) (entries_in entries)
-          → entries_in (remove_entry (is_attempt attempt) (entry ∷ entries)) ≡ filter (λ entry. not (is_attempt entry.attempt attempt)) (entries_in (entry ∷ entries))
-      by true e rest =
-          rw (attempt_back entry.0 attempt, e) (sym (all_stay entries (no_key entries entry.0 e (IsDistinct-head is_attempt entry.0 (keys_of entries) d))))
-      by false e rest = rw (attempt_back entry.0 attempt, e) (ap (λ (more : List AttemptAsks). entry_of entry ∷ more) rest)
+  gone (entry ∷ entries) d = elim (cases_Bool (is_attempt attempt entry.0)) [
+    | inl e ↦
+        rw (attempt_back entry.0 attempt, e) (sym (all_stay entries (no_key entries entry.0 e (IsDistinct-head is_attempt entry.0 (keys_of entries) d))))
+    | inr e ↦ rw (attempt_back entry.0 attempt, e) (ap (λ (more : List AttemptAsks). entry_of entry ∷ more) (gone entries (IsDistinct-tail is_attempt entry.0 (keys_of entries) d)))
+  ]
 
   -- a new entry, and a change of one
   pub last_entered : (lines : List AskLine) (entries : List AskEntry) → lookup (is_attempt attempt) entries ≡ None
       → entries ++ (attempt, lines) ∷ [] ≡ insert_entry is_attempt entries attempt lines
   last_entered lines [] l = refl
-  last_entered lines (entry ∷ entries) l = by (is_attempt attempt entry.0) refl (last_entered lines entries)
-    where
-      by : (b : Bool) → is_attempt attempt entry.0 ≡ b → (lookup (is_attempt attempt) entries ≡ None → entries ++ (attempt, lines) ∷ [] ≡ insert_entry is_attempt entries attempt lines)
-          → (entry ∷ entries) ++ (attempt, lines) ∷ [] ≡ insert_entry is_attempt (entry ∷ entries) attempt lines
-      by true e rest = absurd (let l' = rw e at l in cc)
-      by false e rest = let l' = rw e at l in rw e (ap (λ (more : List AskEntry). entry ∷ more) (rest l'))
+  last_entered lines (entry ∷ entries) l = elim (cases_Bool (is_attempt attempt entry.0)) [
+    | inl e ↦ absurd (let l' = rw e at l in cc)
+    | inr e ↦ let l' = rw e at l in rw e (ap (λ (more : List AskEntry). entry ∷ more) (last_entered lines entries l'))
+  ]
 
   pub set_entered : (lines own : List AskLine) (entries : List AskEntry) → lookup (is_attempt attempt) entries ≡ Some own
       → set_value (is_attempt attempt) entries lines ≡ insert_entry is_attempt entries attempt lines
   set_entered lines own [] l = cc
-  set_entered lines own (entry ∷ entries) l = by (is_attempt attempt entry.0) refl (set_entered lines own entries)
-    where
-      by : (b : Bool) → is_attempt attempt entry.0 ≡ b → (lookup (is_attempt attempt) entries ≡ Some own → set_value (is_attempt attempt) entries lines ≡ insert_entry is_attempt entries attempt lines)
-          → set_value (is_attempt attempt) (entry ∷ entries) lines ≡ insert_entry is_attempt (entry ∷ entries) attempt lines
-      by true e rest = rw e refl
-      by false e rest = let l' = rw e at l in rw e (ap (λ (more : List AskEntry). entry ∷ more) (rest l'))
+  set_entered lines own (entry ∷ entries) l = elim (cases_Bool (is_attempt attempt entry.0)) [
+    | inl e ↦ rw e refl
+    | inr e ↦ let l' = rw e at l in rw e (ap (λ (more : List AskEntry). entry ∷ more) (set_entered lines own entries l'))
+  ]
 
   pub same_entered : (own : List AskLine) (entries : List AskEntry) → lookup (is_attempt attempt) entries ≡ Some own → set_value (is_attempt attempt) entries own ≡ entries
   same_entered own [] l = refl
-  same_entered own (entry ∷ entries) l = by (is_attempt attempt entry.0) refl (same_entered own entries)
-    where
-      by : (b : Bool) → is_attempt attempt entry.0 ≡ b → (lookup (is_attempt attempt) entries ≡ Some own → set_value (is_attempt attempt) entries own ≡ entries)
-          → set_value (is_attempt attempt) (entry ∷ entries) own ≡ entry ∷ entries
-      by true e rest = let is : entry.1 ≡ own = (let l' = rw e at l in cc) in rw e (ap (λ (v : List AskLine). (entry.0, v) ∷ entries) (sym is))
-      by false e rest = let l' = rw e at l in rw e (ap (λ (more : List AskEntry). entry ∷ more) (rest l'))
+  same_entered own (entry ∷ entries) l = elim (cases_Bool (is_attempt attempt entry.0)) [
+    | inl e ↦ let is : entry.1 ≡ own = (let l' = rw e at l in cc) in rw e (ap (λ (v : List AskLine). (entry.0, v) ∷ entries) (sym is))
+    | inr e ↦ let l' = rw e at l in rw e (ap (λ (more : List AskEntry). entry ∷ more) (same_entered own entries l'))
+  ]
 
   -- the entry of another in front changes nothing of what is found behind a change
   found_behind : (v : Option (List AskLine)) (one : AttemptId) (entry : AskEntry) (changed entries : List AskEntry) → is_attempt attempt entry.0 ≡ false
       → lookup (is_attempt one) changed ≡ cond (is_attempt attempt one) v (lookup (is_attempt one) entries)
       → lookup (is_attempt one) (entry ∷ changed) ≡ cond (is_attempt attempt one) v (lookup (is_attempt one) (entry ∷ entries))
-  found_behind v one entry changed entries e rest = by (is_attempt one entry.0) refl
-    where
-      by : (b : Bool) → is_attempt one entry.0 ≡ b → lookup (is_attempt one) (entry ∷ changed) ≡ cond (is_attempt attempt one) v (lookup (is_attempt one) (entry ∷ entries))
-      by true f = rw (f, apart_beside attempt one entry.0 e f) refl
-      by false f = rw f rest
+  found_behind v one entry changed entries e rest = elim (cases_Bool (is_attempt one entry.0)) [
+    | inl f ↦ rw (f, apart_beside attempt one entry.0 e f) refl
+    | inr f ↦ rw f rest
+  ]
 
   -- what is found then
   pub found_entered : (lines : List AskLine) (one : AttemptId) (entries : List AskEntry)
       → lookup (is_attempt one) (insert_entry is_attempt entries attempt lines) ≡ cond (is_attempt attempt one) (Some lines) (lookup (is_attempt one) entries)
   found_entered lines one [] = rw (attempt_back attempt one) refl
-  found_entered lines one (entry ∷ entries) = by (is_attempt attempt entry.0) refl (found_entered lines one entries)
+  found_entered lines one (entry ∷ entries) = elim (cases_Bool (is_attempt attempt entry.0)) [
+    | inl e ↦ rw (e, same_beside attempt one entry.0 e) (first (is_attempt one entry.0))
+    | inr e ↦ rw e (found_behind (Some lines) one entry (insert_entry is_attempt entries attempt lines) entries e (found_entered lines one entries))
+  ]
     where
       first : (b : Bool) → cond b (Some lines) (lookup (is_attempt one) entries) ≡ cond b (Some lines) (cond b (Some entry.1) (lookup (is_attempt one) entries))
       first true = refl
       first false = refl
 
-      by : (b : Bool) → is_attempt attempt entry.0 ≡ b → lookup (is_attempt one) (insert_entry is_attempt entries attempt lines) ≡ cond (is_attempt attempt one) (Some lines) (lookup (is_attempt one) entries)
-          → lookup (is_attempt one) (insert_entry is_attempt (entry ∷ entries) attempt lines) ≡ cond (is_attempt attempt one) (Some lines) (lookup (is_attempt one) (entry ∷ entries))
-      by true e rest = rw (e, same_beside attempt one entry.0 e) (first (is_attempt one entry.0))
-      by false e rest = rw e (found_behind (Some lines) one entry (insert_entry is_attempt entries attempt lines) entries e rest)
-
   -- no two keys are the same then
   all_entered : (key : AttemptId) (lines : List AskLine) (entries : List AskEntry) → is_attempt key attempt ≡ false → AllByRecursion (λ y. is_attempt key y ≡ false) (keys_of entries)
       → AllByRecursion (λ y. is_attempt key y ≡ false) (keys_of (insert_entry is_attempt entries attempt lines))
   all_entered key lines [] n a = (n, tt)
-  all_entered key lines (entry ∷ entries) n a = by (is_attempt attempt entry.0) refl (all_entered key lines entries n a.1)
-    where
-      by : (b : Bool) → is_attempt attempt entry.0 ≡ b → AllByRecursion (λ y. is_attempt key y ≡ false) (keys_of (insert_entry is_attempt entries attempt lines))
-          → AllByRecursion (λ y. is_attempt key y ≡ false) (keys_of (insert_entry is_attempt (entry ∷ entries) attempt lines))
-      by true e rest = rw e a
-      by false e rest = rw e (a.0, rest)
+  all_entered key lines (entry ∷ entries) n a = elim (cases_Bool (is_attempt attempt entry.0)) [
+    | inl e ↦ rw e a
+    | inr e ↦ rw e (a.0, all_entered key lines entries n a.1)
+  ]
 
   unique_entered : (lines : List AskLine) (entries : List AskEntry) → IsDistinct is_attempt (keys_of entries) → IsDistinct is_attempt (keys_of (insert_entry is_attempt entries attempt lines))
   unique_entered lines [] d = IsDistinct-cons is_attempt attempt [] tt d
-  unique_entered lines (entry ∷ entries) d = by (is_attempt attempt entry.0) refl (unique_entered lines entries (IsDistinct-tail is_attempt entry.0 (keys_of entries) d))
-    where
-      by : (b : Bool) → is_attempt attempt entry.0 ≡ b → IsDistinct is_attempt (keys_of (insert_entry is_attempt entries attempt lines))
-          → IsDistinct is_attempt (keys_of (insert_entry is_attempt (entry ∷ entries) attempt lines))
-      by true e rest = rw e d
-      by false e rest =
-          let other : is_attempt entry.0 attempt ≡ false = attempt_back entry.0 attempt ∙ e in
-          rw e
-          (IsDistinct-cons is_attempt entry.0 (keys_of (insert_entry is_attempt entries attempt lines))
-          (all_entered entry.0 lines entries other (IsDistinct-head is_attempt entry.0 (keys_of entries) d)) rest)
+  unique_entered lines (entry ∷ entries) d = elim (cases_Bool (is_attempt attempt entry.0)) [
+    | inl e ↦ rw e d
+    | inr e ↦
+        let other : is_attempt entry.0 attempt ≡ false = attempt_back entry.0 attempt ∙ e in
+        rw e
+        (IsDistinct-cons is_attempt entry.0 (keys_of (insert_entry is_attempt entries attempt lines))
+        (all_entered entry.0 lines entries other (IsDistinct-head is_attempt entry.0 (keys_of entries) d)) (unique_entered lines entries (IsDistinct-tail is_attempt entry.0 (keys_of entries) d)))
+  ]
 
   all_removed : (key : AttemptId) (entries : List AskEntry) → AllByRecursion (λ y. is_attempt key y ≡ false) (keys_of entries)
       → AllByRecursion (λ y. is_attempt key y ≡ false) (keys_of (remove_entry (is_attempt attempt) entries))
   all_removed key [] a = tt
-  all_removed key (entry ∷ entries) a = by (is_attempt attempt entry.0) refl (all_removed key entries a.1)
-    where
-      by : (b : Bool) → is_attempt attempt entry.0 ≡ b → AllByRecursion (λ y. is_attempt key y ≡ false) (keys_of (remove_entry (is_attempt attempt) entries))
-          → AllByRecursion (λ y. is_attempt key y ≡ false) (keys_of (remove_entry (is_attempt attempt) (entry ∷ entries)))
-      by true e rest = rw e a.1
-      by false e rest = rw e (a.0, rest)
+  all_removed key (entry ∷ entries) a = elim (cases_Bool (is_attempt attempt entry.0)) [
+    | inl e ↦ rw e a.1
+    | inr e ↦ rw e (a.0, all_removed key entries a.1)
+  ]
 
   unique_removed : (entries : List AskEntry) → IsDistinct is_attempt (keys_of entries) → IsDistinct is_attempt (keys_of (remove_entry (is_attempt attempt) entries))
   unique_removed [] d = d
-  unique_removed (entry ∷ entries) d = by (is_attempt attempt entry.0) refl (unique_removed entries (IsDistinct-tail is_attempt entry.0 (keys_of entries) d))
-    where
-      by : (b : Bool) → is_attempt attempt entry.0 ≡ b → IsDistinct is_attempt (keys_of (remove_entry (is_attempt attempt) entries))
-          → IsDistinct is_attempt (keys_of (remove_entry (is_attempt attempt) (entry ∷ entries)))
-      by true e rest = rw e (IsDistinct-tail is_attempt entry.0 (keys_of entries) d)
-      by false e rest =
-          rw e
-          (IsDistinct-cons is_attempt entry.0 (keys_of (remove_entry (is_attempt attempt) entries))
-          (all_removed entry.0 entries (IsDistinct-head is_attempt entry.0 (keys_of entries) d)) rest)
+  unique_removed (entry ∷ entries) d = elim (cases_Bool (is_attempt attempt entry.0)) [
+    | inl e ↦ rw e (IsDistinct-tail is_attempt entry.0 (keys_of entries) d)
+    | inr e ↦
+        rw e
+        (IsDistinct-cons is_attempt entry.0 (keys_of (remove_entry (is_attempt attempt) entries))
+        (all_removed entry.0 entries (IsDistinct-head is_attempt entry.0 (keys_of entries) d)) (unique_removed entries (IsDistinct-tail is_attempt entry.0 (keys_of entries) d)))
+  ]
 
   -- what is found after a removal
   found_removed : (one : AttemptId) (entries : List AskEntry) → IsDistinct is_attempt (keys_of entries)
       → lookup (is_attempt one) (remove_entry (is_attempt attempt) entries) ≡ cond (is_attempt attempt one) None (lookup (is_attempt one) entries)
   found_removed one [] d = none_either (is_attempt attempt one)
-  found_removed one (entry ∷ entries) d = by (is_attempt attempt entry.0) refl (found_removed one entries (IsDistinct-tail is_attempt entry.0 (keys_of entries) d))
+  found_removed one (entry ∷ entries) d = elim (cases_Bool (is_attempt attempt entry.0)) [
+    | inl e ↦ rw (e, same_beside attempt one entry.0 e) (first e (is_attempt one entry.0) refl)
+    | inr e ↦ rw e (found_behind None one entry (remove_entry (is_attempt attempt) entries) entries e (found_removed one entries (IsDistinct-tail is_attempt entry.0 (keys_of entries) d)))
+  ]
     where
       first : is_attempt attempt entry.0 ≡ true → (b : Bool) → is_attempt one entry.0 ≡ b → lookup (is_attempt one) entries ≡ cond b None (cond b (Some entry.1) (lookup (is_attempt one) entries))
       first e true f =
           subst (λ (a : AttemptId). lookup (is_attempt a) entries ≡ None) (same_attempt attempt one (same_beside attempt one entry.0 e ∙ f))
           (not_found entries (no_key entries entry.0 e (IsDistinct-head is_attempt entry.0 (keys_of entries) d)))
       first e false f = refl
-
-      by : (b : Bool) → is_attempt attempt entry.0 ≡ b → lookup (is_attempt one) (remove_entry (is_attempt attempt) entries) ≡ cond (is_attempt attempt one) None (lookup (is_attempt one) entries)
-          → lookup (is_attempt one) (remove_entry (is_attempt attempt) (entry ∷ entries)) ≡ cond (is_attempt attempt one) None (lookup (is_attempt one) (entry ∷ entries))
-      by true e rest = rw (e, same_beside attempt one entry.0 e) (first e (is_attempt one entry.0) refl)
-      by false e rest = rw e (found_behind None one entry (remove_entry (is_attempt attempt) entries) entries e rest)
 
   -- those that wait after a change
   pub kept_entered : (lines : List AskLine) (entries new : List AskEntry) (waiting marked : List AttemptId) → AreKept entries waiting → new ≡ insert_entry is_attempt entries attempt lines
@@ -416,12 +390,10 @@ those_with (entry ∷ entries) = cond (is_nil entry.1) (those_with entries) (ent
 -- the same as contracts see them
 seen_with : (entries : List AskEntry) → those_with entries ≡ map (λ entry. entry.attempt) (filter (λ entry. not (is_nil entry.lines)) (entries_in entries))
 seen_with [] = refl
-seen_with (entry ∷ entries) = by (is_nil entry.1) refl (seen_with entries)
-  where
-    by : (b : Bool) → is_nil entry.1 ≡ b → those_with entries ≡ map (λ entry. entry.attempt) (filter (λ entry. not (is_nil entry.lines)) (entries_in entries))
-        → those_with (entry ∷ entries) ≡ map (λ entry. entry.attempt) (filter (λ entry. not (is_nil entry.lines)) (entries_in (entry ∷ entries)))
-    by true e rest = rw e rest
-    by false e rest = rw e (ap (λ (more : List AttemptId). entry.0 ∷ more) rest)
+seen_with (entry ∷ entries) = elim (cases_Bool (is_nil entry.1)) [
+  | inl e ↦ rw e (seen_with entries)
+  | inr e ↦ rw e (ap (λ (more : List AttemptId). entry.0 ∷ more) (seen_with entries))
+]
 
 -- keys as entries of nothing
 abbrev pair : AttemptId → AttemptId × Unit {0}
@@ -437,28 +409,24 @@ mapped_paired (key ∷ keys) = ap (λ (more : List AttemptId). key ∷ more) (ma
 
 found_paired : (one : AttemptId) (keys : List AttemptId) → lookup (is_attempt one) (map pair keys) ≡ cond (list_any (is_attempt one) keys) (Some tt) None
 found_paired one [] = refl
-found_paired one (key ∷ keys) = by (is_attempt one key) refl (found_paired one keys)
-  where
-    by : (b : Bool) → is_attempt one key ≡ b → lookup (is_attempt one) (map pair keys) ≡ cond (list_any (is_attempt one) keys) (Some tt) None
-        → lookup (is_attempt one) (map pair (key ∷ keys)) ≡ cond (list_any (is_attempt one) (key ∷ keys)) (Some tt) None
-    by true e rest = rw e refl
-    by false e rest = rw e rest
+found_paired one (key ∷ keys) = elim (cases_Bool (is_attempt one key)) [
+  | inl e ↦ rw e refl
+  | inr e ↦ rw e (found_paired one keys)
+]
 
 all_with : (key : AttemptId) (entries : List AskEntry) → AllByRecursion (λ y. is_attempt key y ≡ false) (keys_of entries) → AllByRecursion (λ y. is_attempt key y ≡ false) (those_with entries)
 all_with key [] a = tt
-all_with key (entry ∷ entries) a = by (is_nil entry.1) refl (all_with key entries a.1)
-  where
-    by : (b : Bool) → is_nil entry.1 ≡ b → AllByRecursion (λ y. is_attempt key y ≡ false) (those_with entries) → AllByRecursion (λ y. is_attempt key y ≡ false) (those_with (entry ∷ entries))
-    by true e rest = rw e rest
-    by false e rest = rw e (a.0, rest)
+all_with key (entry ∷ entries) a = elim (cases_Bool (is_nil entry.1)) [
+  | inl e ↦ rw e (all_with key entries a.1)
+  | inr e ↦ rw e (a.0, all_with key entries a.1)
+]
 
 unique_with : (entries : List AskEntry) → IsDistinct is_attempt (keys_of entries) → IsDistinct is_attempt (those_with entries)
 unique_with [] d = d
-unique_with (entry ∷ entries) d = by (is_nil entry.1) refl (unique_with entries (IsDistinct-tail is_attempt entry.0 (keys_of entries) d))
-  where
-    by : (b : Bool) → is_nil entry.1 ≡ b → IsDistinct is_attempt (those_with entries) → IsDistinct is_attempt (those_with (entry ∷ entries))
-    by true e rest = rw e rest
-    by false e rest = rw e (IsDistinct-cons is_attempt entry.0 (those_with entries) (all_with entry.0 entries (IsDistinct-head is_attempt entry.0 (keys_of entries) d)) rest)
+unique_with (entry ∷ entries) d = elim (cases_Bool (is_nil entry.1)) [
+  | inl e ↦ rw e (unique_with entries (IsDistinct-tail is_attempt entry.0 (keys_of entries) d))
+  | inr e ↦ rw e (IsDistinct-cons is_attempt entry.0 (those_with entries) (all_with entry.0 entries (IsDistinct-head is_attempt entry.0 (keys_of entries) d)) (unique_with entries (IsDistinct-tail is_attempt entry.0 (keys_of entries) d)))
+]
 
 none_among : (one : AttemptId) (keys : List AttemptId) → AllByRecursion (λ y. is_attempt one y ≡ false) keys → list_any (is_attempt one) keys ≡ false
 none_among one [] a = refl

@@ -1,6 +1,8 @@
 -- The book after an absorption is a book.
 use Rattle.rm_book.proofs.Common.{◌≡◌, ℕ, ◌+◌, Bool, true, false, not, cond, List, [], ◌∷◌, ◌++◌, length, map, filter, refl, ◌∙◌, subst, append_assoc, append-nil, arith, list_any, sum_by, bytes_eq, or_parts, or_from, list_any-append, BookRow, Running, Held, ContainerId, Resource, is_container, Fits, container_back, same_text, is_held}
-use Rattle.rm_book.specs.Books.{BookRowsAreApart, AreLiving, AreOnce, is_living_state, BookOf, IsBook, TellUpTo, capability_or_none, entering, is_of, book_row_taken, sizes_on, taken_rows, total_on, with_capability, book_with_taken}
+use Rattle.std.proofs.Common.{inl, inr}
+use Rattle.std.proofs.lemmas.Bool.{cases_Bool}
+use Rattle.rm_book.specs.Books.{BookRowsAreApart, AreLiving, AreOnce, is_living_state, BookOf, IsBook, TellUpTo, entering, is_of, book_row_taken, sizes_on, taken_rows, total_on, book_with_taken}
 use Rattle.rm_book.specs.Kept.{AreFresh}
 use Rattle.rm_book.proofs.Changes.{book_left}
 use Rattle.rm_book.proofs.Lists.{any_filter}
@@ -56,33 +58,29 @@ module _ (taken : List Held) where
 
   pub sizes_stay : (node : List ℕ) (rows : List BookRow) → sizes_on node (map (book_row_taken taken) rows) ≡ sizes_on node rows
   sizes_stay node [] = refl
-  sizes_stay node (row ∷ rows) = by (bytes_eq row.node node) refl (sizes_stay node rows)
-    where
-      by : (b : Bool) → bytes_eq row.node node ≡ b → sizes_on node (map (book_row_taken taken) rows) ≡ sizes_on node rows
-          → sizes_on node (map (book_row_taken taken) (row ∷ rows)) ≡ sizes_on node (row ∷ rows)
-      by true e rest = rw (node_stays row, e, size_stays row, rest) refl
-      by false e rest = rw (node_stays row, e) rest
+  sizes_stay node (row ∷ rows) = elim (cases_Bool (bytes_eq row.node node)) [
+    | inl e ↦ rw (node_stays row, e, size_stays row, sizes_stay node rows) refl
+    | inr e ↦ rw (node_stays row, e) (sizes_stay node rows)
+  ]
 
 pub held_filter : (test : Held → Bool) (list : List Held) (id : ContainerId) → is_held list id ≡ false → is_held (filter test list) id ≡ false
 held_filter test [] id h = refl
 held_filter test (held ∷ list) id h =
     let parts = or_parts (is_container held.id id) (is_held list id) h in
-    by (test held) refl parts.0 (held_filter test list id parts.1)
-  where
-    by : (b : Bool) → test held ≡ b → is_container held.id id ≡ false → is_held (filter test list) id ≡ false → is_held (filter test (held ∷ list)) id ≡ false
-    by true e first rest = rw e (or_from (is_container held.id id) (is_held (filter test list) id) first rest)
-    by false e first rest = rw e rest
+    let rest = held_filter test list id parts.1 in
+    elim (cases_Bool (test held)) [
+      | inl e ↦ rw e (or_from (is_container held.id id) (is_held (filter test list) id) parts.0 rest)
+      | inr e ↦ rw e rest
+    ]
 
 -- of what is taken once, that which has no row among more
 pub fresh_of : (rows more : List BookRow) (list : List Held) → ((id : ContainerId) → list_any (is_of id) rows ≡ false → list_any (is_of id) more ≡ false) → AreOnce list
     → AreFresh more (filter (λ held. not (list_any (is_of held.id) rows)) list)
 fresh_of rows more [] less once = tt
-fresh_of rows more (held ∷ list) less once = by (list_any (is_of held.id) rows) refl (fresh_of rows more list less once.1)
-  where
-    by : (b : Bool) → list_any (is_of held.id) rows ≡ b → AreFresh more (filter (λ one. not (list_any (is_of one.id) rows)) list)
-        → AreFresh more (filter (λ one. not (list_any (is_of one.id) rows)) (held ∷ list))
-    by true e rest = rw e rest
-    by false e rest = rw e (less held.id e, held_filter (λ one. not (list_any (is_of one.id) rows)) list held.id once.0, rest)
+fresh_of rows more (held ∷ list) less once = elim (cases_Bool (list_any (is_of held.id) rows)) [
+  | inl e ↦ rw e (fresh_of rows more list less once.1)
+  | inr e ↦ rw e (less held.id e, held_filter (λ one. not (list_any (is_of one.id) rows)) list held.id once.0, fresh_of rows more list less once.1)
+]
 
 -- those that come after a first one are new where its row stands too
 pub fresh_after : (rows : List BookRow) (one : BookRow) (held : Held) (list : List Held) → one.id ≡ held.id → is_held list held.id ≡ false → AreFresh rows list → AreFresh (rows ++ one ∷ []) list
@@ -144,15 +142,14 @@ module _ (book : BookOf) (node : List ℕ) (capability : Resource) (taken : List
       ∙ rw (sizes_stay taken other left, none_elsewhere other node book.added (entering book taken) apart) (omega arith)
 
   fit_elsewhere : Fits (total_on node after.rows) capability → AllFit after.rows after.nodes
-  fit_elsewhere fits other = by (bytes_eq node other) refl
-    where
-      by : (b : Bool) → bytes_eq node other ≡ b → Fits (total_on other after.rows) (capability_or_none (with_capability node capability book.nodes) other)
-      by true e = rw (capability_in-with_capability node other capability book.nodes, e) (subst (λ (name : List ℕ). Fits (total_on name after.rows) capability) (same_text node other e) fits)
-      by false e =
-          let m = part_elsewhere (λ size. size.memory_mb) other e in
-          let c = part_elsewhere (λ size. size.vcores) other e in
-          let h = left_lawful.fit other in
-          rw (capability_in-with_capability node other capability book.nodes, e) (omega (arith, m, h.0), omega (arith, c, h.1))
+  fit_elsewhere fits other = elim (cases_Bool (bytes_eq node other)) [
+    | inl e ↦ rw (capability_in-with_capability node other capability book.nodes, e) (subst (λ (name : List ℕ). Fits (total_on name after.rows) capability) (same_text node other e) fits)
+    | inr e ↦
+        let m = part_elsewhere (λ size. size.memory_mb) other e in
+        let c = part_elsewhere (λ size. size.vcores) other e in
+        let h = left_lawful.fit other in
+        rw (capability_in-with_capability node other capability book.nodes, e) (omega (arith, m, h.0), omega (arith, c, h.1))
+  ]
 
   fewer : (id : ContainerId) → list_any (is_of id) book.rows ≡ false → list_any (is_of id) (map (book_row_taken taken) left) ≡ false
   fewer id none =
