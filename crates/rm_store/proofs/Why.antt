@@ -1,5 +1,5 @@
 -- Why a store was refused.
-use Rattle.rm_store.proofs.Common.{◌≡◌, ℕ, false, List, length, inl, inr, refl, sym, subst, Op, records, fits_records, IsDamagedLayout, JournalError}
+use Rattle.rm_store.proofs.Common.{◌≡◌, ℕ, ◌/◌, false, List, length, inl, inr, refl, sym, ap, subst, Op, DiskView, records, fits_records, IsDamagedLayout, JournalError}
 use Rattle.rm_store.specs.Content.{IsFrameOf, half_of}
 use Rattle.rm_journal.specs.declared.fault.JournalError.TheVariants as journal
 use Rattle.rm_store.specs.declared.fault.StoreError.{StoreError}
@@ -8,12 +8,19 @@ use Rattle.rm_store.specs.Causes.{ReadsUpTo, IsWhy}
 use Rattle.rm_store.specs.Errors.{of_journal}
 
 -- the areas' damage
-pub why_open : (bytes : List ℕ) (error : JournalError) → ((offset : ℕ) → error ≡ journal.Damaged offset → IsDamagedLayout (half_of bytes) bytes offset) → IsWhy bytes (of_journal error)
+why_open : (bytes : List ℕ) (error : JournalError) → ((offset : ℕ) → error ≡ journal.Damaged offset → IsDamagedLayout (half_of bytes) bytes offset) → IsWhy bytes (of_journal error)
 why_open bytes journal.DiskFault damaged = tt
 why_open bytes (journal.Damaged offset) damaged = inl (damaged offset refl)
 why_open bytes (journal.Full needed room) damaged = tt
 why_open bytes journal.NeedsReopen damaged = tt
 why_open bytes journal.Memory damaged = tt
+
+-- an error that the areas of a disk with these bytes gave
+pub why_given : (disk : DiskView) (bytes : List ℕ) (error : JournalError) {told : StoreError} → length bytes ≡ disk.size → told ≡ of_journal error
+    → ((offset : ℕ) → error ≡ journal.Damaged offset → IsDamagedLayout (disk.size / 2) bytes offset) → IsWhy bytes told
+why_given disk bytes error long is damaged =
+    let half : disk.size / 2 ≡ half_of bytes = ap (λ (n : ℕ). n / 2) (sym long) in
+    subst (IsWhy bytes) (sym is) (why_open bytes error (λ offset e. subst (λ (n : ℕ). IsDamagedLayout n bytes offset) half (damaged offset e)))
 
 -- a payload behind operations that is no frame, or whose operation is stray
 pub why_taken : (bytes payload : List ℕ) (ops : List Op) (gate : ℕ) (error : StoreError) → ReadsUpTo bytes ops payload gate

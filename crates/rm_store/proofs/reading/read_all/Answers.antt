@@ -1,13 +1,11 @@
-use Rattle.rm_store.proofs.Common.{◌≡◌, ℕ, ◌/◌, true, false, Option, None, Some, Ok, Err, Result, List, [], ◌∷◌, ◌++◌, refl, sym, ap, subst, ◌∙◌, OnOk, err_from_is_err_and, IfTold, HasWalked, IsDamagedLayout, quiet_trans}
+use Rattle.rm_store.proofs.Common.{◌≡◌, ℕ, true, false, Option, None, Some, Ok, Err, Result, List, [], ◌∷◌, ◌++◌, refl, sym, ap, subst, ◌∙◌, OnOk, err_from_is_err_and, IfTold, HasWalked, quiet_trans}
 use Rattle.rm_journal.specs.declared.fault.JournalError
 use Rattle.rm_journal.specs.Fault.{IsReadError}
-use Rattle.rm_store.specs.Content.{half_of}
 use Rattle.rm_store.specs.declared.fault.StoreError
 use Rattle.rm_store.specs.Errors.{of_journal, IsOpenError}
-use Rattle.rm_store.specs.Causes.{IsWhy}
 use Rattle.rm_store.proofs.SoFar.{begun, read_more, read_all_of, content_of, reads_up_to}
 use Rattle.rm_store.proofs.Faultless.{content_faultless}
-use Rattle.rm_store.proofs.Why.{why_open, why_taken}
+use Rattle.rm_store.proofs.Why.{why_given, why_taken}
 use Rattle.rm_store.proofs.reading.read_all.Goals as goal
 
 pub payloads-init : goal.payloads-init
@@ -104,36 +102,24 @@ pub returns-in_err-reading-clause-why : goal.returns-in_err-reading-clause-why
 returns-in_err-reading-clause-why g c =
     let p = err_from_is_err_and c.from_residual.result c.from_residual.ensures.1 in
     rw p.1 (λ bytes told.
-    let v = g.D.Disk.view c.args.disk.now in
     let long = g.met.D.Disk.image_size c.args.disk.now bytes (g.met.D.Disk.as_it_reads c.args.disk.now bytes told) in
-    let half : v.size / 2 ≡ half_of bytes = ap (λ (n : ℕ). n / 2) (sym long) in
-    let damaged : (offset : ℕ) → c.in_err-reading.field-0.0 ≡ JournalError.TheVariants.Damaged offset → IsDamagedLayout (half_of bytes) bytes offset =
-    (λ offset is. subst (λ (n : ℕ). IsDamagedLayout n bytes offset) half (c.in_err-reading.ensures.damaged offset (ap (λ (x : JournalError.JournalError). Err x) is) bytes told)) in
-    subst (IsWhy bytes) (sym p.2) (why_open bytes c.in_err-reading.field-0.0 damaged))
+    why_given (g.D.Disk.view c.args.disk.now) bytes c.in_err-reading.field-0.0 long p.2 (λ offset is. c.in_err-reading.ensures.damaged offset (ap (λ (x : JournalError.JournalError). Err x) is) bytes told))
 
 pub returns-in_err-gate-clause-why : goal.returns-in_err-gate-clause-why
 returns-in_err-gate-clause-why g c =
     let p = err_from_is_err_and c.from_residual-in_err-gate.result c.from_residual-in_err-gate.ensures.1 in
     rw p.1 (λ bytes told.
-    let v = g.D.Disk.view c.payloads.disk in
     let told_now = c.payloads.invariant.read.quiet.told ∙ told in
     let long = g.met.D.Disk.image_size c.payloads.disk bytes (g.met.D.Disk.as_it_reads c.payloads.disk bytes told_now) in
-    let half : v.size / 2 ≡ half_of bytes = ap (λ (n : ℕ). n / 2) (sym long) in
-    let damaged : (offset : ℕ) → c.in_err-gate.field-0.0 ≡ JournalError.TheVariants.Damaged offset → IsDamagedLayout (half_of bytes) bytes offset =
-    (λ offset is. subst (λ (n : ℕ). IsDamagedLayout n bytes offset) half (c.in_err-gate.ensures.damaged offset (ap (λ (x : JournalError.JournalError). Err x) is) bytes told_now)) in
-    subst (IsWhy bytes) (sym p.2) (why_open bytes c.in_err-gate.field-0.0 damaged))
+    why_given (g.D.Disk.view c.payloads.disk) bytes c.in_err-gate.field-0.0 long p.2 (λ offset is. c.in_err-gate.ensures.damaged offset (ap (λ (x : JournalError.JournalError). Err x) is) bytes told_now))
 
 pub returns-in_err-walk_on-clause-why : goal.returns-in_err-walk_on-clause-why
 returns-in_err-walk_on-clause-why g c =
     let p = err_from_is_err_and c.from_residual-in_err-walk_on.result c.from_residual-in_err-walk_on.ensures.1 in
     rw p.1 (λ bytes told.
-    let v = g.D.Disk.view c.next.new.disk in
     let told_now = c.next.ensures.quiet.told ∙ (c.payloads.invariant.read.quiet.told ∙ told) in
     let long = g.met.D.Disk.image_size c.next.new.disk bytes (g.met.D.Disk.as_it_reads c.next.new.disk bytes told_now) in
-    let half : v.size / 2 ≡ half_of bytes = ap (λ (n : ℕ). n / 2) (sym long) in
-    let damaged : (offset : ℕ) → c.in_err-walk_on.field-0.0 ≡ JournalError.TheVariants.Damaged offset → IsDamagedLayout (half_of bytes) bytes offset =
-    (λ offset is. subst (λ (n : ℕ). IsDamagedLayout n bytes offset) half (c.in_err-walk_on.ensures.damaged offset (ap (λ (x : JournalError.JournalError). Err x) is) bytes told_now)) in
-    subst (IsWhy bytes) (sym p.2) (why_open bytes c.in_err-walk_on.field-0.0 damaged))
+    why_given (g.D.Disk.view c.next.new.disk) bytes c.in_err-walk_on.field-0.0 long p.2 (λ offset is. c.in_err-walk_on.ensures.damaged offset (ap (λ (x : JournalError.JournalError). Err x) is) bytes told_now))
 
 pub returns-in_err-walk_on-clause-errors : goal.returns-in_err-walk_on-clause-errors
 returns-in_err-walk_on-clause-errors g c =
