@@ -1,3 +1,4 @@
+pub mod ByMessage
 pub mod Submitted
 pub mod Same
 pub mod SameLife
