@@ -1,13 +1,12 @@
 -- What entries by attempt give of the lists that contracts see, and of the attempts that wait.
-use Rattle.rm_book.proofs.Common.{◌≡◌, Bool, true, false, not, List, [], ◌∷◌, ◌++◌, cond, filter, map, Option, None, Some, IfSome, is_some, unwrap_or, refl, sym, ap, subst, ◌∙◌, list_any, keys_of, lookup, set_value, insert_entry, AskLine, AttemptId, is_attempt, same_attempt}
-use Rattle.std.proofs.Common.{Result, Ok, Err, OnOk, OnErr, IfNone, Bor, inl, inr}
+use Rattle.rm_book.proofs.Common.{◌≡◌, Bool, true, false, not, List, [], ◌∷◌, ◌++◌, cond, filter, map, Option, None, Some, IfSome, is_some, unwrap_or, refl, sym, ap, subst, ◌∙◌, list_any, keys_of, lookup, set_value, insert_entry, AskLine, AttemptId, is_attempt, same_attempt, inl, inr, cases_Bool}
+use Rattle.std.proofs.Common.{Result, Ok, Err, OnOk, OnErr, IfNone, Bor}
 use Rattle.std.specs.Prelude.{IsPermutation}
 use Rattle.std.specs.HashMap.{HashMap}
 use Rattle.std.specs.Option.{option_copied}
 use Rattle.indexmap.specs.Layout.{hash_map}
 use Rattle.std.specs.List.{AllByRecursion, IsDistinct}
 use Rattle.std.specs.Map.{remove_entry}
-use Rattle.std.proofs.lemmas.Bool.{cases_Bool}
 use Rattle.std.proofs.lemmas.List.Sorted.{IsPermutation-map}
 use Rattle.std.proofs.lemmas.Map.Keys.{IsDistinct-cons, IsDistinct-head, IsDistinct-tail}
 use Rattle.std.proofs.lemmas.Map.Lookups.{hash_map_IsPermutation_from_get, map_keys}

@@ -1,5 +1,5 @@
 -- What attempts ask for, as contracts see it, after each change of their lines.
-use Rattle.rm_book.proofs.Common.{◌≡◌, ℕ, ◌+◌, List, [], ◌∷◌, Bool, true, false, not, nat_lt, map, filter, None, Some, refl, sym, ◌∙◌, ap, list_any, map-append, Ask, AskLine, AttemptId, Resource, is_attempt}
+use Rattle.rm_book.proofs.Common.{◌≡◌, ℕ, ◌+◌, List, [], ◌∷◌, Bool, true, false, not, nat_lt, map, filter, None, Some, refl, sym, ◌∙◌, ap, list_any, map-append, Ask, AskLine, AttemptId, Resource, is_attempt, inl, inr, cases_Bool}
 use Rattle.std.proofs.Common.{◌==◌, if◌then◌else◌}
 use Rattle.rm_types.specs.Lists.{is_nil}
 use Rattle.rm_types.specs.Passes.{by_priority}
@@ -44,12 +44,10 @@ granted_view priority size lines =
 -- what each attempt asks for
 pub view_of : (entries : List AttemptAsks) (attempt : AttemptId) → attempt_asks (map asks_of_entry entries) attempt ≡ asks_in (lines_in entries attempt)
 view_of [] attempt = refl
-view_of (entry ∷ entries) attempt = by (is_attempt entry.attempt attempt) refl (view_of entries attempt)
-  where
-    by : (b : Bool) → is_attempt entry.attempt attempt ≡ b → attempt_asks (map asks_of_entry entries) attempt ≡ asks_in (lines_in entries attempt)
-        → attempt_asks (map asks_of_entry (entry ∷ entries)) attempt ≡ asks_in (lines_in (entry ∷ entries) attempt)
-    by true e rest = rw e refl
-    by false e rest = rw e rest
+view_of (entry ∷ entries) attempt = elim (cases_Bool (is_attempt entry.attempt attempt)) [
+  | inl e ↦ rw e refl
+  | inr e ↦ rw e (view_of entries attempt)
+]
 
 pub changed_view : (asked : ℕ) (old new : List AttemptAsks) (attempt : AttemptId) (lines : List AskLine) (change : List Ask → List Ask) → Changed asked old new attempt lines
     → asks_in lines ≡ change (asks_in (lines_in old attempt)) → AskNow (map asks_of_entry old) (map asks_of_entry new) attempt (change (attempt_asks (map asks_of_entry old) attempt))
@@ -77,12 +75,10 @@ some_view asked entries attempt lines h is some =
 pub lines_view : (attempt : AttemptId) (lines : List AskLine) (entries : List AttemptAsks)
     → map asks_of_entry (with_lines attempt lines entries) ≡ with_asks_of attempt (asks_in lines) (map asks_of_entry entries)
 lines_view attempt lines [] = refl
-lines_view attempt lines (entry ∷ entries) = by (is_attempt entry.attempt attempt) refl (lines_view attempt lines entries)
-  where
-    by : (b : Bool) → is_attempt entry.attempt attempt ≡ b → map asks_of_entry (with_lines attempt lines entries) ≡ with_asks_of attempt (asks_in lines) (map asks_of_entry entries)
-        → map asks_of_entry (with_lines attempt lines (entry ∷ entries)) ≡ with_asks_of attempt (asks_in lines) (map asks_of_entry (entry ∷ entries))
-    by true e rest = rw e refl
-    by false e rest = rw e (ap (λ (more : List AsksOf). asks_of_entry entry ∷ more) rest)
+lines_view attempt lines (entry ∷ entries) = elim (cases_Bool (is_attempt entry.attempt attempt)) [
+  | inl e ↦ rw e refl
+  | inr e ↦ rw e (ap (λ (more : List AsksOf). asks_of_entry entry ∷ more) (lines_view attempt lines entries))
+]
 
 pub without_view : (attempt : AttemptId) (entries : List AttemptAsks)
     → map asks_of_entry (filter (λ entry. not (is_attempt entry.attempt attempt)) entries) ≡ without_asks_of attempt (map asks_of_entry entries)
@@ -122,17 +118,14 @@ nil_view (line ∷ lines) = placed line (by_order lines)
   where
     placed : (line : AskLine) (lines : List AskLine) → is_nil (map ask_of (put_by asking_order line lines)) ≡ false
     placed line [] = refl
-    placed line (other ∷ lines) = by (nat_lt other.order line.order) refl
-      where
-        by : (b : Bool) → nat_lt other.order line.order ≡ b → is_nil (map ask_of (put_by asking_order line (other ∷ lines))) ≡ false
-        by true e = rw e refl
-        by false e = rw e refl
+    placed line (other ∷ lines) = elim (cases_Bool (nat_lt other.order line.order)) [
+      | inl e ↦ rw e refl
+      | inr e ↦ rw e refl
+    ]
 
 pub waiting_view : (entries : List AttemptAsks) → map (λ entry. entry.attempt) (filter (λ entry. not (is_nil entry.lines)) entries) ≡ waiting_in (map asks_of_entry entries)
 waiting_view [] = refl
-waiting_view (entry ∷ entries) = by (is_nil entry.lines) refl (waiting_view entries)
-  where
-    by : (b : Bool) → is_nil entry.lines ≡ b → map (λ entry. entry.attempt) (filter (λ entry. not (is_nil entry.lines)) entries) ≡ waiting_in (map asks_of_entry entries)
-        → map (λ entry. entry.attempt) (filter (λ entry. not (is_nil entry.lines)) (entry ∷ entries)) ≡ waiting_in (map asks_of_entry (entry ∷ entries))
-    by true e rest = let f = nil_view entry.lines ∙ e in rw (e, f) rest
-    by false e rest = let f = nil_view entry.lines ∙ e in rw (e, f) (ap (λ (more : List AttemptId). entry.attempt ∷ more) rest)
+waiting_view (entry ∷ entries) = elim (cases_Bool (is_nil entry.lines)) [
+  | inl e ↦ let f = nil_view entry.lines ∙ e in rw (e, f) (waiting_view entries)
+  | inr e ↦ let f = nil_view entry.lines ∙ e in rw (e, f) (ap (λ (more : List AttemptId). entry.attempt ∷ more) (waiting_view entries))
+]

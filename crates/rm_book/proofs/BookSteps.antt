@@ -1,5 +1,5 @@
 -- What holds of the fields of a book after each call.
-use Rattle.rm_book.proofs.Common.{◌≡◌, ℕ, ◌+◌, Bool, true, false, cond, List, [], ◌∷◌, ◌++◌, Option, None, Some, IfSome, filter, map, find, refl, sym, ap, subst, ◌∙◌, unwrap_or, arith, list_any, sum_by, lookup, option_map, bytes_eq, BookRow, ContainerState, Acquired, Running, Grant, Held, ContainerId, Resource, total_of, Fits, difference_of, same_container, Run, Tell, next_container_state}
+use Rattle.rm_book.proofs.Common.{◌≡◌, ℕ, ◌+◌, Bool, true, false, cond, List, [], ◌∷◌, ◌++◌, Option, None, Some, IfSome, filter, map, find, refl, sym, ap, subst, ◌∙◌, unwrap_or, arith, list_any, sum_by, lookup, option_map, bytes_eq, BookRow, ContainerState, Acquired, Running, Grant, Held, ContainerId, Resource, total_of, Fits, difference_of, same_container, Run, Tell, next_container_state, inl, inr, cases_Bool}
 use Rattle.std.proofs.Common.{◌-◌}
 use Rattle.rm_book.specs.declared.node_table.NodeLoad.{NodeLoad}
 use Rattle.rm_book.specs.Books.{BookRowsAreApart, AreLiving, BookOf, TellUpTo, capability_in, capability_or_none, free_on, is_living_state, is_of, sizes_of, sizes_on, total_on}
@@ -234,20 +234,18 @@ told_of id rows = map (λ row. cond (is_of id row) (record row { state = next_co
 
 told_rows : (id : ContainerId) (rows : List BookRow) → BookRowsAreApart rows → IfSome (find (is_of id) rows) (λ row. may_be_told row.state ≡ true) → told_of id rows ≡ in_state id Acquired rows
 told_rows id [] apart may = refl
-told_rows id (row ∷ rows) apart may = by (is_of id row) refl (told_rows id rows apart.1)
-  where
-    by : (b : Bool) → is_of id row ≡ b → (IfSome (find (is_of id) rows) (λ row. may_be_told row.state ≡ true) → told_of id rows ≡ in_state id Acquired rows)
-        → told_of id (row ∷ rows) ≡ in_state id Acquired (row ∷ rows)
-    by true e rest =
-        let may' : may_be_told row.state ≡ true = rw e at may in
-        let none : list_any (is_of id) rows ≡ false = rw (same_container row.id id e) at apart.0 in
-        rw (
-          e,
-          acquires row.state may',
-          map_none (is_of id) (λ row. record row { state = next_container_state row.state Tell }) rows none,
-          map_none (is_of id) (λ row. record row { state = Acquired }) rows none,
-        ) refl
-    by false e rest = rw e (ap (λ more. row ∷ more) (rest (rw e at may)))
+told_rows id (row ∷ rows) apart may = elim (cases_Bool (is_of id row)) [
+  | inl e ↦
+      let may' : may_be_told row.state ≡ true = rw e at may in
+      let none : list_any (is_of id) rows ≡ false = rw (same_container row.id id e) at apart.0 in
+      rw (
+        e,
+        acquires row.state may',
+        map_none (is_of id) (λ row. record row { state = next_container_state row.state Tell }) rows none,
+        map_none (is_of id) (λ row. record row { state = Acquired }) rows none,
+      ) refl
+  | inr e ↦ rw e (ap (λ more. row ∷ more) (told_rows id rows apart.1 (rw e at may)))
+]
 
 -- after a container runs, and after somebody is told of it
 pub ran_kept : {loads : Loads} {rows new : List BookRow} {added : ℕ} (id : ContainerId) → ShowsBook loads rows added → new ≡ stepped id rows → ShowsBook loads new added × (new ≡ in_state id Running rows)

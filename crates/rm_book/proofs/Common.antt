@@ -1,6 +1,6 @@
 -- What this crate's proofs take of the crates below it, passed on by one module.
-pub use Rattle.std.proofs.Common.{Bool, IfSome, List, None, Option, Some, ap, append-nil, append_assoc, arith, cond, drop, false, filter, find, get_or, is_some, length, map, nat_lt, not, refl, rules, subst, sym, take, true, unwrap_or, ℕ, [], ◌&&◌, ◌++◌, ◌+◌, ◌<◌, ◌||◌, ◌∙◌, ◌∷◌, ◌≡◌}
-pub use Rattle.std.proofs.lemmas.Bool.{and_from, and_parts, or_from, or_parts}
+pub use Rattle.std.proofs.Common.{Bool, IfSome, List, None, Option, Some, ap, append-nil, append_assoc, arith, cond, drop, false, filter, find, get_or, inl, inr, is_some, length, map, nat_lt, not, refl, rules, subst, sym, take, true, unwrap_or, ℕ, [], ◌&&◌, ◌++◌, ◌+◌, ◌<◌, ◌||◌, ◌∙◌, ◌∷◌, ◌≡◌}
+pub use Rattle.std.proofs.lemmas.Bool.{and_from, and_parts, cases_Bool, or_from, or_parts}
 pub use Rattle.std.proofs.lemmas.Bool.Decides.{nat_tests}
 pub use Rattle.std.proofs.lemmas.Fn.{filter_same}
 pub use Rattle.std.proofs.lemmas.List.{length-map, map-append, take_more}

@@ -1,5 +1,5 @@
 -- The containers under each key after those of one are changed.
-use Rattle.rm_book.proofs.Common.{◌≡◌, Bool, true, false, cond, List, [], ◌∷◌, ◌++◌, length, Option, None, Some, is_some, refl, sym, ap, subst, ◌∙◌, arith, list_any, keys_of, lookup, or_parts, map-append, ContainerId}
+use Rattle.rm_book.proofs.Common.{◌≡◌, Bool, true, false, cond, List, [], ◌∷◌, ◌++◌, length, Option, None, Some, is_some, refl, sym, ap, subst, ◌∙◌, arith, list_any, keys_of, lookup, or_parts, map-append, ContainerId, inl, inr, cases_Bool}
 use Rattle.std.proofs.Common.{IsSome, Bor, Result, Ok, Err, OnErr, OnOk, is_err}
 use Rattle.std.specs.Cmp.{IsEquivalence}
 use Rattle.std.specs.Option.{option_copied}
@@ -22,28 +22,25 @@ module _ {K : Type 0} {eq : K → K → Bool} (laws : IsEquivalence eq) (key : K
     pub changed_group : (f : List ContainerId → List ContainerId) (w : Group) → keys_of w ≡ f (keys_of v)
         → ((q : K) → lookup (eq q) new ≡ cond (eq key q) (Some w) (lookup (eq q) old))
         → (other : K) → ids_under eq new other ≡ cond (eq key other) (f (ids_under eq old other)) (ids_under eq old other)
-    changed_group f w is set other = by (eq key other) refl
-      where
-        by : (b : Bool) → eq key other ≡ b → ids_under eq new other ≡ cond (eq key other) (f (ids_under eq old other)) (ids_under eq old other)
-        by true e = ap ids_in (set other) ∙ rw e (is ∙ ap f (sym (same_group old other e ∙ ap ids_in at)))
-        by false e = ap ids_in (set other) ∙ rw e refl
+    changed_group f w is set other = elim (cases_Bool (eq key other)) [
+      | inl e ↦ ap ids_in (set other) ∙ rw e (is ∙ ap f (sym (same_group old other e ∙ ap ids_in at)))
+      | inr e ↦ ap ids_in (set other) ∙ rw e refl
+    ]
 
     pub kept_group : (w : Group) → w ≡ v → ((q : K) → lookup (eq q) new ≡ cond (eq key q) (Some w) (lookup (eq q) old))
         → (other : K) → ids_under eq new other ≡ ids_under eq old other
-    kept_group w is set other = by (eq key other) refl
-      where
-        by : (b : Bool) → eq key other ≡ b → ids_under eq new other ≡ ids_under eq old other
-        by true e = ap ids_in (set other) ∙ rw e (ap keys_of is ∙ sym (same_group old other e ∙ ap ids_in at))
-        by false e = ap ids_in (set other) ∙ rw e refl
+    kept_group w is set other = elim (cases_Bool (eq key other)) [
+      | inl e ↦ ap ids_in (set other) ∙ rw e (ap keys_of is ∙ sym (same_group old other e ∙ ap ids_in at))
+      | inr e ↦ ap ids_in (set other) ∙ rw e refl
+    ]
 
   -- where a key has no group, a change of none changes nothing
   pub no_group : (f : List ContainerId → List ContainerId) (es : List (K × Group)) → f [] ≡ [] → lookup (eq key) es ≡ None
       → (other : K) → ids_under eq es other ≡ cond (eq key other) (f (ids_under eq es other)) (ids_under eq es other)
-  no_group f es nil at other = by (eq key other) refl
-    where
-      by : (b : Bool) → eq key other ≡ b → ids_under eq es other ≡ cond (eq key other) (f (ids_under eq es other)) (ids_under eq es other)
-      by true e = let none : ids_under eq es other ≡ [] = same_group es other e ∙ ap ids_in at in rw e (none ∙ sym (ap f none ∙ nil))
-      by false e = rw e refl
+  no_group f es nil at other = elim (cases_Bool (eq key other)) [
+    | inl e ↦ let none : ids_under eq es other ≡ [] = same_group es other e ∙ ap ids_in at in rw e (none ∙ sym (ap f none ∙ nil))
+    | inr e ↦ rw e refl
+  ]
 
   none_left : (ids : List ContainerId) → length ids ≡ 0 → ids ≡ []
   none_left [] n = refl
@@ -52,11 +49,10 @@ module _ {K : Type 0} {eq : K → K → Bool} (laws : IsEquivalence eq) (key : K
   -- a group of none goes
   pub gone_group : (old new : List (K × Group)) → length (ids_under eq old key) ≡ 0 → ((q : K) → lookup (eq q) new ≡ cond (eq key q) None (lookup (eq q) old))
       → (other : K) → ids_under eq new other ≡ ids_under eq old other
-  gone_group old new none set other = by (eq key other) refl
-    where
-      by : (b : Bool) → eq key other ≡ b → ids_under eq new other ≡ ids_under eq old other
-      by true e = ap ids_in (set other) ∙ rw e (sym (same_group old other e ∙ none_left (ids_under eq old key) none))
-      by false e = ap ids_in (set other) ∙ rw e refl
+  gone_group old new none set other = elim (cases_Bool (eq key other)) [
+    | inl e ↦ ap ids_in (set other) ∙ rw e (sym (same_group old other e ∙ none_left (ids_under eq old key) none))
+    | inr e ↦ ap ids_in (set other) ∙ rw e refl
+  ]
 
 pub one_more : (group : Group) (id : ContainerId) → keys_of (group ++ (id, tt) ∷ []) ≡ keys_of group ++ id ∷ []
 one_more group id = map-append _ group ((id, tt) ∷ [])

@@ -1,5 +1,5 @@
 -- The containers of an attempt among those of its application, and what it was granted.
-use Rattle.rm_book.proofs.Common.{◌≡◌, ℕ, ◌+◌, ◌<◌, Bool, true, false, ◌&&◌, ◌||◌, nat_lt, cond, List, [], ◌∷◌, ◌++◌, length, filter, take, get_or, refl, sym, ap, ◌∙◌, list_any, filter_map, or_parts, take_more, list_any-append, BookRow, Held, AttemptId, ContainerId, is_app, is_attempt, is_container, container_back, container_itself, is_held}
+use Rattle.rm_book.proofs.Common.{◌≡◌, ℕ, ◌+◌, ◌<◌, Bool, true, false, ◌&&◌, ◌||◌, nat_lt, cond, List, [], ◌∷◌, ◌++◌, length, filter, take, get_or, refl, sym, ap, ◌∙◌, list_any, filter_map, or_parts, take_more, list_any-append, BookRow, Held, AttemptId, ContainerId, is_app, is_attempt, is_container, container_back, container_itself, is_held, inl, inr, cases_Bool}
 use Rattle.std.proofs.Common.{◌==◌}
 use Rattle.std.specs.List.{cons_option}
 use Rattle.std.proofs.lemmas.List.Elements.{filter_map-append}
@@ -68,12 +68,7 @@ pub later_ids : (attempt : AttemptId) (epoch seq : ℕ) (rows : List BookRow)
     → list_any (λ id. is_attempt id.attempt attempt && ((id.epoch == epoch) && nat_lt seq id.seq)) (ids_where (λ row. is_app row.id.attempt.app attempt.app) rows)
     ≡ list_any (is_later attempt epoch seq) rows
 later_ids attempt epoch seq [] = refl
-later_ids attempt epoch seq (row ∷ rows) = by (is_app row.id.attempt.app attempt.app) refl (later_ids attempt epoch seq rows)
-  where
-    by : (b : Bool) → is_app row.id.attempt.app attempt.app ≡ b
-        → list_any (λ id. is_attempt id.attempt attempt && ((id.epoch == epoch) && nat_lt seq id.seq)) (ids_where (λ row. is_app row.id.attempt.app attempt.app) rows)
-        ≡ list_any (is_later attempt epoch seq) rows
-        → list_any (λ id. is_attempt id.attempt attempt && ((id.epoch == epoch) && nat_lt seq id.seq)) (ids_where (λ row. is_app row.id.attempt.app attempt.app) (row ∷ rows))
-        ≡ list_any (is_later attempt epoch seq) (row ∷ rows)
-    by true e rest = rw (e, e) (ap (λ b. ((row.id.attempt.number == attempt.number) && ((row.id.epoch == epoch) && nat_lt seq row.id.seq)) || b) rest)
-    by false e rest = rw e rest
+later_ids attempt epoch seq (row ∷ rows) = elim (cases_Bool (is_app row.id.attempt.app attempt.app)) [
+  | inl e ↦ rw (e, e) (ap (λ b. ((row.id.attempt.number == attempt.number) && ((row.id.epoch == epoch) && nat_lt seq row.id.seq)) || b) (later_ids attempt epoch seq rows))
+  | inr e ↦ rw e (later_ids attempt epoch seq rows)
+]

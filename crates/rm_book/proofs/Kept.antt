@@ -1,5 +1,5 @@
 -- Rows under their containers' ids, and the containers of those that pass a test, after one row comes, goes or changes.
-use Rattle.rm_book.proofs.Common.{◌≡◌, ℕ, Bool, true, false, ◌&&◌, cond, not, List, [], ◌∷◌, ◌++◌, filter, map, find, length, Option, None, Some, refl, sym, ap, subst, ◌∙◌, is_some, append-nil, list_any, bytes_eq, values_of, lookup, set_value, or_parts, or_from, length-map, map-append, filter-append, BookRow, ContainerState, Granted, Acquired, Running, Completed, AttemptId, ContainerId, is_app, is_attempt, is_container, container_back, container_itself, same_container, next_container_state, Tell, Run, is_granted}
+use Rattle.rm_book.proofs.Common.{◌≡◌, ℕ, Bool, true, false, ◌&&◌, cond, not, List, [], ◌∷◌, ◌++◌, filter, map, find, length, Option, None, Some, refl, sym, ap, subst, ◌∙◌, is_some, append-nil, list_any, bytes_eq, values_of, lookup, set_value, or_parts, or_from, length-map, map-append, filter-append, BookRow, ContainerState, Granted, Acquired, Running, Completed, AttemptId, ContainerId, is_app, is_attempt, is_container, container_back, container_itself, same_container, next_container_state, Tell, Run, is_granted, inl, inr, cases_Bool}
 use Rattle.std.proofs.Common.{count_by}
 use Rattle.std.specs.Map.{remove_entry}
 use Rattle.indexmap.specs.IndexSet.{remove_key}
@@ -46,14 +46,12 @@ module _ (id : ContainerId) where
 
   removed_in : (rows : List BookRow) → BookRowsAreApart rows → remove_entry (is_container id) (map by_id rows) ≡ map by_id (without rows)
   removed_in [] apart = refl
-  removed_in (row ∷ rows) apart = by (is_container id row.id) refl (removed_in rows apart.1)
-    where
-      by : (b : Bool) → is_container id row.id ≡ b → remove_entry (is_container id) (map by_id rows) ≡ map by_id (without rows)
-          → remove_entry (is_container id) (map by_id (row ∷ rows)) ≡ map by_id (without (row ∷ rows))
-      by true e rest =
-          let none : list_any (is_of id) rows ≡ false = rw (← same_container id row.id e) at apart.0 in
-          rw (container_back row.id id, e, filter_none (is_of id) rows none) refl
-      by false e rest = rw (container_back row.id id, e) (ap (λ more. by_id row ∷ more) rest)
+  removed_in (row ∷ rows) apart = elim (cases_Bool (is_container id row.id)) [
+    | inl e ↦
+        let none : list_any (is_of id) rows ≡ false = rw (← same_container id row.id e) at apart.0 in
+        rw (container_back row.id id, e, filter_none (is_of id) rows none) refl
+    | inr e ↦ rw (container_back row.id id, e) (ap (λ more. by_id row ∷ more) (removed_in rows apart.1))
+  ]
 
   module _ (change : BookRow → BookRow) (keeps : (row : BookRow) → (change row).id ≡ row.id) where
     abbrev changed : List BookRow → List BookRow
@@ -62,18 +60,15 @@ module _ (id : ContainerId) where
     changed_in : (rows : List BookRow) (old : BookRow) → BookRowsAreApart rows → lookup (is_container id) (map by_id rows) ≡ Some old
         → set_value (is_container id) (map by_id rows) (change old) ≡ map by_id (changed rows)
     changed_in [] old apart at = cc
-    changed_in (row ∷ rows) old apart at = by (is_container id row.id) refl (changed_in rows old apart.1)
-      where
-        by : (b : Bool) → is_container id row.id ≡ b
-            → (lookup (is_container id) (map by_id rows) ≡ Some old → set_value (is_container id) (map by_id rows) (change old) ≡ map by_id (changed rows))
-            → set_value (is_container id) (map by_id (row ∷ rows)) (change old) ≡ map by_id (changed (row ∷ rows))
-        by true e rest =
-            let none : list_any (is_of id) rows ≡ false = rw (← same_container id row.id e) at apart.0 in
-            let is : row ≡ old = let at' = rw e at at in cc in
-            rw (container_back row.id id, e, map_none (is_of id) change rows none, ← is) (ap (λ (one : ContainerId). (one, change row) ∷ map by_id rows) (sym (keeps row)))
-        by false e rest =
-            let at' = rw e at at in
-            rw (container_back row.id id, e) (ap (λ more. by_id row ∷ more) (rest at'))
+    changed_in (row ∷ rows) old apart at = elim (cases_Bool (is_container id row.id)) [
+      | inl e ↦
+          let none : list_any (is_of id) rows ≡ false = rw (← same_container id row.id e) at apart.0 in
+          let is : row ≡ old = let at' = rw e at at in cc in
+          rw (container_back row.id id, e, map_none (is_of id) change rows none, ← is) (ap (λ (one : ContainerId). (one, change row) ∷ map by_id rows) (sym (keeps row)))
+      | inr e ↦
+          let at' = rw e at at in
+          rw (container_back row.id id, e) (ap (λ more. by_id row ∷ more) (changed_in rows old apart.1 at'))
+    ]
 
     any_changed : (other : ContainerId) (rows : List BookRow) → list_any (is_of other) (changed rows) ≡ list_any (is_of other) rows
     any_changed other [] = refl
@@ -327,13 +322,12 @@ none_under {K} eq same key id groups none other e = subst (λ (k : K). list_any 
 -- a container that was added under some keys, and taken away again
 pub added_undone : {K : Type 0} (eq : K → K → Bool) (test : K → Bool) (id : ContainerId) (old mid new : Groups K)
     → ((key : K) → test key ≡ true → list_any (is_container id) (ids_under eq old key) ≡ false) → AreWith eq test id old mid → AreWithout eq test id mid new → AreSame eq old new
-added_undone {K} eq test id old mid new none on off key = by (test key) refl
-  where
-    by : (b : Bool) → test key ≡ b → ids_under eq new key ≡ ids_under eq old key
-    by true e =
-        let added : ids_under eq mid key ≡ ids_under eq old key ++ id ∷ [] = on key ∙ rw e refl in
-        off key ∙ rw (e, added) (undone id (ids_under eq old key) (none key e))
-    by false e = off key ∙ rw e (on key ∙ rw e refl)
+added_undone {K} eq test id old mid new none on off key = elim (cases_Bool (test key)) [
+  | inl e ↦
+      let added : ids_under eq mid key ≡ ids_under eq old key ++ id ∷ [] = on key ∙ rw e refl in
+      off key ∙ rw (e, added) (undone id (ids_under eq old key) (none key e))
+  | inr e ↦ off key ∙ rw e (on key ∙ rw e refl)
+]
 
 -- no row yet
 pub none_kept_yet : {list : List (ContainerId × BookRow)} {nodes : Groups (List ℕ)} {apps : Groups AppId} {untold : Groups AttemptId} → list ≡ []

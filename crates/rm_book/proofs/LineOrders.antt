@@ -1,5 +1,5 @@
 -- Lines that are kept in the order of a pass, seen in the order of first asking.
-use Rattle.rm_book.proofs.Common.{◌≡◌, ◌<◌, List, [], ◌∷◌, ◌++◌, Bool, true, false, not, ◌&&◌, ◌||◌, nat_lt, cond, map, filter, refl, ◌∙◌, ap, arith, list_all, and_from, and_parts, nat_tests, Ask, AskLine}
+use Rattle.rm_book.proofs.Common.{◌≡◌, ◌<◌, List, [], ◌∷◌, ◌++◌, Bool, true, false, not, ◌&&◌, ◌||◌, nat_lt, cond, map, filter, refl, ◌∙◌, ap, arith, list_all, and_from, and_parts, nat_tests, Ask, AskLine, inl, inr, cases_Bool}
 use Rattle.rm_types.specs.Passes.{put_by_priority, by_priority}
 use Rattle.rm_book.specs.AskLines.{AreInOrder, ask_of, asks_in, by_order, in_line, is_asked_before, asking_order, placed, put_by}
 use Rattle.rm_book.proofs.Lists.{all_filter, all_map, all_more}
@@ -9,12 +9,10 @@ use Rattle.rm_book.proofs.NumberedLists.{all_put, all_sorted, put_behind}
 
 put_last : (x line : AskLine) (ys : List AskLine) → x.order < line.order → put_by asking_order x (ys ++ line ∷ []) ≡ put_by asking_order x ys ++ line ∷ []
 put_last x line [] lt = let e : nat_lt line.order x.order ≡ false = grind (arith, nat_tests) in rw e refl
-put_last x line (y ∷ ys) lt = by (nat_lt y.order x.order) refl (put_last x line ys lt)
-  where
-    by : (b : Bool) → nat_lt y.order x.order ≡ b → put_by asking_order x (ys ++ line ∷ []) ≡ put_by asking_order x ys ++ line ∷ []
-        → put_by asking_order x ((y ∷ ys) ++ line ∷ []) ≡ put_by asking_order x (y ∷ ys) ++ line ∷ []
-    by true e rest = rw e (ap (λ (l : List AskLine). y ∷ l) rest)
-    by false e rest = rw e refl
+put_last x line (y ∷ ys) lt = elim (cases_Bool (nat_lt y.order x.order)) [
+  | inl e ↦ rw e (ap (λ (l : List AskLine). y ∷ l) (put_last x line ys lt))
+  | inr e ↦ rw e refl
+]
 
 pub placed_last : (line : AskLine) (ys : List AskLine) → list_all (λ one. nat_lt one.order line.order) ys ≡ true → by_order (placed line ys) ≡ by_order ys ++ line ∷ []
 placed_last line [] all = refl
@@ -32,12 +30,10 @@ placed_last line (y ∷ ys) all =
 
 put_changed : (change : Ask → Ask) (x : AskLine) (ys : List AskLine) → put_by asking_order (in_line change x) (map (in_line change) ys) ≡ map (in_line change) (put_by asking_order x ys)
 put_changed change x [] = refl
-put_changed change x (y ∷ ys) = by (nat_lt y.order x.order) refl (put_changed change x ys)
-  where
-    by : (b : Bool) → nat_lt y.order x.order ≡ b → put_by asking_order (in_line change x) (map (in_line change) ys) ≡ map (in_line change) (put_by asking_order x ys)
-        → put_by asking_order (in_line change x) (map (in_line change) (y ∷ ys)) ≡ map (in_line change) (put_by asking_order x (y ∷ ys))
-    by true e rest = rw e (ap (λ (l : List AskLine). in_line change y ∷ l) rest)
-    by false e rest = rw e refl
+put_changed change x (y ∷ ys) = elim (cases_Bool (nat_lt y.order x.order)) [
+  | inl e ↦ rw e (ap (λ (l : List AskLine). in_line change y ∷ l) (put_changed change x ys))
+  | inr e ↦ rw e refl
+]
 
 pub by_order_changed : (change : Ask → Ask) (ys : List AskLine) → by_order (map (in_line change) ys) ≡ map (in_line change) (by_order ys)
 by_order_changed change [] = refl
@@ -93,11 +89,10 @@ put_stays p x (y ∷ ys) h t = by (nat_lt y.order x.order) (p y) refl refl (put_
 
 put_goes : (p : AskLine → Bool) (x : AskLine) (ys : List AskLine) → p x ≡ false → filter p ys ≡ filter p (put_by asking_order x ys)
 put_goes p x [] f = rw f refl
-put_goes p x (y ∷ ys) f = by (nat_lt y.order x.order) refl (put_goes p x ys f)
-  where
-    by : (b : Bool) → nat_lt y.order x.order ≡ b → filter p ys ≡ filter p (put_by asking_order x ys) → filter p (y ∷ ys) ≡ filter p (put_by asking_order x (y ∷ ys))
-    by true e rest = rw e (ap (λ (l : List AskLine). cond (p y) (y ∷ l) l) rest)
-    by false e rest = rw e (rw f refl)
+put_goes p x (y ∷ ys) f = elim (cases_Bool (nat_lt y.order x.order)) [
+  | inl e ↦ rw e (ap (λ (l : List AskLine). cond (p y) (y ∷ l) l) (put_goes p x ys f))
+  | inr e ↦ rw e (rw f refl)
+]
 
 pub by_order_filter : (p : AskLine → Bool) (ys : List AskLine) → by_order (filter p ys) ≡ filter p (by_order ys)
 by_order_filter p [] = refl
@@ -126,12 +121,10 @@ both false false c = refl
 
 all_put_by_priority : (p : Ask → Bool) (ask : Ask) (asks : List Ask) → list_all p (put_by_priority ask asks) ≡ list_all p (ask ∷ asks)
 all_put_by_priority p ask [] = refl
-all_put_by_priority p ask (one ∷ asks) = by (nat_lt one.priority ask.priority) refl (all_put_by_priority p ask asks)
-  where
-    by : (b : Bool) → nat_lt one.priority ask.priority ≡ b → list_all p (put_by_priority ask asks) ≡ list_all p (ask ∷ asks)
-        → list_all p (put_by_priority ask (one ∷ asks)) ≡ list_all p (ask ∷ one ∷ asks)
-    by true e rest = rw (e, rest) (both (p ask) (p one) (list_all p asks))
-    by false e rest = rw e refl
+all_put_by_priority p ask (one ∷ asks) = elim (cases_Bool (nat_lt one.priority ask.priority)) [
+  | inl e ↦ rw (e, all_put_by_priority p ask asks) (both (p ask) (p one) (list_all p asks))
+  | inr e ↦ rw e refl
+]
 
 pub all_by_priority : (p : Ask → Bool) (asks : List Ask) → list_all p (by_priority asks) ≡ list_all p asks
 all_by_priority p [] = refl

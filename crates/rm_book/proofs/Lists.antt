@@ -1,5 +1,5 @@
 -- Lists that a test holds all of, and two views of one list.
-use Rattle.rm_book.proofs.Common.{◌≡◌, Bool, true, false, List, [], ◌∷◌, map, filter, refl, ap, list_any, list_all, and_from, and_parts}
+use Rattle.rm_book.proofs.Common.{◌≡◌, Bool, true, false, List, [], ◌∷◌, map, filter, refl, ap, list_any, list_all, and_from, and_parts, inl, inr, cases_Bool}
 
 module _ {X : Type 0} where
   pub all_more : (p q : X → Bool) → ((x : X) → p x ≡ true → q x ≡ true) → (xs : List X) → list_all p xs ≡ true → list_all q xs ≡ true
@@ -19,11 +19,10 @@ module _ {X : Type 0} where
   -- those that pass the test itself
   pub filter_all : (test : X → Bool) (xs : List X) → list_all test (filter test xs) ≡ true
   filter_all test [] = refl
-  filter_all test (x ∷ xs) = by (test x) refl (filter_all test xs)
-    where
-      by : (b : Bool) → test x ≡ b → list_all test (filter test xs) ≡ true → list_all test (filter test (x ∷ xs)) ≡ true
-      by true e rest = rw e (and_from (test x) _ e rest)
-      by false e rest = rw e rest
+  filter_all test (x ∷ xs) = elim (cases_Bool (test x)) [
+    | inl e ↦ rw e (and_from (test x) _ e (filter_all test xs))
+    | inr e ↦ rw e (filter_all test xs)
+  ]
 
   -- none of those that pass another test
   pub any_filter : (p test : X → Bool) (xs : List X) → list_any p xs ≡ false → list_any p (filter test xs) ≡ false
@@ -43,11 +42,10 @@ module _ {X Y : Type 0} (f : X → Y) where
   -- a test and a change that see the view alone
   pub filter_view : (q : Y → Bool) (xs : List X) → map f (filter (λ x. q (f x)) xs) ≡ filter q (map f xs)
   filter_view q [] = refl
-  filter_view q (x ∷ xs) = by (q (f x)) refl (filter_view q xs)
-    where
-      by : (b : Bool) → q (f x) ≡ b → map f (filter (λ x. q (f x)) xs) ≡ filter q (map f xs) → map f (filter (λ x. q (f x)) (x ∷ xs)) ≡ filter q (map f (x ∷ xs))
-      by true e rest = rw e (ap (λ l. f x ∷ l) rest)
-      by false e rest = rw e rest
+  filter_view q (x ∷ xs) = elim (cases_Bool (q (f x))) [
+    | inl e ↦ rw e (ap (λ l. f x ∷ l) (filter_view q xs))
+    | inr e ↦ rw e (filter_view q xs)
+  ]
 
   pub any_view : (q : Y → Bool) (xs : List X) → list_any (λ x. q (f x)) xs ≡ list_any q (map f xs)
   any_view q [] = refl

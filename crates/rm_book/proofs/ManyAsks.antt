@@ -1,5 +1,5 @@
 -- Many asks of an attempt that are set one after the other: their lines stay lawful, and are what contracts see.
-use Rattle.rm_book.proofs.Common.{◌≡◌, ℕ, ◌+◌, ◌<◌, List, [], ◌∷◌, Bool, true, false, nat_lt, not, map, length, get_or, drop, refl, sym, ◌∙◌, ap, subst, arith, nat_tests, length-map, Ask, AskLine, AttemptId, is_attempt}
+use Rattle.rm_book.proofs.Common.{◌≡◌, ℕ, ◌+◌, ◌<◌, List, [], ◌∷◌, Bool, true, false, nat_lt, not, map, length, get_or, drop, refl, sym, ◌∙◌, ap, subst, arith, nat_tests, length-map, Ask, AskLine, AttemptId, is_attempt, inl, inr, cases_Bool}
 use Rattle.std.proofs.Common.{zero, suc, nat_le}
 use Rattle.std.specs.Prelude.{◌==◌, ◌≤◌, if◌then◌else◌}
 use Rattle.std.proofs.lemmas.Bool.{eqb-true}
@@ -66,21 +66,18 @@ after_leaves asked entries new attempt asks is lawful =
 -- what an attempt asks for in a table that it was set in, and one that it was set in twice
 asks_set_so : (attempt : AttemptId) (asks : List Ask) (table : List AsksOf) → is_attempt attempt attempt ≡ true → attempt_asks (with_asks_of attempt asks table) attempt ≡ asks
 asks_set_so attempt asks [] own = rw own refl
-asks_set_so attempt asks (one ∷ table) own = by (is_attempt one.attempt attempt) refl (asks_set_so attempt asks table own)
-  where
-    by : (b : Bool) → is_attempt one.attempt attempt ≡ b → attempt_asks (with_asks_of attempt asks table) attempt ≡ asks → attempt_asks (with_asks_of attempt asks (one ∷ table)) attempt ≡ asks
-    by true e rest = rw (e, e) refl
-    by false e rest = rw (e, e) rest
+asks_set_so attempt asks (one ∷ table) own = elim (cases_Bool (is_attempt one.attempt attempt)) [
+  | inl e ↦ rw (e, e) refl
+  | inr e ↦ rw (e, e) (asks_set_so attempt asks table own)
+]
 
 set_twice : (attempt : AttemptId) (asks later : List Ask) (table : List AsksOf) → is_attempt attempt attempt ≡ true
     → with_asks_of attempt later (with_asks_of attempt asks table) ≡ with_asks_of attempt later table
 set_twice attempt asks later [] own = rw own refl
-set_twice attempt asks later (one ∷ table) own = by (is_attempt one.attempt attempt) refl (set_twice attempt asks later table own)
-  where
-    by : (b : Bool) → is_attempt one.attempt attempt ≡ b → with_asks_of attempt later (with_asks_of attempt asks table) ≡ with_asks_of attempt later table
-        → with_asks_of attempt later (with_asks_of attempt asks (one ∷ table)) ≡ with_asks_of attempt later (one ∷ table)
-    by true e rest = rw (e, e) refl
-    by false e rest = rw (e, e) (ap (λ (more : List AsksOf). one ∷ more) rest)
+set_twice attempt asks later (one ∷ table) own = elim (cases_Bool (is_attempt one.attempt attempt)) [
+  | inl e ↦ rw (e, e) refl
+  | inr e ↦ rw (e, e) (ap (λ (more : List AsksOf). one ∷ more) (set_twice attempt asks later table own))
+]
 
 -- the table after many asks, of which there are some
 all_at_once : (attempt : AttemptId) (ask : Ask) (more : List Ask) (table : List AsksOf) → is_attempt attempt attempt ≡ true

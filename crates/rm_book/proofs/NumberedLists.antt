@@ -1,5 +1,5 @@
 -- Lists that are kept by numbers.
-use Rattle.rm_book.proofs.Common.{◌≡◌, ℕ, List, [], ◌∷◌, ◌++◌, Bool, true, false, ◌||◌, nat_lt, refl, ◌∙◌, ap, list_any, list_all, and_from, and_parts}
+use Rattle.rm_book.proofs.Common.{◌≡◌, ℕ, List, [], ◌∷◌, ◌++◌, Bool, true, false, ◌||◌, nat_lt, refl, ◌∙◌, ap, list_any, list_all, and_from, and_parts, inl, inr, cases_Bool}
 use Rattle.rm_book.specs.AskLines.{put_by, sorted_by}
 
 any_swap : (a b c : Bool) → (b || (a || c)) ≡ (a || (b || c))
@@ -25,12 +25,10 @@ module _ {X : Type 0} (number : X → ℕ) where
 
   pub any_put : (p : X → Bool) (x : X) (ys : List X) → list_any p (put_by number x ys) ≡ list_any p (x ∷ ys)
   any_put p x [] = refl
-  any_put p x (y ∷ ys) = by (nat_lt (number y) (number x)) refl (any_put p x ys)
-    where
-      by : (b : Bool) → nat_lt (number y) (number x) ≡ b → list_any p (put_by number x ys) ≡ list_any p (x ∷ ys)
-          → list_any p (put_by number x (y ∷ ys)) ≡ list_any p (x ∷ y ∷ ys)
-      by true e rest = rw (e, rest) (any_swap (p x) (p y) (list_any p ys))
-      by false e rest = rw e refl
+  any_put p x (y ∷ ys) = elim (cases_Bool (nat_lt (number y) (number x))) [
+    | inl e ↦ rw (e, (any_put p x ys)) (any_swap (p x) (p y) (list_any p ys))
+    | inr e ↦ rw e refl
+  ]
 
   pub any_sorted : (p : X → Bool) (ys : List X) → list_any p (sorted_by number ys) ≡ list_any p ys
   any_sorted p [] = refl

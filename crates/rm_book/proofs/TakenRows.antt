@@ -1,7 +1,5 @@
 -- The book after an absorption is a book.
-use Rattle.rm_book.proofs.Common.{◌≡◌, ℕ, ◌+◌, Bool, true, false, not, cond, List, [], ◌∷◌, ◌++◌, length, map, filter, refl, ◌∙◌, subst, append_assoc, append-nil, arith, list_any, sum_by, bytes_eq, or_parts, or_from, list_any-append, BookRow, Running, Held, ContainerId, Resource, is_container, Fits, container_back, same_text, is_held}
-use Rattle.std.proofs.Common.{inl, inr}
-use Rattle.std.proofs.lemmas.Bool.{cases_Bool}
+use Rattle.rm_book.proofs.Common.{◌≡◌, ℕ, ◌+◌, Bool, true, false, not, cond, List, [], ◌∷◌, ◌++◌, length, map, filter, refl, ◌∙◌, subst, append_assoc, append-nil, arith, list_any, sum_by, bytes_eq, or_parts, or_from, list_any-append, BookRow, Running, Held, ContainerId, Resource, is_container, Fits, container_back, same_text, is_held, inl, inr, cases_Bool}
 use Rattle.rm_book.specs.Books.{BookRowsAreApart, AreLiving, AreOnce, is_living_state, BookOf, IsBook, TellUpTo, entering, is_of, book_row_taken, sizes_on, taken_rows, total_on, book_with_taken}
 use Rattle.rm_book.specs.Kept.{AreFresh}
 use Rattle.rm_book.proofs.Changes.{book_left}

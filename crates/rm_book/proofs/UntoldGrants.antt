@@ -1,5 +1,5 @@
 -- Somebody may be told of what an attempt was granted and nobody was told of yet.
-use Rattle.rm_book.proofs.Common.{◌≡◌, Bool, true, false, ◌&&◌, List, [], ◌∷◌, IfSome, filter, find, refl, ◌∙◌, list_any, or_parts, BookRow, ContainerState, Granted, Acquired, Running, Completed, Grant, AttemptId, is_attempt, container_back, container_itself, is_granted}
+use Rattle.rm_book.proofs.Common.{◌≡◌, Bool, true, false, ◌&&◌, List, [], ◌∷◌, IfSome, filter, find, refl, ◌∙◌, list_any, or_parts, BookRow, ContainerState, Granted, Acquired, Running, Completed, Grant, AttemptId, is_attempt, container_back, container_itself, is_granted, inl, inr, cases_Bool}
 use Rattle.rm_book.specs.Books.{BookRowsAreApart, is_of}
 use Rattle.rm_book.specs.Granted.{AllMayBeTold, grants_to, is_granted_to, may_be_told}
 
@@ -26,19 +26,17 @@ module _ (attempt : AttemptId) where
 
   pub granted_to_told : (rows : List BookRow) → BookRowsAreApart rows → AllMayBeTold rows (grants_to rows attempt)
   granted_to_told [] apart = tt
-  granted_to_told (row ∷ rows) apart = by (is_granted_to attempt row) refl (more_told row rows rows apart.0 (granted_to_told rows apart.1))
-    where
-      by : (b : Bool) → is_granted_to attempt row ≡ b → AllMayBeTold (row ∷ rows) (grants_to rows attempt) → AllMayBeTold (row ∷ rows) (grants_to (row ∷ rows) attempt)
-      by true e rest =
-          let own : is_of row.id row ≡ true = container_itself row.id in
-          rw (e, own) (granted_told (is_attempt row.id.attempt attempt) row.state e, rest)
-      by false e rest = rw e rest
+  granted_to_told (row ∷ rows) apart = elim (cases_Bool (is_granted_to attempt row)) [
+    | inl e ↦
+        let own : is_of row.id row ≡ true = container_itself row.id in
+        rw (e, own) (granted_told (is_attempt row.id.attempt attempt) row.state e, (more_told row rows rows apart.0 (granted_to_told rows apart.1)))
+    | inr e ↦ rw e (more_told row rows rows apart.0 (granted_to_told rows apart.1))
+  ]
 
 -- and so may those of them that pass a test
 pub told_filter : (rows : List BookRow) (test : Grant → Bool) (grants : List Grant) → AllMayBeTold rows grants → AllMayBeTold rows (filter test grants)
 told_filter rows test [] told = tt
-told_filter rows test (grant ∷ grants) told = by (test grant) refl (told_filter rows test grants told.1)
-  where
-    by : (b : Bool) → test grant ≡ b → AllMayBeTold rows (filter test grants) → AllMayBeTold rows (filter test (grant ∷ grants))
-    by true e rest = rw e (told.0, rest)
-    by false e rest = rw e rest
+told_filter rows test (grant ∷ grants) told = elim (cases_Bool (test grant)) [
+  | inl e ↦ rw e (told.0, told_filter rows test grants told.1)
+  | inr e ↦ rw e (told_filter rows test grants told.1)
+]
