@@ -35,6 +35,14 @@ none_either : {A : Type 0} (b : Bool) → ◌≡◌ {A = Option A} None (cond b 
 none_either true = refl
 none_either false = refl
 
+-- an attempt is taken from those that are marked, and each other stays
+abbrev pub IsUnmarked : AttemptId → List AttemptId → List AttemptId → Type 0
+IsUnmarked attempt waiting marked = (one : AttemptId) → list_any (is_attempt one) marked ≡ cond (is_attempt attempt one) false (list_any (is_attempt one) waiting)
+
+-- the entries after a change of an attempt's lines, where it has an entry
+abbrev pub changed_entries : AttemptId → (List AskLine → List AskLine) → List AskEntry → List AskEntry
+changed_entries attempt change entries = cond (is_some (lookup (is_attempt attempt) entries)) (insert_entry is_attempt entries attempt (change (lines_at entries attempt))) entries
+
 module _ (attempt : AttemptId) where
   -- an attempt's lines
   pub lines_are : (entries : List AskEntry) → lines_in (entries_in entries) attempt ≡ lines_at entries attempt
@@ -200,8 +208,7 @@ module _ (attempt : AttemptId) where
           ap (λ (es : List AskEntry). lookup (is_attempt one) es) e ∙ found_entered lines one entries ∙ ap (λ (b : Bool). cond b (Some lines) (lookup (is_attempt one) entries)) f in
           rw f (k.waits one ∙ ap has_some (sym same))
 
-  pub kept_removed : (entries new : List AskEntry) (waiting marked : List AttemptId) → AreKept entries waiting → new ≡ remove_entry (is_attempt attempt) entries
-      → ((one : AttemptId) → list_any (is_attempt one) marked ≡ cond (is_attempt attempt one) false (list_any (is_attempt one) waiting)) → AreKept new marked
+  pub kept_removed : (entries new : List AskEntry) (waiting marked : List AttemptId) → AreKept entries waiting → new ≡ remove_entry (is_attempt attempt) entries → IsUnmarked attempt waiting marked → AreKept new marked
   kept_removed entries new waiting marked k e m = record {
     unique = subst (λ (es : List AskEntry). IsDistinct is_attempt (keys_of es)) (sym e) (unique_removed entries k.unique);
     waits = λ one. m one ∙ by one (is_attempt attempt one) refl;
@@ -215,8 +222,7 @@ module _ (attempt : AttemptId) where
       by one false f = rw f (k.waits one ∙ ap has_some (sym (found one false f)))
 
   -- an attempt that was not known is known of no change
-  pub kept_unknown : (entries : List AskEntry) (waiting marked : List AttemptId) → AreKept entries waiting → lookup (is_attempt attempt) entries ≡ None
-      → ((one : AttemptId) → list_any (is_attempt one) marked ≡ cond (is_attempt attempt one) false (list_any (is_attempt one) waiting)) → AreKept entries marked
+  pub kept_unknown : (entries : List AskEntry) (waiting marked : List AttemptId) → AreKept entries waiting → lookup (is_attempt attempt) entries ≡ None → IsUnmarked attempt waiting marked → AreKept entries marked
   kept_unknown entries waiting marked k l m = record { unique = k.unique; waits = λ one. m one ∙ by one (is_attempt attempt one) refl }
     where
       by : (one : AttemptId) (b : Bool) → is_attempt attempt one ≡ b → cond (is_attempt attempt one) false (list_any (is_attempt one) waiting) ≡ has_some (lookup (is_attempt one) entries)
@@ -255,11 +261,12 @@ nothing (Some a) e = cc
 
 -- after a change that was handed on to what keeps the entries
 module _ (attempt : AttemptId) (change : List AskLine → List AskLine) (old new : List AskEntry) where
+  -- what came of the attempt's lines, where it has an entry, in which other lines stand then
+  abbrev pub IsHandedOn : {R : Type 0} → Option R → (List AskLine → R → List AskLine → Type 0) → Type 0
+  IsHandedOn r P = (own : List AskLine) → lookup (is_attempt attempt) old ≡ Some own → IfSome r (λ done. (x : List AskLine) × P own done x × (new ≡ set_value (is_attempt attempt) old x))
+
   pub set_tried : (r : Option (Result (Unit {0}) NoMemory)) (done : Result (Unit {0}) NoMemory) (P : List AskLine → Result (Unit {0}) NoMemory → List AskLine → Type 0)
-      → r ≡ Some done
-      → ((own : List AskLine) → lookup (is_attempt attempt) old ≡ Some own → IfSome r (λ done. (x : List AskLine) × P own done x × (new ≡ set_value (is_attempt attempt) old x)))
-      → is_some r ≡ is_some (lookup (is_attempt attempt) old)
-      → ((own x : List AskLine) (done : Result (Unit {0}) NoMemory) → P own done x → OnOk done (x ≡ change own) × OnErr done (x ≡ own))
+      → r ≡ Some done → IsHandedOn r P → is_some r ≡ is_some (lookup (is_attempt attempt) old) → ((own x : List AskLine) (done : Result (Unit {0}) NoMemory) → P own done x → OnOk done (x ≡ change own) × OnErr done (x ≡ own))
       → OnOk done (new ≡ insert_entry is_attempt old attempt (change (lines_at old attempt))) × OnErr done (new ≡ old)
   set_tried r done P is there some means = by (lookup (is_attempt attempt) old) refl
     where
@@ -277,15 +284,11 @@ module _ (attempt : AttemptId) (change : List AskLine → List AskLine) (old new
           let m = means own t.0 done t.1 in
           made done own t.0 l t.2 m.0 m.1
 
-  pub changed_by : {R : Type 0} (r : Option R) (P : List AskLine → R → List AskLine → Type 0)
-      → ((own : List AskLine) → lookup (is_attempt attempt) old ≡ Some own → IfSome r (λ done. (x : List AskLine) × P own done x × (new ≡ set_value (is_attempt attempt) old x)))
-      → is_some r ≡ is_some (lookup (is_attempt attempt) old) → IfNone r (new ≡ old) → ((own x : List AskLine) (done : R) → P own done x → x ≡ change own)
-      → new ≡ cond (is_some (lookup (is_attempt attempt) old)) (insert_entry is_attempt old attempt (change (lines_at old attempt))) old
+  pub changed_by : {R : Type 0} (r : Option R) (P : List AskLine → R → List AskLine → Type 0) → IsHandedOn r P
+      → is_some r ≡ is_some (lookup (is_attempt attempt) old) → IfNone r (new ≡ old) → ((own x : List AskLine) (done : R) → P own done x → x ≡ change own) → new ≡ changed_entries attempt change old
   changed_by {R} r P there some none means = by (lookup (is_attempt attempt) old) r refl some there none
     where
-      by : (v : Option (List AskLine)) (r : Option R) → lookup (is_attempt attempt) old ≡ v → is_some r ≡ is_some (lookup (is_attempt attempt) old)
-          → ((own : List AskLine) → lookup (is_attempt attempt) old ≡ Some own → IfSome r (λ done. (x : List AskLine) × P own done x × (new ≡ set_value (is_attempt attempt) old x)))
-          → IfNone r (new ≡ old) → new ≡ cond (is_some (lookup (is_attempt attempt) old)) (insert_entry is_attempt old attempt (change (lines_at old attempt))) old
+      by : (v : Option (List AskLine)) (r : Option R) → lookup (is_attempt attempt) old ≡ v → is_some r ≡ is_some (lookup (is_attempt attempt) old) → IsHandedOn r P → IfNone r (new ≡ old) → new ≡ changed_entries attempt change old
       by None None l some there none = rw l none
       by None (Some done) l some there none = absurd (let s = rw l at some in cc)
       by (Some own) None l some there none = absurd (let s = rw l at some in cc)
@@ -297,15 +300,12 @@ module _ (attempt : AttemptId) (change : List AskLine → List AskLine) (old new
           ∙ sym (ap (λ (b : Bool). cond b (insert_entry is_attempt old attempt (change (lines_at old attempt))) old) is)
 
   -- what was found on the way
-  pub answered_by : (test : List AskLine → Bool) (r : Option Bool) (P : List AskLine → Bool → List AskLine → Type 0)
-      → ((own : List AskLine) → lookup (is_attempt attempt) old ≡ Some own → IfSome r (λ done. (x : List AskLine) × P own done x × (new ≡ set_value (is_attempt attempt) old x)))
+  pub answered_by : (test : List AskLine → Bool) (r : Option Bool) (P : List AskLine → Bool → List AskLine → Type 0) → IsHandedOn r P
       → is_some r ≡ is_some (lookup (is_attempt attempt) old) → ((own x : List AskLine) (done : Bool) → P own done x → done ≡ test own) → test [] ≡ false
       → unwrap_or r false ≡ test (lines_at old attempt)
   answered_by test r P there some means empty = by (lookup (is_attempt attempt) old) r refl some there
     where
-      by : (v : Option (List AskLine)) (r : Option Bool) → lookup (is_attempt attempt) old ≡ v → is_some r ≡ is_some (lookup (is_attempt attempt) old)
-          → ((own : List AskLine) → lookup (is_attempt attempt) old ≡ Some own → IfSome r (λ done. (x : List AskLine) × P own done x × (new ≡ set_value (is_attempt attempt) old x)))
-          → unwrap_or r false ≡ test (lines_at old attempt)
+      by : (v : Option (List AskLine)) (r : Option Bool) → lookup (is_attempt attempt) old ≡ v → is_some r ≡ is_some (lookup (is_attempt attempt) old) → IsHandedOn r P → unwrap_or r false ≡ test (lines_at old attempt)
       by None None l some there = rw l (sym empty)
       by None (Some done) l some there = absurd (let s = rw l at some in cc)
       by (Some own) None l some there = absurd (let s = rw l at some in cc)
@@ -315,8 +315,7 @@ module _ (attempt : AttemptId) (change : List AskLine → List AskLine) (old new
           means own t.0 done t.1 ∙ ap test (sym at)
 
 -- what contracts see after a grant
-pub granted_entries : (attempt : AttemptId) (change : List AskLine → List AskLine) (entries new : List AskEntry)
-    → new ≡ cond (is_some (lookup (is_attempt attempt) entries)) (insert_entry is_attempt entries attempt (change (lines_at entries attempt))) entries
+pub granted_entries : (attempt : AttemptId) (change : List AskLine → List AskLine) (entries new : List AskEntry) → new ≡ changed_entries attempt change entries
     → entries_in new ≡ cond (list_any (λ entry. is_attempt entry.attempt attempt) (entries_in entries)) (with_lines attempt (change (lines_in (entries_in entries) attempt)) (entries_in entries)) (entries_in entries)
 granted_entries attempt change entries new e =
     ap entries_in e ∙ by (is_some (lookup (is_attempt attempt) entries))
@@ -331,23 +330,18 @@ granted_entries attempt change entries new e =
 
 -- those that wait after a grant, where one that waited may do so no more
 module _ (attempt : AttemptId) (change : List AskLine → List AskLine) (entries new : List AskEntry) (waiting : List AttemptId) where
-  found_changed : (own : List AskLine) → lookup (is_attempt attempt) entries ≡ Some own
-      → new ≡ cond (is_some (lookup (is_attempt attempt) entries)) (insert_entry is_attempt entries attempt (change (lines_at entries attempt))) entries
-      → new ≡ insert_entry is_attempt entries attempt (change own)
+  found_changed : (own : List AskLine) → lookup (is_attempt attempt) entries ≡ Some own → new ≡ changed_entries attempt change entries → new ≡ insert_entry is_attempt entries attempt (change own)
   found_changed own l e =
       let at : lines_at entries attempt ≡ own = ap (λ (v : Option (List AskLine)). unwrap_or v []) l in
       let is : is_some (lookup (is_attempt attempt) entries) ≡ true = ap is_some l in
       e ∙ ap (λ (b : Bool). cond b (insert_entry is_attempt entries attempt (change (lines_at entries attempt))) entries) is ∙ ap (λ (v : List AskLine). insert_entry is_attempt entries attempt (change v)) at
 
-  not_changed : lookup (is_attempt attempt) entries ≡ None
-      → new ≡ cond (is_some (lookup (is_attempt attempt) entries)) (insert_entry is_attempt entries attempt (change (lines_at entries attempt))) entries → new ≡ entries
+  not_changed : lookup (is_attempt attempt) entries ≡ None → new ≡ changed_entries attempt change entries → new ≡ entries
   not_changed l e =
       let is : is_some (lookup (is_attempt attempt) entries) ≡ false = ap is_some l in
       e ∙ ap (λ (b : Bool). cond b (insert_entry is_attempt entries attempt (change (lines_at entries attempt))) entries) is
 
-  pub kept_granted : (marked : List AttemptId) → AreKept entries waiting
-      → new ≡ cond (is_some (lookup (is_attempt attempt) entries)) (insert_entry is_attempt entries attempt (change (lines_at entries attempt))) entries → has_some (lookup (is_attempt attempt) new) ≡ false
-      → ((one : AttemptId) → list_any (is_attempt one) marked ≡ cond (is_attempt attempt one) false (list_any (is_attempt one) waiting)) → AreKept new marked
+  pub kept_granted : (marked : List AttemptId) → AreKept entries waiting → new ≡ changed_entries attempt change entries → has_some (lookup (is_attempt attempt) new) ≡ false → IsUnmarked attempt waiting marked → AreKept new marked
   kept_granted marked k e none m = by (lookup (is_attempt attempt) entries) refl
     where
       by : (v : Option (List AskLine)) → lookup (is_attempt attempt) entries ≡ v → AreKept new marked
@@ -356,9 +350,7 @@ module _ (attempt : AttemptId) (change : List AskLine → List AskLine) (entries
           kept_entered attempt (change own) entries new waiting marked k (found_changed own l e)
           (λ one. m one ∙ ap (λ (b : Bool). cond (is_attempt attempt one) b (list_any (is_attempt one) waiting)) (sym none))
 
-  pub kept_still : change [] ≡ [] → AreKept entries waiting
-      → new ≡ cond (is_some (lookup (is_attempt attempt) entries)) (insert_entry is_attempt entries attempt (change (lines_at entries attempt))) entries → has_some (lookup (is_attempt attempt) new) ≡ true
-      → AreKept new waiting
+  pub kept_still : change [] ≡ [] → AreKept entries waiting → new ≡ changed_entries attempt change entries → has_some (lookup (is_attempt attempt) new) ≡ true → AreKept new waiting
   kept_still empty k e some = by (lookup (is_attempt attempt) entries) refl
     where
       some_left : (lines : List AskLine) → has_some (Some lines) ≡ true → is_nil lines ≡ false
