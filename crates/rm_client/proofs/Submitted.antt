@@ -1,5 +1,6 @@
 -- A submission that joins is found among those that are submitted, and each other as it was.
-use Rattle.std.proofs.Common.{◌≡◌, List, [], ◌∷◌, ◌++◌, Bool, true, false, ◌||◌, None, Some, refl, ap}
+use Rattle.std.proofs.Common.{◌≡◌, inl, inr, List, [], ◌∷◌, ◌++◌, Bool, true, false, ◌||◌, None, Some, refl, ap}
+use Rattle.std.proofs.lemmas.Bool.{cases_Bool}
 use Rattle.rm_types.specs.declared.ids.AppId.{AppId}
 use Rattle.rm_types.specs.declared.operations.Submission.{Submission}
 use Rattle.rm_types.specs.declared.operations.Submitted.{Submitted}
@@ -24,16 +25,14 @@ other_submitted id q s (one ∷ list) apart = ap (λ (b : Bool). is_app one.id q
 
 pub own_waiting : (id : AppId) (s : Submission) (list : List Submitted) → waiting_submission list id ≡ None → waiting_submission (list ++ one_of id s ∷ []) id ≡ Some s
 own_waiting id s [] none = rw (app_itself id) refl
-own_waiting id s (one ∷ list) none = by (is_app one.id id) refl (own_waiting id s list)
-  where
-    by : (b : Bool) → is_app one.id id ≡ b → (waiting_submission list id ≡ None → waiting_submission (list ++ one_of id s ∷ []) id ≡ Some s) → waiting_submission (one ∷ (list ++ one_of id s ∷ [])) id ≡ Some s
-    by true e rest = let h : Some one.submission ≡ None = rw e at none in cc
-    by false e rest = rw e (rest (rw e at none))
+own_waiting id s (one ∷ list) none = elim (cases_Bool (is_app one.id id)) [
+  | inl e ↦ let h : Some one.submission ≡ None = rw e at none in cc
+  | inr e ↦ rw e (own_waiting id s list (rw e at none))
+]
 
 pub other_waiting : (id q : AppId) (s : Submission) (list : List Submitted) → is_app id q ≡ false → waiting_submission (list ++ one_of id s ∷ []) q ≡ waiting_submission list q
 other_waiting id q s [] apart = rw apart refl
-other_waiting id q s (one ∷ list) apart = by (is_app one.id q) refl (other_waiting id q s list apart)
-  where
-    by : (b : Bool) → is_app one.id q ≡ b → waiting_submission (list ++ one_of id s ∷ []) q ≡ waiting_submission list q → waiting_submission (one ∷ (list ++ one_of id s ∷ [])) q ≡ waiting_submission (one ∷ list) q
-    by true e rest = rw e refl
-    by false e rest = rw e rest
+other_waiting id q s (one ∷ list) apart = elim (cases_Bool (is_app one.id q)) [
+  | inl e ↦ rw e refl
+  | inr e ↦ rw e (other_waiting id q s list apart)
+]
