@@ -33,6 +33,3 @@ adds_more a b c p q = record {
   grown = sym (append_assoc a p.added q.added) ∙ ap (λ (l : List Entry). l ++ q.added) p.grown ∙ q.grown;
   common = AllCommon-append p.added q.added p.common q.common;
 }
-
-pub adds_begins : (a b : List Entry) → AddsCommon a b → IsPrefix a b
-adds_begins a b p = (p.added, p.grown)

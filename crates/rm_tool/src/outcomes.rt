@@ -2,6 +2,8 @@ ghost use Rattle.std.specs.Prelude.{◌≡◌};
 ghost use Rattle.rm_tool.specs.Outcomes.{after_page, of_fault, outcome_of_page, of_report, of_write, tool_status};
 
 use crate::salvage::{Fault, WriteError};
+use crate::store_files::STORE_SIZE;
+use rm_formats::MOST_FILE_BYTES;
 use rm_outside::Written;
 use rm_page_reader::PageError;
 use rm_report::ReportError;
@@ -23,10 +25,10 @@ pub enum ToolOutcome {
     #[error("the page could not be written")]
     WriteFault { took_nothing: bool },
     /// The file has so many bytes, and not those of a store.
-    #[error("the file has {length} bytes, and a store has 4194304")]
+    #[error("the file has {length} bytes, and a store has {}", STORE_SIZE)]
     OtherLength { length: u64 },
-    /// The page's file has more than 16,777,216 bytes, and isn't read whole.
-    #[error("the file has more than 16777216 bytes")]
+    /// The page's file has more than [MOST_FILE_BYTES] bytes, and isn't read whole.
+    #[error("the file has more than {} bytes", MOST_FILE_BYTES)]
     TooLong,
     /// The file holds no store of the old form, or an empty one.
     #[error("the file is no store of the old form, or an empty one")]
