@@ -32,6 +32,8 @@ if [ ${#crates[@]} -eq 0 ]; then
   echo "no crate of that name has wrong bodies" >&2
   exit 1
 fi
+# The largest come first, so that the end doesn't wait for one of them.
+mapfile -t crates < <(for crate in "${crates[@]}"; do du -sb "crates/$crate"; done | sort -rn | sed 's|.*/||')
 
 for built in "$here"/crates/*/out/rlib "$here"/crates/*/out/incremental; do
   [ -d "$built" ] || continue
