@@ -113,21 +113,30 @@ served client carol submit application_6_0001 queue=root.default name=job memory
 settled
 ";
 
+/// The first life saves and queues as many as the bound says.
+fn put_first_life<R: Abort + AllocGlobal>(rt: &R, text: &mut String) {
+    put(rt, text, OPENED);
+    put_each(rt, text, 65, &GIVEN);
+    put(rt, text, "settled\n");
+    put_each(rt, text, 64, &ISSUED);
+    put_each(rt, text, 64, &KEPT);
+    put(rt, text, "settled\n");
+}
+
 /// The next life goes on with all but the one that was killed: the main queue's events first, and then the scheduler's.
+fn put_next_life<R: Abort + AllocGlobal>(rt: &R, text: &mut String) {
+    put_each(rt, text, 63, &ACCEPTED);
+    put_one(rt, text, 65, &ACCEPTED);
+    put_each(rt, text, 63, &QUEUED);
+    put_one(rt, text, 65, &QUEUED);
+    put(rt, text, LAST_PAGE);
+}
+
 fn page<R: Abort + AllocGlobal>(rt: &R) -> String {
     let mut text = String::new(rt.alloc());
-    put(rt, &mut text, OPENED);
-    put_each(rt, &mut text, 65, &GIVEN);
-    put(rt, &mut text, "settled\n");
-    put_each(rt, &mut text, 64, &ISSUED);
-    put_each(rt, &mut text, 64, &KEPT);
-    put(rt, &mut text, "settled\n");
+    put_first_life(rt, &mut text);
     put(rt, &mut text, BEYOND_PAGE);
-    put_each(rt, &mut text, 63, &ACCEPTED);
-    put_one(rt, &mut text, 65, &ACCEPTED);
-    put_each(rt, &mut text, 63, &QUEUED);
-    put_one(rt, &mut text, 65, &QUEUED);
-    put(rt, &mut text, LAST_PAGE);
+    put_next_life(rt, &mut text);
     text
 }
 

@@ -2,8 +2,8 @@
 //! are on standard output.
 
 use crate::cases::{Case, page_of, plain, shelf_of, sink_of, words_of};
-use rm_disk::{FileDisk, Fuse};
-use rm_main::{run_by, top_plain};
+use rm_disk::{Disk, FileDisk, Fuse};
+use rm_main::{Described, run_by, top_plain};
 use rm_types::Outcome;
 use std::fs;
 use std::fs::Files;
@@ -33,26 +33,29 @@ fn begin<R: Abort + Files>(rt: &R) {
     put_file(rt, SCRIPT, "start 5\nsettle\n");
 }
 
-/// What a call by these words comes to.
-fn call<R: Threads + Wait + Sync + Abort + AllocGlobal>(
+/// What a call by these words comes to, over this file.
+fn call_over<R: Threads + Wait + Sync + Abort + AllocGlobal, D: Disk + Described + Drop + Send>(
     rt: &R,
     files: HostRuntime,
     words: &[&str],
+    file: D,
 ) -> Outcome {
     let case = Case {
         words,
         ..plain(&[])
     };
     let words = words_of(rt, &case);
-    run_by(
-        rt,
-        files,
-        "program",
-        words.as_slice(),
-        FileDisk::new(&files, STORE),
-    )
-    .0
-    .outcome
+    let (call, _file) = run_by(rt, files, "program", words.as_slice(), file);
+    call.outcome
+}
+
+/// What a call by these words comes to.
+fn call<R: Threads + Wait + Sync + Abort + AllocGlobal>(
+    rt: &R,
+    files: HostRuntime,
+    words: &[&str],
+) -> Outcome {
+    call_over(rt, files, words, FileDisk::new(&files, STORE))
 }
 
 fn is_done<R: Abort>(rt: &R, outcome: Outcome) {

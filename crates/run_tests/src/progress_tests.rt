@@ -85,23 +85,23 @@ fn a_line_is_told_at_each_thousand_operations(rt: HostRuntime) {
 
 fn sends<D: Disk + Drop + Send>(_disk: &D) {}
 
-fn memory_changes_threads(rt: HostRuntime, device: MemDisk) {
-    let watched = Watched::new(device, rt, "program", false);
-    sends(&Fuse::new(rt.alloc(), watched));
-}
-
-/// Whether a file that was not asked for anything has no fault behind it.
-fn file_changes_threads(rt: HostRuntime) -> bool {
-    let file = FileDisk::new(&rt, "none");
-    let watched = Watched::new(file, &rt, "program", rt.stderr().is_terminal());
-    let fuse = Fuse::new(rt.alloc(), watched);
+/// A device that is watched under a fuse may change threads; it is given back.
+fn changes_threads<D: Disk + Drop + Send, R: Eprint + Drop + Send>(
+    alloc: Global,
+    device: D,
+    rt: R,
+    tells: bool,
+) -> D {
+    let fuse = Fuse::new(alloc, Watched::new(device, rt, "program", tells));
     sends(&fuse);
-    let file = fuse.inner().inner();
-    file.last_fault().is_none()
+    fuse.inner().inner()
 }
 
+// A file that was not asked for anything has no fault behind it.
 #[test]
 fn a_watched_disk_under_a_fuse_may_change_threads(rt: HostRuntime) {
-    memory_changes_threads(rt, device(&rt, &[]));
-    wants(&rt, file_changes_threads(rt));
+    let _memory = changes_threads(rt.alloc(), device(&rt, &[]), rt, false);
+    let tells = rt.stderr().is_terminal();
+    let file = changes_threads(rt.alloc(), FileDisk::new(&rt, "none"), &rt, tells);
+    wants(&rt, file.last_fault().is_none());
 }
