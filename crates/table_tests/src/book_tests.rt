@@ -53,8 +53,9 @@ fn grant<R: Abort>(
     wants_words(rt, found, wanted);
 }
 
-fn is_free(book: &Book, node: &Text, memory_mb: u32, vcores: u32) -> bool {
-    book.free_of(node) == Some(size(memory_mb, vcores))
+/// So much is left of a node.
+fn is_free<R: Abort>(rt: &R, book: &Book, node: &Text, memory_mb: u32, vcores: u32) {
+    wants(rt, book.free_of(node) == Some(size(memory_mb, vcores)));
 }
 
 /// These containers live on a node.
@@ -74,7 +75,7 @@ fn shared<R: Abort>(rt: &R, alloc: Global, one: &Text, other: &Text) -> Book {
     let mut book = Book::new(alloc);
     book.set_node(one, size(4096, 4)).expect(rt, "memory");
     book.set_node(other, size(1024, 1)).expect(rt, "memory");
-    wants(rt, is_free(&book, one, 4096, 4));
+    is_free(rt, &book, one, 4096, 4);
     grant(
         rt,
         &mut book,
@@ -121,36 +122,42 @@ const OF_FIRST: [ContainerId; 2] = [
     },
 ];
 
+/// The containers of both attempts stand in the shared book, and take their parts of the nodes.
+fn see_shares<R: Abort>(rt: &R, book: &Book, one: &Text, other: &Text) {
+    is_free(rt, book, one, 1024, 2);
+    is_free(rt, book, other, 0, 0);
+    live_on(rt, book, one, ON_ONE.as_slice());
+    live_of(rt, book, FIRST, OF_FIRST.as_slice());
+}
+
+/// The shared book takes no container twice, none that doesn't fit, and none that has ended.
+fn see_refusals<R: Abort>(rt: &R, book: &mut Book, one: &Text, other: &Text) {
+    let held = container(FIRST, 2);
+    grant(rt, book, held, other, size(9999, 9), "held");
+    let third = container(SECOND, 2);
+    grant(rt, book, third, one, size(1025, 1), "no room");
+    grant(rt, book, third, one, size(1, 3), "no room");
+    let ended = outcome(book, third, one, size(1, 3), ContainerState::Completed);
+    wants_words(rt, ended, "ended");
+}
+
+/// The shared book takes a container that fills a node.
+fn see_last_room<R: Abort>(rt: &R, book: &mut Book, one: &Text) {
+    let third = container(SECOND, 2);
+    grant(rt, book, third, one, size(1024, 2), "ok");
+    wants(rt, book.len() == 4);
+}
+
 #[test]
 fn two_attempts_share_a_node(rt: HostRuntime) {
-    let one = text(&rt, rt.alloc(), b"n1:1");
-    let other = text(&rt, rt.alloc(), b"n2:1");
-    let mut book = shared(&rt, rt.alloc(), &one, &other);
-    wants(&rt, is_free(&book, &one, 1024, 2));
-    wants(&rt, is_free(&book, &other, 0, 0));
-    live_on(&rt, &book, &one, ON_ONE.as_slice());
-    live_of(&rt, &book, FIRST, OF_FIRST.as_slice());
-    grant(
-        &rt,
-        &mut book,
-        container(FIRST, 2),
-        &other,
-        size(9999, 9),
-        "held",
-    );
-    let third = container(SECOND, 2);
-    grant(&rt, &mut book, third, &one, size(1025, 1), "no room");
-    grant(&rt, &mut book, third, &one, size(1, 3), "no room");
-    let ended = outcome(
-        &mut book,
-        third,
-        &one,
-        size(1, 3),
-        ContainerState::Completed,
-    );
-    wants_words(&rt, ended, "ended");
-    grant(&rt, &mut book, third, &one, size(1024, 2), "ok");
-    wants(&rt, book.len() == 4);
+    let alloc = rt.alloc();
+    let one = text(&rt, alloc, b"n1:1");
+    let other = text(&rt, alloc, b"n2:1");
+    let mut book = shared(&rt, alloc, &one, &other);
+    see_shares(&rt, &book, &one, &other);
+    see_refusals(&rt, &mut book, &one, &other);
+    see_last_room(&rt, &mut book, &one);
+    drop(book);
 }
 
 fn is_told(book: &Book, id: ContainerId, told: u64) -> bool {
@@ -204,21 +211,32 @@ fn two_of_one<R: Abort>(rt: &R, alloc: Global, node: &Text) -> Book {
     book
 }
 
+/// The first container ends once, and its room is free then.
+fn see_end<R: Abort>(rt: &R, book: &mut Book, node: &Text) {
+    let first = container(FIRST, 1);
+    end(rt, book, first, node, 1);
+    wants(rt, book.end(first).is_none());
+    is_free(rt, book, node, 1024, 1);
+}
+
+/// The first container is granted anew under the next number, and the others are as they were.
+fn see_new_grant<R: Abort>(rt: &R, book: &mut Book, node: &Text) {
+    let first = container(FIRST, 1);
+    grant(rt, book, first, node, size(512, 1), "ok");
+    wants(rt, is_told(book, first, 3));
+    let second = container(FIRST, 2);
+    wants(rt, is_in_state(book, second, ContainerState::Running));
+    wants(rt, is_gone(book, container(FIRST, 3)));
+}
+
 #[test]
 fn an_ended_container_gives_its_room_back_and_keeps_its_number(rt: HostRuntime) {
-    let node = text(&rt, rt.alloc(), b"n1:1");
-    let mut book = two_of_one(&rt, rt.alloc(), &node);
-    let first = container(FIRST, 1);
-    end(&rt, &mut book, first, &node, 1);
-    wants(&rt, book.end(first).is_none());
-    wants(&rt, is_free(&book, &node, 1024, 1));
-    grant(&rt, &mut book, first, &node, size(512, 1), "ok");
-    wants(&rt, is_told(&book, first, 3));
-    wants(
-        &rt,
-        is_in_state(&book, container(FIRST, 2), ContainerState::Running),
-    );
-    wants(&rt, is_gone(&book, container(FIRST, 3)));
+    let alloc = rt.alloc();
+    let node = text(&rt, alloc, b"n1:1");
+    let mut book = two_of_one(&rt, alloc, &node);
+    see_end(&rt, &mut book, &node);
+    see_new_grant(&rt, &mut book, &node);
+    drop(book);
 }
 
 /// A book of one node, where nothing stands.
@@ -252,18 +270,30 @@ fn entered<R: Abort>(rt: &R, alloc: Global) -> Book {
     book
 }
 
+/// The second container that entered has its number and its state, and both take their room.
+fn see_entry<R: Abort>(rt: &R, book: &Book, node: &Text) {
+    let second = container(SECOND, 1);
+    wants(rt, is_told(book, second, 2));
+    wants(rt, is_in_state(book, second, ContainerState::Granted));
+    is_free(rt, book, node, 1024, 1);
+}
+
+/// The second container ends with one that isn't there, and the first stands alone then.
+fn see_ends<R: Abort>(rt: &R, book: &mut Book, node: &Text) {
+    book.end_all(&[container(SECOND, 1), container(FIRST, 2)]);
+    wants(rt, book.len() == 1);
+    wants(rt, !is_gone(book, container(FIRST, 1)));
+    is_free(rt, book, node, 3072, 3);
+}
+
 #[test]
 fn the_grants_of_a_pass_enter_and_end_at_once(rt: HostRuntime) {
-    let node = text(&rt, rt.alloc(), b"n1:1");
-    let mut book = entered(&rt, rt.alloc());
-    let second = container(SECOND, 1);
-    wants(&rt, is_told(&book, second, 2));
-    wants(&rt, is_in_state(&book, second, ContainerState::Granted));
-    wants(&rt, is_free(&book, &node, 1024, 1));
-    book.end_all(&[second, container(FIRST, 2)]);
-    wants(&rt, book.len() == 1);
-    wants(&rt, !is_gone(&book, container(FIRST, 1)));
-    wants(&rt, is_free(&book, &node, 3072, 3));
+    let alloc = rt.alloc();
+    let node = text(&rt, alloc, b"n1:1");
+    let mut book = entered(&rt, alloc);
+    see_entry(&rt, &book, &node);
+    see_ends(&rt, &mut book, &node);
+    drop(book);
 }
 
 /// The priority, the number and the memory of each ask of the first attempt are these.
@@ -317,21 +347,32 @@ fn are_granted<R: Abort>(rt: &R, asks: &mut Asks) {
     wants(rt, !asks.granted(FIRST, 2, size(512, 1)));
 }
 
+/// An ask that is set anew keeps its place, and one that was taken back comes last of its priority.
+fn see_order<R: Abort>(rt: &R, alloc: Global, asks: &mut Asks) {
+    wants_asks(rt, alloc, asks, "1 3 1024, 1 2 256, 2 1 512, ");
+    set(rt, asks, FIRST, 1, 5, 1024);
+    wants_asks(rt, alloc, asks, "1 5 1024, 1 2 256, 2 1 512, ");
+    set(rt, asks, FIRST, 1, 0, 1024);
+    set(rt, asks, FIRST, 1, 1, 1024);
+    wants_asks(rt, alloc, asks, "1 2 256, 1 1 1024, 2 1 512, ");
+}
+
+/// The first attempt's asks are cleared, and those of the second stay.
+fn see_clearing<R: Abort>(rt: &R, asks: &mut Asks) {
+    asks.clear(FIRST);
+    wants(rt, !is_asking(asks, FIRST));
+    wants(rt, is_asking(asks, SECOND));
+}
+
 #[test]
 fn asks_of_equal_priority_stand_in_the_order_of_asking(rt: HostRuntime) {
     let alloc = rt.alloc();
     let mut asks = asked(&rt, alloc);
-    wants_asks(&rt, alloc, &asks, "1 3 1024, 1 2 256, 2 1 512, ");
-    set(&rt, &mut asks, FIRST, 1, 5, 1024);
-    wants_asks(&rt, alloc, &asks, "1 5 1024, 1 2 256, 2 1 512, ");
-    set(&rt, &mut asks, FIRST, 1, 0, 1024);
-    set(&rt, &mut asks, FIRST, 1, 1, 1024);
-    wants_asks(&rt, alloc, &asks, "1 2 256, 1 1 1024, 2 1 512, ");
+    see_order(&rt, alloc, &mut asks);
     are_granted(&rt, &mut asks);
     wants_asks(&rt, alloc, &asks, "1 1 256, 1 1 1024, ");
-    asks.clear(FIRST);
-    wants(&rt, !is_asking(&asks, FIRST));
-    wants(&rt, is_asking(&asks, SECOND));
+    see_clearing(&rt, &mut asks);
+    drop(asks);
 }
 
 /// The numbers of the attempts that ask for something are these.
@@ -343,20 +384,31 @@ fn wants_waiting<R: Abort>(rt: &R, alloc: Global, asks: &Asks, wanted: &str) {
     wants_words(rt, found.as_str(), wanted);
 }
 
+/// Two attempts wait for one container each, until the second is granted it.
+fn see_both_wait<R: Abort>(rt: &R, alloc: Global, asks: &mut Asks) {
+    wants_waiting(rt, alloc, asks, "");
+    set(rt, asks, SECOND, 1, 1, 1024);
+    set(rt, asks, FIRST, 1, 1, 1024);
+    wants_waiting(rt, alloc, asks, "1 2 ");
+    wants(rt, asks.granted(SECOND, 1, size(1024, 1)));
+    wants_waiting(rt, alloc, asks, "1 ");
+}
+
+/// The first attempt waits no more when its asks are cleared, and waits again when it asks again.
+fn see_first_wait<R: Abort>(rt: &R, alloc: Global, asks: &mut Asks) {
+    asks.clear(FIRST);
+    wants_waiting(rt, alloc, asks, "");
+    set(rt, asks, FIRST, 1, 1, 1024);
+    wants_waiting(rt, alloc, asks, "1 ");
+}
+
 #[test]
 fn attempts_wait_while_they_ask(rt: HostRuntime) {
     let alloc = rt.alloc();
     let mut asks = Asks::new(alloc);
-    wants_waiting(&rt, alloc, &asks, "");
-    set(&rt, &mut asks, SECOND, 1, 1, 1024);
-    set(&rt, &mut asks, FIRST, 1, 1, 1024);
-    wants_waiting(&rt, alloc, &asks, "1 2 ");
-    wants(&rt, asks.granted(SECOND, 1, size(1024, 1)));
-    wants_waiting(&rt, alloc, &asks, "1 ");
-    asks.clear(FIRST);
-    wants_waiting(&rt, alloc, &asks, "");
-    set(&rt, &mut asks, FIRST, 1, 1, 1024);
-    wants_waiting(&rt, alloc, &asks, "1 ");
+    see_both_wait(&rt, alloc, &mut asks);
+    see_first_wait(&rt, alloc, &mut asks);
+    drop(asks);
 }
 
 /// Sets many asks of the first attempt, of which so many may stand; whether they were set.
@@ -392,6 +444,7 @@ fn many_asks_are_set_or_none(rt: HostRuntime) {
     wants_asks(&rt, alloc, &asks, "2 1 512, ");
     wants(&rt, set_all(&rt, &mut asks, MORE.as_slice(), 2));
     wants_asks(&rt, alloc, &asks, "1 3 1024, 2 4 512, ");
+    drop(asks);
 }
 
 /// The only container that an attempt was granted and not told of is this.
@@ -401,36 +454,39 @@ fn is_granted<R: Abort>(rt: &R, book: &Book, attempt: AttemptId, wanted: Contain
     wants(rt, granted.as_slice().iter().all(|one| one.id == wanted));
 }
 
+/// The containers that are granted on one node, each of one size.
+const ON_NODE: [ContainerId; 3] = [
+    ContainerId {
+        attempt: FIRST,
+        epoch: 0,
+        seq: 1,
+    },
+    ContainerId {
+        attempt: FIRST,
+        epoch: 0,
+        seq: 2,
+    },
+    ContainerId {
+        attempt: SECOND,
+        epoch: 0,
+        seq: 3,
+    },
+];
+
+/// Two containers of the first attempt and one of the second are granted on a node.
+fn grant_three<R: Abort>(rt: &R, book: &mut Book, node: &Text) {
+    for id in ON_NODE.as_slice() {
+        grant(rt, book, *id, node, size(1024, 1), "ok");
+    }
+}
+
 #[test]
 fn what_nobody_was_told_of_is_granted(rt: HostRuntime) {
     let alloc = rt.alloc();
     let node = text(&rt, alloc, b"n1:1");
-    let mut book = Book::new(alloc);
-    book.set_node(&node, size(4096, 4)).expect(&rt, "memory");
-    grant(
-        &rt,
-        &mut book,
-        container(FIRST, 1),
-        &node,
-        size(1024, 1),
-        "ok",
-    );
-    grant(
-        &rt,
-        &mut book,
-        container(FIRST, 2),
-        &node,
-        size(1024, 1),
-        "ok",
-    );
-    grant(
-        &rt,
-        &mut book,
-        container(SECOND, 3),
-        &node,
-        size(1024, 1),
-        "ok",
-    );
+    let mut book = book_of(&rt, alloc, &node, size(4096, 4));
+    grant_three(&rt, &mut book, &node);
     wants(&rt, book.run(container(FIRST, 1)));
     is_granted(&rt, &book, FIRST, container(FIRST, 2));
+    drop(book);
 }

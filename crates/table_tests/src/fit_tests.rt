@@ -67,6 +67,22 @@ fn run<R: Abort>(rt: &R, book: &mut Book, node: &Text, size: Resource) {
     assert!(rt; book.add(id, node, size, ContainerState::Running).is_ok());
 }
 
+/// A pass on the node, where the attempts have these turns, grants these.
+fn see_grants<R: Abort>(
+    rt: &R,
+    alloc: Global,
+    book: &Book,
+    asks: &Asks,
+    turns: &[Turn],
+    wanted: &str,
+)
+    requires attempts { TurnsAreApart turns.now }
+    requires sequences { IsTrue (are_early turns.now) }
+{
+    let grants = pass(rt, alloc, book, asks, turns);
+    wants_grants(rt, alloc, &grants, wanted);
+}
+
 /// A pass on the node, where the attempts ask for this and have these turns, grants these.
 fn see_pass<R: Abort>(
     rt: &R,
@@ -80,8 +96,9 @@ fn see_pass<R: Abort>(
     requires sequences { IsTrue (are_early turns.now) }
 {
     let asks = asked(rt, alloc, lines);
-    let grants = pass(rt, alloc, &book, &asks, turns);
-    wants_grants(rt, alloc, &grants, wanted);
+    see_grants(rt, alloc, &book, &asks, turns, wanted);
+    drop(asks);
+    drop(book);
 }
 
 const LARGE_ASK: [(AttemptId, u32, u32, u32); 3] = [
@@ -166,17 +183,26 @@ fn equal_priorities_go_in_the_order_of_first_asking(rt: HostRuntime) {
     );
 }
 
+const THOUSAND: [(AttemptId, u32, u32, u32); 1] = [(FIRST, 1, 1000, 1)];
+
 /// The greatest sequence that a turn may begin with.
 const LAST_TURN: [Turn; 1] = [Turn {
     attempt: FIRST,
     next_seq: 549755813888,
 }];
 
+/// A pass on the node grants 256 containers.
+fn see_most_grants<R: Abort>(rt: &R, alloc: Global, book: &Book, asks: &Asks) {
+    let grants = pass(rt, alloc, book, asks, LAST_TURN.as_slice());
+    wants(rt, grants.len() == 256);
+}
+
 #[test]
 fn a_node_takes_256_containers_at_most(rt: HostRuntime) {
     let alloc = rt.alloc();
     let book = book_of(&rt, alloc, size(16777216, 256));
-    let asks = asked(&rt, alloc, &[(FIRST, 1, 1000, 1)]);
-    let grants = pass(&rt, alloc, &book, &asks, LAST_TURN.as_slice());
-    wants(&rt, grants.len() == 256);
+    let asks = asked(&rt, alloc, THOUSAND.as_slice());
+    see_most_grants(&rt, alloc, &book, &asks);
+    drop(asks);
+    drop(book);
 }

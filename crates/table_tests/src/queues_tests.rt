@@ -127,9 +127,6 @@ fn tree<R: Abort>(rt: &R, alloc: Global, acl_enable: bool) -> QueueTree {
     QueueTree::new(alloc, &settings).expect(rt, "memory")
 }
 
-/// Drops a tree, in one place for all tests.
-fn let_go(_queue_tree: QueueTree) {}
-
 fn job<R: Abort>(rt: &R, alloc: Global, queue: &str) -> Submission {
     let user = text(rt, alloc, b"alice");
     let queue = text(rt, alloc, queue.as_bytes());
@@ -172,7 +169,7 @@ fn see_leaves<R: Abort>(rt: &R, queue_tree: &QueueTree) {
 fn leaves_are_queues_without_queues_below(rt: HostRuntime) {
     let queue_tree = tree(&rt, rt.alloc(), true);
     see_leaves(&rt, &queue_tree);
-    let_go(queue_tree);
+    drop(queue_tree);
 }
 
 /// Whether a user may submit to a queue, and whether he may administer it.
@@ -206,7 +203,7 @@ fn see_rights<R: Abort>(rt: &R, queue_tree: &QueueTree) {
 fn rights_come_from_the_queue_its_parents_and_the_admin_list(rt: HostRuntime) {
     let queue_tree = tree(&rt, rt.alloc(), true);
     see_rights(&rt, &queue_tree);
-    let_go(queue_tree);
+    drop(queue_tree);
 }
 
 /// Bob may do all in a queue.
@@ -219,7 +216,7 @@ fn see_freedom<R: Abort>(rt: &R, alloc: Global, queue_tree: &QueueTree) {
 fn where_rights_are_not_checked_all_is_allowed(rt: HostRuntime) {
     let queue_tree = tree(&rt, rt.alloc(), false);
     see_freedom(&rt, rt.alloc(), &queue_tree);
-    let_go(queue_tree);
+    drop(queue_tree);
 }
 
 /// A user, the queue of alice's job, which may have left the tree, and whether he may kill the job.
@@ -245,7 +242,7 @@ fn see_kills<R: Abort>(rt: &R, alloc: Global, queue_tree: &QueueTree) {
 fn owners_and_those_who_may_modify_kill(rt: HostRuntime) {
     let queue_tree = tree(&rt, rt.alloc(), true);
     see_kills(&rt, rt.alloc(), &queue_tree);
-    let_go(queue_tree);
+    drop(queue_tree);
 }
 
 /// What is denied, in which queue, and what the denial names.
@@ -295,5 +292,5 @@ fn see_denials<R: Abort>(rt: &R, alloc: Global, queue_tree: &QueueTree) {
 fn a_denial_names_what_was_consulted(rt: HostRuntime) {
     let queue_tree = tree(&rt, rt.alloc(), true);
     see_denials(&rt, rt.alloc(), &queue_tree);
-    let_go(queue_tree);
+    drop(queue_tree);
 }

@@ -21,6 +21,11 @@ fn settings(alloc: Global) -> Settings {
     }
 }
 
+/// The tables before their first life.
+fn new_tables(alloc: Global) -> Tables {
+    Tables::new(alloc, settings(alloc))
+}
+
 fn see_life<R: Abort>(rt: &R, alloc: Global, tables: &mut Tables) {
     wants(rt, tables.is_ready(Lane::Begin));
     tables.begin(Tree::new(alloc), 5).expect(rt, "memory");
@@ -38,8 +43,10 @@ fn see_life<R: Abort>(rt: &R, alloc: Global, tables: &mut Tables) {
 
 #[test]
 fn a_life_begins_and_goes_down(rt: HostRuntime) {
-    let mut tables = Tables::new(rt.alloc(), settings(rt.alloc()));
-    see_life(&rt, rt.alloc(), &mut tables);
+    let alloc = rt.alloc();
+    let mut tables = new_tables(alloc);
+    see_life(&rt, alloc, &mut tables);
+    drop(tables);
 }
 
 /// The row of an application that was submitted.
@@ -62,22 +69,32 @@ fn is_in_state(rows: &Rows, id: AppId, state: AppState) -> bool {
     }
 }
 
+const ID: AppId = AppId {
+    stamp: 5,
+    number: 1,
+};
+
+/// An application isn't scheduled before its submission is kept.
+fn see_changes<R: Abort>(rt: &R, rows: &mut Rows) {
+    rows.change(ID, RowChange::Schedule { number: 1 });
+    wants(rt, is_in_state(rows, ID, AppState::New));
+    rows.change(ID, RowChange::Issue);
+    rows.change(ID, RowChange::Keep);
+    rows.change(ID, RowChange::Schedule { number: 1 });
+    wants(rt, is_in_state(rows, ID, AppState::Accepted));
+}
+
+fn see_removal<R: Abort>(rt: &R, rows: &mut Rows) {
+    rows.remove(ID);
+    wants(rt, rows.find(ID).is_none());
+    wants(rt, rows.is_retired(ID));
+}
+
 #[test]
 fn a_row_is_found_until_it_is_retired(rt: HostRuntime) {
     let alloc = rt.alloc();
     let mut rows = Rows::new(alloc);
-    let id = AppId {
-        stamp: 5,
-        number: 1,
-    };
-    rows.add(id, new_row(alloc)).expect(&rt, "memory");
-    rows.change(id, RowChange::Schedule { number: 1 });
-    wants(&rt, is_in_state(&rows, id, AppState::New));
-    rows.change(id, RowChange::Issue);
-    rows.change(id, RowChange::Keep);
-    rows.change(id, RowChange::Schedule { number: 1 });
-    wants(&rt, is_in_state(&rows, id, AppState::Accepted));
-    rows.remove(id);
-    wants(&rt, rows.find(id).is_none());
-    wants(&rt, rows.is_retired(id));
+    rows.add(ID, new_row(alloc)).expect(&rt, "memory");
+    see_changes(&rt, &mut rows);
+    see_removal(&rt, &mut rows);
 }
