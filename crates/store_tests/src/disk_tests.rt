@@ -1,13 +1,14 @@
 //! What no clause says: what disks answer to calls one after another, and what a file holds afterwards.
 use crate::helpers::{
-    FILE_SIZE, disk_of, file_bytes, read, refusal, remove_file, told, wants, wants_words, write,
-    write_file,
+    FILE_SIZE, disk_of, file_bytes, holds, read, refusal, refuses, remove_file, told, wants,
+    wants_words, write, write_file,
 };
 use crate::recorded::{Calls, Recorded};
-use rm_disk::{Disk, Fallen, FileDisk, Fuse, MemDisk, Window};
+use rm_disk::{Disk, Fallen, FileDisk, Fuse, HeldFile, MemDisk, Window};
 use rm_types::Items;
-use std::alloc::Global;
+use std::alloc::{Alloc, Global};
 use std::fs;
+use std::fs::Files;
 use std::process::Abort;
 
 /// A disk of four bytes reads these.
@@ -140,6 +141,13 @@ fn write_and_close<R: Abort>(rt: &R, files: HostRuntime, name: &str) -> String {
     refusal(rt, files, name)
 }
 
+/// A file is written while no other disk opens it, and is whole then.
+fn see_writing<R: Abort>(rt: &R, files: HostRuntime, name: &str) {
+    let why = write_and_close(rt, files, name);
+    wants_words(rt, why.as_str(), "the file is in use");
+    wants_whole(rt, file_bytes(rt, files, name).as_slice());
+}
+
 /// These are the bytes of a whole file, zeros but for the last.
 fn wants_whole<R: Abort>(rt: &R, whole: &[u8]) {
     wants(rt, whole.len() == 4_194_304);
@@ -156,26 +164,15 @@ fn a_file_keeps_what_was_written(rt: HostRuntime) {
     let _ = fs::remove_file(&rt, name);
     // What a maker that was killed leaves.
     write_file(&rt, "rm_disk_kept.store.new", b"draft");
-    wants_words(
-        &rt,
-        write_and_close(&rt, rt, name).as_str(),
-        "the file is in use",
-    );
-    wants_whole(&rt, file_bytes(&rt, rt, name).as_slice());
+    see_writing(&rt, rt, name);
     wants(
         &rt,
         !fs::exists(&rt, "rm_disk_kept.store.new").expect(&rt, "the folder"),
     );
     write_file(&rt, name, b"short");
-    wants_words(
-        &rt,
-        refusal(&rt, rt, name).as_str(),
-        "the file has 5 bytes, and a disk has 4194304",
-    );
-    wants(
-        &rt,
-        file_bytes(&rt, rt, name).as_slice() == b"short".as_slice(),
-    );
+    let why = "the file has 5 bytes, and a disk has 4194304";
+    refuses(&rt, rt, name, why);
+    holds(&rt, rt, name, b"short");
     remove_file(&rt, name);
 }
 
@@ -191,6 +188,14 @@ fn see_making<R: Abort, D: Disk>(rt: &R, disk: &mut D, calls: &Calls) {
     wants(rt, calls.syncs.get() == 1);
 }
 
+/// A disk in a file that isn't there makes it in these files.
+fn see_file_making<R: Abort, F: Files + Alloc>(rt: &R, files: &F, name: &str, calls: &Calls)
+where
+    F::File: HeldFile,
+{
+    see_making(rt, &mut FileDisk::new(files, name), calls);
+}
+
 #[test]
 fn a_file_is_made_whole_before_it_has_its_name(rt: HostRuntime) {
     let name = "rm_disk_made.store";
@@ -200,7 +205,7 @@ fn a_file_is_made_whole_before_it_has_its_name(rt: HostRuntime) {
         files: &rt,
         calls: &calls,
     };
-    see_making(&rt, &mut FileDisk::new(&files, name), &calls);
+    see_file_making(&rt, &files, name, &calls);
     remove_file(&rt, name);
 }
 
@@ -227,6 +232,21 @@ fn see_reads<R: Abort, D: Disk>(rt: &R, disk: &mut D, calls: &Calls) {
     wants(rt, calls.reads.get() == 3);
 }
 
+/// A disk in a file of that name reads ahead under a window.
+fn see_window<R: Abort, F: Files + Alloc>(
+    rt: &R,
+    alloc: Global,
+    files: &F,
+    name: &str,
+    calls: &Calls,
+)
+where
+    F::File: HeldFile,
+{
+    let mut disk = Window::new(alloc, FileDisk::new(files, name));
+    see_reads(rt, &mut disk, calls);
+}
+
 #[test]
 fn a_window_reads_ahead_and_forgets_at_a_write(rt: HostRuntime) {
     let name = "rm_disk_window.store";
@@ -236,7 +256,6 @@ fn a_window_reads_ahead_and_forgets_at_a_write(rt: HostRuntime) {
         files: &rt,
         calls: &calls,
     };
-    let mut disk = Window::new(rt.alloc(), FileDisk::new(&files, name));
-    see_reads(&rt, &mut disk, &calls);
+    see_window(&rt, rt.alloc(), &files, name, &calls);
     remove_file(&rt, name);
 }

@@ -1,11 +1,12 @@
 //! What no clause says: which files a disk takes for its own, how it makes one, and what it says of one that goes while it is
 //! used.
 use crate::helpers::{
-    FILE_SIZE, file_bytes, last_words, refusal, remove_file, told, wants, wants_words, write,
-    write_file,
+    FILE_SIZE, file_bytes, holds, last_words, refuses, remove_file, told, wants, wants_words,
+    write, write_file,
 };
 use crate::recorded::{Calls, Recorded};
-use rm_disk::{Disk, FileDisk};
+use rm_disk::{Disk, FileDisk, HeldFile};
+use std::alloc::Alloc;
 use std::fs;
 use std::fs::{Files, OpenFile, OpenOptions};
 use std::os::unix::fs::{FileExt, MetadataExt, symlink};
@@ -72,7 +73,7 @@ where
     let (front, at, byte, wanted) = foreign;
     make_file(rt, name, front, *at, *byte);
     let before = changed(rt, name);
-    wants_words(rt, refusal(rt, files, name).as_str(), wanted);
+    refuses(rt, files, name, wanted);
     wants(rt, changed(rt, name) == before);
     wants(rt, file_bytes(rt, files, name).starts_with(front));
 }
@@ -126,15 +127,30 @@ fn bring<R: Abort + Files>(rt: &R, name: &str, loss: Loss) {
     }
 }
 
+/// A disk makes its file, and syncs.
+fn see_use<R: Abort>(rt: &R, disk: &mut FileDisk<'_, HostRuntime>) {
+    wants_words(rt, told(write(rt, disk, 0, &[1])), "ok");
+    wants_words(rt, told(disk.sync()), "ok");
+    wants(rt, disk.made_new());
+}
+
+/// A disk doesn't sync any more, and says this.
+fn see_fault<R: Abort>(
+    rt: &R,
+    files: HostRuntime,
+    disk: &mut FileDisk<'_, HostRuntime>,
+    wanted: &str,
+) {
+    wants_words(rt, told(disk.sync()), "disk fault");
+    wants_words(rt, last_words(rt, files, disk).as_str(), wanted);
+}
+
 /// A disk syncs until this happens to its file, and says then what is wrong.
 fn see_loss<R: Abort + Files>(rt: &R, files: HostRuntime, name: &str, loss: Loss, wanted: &str) {
     let mut disk = FileDisk::new(&files, name);
-    wants_words(rt, told(write(rt, &mut disk, 0, &[1])), "ok");
-    wants_words(rt, told(disk.sync()), "ok");
-    wants(rt, disk.made_new());
+    see_use(rt, &mut disk);
     bring(rt, name, loss);
-    wants_words(rt, told(disk.sync()), "disk fault");
-    wants_words(rt, last_words(rt, files, &disk).as_str(), wanted);
+    see_fault(rt, files, &mut disk, wanted);
     let _ = fs::remove_file(rt, name);
 }
 
@@ -163,16 +179,10 @@ fn a_draft_that_is_a_link_is_left(rt: HostRuntime) {
     let _ = fs::remove_file(&rt, name);
     write_file(&rt, other, b"text");
     link(&rt, other, draft);
-    wants_words(
-        &rt,
-        refusal(&rt, rt, name).as_str(),
-        "the draft rm_disk_a.store.new: it is no plain file, and is left as it is",
-    );
+    let why = "the draft rm_disk_a.store.new: it is no plain file, and is left as it is";
+    refuses(&rt, rt, name, why);
     wants(&rt, !is_there(&rt, name));
-    wants(
-        &rt,
-        file_bytes(&rt, rt, draft).as_slice() == b"text".as_slice(),
-    );
+    holds(&rt, rt, draft, b"text");
     remove_file(&rt, draft);
     remove_file(&rt, other);
 }
@@ -182,14 +192,10 @@ fn a_link_leads_to_a_store_or_is_refused(rt: HostRuntime) {
     let (name, other) = ("rm_disk_b.store", "rm_disk_b.other");
     let _ = fs::remove_file(&rt, other);
     link(&rt, other, name);
-    wants_words(
-        &rt,
-        refusal(&rt, rt, name).as_str(),
-        "the name is a link that leads to no file",
-    );
+    refuses(&rt, rt, name, "the name is a link that leads to no file");
     wants(&rt, !is_there(&rt, name));
-    wants_words(&rt, refusal(&rt, rt, other).as_str(), "");
-    wants_words(&rt, refusal(&rt, rt, name).as_str(), "");
+    refuses(&rt, rt, other, "");
+    refuses(&rt, rt, name, "");
     remove_file(&rt, name);
     remove_file(&rt, other);
 }
@@ -200,30 +206,39 @@ fn mode_of<R: Abort + Files>(rt: &R, name: &str) -> u32 {
     found.mode() & 0o777
 }
 
+/// A file is made in place of its draft, of which others had more rights.
+fn see_owner<R: Abort + Files>(rt: &R, files: HostRuntime, name: &str, draft: &str) {
+    wants(rt, mode_of(rt, draft) != 0o600);
+    refuses(rt, files, name, "");
+    wants(rt, mode_of(rt, name) == 0o600);
+    wants(rt, file_bytes(rt, files, name).len() == 4_194_304);
+    wants(rt, !is_there(rt, draft));
+}
+
+/// A disk in a file that is there doesn't make it.
+fn see_second_use<R: Abort>(rt: &R, files: HostRuntime, name: &str) {
+    let mut again = FileDisk::new(&files, name);
+    wants_words(rt, told(again.sync()), "ok");
+    wants(rt, !again.made_new());
+}
+
 #[test]
 fn a_file_that_is_made_is_its_owners(rt: HostRuntime) {
     let (name, draft) = ("rm_disk_c.store", "rm_disk_c.store.new");
     let _ = fs::remove_file(&rt, name);
     // What a maker that was killed leaves is replaced.
     write_file(&rt, draft, b"draft");
-    wants(&rt, mode_of(&rt, draft) != 0o600);
-    wants_words(&rt, refusal(&rt, rt, name).as_str(), "");
-    wants(&rt, mode_of(&rt, name) == 0o600);
-    wants(&rt, file_bytes(&rt, rt, name).len() == 4_194_304);
-    wants(&rt, !is_there(&rt, draft));
-    let mut again = FileDisk::new(&rt, name);
-    wants_words(&rt, told(again.sync()), "ok");
-    wants(&rt, !again.made_new());
+    see_owner(&rt, rt, name, draft);
+    see_second_use(&rt, rt, name);
     remove_file(&rt, name);
 }
 
 /// A disk for which there is too little room fails, and makes its file once there is enough.
-fn see_room<R: Abort + Files>(rt: &R, files: HostRuntime, name: &str, calls: &Calls) {
-    let recorded = Recorded {
-        files: &files,
-        calls,
-    };
-    let mut disk = FileDisk::new(&recorded, name);
+fn see_room<R: Abort + Files, F: Files + Alloc>(rt: &R, files: &F, name: &str, calls: &Calls)
+where
+    F::File: HeldFile,
+{
+    let mut disk = FileDisk::new(files, name);
     calls.room.set(FILE_SIZE - 1);
     wants_words(rt, told(disk.sync()), "disk fault");
     wants(rt, !is_there(rt, name));
@@ -238,6 +253,11 @@ fn see_room<R: Abort + Files>(rt: &R, files: HostRuntime, name: &str, calls: &Ca
 fn a_draft_that_found_no_room_goes(rt: HostRuntime) {
     let name = "rm_disk_d.store";
     let _ = fs::remove_file(&rt, name);
-    see_room(&rt, rt, name, &Calls::new());
+    let calls = Calls::new();
+    let files = Recorded {
+        files: &rt,
+        calls: &calls,
+    };
+    see_room(&rt, &files, name, &calls);
     remove_file(&rt, name);
 }

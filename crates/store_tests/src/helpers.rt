@@ -65,6 +65,16 @@ pub fn refusal<R: Abort>(rt: &R, files: HostRuntime, name: &str) -> String {
     last_words(rt, files, &disk)
 }
 
+/// A disk in a file can't be used for this reason, or can where there is none.
+pub fn refuses<R: Abort>(rt: &R, files: HostRuntime, name: &str, wanted: &str) {
+    wants_words(rt, refusal(rt, files, name).as_str(), wanted);
+}
+
+/// A file has these bytes.
+pub fn holds<R: Abort>(rt: &R, files: HostRuntime, name: &str, wanted: &[u8]) {
+    wants(rt, file_bytes(rt, files, name).as_slice() == wanted);
+}
+
 /// Why a disk in a file last failed, or nothing.
 pub fn last_words<R: Abort>(
     rt: &R,

@@ -5,12 +5,13 @@ ghost use Rattle.rm_types.specs.Ranges.{IsOperation};
 ghost use Rattle.rm_store.specs.Store.{StoreInvariant};
 
 use crate::helpers::{disk_of, filled, read, wants};
-use rm_disk::{Disk, FileDisk, Fuse, MemDisk, Window};
+use rm_disk::{Disk, FileDisk, Fuse, HeldFile, MemDisk, Window};
 use rm_frame::decode;
 use rm_store::{Store, StoreError};
 use rm_types::Op;
-use std::alloc::Global;
+use std::alloc::{Alloc, Global};
 use std::fs;
+use std::fs::Files;
 use std::process::Abort;
 
 const EPOCH: [u8; 13] = [1, 0, 0, 0, 1, 0, 0, 1, 72, 128, 67, 118, 15];
@@ -65,7 +66,11 @@ type Found = (usize, u32, u64, usize);
 /// What a disk holds, or why it isn't opened.
 fn found<D: Disk + Drop>(alloc: Global, disk: Fuse<D>) -> Result<Found, StoreError> {
     match Store::open(alloc, disk) {
-        Ok((_store, tree, ops)) => Ok((ops.len(), tree.next_epoch(), tree.stamp(), tree.len())),
+        Ok((store, tree, ops)) => {
+            let found = (ops.len(), tree.next_epoch(), tree.stamp(), tree.len());
+            drop((store, tree, ops));
+            Ok(found)
+        }
         Err(refused) => Err(refused.why),
     }
 }
@@ -114,14 +119,45 @@ fn operations_are_read_back_in_order(rt: HostRuntime) {
     );
 }
 
+/// A disk in a file of that name, as a store uses it.
+fn in_file<'a, F: Files + Alloc>(
+    alloc: Global,
+    files: &'a F,
+    name: &'a str,
+) -> Fuse<Window<FileDisk<'a, F>>>
+where
+    F::File: HeldFile,
+{
+    Fuse::new(alloc, Window::new(alloc, FileDisk::new(files, name)))
+}
+
+/// What appends of an Epoch and an App to a file answer.
+fn outcome_in_file<F: Files + Alloc>(alloc: Global, files: &F, name: &str) -> Result<(), StoreError>
+where
+    F::File: HeldFile,
+{
+    outcome(alloc, in_file(alloc, files, name))
+}
+
+/// What a file holds, or why it isn't opened.
+fn found_in_file<F: Files + Alloc>(
+    alloc: Global,
+    files: &F,
+    name: &str,
+) -> Result<Found, StoreError>
+where
+    F::File: HeldFile,
+{
+    found(alloc, in_file(alloc, files, name))
+}
+
 #[test]
 fn a_store_is_kept_in_a_file(rt: HostRuntime) {
     let (alloc, name) = (rt.alloc(), "rm_store_test.store");
     let _ = fs::remove_file(&rt, name);
-    let file = Fuse::new(alloc, Window::new(alloc, FileDisk::new(&rt, name)));
-    wants(&rt, outcome(alloc, file).is_ok());
-    let file = Fuse::new(alloc, Window::new(alloc, FileDisk::new(&rt, name)));
-    wants(&rt, found(alloc, file) == Ok((2, 1, 1_410_901_177_871, 1)));
+    wants(&rt, outcome_in_file(alloc, &rt, name).is_ok());
+    let found = found_in_file(alloc, &rt, name);
+    wants(&rt, found == Ok((2, 1, 1_410_901_177_871, 1)));
     fs::remove_file(&rt, name).expect(&rt, "the file is removed");
 }
 
