@@ -1,6 +1,5 @@
 //! What no clause says: that what services and dispatchers require can be tested for, in tables that know nothing yet.
 use crate::helpers::{APP, ATTEMPT, SIZE, job, let_go, tables, text, wants};
-use rm_book::Book;
 use rm_conditions::{
     are_few, can_decide, can_pass, can_schedule, can_serve_client, can_serve_clock,
     can_serve_master, can_serve_node,
@@ -58,25 +57,34 @@ fn beat(alloc: Global, id: u32) -> NodeAsk {
     }
 }
 
+/// Whether a master that allocates under this response id can be served.
+fn can_allocate(alloc: Global, id: u32) -> bool {
+    can_serve_master(&allocation(alloc, id))
+}
+
+/// Whether a node that beats under this response id can be served.
+fn can_beat(alloc: Global, id: u32) -> bool {
+    can_serve_node(&beat(alloc, id))
+}
+
 #[test]
 fn the_last_response_id_has_no_next_one(rt: HostRuntime) {
     wants(&rt, can_serve_master(&MasterAsk::Register));
-    wants(&rt, can_serve_master(&allocation(rt.alloc(), 0)));
-    wants(&rt, !can_serve_master(&allocation(rt.alloc(), u32::MAX)));
-    wants(&rt, can_serve_node(&beat(rt.alloc(), 0)));
-    wants(&rt, !can_serve_node(&beat(rt.alloc(), u32::MAX)));
+    wants(&rt, can_allocate(rt.alloc(), 0));
+    wants(&rt, !can_allocate(rt.alloc(), u32::MAX));
+    wants(&rt, can_beat(rt.alloc(), 0));
+    wants(&rt, !can_beat(rt.alloc(), u32::MAX));
 }
 
-/// The book of these tables has one node, which offers so many cores.
+/// The book of these tables, which holds no container, has one node, which offers so many cores.
 fn offer<R: Abort>(rt: &R, tables: &mut Tables, vcores: u32) {
     let capability = Resource {
         memory_mb: 1024,
         vcores,
     };
     let node = text(rt, tables.alloc, "n1");
-    let mut book = Book::new(tables.alloc);
-    book.set_node(&node, capability).expect(rt, "memory");
-    tables.book = book;
+    assert!(rt; tables.book.is_empty());
+    tables.book.set_node(&node, capability).expect(rt, "memory");
 }
 
 /// Whether the first event may be worked off, once this one stands last.

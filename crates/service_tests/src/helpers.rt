@@ -83,4 +83,11 @@ pub fn tables(alloc: Global) -> Tables
 }
 
 /// Drops tables, in one place for all tests.
-pub fn let_go(_tables: Tables) {}
+pub fn let_go(tables: Tables) {
+    drop(tables.book);
+    drop(tables.tree);
+    drop(tables.settings);
+    drop(tables.rows);
+    drop(tables.nodes);
+    drop(tables.asks);
+}

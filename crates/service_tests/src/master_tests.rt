@@ -3,6 +3,7 @@ ghost use Rattle.std.specs.Prelude.{◌≡◌, []};
 
 use crate::helpers::{ATTEMPT, SIZE, let_go, tables, text, wants, wants_words, word};
 use rm_book::Book;
+use rm_conditions::can_serve_master;
 use rm_master::serve;
 use rm_states::app::AppState;
 use rm_states::attempt::AttemptState;
@@ -60,24 +61,23 @@ fn row<R: Abort>(rt: &R, alloc: Global) -> AppRow {
     }
 }
 
-/// The book with the container that was granted.
-fn book<R: Abort>(rt: &R, alloc: Global) -> Book {
+/// A container is granted, the only one in the book.
+fn grant<R: Abort>(rt: &R, alloc: Global, book: &mut Book) {
     let node = text(rt, alloc, "n1:1");
-    let mut book = Book::new(alloc);
+    assert!(rt; book.is_empty());
     book.set_node(&node, SIZE).expect(rt, "memory");
     assert!(rt; book.free_of(&node).is_some());
     let added = book.add(GRANTED, &node, SIZE, ContainerState::Granted);
     wants(rt, added.is_ok());
-    book
 }
 
-/// The row enters the tables, and they have the book.
+/// The row enters the tables, and their book has the container that was granted.
 fn fill<R: Abort>(rt: &R, tables: &mut Tables)
     requires { tables.old.rows ≡ [] }
 {
     let row = row(rt, tables.alloc);
     tables.rows.add(ATTEMPT.app, row).expect(rt, "memory");
-    tables.book = book(rt, tables.alloc);
+    grant(rt, tables.alloc, &mut tables.book);
 }
 
 fn register<R: Abort>(rt: &R, tables: &mut Tables) -> &'static str {
@@ -89,22 +89,33 @@ fn finish<R: Abort>(rt: &R, tables: &mut Tables) -> &'static str {
     word(serve(tables, ATTEMPT, &MasterAsk::Finish { text }).expect(rt, "memory"))
 }
 
-/// The first allocation: the master asks for two containers of a size, and releases one that ended.
-fn allocate<R: Abort>(rt: &R, tables: &mut Tables, size: Resource) -> Reply {
-    let mut asks = Items::new(tables.alloc);
+/// An ask for two containers of a size.
+fn asks<R: Abort>(rt: &R, alloc: Global, size: Resource) -> Items<Ask> {
+    let mut asks = Items::new(alloc);
     let ask = Ask {
         priority: 1,
         count: 2,
         size,
     };
     asks.push(ask).expect(rt, "memory");
-    let mut release = Items::new(tables.alloc);
+    asks
+}
+
+/// The first allocation: the master asks for two containers of a size, and releases one that ended.
+fn allocation<R: Abort>(rt: &R, alloc: Global, size: Resource) -> MasterAsk {
+    let mut release = Items::new(alloc);
     release.push(ENDED.id).expect(rt, "memory");
-    let ask = MasterAsk::Allocate {
+    MasterAsk::Allocate {
         id: 0,
-        asks,
+        asks: asks(rt, alloc, size),
         release,
-    };
+    }
+}
+
+/// What the master is answered when it allocates first.
+fn allocate<R: Abort>(rt: &R, tables: &mut Tables, size: Resource) -> Reply {
+    let ask = allocation(rt, tables.alloc, size);
+    assert!(rt; can_serve_master(&ask));
     serve(tables, ATTEMPT, &ask).expect(rt, "memory")
 }
 
