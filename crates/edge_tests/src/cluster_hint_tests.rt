@@ -1,5 +1,5 @@
 //! What no clause says: the sentence that a person is told of a refused cluster file, by rows that are worked out by hand.
-use crate::helpers::{append, bytes_of, wants_in};
+use crate::helpers::{append, bytes_of, chain, displays, wants_in};
 use rm_cluster::{ClusterError, read_cluster, why};
 use std::process::Abort;
 
@@ -133,20 +133,6 @@ fn files_are_told_by_their_causes(rt: HostRuntime) {
     }
 }
 
-/// So many queues, each below the one before it.
-fn chain<R: Abort + AllocGlobal>(rt: &R, count: usize) -> Vec<u8> {
-    let mut file = bytes_of(rt, b"{\"queues\":[{\"name\":\"root\"}");
-    let mut name = bytes_of(rt, b"root");
-    for _queue in 1..count {
-        append(rt, &mut name, b".a");
-        append(rt, &mut file, b",{\"name\":\"");
-        append(rt, &mut file, &name);
-        append(rt, &mut file, b"\"}");
-    }
-    append(rt, &mut file, b"]}");
-    file
-}
-
 /// A list of so many queues of one name.
 fn repeated<R: Abort + AllocGlobal>(rt: &R, count: usize) -> Vec<u8> {
     let mut file = bytes_of(rt, b"{\"queues\":[{\"name\":\"root\"}");
@@ -178,17 +164,18 @@ fn limits_are_told(rt: HostRuntime) {
     );
 }
 
+/// Places of rules that an empty object keeps, and what is told of them.
+const KEPT_RULES: &[(u32, &str)] = &[
+    (3, "expected max_attempts: a whole number from 1 to 100"),
+    (
+        11,
+        "expected groups: an object of names, each with a list of names",
+    ),
+];
+
 #[test]
 fn no_refusal_is_told_by_its_rule(rt: HostRuntime) {
-    for (place, want) in [
-        (3, "expected max_attempts: a whole number from 1 to 100"),
-        (
-            11,
-            "expected groups: an object of names, each with a list of names",
-        ),
-    ] {
-        let fault = why(rt.alloc(), b"{}", place);
-        let told = format!(in rt.alloc(); "{fault}").expect(&rt, "memory");
-        wants_in(&rt, told.as_str(), told.as_str() == want);
+    for (place, want) in KEPT_RULES {
+        displays(&rt, &why(rt.alloc(), b"{}", *place), want);
     }
 }

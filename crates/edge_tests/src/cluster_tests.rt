@@ -1,5 +1,5 @@
 //! What no clause says: that calls succeed, and what files are read as, by hand.
-use crate::helpers::{append, bytes_of, shows, wants, wants_in};
+use crate::helpers::{append, bytes_of, chain, shows, wants, wants_in};
 use rm_cluster::*;
 use rm_types::Settings;
 use std::alloc::Global;
@@ -189,20 +189,6 @@ fn each_key_sets_its_own_part(rt: HostRuntime) {
         &settings.groups,
         "Items { list: [UserGroups { user: Text { shared: Some([97, 110, 110]) }, groups: Items { list: [Text { shared: Some([115, 116, 97, 102, 102]) }, Text { shared: Some([111, 112, 115, 45, 49]) }, Text { shared: Some([115, 116, 97, 102, 102]) }] } }, UserGroups { user: Text { shared: Some([98, 111, 98]) }, groups: Items { list: [] } }] }",
     );
-}
-
-/// A chain of queues, each below the one before it, so many deep.
-fn chain<R: Abort + AllocGlobal>(rt: &R, queues: usize) -> Vec<u8> {
-    let mut file = bytes_of(rt, b"{\"queues\":[{\"name\":\"root\"}");
-    let mut name = bytes_of(rt, b"root");
-    for _queue in 1..queues {
-        append(rt, &mut name, b".a");
-        append(rt, &mut file, b",{\"name\":\"");
-        append(rt, &mut file, &name);
-        append(rt, &mut file, b"\"}");
-    }
-    append(rt, &mut file, b"]}");
-    file
 }
 
 #[test]

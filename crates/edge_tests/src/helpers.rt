@@ -1,6 +1,6 @@
 //! What the tests of several modules share: conditions to be met, and values with the memory that they take.
 use rm_types::{Items, Text};
-use std::fmt::Debug;
+use std::fmt::{Debug, Display};
 use std::process::Abort;
 
 /// Sees that it is so.
@@ -35,4 +35,34 @@ pub fn bytes_of<R: Abort + AllocGlobal>(rt: &R, bytes: &[u8]) -> Vec<u8> {
 /// Adds the bytes at the end.
 pub fn append<R: Abort>(rt: &R, bytes: &mut Vec<u8>, more: &[u8]) {
     bytes.extend_from_slice(more).expect(rt, "memory");
+}
+
+/// Adds a queue of this name to a list of queues.
+fn append_queue<R: Abort>(rt: &R, file: &mut Vec<u8>, name: &[u8]) {
+    append(rt, file, b",{\"name\":\"");
+    append(rt, file, name);
+    append(rt, file, b"\"}");
+}
+
+/// A cluster file with so many queues, each below the one before it.
+pub fn chain<R: Abort + AllocGlobal>(rt: &R, queues: usize) -> Vec<u8> {
+    let mut file = bytes_of(rt, b"{\"queues\":[{\"name\":\"root\"}");
+    let mut name = bytes_of(rt, b"root");
+    for _queue in 1..queues {
+        append(rt, &mut name, b".a");
+        append_queue(rt, &mut file, &name);
+    }
+    append(rt, &mut file, b"]}");
+    file
+}
+
+/// A script's comment of so many bytes.
+pub fn comment<R: Abort + AllocGlobal>(rt: &R, length: usize) -> Vec<u8> {
+    vec![in rt.alloc(); b'#'; length].expect(rt, "memory")
+}
+
+/// Sees that a value is displayed as this text.
+pub fn displays<R: Abort + AllocGlobal, T: Display>(rt: &R, value: &T, want: &str) {
+    let told = format!(in rt.alloc(); "{value}").expect(rt, "memory");
+    wants_in(rt, told.as_str(), told.as_str() == want);
 }

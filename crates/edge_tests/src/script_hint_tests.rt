@@ -1,5 +1,5 @@
 //! What no clause says: the sentence that a person is told of a refused script, by rows that are worked out by hand.
-use crate::helpers::{append, bytes_of, wants_in};
+use crate::helpers::{append, bytes_of, comment, displays, wants_in};
 use rm_script::{ScriptError, read_script, why};
 use std::process::Abort;
 
@@ -202,11 +202,6 @@ fn repeated<R: Abort + AllocGlobal>(rt: &R, begin: &[u8], piece: &[u8], count: u
     text
 }
 
-/// A comment of so many bytes.
-fn comment<R: Abort + AllocGlobal>(rt: &R, length: usize) -> Vec<u8> {
-    vec![in rt.alloc(); b'#'; length].expect(rt, "memory")
-}
-
 #[test]
 fn limits_are_told(rt: HostRuntime) {
     let lines = repeated(&rt, b"", b"#\n", 100_001);
@@ -228,21 +223,20 @@ fn limits_are_told(rt: HostRuntime) {
 #[test]
 fn too_many_bytes_are_told(rt: HostRuntime) {
     let bytes = comment(&rt, 16_777_217);
-    let told = format!(in rt.alloc(); "{}", why(rt.alloc(), &bytes, 1)).expect(&rt, "memory");
-    wants_in(
-        &rt,
-        told.as_str(),
-        told.as_str() == "a script has at most 16777216 bytes",
-    );
+    let fault = why(rt.alloc(), &bytes, 1);
+    displays(&rt, &fault, "a script has at most 16777216 bytes");
 }
+
+/// The forms of lines.
+const FORMS: &str =
+    "a line begins with `start`, `client`, `master`, `node`, `clock`, `lose`, `settle`, `crash` or `#`";
+
+/// Scripts, and lines of them that aren't refused.
+const NO_REFUSALS: &[(&str, u32)] = &[("", 1), ("", 7), ("start 1\n", 0), ("start 1\n", 2)];
 
 #[test]
 fn no_bytes_and_no_refusal_are_told_by_forms(rt: HostRuntime) {
-    let begins =
-        "a line begins with `start`, `client`, `master`, `node`, `clock`, `lose`, `settle`, `crash` or `#`";
-    for (script, line) in [("", 1), ("", 7), ("start 1\n", 0), ("start 1\n", 2)] {
-        let fault = why(rt.alloc(), script.as_bytes(), line);
-        let told = format!(in rt.alloc(); "{fault}").expect(&rt, "memory");
-        wants_in(&rt, told.as_str(), told.as_str() == begins);
+    for (script, line) in NO_REFUSALS {
+        displays(&rt, &why(rt.alloc(), script.as_bytes(), *line), FORMS);
     }
 }

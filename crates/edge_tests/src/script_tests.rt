@@ -1,6 +1,6 @@
 //! What no clause says: that calls succeed, and whether the grammar is the one that is meant. The expected values are
 //! worked out by hand.
-use crate::helpers::{append, bytes_of, wants, wants_in};
+use crate::helpers::{append, bytes_of, comment, wants, wants_in};
 use rm_script::{ScriptError, read_script};
 use rm_types::{
     AppId, Ask, AttemptId, ClockAsk, Close, ContainerId, Held, Life, MasterAsk, Message, NodeAsk,
@@ -105,11 +105,6 @@ fn comments<R: Abort + AllocGlobal>(rt: &R, count: usize) -> Vec<u8> {
         append(rt, &mut text, b"#\n");
     }
     text
-}
-
-/// A comment of so many bytes.
-fn comment<R: Abort + AllocGlobal>(rt: &R, length: usize) -> Vec<u8> {
-    vec![in rt.alloc(); b'#'; length].expect(rt, "memory")
 }
 
 #[test]

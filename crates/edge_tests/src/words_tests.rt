@@ -1,5 +1,5 @@
 //! What no clause says: that words are answered at all, here by rows that are worked out by hand.
-use crate::helpers::{shows, wants, wants_in};
+use crate::helpers::{displays, shows, wants, wants_in};
 use rm_words::{command_line, name_at, word_fault};
 use std::process::Abort;
 
@@ -127,15 +127,18 @@ fn each_mode_is_asked_for(rt: HostRuntime) {
     }
 }
 
+/// Sees what is said of the words.
+fn see_fault<R: Abort + AllocGlobal>(rt: &R, words: &[String], wanted: &str) {
+    let fault = word_fault(rt.alloc(), words).expect(rt, "memory");
+    displays(rt, &fault.expect(rt, wanted), wanted);
+}
+
 /// Sees that the words ask for nothing, and what is said of them.
 fn asks_nothing<R: Abort + AllocGlobal>(rt: &R, words: &[&str], wanted: &str) {
     let words = strings(rt, words);
     let line = command_line(rt.alloc(), words.as_slice()).expect(rt, "memory");
     wants_in(rt, wanted, line.is_none());
-    let fault = word_fault(rt.alloc(), words.as_slice()).expect(rt, "memory");
-    let fault = fault.expect(rt, wanted);
-    let told = format!(in rt.alloc(); "{fault}").expect(rt, "memory");
-    wants_in(rt, told.as_str(), told.as_str() == wanted);
+    see_fault(rt, words.as_slice(), wanted);
 }
 
 #[test]
