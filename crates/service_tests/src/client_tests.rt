@@ -3,7 +3,7 @@ ghost use Rattle.std.specs.Prelude.{◌≡◌, ◌+◌, ◌<◌, ◌^◌};
 ghost use Rattle.rm_types.specs.Records.{no_records};
 ghost use Rattle.rm_tables.specs.Lives.{no_life};
 
-use crate::helpers::{APP, SIZE, job, let_go, text, wants, wants_words, word};
+use crate::helpers::{APP, SIZE, job, text, wants, wants_words, word};
 use rm_client::serve;
 use rm_queues::{QueueTree, starts_at_root};
 use rm_states::app::AppState;
@@ -57,11 +57,6 @@ fn cluster<R: Abort>(rt: &R, alloc: Global) -> (QueueTree, Tables)
     (queues, Tables::new(alloc, settings))
 }
 
-/// Drops both, in one place for all tests.
-fn let_go_both(_queues: QueueTree, tables: Tables) {
-    let_go(tables);
-}
-
 /// The row of that job, which isn't issued yet.
 fn row<R: Abort>(rt: &R, alloc: Global) -> AppRow {
     AppRow {
@@ -104,7 +99,8 @@ fn see_id<R: Abort>(rt: &R, queues: &QueueTree, tables: &mut Tables)
 fn a_new_id_has_the_stamp_and_the_next_number(rt: HostRuntime) {
     let (queues, mut tables) = cluster(&rt, rt.alloc());
     see_id(&rt, &queues, &mut tables);
-    let_go_both(queues, tables);
+    drop(queues);
+    drop(tables);
 }
 
 fn see_submission<R: Abort>(rt: &R, queues: &QueueTree, tables: &mut Tables)
@@ -123,7 +119,8 @@ fn see_submission<R: Abort>(rt: &R, queues: &QueueTree, tables: &mut Tables)
 fn a_submission_joins_what_is_known(rt: HostRuntime) {
     let (queues, mut tables) = cluster(&rt, rt.alloc());
     see_submission(&rt, &queues, &mut tables);
-    let_go_both(queues, tables);
+    drop(queues);
+    drop(tables);
 }
 
 fn is_wished(tables: &Tables) -> bool {
@@ -148,7 +145,8 @@ fn see_kill<R: Abort>(rt: &R, queues: &QueueTree, tables: &mut Tables)
 fn a_kill_is_wished_for(rt: HostRuntime) {
     let (queues, mut tables) = cluster(&rt, rt.alloc());
     see_kill(&rt, &queues, &mut tables);
-    let_go_both(queues, tables);
+    drop(queues);
+    drop(tables);
 }
 
 /// A container of an application lives on a node.
@@ -189,5 +187,6 @@ fn see_report<R: Abort>(rt: &R, queues: &QueueTree, tables: &mut Tables)
 fn a_report_counts_the_living_of_its_application(rt: HostRuntime) {
     let (queues, mut tables) = cluster(&rt, rt.alloc());
     see_report(&rt, &queues, &mut tables);
-    let_go_both(queues, tables);
+    drop(queues);
+    drop(tables);
 }

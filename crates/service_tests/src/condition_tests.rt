@@ -1,5 +1,5 @@
 //! What no clause says: that what services and dispatchers require can be tested for, in tables that know nothing yet.
-use crate::helpers::{APP, ATTEMPT, SIZE, job, let_go, tables, text, wants};
+use crate::helpers::{APP, ATTEMPT, SIZE, job, tables, text, wants};
 use rm_conditions::{
     are_few, can_decide, can_pass, can_schedule, can_serve_client, can_serve_clock,
     can_serve_master, can_serve_node,
@@ -17,7 +17,7 @@ fn counts_of_new_tables_have_room(rt: HostRuntime) {
     wants(&rt, are_few(&tables));
     wants(&rt, can_decide(&tables));
     wants(&rt, can_serve_client(&tables));
-    let_go(tables);
+    drop(tables);
 }
 
 #[test]
@@ -27,7 +27,7 @@ fn the_last_epoch_and_the_last_id_have_no_next_one(rt: HostRuntime) {
     tables.given = u32::MAX;
     wants(&rt, !can_decide(&tables));
     wants(&rt, !can_serve_client(&tables));
-    let_go(tables);
+    drop(tables);
 }
 
 #[test]
@@ -36,7 +36,7 @@ fn a_clock_tells_times_in_its_range(rt: HostRuntime) {
     wants(&rt, can_serve_clock(&tables, &ClockAsk::Tick(1)));
     tables.clock = u64::MAX;
     wants(&rt, !can_serve_clock(&tables, &ClockAsk::Tick(1)));
-    let_go(tables);
+    drop(tables);
 }
 
 /// An allocation that asks for nothing, under a response id.
@@ -106,7 +106,7 @@ fn a_pass_needs_nodes_of_few_cores_once_it_stands_first(rt: HostRuntime) {
     wants(&rt, can_schedule_with(&rt, &mut tables, update));
     let _ = tables.sched.take_first();
     wants(&rt, !can_schedule(&tables));
-    let_go(tables);
+    drop(tables);
 }
 
 /// The first attempt of an application that is recorded asks for a container of so many cores.
@@ -154,5 +154,5 @@ fn a_pass_needs_sizes_and_containers_that_are_new(rt: HostRuntime) {
     tables.epoch = 2;
     ask(&rt, &mut tables, 0);
     wants(&rt, !can_pass(&tables));
-    let_go(tables);
+    drop(tables);
 }

@@ -81,13 +81,3 @@ pub fn tables(alloc: Global) -> Tables
     };
     Tables::new(alloc, settings)
 }
-
-/// Drops tables, in one place for all tests.
-pub fn let_go(tables: Tables) {
-    drop(tables.book);
-    drop(tables.tree);
-    drop(tables.settings);
-    drop(tables.rows);
-    drop(tables.nodes);
-    drop(tables.asks);
-}

@@ -1,7 +1,7 @@
 //! What no clause says: that a master can be answered, by the words that the rules give.
 ghost use Rattle.std.specs.Prelude.{◌≡◌, []};
 
-use crate::helpers::{ATTEMPT, SIZE, let_go, tables, text, wants, wants_words, word};
+use crate::helpers::{ATTEMPT, SIZE, tables, text, wants, wants_words, word};
 use rm_book::Book;
 use rm_conditions::can_serve_master;
 use rm_master::serve;
@@ -131,7 +131,7 @@ fn see_registrations<R: Abort>(rt: &R, tables: &mut Tables)
 fn a_master_registers_once(rt: HostRuntime) {
     let mut tables = tables(rt.alloc());
     see_registrations(&rt, &mut tables);
-    let_go(tables);
+    drop(tables);
 }
 
 /// The reply to the first allocation tells of the grant and of the ending.
@@ -173,7 +173,7 @@ fn see_allocations<R: Abort>(rt: &R, tables: &mut Tables)
 fn a_master_is_told_of_grants_and_endings(rt: HostRuntime) {
     let mut tables = tables(rt.alloc());
     see_allocations(&rt, &mut tables);
-    let_go(tables);
+    drop(tables);
 }
 
 fn see_refusal<R: Abort>(rt: &R, tables: &mut Tables)
@@ -189,7 +189,7 @@ fn see_refusal<R: Abort>(rt: &R, tables: &mut Tables)
 fn a_master_may_not_ask_for_too_much(rt: HostRuntime) {
     let mut tables = tables(rt.alloc());
     see_refusal(&rt, &mut tables);
-    let_go(tables);
+    drop(tables);
 }
 
 fn see_finish<R: Abort>(rt: &R, tables: &mut Tables)
@@ -206,5 +206,5 @@ fn see_finish<R: Abort>(rt: &R, tables: &mut Tables)
 fn a_master_finishes(rt: HostRuntime) {
     let mut tables = tables(rt.alloc());
     see_finish(&rt, &mut tables);
-    let_go(tables);
+    drop(tables);
 }

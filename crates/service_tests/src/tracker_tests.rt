@@ -2,7 +2,7 @@
 ghost use Rattle.std.specs.Prelude.{◌≡◌, ◌<◌, []};
 ghost use Rattle.rm_tracker.specs.Told.{elapsed};
 
-use crate::helpers::{ATTEMPT, SIZE, let_go, tables, text, wants, wants_words, word};
+use crate::helpers::{ATTEMPT, SIZE, tables, text, wants, wants_words, word};
 use rm_states::app::AppState;
 use rm_states::attempt::AttemptState;
 use rm_tables::{AppRow, Current, NodeChange, Tables};
@@ -80,7 +80,7 @@ fn see_registrations<R: Abort>(rt: &R, tables: &mut Tables) {
 fn a_registration_is_answered_by_its_turn(rt: HostRuntime) {
     let mut tables = tables(rt.alloc());
     see_registrations(&rt, &mut tables);
-    let_go(tables);
+    drop(tables);
 }
 
 /// The reply to the first beat tells to launch and to clean these containers.
@@ -124,7 +124,7 @@ fn see_beats<R: Abort>(rt: &R, tables: &mut Tables) {
 fn a_ready_node_is_told_what_to_launch_and_to_clean(rt: HostRuntime) {
     let mut tables = tables(rt.alloc());
     see_beats(&rt, &mut tables);
-    let_go(tables);
+    drop(tables);
 }
 
 fn see_waiting<R: Abort>(rt: &R, tables: &mut Tables) {
@@ -137,7 +137,7 @@ fn see_waiting<R: Abort>(rt: &R, tables: &mut Tables) {
 fn a_node_that_waits_is_told_nothing(rt: HostRuntime) {
     let mut tables = tables(rt.alloc());
     see_waiting(&rt, &mut tables);
-    let_go(tables);
+    drop(tables);
 }
 
 fn see_loss<R: Abort>(rt: &R, tables: &mut Tables) {
@@ -153,7 +153,7 @@ fn see_loss<R: Abort>(rt: &R, tables: &mut Tables) {
 fn a_node_that_expired_is_asked_to_register_again(rt: HostRuntime) {
     let mut tables = tables(rt.alloc());
     see_loss(&rt, &mut tables);
-    let_go(tables);
+    drop(tables);
 }
 
 fn see_tick<R: Abort>(rt: &R, tables: &mut Tables) {
@@ -165,7 +165,7 @@ fn see_tick<R: Abort>(rt: &R, tables: &mut Tables) {
 fn the_time_goes_on(rt: HostRuntime) {
     let mut tables = tables(rt.alloc());
     see_tick(&rt, &mut tables);
-    let_go(tables);
+    drop(tables);
 }
 
 /// The row of an application whose first attempt lives.
@@ -203,5 +203,5 @@ fn see_expiry<R: Abort>(rt: &R, tables: &mut Tables)
 fn the_master_of_an_attempt_that_lives_expires(rt: HostRuntime) {
     let mut tables = tables(rt.alloc());
     see_expiry(&rt, &mut tables);
-    let_go(tables);
+    drop(tables);
 }

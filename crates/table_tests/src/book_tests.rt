@@ -54,7 +54,7 @@ fn grant<R: Abort>(
 }
 
 /// So much is left of a node.
-fn is_free<R: Abort>(rt: &R, book: &Book, node: &Text, memory_mb: u32, vcores: u32) {
+fn wants_free<R: Abort>(rt: &R, book: &Book, node: &Text, memory_mb: u32, vcores: u32) {
     wants(rt, book.free_of(node) == Some(size(memory_mb, vcores)));
 }
 
@@ -75,7 +75,7 @@ fn shared<R: Abort>(rt: &R, alloc: Global, one: &Text, other: &Text) -> Book {
     let mut book = Book::new(alloc);
     book.set_node(one, size(4096, 4)).expect(rt, "memory");
     book.set_node(other, size(1024, 1)).expect(rt, "memory");
-    is_free(rt, &book, one, 4096, 4);
+    wants_free(rt, &book, one, 4096, 4);
     grant(
         rt,
         &mut book,
@@ -124,8 +124,8 @@ const OF_FIRST: [ContainerId; 2] = [
 
 /// The containers of both attempts stand in the shared book, and take their parts of the nodes.
 fn see_shares<R: Abort>(rt: &R, book: &Book, one: &Text, other: &Text) {
-    is_free(rt, book, one, 1024, 2);
-    is_free(rt, book, other, 0, 0);
+    wants_free(rt, book, one, 1024, 2);
+    wants_free(rt, book, other, 0, 0);
     live_on(rt, book, one, ON_ONE.as_slice());
     live_of(rt, book, FIRST, OF_FIRST.as_slice());
 }
@@ -216,7 +216,7 @@ fn see_end<R: Abort>(rt: &R, book: &mut Book, node: &Text) {
     let first = container(FIRST, 1);
     end(rt, book, first, node, 1);
     wants(rt, book.end(first).is_none());
-    is_free(rt, book, node, 1024, 1);
+    wants_free(rt, book, node, 1024, 1);
 }
 
 /// The first container is granted anew under the next number, and the others are as they were.
@@ -275,7 +275,7 @@ fn see_entry<R: Abort>(rt: &R, book: &Book, node: &Text) {
     let second = container(SECOND, 1);
     wants(rt, is_told(book, second, 2));
     wants(rt, is_in_state(book, second, ContainerState::Granted));
-    is_free(rt, book, node, 1024, 1);
+    wants_free(rt, book, node, 1024, 1);
 }
 
 /// The second container ends with one that isn't there, and the first stands alone then.
@@ -283,7 +283,7 @@ fn see_ends<R: Abort>(rt: &R, book: &mut Book, node: &Text) {
     book.end_all(&[container(SECOND, 1), container(FIRST, 2)]);
     wants(rt, book.len() == 1);
     wants(rt, !is_gone(book, container(FIRST, 1)));
-    is_free(rt, book, node, 3072, 3);
+    wants_free(rt, book, node, 3072, 3);
 }
 
 #[test]
@@ -454,30 +454,12 @@ fn is_granted<R: Abort>(rt: &R, book: &Book, attempt: AttemptId, wanted: Contain
     wants(rt, granted.as_slice().iter().all(|one| one.id == wanted));
 }
 
-/// The containers that are granted on one node, each of one size.
-const ON_NODE: [ContainerId; 3] = [
-    ContainerId {
-        attempt: FIRST,
-        epoch: 0,
-        seq: 1,
-    },
-    ContainerId {
-        attempt: FIRST,
-        epoch: 0,
-        seq: 2,
-    },
-    ContainerId {
-        attempt: SECOND,
-        epoch: 0,
-        seq: 3,
-    },
-];
-
 /// Two containers of the first attempt and one of the second are granted on a node.
 fn grant_three<R: Abort>(rt: &R, book: &mut Book, node: &Text) {
-    for id in ON_NODE.as_slice() {
+    for id in OF_FIRST.as_slice() {
         grant(rt, book, *id, node, size(1024, 1), "ok");
     }
+    grant(rt, book, container(SECOND, 3), node, size(1024, 1), "ok");
 }
 
 #[test]

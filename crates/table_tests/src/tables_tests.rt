@@ -84,6 +84,7 @@ fn see_changes<R: Abort>(rt: &R, rows: &mut Rows) {
     wants(rt, is_in_state(rows, ID, AppState::Accepted));
 }
 
+/// A row that was removed is not found, and its application is retired.
 fn see_removal<R: Abort>(rt: &R, rows: &mut Rows) {
     rows.remove(ID);
     wants(rt, rows.find(ID).is_none());
