@@ -17,4 +17,4 @@ mod replies;
 mod writing;
 
 pub use laws::{lines_tell_entries, texts_are_apart};
-pub use pages::{page, store_page};
+pub use pages::{entry_line, page, store_page};

@@ -22,6 +22,17 @@ pub fn page(alloc: Global, log: &Items<Entry>, moves: bool) -> Result<Vec<u8>, N
     Ok(lines.into_bytes())
 }
 
+/// The line of one entry, as a page has it, with its end: nothing for `Handed` and `Quiet`.
+///
+/// `NoMemory` comes where no memory was found for the line. Nothing is kept of it then.
+pub fn entry_line(alloc: Global, entry: &Entry) -> Result<Vec<u8>, NoMemory>
+    ensures { IfOk result (λ bytes. bytes.items ≡ line_of entry.now) }
+{
+    let mut lines = Lines::new(alloc);
+    lines.entry(entry)?;
+    Ok(lines.into_bytes())
+}
+
 /// The page of a store: a line `kept OP` for each operation, in its order.
 ///
 /// `NoMemory` comes where no memory was found for the page. Nothing is kept of it then.

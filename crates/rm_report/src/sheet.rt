@@ -5,8 +5,8 @@ ghost use Rattle.rm_formats.specs.Page.{line_of};
 
 use itoa::{Buffer, Integer};
 use rm_formats::ids::{write_app, write_attempt, write_container};
-use rm_page::page;
-use rm_types::{AppId, AttemptId, ContainerId, Duplicate, Entry, Items, NoMemory};
+use rm_page::entry_line;
+use rm_types::{AppId, AttemptId, ContainerId, Entry, NoMemory};
 use std::alloc::Global;
 use std::marker::Model;
 
@@ -86,9 +86,7 @@ impl Sheet {
     pub(crate) fn line(&mut self, alloc: Global, entry: &Entry) -> Result<(), NoMemory>
         ensures { OnOk result (self.new ≡ self.old ++ line_of entry.now) }
     {
-        let mut one = Items::new(alloc);
-        one.push(entry.copy()?)?;
-        let line = page(alloc, &one, false)?;
+        let line = entry_line(alloc, entry)?;
         self.text(line.as_slice())
     }
 }

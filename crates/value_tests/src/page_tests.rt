@@ -1,6 +1,6 @@
 //! What no clause says: that calls succeed, and what the pages of entries and of operations are, written by hand.
 use crate::helpers::{boxed, is_text, joined, only, push, text, wants};
-use rm_page::{lines_tell_entries, page, store_page, texts_are_apart};
+use rm_page::{entry_line, lines_tell_entries, page, store_page, texts_are_apart};
 use rm_types::{
     AclOp, AppId, Ask, AttemptId, Cause, ClientAsk, ClockAsk, Closing, ContainerId, Denial, Entry,
     Grant, Held, How, Items, Lane, MasterAsk, Message, NodeAsk, Op, Reply, Report, Resource,
@@ -178,8 +178,10 @@ fn store_page_of<R: Abort + AllocGlobal>(rt: &R, ops: &Items<Op>) -> Vec<u8> {
     store_page(rt.alloc(), ops).expect(rt, "memory")
 }
 
-/// Sees that the page of one entry is these bytes.
+/// Sees that these bytes are the line of an entry, and the page of it alone.
 fn shows<R: Abort + AllocGlobal>(rt: &R, entry: Entry, want: &str) {
+    let line = entry_line(rt.alloc(), &entry).expect(rt, "memory");
+    is_text(rt, &line, want);
     let bytes = page_of(rt, &only(rt, entry), false);
     is_text(rt, &bytes, want);
 }
