@@ -1,5 +1,5 @@
 //! What no clause says: the sentence that a person is told of a refused cluster file, by rows that are worked out by hand.
-use crate::helpers::{append, bytes_of, chain, displays, wants_in};
+use crate::helpers::{append, bytes_of, chain, displays, repeated, wants_in};
 use rm_cluster::{ClusterError, read_cluster, why};
 use std::process::Abort;
 
@@ -133,12 +133,14 @@ fn files_are_told_by_their_causes(rt: HostRuntime) {
     }
 }
 
-/// A list of so many queues of one name.
-fn repeated<R: Abort + AllocGlobal>(rt: &R, count: usize) -> Vec<u8> {
+/// A root and so many queues below it, all of one name.
+fn queues_of_one_name<R: Abort + AllocGlobal>(rt: &R, count: usize) -> Vec<u8> {
     let mut file = bytes_of(rt, b"{\"queues\":[{\"name\":\"root\"}");
-    for _queue in 1..count {
-        append(rt, &mut file, b",{\"name\":\"root.a\"}");
-    }
+    append(
+        rt,
+        &mut file,
+        &repeated(rt, b",{\"name\":\"root.a\"}", count),
+    );
     append(rt, &mut file, b"]}");
     file
 }
@@ -154,7 +156,7 @@ fn limits_are_told(rt: HostRuntime) {
     );
     tells(
         &rt,
-        &repeated(&rt, 257),
+        &queues_of_one_name(&rt, 256),
         "12: expected queues: 1 to 256 queues, found 257",
     );
     tells(

@@ -1,5 +1,5 @@
 //! What no clause says: the sentence that a person is told of a refused script, by rows that are worked out by hand.
-use crate::helpers::{append, bytes_of, comment, displays, wants_in};
+use crate::helpers::{append, bytes_of, comment, displays, repeated, wants_in};
 use rm_script::{ScriptError, read_script, why};
 use std::process::Abort;
 
@@ -193,26 +193,24 @@ fn lines_are_told_by_their_causes(rt: HostRuntime) {
     }
 }
 
-/// So many pieces behind a beginning.
-fn repeated<R: Abort + AllocGlobal>(rt: &R, begin: &[u8], piece: &[u8], count: usize) -> Vec<u8> {
-    let mut text = bytes_of(rt, begin);
-    for _ in 0..count {
-        append(rt, &mut text, piece);
-    }
-    text
-}
-
 #[test]
 fn limits_are_told(rt: HostRuntime) {
-    let lines = repeated(&rt, b"", b"#\n", 100_001);
+    let lines = repeated(&rt, b"#\n", 100_001);
     tells(&rt, &lines, "100001: a script has at most 100000 lines");
     tells(
         &rt,
         &comment(&rt, 65_537),
         "1: a line has at most 65536 bytes, found 65537",
     );
-    let begin = b"start 1\nnode n1 beat 0 done=container_1_0001_01_000001";
-    let list = repeated(&rt, begin, b",container_1_0001_01_000001", 1000);
+    let mut list = bytes_of(
+        &rt,
+        b"start 1\nnode n1 beat 0 done=container_1_0001_01_000001",
+    );
+    append(
+        &rt,
+        &mut list,
+        &repeated(&rt, b",container_1_0001_01_000001", 1000),
+    );
     tells(
         &rt,
         &list,
