@@ -3,10 +3,11 @@ ghost use Rattle.rm_store.specs.Store.{StoreInvariant};
 use crate::costs::Stop;
 use crate::cycles::Told;
 use crate::{appends, cycles, numbered};
-use rm_disk::{Disk, FileDisk, Fuse, Window};
+use rm_disk::{Disk, FileDisk, Fuse, HeldFile, Window};
 use rm_store::{OpenFail, Store};
 use rm_tree::Tree;
 use rm_types::{Items, Op};
+use std::fs::Files;
 use std::time::Instant;
 
 /// What is done with a store once it is open.
@@ -33,9 +34,22 @@ const MOST_CYCLES: u32 = 1 << 23;
 
 /// Opens the store in a file, or tells why it can't be opened, and does this work with it.
 pub fn do_work(rt: HostRuntime, name: &str, work: Work) -> Result<(), Stop> {
+    work_in_file(rt, &rt, name, work)
+}
+
+/// The same over the files of any runtime: a proof over the system's own would look into each of its types.
+fn work_in_file<R: Files + Alloc>(
+    rt: HostRuntime,
+    files: &R,
+    name: &str,
+    work: Work,
+) -> Result<(), Stop>
+where
+    R::File: HeldFile,
+{
     let alloc = rt.alloc();
     let since = Instant::now(&rt)?;
-    let disk = Fuse::new(alloc, Window::new(alloc, FileDisk::new(&rt, name)));
+    let disk = Fuse::new(alloc, Window::new(alloc, FileDisk::new(files, name)));
     match Store::open(alloc, disk) {
         Ok((mut store, tree, ops)) => work_on(rt, &mut store, &tree, &ops, since, work),
         Err(refused) => Err(tell_refusal(rt, name, refused)),
@@ -70,11 +84,14 @@ fn tell_time(rt: HostRuntime, many: usize, since: Instant) -> Result<(), Stop> {
 }
 
 /// Tells on standard error why the store in a file of that name wasn't opened.
-fn tell_refusal(
+fn tell_refusal<R: Files + Alloc>(
     rt: HostRuntime,
     name: &str,
-    refused: OpenFail<Window<FileDisk<'_, HostRuntime>>>,
-) -> Stop {
+    refused: OpenFail<Window<FileDisk<'_, R>>>,
+) -> Stop
+where
+    R::File: HeldFile,
+{
     let OpenFail { why, disk } = refused;
     let file = disk.inner().inner();
     let _told = match file.last_fault() {
