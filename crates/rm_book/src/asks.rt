@@ -13,7 +13,7 @@ use std::marker::Model;
 
 /// What attempts ask for and haven't been granted. Contracts see the asks of each attempt in the order of
 /// first asking.
-#[derive(Debug, Drop)]
+#[derive(Drop)]
 pub struct Asks {
     attempts: Attempts,
     asked: u64,

@@ -21,7 +21,7 @@ use std::mem;
 
 /// The lines of attempts' asks, each attempt's found, changed and taken away without a walk, and the attempts that have some, found
 /// without a walk over the others. Contracts see the lines in the order of entering.
-#[derive(Debug, Drop)]
+#[derive(Drop)]
 pub struct Attempts {
     lines: Keyed<AttemptId, Items<AskLine>>,
     waiting: IndexSet<AttemptId>,

@@ -16,7 +16,7 @@ use std::hash::Hash;
 
 /// The containers under each key, in the order of entering: a key's are found, and one is taken away, without a walk. A key that
 /// has none left takes no place.
-#[derive(Debug, Drop)]
+#[derive(Drop)]
 pub struct Groups<K: Eq + Hash> {
     pub map: IndexMap<K, Keyed<ContainerId, ()>>,
 }

@@ -12,14 +12,14 @@ use rm_types::{Duplicate, NoMemory, Resource, Text};
 use std::alloc::Global;
 
 /// A sum of sizes. It has 64 bits by part, since for as long as a report is absorbed more may stand on a node than fits it.
-#[derive(Clone, Copy, Debug, PartialEq, Eq)]
+#[derive(Clone, Copy, PartialEq, Eq)]
 pub struct SizeSum {
     pub memory_mb: u64,
     pub vcores: u64,
 }
 
 /// What containers on a node may amount to, and what those there amount to.
-#[derive(Clone, Copy, Debug, PartialEq, Eq)]
+#[derive(Clone, Copy, PartialEq, Eq)]
 pub struct NodeLoad {
     pub capability: Resource,
     pub used: SizeSum,
@@ -40,7 +40,7 @@ impl NodeLoad {
 }
 
 /// The nodes that have a capability, in the order in which they first were given one, each found without a walk.
-#[derive(Debug, Drop)]
+#[derive(Drop)]
 pub struct NodeTable {
     pub map: IndexMap<Text, NodeLoad>,
 }

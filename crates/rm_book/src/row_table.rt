@@ -24,7 +24,7 @@ use std::alloc::Global;
 use std::marker::Model;
 
 /// Rows in the order of entering, no two of one container.
-#[derive(Debug, Drop)]
+#[derive(Drop)]
 pub struct RowTable {
     list: Keyed<ContainerId, BookRow>,
     by_node: Groups<Text>,

@@ -5,7 +5,7 @@ ghost use Rattle.rm_desk.specs.Left.{cursor_of, with_cursor, steps_to};
 use rm_types::{Items, Message, Sender};
 
 /// The places of the first messages that are left, one for each sender.
-#[derive(Clone, Copy, Debug)]
+#[derive(Clone, Copy)]
 pub struct Cursors {
     pub client: usize,
     pub master: usize,

@@ -9,7 +9,7 @@ use std::alloc::Global;
 use std::marker::Model;
 
 /// The messages that are left of a segment. They stay in place; one cursor for each sender says which of them are taken.
-#[derive(Debug, Drop)]
+#[derive(Drop)]
 pub struct Feed {
     messages: Items<Message>,
     cursors: Cursors,

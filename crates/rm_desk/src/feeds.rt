@@ -6,7 +6,7 @@ use std::alloc::Global;
 
 /// What is left of a script: the lives that have not begun, how the current segment closes and the messages
 /// left in its four feeds, and the segments of this life after it.
-#[derive(Debug, Drop)]
+#[derive(Drop)]
 pub struct Feeds {
     pub alloc: Global,
     pub lives: Queue<Life>,

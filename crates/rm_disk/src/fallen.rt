@@ -3,7 +3,7 @@ ghost use Rattle.std.proofs.Common.{rules};
 use rm_types::{Duplicate, Items};
 
 /// A fall of an armed fuse.
-#[derive(Clone, Copy, Debug, PartialEq, Eq)]
+#[derive(Clone, Copy, PartialEq, Eq)]
 pub struct Fallen {
     /// The number of calls that the fuse was armed with.
     pub calls: u32,

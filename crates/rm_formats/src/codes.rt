@@ -1,7 +1,7 @@
 //! The bytes that stand for kinds of frames, and for how something ended. This project's own.
 
 /// What kind of operation a frame is of.
-#[derive(Clone, Copy, Debug, PartialEq, Eq)]
+#[derive(Clone, Copy, PartialEq, Eq)]
 pub enum FrameKind {
     Epoch,
     App,

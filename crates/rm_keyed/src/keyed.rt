@@ -15,7 +15,7 @@ use std::marker::Model;
 /// Values under keys, in the order of entering, each found by its key without a walk. A value that is taken away leaves a gap. The
 /// gaps are closed once they are more than the values, by a walk over fewer than two slots for each value that was taken away since
 /// they were closed before.
-#[derive(Debug, Drop)]
+#[derive(Drop)]
 pub struct Keyed<K: Eq + Hash, V> {
     slots: IndexMap<K, Option<V>>,
     count: usize,

@@ -74,7 +74,7 @@ fn read_moves<F: Shelf>(shelf: &mut F, name: &str) -> Result<Vec<u8>, Outcome>
 }
 
 /// The names of the files that a run is to read.
-#[derive(Clone, Copy, Debug)]
+#[derive(Clone, Copy)]
 pub struct Files<'a> {
     pub cluster: &'a str,
     pub script: &'a str,

@@ -30,7 +30,7 @@ impl Display for Cause<'_> {
 }
 
 /// The names that a message may speak of. Whatever bytes they have, they are written escaped.
-#[derive(Clone, Copy, Debug)]
+#[derive(Clone, Copy)]
 pub struct Names<'a> {
     /// The program's path, as it was called.
     pub program: &'a str,

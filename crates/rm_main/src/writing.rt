@@ -32,7 +32,7 @@ fn write<K: Sink>(sink: &mut K, page: &[u8]) -> Outcome
 }
 
 /// What is to be written of a run.
-#[derive(Clone, Copy, Debug)]
+#[derive(Clone, Copy)]
 pub enum Shown {
     /// The page of its log, with its moves or without.
     Page { moves: bool },

@@ -4,7 +4,7 @@ ghost use Rattle.rm_types.specs.Counts.{risen};
 use rm_types::Items;
 
 /// The calls of a fake: the numbers, from 1, of those that fail, and how many there were.
-#[derive(Debug, Drop)]
+#[derive(Drop)]
 pub struct Calls {
     pub failing: Items<u64>,
     pub made: u64,

@@ -56,7 +56,7 @@ pub trait Shelf {
 }
 
 /// A file in memory.
-#[derive(Debug, Drop)]
+#[derive(Drop)]
 pub struct NamedFile {
     /// The name that a read gives.
     pub name: Text,
@@ -65,7 +65,7 @@ pub struct NamedFile {
 }
 
 /// A shelf in memory, which fails where it is told to. It tells the bytes of each name that it holds.
-#[derive(Debug, Drop)]
+#[derive(Drop)]
 pub struct MemShelf {
     alloc: Global,
     files: Items<NamedFile>,

@@ -57,7 +57,7 @@ pub trait Sink {
 }
 
 /// A sink in memory, which fails where it is told to. It tells the bytes that it took.
-#[derive(Debug, Drop)]
+#[derive(Drop)]
 pub struct MemSink {
     alloc: Global,
     taken: Items<u8>,

@@ -4,7 +4,7 @@ ghost use Rattle.rm_outside.specs.Writes.{IsTaken, CountsFaults, CountsIdle};
 use crate::sinks::{Sink, SinkError};
 
 /// How a page was written.
-#[derive(Clone, Copy, Debug, PartialEq, Eq)]
+#[derive(Clone, Copy, PartialEq, Eq)]
 pub enum Written {
     /// The sink took all of it.
     All,

@@ -11,7 +11,7 @@ use std::marker::Model;
 ///
 /// Each function that writes adds its text at the end. Where it answers `NoMemory`, some beginning of
 /// the text may have been added, and the page is to be given up.
-#[derive(Debug, Drop)]
+#[derive(Drop)]
 pub struct Lines {
     bytes: Vec<u8>,
 }

@@ -20,7 +20,7 @@ use rm_types::{Entry, Items};
 use std::alloc::Global;
 
 /// What a page tells.
-#[derive(Debug, Drop)]
+#[derive(Drop)]
 pub enum Page {
     /// The entries that have lines: the entry at place `n`, from 0, is that of line `n + 1`. A page of a store has a `Kept`
     /// for each operation. With `moves`, a last line has a letter for each entry of the log.

@@ -13,7 +13,7 @@ use std::alloc::Global;
 
 /// What the line of a soak tells: of how many applications it was, and how many lives were opened, messages served, containers
 /// granted, applications kept as finished, and operations kept.
-#[derive(Clone, Copy, Debug, PartialEq, Eq)]
+#[derive(Clone, Copy, PartialEq, Eq)]
 pub struct SoakLine {
     pub apps: u32,
     pub lives: u64,

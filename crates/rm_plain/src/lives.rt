@@ -22,7 +22,7 @@ use rm_store::Store;
 use rm_types::{Close, Lane};
 
 /// What one move of a life came to.
-#[derive(Clone, Copy, Debug, PartialEq, Eq)]
+#[derive(Clone, Copy, PartialEq, Eq)]
 pub enum Moved {
     /// A lane moved, and the life goes on.
     On,
@@ -33,7 +33,7 @@ pub enum Moved {
 }
 
 /// How a life ended.
-#[derive(Clone, Copy, Debug, PartialEq, Eq)]
+#[derive(Clone, Copy, PartialEq, Eq)]
 pub enum LifeEnd {
     /// The script is at its end, and nothing awaits or is owed.
     Rest,

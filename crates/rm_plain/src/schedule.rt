@@ -13,7 +13,7 @@ use std::marker::Model;
 pub const MOST_SCHEDULED: u64 = MOST_FILE_BYTES as u64;
 
 /// What a letter of a schedule asks for.
-#[derive(Clone, Copy, Debug, PartialEq, Eq)]
+#[derive(Clone, Copy, PartialEq, Eq)]
 pub enum Letter {
     /// The move of this lane.
     Moves(Lane),
@@ -24,7 +24,7 @@ pub enum Letter {
 }
 
 /// A letter of a schedule, and the byte at which it stands, from 0 on.
-#[derive(Clone, Copy, Debug, PartialEq, Eq)]
+#[derive(Clone, Copy, PartialEq, Eq)]
 pub struct Step {
     pub place: u64,
     pub letter: Letter,

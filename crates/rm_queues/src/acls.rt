@@ -8,7 +8,7 @@ use std::alloc::Global;
 use std::marker::Model;
 
 /// An access control list, read once. Contracts see what its text means.
-#[derive(Debug, Drop)]
+#[derive(Drop)]
 pub struct Acl {
     everyone: bool,
     users: Items<Text>,

@@ -10,7 +10,7 @@ use std::alloc::Global;
 
 /// A queue of the tree: the place of its nearest parent there, whether no queue is below it, and its
 /// lists as they count where they are absent.
-#[derive(Debug, Drop)]
+#[derive(Drop)]
 pub struct Node {
     pub parent: Option<usize>,
     pub is_leaf: bool,

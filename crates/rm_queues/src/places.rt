@@ -8,7 +8,7 @@ use std::alloc::Global;
 use std::collections::HashMap;
 
 /// The first places of texts in a list.
-#[derive(Debug, Drop)]
+#[derive(Drop)]
 pub struct Places {
     by_text: HashMap<Vec<u8>, usize>,
 }

@@ -15,7 +15,7 @@ use std::marker::Model;
 
 /// The queues of a cluster, and who may do what there. Contracts see the settings that the tree was
 /// made of.
-#[derive(Debug, Drop)]
+#[derive(Drop)]
 pub struct QueueTree {
     settings: Settings,
     places: Places,

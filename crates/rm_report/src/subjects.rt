@@ -11,7 +11,7 @@ use std::alloc::Global;
 
 /// What a page is searched for: an application, with its attempts and their containers; an attempt, with its containers; a
 /// container; or a node.
-#[derive(Debug, Drop)]
+#[derive(Drop)]
 pub enum Subject {
     App(AppId),
     Attempt(AttemptId),

@@ -13,7 +13,7 @@ use std::alloc::Global;
 use std::marker::Model;
 
 /// Lists of endings, one for each application, found by its id without a walk.
-#[derive(Debug, Drop)]
+#[derive(Drop)]
 pub struct ClosingLists {
     map: IndexMap<AppId, Items<Closing>>,
 }

@@ -9,7 +9,7 @@ use rm_types::{Close, Items, Life, Message, Script, Segment};
 use std::alloc::Global;
 
 /// A life that goes on.
-#[derive(Debug, Drop)]
+#[derive(Drop)]
 pub struct Living {
     pub stamp: u64,
     /// The segments that have settled.
@@ -55,7 +55,7 @@ impl Living {
 }
 
 /// A script as far as its lines were read.
-#[derive(Debug, Drop)]
+#[derive(Drop)]
 pub enum Draft {
     /// No life goes on: those so far have crashed.
     Between(Items<Life>),

@@ -20,7 +20,7 @@ use rm_types::{GREATEST_STAMP, Message};
 use std::alloc::Global;
 
 /// A line of a script by itself.
-#[derive(Debug, Drop)]
+#[derive(Drop)]
 pub enum Line {
     /// The line says nothing.
     Skipped,

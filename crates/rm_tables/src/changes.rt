@@ -9,7 +9,7 @@ use rm_states::attempt::{AttemptEvent, AttemptState};
 use rm_types::{ContainerId, How};
 
 /// What happens to an application.
-#[derive(Clone, Copy, Debug, PartialEq, Eq)]
+#[derive(Clone, Copy, PartialEq, Eq)]
 pub enum RowChange {
     /// Its App is issued.
     Issue,
@@ -32,7 +32,7 @@ pub enum RowChange {
 }
 
 /// What happens to the current attempt of an application.
-#[derive(Clone, Copy, Debug, PartialEq, Eq)]
+#[derive(Clone, Copy, PartialEq, Eq)]
 pub enum AttemptChange {
     /// A pass granted it a container: its master's, where it waits for that one.
     Grant { container: ContainerId },

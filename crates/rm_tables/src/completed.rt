@@ -8,7 +8,7 @@ use rm_types::{AppId, AppRecord, Items, NoMemory, Queue};
 use std::alloc::Global;
 
 /// An application that has ended, and its end's place among the kept operations.
-#[derive(Clone, Copy, Debug, PartialEq, Eq)]
+#[derive(Clone, Copy, PartialEq, Eq)]
 pub struct Completion {
     pub id: AppId,
     pub order: u64,

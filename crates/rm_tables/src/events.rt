@@ -6,7 +6,7 @@ use rm_types::{AppId, AttemptId, ContainerId, Duplicate, Items, NoMemory, Text};
 use thiserror::Error;
 
 /// What the main queue holds. The queue is first in, first out, as that of YARN's dispatcher.
-#[derive(Clone, Copy, Debug, PartialEq, Eq)]
+#[derive(Clone, Copy, PartialEq, Eq)]
 pub enum MainEvent {
     /// A life began: its Epoch is to be issued.
     EpochStart,
@@ -35,7 +35,7 @@ pub enum MainEvent {
 }
 
 /// What the scheduler's queue holds. The queue is first in, first out.
-#[derive(Clone, Debug, Drop)]
+#[derive(Clone, Drop)]
 pub enum SchedEvent {
     /// An application was saved.
     AppAdded(AppId),

@@ -11,7 +11,7 @@ use std::alloc::Global;
 use std::marker::Model;
 
 /// What a life knows of a node that registered in it.
-#[derive(Debug, Drop)]
+#[derive(Drop)]
 pub struct NodeRow {
     /// Its last registration: its turn, what it offers, and what it reported as running.
     pub turn: u32,
@@ -27,7 +27,7 @@ pub struct NodeRow {
 }
 
 /// What happens to a node without a message of its own.
-#[derive(Clone, Copy, Debug, PartialEq, Eq)]
+#[derive(Clone, Copy, PartialEq, Eq)]
 pub enum NodeChange {
     /// Its registration was absorbed.
     Absorb,
@@ -38,7 +38,7 @@ pub enum NodeChange {
 }
 
 /// A node's registration: its turn, what it offers, and what it reports as running.
-#[derive(Debug, Drop)]
+#[derive(Drop)]
 pub struct Registration {
     pub turn: u32,
     pub capability: Resource,
@@ -47,7 +47,7 @@ pub struct Registration {
 
 /// The nodes that registered in a life, each found by its name without a walk. Contracts see them in the order of their
 /// first registrations.
-#[derive(Debug, Drop)]
+#[derive(Drop)]
 pub struct Nodes {
     map: IndexMap<Text, NodeRow>,
 }

@@ -17,7 +17,7 @@ use std::alloc::Global;
 use std::marker::Model;
 
 /// The attempt of an application with the greatest number. All before it are kept and have ended.
-#[derive(Clone, Copy, Debug, PartialEq, Eq)]
+#[derive(Clone, Copy, PartialEq, Eq)]
 pub struct Current {
     pub number: u32,
     pub state: AttemptState,
@@ -34,7 +34,7 @@ pub struct Current {
 }
 
 /// The dialogue with a master that registered in this life.
-#[derive(Debug, Drop)]
+#[derive(Drop)]
 pub struct Dialogue {
     /// The last response id that it was answered, and what it was answered then.
     pub last_id: u32,
@@ -44,7 +44,7 @@ pub struct Dialogue {
 }
 
 /// What a life knows of an application beside what is recorded of it.
-#[derive(Debug, Drop)]
+#[derive(Drop)]
 pub struct AppRow {
     pub state: AppState,
     /// A client wished to kill it in this life.
@@ -73,7 +73,7 @@ impl AppRow {
 
 /// The rows of the applications that a life knows, each found by its id without a walk. A removed application
 /// leaves an empty slot, which tells that its id is retired. Contracts see the slots in the order of entering.
-#[derive(Debug, Drop)]
+#[derive(Drop)]
 pub struct Rows {
     map: IndexMap<AppId, Option<AppRow>>,
 }

@@ -8,7 +8,7 @@ use crate::rows::{AppRow, Dialogue};
 use rm_types::{AttemptId, Boxed, Closing, Reply, Text};
 
 /// What is said between the manager and the master of an application's current attempt.
-#[derive(Debug, Drop)]
+#[derive(Drop)]
 pub enum Talk {
     /// It registered, and is answered so.
     Register {

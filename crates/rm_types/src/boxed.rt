@@ -1,11 +1,11 @@
 ghost use Rattle.std.specs.Prelude.{◌≡◌, IfOk};
 
-use crate::duplicate::{Duplicate, NoMemory};
-use std::alloc::{AllocError, Global};
+use crate::duplicate::NoMemory;
+use std::alloc::Global;
 use std::marker::Model;
 
 /// A value behind a pointer, so that what holds it is small. Contracts see the value itself.
-#[derive(Debug, Drop)]
+#[derive(Drop)]
 pub struct Boxed<T> {
     inside: Box<T>,
 }
@@ -49,18 +49,4 @@ impl<T> Boxed<T> {
     {
         Box::into_inner(self.inside)
     }
-}
-
-impl<T: Duplicate> Clone for Boxed<T> {
-    ghost is_clone = { λ x y. y ≡ x };
-
-    fn clone(&self) -> Result<Boxed<T>, AllocError> {
-        Ok(Boxed {
-            inside: self.inside.clone()?,
-        })
-    }
-}
-
-impl<T: Duplicate> Duplicate for Boxed<T> {
-    ghost same = { λ x y e. e };
 }

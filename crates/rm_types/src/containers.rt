@@ -43,7 +43,7 @@ pub enum Cause {
 
 /// How far a container has come: granted; told to its master, or ordered to its node; reported as
 /// running; ended.
-#[derive(Clone, Copy, Debug, PartialEq, Eq)]
+#[derive(Clone, Copy, PartialEq, Eq)]
 pub enum ContainerState {
     Granted,
     Acquired,
@@ -60,7 +60,7 @@ pub struct Closing {
 
 /// A living container in the book. `told` is its number among all that were ever added, from 1: the
 /// order of grants.
-#[derive(Clone, Debug, Drop)]
+#[derive(Drop)]
 pub struct BookRow {
     pub id: ContainerId,
     pub node: Text,
@@ -70,21 +70,21 @@ pub struct BookRow {
 }
 
 /// A line of an attempt's asks; `order` is its place in the order of first asking.
-#[derive(Clone, Copy, Debug, PartialEq, Eq)]
+#[derive(Clone, Copy, PartialEq, Eq)]
 pub struct AskLine {
     pub ask: Ask,
     pub order: u64,
 }
 
 /// An ask of an attempt.
-#[derive(Clone, Copy, Debug, PartialEq, Eq)]
+#[derive(Clone, Copy)]
 pub struct AskOf {
     pub attempt: AttemptId,
     pub ask: Ask,
 }
 
 /// An attempt's turn in a pass, and the sequence that its next container gets.
-#[derive(Clone, Copy, Debug, PartialEq, Eq)]
+#[derive(Clone, Copy, PartialEq, Eq)]
 pub struct Turn {
     pub attempt: AttemptId,
     pub next_seq: u64,
@@ -103,21 +103,5 @@ impl Duplicate for Ask {
 }
 
 impl Duplicate for Closing {
-    ghost same = { Prim.search (rules) };
-}
-
-impl Duplicate for BookRow {
-    ghost same = { Prim.search (rules) };
-}
-
-impl Duplicate for AskLine {
-    ghost same = { Prim.search (rules) };
-}
-
-impl Duplicate for AskOf {
-    ghost same = { Prim.search (rules) };
-}
-
-impl Duplicate for Turn {
     ghost same = { Prim.search (rules) };
 }

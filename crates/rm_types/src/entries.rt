@@ -1,9 +1,5 @@
-ghost use Rattle.std.specs.Prelude.{◌≡◌, IfOk};
-ghost use Rattle.std.proofs.Common.{rules};
-
 use crate::boxed::Boxed;
 use crate::containers::{Cause, Grant, Held};
-use crate::duplicate::Duplicate;
 use crate::ids::{AppId, AttemptId, ContainerId};
 use crate::items::Items;
 use crate::messages::{Lane, Message, Sender};
@@ -13,7 +9,7 @@ use crate::texts::Text;
 
 /// One entry of the manager's log: what one move did. What may be large stands behind a pointer, so that an
 /// entry takes 32 bytes and a log of mostly silent ones stays small.
-#[derive(Clone, Debug, Drop)]
+#[derive(Drop)]
 pub enum Entry {
     /// A life began: how many awaiting operations of the life before had landed in the store, and this
     /// life's epoch and stamp.
@@ -80,8 +76,4 @@ pub enum Entry {
     Quiet {
         lane: Lane,
     },
-}
-
-impl Duplicate for Entry {
-    ghost same = { Prim.search (rules) };
 }

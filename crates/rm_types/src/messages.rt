@@ -65,7 +65,7 @@ pub enum Message {
 }
 
 /// The four kinds of sender; each has a feed of its own.
-#[derive(Clone, Copy, Debug, PartialEq, Eq)]
+#[derive(Clone, Copy, PartialEq, Eq)]
 pub enum Sender {
     Client,
     Master,

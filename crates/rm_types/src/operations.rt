@@ -72,12 +72,8 @@ impl Duplicate for Op {
 }
 
 /// An application that was submitted in this life and isn't kept yet.
-#[derive(Clone, Debug, Drop)]
+#[derive(Drop)]
 pub struct Submitted {
     pub id: AppId,
     pub submission: Submission,
-}
-
-impl Duplicate for Submitted {
-    ghost same = { Prim.search (rules) };
 }

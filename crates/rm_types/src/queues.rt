@@ -15,7 +15,7 @@ use std::marker::Model;
 
 /// A queue: items are added at its end and taken from its front, each in constant time. Contracts see
 /// the list of its items, the front first.
-#[derive(Debug, Drop)]
+#[derive(Drop)]
 pub struct Queue<T> {
     line: VecDeque<T>,
 }

@@ -8,7 +8,7 @@ use rm_types::NoMemory;
 use std::alloc::Global;
 
 /// What the program's words ask for, and the flags that stand among them.
-#[derive(Clone, Copy, Debug)]
+#[derive(Clone, Copy)]
 pub struct CommandLine<'a> {
     /// What the program is to do.
     pub mode: Mode<'a>,

@@ -5,7 +5,7 @@ ghost use Rattle.rm_workers.specs.Waking.{CallsAll, calls_any, without_worker};
 use rm_types::Lane;
 
 /// The workers whose bells are to ring.
-#[derive(Clone, Copy, Debug, PartialEq, Eq)]
+#[derive(Clone, Copy, PartialEq, Eq)]
 pub(crate) struct Called {
     pub(crate) client: bool,
     pub(crate) master: bool,

@@ -14,7 +14,7 @@ const WORKERS: u32 = 7;
 const MOST_TURNS: u32 = 500;
 
 /// Which of a life's workers have come. Once they are complete or given up, that is final.
-#[derive(Clone, Copy, Debug, PartialEq, Eq)]
+#[derive(Clone, Copy, PartialEq, Eq)]
 enum Arrivals {
     /// So many are missing.
     Awaited { missing: u32 },

@@ -6,7 +6,7 @@ use rm_plain::Halt;
 use rm_types::{Lane, Op};
 
 /// What a helper's move came to, and its hold.
-#[derive(Clone, Copy, Debug, PartialEq, Eq)]
+#[derive(Clone, Copy, PartialEq, Eq)]
 pub(crate) enum Helped {
     /// Its lane moved: in a hold, as often as it may.
     Moved,
@@ -31,7 +31,7 @@ impl Helped {
 }
 
 /// What a helper does after a hold.
-#[derive(Clone, Copy, Debug, PartialEq, Eq)]
+#[derive(Clone, Copy, PartialEq, Eq)]
 pub(crate) enum Next {
     /// It takes the baton again at once.
     GoesOn,
@@ -44,7 +44,7 @@ pub(crate) enum Next {
 }
 
 /// How the store's worker ended.
-#[derive(Clone, Copy, Debug, PartialEq, Eq)]
+#[derive(Clone, Copy, PartialEq, Eq)]
 pub(crate) enum End {
     /// Nothing is left to do, or another worker halted the life.
     Over,
@@ -55,7 +55,7 @@ pub(crate) enum End {
 }
 
 /// What a turn of the store's worker came to.
-#[derive(Debug, Drop)]
+#[derive(Drop)]
 pub(crate) enum Turn {
     /// Another worker has the baton.
     Out,
@@ -70,7 +70,7 @@ pub(crate) enum Turn {
 }
 
 /// What a write came to.
-#[derive(Clone, Copy, Debug, PartialEq, Eq)]
+#[derive(Clone, Copy, PartialEq, Eq)]
 pub(crate) enum Written {
     /// The operation is on the device.
     Kept,

@@ -1,7 +1,7 @@
 use rm_types::How;
 
 /// How far an application has come.
-#[derive(Clone, Copy, Debug, PartialEq, Eq)]
+#[derive(Clone, Copy, PartialEq, Eq)]
 pub enum AppState {
     /// It has an id, and isn't saved.
     New,
@@ -26,7 +26,7 @@ pub enum AppState {
 }
 
 /// What happens to an application.
-#[derive(Clone, Copy, Debug, PartialEq, Eq)]
+#[derive(Clone, Copy, PartialEq, Eq)]
 pub enum AppEvent {
     /// A client submitted it.
     Start,
@@ -47,7 +47,7 @@ pub enum AppEvent {
 }
 
 /// What is to be done after a transition.
-#[derive(Clone, Copy, Debug, PartialEq, Eq)]
+#[derive(Clone, Copy, PartialEq, Eq)]
 pub enum AppAction {
     /// Issue the application to the store.
     IssueApp,

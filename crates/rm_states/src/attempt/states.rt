@@ -2,7 +2,7 @@ ghost use Rattle.std.specs.Prelude.{◌≡◌};
 ghost use Rattle.rm_states.specs.attempt.Table.{is_alive};
 
 /// How far an attempt to run an application's master has come.
-#[derive(Clone, Copy, Debug, PartialEq, Eq)]
+#[derive(Clone, Copy, PartialEq, Eq)]
 pub enum AttemptState {
     /// Its master waits for a container.
     Scheduled,
@@ -37,7 +37,7 @@ impl AttemptState {
 }
 
 /// What happens to an attempt.
-#[derive(Clone, Copy, Debug, PartialEq, Eq)]
+#[derive(Clone, Copy, PartialEq, Eq)]
 pub enum AttemptEvent {
     /// A container was granted to its master.
     Grant,
@@ -60,7 +60,7 @@ pub enum AttemptEvent {
 }
 
 /// What is to be done after a transition.
-#[derive(Clone, Copy, Debug, PartialEq, Eq)]
+#[derive(Clone, Copy, PartialEq, Eq)]
 pub enum AttemptAction {
     /// Tell that its master has a container.
     PostGranted,

@@ -1,5 +1,5 @@
 /// What happens to a container.
-#[derive(Clone, Copy, Debug, PartialEq, Eq)]
+#[derive(Clone, Copy, PartialEq, Eq)]
 pub enum ContainerEvent {
     /// Its master was told of it, or its node was ordered to run it.
     Tell,
@@ -10,7 +10,7 @@ pub enum ContainerEvent {
 }
 
 /// What is to be done after a transition.
-#[derive(Clone, Copy, Debug, PartialEq, Eq)]
+#[derive(Clone, Copy, PartialEq, Eq)]
 pub enum ContainerAction {
     /// Nothing.
     Nothing,

@@ -1,5 +1,5 @@
 /// How a node stands with the manager.
-#[derive(Clone, Copy, Debug, PartialEq, Eq)]
+#[derive(Clone, Copy, PartialEq, Eq)]
 pub enum NodeState {
     /// It has never registered in this life.
     Absent,
@@ -12,7 +12,7 @@ pub enum NodeState {
 }
 
 /// What happens to a node.
-#[derive(Clone, Copy, Debug, PartialEq, Eq)]
+#[derive(Clone, Copy, PartialEq, Eq)]
 pub enum NodeEvent {
     /// It registers, and says what it runs.
     Register,
@@ -23,7 +23,7 @@ pub enum NodeEvent {
 }
 
 /// What is to be done after a transition.
-#[derive(Clone, Copy, Debug, PartialEq, Eq)]
+#[derive(Clone, Copy, PartialEq, Eq)]
 pub enum NodeAction {
     /// Have what it runs taken in.
     PostAdded,
