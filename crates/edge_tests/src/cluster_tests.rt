@@ -7,7 +7,7 @@ use std::fmt::Display;
 use std::process::Abort;
 
 const DEFAULTS: &str =
-    "Settings { max_attempts: 2, max_completed: 1000, max_apps: 10000, wait_ms: 10000, acl_enable: false, admin_acl: Text { shared: Some([42]) }, greatest: Resource { memory_mb: 8192, vcores: 8 }, groups: Items { list: [] }, queues: Items { list: [QueueSpec { name: Text { shared: Some([114, 111, 111, 116]) }, submit: None, admin: None }, QueueSpec { name: Text { shared: Some([114, 111, 111, 116, 46, 100, 101, 102, 97, 117, 108, 116]) }, submit: None, admin: None }] } }";
+    "Settings { max_attempts: 2, max_completed: 1000, max_apps: 10000, wait_ms: 10000, recover_ended_containers: false, acl_enable: false, admin_acl: Text { shared: Some([42]) }, greatest: Resource { memory_mb: 8192, vcores: 8 }, groups: Items { list: [] }, queues: Items { list: [QueueSpec { name: Text { shared: Some([114, 111, 111, 116]) }, submit: None, admin: None }, QueueSpec { name: Text { shared: Some([114, 111, 111, 116, 46, 100, 101, 102, 97, 117, 108, 116]) }, submit: None, admin: None }] } }";
 
 /// The place at which the file is refused, or none where it is read; `u32::MAX` where there is no memory.
 fn place_of(alloc: Global, file: &[u8]) -> Option<u32> {

@@ -2,10 +2,14 @@
 ghost use Rattle.std.specs.Prelude.{◌≡◌, length};
 
 use rm_disk::{Disk, MemDisk};
+use rm_formats::STORE_SIZE;
 use rm_outside::{MemShelf, MemSink, NamedFile};
-use rm_tool::{STORE_SIZE, ToolOutcome, status_of, top};
+use rm_tool::{ToolOutcome, status_of, top};
 use rm_types::{Items, Text};
 use std::process::Abort;
+
+/// How many bytes a store has.
+const SIZE: usize = STORE_SIZE as usize;
 
 /// The generation's record, and those of the two operations: the first 89 bytes of the example.
 const GENERATION: &[u8] = b"\x01\0\0\0\x08\0\0\0\0\0\0\0\x01";
@@ -84,7 +88,7 @@ fn bytes_of<R: Abort + AllocGlobal>(rt: &R, parts: &[&[u8]], size: usize) -> Vec
 
 /// The bytes of a store with these parts, of which one byte is changed.
 fn changed<R: Abort + AllocGlobal>(rt: &R, parts: &[&[u8]], place: usize, byte: u8) -> Vec<u8> {
-    let mut bytes = bytes_of(rt, parts, STORE_SIZE);
+    let mut bytes = bytes_of(rt, parts, SIZE);
     if let Some(at) = bytes.as_mut_slice().get_mut(place) {
         *at = byte;
     }
@@ -112,7 +116,7 @@ fn shelf_of<R: Abort + AllocGlobal>(rt: &R, bytes: Vec<u8>) -> MemShelf {
 
 /// A new disk of the size of a store.
 fn new_disk<R: Abort + AllocGlobal>(rt: &R) -> MemDisk {
-    MemDisk::new(rt.alloc(), STORE_SIZE as u64, Items::new(rt.alloc())).expect(rt, "memory")
+    MemDisk::new(rt.alloc(), STORE_SIZE, Items::new(rt.alloc())).expect(rt, "memory")
 }
 
 /// Sees that a call over these bytes ends with this status, and writes this page, or one with this end.
@@ -143,7 +147,7 @@ fn holds<R: Abort + AllocGlobal>(rt: &R, disk: &mut MemDisk, end: &str) {
 
 #[test]
 fn a_whole_store_is_checked(rt: HostRuntime) {
-    let bytes = bytes_of(&rt, &[GENERATION, EPOCH, APP], STORE_SIZE);
+    let bytes = bytes_of(&rt, &[GENERATION, EPOCH, APP], SIZE);
     let mut unused = new_disk(&rt);
     tells(&rt, &["check", "old.store"], bytes, &mut unused, 0, WHOLE);
 }
@@ -170,7 +174,7 @@ fn damage_is_told_and_its_front_salvaged(rt: HostRuntime) {
 
 #[test]
 fn an_old_store_is_converted(rt: HostRuntime) {
-    let bytes = bytes_of(&rt, &[EPOCH, APP], STORE_SIZE);
+    let bytes = bytes_of(&rt, &[EPOCH, APP], SIZE);
     let mut disk = new_disk(&rt);
     let words = ["convert", "old.store", "new.store"];
     tells(&rt, &words, bytes, &mut disk, 0, "converted operations=2\n");
@@ -181,22 +185,22 @@ fn an_old_store_is_converted(rt: HostRuntime) {
 fn other_files_are_refused(rt: HostRuntime) {
     let mut disk = new_disk(&rt);
     let convert = ["convert", "old.store", "new.store"];
-    let two = bytes_of(&rt, &[GENERATION, EPOCH, APP], STORE_SIZE);
+    let two = bytes_of(&rt, &[GENERATION, EPOCH, APP], SIZE);
     tells(&rt, &convert, two, &mut disk, 8, "");
-    let zeros = bytes_of(&rt, &[], STORE_SIZE);
+    let zeros = bytes_of(&rt, &[], SIZE);
     tells(&rt, &convert, zeros, &mut disk, 8, "");
     let cut = bytes_of(&rt, &[EPOCH, APP], 60);
     tells(&rt, &["check", "old.store"], cut, &mut disk, 8, "");
     let none = bytes_of(&rt, &[], 0);
     tells(&rt, &["check", "no.store"], none, &mut disk, 2, "");
-    let long = bytes_of(&rt, &[GENERATION, EPOCH, APP], STORE_SIZE * 4);
+    let long = bytes_of(&rt, &[GENERATION, EPOCH, APP], SIZE * 4);
     tells(&rt, &["check", "old.store"], long, &mut disk, 8, "");
 }
 
 #[test]
 fn a_page_of_more_bytes_than_are_read_is_too_long(rt: HostRuntime) {
     let words = words_of(&rt, &["summary", "old.store"]);
-    let mut shelf = shelf_of(&rt, bytes_of(&rt, &[], STORE_SIZE * 4 + 1));
+    let mut shelf = shelf_of(&rt, bytes_of(&rt, &[], SIZE * 4 + 1));
     let mut sink = MemSink::new(rt.alloc(), Items::new(rt.alloc()), 4096);
     let mut disk = new_disk(&rt);
     let outcome = top(
@@ -221,8 +225,8 @@ fn a_cut_store_is_salvaged(rt: HostRuntime) {
 
 #[test]
 fn a_disk_that_holds_a_store_is_no_new_one(rt: HostRuntime) {
-    let bytes = bytes_of(&rt, &[GENERATION, EPOCH, APP], STORE_SIZE);
-    let again = bytes_of(&rt, &[GENERATION, EPOCH, APP], STORE_SIZE);
+    let bytes = bytes_of(&rt, &[GENERATION, EPOCH, APP], SIZE);
+    let again = bytes_of(&rt, &[GENERATION, EPOCH, APP], SIZE);
     let mut disk = new_disk(&rt);
     let words = ["salvage", "old.store", "new.store"];
     tells(&rt, &words, bytes, &mut disk, 0, "is closed\n");

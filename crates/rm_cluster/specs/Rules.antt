@@ -110,3 +110,5 @@ pub record IsSettingsOf (file : Data) (settings : Settings) : Type 0 where
   pub max_vcores : max_vcores_of file ≡ Some settings.greatest.vcores
   pub groups : groups_of file ≡ Some settings.groups
   pub queues : queues_of file ≡ Some settings.queues
+  -- no key asks yet for containers that ended to be recovered
+  pub recover_ended_containers : settings.recover_ended_containers ≡ false

@@ -91,5 +91,6 @@ fn settings_of(alloc: Global, file: &Value) -> Result<Settings, ClusterError>
         greatest: Resource { memory_mb, vcores },
         groups,
         queues,
+        ..Settings::empty(alloc)
     })
 }

@@ -14,6 +14,7 @@ fn is_same_submission(one: &Submission, other: &Submission) -> bool
         && one.name.is_same(&other.name)
         && one.master == other.master
         && one.attempts == other.attempts
+        && one.keep == other.keep
         && one.modify.is_same(&other.modify)
 }
 

@@ -1,10 +1,10 @@
-ghost use Rattle.std.specs.Prelude.{◌≡◌, ℕ, ◌≢◌, ◌↔◌, ◌+◌, ◌<◌, ◌≤◌, ◌^◌, List, [], ◌∷◌, ◌++◌, length, IfOk, OnOk, OnErr, IsErrOf, Err, true, false, vec_capacity, vec_len};
+ghost use Rattle.std.specs.Prelude.{◌≡◌, ℕ, ◌≢◌, ◌↔◌, ◌+◌, ◌<◌, ◌≤◌, ◌^◌, List, [], ◌∷◌, ◌++◌, length, IfOk, OnOk, OnErr, IfErr, IsErrOf, Err, true, false};
 ghost use Rattle.rm_types.specs.declared.entries.Entry.{Entry};
 ghost use Rattle.rm_types.specs.declared.ids.AppId.{AppId};
 ghost use Rattle.rm_types.specs.declared.ids.ContainerId.{ContainerId};
 ghost use Rattle.rm_types.specs.declared.messages.Lane.{Lane};
 ghost use Rattle.rm_types.specs.declared.operations.Op.{Op as AnyOp};
-ghost use Rattle.rm_types.specs.Lanes.{sender_of};
+ghost use Rattle.rm_types.specs.declared.replies.Reply.{Reply as AnyReply};
 ghost use Rattle.rm_types.specs.Records.{fits_records, recorded};
 ghost use Rattle.rm_types.specs.Limits.{most_served};
 ghost use Rattle.rm_model.specs.Facts.{attempts_in};
@@ -24,41 +24,9 @@ ghost use Rattle.rm_core.specs.Serving.{IsOpenReply, IsReply, IsServed};
 use rm_queues::QueueTree;
 use rm_tables::{Refused, Tables};
 use rm_tree::{Tree, TreeError};
-use rm_types::{Boxed, Duplicate, Entry, Items, Lane, Message, NoMemory, Op, Reply, Sender};
-use std::alloc::Global;
-use std::mem;
+use rm_types::{Boxed, Duplicate, Entry, Items, Lane, Message, NoMemory, Op, Reply};
 
 // Each move takes the room for its entry first, so that the tables and the log change together or not at all.
-
-/// The log's list with room for one more entry; the log itself is empty until `log_entry` or `put_back` gives it back. `NoMemory`
-/// leaves it as it was.
-fn list_with_room(alloc: Global, log: &mut Items<Entry>) -> Result<Vec<Entry>, NoMemory>
-    ensures ok { IfOk result (λ list. (list.items ≡ log.old) × (vec_len list < vec_capacity list)) }
-    ensures err { OnErr result (log.new ≡ log.old) }
-{
-    let mut list = mem::replace(log, Items::new(alloc)).into_vec();
-    if list.reserve(1).is_err() {
-        put_back(log, list);
-        return Err(NoMemory);
-    }
-    Ok(list)
-}
-
-/// The log is its list again.
-fn put_back(log: &mut Items<Entry>, list: Vec<Entry>)
-    ensures { log.new ≡ list.items }
-{
-    *log = Items::from_vec(list);
-}
-
-/// The log is its list again, with one more entry.
-fn log_entry(log: &mut Items<Entry>, mut list: Vec<Entry>, entry: Entry)
-    requires { vec_len list < vec_capacity list }
-    ensures { log.new ≡ list.items ++ entry ∷ [] }
-{
-    list.push_reserved(entry);
-    *log = Items::from_vec(list);
-}
 
 /// How many of the awaiting operations a tree shows after a life that blew: the first, or none.
 pub fn landed_in(t: &Tables, tree: &Tree) -> u32
@@ -137,23 +105,22 @@ pub fn begin(
     ensures ready { result ≢ Err Refused.NotReady }
     ensures err { OnErr result ((t.new ≡ t.old) × (log.new ≡ log.old)) }
 {
-    let epoch = tree.next_epoch();
-    let list = list_with_room(t.alloc, log)?;
-    match t.begin(tree, stamp) {
-        Ok(()) => {
-            let entry = Entry::Opened {
+    log.push_made(
+        t,
+        |t: &mut Tables| -> Result<Entry, Refused>
+            ensures ok { IfOk result (λ entry. (entry ≡ Entry.Opened landed tree.next_epoch stamp) × (t.new ≡ begun tree stamp t.old)) }
+            ensures err { OnErr result (t.new ≡ t.old) }
+            ensures memory { IfErr result (λ error. error ≡ Refused.Memory) }
+        {
+            let epoch = tree.next_epoch();
+            t.begin(tree, stamp)?;
+            Ok(Entry::Opened {
                 landed,
                 epoch,
                 stamp,
-            };
-            log_entry(log, list, entry);
-            Ok(())
-        }
-        Err(NoMemory) => {
-            put_back(log, list);
-            Err(Refused::Memory)
-        }
-    }
+            })
+        },
+    )
 }
 
 /// The first event of the main queue is worked off.
@@ -168,17 +135,17 @@ pub fn main(t: &mut Tables, log: &mut Items<Entry>) -> Result<(), Refused>
     if !t.is_ready(Lane::Main) {
         return Err(Refused::NotReady);
     }
-    let list = list_with_room(t.alloc, log)?;
-    match rm_dispatch::front(t) {
-        Ok(entry) => {
-            log_entry(log, list, entry);
-            Ok(())
-        }
-        Err(refused) => {
-            put_back(log, list);
-            Err(refused)
-        }
-    }
+    log.push_made(
+        t,
+        |t: &mut Tables| -> Result<Entry, Refused>
+            requires epoch { t.old.epoch + 1 < 2 ^ 32 }
+            requires few { (id : AppId) → length (attempts_in (found_in t.old id)) + 1 < 2 ^ 32 }
+            ensures ok { (event : MainEvent) (rest : List MainEvent) → t.old.main ≡ event ∷ rest → IfOk result (λ entry. (entry, t.new) ≡ main_worked (main_step event t.old)) }
+            ensures ready { IsErrOf result Refused.NotReady → t.old.main ≡ [] }
+            ensures some { t.old.main ≡ [] → result ≡ Err Refused.NotReady }
+            ensures err { OnErr result (t.new ≡ t.old) }
+        { rm_dispatch::front(t) },
+    )
 }
 
 /// The first event of the scheduler's queue is worked off.
@@ -192,17 +159,16 @@ pub fn sched(t: &mut Tables, log: &mut Items<Entry>) -> Result<(), Refused>
     if !t.is_ready(Lane::Sched) {
         return Err(Refused::NotReady);
     }
-    let list = list_with_room(t.alloc, log)?;
-    match rm_sched::front(t) {
-        Ok(entry) => {
-            log_entry(log, list, entry);
-            Ok(())
-        }
-        Err(refused) => {
-            put_back(log, list);
-            Err(refused)
-        }
-    }
+    log.push_made(
+        t,
+        |t: &mut Tables| -> Result<Entry, Refused>
+            requires pass { (name : List ℕ) (rest : List SchedEvent) → t.old.sched ≡ SchedEvent.NodeUpdate name ∷ rest → AreFew t.old × CanPass t.old }
+            ensures ok { (event : SchedEvent) (rest : List SchedEvent) → t.old.sched ≡ event ∷ rest → IfOk result (λ entry. (list : List ContainerId) × EndsByEvent event t.old list × ((entry, t.new) ≡ sched_worked (sched_step event list t.old))) }
+            ensures ready { IsErrOf result Refused.NotReady → t.old.sched ≡ [] }
+            ensures some { t.old.sched ≡ [] → result ≡ Err Refused.NotReady }
+            ensures err { OnErr result (t.new ≡ t.old) }
+        { rm_sched::front(t) },
+    )
 }
 
 /// The first awaiting operation is handed to the store.
@@ -232,17 +198,15 @@ pub fn keep(t: &mut Tables, log: &mut Items<Entry>) -> Result<(), Refused>
     if !t.is_ready(Lane::Write) {
         return Err(Refused::NotReady);
     }
-    let list = list_with_room(t.alloc, log)?;
-    match t.keep() {
-        Ok(entry) => {
-            log_entry(log, list, entry);
-            Ok(())
-        }
-        Err(refused) => {
-            put_back(log, list);
-            Err(refused)
-        }
-    }
+    log.push_made(
+        t,
+        |t: &mut Tables| -> Result<Entry, Refused>
+            requires fits { (op : AnyOp) (rest : List AnyOp) → t.old.awaiting ≡ op ∷ rest → fits_records t.old.tree op ≡ true }
+            ensures ok { (op : AnyOp) (rest : List AnyOp) → t.old.awaiting ≡ op ∷ rest → IfOk result (λ entry. (entry ≡ Entry.Kept op) × (t.new ≡ kept op t.old)) }
+            ensures ready { IsErrOf result Refused.NotReady → t.old.awaiting ≡ [] }
+            ensures err { OnErr result (t.new ≡ t.old) }
+        { t.keep() },
+    )
 }
 
 /// The store has refused the operation that was handed to it.
@@ -289,20 +253,8 @@ pub fn go_down(t: &mut Tables, log: &mut Items<Entry>) -> Result<(), Refused>
     Ok(())
 }
 
-/// Who sent a message.
-fn sender_of(message: &Message) -> Sender
-    ensures { result ≡ sender_of message.now }
-{
-    match message {
-        Message::Client(..) => Sender::Client,
-        Message::Master(..) => Sender::Master,
-        Message::Node(..) => Sender::Node,
-        Message::Clock(_) => Sender::Clock,
-    }
-}
-
 /// A message is answered by the service of its sender, and is counted. Before the life is open it is NOTOPEN.
-fn answer(queues: &QueueTree, t: &mut Tables, message: &Message) -> Result<Reply, NoMemory>
+fn answer(queues: &QueueTree, t: &mut Tables, message: &Message) -> Result<Boxed<Reply>, NoMemory>
     requires settings { queues.now ≡ t.old.settings }
     requires message { IsMessage message.now }
     requires few { t.old.served < most_served }
@@ -313,11 +265,11 @@ fn answer(queues: &QueueTree, t: &mut Tables, message: &Message) -> Result<Reply
     ensures err { OnErr result (t.new ≡ t.old) }
 {
     let served = t.served + 1;
-    let reply = if t.is_open {
-        open_answer(queues, t, message)?
-    } else {
-        Reply::NotOpen
-    };
+    let mut reply = Boxed::new(t.alloc, Reply::NotOpen)?;
+    if t.is_open {
+        let answered = open_answer(queues, t, message)?;
+        reply.set(answered);
+    }
     t.served = served;
     Ok(reply)
 }
@@ -364,24 +316,26 @@ pub fn answer_message(
     if !t.is_ready(Lane::Client) {
         return Err(Refused::NotReady);
     }
-    let sender = sender_of(&message);
+    let sender = message.sender();
     let message = Boxed::new(t.alloc, message)?;
-    let mut reply = Boxed::new(t.alloc, Reply::NotOpen)?;
-    let list = list_with_room(t.alloc, log)?;
-    match answer(queues, t, message.get()) {
-        Ok(answer) => {
-            reply.set(answer);
-            let entry = Entry::Served {
+    log.push_made(
+        t,
+        |t: &mut Tables| -> Result<Entry, Refused>
+            requires settings { queues.now ≡ t.old.settings }
+            requires message { IsMessage message }
+            requires few { t.old.served < most_served }
+            requires ranged { t.old.is_open ≡ true → InBounds t.old }
+            requires attempts { t.old.is_open ≡ true → (id : AppId) → length (attempts_in (found_in t.old id)) < 2 ^ 32 }
+            ensures ok { IfOk result (λ entry. (reply : AnyReply) × IsReply t.old message reply × (t.new ≡ served_moved message reply t.old) × (entry ≡ Entry.Served sender message reply)) }
+            ensures err { OnErr result (t.new ≡ t.old) }
+            ensures memory { IfErr result (λ error. error ≡ Refused.Memory) }
+        {
+            let reply = answer(queues, t, message.get())?;
+            Ok(Entry::Served {
                 sender,
                 message,
                 reply,
-            };
-            log_entry(log, list, entry);
-            Ok(())
-        }
-        Err(NoMemory) => {
-            put_back(log, list);
-            Err(Refused::Memory)
-        }
-    }
+            })
+        },
+    )
 }

@@ -76,14 +76,14 @@ impl Desk {
     pub fn ready(&self, lane: Lane) -> bool
         ensures { result ≡ is_ready_at self.now lane }
     {
+        if let Some(sender) = lane.sender() {
+            return self.core.is_ready(lane) && self.feeds.feed.has(sender);
+        }
         match lane {
-            Lane::Client => self.core.is_ready(lane) && self.feeds.feed.has(Sender::Client),
-            Lane::Master => self.core.is_ready(lane) && self.feeds.feed.has(Sender::Master),
-            Lane::Node => self.core.is_ready(lane) && self.feeds.feed.has(Sender::Node),
-            Lane::Clock => self.core.is_ready(lane) && self.feeds.feed.has(Sender::Clock),
             Lane::Main | Lane::Sched | Lane::Hand | Lane::Write => self.core.is_ready(lane),
             Lane::End => self.may_close(),
             Lane::Begin => self.core.is_ready(lane) && !self.feeds.lives.is_empty(),
+            Lane::Client | Lane::Master | Lane::Node | Lane::Clock => unreachable!(),
         }
     }
 

@@ -159,16 +159,15 @@ pub(crate) fn advance(core: &mut Core, feeds: &mut Feeds, lane: Lane) -> Result<
     ensures core { OnErr result (core.new ≡ core.old) }
     ensures feeds { OnErr result (feeds.new ≡ feeds.old) }
 {
+    if let Some(sender) = lane.sender() {
+        return serve(core, feeds, sender);
+    }
     match lane {
-        Lane::Client => serve(core, feeds, Sender::Client),
-        Lane::Master => serve(core, feeds, Sender::Master),
-        Lane::Node => serve(core, feeds, Sender::Node),
-        Lane::Clock => serve(core, feeds, Sender::Clock),
         Lane::Main => work_main(core, feeds),
         Lane::Sched => work_sched(core, feeds),
         Lane::Hand => hand(core, feeds),
         Lane::End => close(core, feeds),
-        Lane::Write | Lane::Begin => unreachable!(),
+        _ => unreachable!(),
     }
 }
 

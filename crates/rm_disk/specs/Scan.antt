@@ -2,7 +2,7 @@
 use Rattle.std.specs.Prelude.{◌≡◌, ◌⊎◌, ◌↔◌, ◌+◌, ◌-◌, ◌/◌, ℕ, true, List, length, drop, get_or, All}
 use Rattle.rm_disk.specs.declared.scan.ByteWatch.{ByteWatch}
 use Rattle.rm_disk.specs.declared.scan.Scan.{Scan}
-use Rattle.rm_disk.specs.declared.scan.TheConstants.{FIRST_END}
+use Rattle.rm_formats.specs.declared.TheConstants.{FIRST_END}
 
 -- Bytes that a store of this program may have left: the first gate of a half, which is its first byte, is open, or nothing
 -- was kept yet, and each byte behind the place of the first half's first record and the gate behind that is 0. This project's own.

@@ -1,4 +1,5 @@
-use crate::held::{FILE_SIZE, folder_of};
+use crate::held::folder_of;
+use rm_formats::STORE_SIZE;
 use std::fmt::{Display, Formatter};
 use std::{fmt, io};
 use thiserror::Error;
@@ -10,7 +11,7 @@ pub const DRAFT_ENDING: &str = ".new";
 #[derive(Debug, Drop, Error)]
 pub enum FileFault {
     /// It has so many bytes, and not those of a disk. It is left as it is.
-    #[error("the file has {length} bytes, and a disk has {size}", size = FILE_SIZE)]
+    #[error("the file has {length} bytes, and a disk has {size}", size = STORE_SIZE)]
     OtherLength { length: u64 },
     /// It has bytes that no store can have left. It is left as it is.
     #[error("the file is no store, and is left as it is")]

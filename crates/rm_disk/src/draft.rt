@@ -1,5 +1,6 @@
 use crate::causes::{DRAFT_ENDING, Failure, FileFault};
-use crate::held::{BLOCK, FILE_SIZE, HeldFile, is_same, look, set_size, sync_whole};
+use crate::held::{BLOCK, HeldFile, is_same, look, set_size, sync_whole};
+use rm_formats::STORE_SIZE;
 use std::alloc::Alloc;
 use std::fs::{Files, OpenFile, OpenOptions};
 use std::io::ErrorKind;
@@ -111,7 +112,7 @@ fn has_name<R: Files>(runtime: &R, file: &R::File, name: &str) -> io::Result<boo
 // Gives the file its size, with all bytes 0. They are written, so that no later write has to find room for them.
 fn fill<F: OpenFile + FileExt>(file: &F) -> io::Result<()> {
     let zeros = [0; BLOCK];
-    'parts: for part in 0..FILE_SIZE / BLOCK as u64 {
+    'parts: for part in 0..STORE_SIZE / BLOCK as u64 {
         file.write_all_at(&zeros, part * BLOCK as u64)?;
     }
     set_size(file)

@@ -4,7 +4,8 @@ ghost use Rattle.rm_types.specs.Counts.{Rose};
 
 use crate::causes::{Failure, FileCause, FileFault};
 use crate::device::{Disk, DiskError};
-use crate::held::{FILE_SIZE, HeldFile, Opened, open_or_make, sync_named};
+use crate::held::{HeldFile, Opened, open_or_make, sync_named};
+use rm_formats::STORE_SIZE;
 use std::alloc::Alloc;
 use std::fs::Files;
 use std::marker::Model;
@@ -173,7 +174,7 @@ where
     ghost only_now = { λ d image never. absurd never };
 
     fn size(&self) -> u64 {
-        FILE_SIZE
+        STORE_SIZE
     }
 
     fn read(&mut self, at: u64, into: &mut [u8]) -> Result<(), DiskError> {

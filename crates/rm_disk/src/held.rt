@@ -1,14 +1,12 @@
 use crate::causes::{Failure, FileFault};
 use crate::draft::make;
 use crate::scan::Scan;
+use rm_formats::STORE_SIZE;
 use std::alloc::Alloc;
 use std::fs::{File, Files, Metadata, OpenFile, OpenOptions, TryLockError};
 use std::io::ErrorKind;
 use std::os::unix::fs::{FileExt, MetadataExt};
 use std::{fs, io};
-
-/// How many bytes the file of a disk has.
-pub const FILE_SIZE: u64 = 4_194_304;
 
 /// How many bytes are read or written at once where a whole file is.
 pub const BLOCK: usize = 16_384;
@@ -68,7 +66,7 @@ where
 fn whole<F: HeldFile + OpenFile + Drop>(file: F) -> Result<F, FileFault> {
     file.hold()?;
     let length = file.metadata()?.len();
-    if length != FILE_SIZE {
+    if length != STORE_SIZE {
         return Err(FileFault::OtherLength { length });
     }
     refuse_foreign(&file)?;
@@ -77,9 +75,9 @@ fn whole<F: HeldFile + OpenFile + Drop>(file: F) -> Result<F, FileFault> {
 
 // What stands behind the open first gate of a half is for the reader of the records to judge.
 fn refuse_foreign<F: FileExt>(file: &F) -> Result<(), FileFault> {
-    let mut scan = Scan::new(FILE_SIZE as usize);
+    let mut scan = Scan::new(STORE_SIZE as usize);
     let mut block = [0; BLOCK];
-    'blocks: for part in 0..FILE_SIZE / BLOCK as u64 {
+    'blocks: for part in 0..STORE_SIZE / BLOCK as u64 {
         file.read_exact_at(&mut block, part * BLOCK as u64)?;
         scan.see(&block);
         if scan.is_open() {
@@ -123,7 +121,7 @@ pub fn sync_named<R: Files>(runtime: &R, file: &R::File, name: &str) -> Result<(
         return Err(FileFault::Replaced);
     }
     let length = own.len();
-    if length != FILE_SIZE {
+    if length != STORE_SIZE {
         return Err(FileFault::Resized { length });
     }
     Ok(())
@@ -180,12 +178,12 @@ pub fn sync_whole<F: OpenFile>(file: &F) -> io::Result<()> {
 
 /// Gives a file the length of a disk.
 pub fn set_size<F: OpenFile>(file: &F) -> io::Result<()> {
-    let mut outcome = file.set_len(FILE_SIZE);
+    let mut outcome = file.set_len(STORE_SIZE);
     'again: for _ in 0..MOST_TRIES {
         if !was_interrupted(&outcome) {
             break;
         }
-        outcome = file.set_len(FILE_SIZE);
+        outcome = file.set_len(STORE_SIZE);
     }
     outcome
 }

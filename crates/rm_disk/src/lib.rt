@@ -6,7 +6,7 @@
 //! number; `Fuse`, which cuts off the disk under it after so many writes and syncs; `Torn`, which writes half of one write;
 //! `Window`, which reads ahead of the disk under it; and `FileDisk`, which tells no bytes, since no proof says what a file holds.
 //!
-//! It stands on `rm_types`, and `FileDisk` on the system's files.
+//! It stands on `rm_types`, on the sizes of `rm_formats`, and `FileDisk` on the system's files.
 #![tactic(auto)]
 
 mod calls;

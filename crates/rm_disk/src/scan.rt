@@ -1,9 +1,7 @@
 ghost use Rattle.std.specs.Prelude.{◌≡◌, ◌↔◌, ◌⊎◌, ◌/◌, ◌++◌, [], ◌∷◌, List, ℕ, IsTrue, All, get_or, length};
 ghost use Rattle.rm_disk.specs.Scan.{MayBeStore, HasByte, HasSeen};
 
-/// The place behind the first record of an area and the gate behind that: 1 byte of a gate, 4 of a length, 8 of a
-/// generation, and 1 of the next gate. Until a first gate is open nothing is written from there on.
-pub const FIRST_END: usize = 14;
+use rm_formats::FIRST_END;
 
 /// A look for the byte at a place, while bytes are seen a block at a time from the first on.
 #[derive(Drop)]
@@ -55,7 +53,7 @@ impl Scan {
                 byte: 0,
                 left: size / 2 + 1,
             },
-            front: FIRST_END,
+            front: FIRST_END as usize,
             is_clear: true,
         }
     }

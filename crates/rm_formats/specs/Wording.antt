@@ -200,6 +200,7 @@ reply_words (replies.Report report) = report_words report
 reply_words replies.Killing = codes "killing" ∷ []
 reply_words replies.AppEnded = codes "ended" ∷ []
 reply_words replies.MasterRegistered = codes "registered" ∷ []
+reply_words (replies.Took kept) = codes "registered" ∷ (codes "kept=" ++ bracketed (map grant_text kept)) ∷ []
 reply_words replies.Already = codes "ALREADY" ∷ []
 reply_words replies.Gone = codes "GONE" ∷ []
 reply_words replies.Resync = codes "RESYNC" ∷ []

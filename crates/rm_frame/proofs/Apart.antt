@@ -80,16 +80,17 @@ resource_same a b p q =
     let make : ℕ → ℕ → Resource = λ memory_mb vcores. record { memory_mb = memory_mb; vcores = vcores } in
     ap (λ (memory_mb : ℕ). make memory_mb a.vcores) p ∙ ap (make b.memory_mb) q
 
-submission_same : (a b : Submission) → a.user ≡ b.user → a.queue ≡ b.queue → a.name ≡ b.name → a.master ≡ b.master → a.attempts ≡ b.attempts → a.modify ≡ b.modify → a ≡ b
-submission_same a b p q r s t u =
-    let make : List ℕ → List ℕ → List ℕ → Resource → ℕ → List ℕ → Submission =
-    λ user queue name master attempts modify. record { user = user; queue = queue; name = name; master = master; attempts = attempts; modify = modify } in
-    ap (λ (user : List ℕ). make user a.queue a.name a.master a.attempts a.modify) p
-    ∙ ap (λ (queue : List ℕ). make b.user queue a.name a.master a.attempts a.modify) q
-    ∙ ap (λ (name : List ℕ). make b.user b.queue name a.master a.attempts a.modify) r
-    ∙ ap (λ (master : Resource). make b.user b.queue b.name master a.attempts a.modify) s
-    ∙ ap (λ (attempts : ℕ). make b.user b.queue b.name b.master attempts a.modify) t
-    ∙ ap (make b.user b.queue b.name b.master b.attempts) u
+submission_same : (a b : Submission) → a.user ≡ b.user → a.queue ≡ b.queue → a.name ≡ b.name → a.master ≡ b.master → a.attempts ≡ b.attempts → a.keep ≡ b.keep → a.modify ≡ b.modify → a ≡ b
+submission_same a b p q r s t k u =
+    let make : List ℕ → List ℕ → List ℕ → Resource → ℕ → Bool → List ℕ → Submission =
+    λ user queue name master attempts keep modify. record { user = user; queue = queue; name = name; master = master; attempts = attempts; keep = keep; modify = modify } in
+    ap (λ (user : List ℕ). make user a.queue a.name a.master a.attempts a.keep a.modify) p
+    ∙ ap (λ (queue : List ℕ). make b.user queue a.name a.master a.attempts a.keep a.modify) q
+    ∙ ap (λ (name : List ℕ). make b.user b.queue name a.master a.attempts a.keep a.modify) r
+    ∙ ap (λ (master : Resource). make b.user b.queue b.name master a.attempts a.keep a.modify) s
+    ∙ ap (λ (attempts : ℕ). make b.user b.queue b.name b.master attempts a.keep a.modify) t
+    ∙ ap (λ (keep : Bool). make b.user b.queue b.name b.master b.attempts keep a.modify) k
+    ∙ ap (make b.user b.queue b.name b.master b.attempts b.keep) u
 
 app_id_alike : (a b : AppId) (x y : List ℕ) → IsAppId a → IsAppId b → app_id_frame a ++ x ≡ app_id_frame b ++ y → (a ≡ b) × (x ≡ y)
 app_id_alike a b x y is_a is_b e =
@@ -141,7 +142,7 @@ submission_alike a b x y is_a is_b e =
     let bound = number32_alike a.attempts b.attempts (text_frame a.modify ++ x) (text_frame b.modify ++ y) (omega (arith, is_a.attempts)) (omega (arith, is_b.attempts)) cores.1 in
     let modify = text_alike AclText a.modify b.modify x y is_a.modify is_b.modify bound.1 in
     let master = resource_same a.master b.master memory.0 cores.0 in
-    (submission_same a b user.0 queue.0 name.0 master bound.0 modify.0, modify.1)
+    (submission_same a b user.0 queue.0 name.0 master bound.0 (is_a.keep ∙ sym is_b.keep) modify.0, modify.1)
 
 -- ---- operations
 

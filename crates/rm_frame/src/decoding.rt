@@ -128,6 +128,7 @@ fn submission_at(alloc: Global, bytes: &[u8]) -> Result<(Submission, &[u8]), Fie
         master,
         attempts,
         modify,
+        ..Submission::empty()
     };
     Ok((submission, rest))
 }

@@ -10,5 +10,5 @@
 mod areas;
 mod laws;
 
-pub use areas::{Areas, GENERATION_RECORD, Reading};
+pub use areas::{Areas, Reading};
 pub use laws::{law_one_layout, law_undamaged};

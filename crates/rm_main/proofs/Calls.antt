@@ -4,6 +4,7 @@ use Rattle.std.specs.Prelude.{IfOk, Bool, replicate}
 use Rattle.rm_types.specs.declared.outcomes.Outcome.{Outcome}
 use Rattle.rm_types.specs.declared.outcomes.Outcome.TheVariants.{Memory}
 use Rattle.rm_types.specs.declared.duplicate.NoMemory.{NoMemory}
+use Rattle.rm_formats.specs.declared.TheConstants.{STORE_SIZE}
 use Rattle.rm_disk.specs.Disk.{DiskView}
 use Rattle.rm_disk.specs.MemDisk.{IsFresh}
 use Rattle.rm_disk.specs.declared.memory.MemDisk.{MemDisk}
@@ -16,7 +17,7 @@ ran_along view words outcome old handed back new is same ran =
     subst (λ d. RanOver view words d new outcome) is (subst (λ d. RanOver view words handed d outcome) (sym same) ran)
 
 -- a device of that size, all of whose bytes are 0, is new
-pub is_new : (size : ℕ) (failing : List ℕ) (made : Result MemDisk NoMemory) → size ≡ 4194304 → failing ≡ [] → IfOk made (IsFresh (replicate size 0) failing) → IfOk made IsNewDevice
+pub is_new : (size : ℕ) (failing : List ℕ) (made : Result MemDisk NoMemory) → size ≡ STORE_SIZE → failing ≡ [] → IfOk made (IsFresh (replicate size 0) failing) → IfOk made IsNewDevice
 is_new size failing (Ok device) is none fresh = record { size = size; is = is; fresh = subst (λ f. IsFresh (replicate size 0) f device) none fresh }
 is_new size failing (Err error) is none fresh = tt
 

@@ -2,7 +2,7 @@
 use Rattle.std.proofs.Common.{◌≡◌, ◌⊎◌, ℕ, List, [], ◌∷◌, Option, Some, None, true, false, inl, inr, refl, sym, ◌∙◌, ap, subst, arith, ⊎_elim}
 use Rattle.rm_types.specs.declared.operations.Op.{Op}
 use Rattle.rm_types.specs.declared.outcomes.Outcome.{Outcome}
-use Rattle.rm_types.specs.declared.outcomes.Outcome.TheVariants.{Done, Usage, ReadFault, WriteFault, ClusterRefused, ScriptRefused, ScheduleRefused, DiskFault, StoreDamaged, StoreFull, EpochsSpent, Memory}
+use Rattle.rm_types.specs.declared.outcomes.Outcome.TheVariants.{Done, Usage, ReadFault, WriteFault, ClusterRefused, ScriptRefused, ScheduleRefused, DiskFault, StoreDamaged, StoreFull, EpochsSpent, Memory, DeviceSmall}
 use Rattle.rm_types.specs.declared.settings.Settings.{Settings}
 use Rattle.rm_types.specs.Counts.{Rose}
 use Rattle.rm_disk.specs.Disk.{DiskView}
@@ -120,3 +120,4 @@ module _ {D : Type 0} (view : D → DiskView) (told : ShelfTells) (made : Made D
     complete (StoreDamaged offset) ends read write idle = ⊎_elim (λ ran. absurd (no_damage asked offset ran)) (λ list. absurd (no_list asked accepted list.asks)) ends
     complete (StoreFull needed room) ends read write idle = absurd (no_full asked needed room ends)
     complete EpochsSpent ends read write idle = absurd (no_spent asked ends)
+    complete (DeviceSmall size) ends read write idle = absurd ends

@@ -1,7 +1,7 @@
 -- Which files of a run were read, by what it came to.
 use Rattle.std.proofs.Common.{◌≡◌, ◌⊎◌, ℕ, List, Option, inl, inr}
 use Rattle.rm_types.specs.declared.outcomes.Outcome.{Outcome}
-use Rattle.rm_types.specs.declared.outcomes.Outcome.TheVariants.{Done, Usage, ReadFault, WriteFault, ClusterRefused, ScriptRefused, ScheduleRefused, DiskFault, StoreDamaged, StoreFull, EpochsSpent, Memory}
+use Rattle.rm_types.specs.declared.outcomes.Outcome.TheVariants.{Done, Usage, ReadFault, WriteFault, ClusterRefused, ScriptRefused, ScheduleRefused, DiskFault, StoreDamaged, StoreFull, EpochsSpent, Memory, DeviceSmall}
 use Rattle.rm_main.specs.Inputs.{IsUnread, StopsAtCluster, StopsAtScript}
 use Rattle.rm_main.specs.Runs.{ReadsAllFiles, ReadsBy, ReadsScript}
 use Rattle.rm_outside.specs.Shelves.{ShelfTells}
@@ -22,6 +22,7 @@ module _ {F : Type 0} (reads : List ℕ → F → F → Type 0) (told : ShelfTel
   at_cluster bytes (StoreDamaged offset) stops read = absurd stops
   at_cluster bytes (StoreFull needed room) stops read = absurd stops
   at_cluster bytes EpochsSpent stops read = absurd stops
+  at_cluster bytes (DeviceSmall size) stops read = absurd stops
 
   -- one that stopped at its script read the cluster file and the script's
   pub at_script : (bytes : Option (List ℕ)) (outcome : Outcome) → StopsAtScript bytes outcome → ReadsScript reads told cluster script old new → ReadsBy reads told cluster script schedule outcome old new
@@ -37,6 +38,7 @@ module _ {F : Type 0} (reads : List ℕ → F → F → Type 0) (told : ShelfTel
   at_script bytes (StoreDamaged offset) stops read = absurd stops
   at_script bytes (StoreFull needed room) stops read = absurd stops
   at_script bytes EpochsSpent stops read = absurd stops
+  at_script bytes (DeviceSmall size) stops read = absurd stops
 
   -- one that stopped at its schedule read all
   pub at_schedule : (outcome : Outcome) → IsUnread outcome → ReadsAllFiles reads told cluster script schedule old new → ReadsBy reads told cluster script schedule outcome old new
@@ -52,6 +54,7 @@ module _ {F : Type 0} (reads : List ℕ → F → F → Type 0) (told : ShelfTel
   at_schedule (StoreDamaged offset) unread read = absurd unread
   at_schedule (StoreFull needed room) unread read = absurd unread
   at_schedule EpochsSpent unread read = absurd unread
+  at_schedule (DeviceSmall size) unread read = absurd unread
 
   -- one that was made read all
   pub of_run : (outcome : Outcome) → IsOfRun outcome → ReadsAllFiles reads told cluster script schedule old new → ReadsBy reads told cluster script schedule outcome old new
@@ -62,6 +65,7 @@ module _ {F : Type 0} (reads : List ℕ → F → F → Type 0) (told : ShelfTel
   of_run (StoreDamaged offset) of read = read
   of_run (StoreFull needed room) of read = read
   of_run EpochsSpent of read = read
+  of_run (DeviceSmall size) of read = absurd of
   of_run Memory of read = inr (inr (inr read))
   of_run Usage of read = absurd of
   of_run ReadFault of read = absurd of

@@ -5,7 +5,7 @@ use Rattle.std.specs.Io.KnownBytes.{Appends}
 use Rattle.std.proofs.lemmas.List.{take_all}
 use Rattle.rm_types.specs.declared.operations.Op.{Op}
 use Rattle.rm_types.specs.declared.outcomes.Outcome.{Outcome}
-use Rattle.rm_types.specs.declared.outcomes.Outcome.TheVariants.{Done, Usage, ReadFault, WriteFault, ClusterRefused, ScriptRefused, ScheduleRefused, DiskFault, StoreDamaged, StoreFull, EpochsSpent, Memory}
+use Rattle.rm_types.specs.declared.outcomes.Outcome.TheVariants.{Done, Usage, ReadFault, WriteFault, ClusterRefused, ScriptRefused, ScheduleRefused, DiskFault, StoreDamaged, StoreFull, EpochsSpent, Memory, DeviceSmall}
 use Rattle.rm_disk.specs.Disk.{DiskView, EachImage, IfTold}
 use Rattle.rm_disk.specs.Fuse.{Fused}
 use Rattle.rm_store.specs.Content.{HasContent}
@@ -37,6 +37,7 @@ still_writes old new bytes (Ok done) DiskFault h w = absurd h
 still_writes old new bytes (Ok done) (StoreDamaged offset) h w = absurd h
 still_writes old new bytes (Ok done) (StoreFull needed room) h w = absurd h
 still_writes old new bytes (Ok done) EpochsSpent h w = absurd h
+still_writes old new bytes (Ok done) (DeviceSmall size) h w = absurd h
 still_writes old new bytes (Ok done) Memory h w = w
 still_writes old new bytes (Err stops.DiskFault) Done h w = w
 still_writes old new bytes (Err (stops.Damaged offset)) Done h w = w
@@ -54,6 +55,7 @@ still_writes old new bytes (Err stop) DiskFault h w = absurd h
 still_writes old new bytes (Err stop) (StoreDamaged offset) h w = absurd h
 still_writes old new bytes (Err stop) (StoreFull needed room) h w = absurd h
 still_writes old new bytes (Err stop) EpochsSpent h w = absurd h
+still_writes old new bytes (Err stop) (DeviceSmall size) h w = absurd h
 still_writes old new bytes (Err stop) Memory h w = w
 
 -- a run that is done had come to its end
@@ -75,6 +77,7 @@ done_ended (Err stop) DiskFault is = cc
 done_ended (Err stop) (StoreDamaged offset) is = cc
 done_ended (Err stop) (StoreFull needed room) is = cc
 done_ended (Err stop) EpochsSpent is = cc
+done_ended (Err stop) (DeviceSmall size) is = cc
 done_ended (Err stop) Memory is = cc
 
 -- a fault of writing was one of writing the page
@@ -96,6 +99,7 @@ fault_written (Err stop) DiskFault took_nothing is = is
 fault_written (Err stop) (StoreDamaged offset) took_nothing is = is
 fault_written (Err stop) (StoreFull needed room) took_nothing is = is
 fault_written (Err stop) EpochsSpent took_nothing is = is
+fault_written (Err stop) (DeviceSmall size) took_nothing is = is
 fault_written (Err stop) Memory took_nothing is = is
 
 -- where a run's page was written whole, the writing was
@@ -112,6 +116,7 @@ wholly_written (Err stop) DiskFault h is = absurd h
 wholly_written (Err stop) (StoreDamaged offset) h is = absurd h
 wholly_written (Err stop) (StoreFull needed room) h is = absurd h
 wholly_written (Err stop) EpochsSpent h is = absurd h
+wholly_written (Err stop) (DeviceSmall size) h is = absurd h
 wholly_written (Err stop) Memory h is = is
 
 -- what the sink took is what the run's outcome says
@@ -140,6 +145,7 @@ caused view due refuses made (Ok done) DiskFault h why = absurd h
 caused view due refuses made (Ok done) (StoreDamaged offset) h why = absurd h
 caused view due refuses made (Ok done) (StoreFull needed room) h why = absurd h
 caused view due refuses made (Ok done) EpochsSpent h why = absurd h
+caused view due refuses made (Ok done) (DeviceSmall size) h why = absurd h
 caused view due refuses made (Ok done) Memory h why = tt
 caused view due refuses made (Err stops.DiskFault) Done h why = why
 caused view due refuses made (Err (stops.Damaged offset)) Done h why = why
@@ -157,6 +163,7 @@ caused view due refuses made (Err stop) DiskFault h why = absurd h
 caused view due refuses made (Err stop) (StoreDamaged offset) h why = absurd h
 caused view due refuses made (Err stop) (StoreFull needed room) h why = absurd h
 caused view due refuses made (Err stop) EpochsSpent h why = absurd h
+caused view due refuses made (Err stop) (DeviceSmall size) h why = absurd h
 caused view due refuses made (Err stop) Memory h why = tt
 
 -- what is listed is what the store holds, and nothing where it wasn't opened
@@ -174,6 +181,7 @@ listed view made (Ok done) DiskFault h why empty holds = absurd h
 listed view made (Ok done) (StoreDamaged offset) h why empty holds = absurd h
 listed view made (Ok done) (StoreFull needed room) h why empty holds = absurd h
 listed view made (Ok done) EpochsSpent h why empty holds = absurd h
+listed view made (Ok done) (DeviceSmall size) h why empty holds = absurd h
 listed view made (Err stops.DiskFault) Done h why empty holds = (empty, why)
 listed view made (Err (stops.Damaged offset)) Done h why empty holds = (empty, why)
 listed view made (Err (stops.Full needed room)) Done h why empty holds = absurd why
@@ -191,6 +199,7 @@ listed view made (Err stop) DiskFault h why empty holds = absurd h
 listed view made (Err stop) (StoreDamaged offset) h why empty holds = absurd h
 listed view made (Err stop) (StoreFull needed room) h why empty holds = absurd h
 listed view made (Err stop) EpochsSpent h why empty holds = absurd h
+listed view made (Err stop) (DeviceSmall size) h why empty holds = absurd h
 
 -- an opening list is empty where the store wasn't opened, and else the disk held it
 pub listed_held : {D : Type 0} (view : D → DiskView) (disk : Fused D) (ops : List Op) (ended : Result (Unit {0}) Stop) → IfErr ended (λ stop. ops ≡ []) → (IsOk ended → IfTold (seen view disk) (λ bytes. HasContent bytes ops))
@@ -211,4 +220,5 @@ run_ends view told asked made DiskFault h ran = inl ran
 run_ends view told asked made (StoreDamaged offset) h ran = inl ran
 run_ends view told asked made (StoreFull needed room) h ran = ran
 run_ends view told asked made EpochsSpent h ran = ran
+run_ends view told asked made (DeviceSmall size) h ran = absurd h
 run_ends view told asked made Memory h ran = inl ran

@@ -42,6 +42,7 @@ framed user submission name h =
       memory_mb = h.memory;
       vcores = h.vcores;
       attempts = h.attempts;
+      keep = h.keep;
       modify = h.modify;
     }
 

@@ -6,6 +6,7 @@ use Rattle.rm_types.specs.declared.outcomes.Outcome.{Outcome}
 use Rattle.rm_types.specs.declared.outcomes.Outcome.TheVariants.{Memory, ReadFault, Usage, WriteFault}
 use Rattle.rm_types.specs.Counts.{Rose}
 use Rattle.rm_outside.specs.Sinks.{SinkCounts}
+use Rattle.rm_formats.specs.declared.TheConstants.{STORE_SIZE}
 use Rattle.rm_disk.specs.Disk.{DiskView}
 use Rattle.rm_disk.specs.Fuse.{Fused}
 use Rattle.rm_disk.specs.MemDisk.{IsFresh, memory_view}
@@ -42,7 +43,7 @@ pub record OutcomeCountsFaults (outcome : Outcome) (reads : ℕ) (sink : SinkCou
 -- a new device in memory, of 4 MiB, all of whose bytes are 0
 pub record IsNewDevice (device : MemDisk) : Type 0 where
   pub size : ℕ
-  pub is : size ≡ 4194304
+  pub is : size ≡ STORE_SIZE
   pub fresh : IsFresh (replicate size 0) [] device
 
 -- a call by these words was made over a new device in memory

@@ -5,7 +5,7 @@ use Rattle.std.specs.declared.alloc.Global.{Global}
 use Rattle.rm_types.specs.declared.entries.Entry.{Entry}
 use Rattle.rm_types.specs.declared.operations.Op.{Op}
 use Rattle.rm_types.specs.declared.outcomes.Outcome.{Outcome}
-use Rattle.rm_types.specs.declared.outcomes.Outcome.TheVariants.{Done, Usage, ReadFault, WriteFault, ClusterRefused, ScriptRefused, ScheduleRefused, DiskFault, StoreDamaged, StoreFull, EpochsSpent, Memory}
+use Rattle.rm_types.specs.declared.outcomes.Outcome.TheVariants.{Done, Usage, ReadFault, WriteFault, ClusterRefused, ScriptRefused, ScheduleRefused, DiskFault, StoreDamaged, StoreFull, DeviceSmall, EpochsSpent, Memory}
 use Rattle.rm_types.specs.declared.scripts.Script.{Script}
 use Rattle.rm_types.specs.declared.settings.Settings.{Settings}
 use Rattle.rm_types.specs.Counts.{Rose}
@@ -177,6 +177,7 @@ CallEnds view told asked made DiskFault = Ran view told asked made DiskFault ⊎
 CallEnds view told asked made (StoreDamaged offset) = Ran view told asked made (StoreDamaged offset) ⊎ WasToList view asked made (StoreDamaged offset)
 CallEnds view told asked made (StoreFull needed room) = Ran view told asked made (StoreFull needed room)
 CallEnds view told asked made EpochsSpent = Ran view told asked made EpochsSpent
+CallEnds view told asked made (DeviceSmall size) = ⊥
 CallEnds view told asked made Memory = Ran view told asked made Memory ⊎ RanNothing made
 
 -- the cluster file was read, which holds settings, and then the script's file

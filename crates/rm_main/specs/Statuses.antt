@@ -1,7 +1,7 @@
 -- The exit status of each outcome. This project's own.
 use Rattle.std.specs.Prelude.{ℕ}
 use Rattle.rm_types.specs.declared.outcomes.Outcome.{Outcome}
-use Rattle.rm_types.specs.declared.outcomes.Outcome.TheVariants.{Done, Usage, ReadFault, WriteFault, ClusterRefused, ScriptRefused, ScheduleRefused, DiskFault, StoreDamaged, StoreFull, EpochsSpent, Memory}
+use Rattle.rm_types.specs.declared.outcomes.Outcome.TheVariants.{Done, Usage, ReadFault, WriteFault, ClusterRefused, ScriptRefused, ScheduleRefused, DiskFault, StoreDamaged, StoreFull, EpochsSpent, DeviceSmall, Memory}
 
 -- the status with which the program ends
 abbrev pub status_of : Outcome → ℕ
@@ -17,3 +17,4 @@ status_of (StoreDamaged offset) = 8
 status_of (StoreFull needed room) = 9
 status_of EpochsSpent = 10
 status_of Memory = 11
+status_of (DeviceSmall size) = 12

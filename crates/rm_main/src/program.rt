@@ -11,6 +11,7 @@ use crate::terminal::is_terminal;
 use crate::threads::top;
 use crate::usage::{Usage, usage_of};
 use rm_disk::{Disk, FileCause, FileDisk, Fuse, MemDisk, Window};
+use rm_formats::STORE_SIZE;
 use rm_outside::{FileShelf, OutSink, StandardDescriptors};
 use rm_types::{Entry, Items, NoMemory, Op, Outcome};
 use rm_words::{command_line, name_at, word_fault};
@@ -22,9 +23,6 @@ use std::rt::Env;
 use std::sync::Wait;
 use std::thread::Threads;
 use std::{env, io};
-
-/// The size of the device, in bytes.
-const DEVICE_SIZE: u64 = 4_194_304;
 
 /// The file of the device that lasts, in the folder in which the program runs.
 const STORE_FILE: &str = "rm.store";
@@ -162,7 +160,7 @@ fn run_over<R: Threads + Wait + Sync, D: Disk + Described + Drop + Send>(
 fn new_device(alloc: Global) -> Result<MemDisk, NoMemory>
     ensures { IfOk result IsNewDevice }
 {
-    MemDisk::new(alloc, DEVICE_SIZE, Items::new(alloc))
+    MemDisk::new(alloc, STORE_SIZE, Items::new(alloc))
 }
 
 /// What the program does by these words over a new device in memory. Its frame is its own, as that over a file is.

@@ -20,5 +20,6 @@ pub fn status_of(outcome: Outcome) -> u8
         Outcome::StoreFull { .. } => 9,
         Outcome::EpochsSpent => 10,
         Outcome::Memory => 11,
+        Outcome::DeviceSmall { .. } => 12,
     }
 }

@@ -1,8 +1,7 @@
 ghost use Rattle.std.specs.Prelude.{◌≡◌, ◌-◌, ◌^◌, length, min};
 ghost use Rattle.rm_formats.specs.Frames.{frame};
 
-use rm_formats::RECORD_HEAD;
-use rm_journal::two_areas::GENERATION_RECORD;
+use rm_formats::{GENERATION_RECORD, RECORD_HEAD};
 use rm_store::compaction::fold;
 use rm_types::{Duplicate, Entry, Items, NoMemory, Op, Text};
 use std::alloc::Global;

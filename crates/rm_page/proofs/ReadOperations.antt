@@ -1,5 +1,5 @@
 -- Store operations, read back from their texts.
-use Rattle.std.proofs.Common.{◌≡◌, ℕ, true, false, cond, List, [], ◌∷◌, ◌++◌, refl, sym, ap, ◌∙◌, arith, codes}
+use Rattle.std.proofs.Common.{◌≡◌, ℕ, true, false, cond, List, [], ◌∷◌, ◌++◌, refl, sym, ap, ◌∙◌, arith, codes, Bool}
 use Rattle.std.specs.Fmt.{decimal}
 use Rattle.std.specs.Str.{bytes_eq}
 use Rattle.std.proofs.lemmas.List.{append-nil}
@@ -9,6 +9,7 @@ use Rattle.rm_types.specs.declared.operations.Op.{Op}
 use Rattle.rm_types.specs.declared.operations.Op.TheVariants.{Epoch, App, Attempt, AttemptEnd, AppEnd, Remove}
 use Rattle.rm_types.specs.declared.operations.Submission.{Submission}
 use Rattle.rm_types.specs.declared.texts.TextKind.TheVariants.{Note, AclText}
+use Rattle.rm_types.specs.Empty.{no_submission}
 use Rattle.rm_types.specs.Lists.{is_nil}
 use Rattle.rm_types.specs.Ranges.{IsSubmission, IsOperation}
 use Rattle.rm_formats.specs.IdTexts.{app_text, attempt_text, container_text}
@@ -61,9 +62,6 @@ last_word_back byte label (one ∷ bytes) = last_back (byte ∷ label) (one ∷ 
 
 -- ---- submissions
 
-no_submission : Submission
-no_submission = record { user = []; queue = []; name = []; master = record { memory_mb = 0; vcores = 0 }; attempts = 0; modify = [] }
-
 -- what a user submits, by the pieces behind the application's id
 pub read_submission : List ℕ → List (List ℕ) → Submission
 read_submission user (queue ∷ name ∷ memory ∷ vcores ∷ attempts ∷ modify) = record {
@@ -72,6 +70,7 @@ read_submission user (queue ∷ name ∷ memory ∷ vcores ∷ attempts ∷ modi
   name = behind (codes "name=") name;
   master = record { memory_mb = value_of (behind (codes "memory=") memory); vcores = value_of (behind (codes "vcores=") vcores) };
   attempts = value_of (behind (codes "attempts=") attempts);
+  keep = false;
   modify = read_last (codes "modify=") modify;
 }
 read_submission user pieces = no_submission
@@ -113,7 +112,10 @@ pub submission_back : (submission : Submission) → IsSubmission submission → 
 unfolding read_submission
 submission_back submission is =
     rw (number_back submission.master.memory_mb (omega (arith, is.memory_mb.1)), number_back submission.master.vcores (omega (arith, is.vcores.1)), number_back submission.attempts (omega (arith, is.attempts.1)))
-    (ap (λ (modify : List ℕ). record submission { modify = modify }) (last_word_back 109 (codes "odify=") submission.modify))
+    (
+    ap (λ (keep : Bool). record submission { keep = keep; modify = read_last (codes "modify=") (last_pieces (codes "modify=") submission.modify) }) (sym is.keep)
+    ∙ ap (λ (modify : List ℕ). record submission { modify = modify }) (last_word_back 109 (codes "odify=") submission.modify)
+    )
 
 -- ---- operations
 

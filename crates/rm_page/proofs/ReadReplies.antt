@@ -96,7 +96,7 @@ reply_by word pieces = replies.Ok
 -- a reply by the pieces of its text
 pub read_reply : List (List ℕ) → Reply
 read_reply (word ∷ []) = read_plain word
-read_reply (word ∷ id ∷ []) = replies.New (read_app id)
+read_reply (word ∷ id ∷ []) = cond (bytes_eq word (codes "registered")) (replies.Took (read_bracketed read_grant (codes "kept=[") id)) (replies.New (read_app id))
 read_reply (word ∷ turn ∷ epoch ∷ []) = replies.NodeRegistered (value_of (behind (codes "turn=") turn)) (value_of (behind (codes "epoch=") epoch))
 read_reply (word ∷ pieces) = reply_by (keyword word) pieces
 read_reply [] = replies.Ok
@@ -174,6 +174,7 @@ reply_are (replies.Report report) is = (
     ),
   ),
 )
+reply_are (replies.Took kept) is = (refl, (bracketed_word grant_text read_grant told_grant kept (grants_back kept is), tt))
 reply_are (replies.Allocated id grants ended) is = (
   refl,
   (
@@ -216,6 +217,7 @@ reply_pieces_back (replies.New id) is = rw (app_back id is) refl
 reply_pieces_back (replies.Denied denial) is = rw (acl_op_back denial.op, names_back denial.lists is.lists) refl
 reply_pieces_back (replies.Report report) is =
     rw (state_back report.state, number_back report.attempts (omega (arith, is.attempts)), number_back report.live (omega (arith, is.live)), last_back (codes "text=") report.text) refl
+reply_pieces_back (replies.Took kept) is = rw (bracketed_back grant_text read_grant told_grant (codes "kept=[") kept (grants_back kept is)) refl
 reply_pieces_back (replies.Allocated id grants ended) is =
     rw (
       number_back id (omega (arith, is.0)),
@@ -245,6 +247,7 @@ same_texts text shown whole (item ∷ items) same = rw (same item, same_texts te
 
 -- what a text shows of a reply has the reply's words
 pub reply_words-shown : (reply : Reply) → reply_words (shown_reply reply) ≡ reply_words reply
+reply_words-shown (replies.Took kept) = rw (same_texts grant_text told_grant grant_text kept (λ grant. refl)) refl
 reply_words-shown (replies.Allocated id grants ended) = rw (same_texts grant_text told_grant grant_text grants (λ grant. refl)) refl
 reply_words-shown reply = refl
 

@@ -103,6 +103,7 @@ abbrev pub IsPageReply : Reply → Type 0
 IsPageReply (replies.New id) = IsAppId id
 IsPageReply (replies.Denied denial) = IsDenial denial
 IsPageReply (replies.Report report) = IsPageReport report
+IsPageReply (replies.Took kept) = All IsGrant kept
 IsPageReply (replies.Allocated id grants ended) = IsWord32 id × All IsGrant grants × All IsClosing ended
 IsPageReply (replies.NodeRegistered turn epoch) = IsWord32 turn × IsWord32 epoch
 IsPageReply (replies.Beat id launch clean) = IsWord32 id × All IsContainerId launch × All IsContainerId clean

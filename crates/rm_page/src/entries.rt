@@ -1,7 +1,7 @@
 ghost use Rattle.std.specs.Prelude.{◌≡◌, [], ◌∷◌, ◌++◌, codes, OnOk};
 ghost use Rattle.rm_formats.specs.Wording.{message_words, op_words, reply_words};
 ghost use Rattle.rm_formats.specs.Page.{line, line_of, lane_letter};
-ghost use Rattle.rm_types.specs.Lanes.{feed_lane, lane_of_entry};
+ghost use Rattle.rm_types.specs.Lanes.{lane_of_entry};
 
 use crate::lists::{ByContainer, Whole, cause_text};
 use crate::writing::Lines;
@@ -152,18 +152,6 @@ pub fn lane_letter(lane: Lane) -> u8
     }
 }
 
-/// The lane of a sender's feed.
-fn feed_lane(sender: Sender) -> Lane
-    ensures { result ≡ feed_lane sender }
-{
-    match sender {
-        Sender::Client => Lane::Client,
-        Sender::Master => Lane::Master,
-        Sender::Node => Lane::Node,
-        Sender::Clock => Lane::Clock,
-    }
-}
-
 /// The lane whose move adds the entry.
 pub fn lane_of_entry(entry: &Entry) -> Lane
     ensures { result ≡ lane_of_entry entry.now }
@@ -173,7 +161,7 @@ pub fn lane_of_entry(entry: &Entry) -> Lane
         Entry::Issued { .. } | Entry::Accepted { .. } | Entry::Ordered { .. } => Lane::Main,
         Entry::Handed => Lane::Hand,
         Entry::Kept { .. } | Entry::Blown { .. } => Lane::Write,
-        Entry::Served { sender, .. } => feed_lane(*sender),
+        Entry::Served { sender, .. } => sender.lane(),
         Entry::Queued { .. } | Entry::Absorbed { .. } | Entry::Pass { .. } | Entry::Ended { .. } =>
             Lane::Sched,
         Entry::Settled | Entry::Down => Lane::End,

@@ -83,6 +83,15 @@ no_word text None false e = absurd cc
 no_word text (Some one) true e = absurd cc
 no_word text (Some one) false e = (λ t. absurd (search rules), λ same. absurd (cut_some 32 (text one) same))
 
+-- the first word is the last one where nothing stands behind it
+pub last_word : {X : Type 0} (text : X → List ℕ) (words : List (List ℕ)) (word : List ℕ) (left : Option X) (b : Bool) → is_some left ≡ not b
+    → words ≡ word ∷ option_map_or (λ one. cut 32 (text one)) left [] → IsTrue b ↔ (length words ≡ 1)
+last_word text words word None true e is = (λ t. ap length is, λ one. search rules)
+last_word text words word None false e is = absurd cc
+last_word text words word (Some one) true e is = absurd cc
+last_word text words word (Some one) false e is =
+    (λ t. absurd (search rules), λ whole. absurd (omega (arith, ap length is, whole, length-slice_split (λ byte. eqb byte 32) (text one))))
+
 -- ---- names and ends
 
 pub behind_same : (name one other : List ℕ) → name ++ one ≡ name ++ other → one ≡ other

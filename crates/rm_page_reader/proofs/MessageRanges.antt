@@ -29,6 +29,7 @@ submission_ranges user submission name is = record {
   memory_mb = is.memory;
   vcores = is.vcores;
   attempts = is.attempts;
+  keep = is.keep;
   modify = is.modify;
 }
 

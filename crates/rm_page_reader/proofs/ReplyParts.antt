@@ -1,5 +1,5 @@
 -- The parts of replies, by the words behind the first.
-use Rattle.std.proofs.Common.{◌≡◌, ℕ, List, [], ◌∷◌, ◌++◌, map, All, false, Result, refl, ap, ◌∙◌}
+use Rattle.std.proofs.Common.{◌≡◌, ℕ, List, [], ◌∷◌, ◌++◌, map, All, false, Result, refl, ap, ◌∙◌, length}
 use Rattle.std.specs.Prelude.{codes}
 use Rattle.std.specs.Fmt.{decimal}
 use Rattle.std.specs.Str.{bytes_eq}
@@ -28,6 +28,7 @@ pub bare_is : (word : List ℕ) (reply : Reply) → IsBare word reply → IsOf r
 bare_is word (replies.New id) e = absurd e
 bare_is word (replies.Denied denial) e = absurd e
 bare_is word (replies.Report report) e = absurd e
+bare_is word (replies.Took kept) e = absurd e
 bare_is word (replies.Allocated id grants ended) e = absurd e
 bare_is word (replies.NodeRegistered turn epoch) e = absurd e
 bare_is word (replies.Beat id launch clean) e = absurd e
@@ -37,6 +38,7 @@ pub bare_said : (word : List ℕ) (reply : Reply) → IsOf reply_pieces IsPageRe
 bare_said word (replies.New id) of = absurd (let e = ap behind_first of.same in cc)
 bare_said word (replies.Denied denial) of = absurd (let e = ap behind_first of.same in cc)
 bare_said word (replies.Report report) of = absurd (let e = ap behind_first of.same in cc)
+bare_said word (replies.Took kept) of = absurd (let e = ap behind_first of.same in cc)
 bare_said word (replies.Allocated id grants ended) of = absurd (let e = ap behind_first of.same in cc)
 bare_said word (replies.NodeRegistered turn epoch) of = absurd (let e = ap behind_first of.same in cc)
 bare_said word (replies.Beat id launch clean) of = absurd (let e = ap behind_first of.same in cc)
@@ -107,6 +109,7 @@ no_reply word words more new denied report allocated registered beat (replies.Ne
 no_reply word words more new denied report allocated registered beat (replies.Denied denial) of = differ word (codes "DENIED") denied (ap first_word of.same)
 no_reply word words more new denied report allocated registered beat (replies.Report one) of = differ word (codes "report") report (ap first_word of.same)
 no_reply word words more new denied report allocated registered beat (replies.Allocated id grants ended) of = differ word (codes "allocated") allocated (ap first_word of.same)
+no_reply word words more new denied report allocated registered beat (replies.Took kept) of = differ word (codes "registered") registered (ap first_word of.same)
 no_reply word words more new denied report allocated registered beat (replies.NodeRegistered turn epoch) of = differ word (codes "registered") registered (ap first_word of.same)
 no_reply word words more new denied report allocated registered beat (replies.Beat id launch clean) of = differ word (codes "beat") beat (ap first_word of.same)
 no_reply word words more new denied report allocated registered beat reply of = more (ap behind_first of.same)
@@ -149,7 +152,7 @@ pub beat_parts : (words : List (List ℕ)) (reply : Reply) → IsOf reply_pieces
 beat_parts words (replies.Beat id launch clean) of = record { id = id; launch = launch; clean = clean; same = ap behind_first of.same; id_is = of.fits.0; launch_are = of.fits.1; clean_are = of.fits.2 }
 beat_parts words reply of = absurd (differ (codes "beat") (first_word (reply_pieces reply)) refl (ap first_word of.same))
 
--- a node that registered; a master's registration says no more than its first word
+-- a node that registered; a master's registration says no more than its first word, or one word behind it
 pub record IsRegistered (words : List (List ℕ)) : Type 0 where
   pub turn : ℕ
   pub epoch : ℕ
@@ -157,10 +160,23 @@ pub record IsRegistered (words : List (List ℕ)) : Type 0 where
   pub turn_is : IsWord32 turn
   pub epoch_is : IsWord32 epoch
 
-pub registered_parts : (words : List (List ℕ)) → (words ≡ [] → ⊥) → (reply : Reply) → IsOf reply_pieces IsPageReply (codes "registered" ∷ words) reply → IsRegistered words
-registered_parts words more replies.MasterRegistered of = absurd (more (ap behind_first of.same))
-registered_parts words more (replies.NodeRegistered turn epoch) of = record { turn = turn; epoch = epoch; same = ap behind_first of.same; turn_is = of.fits.0; epoch_is = of.fits.1 }
-registered_parts words more reply of = absurd (differ (codes "registered") (first_word (reply_pieces reply)) refl (ap first_word of.same))
+pub registered_parts : (words : List (List ℕ)) → (words ≡ [] → ⊥) → (length words ≡ 1 → ⊥) → (reply : Reply) → IsOf reply_pieces IsPageReply (codes "registered" ∷ words) reply → IsRegistered words
+registered_parts words more long replies.MasterRegistered of = absurd (more (ap behind_first of.same))
+registered_parts words more long (replies.Took kept) of = absurd (long (ap (λ (all : List (List ℕ)). length (behind_first all)) of.same))
+registered_parts words more long (replies.NodeRegistered turn epoch) of = record { turn = turn; epoch = epoch; same = ap behind_first of.same; turn_is = of.fits.0; epoch_is = of.fits.1 }
+registered_parts words more long reply of = absurd (differ (codes "registered") (first_word (reply_pieces reply)) refl (ap first_word of.same))
+
+-- a master that registered and is handed containers, which are the one word behind the first
+pub record IsTook (words : List (List ℕ)) : Type 0 where
+  pub kept : List Grant
+  pub same : words ≡ (codes "kept=" ++ bracketed (map grant_text kept)) ∷ []
+  pub kept_are : All IsGrant kept
+
+pub took_parts : (words : List (List ℕ)) → length words ≡ 1 → (reply : Reply) → IsOf reply_pieces IsPageReply (codes "registered" ∷ words) reply → IsTook words
+took_parts words one replies.MasterRegistered of = absurd (let e = ap (λ (all : List (List ℕ)). length (behind_first all)) of.same in cc)
+took_parts words one (replies.Took kept) of = record { kept = kept; same = ap behind_first of.same; kept_are = of.fits }
+took_parts words one (replies.NodeRegistered turn epoch) of = absurd (let e = ap (λ (all : List (List ℕ)). length (behind_first all)) of.same in cc)
+took_parts words one reply of = absurd (differ (codes "registered") (first_word (reply_pieces reply)) refl (ap first_word of.same))
 
 -- a right that wasn't there, and a report
 pub denied_parts : (words : List (List ℕ)) (reply : Reply) → IsOf reply_pieces IsPageReply (codes "DENIED" ∷ words) reply → (denial : Denial) × IsOf denial_words IsDenial (codes "DENIED" ∷ words) denial

@@ -2,7 +2,6 @@ ghost use Rattle.std.specs.Prelude.{◌≡◌, ◌↔◌, ◌∷◌, ◌++◌, �
 ghost use Rattle.rm_types.specs.declared.entries.Entry.{Entry as AnyEntry};
 ghost use Rattle.rm_types.specs.declared.messages.Message.{Message as AnyMessage};
 ghost use Rattle.rm_types.specs.declared.replies.Reply.{Reply as AnyReply};
-ghost use Rattle.rm_types.specs.Lanes.{sender_of};
 ghost use Rattle.rm_types.specs.Ranges.{IsContainerId, IsText};
 ghost use Rattle.rm_types.specs.declared.texts.TextKind.TheVariants.{Node};
 ghost use Rattle.rm_formats.specs.Page.{line_of};
@@ -149,7 +148,7 @@ fn served_of(alloc: Global, message: Message, reply: Reply) -> Result<Entry, NoM
     ensures { IfOk result (λ entry. entry ≡ served_entry message reply) }
 {
     Ok(Entry::Served {
-        sender: sender_of(&message),
+        sender: message.sender(),
         message: Boxed::new(alloc, message)?,
         reply: Boxed::new(alloc, reply)?,
     })
@@ -225,17 +224,6 @@ fn may_answer(message: &Message, reply: &Reply) -> bool
     match reply {
         Reply::Report(_) => matches!(message, Message::Client(_, ClientAsk::Report(_))),
         _ => true,
-    }
-}
-
-fn sender_of(message: &Message) -> Sender
-    ensures { result ≡ sender_of message.now }
-{
-    match message {
-        Message::Client(..) => Sender::Client,
-        Message::Master(..) => Sender::Master,
-        Message::Node(..) => Sender::Node,
-        Message::Clock(_) => Sender::Clock,
     }
 }
 

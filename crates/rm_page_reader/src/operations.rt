@@ -81,6 +81,7 @@ fn submission(alloc: Global, user: Text, mut words: Words<'_>) -> Result<Submiss
         master: Resource { memory_mb, vcores },
         attempts,
         modify,
+        ..Submission::empty()
     })
 }
 

@@ -1,4 +1,4 @@
-ghost use Rattle.std.specs.Prelude.{◌≡◌, ◌≢◌, ◌∷◌, [], codes};
+ghost use Rattle.std.specs.Prelude.{◌≡◌, ◌≢◌, ◌∷◌, [], codes, length};
 ghost use Rattle.rm_formats.specs.Wording.{acl_op_text, state_text, denial_words};
 ghost use Rattle.rm_page.specs.Ranges.{IsPageReply, IsDenial, IsPageReport};
 ghost use Rattle.rm_page.proofs.Bytes.{cut};
@@ -100,7 +100,7 @@ fn long_reply(alloc: Global, word: &[u8], words: Words<'_>) -> Result<Reply, Lin
     } else if word == "allocated".as_bytes() {
         allocated(alloc, words)
     } else if word == "registered".as_bytes() {
-        node_registered(words)
+        registered(alloc, words)
     } else if word == "beat".as_bytes() {
         beat(alloc, words)
     } else {
@@ -200,8 +200,30 @@ fn allocated(alloc: Global, mut words: Words<'_>) -> Result<Reply, LineError>
     Ok(Reply::Allocated { id, grants, ended })
 }
 
-fn node_registered(mut words: Words<'_>) -> Result<Reply, LineError>
+/// A registration: a master's with the containers that it is handed, which are one word, or a node's.
+fn registered(alloc: Global, words: Words<'_>) -> Result<Reply, LineError>
     requires { words ≢ [] }
+    ensures { FindsLine result (IsOf reply_pieces IsPageReply (codes "registered" ∷ words.entry)) }
+{
+    if words.is_last() {
+        took(alloc, words)
+    } else {
+        node_registered(words)
+    }
+}
+
+fn took(alloc: Global, mut words: Words<'_>) -> Result<Reply, LineError>
+    requires { length words ≡ 1 }
+    ensures { FindsLine result (IsOf reply_pieces IsPageReply (codes "registered" ∷ words.entry)) }
+{
+    let kept = list_behind::<Whole, Grant>(alloc, &mut words, b"kept=")?;
+    words.end()?;
+    Ok(Reply::Took { kept })
+}
+
+fn node_registered(mut words: Words<'_>) -> Result<Reply, LineError>
+    requires more { words ≢ [] }
+    requires long { length words ≢ 1 }
     ensures { FindsLine result (IsOf reply_pieces IsPageReply (codes "registered" ∷ words.entry)) }
 {
     let turn = words.number(b"turn=")?;

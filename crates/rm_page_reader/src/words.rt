@@ -1,6 +1,6 @@
-ghost use Rattle.std.specs.Prelude.{◌≡◌, ◌↔◌, ℕ, List, [], ◌∷◌, ◌++◌, ◌==◌, true, None, IsTrue, IfOk, IfErr, IfSome, position};
+ghost use Rattle.std.specs.Prelude.{◌≡◌, ◌↔◌, ℕ, List, [], ◌∷◌, ◌++◌, ◌==◌, true, None, IsTrue, IfOk, IfErr, IfSome, length, position};
 ghost use Rattle.std.specs.Fmt.{decimal};
-ghost use Rattle.std.specs.Option.{option_copied};
+ghost use Rattle.std.specs.Option.{option_copied, option_map_or};
 ghost use Rattle.rm_types.specs.Ranges.{IsText, IsWithin, IsAppId, IsAttemptId, IsContainerId};
 ghost use Rattle.rm_formats.specs.IdTexts.{app_text, attempt_text, container_text};
 ghost use Rattle.rm_page.specs.Ranges.{IsWord32, IsWord64};
@@ -178,6 +178,16 @@ impl<'a> Words<'a> {
         self.rest.is_none()
     }
 
+    /// Whether one word is left.
+    pub(crate) fn is_last(&self) -> bool
+        ensures { IsTrue result ↔ (length self.now ≡ 1) }
+    {
+        match self.rest {
+            Some(rest) => first_word(rest).1.is_none(),
+            None => false,
+        }
+    }
+
     /// Refuses the line where a word is left.
     pub(crate) fn end(&self) -> Result<(), LineError>
         ensures end { IfOk result (λ nothing. self.now ≡ []) }
@@ -206,6 +216,16 @@ pub(crate) fn halves(text: &[u8], byte: u8) -> Option<(&[u8], &[u8])>
     match place_of(text, byte) {
         Some(place) => Some((&text[..place], &text[place + 1..])),
         None => None,
+    }
+}
+
+/// The first word of a line, and what stands behind it, where something does.
+fn first_word(line: &[u8]) -> (&[u8], Option<&[u8]>)
+    ensures { cut 32 line.now ≡ result.0.now ∷ option_map_or (λ after. cut 32 after.now) result.1 [] }
+{
+    match halves(line, b' ') {
+        Some((first, after)) => (first, Some(after)),
+        None => (line, None),
     }
 }
 

@@ -43,6 +43,7 @@ reply_meaning (replies.Report report) = codes "the client is told how the applic
 reply_meaning replies.Killing = codes "the kill is wished; a wish falls with the life"
 reply_meaning replies.AppEnded = codes "the application had ended before the kill"
 reply_meaning replies.MasterRegistered = codes "this life knows the master"
+reply_meaning (replies.Took kept) = codes "this life knows the master, which is handed the containers of attempts before"
 reply_meaning replies.Already = codes "the master had registered in this life"
 reply_meaning replies.Gone = codes "the attempt is over, or isn't kept"
 reply_meaning replies.Resync = codes "this life doesn't know it, or lost count: it has to register again"

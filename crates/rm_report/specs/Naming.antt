@@ -82,9 +82,10 @@ names_message subject (messages.Clock ask) = names_clock subject ask
 abbrev pub names_grant : Subject → Grant → Bool
 names_grant subject grant = covers subject (Container grant.id) || covers subject (Node grant.node)
 
--- a reply tells a new application; grants with their nodes, and ended containers; masters to launch, and containers to end
+-- a reply tells a new application; containers that are handed over, with their nodes; grants with theirs, and ended containers; masters to launch, and containers to end
 abbrev pub names_reply : Subject → Reply → Bool
 names_reply subject (replies.New id) = covers subject (App id)
+names_reply subject (replies.Took kept) = list_any (λ grant. names_grant subject grant) kept
 names_reply subject (replies.Allocated id grants ended) =
     list_any (λ grant. names_grant subject grant) grants || list_any (λ closing. covers subject (Container closing.id)) ended
 names_reply subject (replies.Beat id launch clean) =

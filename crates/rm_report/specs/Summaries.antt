@@ -101,6 +101,7 @@ reply_name (replies.Report report) = codes "report"
 reply_name replies.Killing = codes "killing"
 reply_name replies.AppEnded = codes "ended"
 reply_name replies.MasterRegistered = codes "registered"
+reply_name (replies.Took kept) = codes "registered"
 reply_name replies.Already = codes "ALREADY"
 reply_name replies.Gone = codes "GONE"
 reply_name replies.Resync = codes "RESYNC"
@@ -140,6 +141,7 @@ longest_said message = 0
 -- and of a reply
 abbrev pub longest_answered : Reply → ℕ
 longest_answered (replies.Denied denial) = length denial.lists
+longest_answered (replies.Took kept) = length kept
 longest_answered (replies.Allocated id grants ended) = max (length grants) (length ended)
 longest_answered (replies.Beat id launch clean) = max (length launch) (length clean)
 longest_answered reply = 0

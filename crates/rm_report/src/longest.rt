@@ -49,6 +49,7 @@ fn longest_answered(reply: &Reply) -> usize
 {
     match reply {
         Reply::Denied(denial) => denial.lists.len(),
+        Reply::Took { kept } => kept.len(),
         Reply::Allocated { grants, ended, .. } => grants.len().max(ended.len()),
         Reply::Beat { launch, clean, .. } => launch.len().max(clean.len()),
         _ => 0,

@@ -85,6 +85,8 @@ fn reply_meaning(reply: &Reply) -> &'static [u8]
         Reply::Killing => b"the kill is wished; a wish falls with the life",
         Reply::AppEnded => b"the application had ended before the kill",
         Reply::MasterRegistered => b"this life knows the master",
+        Reply::Took { .. } =>
+            b"this life knows the master, which is handed the containers of attempts before",
         Reply::Already => b"the master had registered in this life",
         Reply::Gone => b"the attempt is over, or isn't kept",
         Reply::Resync => b"this life doesn't know it, or lost count: it has to register again",

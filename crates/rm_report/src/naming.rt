@@ -108,6 +108,7 @@ impl Subject {
     {
         match reply {
             Reply::New(id) => self.covers_app(*id),
+            Reply::Took { kept } => self.is_in_grants(kept.as_slice()),
             Reply::Allocated { grants, ended, .. } => {
                 self.is_in_grants(grants.as_slice()) || self.is_in_closings(ended.as_slice())
             }

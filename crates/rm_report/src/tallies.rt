@@ -75,7 +75,9 @@ fn reply_name(reply: &Reply) -> &'static [u8]
         Reply::Report(_) => b"report",
         Reply::Killing => b"killing",
         Reply::AppEnded => b"ended",
-        Reply::MasterRegistered | Reply::NodeRegistered { .. } => b"registered",
+        Reply::MasterRegistered | Reply::Took { .. } | Reply::NodeRegistered { .. } => {
+            b"registered"
+        }
         Reply::Already => b"ALREADY",
         Reply::Gone => b"GONE",
         Reply::Resync => b"RESYNC",

@@ -198,19 +198,19 @@ fn absorb(
     ensures ok { IfOk result (λ e. (ended : List Id) × Ascend (book_not_taken t.old.book name.now taken) ended × ((e, t.new) ≡ absorption_step name.now capability taken ended t.old)) }
     ensures err { OnErr result (t.new ≡ t.old) }
 {
-    let ended = t.book.not_taken(name, taken.as_slice())?;
+    let not_taken = t.book.not_taken(name, taken.as_slice())?;
     let logged = name.copy()?;
     let node = Boxed::new(t.alloc, logged)?;
-    let mut room = Boxed::new(t.alloc, Items::new(t.alloc))?;
-    let mut list = Boxed::new(t.alloc, Items::new(t.alloc))?;
-    take_in(t, name, capability, taken.as_slice(), ended.as_slice())?;
-    room.set(taken);
-    list.set(ended);
-    Ok(Entry::Absorbed {
-        node,
-        taken: room,
-        ended: list,
-    })
+    let taken = Boxed::new(t.alloc, taken)?;
+    let ended = Boxed::new(t.alloc, not_taken)?;
+    take_in(
+        t,
+        name,
+        capability,
+        taken.get().as_slice(),
+        ended.get().as_slice(),
+    )?;
+    Ok(Entry::Absorbed { node, taken, ended })
 }
 
 /// NodeAdded: the report of a node that waits is absorbed, where this is its last registration.

@@ -268,9 +268,8 @@ pub fn updated(t: &mut Tables, name: &Text) -> Result<Entry, NoMemory>
     let ready = row.state == NodeState::Ready;
     let logged = name.copy()?;
     let node = Boxed::new(t.alloc, logged)?;
-    let mut room = Boxed::new(t.alloc, Items::new(t.alloc))?;
-    let grants = grants_on(t, name, ready)?;
-    grant_all(t, name, &grants)?;
-    room.set(grants);
-    Ok(Entry::Pass { node, grants: room })
+    let made = grants_on(t, name, ready)?;
+    let grants = Boxed::new(t.alloc, made)?;
+    grant_all(t, name, grants.get())?;
+    Ok(Entry::Pass { node, grants })
 }

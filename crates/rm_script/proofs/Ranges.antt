@@ -26,6 +26,7 @@ framed user submission name is = record {
   memory_mb = is.memory;
   vcores = is.vcores;
   attempts = is.attempts;
+  keep = is.keep;
   modify = is.modify;
 }
 

@@ -65,6 +65,7 @@ fn submission_of_fields(
         master,
         attempts,
         modify,
+        ..Submission::empty()
     })
 }
 

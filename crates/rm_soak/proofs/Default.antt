@@ -27,6 +27,7 @@ empty_set =
       max_vcores = refl;
       groups = refl;
       queues = refl;
+      recover_ended_containers = refl;
     }
 
 -- the settings of a soak are those of the cluster file `{}`, but for how many completed applications are remembered

@@ -19,6 +19,7 @@ use Rattle.rm_types.specs.declared.scripts.Close.TheVariants.{Settle, Crash}
 use Rattle.rm_types.specs.declared.scripts.Life.{Life}
 use Rattle.rm_types.specs.declared.scripts.Script.{Script}
 use Rattle.rm_types.specs.declared.scripts.Segment.{Segment}
+use Rattle.rm_types.specs.Empty.{no_submission}
 use Rattle.rm_soak.specs.Limits.{first_stamp, most_in_life}
 
 -- the size of a container
@@ -40,7 +41,7 @@ user_of k = codes "u" ++ decimal (k % 7)
 -- what is submitted
 abbrev pub soak_submission : ℕ → Submission
 soak_submission k =
-    record { user = user_of k; queue = codes "root.default"; name = codes "job"; master = container_size; attempts = 0; modify = [] }
+    record no_submission { user = user_of k; queue = codes "root.default"; name = codes "job"; master = container_size }
 
 -- its user asks
 abbrev pub client_asks : ℕ → ClientAsk → Message

@@ -45,8 +45,7 @@ pub fn submission_of(alloc: Global, k: u32) -> Result<Submission, NoMemory>
         queue,
         name,
         master: CONTAINER_SIZE,
-        attempts: 0,
-        modify: Text::empty(),
+        ..Submission::empty()
     })
 }
 

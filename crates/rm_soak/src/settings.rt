@@ -34,14 +34,13 @@ pub fn soak_settings(alloc: Global) -> Result<Settings, NoMemory>
         max_completed: SOAK_COMPLETED,
         max_apps: DEFAULT_APPS,
         wait_ms: u64::from(DEFAULT_WAIT_MS),
-        acl_enable: false,
         admin_acl,
         greatest: Resource {
             memory_mb: DEFAULT_MEMORY_MB,
             vcores: DEFAULT_VCORES,
         },
-        groups: Items::new(alloc),
         queues,
+        ..Settings::empty(alloc)
     })
 }
 

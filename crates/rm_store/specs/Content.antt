@@ -7,7 +7,7 @@ use Rattle.rm_types.specs.Ranges.{IsOperation}
 use Rattle.rm_types.specs.Records.{stray}
 use Rattle.rm_formats.specs.declared.TheConstants.{RECORD_HEAD}
 use Rattle.rm_formats.specs.Frames.{frame}
-use Rattle.rm_journal.specs.declared.two_areas.areas.TheConstants.{GENERATION_RECORD}
+use Rattle.rm_formats.specs.declared.TheConstants.{GENERATION_RECORD}
 use Rattle.rm_journal.specs.two_areas.Areas.{HasLayout}
 
 -- The size of an area: half of the device's bytes, rounded down.

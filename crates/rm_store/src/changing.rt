@@ -1,10 +1,9 @@
 ghost use Rattle.std.specs.Prelude.{if◌then◌else◌, ◌≡◌, ◌≢◌, ◌+◌, ◌-◌, ◌<◌, ◌≤◌, ◌^◌, ℕ, suc, List, [], ◌∷◌, ◌++◌, false, None, Some, All, map, length, is_ok, OnOk, IfErr, IsErrOf};
 ghost use Rattle.rm_types.specs.Ranges.{IsOperation};
-ghost use Rattle.rm_formats.specs.declared.TheConstants.{RECORD_FRAME};
+ghost use Rattle.rm_formats.specs.declared.TheConstants.{GENERATION_RECORD, RECORD_FRAME};
 ghost use Rattle.rm_formats.specs.Frames.{frame};
 ghost use Rattle.rm_formats.specs.Device.{journal_records};
 ghost use Rattle.rm_disk.specs.Disk.{IfTold, EachImage, IsLaterView};
-ghost use Rattle.rm_journal.specs.declared.two_areas.areas.TheConstants.{GENERATION_RECORD};
 ghost use Rattle.rm_journal.specs.two_areas.Areas.{AreasInvariant, AreasHold, IsBuilt, LeavesEitherLayout, other_end, head_of};
 ghost use Rattle.rm_store.specs.Changing.{KeepsPayloads, TellsPayloads, IsChangeError};
 ghost use Rattle.rm_store.specs.Store.{KeepsOwn};

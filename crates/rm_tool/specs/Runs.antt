@@ -22,7 +22,7 @@ use Rattle.rm_tool.specs.salvage.Lists.{left_by}
 use Rattle.rm_tool.specs.salvage.Writes.{HoldsAll}
 use Rattle.rm_tool.specs.declared.outcomes.ToolOutcome.{ToolOutcome}
 use Rattle.rm_tool.specs.declared.outcomes.ToolOutcome.TheVariants.{Done, Usage, ReadFault, WriteFault, OtherLength, TooLong, OtherForm, Faulty, DiskFault, NotNew, Full, NotAPage, NotAnId, Memory}
-use Rattle.rm_tool.specs.declared.store_files.TheConstants.{STORE_SIZE}
+use Rattle.rm_formats.specs.declared.TheConstants.{STORE_SIZE}
 use Rattle.rm_tool.specs.Words.{ToolRequest, Check, Convert, Salvage, Summary, Follow, Draw}
 
 -- bytes brought to the size of a store: what is behind is left out, and zeros stand for what is missing

@@ -23,6 +23,6 @@ mod words;
 pub use outcomes::{ToolOutcome, status_of};
 pub use program::run_tool;
 pub use reports::{JobState, jobs_in};
-pub use store_files::{STORE_SIZE, StoreShelf};
+pub use store_files::StoreShelf;
 pub use tool::top;
 pub use words::{Mode, mode_of};

@@ -2,8 +2,7 @@ ghost use Rattle.std.specs.Prelude.{◌≡◌};
 ghost use Rattle.rm_tool.specs.Outcomes.{after_page, of_fault, outcome_of_page, of_report, of_write, tool_status};
 
 use crate::salvage::{Fault, WriteError};
-use crate::store_files::STORE_SIZE;
-use rm_formats::MOST_FILE_BYTES;
+use rm_formats::{MOST_FILE_BYTES, STORE_SIZE};
 use rm_outside::Written;
 use rm_page_reader::PageError;
 use rm_report::ReportError;

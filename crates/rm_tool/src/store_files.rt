@@ -2,15 +2,13 @@ ghost use Rattle.std.specs.Prelude.{◌≡◌, ◌≤◌, ◌-◌, ◌++◌, Non
 ghost use Rattle.rm_tool.specs.Runs.{brought_to_size};
 
 use rm_disk::{FileFault, HeldFile};
+use rm_formats::STORE_SIZE;
 use rm_outside::{MOST_READ, Shelf, ShelfError};
 use rm_types::NoMemory;
 use std::fs;
 use std::io::{ErrorKind, Read};
 use std::marker::Model;
 use std::rt::Files;
-
-/// How many bytes a store's file has.
-pub const STORE_SIZE: usize = 4_194_304;
 
 /// The system's files as a shelf for stores, whose names are their paths: each is held while it is read, so that none is read that the
 /// manager has open. It tells no bytes: contracts see the count of its faults alone.
@@ -99,6 +97,6 @@ where
 pub(crate) fn bring_to_size(bytes: &mut Vec<u8>) -> Result<(), NoMemory>
     ensures { OnOk result (bytes.new.items ≡ brought_to_size bytes.old.items) }
 {
-    bytes.resize(STORE_SIZE, 0)?;
+    bytes.resize(STORE_SIZE as usize, 0)?;
     Ok(())
 }

@@ -12,9 +12,10 @@ use crate::pages::{check_page, convert_page, salvage_page};
 use crate::salvage::{
     ConvertError, FixedDisk, Salvaged, check, kept_operations, old_operations, salvage, write_anew,
 };
-use crate::store_files::{STORE_SIZE, bring_to_size};
+use crate::store_files::bring_to_size;
 use crate::words::{Mode, mode_of};
 use rm_disk::Disk;
+use rm_formats::STORE_SIZE;
 use rm_outside::{MOST_READ, Shelf, ShelfError, Sink, write_all};
 use rm_report::chart::draw;
 use rm_report::{follow, summary};
@@ -129,7 +130,7 @@ fn read_store<F: Shelf>(shelf: &mut F, name: &str) -> Result<FixedDisk, ToolOutc
     ensures failed { result ≡ Err ToolOutcome.ReadFault → Rose (F.faults shelf.old) (F.faults shelf.new) }
 {
     let bytes = read(shelf, name)?;
-    if bytes.len() != STORE_SIZE {
+    if bytes.len() != STORE_SIZE as usize {
         let length = bytes.len() as u64;
         return Err(ToolOutcome::OtherLength { length });
     }

@@ -44,6 +44,7 @@ settings = record {
   max_completed = 10;
   max_apps = 10;
   wait_ms = 0;
+  recover_ended_containers = false;
   acl_enable = true;
   admin_acl = codes "boss";
   greatest = record { memory_mb = 8192; vcores = 8 };
@@ -62,6 +63,7 @@ submission_of queue = record {
   name = codes "job";
   master = record { memory_mb = 1024; vcores = 1 };
   attempts = 0;
+  keep = false;
   modify = codes "erin";
 }
 

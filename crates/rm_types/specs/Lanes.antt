@@ -1,4 +1,5 @@
 -- Who sends a message, and the lane whose move adds an entry of the log. This project's own.
+use Rattle.std.specs.Prelude.{Option, Some, None}
 use Rattle.rm_types.specs.declared.entries.Entry.{Entry}
 use Rattle.rm_types.specs.declared.entries.Entry.TheVariants as entries
 use Rattle.rm_types.specs.declared.messages.Lane.{Lane}
@@ -21,6 +22,19 @@ feed_lane senders.Client = lanes.Client
 feed_lane senders.Master = lanes.Master
 feed_lane senders.Node = lanes.Node
 feed_lane senders.Clock = lanes.Clock
+
+-- the sender whose feed a lane serves, if it serves one
+abbrev pub sender_of_lane : Lane → Option Sender
+sender_of_lane lanes.Client = Some senders.Client
+sender_of_lane lanes.Master = Some senders.Master
+sender_of_lane lanes.Node = Some senders.Node
+sender_of_lane lanes.Clock = Some senders.Clock
+sender_of_lane lanes.Main = None
+sender_of_lane lanes.Sched = None
+sender_of_lane lanes.Hand = None
+sender_of_lane lanes.Write = None
+sender_of_lane lanes.End = None
+sender_of_lane lanes.Begin = None
 
 -- the lane whose move adds the entry
 abbrev pub lane_of_entry : Entry → Lane

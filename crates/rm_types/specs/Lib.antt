@@ -2,6 +2,7 @@ pub mod AclTexts
 pub mod Alike
 pub mod Containers
 pub mod Counts
+pub mod Empty
 pub mod Entries
 pub mod Folded
 pub mod Ids

@@ -30,8 +30,8 @@ pub struct Ask {
     pub size: Resource,
 }
 
-/// Why a container ended: its node reported it done, its master released it, its node was lost, its
-/// attempt was over, or it wasn't taken when its node registered.
+/// Why a container ended: its node reported it done, its master released it, its node was lost, no
+/// attempt had it any more, or it wasn't taken when its node registered.
 #[derive(Clone, Copy, Debug, PartialEq, Eq)]
 pub enum Cause {
     Done,
@@ -56,6 +56,14 @@ pub enum ContainerState {
 pub struct Closing {
     pub id: ContainerId,
     pub cause: Cause,
+}
+
+/// A container's end, and the attempt whose master is told of it: the last one of its application, which
+/// needn't be the container's own.
+#[derive(Clone, Copy, Debug, PartialEq, Eq)]
+pub struct ClosingOf {
+    pub attempt: AttemptId,
+    pub closing: Closing,
 }
 
 /// A living container in the book. `told` is its number among all that were ever added, from 1: the
@@ -103,5 +111,9 @@ impl Duplicate for Ask {
 }
 
 impl Duplicate for Closing {
+    ghost same = { Prim.search (rules) };
+}
+
+impl Duplicate for ClosingOf {
     ghost same = { Prim.search (rules) };
 }

@@ -1,6 +1,7 @@
-ghost use Rattle.std.specs.Prelude.{◌≡◌, ◌<◌, List, [], ◌∷◌, ◌++◌, length, IsTrue, ◌↔◌, OnOk, OnErr, Some, slice_get};
+ghost use Rattle.std.specs.Prelude.{◌≡◌, ◌<◌, List, [], ◌∷◌, ◌++◌, length, IsTrue, ◌↔◌, Ok, Err, IfErr, OnOk, OnErr, Some, slice_get, ◌⊎◌};
+ghost use Rattle.rm_types.specs.Refusals.{no_memory};
 ghost use Rattle.rm_types.specs.Lists.{is_nil};
-ghost use Rattle.std.specs.Fn.{CalledAt};
+ghost use Rattle.std.specs.Fn.{CalledAt, FnOnceReturnsAtMut, FnOnceTakesAtMut};
 ghost use Rattle.std.specs.List.Retain.{IsFiltered};
 
 use crate::duplicate::{Duplicate, NoMemory};
@@ -84,6 +85,33 @@ impl<T> Items<T> {
     {
         self.list.push(item)?;
         Ok(())
+    }
+
+    /// Takes the room for one more item, has it made over a state, and adds it. Where no memory is found the state is as it was, and
+    /// the error is that of `NoMemory`; where no item is made the list is as it was, and error and state are those of `make`.
+    pub fn push_made<S, E: From<NoMemory>, F: FnOnce(&mut S) -> Result<T, E>>(
+        &mut self,
+        state: &mut S,
+        make: F,
+    ) -> Result<(), E>
+    where
+        T: Drop,
+        F: Drop,
+        requires { FnOnceTakesAtMut F.FnOnce make state.old }
+        ensures ok { OnOk result ((item : T) × FnOnceReturnsAtMut F.FnOnce make state.old (Ok item) state.new × (self.new ≡ self.old ++ item ∷ [])) }
+        ensures err { OnErr result (self.new ≡ self.old) }
+        ensures err_state { IfErr result (λ error. ((state.new ≡ state.old) × E.from_gives no_memory error) ⊎ FnOnceReturnsAtMut F.FnOnce make state.old (Err error) state.new) }
+    {
+        if self.list.reserve(1).is_err() {
+            return Err(E::from(NoMemory));
+        }
+        match make(state) {
+            Ok(item) => {
+                self.list.push_reserved(item);
+                Ok(())
+            }
+            Err(error) => Err(error),
+        }
     }
 
     /// Adds all items of another list, which is left empty, or none where there is no memory for them all: `NoMemory` leaves both

@@ -6,7 +6,7 @@
 //! cites: the ranges and the order of ids, the fit of resources, ACL texts and rights, what a list of
 //! store operations amounts to, and the grants of one allocation pass.
 //!
-//! It stands on the standard library alone.
+//! It stands on the standard library and `thiserror`.
 #![tactic(auto)]
 
 mod boxed;
@@ -29,7 +29,7 @@ mod texts;
 
 pub use boxed::Boxed;
 pub use containers::{
-    Ask, AskLine, AskOf, BookRow, Cause, Closing, ContainerState, Grant, Held, Turn,
+    Ask, AskLine, AskOf, BookRow, Cause, Closing, ClosingOf, ContainerState, Grant, Held, Turn,
 };
 pub use duplicate::{Duplicate, NoMemory};
 pub use entries::Entry;
@@ -39,7 +39,7 @@ pub use limits::{
     EPOCHS, GREATEST_ATTEMPTS, GREATEST_COUNT, GREATEST_MEMORY_MB, GREATEST_PRIORITY,
     GREATEST_STAMP, GREATEST_VCORES, MOST_LINES, MOST_LISTED, NUMBERS, SEQUENCES, STAMPS,
 };
-pub use messages::{ClientAsk, ClockAsk, Lane, MasterAsk, Message, NodeAsk, Sender};
+pub use messages::{ClientAsk, ClockAsk, Lane, MasterAsk, Message, NodeAsk, Sender, Sent};
 pub use operations::{How, Op, Submission, Submitted};
 pub use outcomes::Outcome;
 pub use queues::Queue;

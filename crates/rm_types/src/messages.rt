@@ -1,5 +1,6 @@
-ghost use Rattle.std.specs.Prelude.{◌≡◌, IfOk};
+ghost use Rattle.std.specs.Prelude.{◌≡◌, IfOk, IfSome};
 ghost use Rattle.std.proofs.Common.{rules};
+ghost use Rattle.rm_types.specs.Lanes.{feed_lane, sender_of, sender_of_lane};
 
 use crate::containers::{Ask, Held};
 use crate::duplicate::Duplicate;
@@ -64,6 +65,13 @@ pub enum Message {
     Clock(ClockAsk),
 }
 
+/// A message with its serial: the first that its sender formed has 1, and one that is sent again has the serial that it had.
+#[derive(Debug, Drop)]
+pub struct Sent<T> {
+    pub serial: u64,
+    pub ask: T,
+}
+
 /// The four kinds of sender; each has a feed of its own.
 #[derive(Clone, Copy, PartialEq, Eq)]
 pub enum Sender {
@@ -86,6 +94,50 @@ pub enum Lane {
     Write,
     End,
     Begin,
+}
+
+impl Message {
+    /// Who sent it.
+    pub fn sender(&self) -> Sender
+        ensures { result ≡ sender_of self.now }
+    {
+        match self {
+            Message::Client(..) => Sender::Client,
+            Message::Master(..) => Sender::Master,
+            Message::Node(..) => Sender::Node,
+            Message::Clock(_) => Sender::Clock,
+        }
+    }
+}
+
+impl Sender {
+    /// The lane of its feed.
+    pub fn lane(self) -> Lane
+        ensures { result ≡ feed_lane self }
+    {
+        match self {
+            Sender::Client => Lane::Client,
+            Sender::Master => Lane::Master,
+            Sender::Node => Lane::Node,
+            Sender::Clock => Lane::Clock,
+        }
+    }
+}
+
+impl Lane {
+    /// The sender whose messages it serves; a lane that serves none has none.
+    pub fn sender(self) -> Option<Sender>
+        ensures sender { result ≡ sender_of_lane self }
+        ensures feed { IfSome result (λ sender. feed_lane sender ≡ self) }
+    {
+        match self {
+            Lane::Client => Some(Sender::Client),
+            Lane::Master => Some(Sender::Master),
+            Lane::Node => Some(Sender::Node),
+            Lane::Clock => Some(Sender::Clock),
+            Lane::Main | Lane::Sched | Lane::Hand | Lane::Write | Lane::End | Lane::Begin => None,
+        }
+    }
 }
 
 impl Duplicate for ClientAsk {

@@ -1,5 +1,6 @@
 ghost use Rattle.std.specs.Prelude.{◌≡◌, IfOk};
 ghost use Rattle.std.proofs.Common.{rules};
+ghost use Rattle.rm_types.specs.Empty.{no_submission};
 
 use crate::duplicate::Duplicate;
 use crate::ids::{AppId, AttemptId, ContainerId};
@@ -7,7 +8,8 @@ use crate::resources::Resource;
 use crate::texts::Text;
 
 /// What a client submits: who, to which queue, under which name, the size of the master's container,
-/// how many attempts it may have (0: as many as the cluster allows), and who else may modify it.
+/// how many attempts it may have (0: as many as the cluster allows), whether the containers of a failed
+/// attempt are kept for the next one, and who else may modify it.
 #[derive(Clone, Debug, Drop)]
 pub struct Submission {
     pub user: Text,
@@ -15,7 +17,29 @@ pub struct Submission {
     pub name: Text,
     pub master: Resource,
     pub attempts: u32,
+    pub keep: bool,
     pub modify: Text,
+}
+
+impl Submission {
+    /// What nobody submitted: all texts are empty, all numbers 0, and nothing is kept. Who makes a submission says the parts that it
+    /// has and takes the others from here.
+    pub fn empty() -> Submission
+        ensures { result ≡ no_submission }
+    {
+        Submission {
+            user: Text::empty(),
+            queue: Text::empty(),
+            name: Text::empty(),
+            master: Resource {
+                memory_mb: 0,
+                vcores: 0,
+            },
+            attempts: 0,
+            keep: false,
+            modify: Text::empty(),
+        }
+    }
 }
 
 impl Duplicate for Submission {

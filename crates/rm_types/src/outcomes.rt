@@ -21,6 +21,8 @@ pub enum Outcome {
     StoreDamaged { offset: u64 },
     /// The store has no room for the next operation.
     StoreFull { needed: u64, room: u64 },
+    /// The device is too small for what the mode keeps on it: how many bytes it has.
+    DeviceSmall { size: u64 },
     /// The store's epochs or stamps are used up.
     EpochsSpent,
     /// No memory was found.

@@ -66,6 +66,11 @@ pub enum Reply {
     Killing,
     AppEnded,
     MasterRegistered,
+    /// A master registered, of an application that keeps: these containers of earlier attempts are its own
+    /// now.
+    Took {
+        kept: Items<Grant>,
+    },
     Already,
     Gone,
     Resync,

@@ -1,6 +1,6 @@
 -- How a life began. This project's own.
-use Rattle.std.specs.Prelude.{ℕ, List, [], None, false}
-use Rattle.rm_types.specs.declared.settings.Settings.{Settings}
+use Rattle.std.specs.Prelude.{ℕ, List, [], None}
+use Rattle.rm_types.specs.Empty.{no_settings}
 use Rattle.rm_disk.specs.declared.fallen.Fallen.{Fallen}
 use Rattle.rm_disk.specs.Disk.{DiskView}
 use Rattle.rm_disk.specs.Fuse.{Fused, fused_view}
@@ -22,21 +22,6 @@ began_with view d disk = record { desk = d; inner = view disk.inner; refused = d
 -- the device under its fuse, as it was seen then
 abbrev pub seen_then : Began → DiskView
 seen_then began = fused_view began.inner began.refused
-
--- settings, a desk and a device that have nothing
-abbrev pub no_settings : Settings
-no_settings =
-    record {
-      max_attempts = 0;
-      max_completed = 0;
-      max_apps = 0;
-      wait_ms = 0;
-      acl_enable = false;
-      admin_acl = [];
-      greatest = record { memory_mb = 0; vcores = 0 };
-      groups = [];
-      queues = [];
-    }
 
 -- where no life began: a desk and a device that have nothing
 abbrev pub nothing_began : Began

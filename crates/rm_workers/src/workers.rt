@@ -21,17 +21,6 @@ use std::sync::Wait;
 use std::thread;
 use std::thread::Threads;
 
-// The sender whose messages a lane serves.
-fn sender_of(lane: Lane) -> Option<Sender> {
-    match lane {
-        Lane::Client => Some(Sender::Client),
-        Lane::Master => Some(Sender::Master),
-        Lane::Node => Some(Sender::Node),
-        Lane::Clock => Some(Sender::Clock),
-        _ => None,
-    }
-}
-
 // The turns of one lane's worker, until the life is over or a halt stands.
 fn help_to_end<S: Since, G: Gate, R: Wait>(
     rt: &R,
@@ -48,7 +37,7 @@ fn help_to_end<S: Since, G: Gate, R: Wait>(
     ensures helper { IsHelper (view result) }
 {
     'holds: for _ in rt.forever() {
-        if let Some(sender) = sender_of(lane) {
+        if let Some(sender) = lane.sender() {
             gate.before_serve(sender);
         }
         match hold_help(rt, baton, bells, &mut pass, lane) {

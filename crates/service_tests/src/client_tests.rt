@@ -34,15 +34,12 @@ fn settings<R: Abort>(rt: &R, alloc: Global) -> Settings {
         max_attempts: 2,
         max_completed: 10,
         max_apps: 10,
-        wait_ms: 0,
-        acl_enable: false,
-        admin_acl: Text::empty(),
         greatest: Resource {
             memory_mb: 8192,
             vcores: 8,
         },
-        groups: Items::new(alloc),
         queues,
+        ..Settings::empty(alloc)
     }
 }
 

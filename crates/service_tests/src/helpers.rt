@@ -59,8 +59,7 @@ pub fn job<R: Abort>(rt: &R, alloc: Global) -> Submission {
         queue,
         name,
         master: SIZE,
-        attempts: 0,
-        modify: Text::empty(),
+        ..Submission::empty()
     }
 }
 
@@ -72,12 +71,8 @@ pub fn tables(alloc: Global) -> Tables
         max_attempts: 2,
         max_completed: 1,
         max_apps: 10,
-        wait_ms: 0,
-        acl_enable: false,
-        admin_acl: Text::empty(),
         greatest: SIZE,
-        groups: Items::new(alloc),
-        queues: Items::new(alloc),
+        ..Settings::empty(alloc)
     };
     Tables::new(alloc, settings)
 }

@@ -5,7 +5,8 @@ ghost use Rattle.rm_journal.specs.two_areas.Reading.{IsReading};
 
 use crate::helpers::{filled, wants};
 use rm_disk::Disk;
-use rm_journal::two_areas::{Areas, GENERATION_RECORD, Reading};
+use rm_formats::GENERATION_RECORD;
+use rm_journal::two_areas::{Areas, Reading};
 use std::alloc::Global;
 use std::process::Abort;
 

@@ -42,7 +42,6 @@ fn submission<R: Abort>(rt: &R, alloc: Global) -> Submission {
     let user = text(rt, alloc, "alice");
     let queue = text(rt, alloc, "root.default");
     let name = text(rt, alloc, "job");
-    let modify = text(rt, alloc, "");
     Submission {
         user,
         queue,
@@ -51,8 +50,7 @@ fn submission<R: Abort>(rt: &R, alloc: Global) -> Submission {
             memory_mb: 1024,
             vcores: 1,
         },
-        attempts: 0,
-        modify,
+        ..Submission::empty()
     }
 }
 

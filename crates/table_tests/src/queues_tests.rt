@@ -111,12 +111,12 @@ fn cluster<R: Abort>(rt: &R, alloc: Global, acl_enable: bool) -> Settings {
         max_attempts: 2,
         max_completed: 10,
         max_apps: 10,
-        wait_ms: 0,
         acl_enable,
         admin_acl,
         greatest: size(1024, 1),
         groups,
         queues,
+        ..Settings::empty(alloc)
     }
 }
 
@@ -137,8 +137,8 @@ fn job<R: Abort>(rt: &R, alloc: Global, queue: &str) -> Submission {
         queue,
         name,
         master: size(1024, 1),
-        attempts: 0,
         modify,
+        ..Submission::empty()
     }
 }
 

@@ -12,12 +12,8 @@ fn settings(alloc: Global) -> Settings {
         max_attempts: 2,
         max_completed: 1,
         max_apps: 10,
-        wait_ms: 0,
-        acl_enable: false,
-        admin_acl: Text::empty(),
         greatest: size(8192, 8),
-        groups: Items::new(alloc),
-        queues: Items::new(alloc),
+        ..Settings::empty(alloc)
     }
 }
 

@@ -31,7 +31,7 @@ const FRAMES: [(&[u8], &str); 6] = [
     (EPOCH, "Epoch { next: 258, stamp: 72623859790382856 }"),
     (
         APP,
-        "App { id: AppId { stamp: 72623859790382856, number: 168496141 }, submission: Submission { user: Text { shared: Some([117]) }, queue: Text { shared: Some([113]) }, name: Text { shared: Some([110, 45]) }, master: Resource { memory_mb: 512, vcores: 3 }, attempts: 4, modify: Text { shared: Some([42]) } } }",
+        "App { id: AppId { stamp: 72623859790382856, number: 168496141 }, submission: Submission { user: Text { shared: Some([117]) }, queue: Text { shared: Some([113]) }, name: Text { shared: Some([110, 45]) }, master: Resource { memory_mb: 512, vcores: 3 }, attempts: 4, keep: false, modify: Text { shared: Some([42]) } } }",
     ),
     (
         ATTEMPT,

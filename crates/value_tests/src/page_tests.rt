@@ -124,8 +124,8 @@ fn submission<R: Abort + AllocGlobal>(rt: &R, modify: &str) -> Submission {
             memory_mb: 1024,
             vcores: 1,
         },
-        attempts: 0,
         modify: text(rt, modify),
+        ..Submission::empty()
     }
 }
 

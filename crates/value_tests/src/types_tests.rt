@@ -239,6 +239,7 @@ fn a_submission<R: Abort + AllocGlobal>(rt: &R) -> Submission {
         master: a_size(),
         attempts: 3,
         modify: text(rt, "erin ops"),
+        ..Submission::empty()
     }
 }
 
@@ -439,6 +440,7 @@ fn some_settings<R: Abort + AllocGlobal>(rt: &R) -> Settings {
         greatest: a_size(),
         groups: only(rt, carols_groups(rt)),
         queues: only(rt, a_root(rt)),
+        ..Settings::empty(rt.alloc())
     }
 }
 

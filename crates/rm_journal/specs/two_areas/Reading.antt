@@ -2,7 +2,7 @@
 use Rattle.std.specs.Prelude.{◌≡◌, ◌≢◌, ◌⊎◌, ◌+◌, ◌<◌, ◌≤◌, ◌/◌, ◌^◌, ℕ, Bool, true, false, not}
 use Rattle.rm_disk.specs.Disk.{DiskView, IfTold}
 use Rattle.rm_journal.specs.Walk.{WalkAt, IsWalking}
-use Rattle.rm_journal.specs.declared.two_areas.areas.TheConstants.{GENERATION_RECORD}
+use Rattle.rm_formats.specs.declared.TheConstants.{GENERATION_RECORD}
 use Rattle.rm_journal.specs.two_areas.Areas.{IsGeneration, area_of, area_from, area_end}
 
 -- which area is the current one, by the generations of both

@@ -2,8 +2,8 @@ ghost use Rattle.std.specs.Prelude.{◌≡◌, ◌≢◌, ◌+◌, ◌-◌, ◌<
 ghost use Rattle.std.specs.Int.{w64, to_be_bytes, from_be_bytes};
 ghost use Rattle.rm_formats.specs.Device.{sized, journal_record};
 ghost use Rattle.rm_disk.specs.Disk.{IfTold, EachImage, IsLaterView, IsQuiet, IsDurable, MayWrite};
-ghost use Rattle.rm_formats.specs.declared.TheConstants.{MOST_PAYLOAD, RECORD_FRAME};
-ghost use Rattle.rm_journal.specs.declared.two_areas.areas.TheConstants.{GENERATION_RECORD, RECORD_ROOM};
+ghost use Rattle.rm_formats.specs.declared.TheConstants.{GENERATION_RECORD, MOST_PAYLOAD, RECORD_FRAME};
+ghost use Rattle.rm_journal.specs.declared.two_areas.areas.TheConstants.{RECORD_ROOM};
 ghost use Rattle.rm_journal.specs.declared.journal.TheConstants.{CALLS_OF_APPEND};
 ghost use Rattle.rm_journal.specs.Fault.{IsAppendError, IsLookError, IsRefusal, IsReadError};
 ghost use Rattle.rm_journal.specs.Journal.{broken_after, region_of, HasRead, GivesNext};
@@ -13,12 +13,9 @@ ghost use Rattle.rm_journal.specs.two_areas.Areas.{AreasAt, AreasInvariant, Area
 
 use crate::{Journal, JournalError, Region, Walk, record_at, write_through};
 use rm_disk::Disk;
-use rm_formats::{MOST_PAYLOAD, RECORD_FRAME, RECORD_HEAD};
+use rm_formats::{GENERATION_RECORD, MOST_PAYLOAD, RECORD_FRAME, RECORD_HEAD};
 use std::alloc::Global;
 use std::marker::Model;
-
-/// How many bytes the record of a generation has, from its gate on.
-pub const GENERATION_RECORD: u64 = RECORD_HEAD + 8;
 
 // The room for what is written at once: a record, and the gate behind it.
 const RECORD_ROOM: usize = MOST_PAYLOAD + RECORD_FRAME as usize;

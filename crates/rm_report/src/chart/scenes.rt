@@ -160,9 +160,10 @@ impl Scene {
     fn add_answer(&mut self, message: &Message, reply: &Reply) -> Result<(), NoMemory> {
         match (message, reply) {
             (Message::Client(_, ClientAsk::Submit(id, _)), Reply::Submitted) => self.submit(*id),
-            (Message::Master(attempt, MasterAsk::Register), Reply::MasterRegistered) => {
-                self.enter(attempt.app, StateWord::Running)
-            }
+            (
+                Message::Master(attempt, MasterAsk::Register),
+                Reply::MasterRegistered | Reply::Took { .. },
+            ) => self.enter(attempt.app, StateWord::Running),
             (Message::Node(node, _), _) => self.add_node(node),
             _ => Ok(()),
         }

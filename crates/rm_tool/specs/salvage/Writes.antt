@@ -1,10 +1,9 @@
 -- How a store is written anew on a disk. This project's own.
 use Rattle.std.specs.Prelude.{◌≡◌, ◌⊎◌, ◌+◌, ◌≤◌, ℕ, Bool, List, [], map, sum, length}
 use Rattle.rm_types.specs.declared.operations.Op.{Op}
-use Rattle.rm_formats.specs.declared.TheConstants.{RECORD_HEAD}
+use Rattle.rm_formats.specs.declared.TheConstants.{GENERATION_RECORD, RECORD_HEAD}
 use Rattle.rm_formats.specs.Frames.{frame}
 use Rattle.rm_disk.specs.Disk.{DiskView, AtEachMoment, EachImage, IfTold}
-use Rattle.rm_journal.specs.declared.two_areas.areas.TheConstants.{GENERATION_RECORD}
 use Rattle.rm_journal.specs.two_areas.Areas.{HasCurrent}
 use Rattle.rm_store.specs.Content.{HasContent, half_of}
 use Rattle.rm_tool.specs.declared.salvage.errors.WriteError.{WriteError}

@@ -1,6 +1,6 @@
 ghost use Rattle.std.specs.Prelude.{◌≡◌, ◌↔◌, ◌+◌, ◌<◌, ◌≤◌, ◌^◌, ℕ, length, true, IfOk, IfNone, IfSome, IsTrue};
 ghost use Rattle.std.specs.Int.{w64, to_be_bytes, from_be_bytes};
-ghost use Rattle.rm_journal.specs.declared.two_areas.areas.TheConstants.{GENERATION_RECORD};
+ghost use Rattle.rm_formats.specs.declared.TheConstants.{GENERATION_RECORD};
 ghost use Rattle.rm_journal.specs.two_areas.Areas.{HasGeneration};
 ghost use Rattle.rm_journal.specs.Journal.{region_of};
 ghost use Rattle.rm_tool.specs.salvage.Forms.{HasFirstFrame, IsForm, form_by};

@@ -1,5 +1,6 @@
 use Rattle.std.proofs.Common.{arith, Some, sym, ◌∙◌, ap}
 use Rattle.serde_json.specs.View.{view}
+use Rattle.rm_types.specs.declared.settings.Settings.{Settings}
 use Rattle.rm_cluster.specs.Rules.{first_broken}
 use Rattle.rm_cluster.proofs.Refusals.{refused_at}
 use Rattle.rm_cluster.proofs.Ranges.{in_range}
@@ -63,6 +64,7 @@ returns-clause-read c = record {
   max_vcores = sym c.max_vcores_of.ensures ∙ c.in_ok-vcores.ensures.ok_part;
   groups = sym c.in_ok-groups_of.ensures ∙ c.in_ok-groups.ensures.ok_part;
   queues = sym c.in_ok-queues_of.ensures ∙ c.in_ok-queues.ensures.ok_part;
+  recover_ended_containers = ap (λ (settings : Settings). settings.recover_ended_containers) c.empty.ensures;
 }
 
 pub returns-clause-in_range : goal.returns-clause-in_range

@@ -1,6 +1,6 @@
 use Rattle.std.proofs.Common.{ℕ, ◌-◌, ◌/◌, Bool, true, ◌≡◌, List, ◌++◌, length, drop, arith, length-append, sym, ◌∙◌, subst}
 use Rattle.std.specs.Prelude.{◌↔◌, All}
-use Rattle.rm_disk.specs.declared.scan.TheConstants.{FIRST_END}
+use Rattle.rm_formats.specs.declared.TheConstants.{FIRST_END}
 use Rattle.rm_disk.proofs.Scans.{clear_after, unclear_after}
 use Rattle.rm_disk.proofs.scan.Scan.see.Goals.{then-self, else-self}
 use Rattle.rm_disk.proofs.scan.Scan.see.Goals as goal
